@@ -4,8 +4,8 @@ ghost use Rattle.std.specs.Prelude.{◌≡◌, ◌<◌, ◌+◌, ◌++◌, ◌^�
 ghost use Rattle.rubis_engine.specs.Accounts.{AnswersRecord};
 ghost use Rattle.rubis_engine.specs.declared.service.Course.TheVariants.{GoesOn};
 ghost use Rattle.rubis_engine.specs.Reading.{Advances, fields_now};
+ghost use Rattle.rubis_script.specs.Desks.{left_at};
 ghost use Rattle.rubis_script.specs.SiteRuns.{told_by};
-ghost use Rattle.rubis_script.specs.Windows.{held_by};
 ghost use Rattle.rubis_keep.specs.Kept.{FeedEnds, Finished, FinishedFront, InEachFeed, InEachRest, OutEnds, Rests};
 ghost use Rattle.rubis_keep.specs.Whole.{IsWhole};
 
@@ -27,8 +27,7 @@ fn answer_next<G: Gate, T: Threads + Wait + Sync, R: Read>(
     requires { clerk.old.desk.answered + 1 < 2 ^ 64 }
     ensures { IfOk result (λ found. MatchBool found
         (Advances R.remaining records.old records.new true × AnswersRecord GoesOn
-        (held_by clerk.old.desk.site clerk.old.desk.window.items (clerk.old.desk.answered + 1)) (held_by clerk.new.desk.site clerk.new.desk.window.items
-        (clerk.old.desk.answered + 1 + 1)) clerk.old.desk.reply.sink clerk.new.desk.reply.sink (fields_now records.new)
+        (left_at clerk.old.desk) (left_at clerk.new.desk) clerk.old.desk.reply.sink clerk.new.desk.reply.sink (fields_now records.new)
         × (clerk.new.desk.answered ≡ clerk.old.desk.answered + 1))
         (Advances R.remaining records.old records.new false × (clerk.new ≡ clerk.old))) }
 {
@@ -46,14 +45,14 @@ fn finish<G: Gate, T: Threads + Wait + Sync, O: Read, W: Write>(
     clerk: &mut Clerk<G>,
     answers: &mut Answers<O, W>,
 ) -> Result<(), KeepFault>
-    ensures ok { OnOk result (Finished (held_by clerk.old.desk.site clerk.old.desk.window.items (clerk.old.desk.answered + 1))
+    ensures ok { OnOk result (Finished (left_at clerk.old.desk)
         (told_by clerk.new.desk.site
         (clerk.old.desk.answered + 1)) clerk.old.desk.reply.sink (O.remaining answers.old.before) (O.remaining answers.new.before)
         (W.contents answers.old.out) (W.contents answers.new.out)) }
     ensures same { OnOk result (clerk.new.desk.answered ≡ clerk.old.desk.answered) }
     ensures empty { OnOk result (clerk.new.desk.reply.sink ≡ []) }
     ensures window { OnOk result (clerk.new.desk.window.items ≡ []) }
-    ensures err { OnErr result (FinishedFront (held_by clerk.old.desk.site clerk.old.desk.window.items (clerk.old.desk.answered + 1))
+    ensures err { OnErr result (FinishedFront (left_at clerk.old.desk)
         (told_by clerk.new.desk.site
         (clerk.old.desk.answered + 1)) clerk.old.desk.reply.sink (O.remaining answers.old.before) (O.remaining answers.new.before)
         (W.contents answers.old.out) (W.contents answers.new.out)) }
@@ -70,7 +69,7 @@ fn stop<G: Gate, T: Threads + Wait + Sync, R: Read, O: Read, W: Write>(
     answers: &mut Answers<O, W>,
 ) -> Result<(), KeepFault>
     ensures ok { OnOk result (Advances R.remaining records.old records.new false × (clerk.new ≡ clerk.old) × (answers.new ≡ answers.old)) }
-    ensures err { OnErr result (FinishedFront (held_by clerk.old.desk.site clerk.old.desk.window.items (clerk.old.desk.answered + 1))
+    ensures err { OnErr result (FinishedFront (left_at clerk.old.desk)
         (told_by clerk.new.desk.site
         (clerk.old.desk.answered + 1)) clerk.old.desk.reply.sink (O.remaining answers.old.before) (O.remaining answers.new.before)
         (W.contents answers.old.out) (W.contents answers.new.out)) }
@@ -89,11 +88,11 @@ fn feed_records<G: Gate, T: Threads + Wait + Sync, R: Read, O: Read, W: Write>(
     clerk: &mut Clerk<G>,
     answers: &mut Answers<O, W>,
 ) -> Result<(), KeepFault>
-    ensures ok { OnOk result (InEachFeed R.remaining records.old (held_by clerk.old.desk.site clerk.old.desk.window.items (clerk.old.desk.answered + 1))
+    ensures ok { OnOk result (InEachFeed R.remaining records.old (left_at clerk.old.desk)
         (O.remaining answers.old.before) (W.contents answers.old.out) clerk.old.desk.reply.sink (clerk.old.desk.answered + 1)
-        (FeedEnds R.remaining records.new (held_by clerk.new.desk.site clerk.new.desk.window.items (clerk.new.desk.answered + 1))
+        (FeedEnds R.remaining records.new (left_at clerk.new.desk)
         (O.remaining answers.new.before) (W.contents answers.new.out) clerk.new.desk.reply.sink (clerk.new.desk.answered + 1))) }
-    ensures err { OnErr result (InEachFeed R.remaining records.old (held_by clerk.old.desk.site clerk.old.desk.window.items (clerk.old.desk.answered + 1))
+    ensures err { OnErr result (InEachFeed R.remaining records.old (left_at clerk.old.desk)
         (O.remaining answers.old.before) (W.contents answers.old.out) clerk.old.desk.reply.sink (clerk.old.desk.answered + 1)
         (λ all told old out0 kept. OutEnds all told old out0 (W.contents answers.new.out) kept)) }
 {

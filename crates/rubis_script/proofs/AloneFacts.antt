@@ -1,6 +1,8 @@
 -- A run that answers each record where it was read.
 use Rattle.std.proofs.Common.{◌≡◌, ◌∙◌, ◌≤◌, ◌<◌, ◌++◌, ◌∷◌, [], ℕ, List, Option, ap, arith, false, length, length-append, subst, take, true}
 use Rattle.rubis_replica.specs.State.{SiteState}
+use Rattle.rubis_engine.specs.Accounts.Ending.{AtEnd}
+use Rattle.rubis_engine.specs.Progress.{WrotePrefix}
 use Rattle.rubis_engine.specs.Reading.{Advances, Gives, fields_now}
 use Rattle.rubis_engine.specs.Text.{input_records}
 use Rattle.rubis_engine.specs.declared.record_list.Records.{Records}
@@ -10,8 +12,9 @@ use Rattle.rubis_reading.proofs.ChunkFacts.{taken as first-taken}
 use Rattle.rubis_script.specs.Desks.{IsSettled}
 use Rattle.rubis_script.specs.Headline.{AnswersFirst}
 use Rattle.rubis_script.specs.Runs.{HasYet, IsChunk, StandsAt, Takes}
+use Rattle.rubis_script.specs.SiteRuns.{told_by}
 use Rattle.rubis_script.specs.declared.desk.Desk.{Desk}
-use Rattle.rubis_script.proofs.LoopFacts.{stands-cut}
+use Rattle.rubis_script.proofs.LoopFacts.{stands-cut, stands-prefix}
 
 -- there is another record
 pub yet-one : {R G : Type 0} (rem : R → Option (List ℕ)) (piece piece2 : Records R) (d : Desk G) (first : SiteState)
@@ -27,6 +30,13 @@ pub yet-none : {R G : Type 0} (rem : R → Option (List ℕ)) (piece piece2 : Re
     → HasYet rem piece d first old now records rest → StandsAt d [] first old now records rest
 yet-none rem piece piece2 d first old now records rest takes h =
     subst (λ rows. StandsAt d [] first old now records (rows ++ rest)) (takes h.rows h.gives) h.stands
+
+-- nothing more was written
+pub yet-prefix : {R G : Type 0} (rem : R → Option (List ℕ)) (piece : Records R) (d : Desk G) (first : SiteState)
+    (old now now2 : Option (List ℕ)) (records rest : List (List (List ℕ))) → now2 ≡ now → HasYet rem piece d first old now records rest
+    → WrotePrefix ((told_by first 1).text AtEnd) old now2 records
+yet-prefix rem piece d first old now now2 records rest same h =
+    stands-prefix d.site [] d.window.items first old now now2 d.reply.sink d.answered records (h.rows ++ rest) same h.stands
 
 -- there is another one, and as many as are taken were answered
 pub yet-too_long : {R G : Type 0} (rem : R → Option (List ℕ)) (piece piece2 : Records R) (d d2 : Desk G)

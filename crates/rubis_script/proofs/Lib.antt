@@ -9,4 +9,5 @@ pub mod DeskFacts
 pub mod StepFacts
 pub mod EndFacts
 pub mod AloneFacts
+pub mod ChunkFacts
 pub mod Names

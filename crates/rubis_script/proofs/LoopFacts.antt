@@ -32,7 +32,7 @@ use Rattle.rubis_engine.specs.declared.fault.RunFault.TheVariants as fault
 use Rattle.rubis_script.specs.Desks.{IsFresh}
 use Rattle.rubis_script.specs.Endings.{ByEnd}
 use Rattle.rubis_script.specs.Runs.{AnswersAllAhead, AnswersFirstAhead, AnswersJustAhead, HasReadAhead, Stands, WritesPrefixAhead}
-use Rattle.std.specs.Prelude.{IfSome, Result, Ok, Err, Some, None}
+use Rattle.std.specs.Prelude.{IfOk, IfSome, Result, Ok, Err, Some, None}
 use Rattle.rubis_script.specs.declared.desk.Desk.{Desk}
 
 -- where nothing is held, nothing is left to be written after the last record

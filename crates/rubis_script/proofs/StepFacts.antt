@@ -16,7 +16,7 @@ use Rattle.rubis_reading.specs.Runs.{FitWindow, FitsWindow, all_came, flat, of_s
 use Rattle.rubis_reading.specs.declared.parsed.Parsed.{Parsed}
 use Rattle.rubis_reading.specs.declared.parsed.Stretch.{Stretch}
 use Rattle.rubis_script.specs.Desks.{KeepsSetup, TakesHeld, TakesNext, WritesNext, WritesPrefixFrom, left_at}
-use Rattle.rubis_script.specs.Runs.{IsSound, LeavesPrefix, LeavesRecord, Stands, StandsAt, Takes, TakesAll, TakesRecord, stopped_at}
+use Rattle.rubis_script.specs.Runs.{HasTaken, IsSound, LeavesPrefix, LeavesRecord, Stands, StandsAt, Takes, TakesAll, TakesRecord, stopped_at}
 use Rattle.rubis_script.specs.Windows.{held_by}
 use Rattle.rubis_script.specs.declared.desk.Desk.{Desk}
 use Rattle.rubis_script.proofs.DrainFacts.{stands_front, stands_listed}
@@ -97,6 +97,46 @@ pub takes-whole : {G : Type 0} (ps : List Parsed) (a b : Desk G) (before after :
     → StandsAt b [] first start after records later
 takes-whole ps a b before after first start records later one h =
     one.goes [] first start records later (subst (λ l. StandsAt a l first start before records later) (sym (append-nil ps)) h)
+
+-- ---- what was read ahead is taken stretch by stretch
+
+pub taken-none : {G : Type 0} (ps : List Parsed) (d : Desk G) (now : Option (List ℕ)) → HasTaken ps d d ps now now
+taken-none ps d now = record { took = []; parts = refl; takes = takes-none d now }
+
+pub taken-more : {G : Type 0} (ps left more : List Parsed) (qs : List Parsed) (a b c : Desk G) (before mid after : Option (List ℕ))
+    → HasTaken ps a b left before mid → left ≡ qs ++ more → Takes qs b c mid after → HasTaken ps a c more before after
+taken-more ps left more qs a b c before mid after h split takes = record {
+  took = h.took ++ qs;
+  parts = h.parts ∙ ap (λ l. h.took ++ l) split ∙ sym (append_assoc h.took qs more);
+  takes = takes-more h.took qs a b c before mid after h.takes takes;
+}
+
+-- no more are left than there were
+pub taken-few : {G : Type 0} (ps left : List Parsed) (a b : Desk G) (before after : Option (List ℕ)) → HasTaken ps a b left before after
+    → b.answered + length left ≡ a.answered + length ps
+taken-few ps left a b before after h =
+    let long = ap length h.parts in
+    omega (arith, h.takes.count, long, length-append h.took left)
+
+-- what is left, as it is named otherwise
+pub taken-same : {G : Type 0} (ps left more : List Parsed) (b a : Desk G) (before after : Option (List ℕ)) → left ≡ more → HasTaken ps a b left before after
+    → HasTaken ps a b more before after
+taken-same ps left more b a before after same h = subst (λ l. HasTaken ps a b l before after) same h
+
+-- all were taken
+pub taken-all : {G : Type 0} (ps left : List Parsed) (a b : Desk G) (before after : Option (List ℕ)) → left ≡ [] → HasTaken ps a b left before after
+    → Takes ps a b before after
+taken-all ps left a b before after none h =
+    takes-same h.took ps a b before after (sym (append-nil h.took) ∙ ap (λ l. h.took ++ l) (sym none) ∙ sym h.parts) h.takes
+
+-- memory ran out then
+pub taken-prefix : {G : Type 0} (ps left qs more : List Parsed) (a b : Desk G) (before mid after : Option (List ℕ)) → HasTaken ps a b left before mid
+    → left ≡ qs ++ more → LeavesPrefix qs b mid after → LeavesPrefix ps a before after
+taken-prefix ps left qs more a b before mid after h split front rest first start records later stands =
+    front (more ++ rest) first start records later
+    (subst (λ l. StandsAt b l first start mid records later) (ap (λ l. l ++ rest) split ∙ append_assoc qs more rest)
+    (h.takes.goes (left ++ rest) first start records later
+    (subst (λ l. StandsAt a l first start before records later) (ap (λ l. l ++ rest) h.parts ∙ append_assoc h.took left rest) stands)))
 
 -- ---- what a call takes
 

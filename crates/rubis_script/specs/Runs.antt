@@ -55,6 +55,16 @@ pub record Takes {G : Type 0} (ps : List Parsed) (old new : Desk G) (before afte
 abbrev pub TakesAll : {G : Type 0} → List Parsed → Desk G → Desk G → Type 0
 TakesAll ps old new = (now : Option (List ℕ)) → Takes ps old new now now
 
+-- of these records the first were taken, and those are left
+pub record HasTaken {G : Type 0} (ps : List Parsed) (old new : Desk G) (left : List Parsed) (before after : Option (List ℕ)) : Type 0 where
+  pub took : List Parsed
+  pub parts : ps ≡ took ++ left
+  pub takes : Takes took old new before after
+
+-- the same, with nothing written
+abbrev pub TakesSome : {G : Type 0} → List Parsed → Desk G → Desk G → List Parsed → Type 0
+TakesSome ps old new left = (now : Option (List ℕ)) → HasTaken ps old new left now now
+
 -- from before these records on, a prefix of the text was written
 abbrev pub LeavesPrefix : {G : Type 0} → List Parsed → Desk G → Option (List ℕ) → Option (List ℕ) → Type 0
 LeavesPrefix ps d before after = (left : List Parsed) (first : SiteState) (start : Option (List ℕ)) (records later : List (List (List ℕ)))
@@ -73,18 +83,9 @@ left_ahead l ahead = stopped_at l ++ flat ahead
 
 -- what was read ahead was taken, all of it or what is before that request
 pub record TakesUpTo {G : Type 0} (stopped : Option Listing) (old : Desk G) (ahead : List Stretch) (new : Desk G) (left : List Stretch) : Type 0 where
-  pub took : List Parsed
-  pub parts : flat ahead ≡ took ++ left_ahead stopped left
-  pub takes : TakesAll took old new
+  pub taken : TakesSome (flat ahead) old new (left_ahead stopped left)
   pub sound : IsSound new left
   pub all : IfNone stopped (left ≡ [])
-
--- the first n of what was read ahead were taken
-pub record TakesFirst {G : Type 0} (n : ℕ) (old : Desk G) (ahead : List Stretch) (new : Desk G) (left : List Stretch) : Type 0 where
-  pub took : List Parsed
-  pub many : length took ≡ n
-  pub parts : flat ahead ≡ took ++ flat left
-  pub takes : TakesAll took old new
 
 -- ---- a run over the chunks of a text
 

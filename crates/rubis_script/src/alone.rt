@@ -27,9 +27,10 @@ fn answer_record<G: Gate, T: Threads + Wait + Sync, W: Write>(
     ensures { ByEnd result (λ _. TakesRecord fields.now desk.old desk.new (W.contents writer.old) (W.contents writer.new)) ⊥ ⊥
         (LeavesRecord fields.now desk.old (W.contents writer.old) (W.contents writer.new)) }
 {
-    match desk.read(fields)? {
+    let read = desk.read(fields)?;
+    match read {
         Parsed::Asked(Request::List(listing)) => desk.list_out(rt, &listing, writer),
-        read => Ok(desk.take_read(rt, read)?),
+        other => Ok(desk.take_read(rt, other)?),
     }
 }
 

@@ -5,7 +5,7 @@ ghost use Rattle.rubis_reading.specs.Parsed.{FitsIn};
 ghost use Rattle.rubis_reading.specs.Runs.{AreSingle, FitsWindow, flat, of_stretch};
 ghost use Rattle.rubis_script.specs.Desks.{IsSettled};
 ghost use Rattle.rubis_script.specs.Endings.{ByEnd};
-ghost use Rattle.rubis_script.specs.Runs.{IsSound, LeavesPrefix, Takes, TakesAll, TakesFirst, TakesUpTo, left_ahead, stopped_at};
+ghost use Rattle.rubis_script.specs.Runs.{IsSound, LeavesPrefix, Takes, TakesAll, TakesSome, TakesUpTo, left_ahead, stopped_at};
 
 use crate::desk::Desk;
 use rubis_engine::{OutOfMemory, RunFault};
@@ -27,11 +27,14 @@ pub fn answer_first<G: Gate, T: Threads + Wait + Sync>(
     requires sound { IsSound desk.old ahead.old × AreSingle ahead.old }
     requires more { many ≤ length (flat ahead.old) }
     requires room { desk.old.answered + many < 2 ^ 64 }
-    ensures { OnOk result (TakesFirst many desk.old ahead.old desk.new ahead.new) }
+    ensures { OnOk result (TakesSome (flat ahead.old) desk.old desk.new (flat ahead.new) × (desk.new.answered ≡ desk.old.answered + many)) }
 {
     'steps: for _taken in 0..many {
-        let Some(Stretch::One(read)) = ahead.next_stretch() else {
-            unreachable!()
+        let Some(stretch) = ahead.next_stretch() else {
+            return Err(OutOfMemory);
+        };
+        let Stretch::One(read) = stretch else {
+            return Err(OutOfMemory);
         };
         desk.take_read(rt, read)?;
     }

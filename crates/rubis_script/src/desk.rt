@@ -143,6 +143,7 @@ fn answer_packet<G: Gate, R: Threads + Wait + Sync>(
 }
 
 // Answers what a record was read as.
+#[inline(always)]
 fn answer<G: Gate, R: Threads + Wait + Sync>(
     rt: &R,
     site: &mut Site<G>,
@@ -259,6 +260,7 @@ impl<G: Gate> Desk<G> {
     }
 
     /// What a record is.
+    #[inline(always)]
     pub fn read(&self, fields: &InputRecord) -> Result<Parsed, OutOfMemory>
         ensures { IfOk result (λ read. IsParsed self.now.site.place.sites fields.now read) }
     {
@@ -349,6 +351,7 @@ impl<G: Gate> Desk<G> {
 
     /// Holds what the next record was read as, if it is a message and messages are held at all, at most as many as the plan says;
     /// otherwise takes in those that are held, and answers it.
+    #[inline(always)]
     pub fn take_read<R: Threads + Wait + Sync>(
         &mut self,
         rt: &R,

@@ -5,7 +5,7 @@ use Rattle.rubis_script.proofs.StepFacts.{takes-held, takes-more, takes-written}
 use Rattle.rubis_script.proofs.answering.settle.Goals as goal
 
 pub returns-in_err-flush : goal.returns-in_err-flush
-returns-in_err-flush g c = ends_memory c.from_residual.result c.from_residual.ensures refl
+returns-in_err-flush g c = ends_memory _ _ _ c.from_residual.result c.from_residual.ensures refl
 
 pub returns : goal.returns
 returns g c =
@@ -14,7 +14,7 @@ returns g c =
     let before = g.W.Write.contents c.args.writer.now in
     let after = g.W.Write.contents c.close.new.writer in
     let flushed = c.in_ok-flush.ensures in
-    ends_writer c.close.result (on_ok_weaker c.close.result (λ out. (
+    ends_writer _ _ _ _ c.close.result (on_ok_weaker c.close.result (λ out. (
       takes-more [] [] d mid _ before before after (takes-held d mid flushed.same flushed.flushed before)
           (takes-written mid _ before after refl refl refl refl out c.close.ensures.empty),
       (flushed.empty, c.close.ensures.empty),

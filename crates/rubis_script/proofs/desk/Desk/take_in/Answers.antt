@@ -1,4 +1,4 @@
-use Rattle.std.proofs.Common.{◌≡◌, ◌∙◌, ◌+◌, ◌-◌, ◌++◌, All, ap, arith, length, refl, subst, sym}
+use Rattle.std.proofs.Common.{◌≡◌, ◌∙◌, ◌+◌, ◌-◌, ◌++◌, All, ap, arith, length, refl, rules, subst, sym}
 use Rattle.rubis_message.specs.Message.{sites_of}
 use Rattle.rubis_replica.specs.Arrivals.{TakesFirst}
 use Rattle.rubis_engine.proofs.RunFacts.{if_not_some}
@@ -9,9 +9,14 @@ use Rattle.rubis_script.specs.Windows.{arrivals_rows}
 use Rattle.rubis_script.proofs.desk.Desk.take_in.Goals as goal
 
 pub arrive_all-arrived-requires : goal.arrive_all-arrived-requires
-arrive_all-arrived-requires g c =
+arrive_all-arrived-requires g c = (
+  search rules,
+  (
+    search rules,
     subst (λ w. All (λ m. sites_of m ≡ c.args.self.now.site.place.sites) w.items) (sym c.replace-messages.ensures.value)
-    (subst (λ k. All (λ m. sites_of m ≡ k) c.args.self.now.window.items) c.args.self.now.same c.args.self.now.held)
+        (subst (λ k. All (λ m. sites_of m ≡ k) c.args.self.now.window.items) c.args.self.now.same c.args.self.now.held),
+  ),
+)
 
 pub write_arrivals-requires : goal.write_arrivals-requires
 write_arrivals-requires g c =
@@ -33,15 +38,15 @@ returns-clause-flushed g c =
     let rest = if_not_some arrived.fault c.arrive_all-arrived.ensures.none (sym c.is_some.ensures ∙ c.if-is_some.false) in
     let first = subst (λ w. TakesFirst site.place site.state new.state w.items arrived.answers arrived.rest)
     c.replace-messages.ensures.value c.arrive_all-arrived.ensures.first in
-    let none = c.new.ensures in
+    let none = ap (λ w. w.items) c.replace-messages.ensures.after ∙ c.new.ensures.items in
     record {
       count = refl;
-      text = told-kept site new messages _ (d.answered + 1) d.reply.sink c.write_arrivals.new.sink none
+      text = told-kept site new messages c.replace-messages.new.dest.items (d.answered + 1) d.reply.sink c.write_arrivals.new.sink none
           (flush_keeps site new messages arrived.rest (d.answered + 1)
           (d.answered - c.len.result + 1) arrived.answers d.reply.sink c.write_arrivals.new.sink
           (omega (arith, d.so_far, c.len.ensures)) c.arrive_all-arrived.ensures.place first rest
           (subst (λ told. c.write_arrivals.new.sink ≡ d.reply.sink ++ rows_text (arrivals_rows (d.answered - c.len.result + 1) told)) c.as_slice.ensures
           c.in_ok-write_arrivals.ensures));
-      leads = settles_all site new messages _ c.arrive_all-arrived.ensures.place
+      leads = settles_all site new messages c.replace-messages.new.dest.items c.arrive_all-arrived.ensures.place
           (taken_all site.place site.state new.state messages arrived.rest arrived.answers first rest) none;
     }

@@ -4,6 +4,7 @@ use Rattle.rubis_message.specs.declared.tokens.Packet.TheVariants as Packet
 use Rattle.rubis_reading.specs.Parsed.{meant}
 use Rattle.rubis_reading.specs.declared.parsed.Parsed.TheVariants as parsed
 use Rattle.rubis_script.specs.Desks.{TakesNext}
+use Rattle.rubis_script.specs.Inputs.{IsAnswered}
 use Rattle.rubis_script.proofs.DeskFacts.{next-flushed}
 use Rattle.rubis_script.proofs.desk.Desk.take_read.Goals as goal
 
@@ -16,5 +17,8 @@ returns-in-Came-Msg-clause-takes g c =
 pub returns-in_ok-answer-in_default-clause-takes : goal.returns-in_ok-answer-in_default-clause-takes
 returns-in_ok-answer-in_default-clause-takes g c =
     let flushed = c.in_ok-flush-in_default.ensures in
-    next-flushed c.args.self.now c.flush.new.self _ (meant c.args.read) flushed.same flushed.flushed flushed.empty c.in_ok-answer-in_default.ensures.place
-    c.in_ok-answer-in_default.ensures.answered flushed.empty refl
+    let mid = c.flush.new.self in
+    let same : c.in_default-1.read ≡ c.args.read = search rules in
+    next-flushed c.args.self.now mid _ (meant c.args.read) flushed.same flushed.flushed flushed.empty c.in_ok-answer-in_default.ensures.place
+    (subst (λ r. IsAnswered (mid.answered + 1) (meant r) mid.site c.answer.new.site mid.reply.sink c.answer.new.reply.sink) same
+    c.in_ok-answer-in_default.ensures.answered) flushed.empty refl
