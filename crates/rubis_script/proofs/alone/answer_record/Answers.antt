@@ -1,4 +1,4 @@
-use Rattle.std.proofs.Common.{◌≡◌, ◌∙◌, ap, refl, rules, subst, sym}
+use Rattle.std.proofs.Common.{◌≡◌, refl, rules, subst}
 use Rattle.rubis_message.specs.declared.requests.Request.TheVariants as request
 use Rattle.rubis_reading.specs.Parsed.{IsParsed}
 use Rattle.rubis_reading.specs.declared.parsed.Parsed.TheVariants as parsed
@@ -19,9 +19,7 @@ returns-in_ok-take_read-in_default g c =
     let d2 = c.take_read.new.self in
     let now = g.W.Write.contents c.args.writer.now in
     let took = c.in_ok-take_read-in_default.ensures in
-    let same : c.in_default-1.read ≡ c.in_ok-read.read = search rules in
-    takes-record d d2 c.in_default-1.read c.args.fields.now now now
-    (subst (λ p. IsParsed d.site.place.sites c.args.fields.now p) (sym same) c.in_ok-read.ensures) (takes-next d d2 c.in_default-1.read took.same took.takes now)
+    takes-record d d2 c.in_ok-read.read c.args.fields.now now now c.in_ok-read.ensures (takes-next d d2 c.in_ok-read.read took.same took.takes now)
 
 pub returns-in-Asked-List : goal.returns-in-Asked-List
 returns-in-Asked-List g c =
