@@ -42,7 +42,7 @@ use Rattle.rubis_audit.specs.Seen.{Sees}
 use Rattle.rubis_audit.specs.Walks.{HaveMessagesAmong, IsWalked, Walked, messages_of_logs}
 use Rattle.rubis_audit.specs.declared.seen.Seen.{Seen}
 use Rattle.rubis_audit.proofs.Opened.{nothing_shown}
-use Rattle.rubis_audit.proofs.Judging.{checks_are, known_log, known_none, known_push, ready}
+use Rattle.rubis_audit.proofs.Judging.{checks_are, known_log, known_push, ready}
 
 -- ---- what stands before an entry
 
