@@ -4,8 +4,8 @@ ghost use Rattle.std.specs.Prelude.{◌≡◌, ◌<◌, ◌+◌, ◌++◌, ◌^�
 ghost use Rattle.rubis_engine.specs.Accounts.{AnswersRecord};
 ghost use Rattle.rubis_engine.specs.declared.service.Course.TheVariants.{GoesOn};
 ghost use Rattle.rubis_engine.specs.Reading.{Advances, fields_now};
+ghost use Rattle.rubis_script.specs.Desks.{left_at};
 ghost use Rattle.rubis_script.specs.SiteRuns.{told_by};
-ghost use Rattle.rubis_script.specs.Windows.{AreHeld, held_by};
 ghost use Rattle.rubis_keep.specs.Kept.{FeedEnds, Finished, FinishedFront, InEachFeed, InEachRest, OutEnds, Rests};
 ghost use Rattle.rubis_keep.specs.Whole.{IsWhole};
 
@@ -24,29 +24,18 @@ fn answer_next<G: Gate, T: Threads + Wait + Sync, R: Read>(
     records: &mut Records<R>,
     clerk: &mut Clerk<G>,
 ) -> Result<bool, KeepFault>
-    requires held { AreHeld clerk.old.desk.site.place clerk.old.window.items clerk.old.answered }
-    requires room { clerk.old.answered + 1 < 2 ^ 64 }
-    ensures next { IfOk result (λ found. MatchBool found
+    requires { clerk.old.desk.answered + 1 < 2 ^ 64 }
+    ensures { IfOk result (λ found. MatchBool found
         (Advances R.remaining records.old records.new true × AnswersRecord GoesOn
-        (held_by clerk.old.desk.site clerk.old.window.items (clerk.old.answered + 1)) (held_by clerk.new.desk.site clerk.new.window.items
-        (clerk.old.answered + 1 + 1)) clerk.old.reply.sink clerk.new.reply.sink (fields_now records.new)
-        × (clerk.new.answered ≡ clerk.old.answered + 1))
+        (left_at clerk.old.desk) (left_at clerk.new.desk) clerk.old.desk.reply.sink clerk.new.desk.reply.sink (fields_now records.new)
+        × (clerk.new.desk.answered ≡ clerk.old.desk.answered + 1))
         (Advances R.remaining records.old records.new false × (clerk.new ≡ clerk.old))) }
-    ensures held { OnOk result (AreHeld clerk.new.desk.site.place clerk.new.window.items clerk.new.answered) }
 {
     if !records.advance()? {
         return Ok(false);
     }
-    let Clerk {
-        desk,
-        window,
-        reply,
-        answered,
-        ..
-    } = clerk;
-    desk.take(rt, *answered, records.fields(), window, reply)?;
-    *answered += 1;
-    desk.make_room(rt, *answered, window, reply)?;
+    clerk.desk.take(rt, records.fields())?;
+    clerk.desk.make_room(rt)?;
     Ok(true)
 }
 
@@ -56,28 +45,20 @@ fn finish<G: Gate, T: Threads + Wait + Sync, O: Read, W: Write>(
     clerk: &mut Clerk<G>,
     answers: &mut Answers<O, W>,
 ) -> Result<(), KeepFault>
-    requires held { AreHeld clerk.old.desk.site.place clerk.old.window.items clerk.old.answered }
-    ensures ok { OnOk result (Finished (held_by clerk.old.desk.site clerk.old.window.items (clerk.old.answered + 1))
+    ensures ok { OnOk result (Finished (left_at clerk.old.desk)
         (told_by clerk.new.desk.site
-        (clerk.old.answered + 1)) clerk.old.reply.sink (O.remaining answers.old.before) (O.remaining answers.new.before)
+        (clerk.old.desk.answered + 1)) clerk.old.desk.reply.sink (O.remaining answers.old.before) (O.remaining answers.new.before)
         (W.contents answers.old.out) (W.contents answers.new.out)) }
-    ensures same { clerk.new.answered ≡ clerk.old.answered }
-    ensures empty { OnOk result (clerk.new.reply.sink ≡ []) }
-    ensures window { OnOk result (clerk.new.window.items ≡ []) }
-    ensures err { OnErr result (FinishedFront (held_by clerk.old.desk.site clerk.old.window.items (clerk.old.answered + 1))
+    ensures same { OnOk result (clerk.new.desk.answered ≡ clerk.old.desk.answered) }
+    ensures empty { OnOk result (clerk.new.desk.reply.sink ≡ []) }
+    ensures window { OnOk result (clerk.new.desk.window.items ≡ []) }
+    ensures err { OnErr result (FinishedFront (left_at clerk.old.desk)
         (told_by clerk.new.desk.site
-        (clerk.old.answered + 1)) clerk.old.reply.sink (O.remaining answers.old.before) (O.remaining answers.new.before)
+        (clerk.old.desk.answered + 1)) clerk.old.desk.reply.sink (O.remaining answers.old.before) (O.remaining answers.new.before)
         (W.contents answers.old.out) (W.contents answers.new.out)) }
 {
-    let Clerk {
-        desk,
-        window,
-        reply,
-        answered,
-        ..
-    } = clerk;
-    desk.flush(rt, *answered, window, reply)?;
-    answers.put_sink(&mut reply.sink)
+    clerk.desk.flush(rt)?;
+    answers.put_sink(&mut clerk.desk.reply.sink)
 }
 
 // Ends a run that has answered as many records as it takes, unless there are no more.
@@ -87,11 +68,10 @@ fn stop<G: Gate, T: Threads + Wait + Sync, R: Read, O: Read, W: Write>(
     clerk: &mut Clerk<G>,
     answers: &mut Answers<O, W>,
 ) -> Result<(), KeepFault>
-    requires held { AreHeld clerk.old.desk.site.place clerk.old.window.items clerk.old.answered }
     ensures ok { OnOk result (Advances R.remaining records.old records.new false × (clerk.new ≡ clerk.old) × (answers.new ≡ answers.old)) }
-    ensures err { OnErr result (FinishedFront (held_by clerk.old.desk.site clerk.old.window.items (clerk.old.answered + 1))
+    ensures err { OnErr result (FinishedFront (left_at clerk.old.desk)
         (told_by clerk.new.desk.site
-        (clerk.old.answered + 1)) clerk.old.reply.sink (O.remaining answers.old.before) (O.remaining answers.new.before)
+        (clerk.old.desk.answered + 1)) clerk.old.desk.reply.sink (O.remaining answers.old.before) (O.remaining answers.new.before)
         (W.contents answers.old.out) (W.contents answers.new.out)) }
 {
     if records.advance()? {
@@ -108,25 +88,23 @@ fn feed_records<G: Gate, T: Threads + Wait + Sync, R: Read, O: Read, W: Write>(
     clerk: &mut Clerk<G>,
     answers: &mut Answers<O, W>,
 ) -> Result<(), KeepFault>
-    requires held { AreHeld clerk.old.desk.site.place clerk.old.window.items clerk.old.answered }
-    ensures ok { OnOk result (InEachFeed R.remaining records.old (held_by clerk.old.desk.site clerk.old.window.items (clerk.old.answered + 1))
-        (O.remaining answers.old.before) (W.contents answers.old.out) clerk.old.reply.sink (clerk.old.answered + 1)
-        (FeedEnds R.remaining records.new (held_by clerk.new.desk.site clerk.new.window.items (clerk.new.answered + 1))
-        (O.remaining answers.new.before) (W.contents answers.new.out) clerk.new.reply.sink (clerk.new.answered + 1))) }
-    ensures held { OnOk result (AreHeld clerk.new.desk.site.place clerk.new.window.items clerk.new.answered) }
-    ensures err { OnErr result (InEachFeed R.remaining records.old (held_by clerk.old.desk.site clerk.old.window.items (clerk.old.answered + 1))
-        (O.remaining answers.old.before) (W.contents answers.old.out) clerk.old.reply.sink (clerk.old.answered + 1)
+    ensures ok { OnOk result (InEachFeed R.remaining records.old (left_at clerk.old.desk)
+        (O.remaining answers.old.before) (W.contents answers.old.out) clerk.old.desk.reply.sink (clerk.old.desk.answered + 1)
+        (FeedEnds R.remaining records.new (left_at clerk.new.desk)
+        (O.remaining answers.new.before) (W.contents answers.new.out) clerk.new.desk.reply.sink (clerk.new.desk.answered + 1))) }
+    ensures err { OnErr result (InEachFeed R.remaining records.old (left_at clerk.old.desk)
+        (O.remaining answers.old.before) (W.contents answers.old.out) clerk.old.desk.reply.sink (clerk.old.desk.answered + 1)
         (λ all told old out0 kept. OutEnds all told old out0 (W.contents answers.new.out) kept)) }
 {
     for _turn in 0..u64::MAX {
-        if clerk.answered >= clerk.limit {
+        if clerk.desk.answered >= clerk.limit {
             return stop(rt, records, clerk, answers);
         }
         if !answer_next(rt, records, clerk)? {
             return Ok(());
         }
-        if clerk.reply.sink.is_full() {
-            answers.put_sink(&mut clerk.reply.sink)?;
+        if clerk.desk.reply.sink.is_full() {
+            answers.put_sink(&mut clerk.desk.reply.sink)?;
         }
     }
     Err(KeepFault::TooLong)
@@ -140,16 +118,16 @@ pub(crate) fn feed_chunk<G: Gate, T: Threads + Wait + Sync, O: Read, W: Write>(
     answers: &mut Answers<O, W>,
 ) -> Result<(), KeepFault>
     requires whole { IsWhole chunk.now }
-    requires empty { clerk.old.reply.sink ≡ [] }
-    requires window { clerk.old.window.items ≡ [] }
-    ensures ok { OnOk result (InEachRest (told_by clerk.old.desk.site (clerk.old.answered + 1)) (O.remaining answers.old.before)
-        (W.contents answers.old.out) (clerk.old.answered + 1)
-        (λ all told old out0 kept. Rests all (told_by clerk.new.desk.site (clerk.new.answered + 1)) told old (O.remaining answers.new.before) out0
-        (W.contents answers.new.out) (clerk.new.answered + 1) (kept ++ chunk.now))) }
-    ensures empty { OnOk result (clerk.new.reply.sink ≡ []) }
-    ensures window { OnOk result (clerk.new.window.items ≡ []) }
-    ensures err { OnErr result (InEachRest (told_by clerk.old.desk.site (clerk.old.answered + 1)) (O.remaining answers.old.before)
-        (W.contents answers.old.out) (clerk.old.answered + 1)
+    requires empty { clerk.old.desk.reply.sink ≡ [] }
+    requires window { clerk.old.desk.window.items ≡ [] }
+    ensures ok { OnOk result (InEachRest (told_by clerk.old.desk.site (clerk.old.desk.answered + 1)) (O.remaining answers.old.before)
+        (W.contents answers.old.out) (clerk.old.desk.answered + 1)
+        (λ all told old out0 kept. Rests all (told_by clerk.new.desk.site (clerk.new.desk.answered + 1)) told old (O.remaining answers.new.before) out0
+        (W.contents answers.new.out) (clerk.new.desk.answered + 1) (kept ++ chunk.now))) }
+    ensures empty { OnOk result (clerk.new.desk.reply.sink ≡ []) }
+    ensures window { OnOk result (clerk.new.desk.window.items ≡ []) }
+    ensures err { OnErr result (InEachRest (told_by clerk.old.desk.site (clerk.old.desk.answered + 1)) (O.remaining answers.old.before)
+        (W.contents answers.old.out) (clerk.old.desk.answered + 1)
         (λ all told old out0 kept. OutEnds all told old out0 (W.contents answers.new.out) (kept ++ chunk.now))) }
 {
     let mut records = Records::new(clerk.alloc, chunk);

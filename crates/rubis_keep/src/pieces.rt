@@ -24,20 +24,20 @@ fn next_piece<G: Gate, T: Threads + Wait + Sync, R: Read, K: Write, O: Read, W: 
     clerk: &mut Clerk<G>,
     answers: &mut Answers<O, W>,
 ) -> Result<bool, KeepFault>
-    requires window { clerk.old.window.items ≡ [] }
-    requires empty { clerk.old.reply.sink ≡ [] }
+    requires window { clerk.old.desk.window.items ≡ [] }
+    requires empty { clerk.old.desk.reply.sink ≡ [] }
     requires begun { IsBegun lines.old.cutter }
-    ensures ok { IfOk result (λ more. InEachStand (told_by clerk.old.desk.site (clerk.old.answered + 1)) (R.remaining live.old) (K.contents log.old)
-        (O.remaining answers.old.before) (W.contents answers.old.out) lines.old.cutter (clerk.old.answered + 1) lines.old.kept
-        (λ all told old base line input0 log0 out0 len0. Stands all (told_by clerk.new.desk.site (clerk.new.answered + 1)) told old base line input0
+    ensures ok { IfOk result (λ more. InEachStand (told_by clerk.old.desk.site (clerk.old.desk.answered + 1)) (R.remaining live.old) (K.contents log.old)
+        (O.remaining answers.old.before) (W.contents answers.old.out) lines.old.cutter (clerk.old.desk.answered + 1) lines.old.kept
+        (λ all told old base line input0 log0 out0 len0. Stands all (told_by clerk.new.desk.site (clerk.new.desk.answered + 1)) told old base line input0
         (R.remaining live.new) log0 (K.contents log.new) (O.remaining answers.new.before) out0
-        (W.contents answers.new.out) lines.new.cutter (clerk.new.answered + 1) len0 lines.new.kept)) }
+        (W.contents answers.new.out) lines.new.cutter (clerk.new.desk.answered + 1) len0 lines.new.kept)) }
     ensures end { IfOk result (λ more. more ≡ false → IsAtEnd (R.remaining live.new)) }
-    ensures window { OnOk result (clerk.new.window.items ≡ []) }
-    ensures empty { OnOk result (clerk.new.reply.sink ≡ []) }
+    ensures window { OnOk result (clerk.new.desk.window.items ≡ []) }
+    ensures empty { OnOk result (clerk.new.desk.reply.sink ≡ []) }
     ensures begun { OnOk result (IsBegun lines.new.cutter) }
-    ensures err { OnErr result (InEachStand (told_by clerk.old.desk.site (clerk.old.answered + 1)) (R.remaining live.old) (K.contents log.old)
-        (O.remaining answers.old.before) (W.contents answers.old.out) lines.old.cutter (clerk.old.answered + 1) lines.old.kept
+    ensures err { OnErr result (InEachStand (told_by clerk.old.desk.site (clerk.old.desk.answered + 1)) (R.remaining live.old) (K.contents log.old)
+        (O.remaining answers.old.before) (W.contents answers.old.out) lines.old.cutter (clerk.old.desk.answered + 1) lines.old.kept
         (λ all told old base line input0 log0 out0 len0. Fails all told old base line input0 (R.remaining live.new) log0 (K.contents log.new) out0
         (W.contents answers.new.out))) }
 {
@@ -72,19 +72,19 @@ pub(crate) fn answer_pieces<
     clerk: &mut Clerk<G>,
     answers: &mut Answers<O, W>,
 ) -> Result<(), KeepFault>
-    requires window { clerk.old.window.items ≡ [] }
-    requires empty { clerk.old.reply.sink ≡ [] }
+    requires window { clerk.old.desk.window.items ≡ [] }
+    requires empty { clerk.old.desk.reply.sink ≡ [] }
     requires begun { IsBegun lines.old.cutter }
-    ensures ok { OnOk result (InEachStand (told_by clerk.old.desk.site (clerk.old.answered + 1)) (R.remaining live.old) (K.contents log.old)
-        (O.remaining answers.old.before) (W.contents answers.old.out) lines.old.cutter (clerk.old.answered + 1) lines.old.kept
-        (λ all told old base line input0 log0 out0 len0. Stands all (told_by clerk.new.desk.site (clerk.new.answered + 1)) told old base line input0
+    ensures ok { OnOk result (InEachStand (told_by clerk.old.desk.site (clerk.old.desk.answered + 1)) (R.remaining live.old) (K.contents log.old)
+        (O.remaining answers.old.before) (W.contents answers.old.out) lines.old.cutter (clerk.old.desk.answered + 1) lines.old.kept
+        (λ all told old base line input0 log0 out0 len0. Stands all (told_by clerk.new.desk.site (clerk.new.desk.answered + 1)) told old base line input0
         (R.remaining live.new) log0 (K.contents log.new) (O.remaining answers.new.before) out0
-        (W.contents answers.new.out) lines.new.cutter (clerk.new.answered + 1) len0 lines.new.kept)) }
+        (W.contents answers.new.out) lines.new.cutter (clerk.new.desk.answered + 1) len0 lines.new.kept)) }
     ensures end { OnOk result (IsAtEnd (R.remaining live.new)) }
-    ensures window { OnOk result (clerk.new.window.items ≡ []) }
-    ensures empty { OnOk result (clerk.new.reply.sink ≡ []) }
-    ensures err { OnErr result (InEachStand (told_by clerk.old.desk.site (clerk.old.answered + 1)) (R.remaining live.old) (K.contents log.old)
-        (O.remaining answers.old.before) (W.contents answers.old.out) lines.old.cutter (clerk.old.answered + 1) lines.old.kept
+    ensures window { OnOk result (clerk.new.desk.window.items ≡ []) }
+    ensures empty { OnOk result (clerk.new.desk.reply.sink ≡ []) }
+    ensures err { OnErr result (InEachStand (told_by clerk.old.desk.site (clerk.old.desk.answered + 1)) (R.remaining live.old) (K.contents log.old)
+        (O.remaining answers.old.before) (W.contents answers.old.out) lines.old.cutter (clerk.old.desk.answered + 1) lines.old.kept
         (λ all told old base line input0 log0 out0 len0. Fails all told old base line input0 (R.remaining live.new) log0 (K.contents log.new) out0
         (W.contents answers.new.out))) }
 {

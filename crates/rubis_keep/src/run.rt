@@ -44,17 +44,17 @@ fn replay<G: Gate, T: Threads + Wait + Sync, P: Read, O: Read, W: Write>(
     clerk: &mut Clerk<G>,
     answers: &mut Answers<O, W>,
 ) -> Result<(), KeepFault>
-    requires window { clerk.old.window.items ≡ [] }
-    requires empty { clerk.old.reply.sink ≡ [] }
-    requires answered { clerk.old.answered ≡ 0 }
+    requires window { clerk.old.desk.window.items ≡ [] }
+    requires empty { clerk.old.desk.reply.sink ≡ [] }
+    requires answered { clerk.old.desk.answered ≡ 0 }
     requires cutter { lines.old.cutter ≡ [] }
     requires kept { lines.old.kept ≡ 0 }
     ensures ok { OnOk result ((kept old : List ℕ) → Begins kept old (P.remaining past.old) (Some kept) (O.remaining answers.old.before)
         (W.contents answers.old.out)
         → Replayed (told_by clerk.old.desk.site 1) (told_by clerk.new.desk.site
-        (clerk.new.answered + 1)) kept old (O.remaining answers.new.before) (W.contents answers.new.out) (clerk.new.answered + 1) lines.new.kept) }
-    ensures window { OnOk result (clerk.new.window.items ≡ []) }
-    ensures empty { OnOk result (clerk.new.reply.sink ≡ []) }
+        (clerk.new.desk.answered + 1)) kept old (O.remaining answers.new.before) (W.contents answers.new.out) (clerk.new.desk.answered + 1) lines.new.kept) }
+    ensures window { OnOk result (clerk.new.desk.window.items ≡ []) }
+    ensures empty { OnOk result (clerk.new.desk.reply.sink ≡ []) }
     ensures err { OnErr result ((kept old : List ℕ) (input : Option (List ℕ))
         → Begins kept old (P.remaining past.old) (Some kept) (O.remaining answers.old.before) (W.contents answers.old.out)
         → Ended (told_by clerk.old.desk.site 1) kept old input input (Some kept) (W.contents answers.new.out)) }
@@ -72,7 +72,7 @@ fn tell_replayed<G: Gate, W: Out>(clerk: &Clerk<G>, out: &mut W) -> Result<(), K
 {
     let site = &clerk.desk.site;
     let counts = counts_of(clerk.alloc, site.history(), clerk.desk.sites())?;
-    match out.replayed(clerk.answered, &counts) {
+    match out.replayed(clerk.desk.answered, &counts) {
         Ok(()) => Ok(()),
         Err(e) => Err(KeepFault::WriteOut(e)),
     }
@@ -87,15 +87,15 @@ fn go_on<G: Gate, T: Threads + Wait + Sync, L: Log, O: Read, W: Out, R: Read>(
     clerk: &mut Clerk<G>,
     answers: &mut Answers<O, W>,
 ) -> Result<(), KeepFault>
-    requires window { clerk.old.window.items ≡ [] }
-    requires empty { clerk.old.reply.sink ≡ [] }
+    requires window { clerk.old.desk.window.items ≡ [] }
+    requires empty { clerk.old.desk.reply.sink ≡ [] }
     ensures ok { OnOk result ((all : Account) (kept old : List ℕ) → AreSound [] kept → L.contents log.old ≡ Some kept
         → Replayed all (told_by clerk.old.desk.site
-        (clerk.old.answered + 1)) kept old (O.remaining answers.old.before) (W.contents answers.old.out) (clerk.old.answered + 1) lines.old.kept
+        (clerk.old.desk.answered + 1)) kept old (O.remaining answers.old.before) (W.contents answers.old.out) (clerk.old.desk.answered + 1) lines.old.kept
         → Lived all kept old (R.remaining live.old) (R.remaining live.new) (L.contents log.new) (W.contents answers.new.out)) }
     ensures err { OnErr result ((all : Account) (kept old : List ℕ) → AreSound [] kept → L.contents log.old ≡ Some kept
         → Replayed all (told_by clerk.old.desk.site
-        (clerk.old.answered + 1)) kept old (O.remaining answers.old.before) (W.contents answers.old.out) (clerk.old.answered + 1) lines.old.kept
+        (clerk.old.desk.answered + 1)) kept old (O.remaining answers.old.before) (W.contents answers.old.out) (clerk.old.desk.answered + 1) lines.old.kept
         → Ended all kept old (R.remaining live.old) (R.remaining live.new) (L.contents log.new) (W.contents answers.new.out)) }
 {
     match log.cut(lines.kept) {
@@ -133,9 +133,9 @@ pub fn run_kept<
     clerk: &mut Clerk<G>,
     answers: &mut Answers<O, W>,
 ) -> Result<(), KeepFault>
-    requires window { clerk.old.window.items ≡ [] }
-    requires empty { clerk.old.reply.sink ≡ [] }
-    requires answered { clerk.old.answered ≡ 0 }
+    requires window { clerk.old.desk.window.items ≡ [] }
+    requires empty { clerk.old.desk.reply.sink ≡ [] }
+    requires answered { clerk.old.desk.answered ≡ 0 }
     ensures ok { OnOk result ((kept old : List ℕ) → Opens kept old (C.remaining recording.old.first) (P.remaining recording.old.past)
         (L.contents recording.old.log) (O.remaining answers.old.before) (W.contents answers.old.out)
         → Lived (told_by clerk.old.desk.site 1) kept old (R.remaining live.old) (R.remaining live.new)

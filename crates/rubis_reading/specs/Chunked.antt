@@ -33,3 +33,7 @@ pub record IsFilled (before after : Option (List ℕ)) (old new : List ℕ) (mor
 -- nothing was taken off
 abbrev pub KeepsPending : {R : Type 0} → (R → Option (List ℕ)) → Chunks R → Chunks R → Type 0
 KeepsPending rem old new = (rows : List (List (List ℕ))) → HasPending rem old rows → HasPending rem new rows
+
+-- what came and was not handed on is the rest of the records
+abbrev pub IsLast : {R : Type 0} → (R → Option (List ℕ)) → Chunks R → Type 0
+IsLast rem c = (rows : List (List (List ℕ))) → HasPending rem c rows → rows ≡ input_records (held_text c)

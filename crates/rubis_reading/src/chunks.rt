@@ -3,7 +3,7 @@
 ghost use Rattle.std.specs.Prelude.{◌≡◌, ◌≤◌, ◌<◌, ◌-◌, drop, false, length, take, List, ℕ, IfSome, IfOk, OnOk};
 ghost use Rattle.rubis_reading.specs.Streams.{IsWhole, NoWholeAfter};
 ghost use Rattle.rubis_engine.specs.Text.{input_records};
-ghost use Rattle.rubis_reading.specs.Chunked.{HasPending, KeepsPending, TakesOff, held_text, pending_text};
+ghost use Rattle.rubis_reading.specs.Chunked.{HasPending, IsLast, KeepsPending, TakesOff, held_text, pending_text};
 
 use crate::cuts::{Looked, look_for_end, whole_end};
 use crate::held::{ChunkFault, Held};
@@ -49,8 +49,7 @@ impl<R: Read> Chunks<R> {
     /// are held are the rest. No byte is looked at again when more come, however long a record is.
     pub fn fill(&mut self) -> Result<bool, ChunkFault>
         ensures keeps { OnOk result (KeepsPending R.remaining self.old self.new) }
-        ensures last { IfOk result (λ more. more ≡ false → (rows : List (List (List ℕ))) → HasPending R.remaining self.new rows
-            → rows ≡ input_records (held_text self.new)) }
+        ensures last { IfOk result (λ more. more ≡ false → IsLast R.remaining self.new) }
     {
         let mut looked = Looked::none();
         'asks: for _ in 0..u64::MAX {

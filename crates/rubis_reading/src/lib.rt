@@ -13,5 +13,5 @@ pub use ahead::Ahead;
 pub use chunks::Chunks;
 pub use cuts::whole_end;
 pub use held::ChunkFault;
-pub use parsed::{Parsed, Stretch, read_piece};
+pub use parsed::{Parsed, Stretch, read_piece, read_record};
 pub use parts::read_parts;

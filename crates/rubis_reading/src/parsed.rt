@@ -37,6 +37,7 @@ pub enum Stretch {
 
 /// What a record is.
 #[tactic(auto, using(crate::proofs::ParsedFacts::came, crate::proofs::ParsedFacts::asked, crate::proofs::ParsedFacts::neither))]
+#[inline(always)]
 pub fn read_record(alloc: Global, fields: &InputRecord, sites: u8) -> Result<Parsed, OutOfMemory>
     requires { sites ≤ 16 }
     ensures { IfOk result (λ parsed. IsParsed sites fields.now parsed) }

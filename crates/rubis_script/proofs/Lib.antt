@@ -1,10 +1,13 @@
 pub mod LoopFacts
 pub mod SiteAnswers
-pub mod OneReading
 pub mod WindowFacts
 pub mod ReplayFacts
 pub mod HeadlineExamples
 pub mod LeadFacts
 pub mod DrainFacts
+pub mod DeskFacts
+pub mod StepFacts
+pub mod EndFacts
 pub mod AloneFacts
+pub mod ChunkFacts
 pub mod Names

@@ -4,24 +4,22 @@ use Rattle.std.proofs.Common.{arith, length, refl, subst, sym, ap, take}
 use Rattle.std.specs.Io.KnownBytes.{Appends}
 use Rattle.rubis_script.specs.Headline.{AnswersAll, AnswersFirst, AnswersJust, Settles, StepsOn}
 use Rattle.rubis_script.specs.SiteRuns.{told_by}
-use Rattle.rubis_script.specs.Windows.{AreHeld, FitPlan, held_by}
+use Rattle.rubis_script.specs.Windows.{held_by}
 use Rattle.rubis_script.proofs.LeadFacts.{SiteEnds, held_steps, led_all, led_kept, led_more, led_none, take_all, take_at}
-use Rattle.rubis_script.proofs.WindowFacts.{held_none, holds_more}
+use Rattle.rubis_script.proofs.WindowFacts.{holds_more}
 use Rattle.rubis_engine.specs.Accounts.{AnswersRecord, Ending, Keeps}
 use Rattle.rubis_engine.specs.Progress.{IsWrittenOrWaits}
 use Rattle.rubis_engine.specs.declared.service.Course.TheVariants.{GoesOn}
 use Rattle.rubis_message.specs.Message.{Message, sites_of}
 use Rattle.rubis_message.specs.declared.tokens.Packet.TheVariants.{Msg}
-use Rattle.rubis_model.specs.Site.{Place}
-use Rattle.rubis_reading.specs.Runs.{AreSingle, FitWindow, all_came, flat}
+use Rattle.rubis_reading.specs.Runs.{all_came, flat}
 use Rattle.rubis_reading.specs.declared.parsed.Stretch.{Stretch}
 use Rattle.rubis_reading.specs.declared.parsed.Parsed.TheVariants.{Came}
 use Rattle.rubis_model.specs.Runs.{answers, input_of}
 use Rattle.rubis_engine.specs.Text.{input_records}
 use Rattle.rubis_reading.specs.Chunked.{HasPending}
 use Rattle.rubis_reading.specs.declared.chunks.Chunks.{Chunks}
-use Rattle.rubis_reading.specs.Parsed.{AreParsed, FitsIn, meant}
-use Rattle.rubis_reading.proofs.RunFacts.{window-singles}
+use Rattle.rubis_reading.specs.Parsed.{AreParsed, FitsIn, IsParsed, meant}
 use Rattle.rubis_reading.proofs.AheadFacts.{ahead-answered, ahead-done, ahead-kept, ahead-prefix, ahead-read, ahead-starts, ahead-too_long, ahead-written}
 use Rattle.rubis_reading.proofs.AheadFacts.{all-fit}
 use Rattle.rubis_reading.specs.declared.parsed.Parsed.{Parsed}
@@ -31,10 +29,11 @@ use Rattle.rubis_engine.specs.Progress.{WrotePrefix}
 use Rattle.rubis_engine.specs.declared.fault.Count.{Count}
 use Rattle.rubis_engine.specs.declared.fault.RunFault.{RunFault}
 use Rattle.rubis_engine.specs.declared.fault.RunFault.TheVariants as fault
-use Rattle.rubis_script.specs.Runs.{AnswersAllAhead, AnswersFirstAhead, AnswersJustAhead, HasReadAhead, IsSound, Stands, StandsWith, WritesPrefixAhead}
-use Rattle.std.specs.Prelude.{IfOk, IfSome, IsErrOf, Result, Ok, Err, Some, None}
-use Rattle.rubis_script.specs.declared.backlog.Backlog.{Backlog}
-use Rattle.rubis_script.specs.declared.plan.Plan.{Plan}
+use Rattle.rubis_script.specs.Desks.{IsFresh}
+use Rattle.rubis_script.specs.Endings.{ByEnd}
+use Rattle.rubis_script.specs.Runs.{AnswersAllAhead, AnswersFirstAhead, AnswersJustAhead, HasReadAhead, Stands, WritesPrefixAhead}
+use Rattle.std.specs.Prelude.{IfOk, IfSome, Result, Ok, Err, Some, None}
+use Rattle.rubis_script.specs.declared.desk.Desk.{Desk}
 
 -- where nothing is held, nothing is left to be written after the last record
 pub held-end : (s : SiteState) (window : List Message) (n : ℕ) (ending : Ending) → window ≡ [] → (held_by s window n).text ending [] ≡ []
@@ -43,39 +42,6 @@ held-end s window n ending none = rw none refl
 
 pub held-told : (s : SiteState) (window : List Message) (n : ℕ) → window ≡ [] → n ≡ 1 → held_by s window n ≡ told_by s 1
 held-told s window n none one = rw (none, one) refl
-
-fits-none : (sites : ℕ) (ahead : List Stretch) → ahead ≡ [] → All (λ p. FitsIn sites p) (flat ahead)
-fits-none sites ahead none = subst (λ l. All (λ p. FitsIn sites p) (flat l)) (sym none) (λ k d lt. absurd (omega (arith, lt)))
-
--- nothing is held, and nothing was read ahead
-pub sound-none : (s : SiteState) (plan : Plan) (b : Backlog) → b.ahead ≡ [] → b.window.items ≡ [] → IsSound s plan b
-sound-none s plan b ahead window = record {
-  held = held_none s.place b.window.items b.answered window;
-  few = let none = ap length window in omega (arith, none);
-  fits = fits-none s.place.sites b.ahead ahead;
-  windows = subst (λ l. FitWindow plan.window l) (sym ahead) tt;
-}
-
--- what was read ahead is taken apart
-pub sound-single : (s : SiteState) (plan : Plan) (b b2 : Backlog) → flat b2.ahead ≡ flat b.ahead → AreSingle b2.ahead → b2.window.items ≡ b.window.items →
-    b2.answered ≡ b.answered
-    → IsSound s plan b → IsSound s plan b2
-sound-single s plan b b2 ahead single window count h = record {
-  held = subst (λ k. AreHeld s.place b2.window.items k) (sym count) (subst (λ w. AreHeld s.place w b.answered) (sym window) h.held);
-  few = subst (λ w. FitPlan plan w) (sym window) h.few;
-  fits = subst (λ l. All (λ x. FitsIn s.place.sites x) l) (sym ahead) h.fits;
-  windows = window-singles plan.window b2.ahead single;
-}
-
--- as many were answered as were to be, and there are more
-pub stop-count : (before after left many : ℕ) (ahead : List Stretch) → (after ≡ before + left) ⊎ (ahead ≡ []) → after + length (flat ahead) ≡ before + many →
-    left < many
-    → after ≤ before + left → (after ≡ before + left) × (0 < length (flat ahead))
-stop-count before after left many ahead stop count more within =
-    elim stop [
-      | inl e ↦ (e, omega (arith, e, count, more))
-      | inr none ↦ let zero : length (flat ahead) ≡ 0 = ap (λ l. length (flat l)) none in absurd (omega (arith, zero, count, more, within))
-    ]
 
 -- what a list was read from, as its reader and its owner name them
 pub fits-read : (sites s : ℕ) (rows : List (List (List ℕ))) (items list : List Parsed) → s ≡ sites → list ≡ items → AreParsed s rows items →
@@ -94,31 +60,24 @@ at_if_ok P (Ok x) v h e = subst (λ o. IfOk o P) e h
 at_if_ok P (Err x) v h e = absurd cc
 
 -- nothing was read or answered yet
-pub starts : {R : Type 0} (rem : R → Option (List ℕ)) (chunks : Chunks R) (s : SiteState) (b : Backlog) (old : Option (List ℕ)) (input : List ℕ)
-    → b.ahead ≡ [] → b.window.items ≡ [] → b.reply.sink ≡ [] → b.answered ≡ 0 → HasPending rem chunks (input_records input) →
-    HasReadAhead rem chunks s b s old old input
-starts rem chunks s b old input ahead window sink none pending = record {
+pub starts : {R G : Type 0} (rem : R → Option (List ℕ)) (chunks : Chunks R) (d : Desk G) (ahead : List Stretch) (old : Option (List ℕ)) (input : List ℕ)
+    → ahead ≡ [] → IsFresh d → HasPending rem chunks (input_records input) → HasReadAhead rem chunks d ahead d.site old old input
+starts rem chunks d ahead old input none fresh pending = record {
   later = input_records input;
   stands = record {
-    text = ahead-starts s.place.sites (flat b.ahead) (told_by s 1) (held_by s b.window.items (b.answered + 1)) old b.reply.sink (b.answered + 1)
-        (input_records input) (ap flat ahead) sink (omega (arith, none))
-        (held-told s b.window.items (b.answered + 1) window (omega (arith, none)));
-    led = led_none s b.window.items b.answered (input_records input) window none;
+    text = ahead-starts d.site.place.sites (flat ahead) (told_by d.site 1) (held_by d.site d.window.items (d.answered + 1)) old d.reply.sink (d.answered + 1)
+        (input_records input) (ap flat none) fresh.empty (omega (arith, fresh.zero))
+        (held-told d.site d.window.items (d.answered + 1) fresh.none (omega (arith, fresh.zero)));
+    led = led_none d.site d.window.items d.answered (input_records input) fresh.none fresh.zero;
   };
   pending = pending;
 }
 
--- the same, where what was read ahead is kept otherwise
-pub same-stands : (s : SiteState) (b b2 : Backlog) (first : SiteState) (old now : Option (List ℕ)) (records later : List (List (List ℕ)))
-    → flat b2.ahead ≡ flat b.ahead → b2.window.items ≡ b.window.items → b2.reply.sink ≡ b.reply.sink → b2.answered ≡ b.answered
-    → StandsWith s b first old now records later → StandsWith s b2 first old now records later
-same-stands s b b2 first old now records later ahead window sink count h =
-    let h1 = subst (λ l. Stands s l b.window.items b.reply.sink b.answered first old now records later) (sym ahead) h in
-    let h2 = subst (λ w. Stands s (flat b2.ahead) w b.reply.sink b.answered first old now records later) (sym window) h1 in
-    let h3 = subst (λ t. Stands s (flat b2.ahead) b2.window.items t b.answered first old now records later) (sym sink) h2 in
-    subst (λ k. Stands s (flat b2.ahead) b2.window.items b2.reply.sink k first old now records later) (sym count) h3
-
 -- ---- a step
+
+pub parsed-one : (sites : ℕ) (fields : List (List ℕ)) (p : Parsed) → IsParsed sites fields p → AreParsed sites (fields ∷ []) (p ∷ [])
+unfolding AreParsed
+parsed-one sites fields p read = (read, tt)
 
 pub first_read : (sites : ℕ) (rows : List (List (List ℕ))) (p : Parsed) (left : List Parsed) → AreParsed sites rows (p ∷ left)
     → (fields : List (List ℕ)) × (more : List (List (List ℕ))) × (rows ≡ fields ∷ more) × (input_of sites fields ≡ meant p)
@@ -230,7 +189,7 @@ stands-cut s ps w first old now sink answered records later empty none stands =
 
 -- ---- messages that came together
 
-all-sites : (sites : ℕ) (ms : List Message) → All (λ p. FitsIn sites p) (all_came ms) → All (λ m. sites_of m ≡ sites) ms
+pub all-sites : (sites : ℕ) (ms : List Message) → All (λ p. FitsIn sites p) (all_came ms) → All (λ m. sites_of m ≡ sites) ms
 all-sites sites [] h k d lt = absurd (omega (arith, lt))
 all-sites sites (m ∷ ms) h zero d lt = (h zero (Came (Msg d)) (omega arith)).1
 all-sites sites (m ∷ ms) h (suc k) d lt = all-sites sites ms (λ j e l. h (suc j) e (omega (arith, l))) k d (omega (arith, lt))
@@ -243,10 +202,6 @@ all-front sites (x ∷ xs) ys h (suc k) d lt = all-front sites xs ys (λ j e l. 
 pub all-back : (sites : ℕ) (xs ys : List Parsed) → All (λ p. FitsIn sites p) (xs ++ ys) → All (λ p. FitsIn sites p) ys
 all-back sites [] ys h = h
 all-back sites (x ∷ xs) ys h = all-back sites xs ys (λ j e l. h (suc j) e (omega (arith, l)))
-
-pub all-held : (p : Place) (ms : List Message) (answered many : ℕ) → many ≡ length ms → All (λ x. FitsIn p.sites x) (all_came ms) →
-    AreHeld p ms (answered + many)
-all-held p ms answered many size fits = record { sites = all-sites p.sites ms fits; few = omega (arith, size) }
 
 -- they are held, after those that are
 holds-run : (s : SiteState) (ms w : List Message) (left : List Parsed) (first : SiteState) (old now : Option (List ℕ)) (sink : List ℕ) (answered : ℕ)
@@ -282,21 +237,19 @@ run-held old_site site w w2 ms left first old now sink sink2 answered many recor
     (holds-run site ms [] left first old now sink2 answered records later (omega arith) kept)
 
 -- a run that has read nothing ahead so far ends so
-pub ends_ahead : {R : Type 0} (rem : R → Option (List ℕ)) (chunks : Chunks R) (s : SiteState) (b : Backlog) (new : SiteState) (limit answered : ℕ)
+pub ends_ahead : {R G : Type 0} (rem : R → Option (List ℕ)) (chunks : Chunks R) (d new : Desk G) (ahead : List Stretch) (limit : ℕ)
     (input old now : Option (List ℕ)) (result : Result Count RunFault)
-    → IfSome input (λ bytes. HasPending rem chunks (input_records bytes))
-    → ((bytes : List ℕ) → HasPending rem chunks (input_records bytes) → HasReadAhead rem chunks s b s old old bytes)
-    → IfOk result (λ count. AnswersAllAhead limit rem chunks s b old new now count)
-    → (IsErrOf result fault.TooLong → AnswersFirstAhead limit rem chunks s b old new now)
-    → (IsErrOf result fault.Read → AnswersJustAhead answered rem chunks s b old new now)
-    → (IsErrOf result fault.Memory → WritesPrefixAhead rem chunks s b old now)
-    → IfSome input (λ bytes. SiteEnds limit s new old now (input_records bytes) result)
-ends_ahead rem chunks s b new limit answered None old now result pending starts done long cut prefix = tt
-ends_ahead rem chunks s b new limit answered (Some bytes) old now (Ok count) pending starts done long cut prefix = done s old bytes (starts bytes pending)
-ends_ahead rem chunks s b new limit answered (Some bytes) old now (Err fault.TooLong) pending starts done long cut prefix =
-    long refl s old bytes (starts bytes pending)
-ends_ahead rem chunks s b new limit answered (Some bytes) old now (Err fault.Read) pending starts done long cut prefix =
-    (answered, (cut refl s old bytes (starts bytes pending)).0)
-ends_ahead rem chunks s b new limit answered (Some bytes) old now (Err fault.Memory) pending starts done long cut prefix =
-    prefix refl s old bytes (starts bytes pending)
-ends_ahead rem chunks s b new limit answered (Some bytes) old now (Err fault.Write) pending starts done long cut prefix = tt
+    → IfSome input (λ bytes. HasPending rem chunks (input_records bytes)) → ahead ≡ [] → IsFresh d
+    → ByEnd result (λ count. AnswersAllAhead limit rem chunks d ahead old new now count) (AnswersFirstAhead limit rem chunks d ahead old new now)
+    (AnswersJustAhead new.answered rem chunks d ahead old new now) (WritesPrefixAhead rem chunks d ahead old now)
+    → IfSome input (λ bytes. SiteEnds limit d.site new.site old now (input_records bytes) result)
+ends_ahead rem chunks d new ahead limit None old now result pending none fresh ends = tt
+ends_ahead rem chunks d new ahead limit (Some bytes) old now (Ok count) pending none fresh ends =
+    ends d.site old bytes (starts rem chunks d ahead old bytes none fresh pending)
+ends_ahead rem chunks d new ahead limit (Some bytes) old now (Err fault.TooLong) pending none fresh ends =
+    ends d.site old bytes (starts rem chunks d ahead old bytes none fresh pending)
+ends_ahead rem chunks d new ahead limit (Some bytes) old now (Err fault.Read) pending none fresh ends =
+    (new.answered, (ends d.site old bytes (starts rem chunks d ahead old bytes none fresh pending)).0)
+ends_ahead rem chunks d new ahead limit (Some bytes) old now (Err fault.Memory) pending none fresh ends =
+    ends d.site old bytes (starts rem chunks d ahead old bytes none fresh pending)
+ends_ahead rem chunks d new ahead limit (Some bytes) old now (Err fault.Write) pending none fresh ends = tt

@@ -1,8 +1,7 @@
 -- What holding messages leaves to be written, and what taking them in writes.
 use Rattle.std.proofs.Common.{◌≡◌, ◌∙◌, ◌≤◌, ◌+◌, ◌-◌, ◌++◌, ◌∷◌, [], ℕ, List, ap, append_assoc, arith, length, length-append, refl, subst, sym}
 use Rattle.std.proofs.lemmas.List.{append-nil}
-use Rattle.std.proofs.lemmas.List.Elements.{All-push}
-use Rattle.rubis_message.specs.Message.{Message, sites_of}
+use Rattle.rubis_message.specs.Message.{Message}
 use Rattle.rubis_message.specs.declared.tokens.Packet.TheVariants.{Msg}
 use Rattle.rubis_model.specs.Answers.{arrived_rows}
 use Rattle.rubis_model.specs.Runs.{answers, input_of, input_step}
@@ -15,7 +14,7 @@ use Rattle.rubis_engine.specs.declared.service.Course.TheVariants.{GoesOn}
 use Rattle.rubis_script.specs.Inputs.{IsAnswered}
 use Rattle.rubis_script.specs.SiteRuns.{told_by}
 use Rattle.rubis_engine.specs.Text.{rows_text}
-use Rattle.rubis_script.specs.Windows.{AreHeld, arrivals_rows, held_by, window_rows}
+use Rattle.rubis_script.specs.Windows.{arrivals_rows, held_by, window_rows}
 use Rattle.rubis_script.proofs.LeadFacts.{after_more}
 use Rattle.rubis_script.proofs.SiteAnswers.{site_goes}
 use Rattle.rubis_engine.proofs.TextFacts.{text-goes}
@@ -57,16 +56,6 @@ pub holds_more : (s : SiteState) (n : ℕ) (w : List Message) (m : Message) (fie
     → AnswersRecord GoesOn (held_by s w n) (held_by s (w ++ m ∷ []) (n + 1)) sink sink fields
 holds_more s n w m fields sink few is more =
     (λ ending. ap (λ rows. sink ++ rows_text rows) (rows_held s.place s.state n w m fields more few is), omega arith)
-
-pub held_more : (p : Place) (w : List Message) (m : Message) (answered : ℕ) → AreHeld p w answered → sites_of m ≡ p.sites
-    → AreHeld p (w ++ m ∷ []) (answered + 1)
-held_more p w m answered held one = record {
-  sites = All-push (λ x. sites_of x ≡ p.sites) w m held.sites one;
-  few = omega (arith, held.few, length-append w (m ∷ []));
-}
-
-pub held_none : (p : Place) (w : List Message) (answered : ℕ) → w ≡ [] → AreHeld p w answered
-held_none p w answered none = rw none (record { sites = search arith; few = omega arith })
 
 -- something is made of what is held, and then the record is answered
 pub kept_answers : (held mid new : Account) (sink sink2 sink3 : List ℕ) (fields : List (List ℕ)) → Keeps held mid sink sink2
@@ -130,3 +119,7 @@ flush_goes old mid new w w2 n fields sink sink2 sink3 keeps place answered none 
 pub told-kept : (old s : SiteState) (window window2 : List Message) (n : ℕ) (sink sink2 : List ℕ) → window2 ≡ []
     → Keeps (held_by old window n) (told_by s n) sink sink2 → Keeps (held_by old window n) (held_by s window2 n) sink sink2
 told-kept old s window window2 n sink sink2 none keeps = subst (λ w. Keeps (held_by old window n) (held_by s w n) sink sink2) (sym none) keeps
+
+pub told-held : (old s : SiteState) (window window2 : List Message) (n : ℕ) (sink sink2 : List ℕ) → window2 ≡ []
+    → Keeps (held_by old window n) (held_by s window2 n) sink sink2 → Keeps (held_by old window n) (told_by s n) sink sink2
+told-held old s window window2 n sink sink2 none keeps = subst (λ w. Keeps (held_by old window n) (held_by s w n) sink sink2) none keeps

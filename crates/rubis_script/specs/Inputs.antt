@@ -1,10 +1,5 @@
 -- What a record is to a site, and what the site answers to it.
-use Rattle.std.specs.Prelude.{◌≡◌, ◌++◌, ◌∷◌, [], ℕ, List, None, Result, Some, Ok, Err}
-use Rattle.rubis_message.specs.Grammar.{IsPacket, packet_record}
-use Rattle.rubis_message.specs.Readings.{packet_of}
-use Rattle.rubis_message.specs.declared.faults.ReadFault.{ReadFault}
-use Rattle.rubis_message.specs.declared.faults.ReadFault.TheVariants.{BadRecord}
-use Rattle.rubis_message.specs.declared.tokens.Packet.{Packet}
+use Rattle.std.specs.Prelude.{◌≡◌, ◌++◌, ◌∷◌, [], ℕ, List}
 use Rattle.rubis_schema.specs.declared.refusals.Refusal.{Refusal}
 use Rattle.rubis_model.specs.Answers.{refused_row}
 use Rattle.rubis_replica.specs.declared.faults.Fault.{Fault}
@@ -21,8 +16,3 @@ IsAnswered n input old new before after =
 -- the site refuses record n, for that reason, and the text of its answer follows what stood before
 abbrev pub IsRefusedBy : ℕ → Fault → List ℕ → List ℕ → Type 0
 IsRefusedBy n fault before after = (refusal : Refusal) × (fault ≡ Refused refusal) × (after ≡ before ++ rows_text (refused_row n refusal ∷ []))
-
--- what a record was read as: the packet that it is, or that it is none
-abbrev pub IsReadOf : ℕ → List (List ℕ) → Result Packet ReadFault → Type 0
-IsReadOf sites fields (Ok packet) = IsPacket sites packet × (fields ≡ packet_record packet) × (packet_of sites fields ≡ Some packet)
-IsReadOf sites fields (Err fault) = fault ≡ BadRecord → packet_of sites fields ≡ None

@@ -1,34 +1,36 @@
 -- A run that reads ahead, at the desk of a site.
-use Rattle.std.specs.Prelude.{◌≡◌, ◌≤◌, ◌+◌, ◌++◌, ◌∷◌, [], ℕ, All, List, MatchOption, None, Option, Some}
+use Rattle.std.specs.Prelude.{◌≡◌, ◌≤◌, ◌<◌, ◌+◌, ◌++◌, ◌∷◌, ◌⊎◌, [], ℕ, All, IfNone, List, MatchOption, None, Option, Result, Some, length, take}
 use Rattle.rubis_schema.specs.declared.listings.Listing.{Listing}
 use Rattle.rubis_message.specs.Message.{Message}
 use Rattle.rubis_message.specs.declared.requests.Request.TheVariants as request
+use Rattle.rubis_script.specs.Desks.{IsSettled, KeepsSetup}
+use Rattle.rubis_script.specs.Endings.{ByEnd}
 use Rattle.rubis_script.specs.Headline.{AnswersAll, AnswersFirst, AnswersJust, HasLed}
 use Rattle.rubis_script.specs.SiteRuns.{told_by}
-use Rattle.rubis_script.specs.Windows.{AreHeld, FitPlan, held_by}
+use Rattle.rubis_script.specs.Windows.{held_by}
 use Rattle.rubis_engine.specs.Accounts.Ending.{AtEnd}
 use Rattle.rubis_engine.specs.Progress.{WrotePrefix}
 use Rattle.rubis_engine.specs.Reading.{Gives}
 use Rattle.rubis_engine.specs.Text.{input_records}
 use Rattle.rubis_engine.specs.declared.fault.Count.{Count}
+use Rattle.rubis_engine.specs.declared.fault.RunFault.{RunFault}
 use Rattle.rubis_engine.specs.declared.record_list.Records.{Records}
-use Rattle.rubis_reading.specs.Chunked.{HasPending}
+use Rattle.rubis_reading.specs.Chunked.{HasPending, held_text}
 use Rattle.rubis_reading.specs.Parsed.{FitsIn}
 use Rattle.rubis_reading.specs.Runs.{FitWindow, flat}
+use Rattle.rubis_reading.specs.Streams.{IsWhole, NoWholeAfter}
 use Rattle.rubis_reading.specs.declared.parsed.Parsed.{Parsed}
 use Rattle.rubis_reading.specs.declared.parsed.Parsed.TheVariants.{Asked}
+use Rattle.rubis_reading.specs.declared.parsed.Stretch.{Stretch}
 use Rattle.rubis_reading.specs.declared.chunks.Chunks.{Chunks}
 use Rattle.rubis_replica.specs.State.{SiteState}
 use Rattle.rubis_reading.specs.Steps.{HasAhead}
-use Rattle.rubis_script.specs.declared.backlog.Backlog.{Backlog}
-use Rattle.rubis_script.specs.declared.plan.Plan.{Plan}
+use Rattle.rubis_script.specs.declared.desk.Desk.{Desk}
 
--- what is held and what was read ahead is of this site's system, and no more messages are together than the plan says
-pub record IsSound (s : SiteState) (plan : Plan) (b : Backlog) : Type 0 where
-  pub held : AreHeld s.place b.window.items b.answered
-  pub few : FitPlan plan b.window.items
-  pub fits : All (λ p. FitsIn s.place.sites p) (flat b.ahead)
-  pub windows : FitWindow plan.window b.ahead
+-- what was read ahead is of this desk's system, and no more messages came together than it takes in together
+pub record IsSound {G : Type 0} (d : Desk G) (ahead : List Stretch) : Type 0 where
+  pub fits : All (λ p. FitsIn d.site.place.sites p) (flat ahead)
+  pub windows : FitWindow d.plan.window ahead
 
 -- the run stands there, with these records to come later than those that were read ahead; `first` is the state in which it began
 pub record Stands (s : SiteState) (ahead : List Parsed) (held : List Message) (sink : List ℕ) (answered : ℕ) (first : SiteState) (old now : Option (List ℕ))
@@ -36,73 +38,37 @@ pub record Stands (s : SiteState) (ahead : List Parsed) (held : List Message) (s
   pub text : HasAhead s.place.sites ahead (told_by first 1) (held_by s held (answered + 1)) old now sink (answered + 1) records later
   pub led : HasLed first s held answered records
 
-abbrev pub StandsWith : SiteState → Backlog → SiteState → Option (List ℕ) → Option (List ℕ) → List (List (List ℕ)) → List (List (List ℕ)) → Type 0
-StandsWith s b first old now records later = Stands s (flat b.ahead) b.window.items b.reply.sink b.answered first old now records later
+abbrev pub StandsAt : {G : Type 0} → Desk G → List Parsed → SiteState → Option (List ℕ) → Option (List ℕ) → List (List (List ℕ)) → List (List (List ℕ))
+    → Type 0
+StandsAt d ahead first old now records later = Stands d.site ahead d.window.items d.reply.sink d.answered first old now records later
 
--- wherever the run stood, it has come to stand here, with nothing written
-abbrev pub GoesOn : SiteState → Backlog → SiteState → Backlog → Type 0
-GoesOn s b s2 b2 = (first : SiteState) (old now : Option (List ℕ)) (records later : List (List (List ℕ)))
-    → StandsWith s b first old now records later → StandsWith s2 b2 first old now records later
+-- ---- records that were read ahead are taken
 
--- the same, with these records taken off the front of what was read ahead, and answered or held
-abbrev pub GoesOnFrom : List Parsed → SiteState → Backlog → SiteState → Backlog → Type 0
-GoesOnFrom front s b s2 b2 = (first : SiteState) (old now : Option (List ℕ)) (records later : List (List (List ℕ)))
-    → Stands s (front ++ flat b.ahead) b.window.items b.reply.sink b.answered first old now records later
-    → StandsWith s2 b2 first old now records later
+-- these records, the next ones, were answered or are held, wherever the run stood: `before` was written then, and `after` is now
+pub record Takes {G : Type 0} (ps : List Parsed) (old new : Desk G) (before after : Option (List ℕ)) : Type 0 where
+  pub setup : KeepsSetup old new
+  pub count : new.answered ≡ old.answered + length ps
+  pub goes : (left : List Parsed) (first : SiteState) (start : Option (List ℕ)) (records later : List (List (List ℕ)))
+      → StandsAt old (ps ++ left) first start before records later → StandsAt new left first start after records later
 
--- and `after` has come to be written in place of `before`
-abbrev pub GoesOnWriting : SiteState → Backlog → SiteState → Backlog → Option (List ℕ) → Option (List ℕ) → Type 0
-GoesOnWriting s b s2 b2 before after = (first : SiteState) (old : Option (List ℕ)) (records later : List (List (List ℕ)))
-    → StandsWith s b first old before records later → StandsWith s2 b2 first old after records later
+-- the same, with nothing written
+abbrev pub TakesAll : {G : Type 0} → List Parsed → Desk G → Desk G → Type 0
+TakesAll ps old new = (now : Option (List ℕ)) → Takes ps old new now now
 
--- the records of the input are those that were answered or are held, those that were read ahead, and those of the text that is left
-pub record HasReadAhead {R : Type 0} (rem : R → Option (List ℕ)) (chunks : Chunks R) (s : SiteState) (b : Backlog) (first : SiteState) (old now : Option
-    (List ℕ)) (input : List ℕ) : Type 0 where
-  pub later : List (List (List ℕ))
-  pub stands : StandsWith s b first old now (input_records input) later
-  pub pending : HasPending rem chunks later
+-- of these records the first were taken, and those are left
+pub record HasTaken {G : Type 0} (ps : List Parsed) (old new : Desk G) (left : List Parsed) (before after : Option (List ℕ)) : Type 0 where
+  pub took : List Parsed
+  pub parts : ps ≡ took ++ left
+  pub takes : Takes took old new before after
 
--- of every run that stands there this holds, `first` being the state in which it began
-abbrev pub OfEachAhead : {R : Type 0} → (R → Option (List ℕ)) → Chunks R → SiteState → Backlog → Option (List ℕ)
-    → (SiteState → Option (List ℕ) → List ℕ → Type 0) → Type 0
-OfEachAhead rem chunks s b now holds = (first : SiteState) (old : Option (List ℕ)) (input : List ℕ) → HasReadAhead rem chunks s b first old now input
-    → holds first old input
+-- the same, with nothing written
+abbrev pub TakesSome : {G : Type 0} → List Parsed → Desk G → Desk G → List Parsed → Type 0
+TakesSome ps old new left = (now : Option (List ℕ)) → HasTaken ps old new left now now
 
--- every run that stands there has come to stand here: `before` was written then, and `after` is now
-abbrev pub ReadsOn : {R : Type 0} → (R → Option (List ℕ)) → Chunks R → SiteState → Backlog → Option (List ℕ)
-    → Chunks R → SiteState → Backlog → Option (List ℕ) → Type 0
-ReadsOn rem chunks s b before chunks2 s2 b2 after =
-    OfEachAhead rem chunks s b before (λ first old input. HasReadAhead rem chunks2 s2 b2 first old after input)
-
--- every run that stands there has answered all records, at most `limit`
-abbrev pub AnswersAllAhead : {R : Type 0} → ℕ → (R → Option (List ℕ)) → Chunks R → SiteState → Backlog → Option (List ℕ)
-    → SiteState → Option (List ℕ) → Count → Type 0
-AnswersAllAhead limit rem chunks s b before new after count =
-    OfEachAhead rem chunks s b before (λ first old input. AnswersAll limit first new old after (input_records input) count.records)
-
--- every run that stands there has come to stand here, or has answered all records, at most `limit`
-abbrev pub ReadsOnOrEnds : {R : Type 0} → ℕ → (R → Option (List ℕ)) → Chunks R → SiteState → Backlog → Option (List ℕ)
-    → Chunks R → SiteState → Backlog → Option (List ℕ) → Option Count → Type 0
-ReadsOnOrEnds limit rem chunks s b before chunks2 s2 b2 after over = OfEachAhead rem chunks s b before (λ first old input.
-    MatchOption over (HasReadAhead rem chunks2 s2 b2 first old after input)
-    (λ count. AnswersAll limit first s2 old after (input_records input) count.records))
-
--- every run that stands there has answered the first `limit` records, and there are more
-abbrev pub AnswersFirstAhead : {R : Type 0} → ℕ → (R → Option (List ℕ)) → Chunks R → SiteState → Backlog → Option (List ℕ)
-    → SiteState → Option (List ℕ) → Type 0
-AnswersFirstAhead limit rem chunks s b before new after =
-    OfEachAhead rem chunks s b before (λ first old input. AnswersFirst limit first new old after (input_records input))
-
--- every run that stands there has answered just the first n records
-abbrev pub AnswersJustAhead : {R : Type 0} → ℕ → (R → Option (List ℕ)) → Chunks R → SiteState → Backlog → Option (List ℕ)
-    → SiteState → Option (List ℕ) → Type 0
-AnswersJustAhead n rem chunks s b before new after =
-    OfEachAhead rem chunks s b before (λ first old input. AnswersJust n first new old after (input_records input))
-
--- every run that stands there has written a prefix of its text
-abbrev pub WritesPrefixAhead : {R : Type 0} → (R → Option (List ℕ)) → Chunks R → SiteState → Backlog → Option (List ℕ) → Option (List ℕ) → Type 0
-WritesPrefixAhead rem chunks s b before after =
-    OfEachAhead rem chunks s b before (λ first old input. WrotePrefix ((told_by first 1).text AtEnd) old after (input_records input))
+-- from before these records on, a prefix of the text was written
+abbrev pub LeavesPrefix : {G : Type 0} → List Parsed → Desk G → Option (List ℕ) → Option (List ℕ) → Type 0
+LeavesPrefix ps d before after = (left : List Parsed) (first : SiteState) (start : Option (List ℕ)) (records later : List (List (List ℕ)))
+    → StandsAt d (ps ++ left) first start before records later → WrotePrefix ((told_by first 1).text AtEnd) start after records
 
 -- ---- a listing that is written out while it is made, at which reading and answering at once stops
 
@@ -112,58 +78,118 @@ stopped_at None = []
 stopped_at (Some l) = Asked (request.List l) ∷ []
 
 -- what is left of what was read ahead
-abbrev pub left_ahead : Option Listing → Backlog → List Parsed
-left_ahead l b = stopped_at l ++ flat b.ahead
+abbrev pub left_ahead : Option Listing → List Stretch → List Parsed
+left_ahead l ahead = stopped_at l ++ flat ahead
 
--- wherever the run stood, it has come to stand here, before that request, with nothing written
-abbrev pub StopsAt : Option Listing → SiteState → Backlog → SiteState → Backlog → Type 0
-StopsAt l s b s2 b2 = (first : SiteState) (old now : Option (List ℕ)) (records later : List (List (List ℕ)))
-    → StandsWith s b first old now records later → Stands s2 (left_ahead l b2) b2.window.items b2.reply.sink b2.answered first old now records later
+-- what was read ahead was taken, all of it or what is before that request
+pub record TakesUpTo {G : Type 0} (stopped : Option Listing) (old : Desk G) (ahead : List Stretch) (new : Desk G) (left : List Stretch) : Type 0 where
+  pub taken : TakesSome (flat ahead) old new (left_ahead stopped left)
+  pub sound : IsSound new left
+  pub all : IfNone stopped (left ≡ [])
 
--- from before that request on it has come to stand here, and `after` to be written in place of `before`
-abbrev pub GoesOnOut : Option Listing → SiteState → Backlog → SiteState → Backlog → Option (List ℕ) → Option (List ℕ) → Type 0
-GoesOnOut l s b s2 b2 before after = (first : SiteState) (old : Option (List ℕ)) (records later : List (List (List ℕ)))
-    → Stands s (left_ahead l b) b.window.items b.reply.sink b.answered first old before records later → StandsWith s2 b2 first old after records later
+-- ---- a run over the chunks of a text
 
--- from before that request on, a prefix of the text was written
-abbrev pub LeavesPrefix : Option Listing → SiteState → Backlog → Option (List ℕ) → Option (List ℕ) → Type 0
-LeavesPrefix l s b before after = (first : SiteState) (old : Option (List ℕ)) (records later : List (List (List ℕ)))
-    → Stands s (left_ahead l b) b.window.items b.reply.sink b.answered first old before records later
-    → WrotePrefix ((told_by first 1).text AtEnd) old after records
+-- the records of the input are those that were answered or are held, those that were read ahead, and those of the text that is left
+pub record HasReadAhead {R G : Type 0} (rem : R → Option (List ℕ)) (chunks : Chunks R) (d : Desk G) (ahead : List Stretch) (first : SiteState)
+    (old now : Option (List ℕ)) (input : List ℕ) : Type 0 where
+  pub later : List (List (List ℕ))
+  pub stands : StandsAt d (flat ahead) first old now (input_records input) later
+  pub pending : HasPending rem chunks later
+
+-- of every run that stands there this holds, `first` being the state in which it began
+abbrev pub OfEachAhead : {R G : Type 0} → (R → Option (List ℕ)) → Chunks R → Desk G → List Stretch → Option (List ℕ)
+    → (SiteState → Option (List ℕ) → List ℕ → Type 0) → Type 0
+OfEachAhead rem chunks d ahead now holds = (first : SiteState) (old : Option (List ℕ)) (input : List ℕ)
+    → HasReadAhead rem chunks d ahead first old now input → holds first old input
+
+-- every run that stands there has come to stand here: `before` was written then, and `after` is now
+pub record ReadsOn {R G : Type 0} (rem : R → Option (List ℕ)) (chunks : Chunks R) (d : Desk G) (ahead : List Stretch) (before : Option (List ℕ))
+    (chunks2 : Chunks R) (d2 : Desk G) (ahead2 : List Stretch) (after : Option (List ℕ)) : Type 0 where
+  pub sound : IsSound d2 ahead2
+  pub goes : OfEachAhead rem chunks d ahead before (λ first old input. HasReadAhead rem chunks2 d2 ahead2 first old after input)
+
+-- every run that stands there has answered all records, at most `limit`
+abbrev pub AnswersAllAhead : {R G : Type 0} → ℕ → (R → Option (List ℕ)) → Chunks R → Desk G → List Stretch → Option (List ℕ)
+    → Desk G → Option (List ℕ) → Count → Type 0
+AnswersAllAhead limit rem chunks d ahead before new after count =
+    OfEachAhead rem chunks d ahead before (λ first old input. AnswersAll limit first new.site old after (input_records input) count.records)
+
+-- every run that stands there has answered the first `limit` records, and there are more
+abbrev pub AnswersFirstAhead : {R G : Type 0} → ℕ → (R → Option (List ℕ)) → Chunks R → Desk G → List Stretch → Option (List ℕ)
+    → Desk G → Option (List ℕ) → Type 0
+AnswersFirstAhead limit rem chunks d ahead before new after =
+    OfEachAhead rem chunks d ahead before (λ first old input. AnswersFirst limit first new.site old after (input_records input))
+
+-- every run that stands there has answered n first records, and no more
+abbrev pub AnswersJustAhead : {R G : Type 0} → ℕ → (R → Option (List ℕ)) → Chunks R → Desk G → List Stretch → Option (List ℕ)
+    → Desk G → Option (List ℕ) → Type 0
+AnswersJustAhead n rem chunks d ahead before new after =
+    OfEachAhead rem chunks d ahead before (λ first old input. AnswersJust n first new.site old after (input_records input))
+
+-- every run that stands there has written a prefix of its text
+abbrev pub WritesPrefixAhead : {R G : Type 0} → (R → Option (List ℕ)) → Chunks R → Desk G → List Stretch → Option (List ℕ) → Option (List ℕ) → Type 0
+WritesPrefixAhead rem chunks d ahead before after =
+    OfEachAhead rem chunks d ahead before (λ first old input. WrotePrefix ((told_by first 1).text AtEnd) old after (input_records input))
+
+-- the next n of what was read ahead were answered, wherever the run stood, and there are more
+abbrev pub AnswersFirstOf : {G : Type 0} → ℕ → Desk G → List Stretch → Desk G → Option (List ℕ) → Option (List ℕ) → Type 0
+AnswersFirstOf n d ahead new before after = (first : SiteState) (start : Option (List ℕ)) (records later : List (List (List ℕ)))
+    → StandsAt d (flat ahead) first start before records later → AnswersFirst (d.answered + n) first new.site start after records
+
+-- the first `many` bytes are whole records
+abbrev pub IsChunk : ℕ → List ℕ → Type 0
+IsChunk many text = (0 < many) × (many ≤ length text) × IsWhole (take many text)
+
+-- a step took a chunk, or answered what was read ahead: the run goes on, at most `limit` records being answered or held, or it is done
+abbrev pub GoesOnOrEnds : {R G : Type 0} → ℕ → (R → Option (List ℕ)) → Chunks R → Desk G → List Stretch → Option (List ℕ)
+    → Chunks R → Desk G → List Stretch → Option (List ℕ) → Option Count → Type 0
+GoesOnOrEnds limit rem chunks d ahead before chunks2 d2 ahead2 after over = MatchOption over
+    (ReadsOn rem chunks d ahead before chunks2 d2 ahead2 after × (d2.answered ≤ limit))
+    (λ count. AnswersAllAhead limit rem chunks d ahead before d2 after count)
+
+-- the reader failed: no whole record is left in what came, and all that was read ahead is answered
+abbrev pub IsCutShort : {R G : Type 0} → (R → Option (List ℕ)) → Chunks R → Desk G → List Stretch → Option (List ℕ) → Desk G → Option (List ℕ) → Type 0
+IsCutShort rem chunks d ahead before new after = NoWholeAfter (held_text chunks) 1 × (new.answered ≡ d.answered + length (flat ahead))
+    × AnswersJustAhead new.answered rem chunks d ahead before new after
 
 -- ---- a piece of text whose records are answered one by one, where they are read
 
--- the run stands there, and has the records that a reader of the piece has to give to come before `rest`
-pub record HasYet {R : Type 0} (rem : R → Option (List ℕ)) (piece : Records R) (s : SiteState) (b : Backlog) (first : SiteState)
+-- the run stands there with nothing read ahead, and has the records that a reader of the piece has to give to come before `rest`
+pub record HasYet {R G : Type 0} (rem : R → Option (List ℕ)) (piece : Records R) (d : Desk G) (first : SiteState)
     (old now : Option (List ℕ)) (records rest : List (List (List ℕ))) : Type 0 where
   pub rows : List (List (List ℕ))
   pub gives : Gives rem piece rows
-  pub stands : StandsWith s b first old now records (rows ++ rest)
+  pub stands : StandsAt d [] first old now records (rows ++ rest)
 
 -- of every run that stands there this holds
-abbrev pub OfEachYet : {R : Type 0} → (R → Option (List ℕ)) → Records R → SiteState → Backlog → Option (List ℕ)
+abbrev pub OfEachYet : {R G : Type 0} → (R → Option (List ℕ)) → Records R → Desk G → Option (List ℕ)
     → (SiteState → Option (List ℕ) → List (List (List ℕ)) → List (List (List ℕ)) → Type 0) → Type 0
-OfEachYet rem piece s b now holds = (first : SiteState) (old : Option (List ℕ)) (records rest : List (List (List ℕ)))
-    → HasYet rem piece s b first old now records rest → holds first old records rest
+OfEachYet rem piece d now holds = (first : SiteState) (old : Option (List ℕ)) (records rest : List (List (List ℕ)))
+    → HasYet rem piece d first old now records rest → holds first old records rest
 
--- of every run that stands there, and has the records of this text to come before `rest`, this holds
-abbrev pub OfEachPiece : List ℕ → SiteState → Backlog → Option (List ℕ)
+-- of every run that stands there with nothing read ahead, and has the records of this text to come before `rest`, this holds
+abbrev pub OfEachPiece : List ℕ → {G : Type 0} → Desk G → Option (List ℕ)
     → (SiteState → Option (List ℕ) → List (List (List ℕ)) → List (List (List ℕ)) → Type 0) → Type 0
-OfEachPiece text s b now holds = (first : SiteState) (old : Option (List ℕ)) (records rest : List (List (List ℕ)))
-    → StandsWith s b first old now records (input_records text ++ rest) → holds first old records rest
+OfEachPiece text d now holds = (first : SiteState) (old : Option (List ℕ)) (records rest : List (List (List ℕ)))
+    → StandsAt d [] first old now records (input_records text ++ rest) → holds first old records rest
 
--- from before this record on it has come to stand here, and `after` to be written in place of `before`
-abbrev pub TakesOn : List (List ℕ) → SiteState → Backlog → SiteState → Backlog → Option (List ℕ) → Option (List ℕ) → Type 0
-TakesOn fields s b s2 b2 before after = (first : SiteState) (old : Option (List ℕ)) (records later : List (List (List ℕ)))
-    → StandsWith s b first old before records (fields ∷ later) → StandsWith s2 b2 first old after records later
+-- how a piece ends: all its records were answered or are held, at most `limit` of all; or the first `limit` of all were answered, and
+-- there are more; or a prefix of the text was written
+abbrev pub PieceEnds : {T G : Type 0} → ℕ → Desk G → Desk G
+    → ((SiteState → Option (List ℕ) → List (List (List ℕ)) → List (List (List ℕ)) → Type 0) → Type 0) → Option (List ℕ) → Result T RunFault → Type 0
+PieceEnds limit old new of_each after result = ByEnd result
+    (λ _. KeepsSetup old new × (new.answered ≤ limit) × of_each (λ first start records rest. StandsAt new [] first start after records rest))
+    (of_each (λ first start records rest. AnswersFirst limit first new.site start after records)) ⊥
+    (of_each (λ first start records rest. WrotePrefix ((told_by first 1).text AtEnd) start after records))
 
--- from before this record on, a prefix of the text was written
-abbrev pub TakesFront : List (List ℕ) → SiteState → Backlog → Option (List ℕ) → Option (List ℕ) → Type 0
-TakesFront fields s b before after = (first : SiteState) (old : Option (List ℕ)) (records later : List (List (List ℕ)))
-    → StandsWith s b first old before records (fields ∷ later) → WrotePrefix ((told_by first 1).text AtEnd) old after records
+-- the next record has these fields, and was answered or is held
+pub record TakesRecord {G : Type 0} (fields : List (List ℕ)) (old new : Desk G) (before after : Option (List ℕ)) : Type 0 where
+  pub setup : KeepsSetup old new
+  pub count : new.answered ≡ old.answered + 1
+  pub goes : (first : SiteState) (start : Option (List ℕ)) (records later : List (List (List ℕ)))
+      → StandsAt old [] first start before records (fields ∷ later) → StandsAt new [] first start after records later
 
--- nothing was read ahead, and at most `limit` records are answered or held
-pub record IsAlone (s : SiteState) (plan : Plan) (b : Backlog) (limit : ℕ) : Type 0 where
-  pub sound : IsSound s plan b
-  pub none : b.ahead ≡ []
-  pub within : b.answered ≤ limit
+-- from before that record on, a prefix of the text was written
+abbrev pub LeavesRecord : {G : Type 0} → List (List ℕ) → Desk G → Option (List ℕ) → Option (List ℕ) → Type 0
+LeavesRecord fields d before after = (first : SiteState) (start : Option (List ℕ)) (records later : List (List (List ℕ)))
+    → StandsAt d [] first start before records (fields ∷ later) → WrotePrefix ((told_by first 1).text AtEnd) start after records

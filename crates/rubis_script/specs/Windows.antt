@@ -1,7 +1,7 @@
 -- Messages that a run holds, to take them in together.
-use Rattle.std.specs.Prelude.{◌≡◌, ◌≤◌, ◌+◌, ◌-◌, ◌++◌, ◌∷◌, [], ℕ, All, List, Result, length}
+use Rattle.std.specs.Prelude.{◌+◌, ◌-◌, ◌++◌, ◌∷◌, [], ℕ, List, Result, length}
 use Rattle.rubis_schema.specs.declared.refusals.Refusal.{Refusal}
-use Rattle.rubis_message.specs.Message.{Message, sites_of}
+use Rattle.rubis_message.specs.Message.{Message}
 use Rattle.rubis_message.specs.declared.answers.Arrival.{Arrival}
 use Rattle.rubis_message.specs.declared.tokens.Packet.TheVariants.{Msg}
 use Rattle.rubis_model.specs.Answers.{arrived_rows}
@@ -12,7 +12,6 @@ use Rattle.rubis_replica.specs.Arrivals.{after_all}
 use Rattle.rubis_replica.specs.State.{SiteState}
 use Rattle.rubis_engine.specs.Accounts.{Account}
 use Rattle.rubis_engine.specs.Text.{rows_text}
-use Rattle.rubis_script.specs.declared.plan.Plan.{Plan}
 
 -- the rows that say what became of messages, the first of which was record n
 abbrev pub arrivals_rows : ℕ → List (Result Arrival Refusal) → List (List (List ℕ))
@@ -30,12 +29,3 @@ held_by s window n = record {
   text = λ ending records. rows_text (window_rows s.place s.state (n - length window) window ++ answers s.place (after_all s.place s.state window) n records);
   read = λ records. length records;
 }
-
--- the messages are of this site's system, and at most as many as the records so far
-pub record AreHeld (p : Place) (window : List Message) (answered : ℕ) : Type 0 where
-  pub sites : All (λ m. sites_of m ≡ p.sites) window
-  pub few : length window ≤ answered
-
--- they are at most as many as are taken in together
-abbrev pub FitPlan : Plan → List Message → Type 0
-FitPlan plan window = length window ≤ plan.window

@@ -1,17 +1,16 @@
 //! One thread reads a piece of text and answers each record where it was read.
 
-ghost use Rattle.std.specs.Prelude.{◌≡◌, ◌<◌, ◌+◌, ◌^◌, ◌⊎◌, [], IfErr, IsErrOf, OnOk};
-ghost use Rattle.rubis_engine.specs.Accounts.Ending.{AtEnd};
-ghost use Rattle.rubis_engine.specs.Progress.{WrotePrefix};
-ghost use Rattle.rubis_script.specs.Headline.{AnswersFirst};
-ghost use Rattle.rubis_script.specs.Runs.{IsAlone, IsSound, OfEachPiece, OfEachYet, StandsWith, TakesFront, TakesOn};
-ghost use Rattle.rubis_script.specs.SiteRuns.{told_by};
+ghost use Rattle.std.specs.Prelude.{◌≤◌, ◌<◌, ◌+◌, ◌^◌};
+ghost use Rattle.rubis_script.specs.Endings.{ByEnd};
+ghost use Rattle.rubis_script.specs.Runs.{LeavesRecord, OfEachPiece, OfEachYet, PieceEnds, TakesRecord};
 
-use crate::answering::{list_one, settle};
-use crate::backlog::Backlog;
+use crate::answering::settle;
 use crate::desk::Desk;
 use rubis_engine::{InputRecord, Records, RunFault};
+use rubis_message::Request;
+use rubis_reading::Parsed;
 use rubis_replica::Gate;
+use std::alloc::Global;
 use std::io::{Read, Write};
 use std::sync::Wait;
 use std::thread::Threads;
@@ -22,30 +21,17 @@ fn answer_record<G: Gate, T: Threads + Wait + Sync, W: Write>(
     rt: &T,
     fields: &InputRecord,
     desk: &mut Desk<G>,
-    backlog: &mut Backlog,
     writer: &mut W,
 ) -> Result<(), RunFault>
-    requires sound { IsSound desk.old.site desk.old.plan backlog.old }
-    requires none { backlog.old.ahead ≡ [] }
-    requires room { backlog.old.answered + 1 < 2 ^ 64 }
-    ensures sound { OnOk result (IsSound desk.new.site desk.new.plan backlog.new) }
-    ensures same { OnOk result ((desk.new.plan ≡ desk.old.plan) × (backlog.new.ahead ≡ []) × (backlog.new.answered ≡ backlog.old.answered + 1)) }
-    ensures goes { OnOk result (TakesOn fields.now desk.old.site backlog.old desk.new.site backlog.new (W.contents writer.old) (W.contents writer.new)) }
-    ensures memory { IsErrOf result RunFault.Memory → TakesFront fields.now desk.old.site backlog.old (W.contents writer.old) (W.contents writer.new) }
-    ensures faults { IfErr result (λ e. (e ≡ RunFault.Write) ⊎ (e ≡ RunFault.Memory)) }
+    requires { desk.old.answered + 1 < 2 ^ 64 }
+    ensures { ByEnd result (λ _. TakesRecord fields.now desk.old desk.new (W.contents writer.old) (W.contents writer.new)) ⊥ ⊥
+        (LeavesRecord fields.now desk.old (W.contents writer.old) (W.contents writer.new)) }
 {
-    if let Some(listing) = desk.listing_of(fields) {
-        return list_one(rt, desk, backlog, &listing, writer);
+    let read = desk.read(fields)?;
+    match read {
+        Parsed::Asked(Request::List(listing)) => desk.list_out(rt, &listing, writer),
+        other => Ok(desk.take_read(rt, other)?),
     }
-    desk.take(
-        rt,
-        backlog.answered,
-        fields,
-        &mut backlog.window,
-        &mut backlog.reply,
-    )?;
-    backlog.answered += 1;
-    Ok(())
 }
 
 // Answers or holds the records of a piece of text, unless that makes more than `limit` of them: the first `limit` are answered then.
@@ -53,19 +39,11 @@ fn answer_records<G: Gate, T: Threads + Wait + Sync, R: Read, W: Write>(
     rt: &T,
     piece: &mut Records<R>,
     desk: &mut Desk<G>,
-    backlog: &mut Backlog,
     writer: &mut W,
     limit: u64,
 ) -> Result<(), RunFault>
-    requires { IsAlone desk.old.site desk.old.plan backlog.old limit }
-    ensures alone { OnOk result (IsAlone desk.new.site desk.new.plan backlog.new limit × (desk.new.plan ≡ desk.old.plan)) }
-    ensures goes { OnOk result (OfEachYet R.remaining piece.old desk.old.site backlog.old (W.contents writer.old) (λ first old records rest.
-        StandsWith desk.new.site backlog.new first old (W.contents writer.new) records rest)) }
-    ensures too_long { IsErrOf result RunFault.TooLong → OfEachYet R.remaining piece.old desk.old.site backlog.old (W.contents writer.old)
-        (λ first old records rest. AnswersFirst limit first desk.new.site old (W.contents writer.new) records) }
-    ensures memory { IsErrOf result RunFault.Memory → OfEachYet R.remaining piece.old desk.old.site backlog.old (W.contents writer.old)
-        (λ first old records rest. WrotePrefix ((told_by first 1).text AtEnd) old (W.contents writer.new) records) }
-    ensures faults { IfErr result (λ e. (e ≡ RunFault.Write) ⊎ (e ≡ RunFault.Memory) ⊎ (e ≡ RunFault.TooLong)) }
+    requires { desk.old.answered ≤ limit }
+    ensures { PieceEnds limit desk.old desk.new (OfEachYet R.remaining piece.old desk.old (W.contents writer.old)) (W.contents writer.new) result }
 {
     'records: for _ in 0..u64::MAX {
         let Ok(found) = piece.advance() else {
@@ -74,12 +52,12 @@ fn answer_records<G: Gate, T: Threads + Wait + Sync, R: Read, W: Write>(
         if !found {
             return Ok(());
         }
-        if backlog.answered >= limit {
-            settle(rt, desk, backlog, writer)?;
+        if desk.answered >= limit {
+            settle(rt, desk, writer)?;
             return Err(RunFault::TooLong);
         }
-        answer_record(rt, piece.fields(), desk, backlog, writer)?;
-        backlog.reply.sink.drain_full(writer)?;
+        answer_record(rt, piece.fields(), desk, writer)?;
+        desk.reply.sink.drain_full(writer)?;
     }
     Err(RunFault::Memory)
 }
@@ -93,22 +71,15 @@ fn answer_records<G: Gate, T: Threads + Wait + Sync, R: Read, W: Write>(
 #[inline(never)]
 pub fn answer_piece<G: Gate, T: Threads + Wait + Sync, W: Write>(
     rt: &T,
+    alloc: Global,
     text: &[u8],
     desk: &mut Desk<G>,
-    backlog: &mut Backlog,
     writer: &mut W,
     limit: u64,
 ) -> Result<(), RunFault>
-    requires { IsAlone desk.old.site desk.old.plan backlog.old limit }
-    ensures alone { OnOk result (IsAlone desk.new.site desk.new.plan backlog.new limit × (desk.new.plan ≡ desk.old.plan)) }
-    ensures goes { OnOk result (OfEachPiece text.now desk.old.site backlog.old (W.contents writer.old) (λ first old records rest.
-        StandsWith desk.new.site backlog.new first old (W.contents writer.new) records rest)) }
-    ensures too_long { IsErrOf result RunFault.TooLong → OfEachPiece text.now desk.old.site backlog.old (W.contents writer.old)
-        (λ first old records rest. AnswersFirst limit first desk.new.site old (W.contents writer.new) records) }
-    ensures memory { IsErrOf result RunFault.Memory → OfEachPiece text.now desk.old.site backlog.old (W.contents writer.old)
-        (λ first old records rest. WrotePrefix ((told_by first 1).text AtEnd) old (W.contents writer.new) records) }
-    ensures faults { IfErr result (λ e. (e ≡ RunFault.Write) ⊎ (e ≡ RunFault.Memory) ⊎ (e ≡ RunFault.TooLong)) }
+    requires { desk.old.answered ≤ limit }
+    ensures { PieceEnds limit desk.old desk.new (OfEachPiece text.now desk.old (W.contents writer.old)) (W.contents writer.new) result }
 {
-    let mut piece = Records::new(*backlog.window.allocator(), text);
-    answer_records(rt, &mut piece, desk, backlog, writer, limit)
+    let mut piece = Records::new(alloc, text);
+    answer_records(rt, &mut piece, desk, writer, limit)
 }

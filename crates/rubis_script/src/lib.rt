@@ -4,7 +4,6 @@
 
 mod alone;
 mod answering;
-mod backlog;
 mod desk;
 mod laws;
 mod overlap;

@@ -1,8 +1,9 @@
 //! The rows of a listing are written out while they are made.
 
-ghost use Rattle.std.specs.Prelude.{◌≡◌, ◌++◌, ◌⊎◌, IfErr, IsErrOf, OnOk};
+ghost use Rattle.std.specs.Prelude.{◌++◌};
 ghost use Rattle.rubis_engine.specs.Text.{rows_text};
 ghost use Rattle.rubis_script.specs.Drains.{WritesFront, WritesOff};
+ghost use Rattle.rubis_script.specs.Endings.{ByEnd};
 
 use rubis_engine::{RunFault, Sink};
 use rubis_replica::ListingRows;
@@ -20,9 +21,9 @@ pub(crate) fn write_rows<T: Threads + Sync, W: Write>(
     sink: &mut Sink,
     writer: &mut W,
 ) -> Result<(), RunFault>
-    ensures ok { OnOk result (WritesOff (sink.old ++ rows_text rows.old) sink.new (W.contents writer.old) (W.contents writer.new)) }
-    ensures memory { IsErrOf result RunFault.Memory → WritesFront (sink.old ++ rows_text rows.old) (W.contents writer.old) (W.contents writer.new) }
-    ensures faults { IfErr result (λ e. (e ≡ RunFault.Write) ⊎ (e ≡ RunFault.Memory)) }
+    ensures { let text = sink.old ++ rows_text rows.old in
+        ByEnd result (λ _. WritesOff text sink.new (W.contents writer.old) (W.contents writer.new)) ⊥ ⊥
+        (WritesFront text (W.contents writer.old) (W.contents writer.new)) }
 {
     'parts: for _ in 0..u64::MAX {
         let more = rows.put_next(rt, sink)?;

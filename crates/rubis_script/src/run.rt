@@ -1,25 +1,22 @@
 //! A run of a site over the chunks of a text.
 
-ghost use Rattle.std.specs.Prelude.{◌≡◌, ◌≤◌, ◌<◌, ◌+◌, ◌^◌, ◌⊎◌, [], List, ℕ, Option, IfErr, IfNone, IfOk, IsErrOf};
-ghost use Rattle.std.specs.Prelude.{None, OnOk, length, take};
+ghost use Rattle.std.specs.Prelude.{◌≡◌, ◌≤◌, ◌<◌, ◌+◌, ◌^◌, [], length};
 ghost use Rattle.rubis_model.specs.Site.{opening_at};
-ghost use Rattle.rubis_replica.specs.State.{SiteState};
-ghost use Rattle.rubis_script.specs.Headline.{AnswersFirst, HasAnswered, OfRead, StandsAsProcess, WritesAsProcess};
-ghost use Rattle.rubis_script.specs.Runs.{AnswersAllAhead, AnswersFirstAhead, AnswersJustAhead, GoesOnWriting, IsAlone, IsSound, LeavesPrefix, ReadsOn, ReadsOnOrEnds};
-ghost use Rattle.rubis_script.specs.Runs.{StandsWith, WritesPrefixAhead};
-ghost use Rattle.rubis_script.specs.SiteRuns.{told_by};
 ghost use Rattle.rubis_engine.specs.Progress.{IsRun};
-ghost use Rattle.rubis_engine.specs.Text.{input_records};
-ghost use Rattle.rubis_reading.specs.Chunked.{HasPending, held_text};
-ghost use Rattle.rubis_reading.specs.Runs.{AreSingle, flat};
-ghost use Rattle.rubis_reading.specs.Streams.{IsWhole, NoWholeAfter};
+ghost use Rattle.rubis_reading.specs.Chunked.{IsLast, held_text};
+ghost use Rattle.rubis_reading.specs.Runs.{flat};
+ghost use Rattle.rubis_script.specs.Desks.{IsSettled};
+ghost use Rattle.rubis_script.specs.Endings.{ByEnd};
+ghost use Rattle.rubis_script.specs.Headline.{HasAnswered, OfRead, StandsAsProcess, WritesAsProcess};
+ghost use Rattle.rubis_script.specs.Runs.{AnswersAllAhead, AnswersFirstAhead, AnswersFirstOf, AnswersJustAhead, GoesOnOrEnds, IsChunk, IsCutShort, IsSound};
+ghost use Rattle.rubis_script.specs.Runs.{LeavesPrefix, ReadsOn, Takes, WritesPrefixAhead};
+ghost use Rattle.rubis_script.specs.SiteRuns.{told_by};
 
 use crate::alone::answer_piece;
-use crate::answering::{answer_ready, answer_some, finish, settle};
-use crate::backlog::Backlog;
+use crate::answering::{answer_first, answer_ready, finish, settle};
 use crate::desk::Desk;
 use crate::overlap::read_next;
-use rubis_engine::{Count, OutOfMemory, RunFault};
+use rubis_engine::{Count, RunFault};
 use rubis_reading::{Ahead, ChunkFault, Chunks, read_parts};
 use rubis_replica::Gate;
 use std::alloc::Global;
@@ -53,61 +50,38 @@ fn chunk_of(held: usize, ahead: usize) -> usize {
 fn catch_up<G: Gate, T: Threads + Wait + Sync, W: Write>(
     rt: &T,
     desk: &mut Desk<G>,
-    backlog: &mut Backlog,
+    ahead: &mut Ahead,
     writer: &mut W,
 ) -> Result<(), RunFault>
-    requires sound { IsSound desk.old.site desk.old.plan backlog.old }
-    requires room { backlog.old.answered + length (flat backlog.old.ahead) < 2 ^ 64 }
-    ensures place { OnOk result (desk.new.site.place ≡ desk.old.site.place) }
-    ensures plan { OnOk result (desk.new.plan ≡ desk.old.plan) }
-    ensures sound { OnOk result (IsSound desk.new.site desk.new.plan backlog.new) }
-    ensures all { OnOk result (backlog.new.ahead ≡ []) }
-    ensures window { OnOk result (backlog.new.window.items ≡ []) }
-    ensures empty { OnOk result (backlog.new.reply.sink ≡ []) }
-    ensures count { OnOk result (backlog.new.answered ≡ backlog.old.answered + length (flat backlog.old.ahead)) }
-    ensures goes { OnOk result (GoesOnWriting desk.old.site backlog.old desk.new.site backlog.new (W.contents writer.old) (W.contents writer.new)) }
-    ensures memory { IsErrOf result RunFault.Memory → LeavesPrefix None desk.old.site backlog.old (W.contents writer.old) (W.contents writer.new) }
-    ensures faults { IfErr result (λ e. (e ≡ RunFault.Write) ⊎ (e ≡ RunFault.Memory)) }
+    requires sound { IsSound desk.old ahead.old }
+    requires room { desk.old.answered + length (flat ahead.old) < 2 ^ 64 }
+    ensures { ByEnd result (λ _. Takes (flat ahead.old) desk.old desk.new (W.contents writer.old) (W.contents writer.new)
+        × IsSettled desk.new × (ahead.new ≡ [])) ⊥ ⊥ (LeavesPrefix (flat ahead.old) desk.old (W.contents writer.old) (W.contents writer.new)) }
 {
-    let stopped = answer_ready(rt, desk, backlog)?;
-    finish(rt, desk, backlog, stopped, writer)?;
-    settle(rt, desk, backlog, writer)
-}
-
-// Takes messages that came together apart, so that any number of records can be answered.
-fn make_single(backlog: &mut Backlog) -> Result<(), OutOfMemory>
-    ensures ahead { OnOk result (flat backlog.new.ahead ≡ flat backlog.old.ahead) }
-    ensures single { OnOk result (AreSingle backlog.new.ahead) }
-    ensures window { backlog.new.window.items ≡ backlog.old.window.items }
-    ensures sink { backlog.new.reply.sink ≡ backlog.old.reply.sink }
-    ensures count { backlog.new.answered ≡ backlog.old.answered }
-{
-    let alloc = *backlog.window.allocator();
-    let ahead = mem::replace(&mut backlog.ahead, Ahead::new(alloc));
-    backlog.ahead = ahead.singles(alloc)?;
-    Ok(())
+    let stopped = answer_ready(rt, desk, ahead)?;
+    finish(rt, desk, ahead, stopped, writer)?;
+    settle(rt, desk, writer)
 }
 
 // Answers the next `left` of the records that were read ahead, where there are more, and writes the answers out.
 fn stop<G: Gate, T: Threads + Wait + Sync, W: Write>(
     rt: &T,
     desk: &mut Desk<G>,
-    backlog: &mut Backlog,
+    ahead: &mut Ahead,
     writer: &mut W,
     left: u64,
 ) -> Result<(), RunFault>
-    requires sound { IsSound desk.old.site desk.old.plan backlog.old }
-    requires more { left < length (flat backlog.old.ahead) }
-    requires room { backlog.old.answered + left < 2 ^ 64 }
-    ensures too_long { OnOk result ((first : SiteState) (old : Option (List ℕ)) (records later : List (List (List ℕ)))
-        → StandsWith desk.old.site backlog.old first old (W.contents writer.old) records later
-        → AnswersFirst (backlog.old.answered + left) first desk.new.site old (W.contents writer.new) records) }
-    ensures memory { IsErrOf result RunFault.Memory → W.contents writer.new ≡ W.contents writer.old }
-    ensures faults { IfErr result (λ e. (e ≡ RunFault.Write) ⊎ (e ≡ RunFault.Memory)) }
+    requires sound { IsSound desk.old ahead.old }
+    requires more { left < length (flat ahead.old) }
+    requires room { desk.old.answered + left < 2 ^ 64 }
+    ensures { ByEnd result (λ _. AnswersFirstOf left desk.old ahead.old desk.new (W.contents writer.old) (W.contents writer.new)) ⊥ ⊥
+        (W.contents writer.new ≡ W.contents writer.old) }
 {
-    make_single(backlog)?;
-    answer_some(rt, desk, backlog, left)?;
-    settle(rt, desk, backlog, writer)
+    let alloc = *desk.window.allocator();
+    let together = mem::replace(ahead, Ahead::new(alloc));
+    let mut single = together.singles(alloc)?;
+    answer_first(rt, desk, &mut single, left)?;
+    settle(rt, desk, writer)
 }
 
 // Reads a chunk while what was read ahead is answered. Long listings are written out when the chunk is read.
@@ -115,29 +89,23 @@ fn go_on<G: Gate, T: Threads + Wait + Sync, R: Read, W: Write>(
     rt: &T,
     chunks: &mut Chunks<R>,
     desk: &mut Desk<G>,
-    backlog: &mut Backlog,
+    ahead: &mut Ahead,
     writer: &mut W,
     many: usize,
 ) -> Result<(), RunFault>
-    requires some { 0 < many }
-    requires text { many ≤ length (held_text chunks.old) }
-    requires whole { IsWhole (take many (held_text chunks.old)) }
-    requires sound { IsSound desk.old.site desk.old.plan backlog.old }
-    requires room { backlog.old.answered + length (flat backlog.old.ahead) < 2 ^ 64 }
-    ensures plan { OnOk result (desk.new.plan ≡ desk.old.plan) }
-    ensures sound { OnOk result (IsSound desk.new.site desk.new.plan backlog.new) }
-    ensures count { OnOk result (backlog.new.answered ≡ backlog.old.answered + length (flat backlog.old.ahead)) }
-    ensures goes { OnOk result (ReadsOn R.remaining chunks.old desk.old.site backlog.old (W.contents writer.old) chunks.new
-        desk.new.site backlog.new (W.contents writer.new)) }
-    ensures memory { IsErrOf result RunFault.Memory → LeavesPrefix None desk.old.site backlog.old (W.contents writer.old) (W.contents writer.new) }
-    ensures faults { IfErr result (λ e. (e ≡ RunFault.Write) ⊎ (e ≡ RunFault.Memory)) }
+    requires chunk { IsChunk many (held_text chunks.old) }
+    requires sound { IsSound desk.old ahead.old }
+    requires room { desk.old.answered + length (flat ahead.old) < 2 ^ 64 }
+    ensures { ByEnd result
+        (λ _. ReadsOn R.remaining chunks.old desk.old ahead.old (W.contents writer.old) chunks.new desk.new ahead.new (W.contents writer.new)
+        × (desk.new.answered ≡ desk.old.answered + length (flat ahead.old)))
+        ⊥ ⊥ (WritesPrefixAhead R.remaining chunks.old desk.old ahead.old (W.contents writer.old) (W.contents writer.new)) }
 {
     let (piece, _) = chunks.held().split_at(many);
-    let overlapped = read_next(rt, piece, desk, backlog)?;
-    finish(rt, desk, backlog, overlapped.stopped, writer)?;
+    let overlapped = read_next(rt, piece, desk, ahead)?;
+    finish(rt, desk, ahead, overlapped.stopped, writer)?;
     chunks.pass(many);
-    let ahead = Ahead::of(overlapped.read)?;
-    backlog.ahead = ahead;
+    *ahead = Ahead::of(overlapped.read)?;
     Ok(())
 }
 
@@ -146,26 +114,20 @@ fn answer_chunk<G: Gate, T: Threads + Wait + Sync, R: Read, W: Write>(
     rt: &T,
     chunks: &mut Chunks<R>,
     desk: &mut Desk<G>,
-    backlog: &mut Backlog,
     writer: &mut W,
     many: usize,
     limit: u64,
 ) -> Result<(), RunFault>
-    requires some { 0 < many }
-    requires text { many ≤ length (held_text chunks.old) }
-    requires whole { IsWhole (take many (held_text chunks.old)) }
-    requires alone { IsAlone desk.old.site desk.old.plan backlog.old limit }
-    ensures alone { OnOk result (IsAlone desk.new.site desk.new.plan backlog.new limit × (desk.new.plan ≡ desk.old.plan)) }
-    ensures goes { OnOk result (ReadsOn R.remaining chunks.old desk.old.site backlog.old (W.contents writer.old) chunks.new
-        desk.new.site backlog.new (W.contents writer.new)) }
-    ensures too_long { IsErrOf result RunFault.TooLong → AnswersFirstAhead limit R.remaining chunks.old desk.old.site backlog.old
-        (W.contents writer.old) desk.new.site (W.contents writer.new) }
-    ensures memory { IsErrOf result RunFault.Memory → WritesPrefixAhead R.remaining chunks.old desk.old.site backlog.old
-        (W.contents writer.old) (W.contents writer.new) }
-    ensures faults { IfErr result (λ e. (e ≡ RunFault.Write) ⊎ (e ≡ RunFault.Memory) ⊎ (e ≡ RunFault.TooLong)) }
+    requires chunk { IsChunk many (held_text chunks.old) }
+    requires within { desk.old.answered ≤ limit }
+    ensures { ByEnd result
+        (λ _. ReadsOn R.remaining chunks.old desk.old [] (W.contents writer.old) chunks.new desk.new [] (W.contents writer.new)
+        × (desk.new.answered ≤ limit))
+        (AnswersFirstAhead limit R.remaining chunks.old desk.old [] (W.contents writer.old) desk.new (W.contents writer.new)) ⊥
+        (WritesPrefixAhead R.remaining chunks.old desk.old [] (W.contents writer.old) (W.contents writer.new)) }
 {
     let (text, _) = chunks.held().split_at(many);
-    answer_piece(rt, text, desk, backlog, writer, limit)?;
+    answer_piece(rt, *desk.window.allocator(), text, desk, writer, limit)?;
     chunks.pass(many);
     Ok(())
 }
@@ -175,41 +137,33 @@ fn end<G: Gate, T: Threads + Wait + Sync, R: Read, W: Write>(
     rt: &T,
     chunks: &Chunks<R>,
     desk: &mut Desk<G>,
-    backlog: &mut Backlog,
     writer: &mut W,
     limit: u64,
 ) -> Result<Count, RunFault>
-    requires none { backlog.old.ahead ≡ [] }
-    requires sound { IsSound desk.old.site desk.old.plan backlog.old }
-    requires within { backlog.old.answered ≤ limit }
-    requires last { (rows : List (List (List ℕ))) → HasPending R.remaining chunks.now rows → rows ≡ input_records (held_text chunks.now) }
-    ensures done { IfOk result (λ count. AnswersAllAhead limit R.remaining chunks.now desk.old.site backlog.old (W.contents writer.old)
-        desk.new.site (W.contents writer.new) count) }
-    ensures too_long { IsErrOf result RunFault.TooLong → AnswersFirstAhead limit R.remaining chunks.now desk.old.site backlog.old
-        (W.contents writer.old) desk.new.site (W.contents writer.new) }
-    ensures memory { IsErrOf result RunFault.Memory → WritesPrefixAhead R.remaining chunks.now desk.old.site backlog.old
-        (W.contents writer.old) (W.contents writer.new) }
-    ensures faults { IfErr result (λ e. (e ≡ RunFault.Write) ⊎ (e ≡ RunFault.Memory) ⊎ (e ≡ RunFault.TooLong)) }
+    requires within { desk.old.answered ≤ limit }
+    requires last { IsLast R.remaining chunks.now }
+    ensures { ByEnd result
+        (λ count. AnswersAllAhead limit R.remaining chunks.now desk.old [] (W.contents writer.old) desk.new (W.contents writer.new) count)
+        (AnswersFirstAhead limit R.remaining chunks.now desk.old [] (W.contents writer.old) desk.new (W.contents writer.new)) ⊥
+        (WritesPrefixAhead R.remaining chunks.now desk.old [] (W.contents writer.old) (W.contents writer.new)) }
 {
-    let sites = desk.sites();
     let list = read_parts(
         rt,
-        *backlog.window.allocator(),
+        *desk.window.allocator(),
         chunks.held(),
-        sites,
+        desk.sites(),
         desk.plan.readers,
         desk.plan.window,
     )?;
-    let ahead = Ahead::of(list)?;
-    backlog.ahead = ahead;
-    let left = limit - backlog.answered;
-    if backlog.ahead.len() as u64 > left {
-        stop(rt, desk, backlog, writer, left)?;
+    let mut ahead = Ahead::of(list)?;
+    let left = limit - desk.answered;
+    if ahead.len() as u64 > left {
+        stop(rt, desk, &mut ahead, writer, left)?;
         return Err(RunFault::TooLong);
     }
-    catch_up(rt, desk, backlog, writer)?;
+    catch_up(rt, desk, &mut ahead, writer)?;
     Ok(Count {
-        records: backlog.answered,
+        records: desk.answered,
     })
 }
 
@@ -220,29 +174,22 @@ fn turn<G: Gate, T: Threads + Wait + Sync, R: Read, W: Write>(
     rt: &T,
     chunks: &mut Chunks<R>,
     desk: &mut Desk<G>,
-    backlog: &mut Backlog,
+    ahead: &mut Ahead,
     writer: &mut W,
     limit: u64,
 ) -> Result<Option<Count>, RunFault>
-    requires sound { IsSound desk.old.site desk.old.plan backlog.old }
-    requires within { backlog.old.answered ≤ limit }
-    ensures plan { IfOk result (λ over. IfNone over (desk.new.plan ≡ desk.old.plan)) }
-    ensures sound { IfOk result (λ over. IfNone over (IsSound desk.new.site desk.new.plan backlog.new)) }
-    ensures within { IfOk result (λ over. IfNone over (backlog.new.answered ≤ limit)) }
-    ensures goes { IfOk result (λ over. ReadsOnOrEnds limit R.remaining chunks.old desk.old.site backlog.old (W.contents writer.old)
-        chunks.new desk.new.site backlog.new (W.contents writer.new) over) }
-    ensures too_long { IsErrOf result RunFault.TooLong → AnswersFirstAhead limit R.remaining chunks.old desk.old.site backlog.old
-        (W.contents writer.old) desk.new.site (W.contents writer.new) }
-    ensures left { IsErrOf result RunFault.Read → NoWholeAfter (held_text chunks.old) 1 }
-    ensures cut { IsErrOf result RunFault.Read → backlog.new.answered ≡ backlog.old.answered + length (flat backlog.old.ahead) }
-    ensures read { IsErrOf result RunFault.Read → AnswersJustAhead (backlog.old.answered + length (flat backlog.old.ahead)) R.remaining
-        chunks.old desk.old.site backlog.old (W.contents writer.old) desk.new.site (W.contents writer.new) }
-    ensures memory { IsErrOf result RunFault.Memory → WritesPrefixAhead R.remaining chunks.old desk.old.site backlog.old
-        (W.contents writer.old) (W.contents writer.new) }
+    requires sound { IsSound desk.old ahead.old }
+    requires within { desk.old.answered ≤ limit }
+    ensures { ByEnd result
+        (λ over. GoesOnOrEnds limit R.remaining chunks.old desk.old ahead.old (W.contents writer.old)
+        chunks.new desk.new ahead.new (W.contents writer.new) over)
+        (AnswersFirstAhead limit R.remaining chunks.old desk.old ahead.old (W.contents writer.old) desk.new (W.contents writer.new))
+        (IsCutShort R.remaining chunks.old desk.old ahead.old (W.contents writer.old) desk.new (W.contents writer.new))
+        (WritesPrefixAhead R.remaining chunks.old desk.old ahead.old (W.contents writer.old) (W.contents writer.new)) }
 {
-    let left = limit - backlog.answered;
-    if backlog.ahead.len() as u64 > left {
-        stop(rt, desk, backlog, writer, left)?;
+    let left = limit - desk.answered;
+    if ahead.len() as u64 > left {
+        stop(rt, desk, ahead, writer, left)?;
         return Err(RunFault::TooLong);
     }
     let alone = desk.plan.readers == 0;
@@ -250,23 +197,23 @@ fn turn<G: Gate, T: Threads + Wait + Sync, R: Read, W: Write>(
     let most = if alone {
         held
     } else {
-        chunk_of(held, backlog.ahead.len())
+        chunk_of(held, ahead.len())
     };
     let many = chunks.whole(most);
     if many > 1 && !alone {
-        go_on(rt, chunks, desk, backlog, writer, many)?;
-        backlog.reply.sink.drain_full(writer)?;
+        go_on(rt, chunks, desk, ahead, writer, many)?;
+        desk.reply.sink.drain_full(writer)?;
         return Ok(None);
     }
-    catch_up(rt, desk, backlog, writer)?;
+    catch_up(rt, desk, ahead, writer)?;
     if many > 1 {
-        answer_chunk(rt, chunks, desk, backlog, writer, many, limit)?;
+        answer_chunk(rt, chunks, desk, writer, many, limit)?;
         return Ok(None);
     }
     match chunks.fill() {
         Ok(true) => Ok(None),
         Ok(false) => {
-            let count = end(rt, chunks, desk, backlog, writer, limit)?;
+            let count = end(rt, chunks, desk, writer, limit)?;
             Ok(Some(count))
         }
         Err(ChunkFault::Read) => Err(RunFault::Read),
@@ -279,23 +226,20 @@ fn serve<G: Gate, T: Threads + Wait + Sync, R: Read, W: Write>(
     rt: &T,
     chunks: &mut Chunks<R>,
     desk: &mut Desk<G>,
-    backlog: &mut Backlog,
+    ahead: &mut Ahead,
     writer: &mut W,
     limit: u64,
 ) -> Result<Count, RunFault>
-    requires sound { IsSound desk.old.site desk.old.plan backlog.old }
-    requires within { backlog.old.answered ≤ limit }
-    ensures ok { IfOk result (λ count. AnswersAllAhead limit R.remaining chunks.old desk.old.site backlog.old (W.contents writer.old)
-        desk.new.site (W.contents writer.new) count) }
-    ensures too_long { IsErrOf result RunFault.TooLong → AnswersFirstAhead limit R.remaining chunks.old desk.old.site backlog.old
-        (W.contents writer.old) desk.new.site (W.contents writer.new) }
-    ensures read { IsErrOf result RunFault.Read → AnswersJustAhead backlog.new.answered R.remaining chunks.old desk.old.site backlog.old
-        (W.contents writer.old) desk.new.site (W.contents writer.new) }
-    ensures memory { IsErrOf result RunFault.Memory → WritesPrefixAhead R.remaining chunks.old desk.old.site backlog.old
-        (W.contents writer.old) (W.contents writer.new) }
+    requires sound { IsSound desk.old ahead.old }
+    requires within { desk.old.answered ≤ limit }
+    ensures { ByEnd result
+        (λ count. AnswersAllAhead limit R.remaining chunks.old desk.old ahead.old (W.contents writer.old) desk.new (W.contents writer.new) count)
+        (AnswersFirstAhead limit R.remaining chunks.old desk.old ahead.old (W.contents writer.old) desk.new (W.contents writer.new))
+        (AnswersJustAhead desk.new.answered R.remaining chunks.old desk.old ahead.old (W.contents writer.old) desk.new (W.contents writer.new))
+        (WritesPrefixAhead R.remaining chunks.old desk.old ahead.old (W.contents writer.old) (W.contents writer.new)) }
 {
     'steps: for _ in 0..u64::MAX {
-        if let Some(count) = turn(rt, chunks, desk, backlog, writer, limit)? {
+        if let Some(count) = turn(rt, chunks, desk, ahead, writer, limit)? {
             return Ok(count);
         }
     }
@@ -333,6 +277,7 @@ pub fn run_desk<G: Gate, T: Threads + Wait + Sync, R: Read + Drop, W: Write>(
         BLOCK
     };
     let mut chunks = Chunks::new(alloc, reader, size);
-    let mut backlog = Backlog::new(alloc);
-    serve(rt, &mut chunks, desk, &mut backlog, writer, limit)
+    let mut ahead = Ahead::new(alloc);
+    desk.start();
+    serve(rt, &mut chunks, desk, &mut ahead, writer, limit)
 }

@@ -51,9 +51,9 @@ impl WaitingDesk {
         ensures state { OnOk result (self.new.desk.site.state ≡ (input_step self.old.desk.site.place self.old.desk.site.state number
             (input_of self.old.desk.site.place.sites fields.now)).0) }
     {
-        let mut reply = Reply::new(self.alloc);
-        reply.number = number;
-        self.desk.respond(rt, fields, &mut reply)
+        self.desk.reply = Reply::new(self.alloc);
+        self.desk.reply.number = number;
+        self.desk.respond(rt, fields)
     }
 }
 

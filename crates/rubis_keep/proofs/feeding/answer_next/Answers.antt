@@ -1,21 +1,24 @@
-use Rattle.std.proofs.Common.{◌+◌, false, refl, true}
+use Rattle.std.proofs.Common.{◌≡◌, ◌∙◌, ap, false, refl, sym, true}
 use Rattle.rubis_engine.proofs.RunFacts.{takes-at}
 use Rattle.rubis_engine.specs.Reading.{fields_now}
-use Rattle.rubis_script.specs.Windows.{held_by}
+use Rattle.rubis_model.specs.Runs.{input_of}
+use Rattle.rubis_script.specs.Desks.{left_at}
 use Rattle.rubis_keep.proofs.TellingFacts.{answers-kept}
 use Rattle.rubis_keep.proofs.feeding.answer_next.Goals as goal
 
-pub returns-then-not-branch-clause-next : goal.returns-then-not-branch-clause-next
-returns-then-not-branch-clause-next g c =
+pub returns-then-not-branch : goal.returns-then-not-branch
+returns-then-not-branch g c =
     (takes-at _ c.args.records.now c.advance.new.self _ false c.if-not-branch.true c.in_ok-advance.ensures.takes, refl)
 
-pub returns-clause-next : goal.returns-clause-next
-returns-clause-next g c =
-    let n = c.args.clerk.now.answered in (
+pub returns : goal.returns
+returns g c =
+    let d = c.args.clerk.now.desk in
+    let mid = c.take.new.self in
+    let new = c.make_room.new.self in
+    let took = c.in_ok-take.ensures.takes in
+    let kept = c.in_ok-make_room.ensures.kept in (
       takes-at _ c.args.records.now c.advance.new.self _ true c.if-not-branch.false c.in_ok-advance.ensures.takes,
-      answers-kept (held_by c.args.clerk.now.desk.site c.args.clerk.now.window.items (n + 1)) (held_by c.take.new.self.site c.take.new.window.items (n + 1 + 1))
-          (held_by c.make_room.new.self.site c.make_room.new.window.items (n + 1 + 1)) c.args.clerk.now.reply.sink c.take.new.reply.sink
-          c.make_room.new.reply.sink (fields_now c.advance.new.self)
-          (rw c.fields.ensures at c.in_ok-take.ensures.goes) c.in_ok-make_room.ensures.kept,
-      refl,
+      answers-kept (left_at d) (left_at mid) (left_at new) d.reply.sink mid.reply.sink new.reply.sink (fields_now c.advance.new.self)
+          (took.text (fields_now c.advance.new.self) (ap (input_of d.site.place.sites) (sym c.fields.ensures))) kept.text,
+      kept.count ∙ took.count,
     )

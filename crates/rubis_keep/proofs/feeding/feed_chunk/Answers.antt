@@ -1,23 +1,23 @@
 use Rattle.std.proofs.Common.{◌+◌}
-use Rattle.std.proofs.lemmas.Result.{on_ok_weaker}
+use Rattle.rubis_engine.proofs.RunFacts.{on_ok_both}
 use Rattle.rubis_keep.proofs.EachFacts.{chunk-feeds, chunk-finish-ends, chunk-rest, on_err, on_err_weaker}
 use Rattle.rubis_keep.proofs.TellingFacts.{none-told, rests-told}
 use Rattle.rubis_keep.proofs.feeding.feed_chunk.Goals as goal
 
 pub returns-in_err-feed_records-clause-err : goal.returns-in_err-feed_records-clause-err
 returns-in_err-feed_records-clause-err g c =
-    on_err _ (rests-told c.args.clerk.now.desk.site c.args.clerk.now.window.items _ _ _ _ _ c.requires.window
+    on_err _ (rests-told c.args.clerk.now.desk.site c.args.clerk.now.desk.window.items _ _ _ _ _ c.requires.window
     (chunk-feeds _ _ _ _ _ _ _ c.args.chunk.now _ c.in_err-feed_records.ensures.err c.requires.empty c.new-records.ensures c.requires.whole))
 
 pub returns-clause-err : goal.returns-clause-err
 returns-clause-err g c =
-    on_err_weaker c.finish.result (λ f. rests-told c.args.clerk.now.desk.site c.args.clerk.now.window.items _ _ _ _ _ c.requires.window
+    on_err_weaker c.finish.result (λ f. rests-told c.args.clerk.now.desk.site c.args.clerk.now.desk.window.items _ _ _ _ _ c.requires.window
     (chunk-finish-ends _ _ c.feed_records.new.records _ _ _ _ _ _ _ _ _ _ _ _ _ c.args.chunk.now c.in_ok-feed_records.ensures.ok c.requires.empty
     c.new-records.ensures c.requires.whole f)) c.finish.ensures.err
 
 pub returns-clause-ok : goal.returns-clause-ok
 returns-clause-ok g c =
-    on_ok_weaker c.finish.result (λ f. rw c.finish.ensures.same (rests-told c.args.clerk.now.desk.site c.args.clerk.now.window.items _ _ _ _ _ c.requires.window
+    on_ok_both c.finish.result (λ f same. rw same (rests-told c.args.clerk.now.desk.site c.args.clerk.now.desk.window.items _ _ _ _ _ c.requires.window
     (chunk-rest _ _ c.feed_records.new.records _ _ _ _ _ _ _ _ _ _ _ _ _ c.args.chunk.now c.in_ok-feed_records.ensures.ok c.requires.empty c.new-records.ensures
     c.requires.whole
-    f (none-told c.finish.new.clerk.desk.site (c.feed_records.new.clerk.answered + 1))))) c.finish.ensures.ok
+    f (none-told c.finish.new.clerk.desk.site (c.feed_records.new.clerk.desk.answered + 1))))) c.finish.ensures.ok c.finish.ensures.same

@@ -1,63 +1,33 @@
-use Rattle.std.proofs.Common.{◌≡◌, ◌∙◌, ◌+◌, ◌∷◌, ap, arith, length, refl, subst, sym}
-use Rattle.std.specs.Prelude.{OnOk}
+use Rattle.std.proofs.Common.{◌≡◌, refl, rules, subst}
 use Rattle.rubis_message.specs.declared.requests.Request.TheVariants as request
-use Rattle.rubis_model.specs.Runs.Input.{Asked}
-use Rattle.rubis_engine.proofs.RunFacts.{on_ok_both}
-use Rattle.rubis_reading.specs.Runs.{flat}
-use Rattle.rubis_script.specs.Drains.{AnswersAnyOut}
-use Rattle.rubis_script.specs.Headline.{StepsOn}
-use Rattle.rubis_script.specs.Runs.{Stands}
-use Rattle.rubis_script.proofs.AloneFacts.{sound-held, stands-taken, taken-front, taken-out}
-use Rattle.rubis_script.proofs.LoopFacts.{stands-prefix}
-use Rattle.rubis_script.proofs.WindowFacts.{held_none}
+use Rattle.rubis_reading.specs.Parsed.{IsParsed}
+use Rattle.rubis_reading.specs.declared.parsed.Parsed.TheVariants as parsed
+use Rattle.rubis_script.proofs.EndFacts.{ends_memory, ends_so}
+use Rattle.rubis_script.proofs.StepFacts.{prefix-listed, prefix-record, record-none, takes-listed, takes-next, takes-record}
 use Rattle.rubis_script.proofs.alone.answer_record.Goals as goal
 
-pub returns-in-Some-clause-sound : goal.returns-in-Some-clause-sound
-returns-in-Some-clause-sound g c =
-    let old = c.args.desk.now in
-    let new = c.list_one.new.desk in
-    let b2 = c.list_one.new.backlog in
-    let same : OnOk c.list_one.result ((new.site.place ≡ old.site.place) × (new.plan ≡ old.plan)) =
-    on_ok_both c.list_one.result (λ place plan. (place, plan)) c.list_one.ensures.place c.list_one.ensures.plan in
-    on_ok_both {Q = (new.site.place ≡ old.site.place) × (new.plan ≡ old.plan)} c.list_one.result (λ empty both.
-    sound-held old.site new.site old.plan new.plan c.args.backlog.now b2 both.0 both.1
-    c.list_one.ensures.ahead (held_none new.site.place b2.window.items b2.answered empty) (let none = ap length empty in omega (arith, none)) c.requires.sound)
-    c.list_one.ensures.empty same
+pub returns-in_err-read : goal.returns-in_err-read
+returns-in_err-read g c = ends_memory _ _ _ c.from_residual.result c.from_residual.ensures (record-none c.args.desk.now c.args.fields.now (g.W.Write.contents c.args.writer.now) (g.W.Write.contents c.args.writer.now) refl)
 
-pub returns-in-Some-clause-goes : goal.returns-in-Some-clause-goes
-returns-in-Some-clause-goes g c =
-    let listing = c.in-Some.listing in
-    let site = c.args.desk.now.site in
-    let new = c.list_one.new.desk.site in
-    let b = c.args.backlog.now in
-    let b2 = c.list_one.new.backlog in
+pub returns-in_err-take_read-in_default : goal.returns-in_err-take_read-in_default
+returns-in_err-take_read-in_default g c =
+    ends_memory _ _ _ c.from_residual-in_err-take_read-in_default.result c.from_residual-in_err-take_read-in_default.ensures (record-none c.args.desk.now c.args.fields.now (g.W.Write.contents c.args.writer.now) (g.W.Write.contents c.args.writer.now) refl)
+
+pub returns-in_ok-take_read-in_default : goal.returns-in_ok-take_read-in_default
+returns-in_ok-take_read-in_default g c =
+    let d = c.args.desk.now in
+    let d2 = c.take_read.new.self in
     let now = g.W.Write.contents c.args.writer.now in
-    let now2 = g.W.Write.contents c.list_one.new.writer in
-    let both : OnOk c.list_one.result (AnswersAnyOut (Asked (request.List listing)) site b.window.items new b2.window.items (b.answered + 1)
-    b.reply.sink b2.reply.sink now now2
-    × StepsOn (b.answered + 1) (Asked (request.List listing)) site b.window.items new b2.window.items) =
-    on_ok_both c.list_one.result (λ goes leads. (goes, leads)) c.list_one.ensures.goes c.list_one.ensures.leads in
-    on_ok_both c.list_one.result (λ listed count first old records later h.
-    taken-out site new b b2 first old now now2 listing c.args.fields.now records later c.requires.none (c.list_one.ensures.ahead ∙ c.requires.none) count
-    c.in-Some.ensures listed.0 listed.1 h) both c.list_one.ensures.count
+    let took = c.in_ok-take_read-in_default.ensures in
+    takes-record d d2 c.in_ok-read.read c.args.fields.now now now c.in_ok-read.ensures (takes-next d d2 c.in_ok-read.read took.same took.takes now)
 
-pub returns-in-Some-clause-memory : goal.returns-in-Some-clause-memory
-returns-in-Some-clause-memory g c e first old records later h =
-    taken-front c.args.desk.now.site c.args.backlog.now first old (g.W.Write.contents c.args.writer.now) (g.W.Write.contents c.list_one.new.writer)
-    c.in-Some.listing c.args.fields.now records later c.requires.none c.in-Some.ensures (c.list_one.ensures.memory e) h
-
-pub returns-in_err-take-clause-memory : goal.returns-in_err-take-clause-memory
-returns-in_err-take-clause-memory g c e first old records later h = stands-prefix _ _ _ first old _ _ _ _ records _ refl h
-
-pub returns-clause-goes : goal.returns-clause-goes
-returns-clause-goes g c first old records later h =
-    let took = c.in_ok-take.ensures in
-    let site = c.args.desk.now.site in
-    let new = c.take.new.self.site in
-    let b = c.args.backlog.now in
-    let now = g.W.Write.contents c.args.writer.now in
-    let fields = c.args.fields.now in
-    subst (λ l. Stands new (flat l) c.take.new.window.items c.take.new.reply.sink (b.answered + 1) first old now records later) (sym c.requires.none)
-    (stands-taken site new b.window.items c.take.new.window.items first old now b.reply.sink c.take.new.reply.sink b.answered fields records later
-    took.goes took.leads
-    (subst (λ l. Stands site (flat l) b.window.items b.reply.sink b.answered first old now records (fields ∷ later)) c.requires.none h))
+pub returns-in-Asked-List : goal.returns-in-Asked-List
+returns-in-Asked-List g c =
+    let d = c.args.desk.now in
+    let d2 = c.list_out.new.self in
+    let whole : c.in_ok-read.read ≡ parsed.Asked (request.List c.in-Asked-List.listing) = search rules in
+    let read = subst (λ p. IsParsed d.site.place.sites c.args.fields.now p) whole c.in_ok-read.ensures in
+    let p = parsed.Asked (request.List c.in-Asked-List.listing) in
+    ends_so c.list_out.result
+    (λ v next. takes-record d d2 p c.args.fields.now _ _ read (takes-listed d d2 c.in-Asked-List.listing _ _ c.list_out.ensures.same next)) absurd absurd
+    (λ front. prefix-record d p c.args.fields.now _ _ read (prefix-listed d c.in-Asked-List.listing _ _ front)) c.list_out.ensures.listed

@@ -1,75 +1,58 @@
-use Rattle.std.proofs.Common.{◌≡◌, ◌∙◌, ◌++◌, All, Some, ap, arith, length, length-append, subst, sym}
-use Rattle.rubis_reading.specs.Parsed.{FitsIn}
-use Rattle.rubis_reading.specs.Runs.{FitWindow, flat, of_stretch}
-use Rattle.rubis_script.specs.Runs.{Stands, stopped_at}
-use Rattle.rubis_script.proofs.LoopFacts.{all-back, all-front}
+use Rattle.std.proofs.Common.{◌≡◌, ◌∙◌, ◌++◌, None, Some, ap, arith, length, length-append, subst, sym}
+use Rattle.rubis_reading.specs.Runs.{flat, of_stretch}
+use Rattle.rubis_script.specs.Runs.{IsSound, stopped_at}
+use Rattle.rubis_script.proofs.StepFacts.{sound-front, sound-kept, taken-few, taken-more, taken-none, taken-same}
 use Rattle.rubis_script.proofs.answering.answer_ready.Goals as goal
 
-pub answer_run-requires-clause-fits : goal.answer_run-requires-clause-fits
-answer_run-requires-clause-fits g c κs within =
-    let sites = c.runs.desk.site.place.sites in
-    all-front sites (of_stretch c.in-Some.run') (flat c.next_stretch.new.self)
-    (subst (λ l. All (λ p. FitsIn sites p) (flat l)) c.in-Some.ensures.parts c.runs.invariant.fits)
+pub stretches-init : goal.stretches-init
+stretches-init g c = record { sound = c.requires.sound; taken = taken-none _ _ }
 
-pub answer_run-requires-clause-window : goal.answer_run-requires-clause-window
-answer_run-requires-clause-window g c κs within = (subst (λ l. FitWindow c.runs.desk.plan.window l) c.in-Some.ensures.parts c.runs.invariant.windows).0
+pub answer_stretch-requires-clause-fits : goal.answer_stretch-requires-clause-fits
+answer_stretch-requires-clause-fits g c κs within =
+    (sound-front c.stretches.desk c.stretches.ahead c.next_stretch.new.self c.in-Some.stretch c.in-Some.ensures.parts c.stretches.invariant.sound).0
 
-pub answer_run-requires-clause-room : goal.answer_run-requires-clause-room
-answer_run-requires-clause-room g c κs within =
-    let long = ap (λ l. length (flat l)) c.in-Some.ensures.parts ∙ length-append (of_stretch c.in-Some.run') (flat c.next_stretch.new.self) in
-    omega (arith, long, c.runs.invariant.count, c.requires.room)
+pub answer_stretch-requires-clause-window : goal.answer_stretch-requires-clause-window
+answer_stretch-requires-clause-window g c κs within =
+    (sound-front c.stretches.desk c.stretches.ahead c.next_stretch.new.self c.in-Some.stretch c.in-Some.ensures.parts c.stretches.invariant.sound).1
 
-pub runs-preserved : goal.runs-preserved
-runs-preserved g c =
-    let i = c.runs.invariant in
-    let site = c.runs.desk.site in
-    let run = of_stretch c.in-Some.run' in
+pub answer_stretch-requires-clause-room : goal.answer_stretch-requires-clause-room
+answer_stretch-requires-clause-room g c κs within =
+    let long = ap (λ l. length (flat l)) c.in-Some.ensures.parts ∙ length-append (of_stretch c.in-Some.stretch) (flat c.next_stretch.new.self) in
+    let few = taken-few _ _ _ _ _ _ (c.stretches.invariant.taken None) in
+    omega (arith, long, few, c.requires.room)
+
+pub stretches-preserved : goal.stretches-preserved
+stretches-preserved g c =
+    let d = c.stretches.desk in
+    let stretch = c.in-Some.stretch in
     let left = c.next_stretch.new.self in
-    let parts : flat c.runs.backlog.ahead ≡ run ++ flat left = ap flat c.in-Some.ensures.parts in
-    let long = ap length parts ∙ length-append run (flat left) in
-    let ensured = c.in_ok-answer_run.ensures in
-    let same = ensured.ahead in
-    let size = ap (λ l. length (flat l)) same in
+    let front = sound-front d c.stretches.ahead left stretch c.in-Some.ensures.parts c.stretches.invariant.sound in
+    let takes = c.in_ok-answer_stretch.ensures in
     record {
-      place = ensured.place ∙ i.place;
-      plan = ensured.plan ∙ i.plan;
-      held = ensured.held;
-      few = ensured.few;
-      fits = subst (λ l. All (λ x. FitsIn c.answer_run.new.desk.site.place.sites x) (flat l)) (sym same)
-          (subst (λ p. All (λ x. FitsIn p.sites x) (flat left)) (sym ensured.place)
-          (all-back site.place.sites run (flat left) (subst (λ l. All (λ p. FitsIn site.place.sites p) l) parts i.fits)));
-      windows = subst (λ l. FitWindow c.answer_run.new.desk.plan.window l) (sym same)
-          (subst (λ p. FitWindow p.window left) (sym ensured.plan) (subst (λ l. FitWindow c.runs.desk.plan.window l) c.in-Some.ensures.parts i.windows).1);
-      count = omega (arith, long, size, ensured.count, i.count);
-      goes = λ first old now records later h. ensured.goes first old now records later
-          (subst (λ l. Stands site l c.runs.backlog.window.items c.runs.backlog.reply.sink c.runs.backlog.answered first old now records later) parts
-          (i.goes first old now records later h));
+      sound = sound-kept d c.answer_stretch.new.desk left (takes None).setup front.2;
+      taken = λ now. taken-more _ (flat c.stretches.ahead) (flat left) (of_stretch stretch) c.args.desk.now d c.answer_stretch.new.desk now now now
+          (c.stretches.invariant.taken now) (ap flat c.in-Some.ensures.parts) (takes now);
     }
 
-pub returns-in_default-clause-goes : goal.returns-in_default-clause-goes
-returns-in_default-clause-goes g c first old now records later h =
-    let parts : flat c.runs.backlog.ahead ≡ flat c.next_stretch.new.self = ap flat c.in_default.ensures.parts in
-    subst (λ l. Stands c.runs.desk.site l c.runs.backlog.window.items c.runs.backlog.reply.sink c.runs.backlog.answered first old now records later) parts
-    (c.runs.invariant.goes first old now records later h)
-
-pub returns-in-Some-long_listing-clause-sound : goal.returns-in-Some-long_listing-clause-sound
-returns-in-Some-long_listing-clause-sound g c =
-    let i = c.runs.invariant in
-    let sites = c.runs.desk.site.place.sites in
-    let run = of_stretch c.in-Some.run' in
+pub returns-in-Some-long_listing : goal.returns-in-Some-long_listing
+returns-in-Some-long_listing g c =
+    let d = c.stretches.desk in
     let left = c.next_stretch.new.self in
-    let parts : flat c.runs.backlog.ahead ≡ run ++ flat left = ap flat c.in-Some.ensures.parts in
+    let front = sound-front d c.stretches.ahead left c.in-Some.stretch c.in-Some.ensures.parts c.stretches.invariant.sound in
+    let parts : flat c.stretches.ahead ≡ stopped_at (Some c.in-Some-long_listing.listing) ++ flat left =
+    ap flat c.in-Some.ensures.parts ∙ ap (λ l. l ++ flat left) c.in-Some-long_listing.ensures in
     record {
-      held = i.held;
-      few = i.few;
-      fits = all-back sites run (flat left) (subst (λ l. All (λ p. FitsIn sites p) l) parts i.fits);
-      windows = (subst (λ l. FitWindow c.runs.desk.plan.window l) c.in-Some.ensures.parts i.windows).1;
+      taken = λ now. taken-same _ _ _ d _ now now parts (c.stretches.invariant.taken now);
+      sound = front.2;
+      all = tt;
     }
 
-pub returns-in-Some-long_listing-clause-goes : goal.returns-in-Some-long_listing-clause-goes
-returns-in-Some-long_listing-clause-goes g c first old now records later h =
-    let left = flat c.next_stretch.new.self in
-    let parts : flat c.runs.backlog.ahead ≡ stopped_at (Some c.in-Some-long_listing.listing) ++ left =
-    ap flat c.in-Some.ensures.parts ∙ ap (λ l. l ++ left) c.in-Some-long_listing.ensures in
-    subst (λ l. Stands c.runs.desk.site l c.runs.backlog.window.items c.runs.backlog.reply.sink c.runs.backlog.answered first old now records later) parts
-    (c.runs.invariant.goes first old now records later h)
+pub returns : goal.returns
+returns g c =
+    let d = c.stretches.desk in
+    let parts = c.in_default.ensures.parts in
+    record {
+      taken = λ now. taken-same _ _ _ d _ now now (ap flat parts) (c.stretches.invariant.taken now);
+      sound = subst (λ a. IsSound d a) parts c.stretches.invariant.sound;
+      all = sym parts ∙ c.in_default.ensures.none;
+    }

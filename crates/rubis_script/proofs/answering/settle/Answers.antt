@@ -1,32 +1,21 @@
-use Rattle.std.proofs.Common.{◌+◌, All, ap, arith, length, subst, sym}
+use Rattle.std.proofs.Common.{[], refl}
 use Rattle.std.proofs.lemmas.Result.{on_ok_weaker}
-use Rattle.rubis_script.proofs.WindowFacts.{held_none, told-kept}
-use Rattle.rubis_engine.proofs.RunFacts.{on_ok}
-use Rattle.rubis_reading.specs.Parsed.{FitsIn}
-use Rattle.rubis_reading.specs.Runs.{FitWindow, flat}
-use Rattle.rubis_script.proofs.LoopFacts.{stands-kept, stands-written}
+use Rattle.rubis_script.proofs.EndFacts.{ends_memory, ends_writer}
+use Rattle.rubis_script.proofs.StepFacts.{takes-held, takes-more, takes-written}
 use Rattle.rubis_script.proofs.answering.settle.Goals as goal
 
-pub returns-clause-sound : goal.returns-clause-sound
-returns-clause-sound g c =
-    let new = c.flush.new.self.site in
-    on_ok c.close.result (record {
-      held = held_none new.place c.flush.new.window.items c.args.backlog.now.answered c.in_ok-flush.ensures.empty;
-      few = let none = ap length c.in_ok-flush.ensures.empty in omega (arith, none);
-      fits = subst (λ p. All (λ x. FitsIn p.sites x) (flat c.args.backlog.now.ahead)) (sym c.in_ok-flush.ensures.place) c.requires.fits;
-      windows = subst (λ p. FitWindow p.window c.args.backlog.now.ahead) (sym c.in_ok-flush.ensures.plan) c.requires.windows;
-    })
+pub returns-in_err-flush : goal.returns-in_err-flush
+returns-in_err-flush g c = ends_memory _ _ _ c.from_residual.result c.from_residual.ensures refl
 
-pub returns-clause-goes : goal.returns-clause-goes
-returns-clause-goes g c =
-    let old = c.args.desk.now.site in
-    let new = c.flush.new.self.site in
-    let b = c.args.backlog.now in
+pub returns : goal.returns
+returns g c =
+    let d = c.args.desk.now in
+    let mid = c.flush.new.self in
+    let before = g.W.Write.contents c.args.writer.now in
+    let after = g.W.Write.contents c.close.new.writer in
     let flushed = c.in_ok-flush.ensures in
-    on_ok_weaker c.close.result (λ out first before records later h.
-    stands-written new (flat b.ahead) c.flush.new.window.items first before (g.W.Write.contents c.args.writer.now) (g.W.Write.contents c.close.new.writer)
-    c.flush.new.reply.sink c.close.new.self b.answered records later out c.close.ensures.empty
-    (stands-kept old new (flat b.ahead) b.window.items c.flush.new.window.items first before (g.W.Write.contents c.args.writer.now)
-    b.reply.sink c.flush.new.reply.sink b.answered records later
-    (told-kept old new b.window.items c.flush.new.window.items (b.answered + 1) b.reply.sink c.flush.new.reply.sink flushed.empty flushed.flushed) flushed.leads
-    h)) c.close.ensures.ok
+    ends_writer _ _ _ _ c.close.result (on_ok_weaker c.close.result (λ out. (
+      takes-more [] [] d mid _ before before after (takes-held d mid flushed.same flushed.flushed before)
+          (takes-written mid _ before after refl refl refl refl out c.close.ensures.empty),
+      (flushed.empty, c.close.ensures.empty),
+    )) c.close.ensures.ok) c.close.ensures.faults

@@ -11,8 +11,8 @@ parts-preserved g c =
     off_more (c.args.sink.now ++ rows_text c.args.rows.now) (c.parts.sink ++ rows_text c.parts.rows) (c.drain_full.new.self ++ rows_text c.put_next.new.self)
     (g.W.Write.contents c.args.writer.now) (g.W.Write.contents c.parts.writer) (g.W.Write.contents c.drain_full.new.writer) c.parts.invariant part
 
-pub returns-then-not-more-clause-ok : goal.returns-then-not-more-clause-ok
-returns-then-not-more-clause-ok g c =
+pub returns-then-not-more : goal.returns-then-not-more
+returns-then-not-more g c =
     let (first, split, added) = c.in_ok-more.ensures.next in
     let text = c.args.sink.now ++ rows_text c.args.rows.now in
     let part = rows_part c.parts.sink c.put_next.new.sink c.drain_full.new.self c.parts.rows first c.put_next.new.self (g.W.Write.contents c.parts.writer)

@@ -1,37 +1,33 @@
-use Rattle.std.proofs.Common.{◌≡◌, ◌∙◌, ◌++◌, ap, refl, subst, sym, take}
-use Rattle.rubis_engine.specs.Text.{input_records}
-use Rattle.rubis_engine.specs.declared.fault.RunFault.TheVariants as fault
-use Rattle.rubis_engine.proofs.RunFacts.{handed_on}
+use Rattle.std.proofs.Common.{◌≡◌, ◌∙◌, ap, refl, take}
+use Rattle.rubis_engine.specs.Accounts.Ending.{AtEnd}
+use Rattle.rubis_engine.specs.Progress.{WrotePrefix}
 use Rattle.rubis_reading.specs.Chunked.{held_text}
-use Rattle.rubis_script.specs.Runs.{StandsWith}
-use Rattle.rubis_script.proofs.AloneFacts.{pending-front}
+use Rattle.rubis_script.specs.Headline.{AnswersFirst}
+use Rattle.rubis_script.specs.SiteRuns.{told_by}
+use Rattle.rubis_script.proofs.ChunkFacts.{chunk-each, chunk-taken}
+use Rattle.rubis_script.proofs.EndFacts.{ends_on}
+use Rattle.rubis_script.proofs.StepFacts.{sound-none}
 use Rattle.rubis_script.proofs.run.answer_chunk.Goals as goal
 
-pub returns-clause-goes : goal.returns-clause-goes
-returns-clause-goes g c first old input h =
+pub returns-in_err-answer_piece : goal.returns-in_err-answer_piece
+returns-in_err-answer_piece g c =
+    let d2 = c.answer_piece.new.desk in
+    let after = g.W.Write.contents c.answer_piece.new.writer in
     let text : c.split_at.result.0.now ≡ take c.args.many (held_text c.args.chunks.now) = c.split_at.ensures.front ∙ ap (take c.args.many) c.held.ensures in
-    let (more, split, pending) = c.pass.ensures h.later h.pending in record {
-      later = more;
-      stands = c.in_ok-answer_piece.ensures.goes first old (input_records input) more
-          (subst (λ rows. StandsWith c.args.desk.now.site c.args.backlog.now first old (g.W.Write.contents c.args.writer.now) (input_records input) rows)
-          (split ∙ ap (λ t. input_records t ++ more) (sym text)) h.stands);
-      pending = pending;
-    }
+    ends_on _ _ c.from_residual.result c.in_err-answer_piece.field-0.0 c.from_residual.ensures
+    (chunk-each g.R.Read.remaining c.args.chunks.now c.args.many c.split_at.result.0.now c.args.desk.now (g.W.Write.contents c.args.writer.now)
+    (λ first old records. AnswersFirst c.args.limit first d2.site old after records) c.requires.chunk text) absurd
+    (chunk-each g.R.Read.remaining c.args.chunks.now c.args.many c.split_at.result.0.now c.args.desk.now (g.W.Write.contents c.args.writer.now)
+    (λ first old records. WrotePrefix ((told_by first 1).text AtEnd) old after records) c.requires.chunk text) c.in_err-answer_piece.ensures
 
-pub returns-in_err-answer_piece-clause-too_long : goal.returns-in_err-answer_piece-clause-too_long
-returns-in_err-answer_piece-clause-too_long g c e first old input h =
-    let text : c.split_at.result.0.now ≡ take c.args.many (held_text c.args.chunks.now) = c.split_at.ensures.front ∙ ap (take c.args.many) c.held.ensures in
-    let same = handed_on c.from_residual.result c.in_err-answer_piece.field-0.0 fault.TooLong c.from_residual.ensures e in
-    let (more, split) = pending-front g.R.Read.remaining c.args.chunks.now c.args.many h.later c.requires.some c.requires.text c.requires.whole h.pending in
-    c.in_err-answer_piece.ensures.too_long (rw same refl) first old (input_records input) more
-    (subst (λ rows. StandsWith c.args.desk.now.site c.args.backlog.now first old (g.W.Write.contents c.args.writer.now) (input_records input) rows)
-    (split ∙ ap (λ t. input_records t ++ more) (sym text)) h.stands)
-
-pub returns-in_err-answer_piece-clause-memory : goal.returns-in_err-answer_piece-clause-memory
-returns-in_err-answer_piece-clause-memory g c e first old input h =
-    let text : c.split_at.result.0.now ≡ take c.args.many (held_text c.args.chunks.now) = c.split_at.ensures.front ∙ ap (take c.args.many) c.held.ensures in
-    let same = handed_on c.from_residual.result c.in_err-answer_piece.field-0.0 fault.Memory c.from_residual.ensures e in
-    let (more, split) = pending-front g.R.Read.remaining c.args.chunks.now c.args.many h.later c.requires.some c.requires.text c.requires.whole h.pending in
-    c.in_err-answer_piece.ensures.memory (rw same refl) first old (input_records input) more
-    (subst (λ rows. StandsWith c.args.desk.now.site c.args.backlog.now first old (g.W.Write.contents c.args.writer.now) (input_records input) rows)
-    (split ∙ ap (λ t. input_records t ++ more) (sym text)) h.stands)
+pub returns : goal.returns
+returns g c =
+    let (setup, within, stands) = c.in_ok-answer_piece.ensures in
+    let text : c.split_at.result.0.now ≡ take c.args.many (held_text c.args.chunks.now) = c.split_at.ensures.front ∙ ap (take c.args.many) c.held.ensures in (
+      record {
+        sound = sound-none c.answer_piece.new.desk;
+        goes = chunk-taken g.R.Read.remaining c.args.chunks.now c.pass.new.self c.split_at.result.0.now (take c.args.many (held_text c.args.chunks.now))
+            c.args.desk.now c.answer_piece.new.desk _ _ text c.pass.ensures stands;
+      },
+      within,
+    )

@@ -1,34 +1,33 @@
-use Rattle.std.proofs.Common.{refl, subst, sym}
-use Rattle.rubis_script.specs.Headline.{AnswersJust}
-use Rattle.rubis_engine.specs.Text.{input_records}
-use Rattle.rubis_engine.specs.declared.fault.RunFault.TheVariants as fault
-use Rattle.rubis_engine.proofs.RunFacts.{handed_on}
 use Rattle.rubis_reading.proofs.AheadFacts.{match-some}
-use Rattle.rubis_script.proofs.LoopFacts.{stands-prefix}
+use Rattle.rubis_script.proofs.ChunkFacts.{match-none, prefix-stays}
+use Rattle.std.proofs.Common.{refl}
+use Rattle.rubis_script.proofs.EndFacts.{ends_on}
 use Rattle.rubis_script.proofs.run.serve.Goals as goal
 
-pub returns-in_err-count-clause-too_long : goal.returns-in_err-count-clause-too_long
-returns-in_err-count-clause-too_long g c e first old input h =
-    let same = handed_on c.from_residual.result c.in_err-count.field-0.0 fault.TooLong c.from_residual.ensures e in
-    c.in_err-count.ensures.too_long (rw same refl) first old input (c.steps.invariant.stands first old input h)
+pub steps-init : goal.steps-init
+steps-init g c = record { sound = c.requires.sound; within = c.requires.within; stands = λ first old input h. h }
 
-pub returns-in_err-count-clause-read : goal.returns-in_err-count-clause-read
-returns-in_err-count-clause-read g c e first old input h =
-    let same = handed_on c.from_residual.result c.in_err-count.field-0.0 fault.Read c.from_residual.ensures e in
-    subst (λ k. AnswersJust k first c.turn.new.desk.site old (g.W.Write.contents c.turn.new.writer) (input_records input))
-    (sym (c.in_err-count.ensures.cut (rw same refl)))
-    (c.in_err-count.ensures.read (rw same refl) first old input (c.steps.invariant.stands first old input h))
+pub returns-in_err-count : goal.returns-in_err-count
+returns-in_err-count g c =
+    let stands = c.steps.invariant.stands in
+    ends_on _ _ c.from_residual.result c.in_err-count.field-0.0 c.from_residual.ensures
+    (λ long first old input h. long first old input (stands first old input h))
+    (λ cut first old input h. cut.2 first old input (stands first old input h))
+    (λ prefix first old input h. prefix first old input (stands first old input h)) c.in_err-count.ensures
 
-pub returns-in_err-count-clause-memory : goal.returns-in_err-count-clause-memory
-returns-in_err-count-clause-memory g c e first old input h =
-    let same = handed_on c.from_residual.result c.in_err-count.field-0.0 fault.Memory c.from_residual.ensures e in
-    c.in_err-count.ensures.memory (rw same refl) first old input (c.steps.invariant.stands first old input h)
+pub returns-in-Some : goal.returns-in-Some
+returns-in-Some g c first old input h =
+    match-some c.in_ok-count.field-0 _ _ c.in-Some.count c.in_ok-count.ensures c.in-Some.is first old input (c.steps.invariant.stands first old input h)
 
-pub returns-in-Some-clause-ok : goal.returns-in-Some-clause-ok
-returns-in-Some-clause-ok g c first old input h =
-    match-some c.in_ok-count.field-0 _ _ c.in-Some.count (c.in_ok-count.ensures.goes first old input (c.steps.invariant.stands first old input h)) c.in-Some.is
+pub steps-preserved : goal.steps-preserved
+steps-preserved g c =
+    let (reads, within) = match-none c.in_ok-count.field-0 _ _ c.in_ok-count.ensures c.in_default.is in
+    record {
+      sound = reads.sound;
+      within = within;
+      stands = λ first old input h. reads.goes first old input (c.steps.invariant.stands first old input h);
+    }
 
-pub returns-clause-memory : goal.returns-clause-memory
-returns-clause-memory g c e first old input h =
-    let stands = c.steps.invariant.stands first old input h in
-    stands-prefix _ _ _ first old _ _ _ _ (input_records input) stands.later refl stands.stands
+pub returns : goal.returns
+returns g c first old input h =
+    prefix-stays g.R.Read.remaining c.steps.chunks c.steps.desk c.steps.ahead _ _ refl first old input (c.steps.invariant.stands first old input h)

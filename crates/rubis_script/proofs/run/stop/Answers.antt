@@ -1,37 +1,38 @@
-use Rattle.std.proofs.Common.{◌≡◌, ◌+◌, [], arith, ap, length}
-use Rattle.std.specs.Prelude.{OnOk}
-use Rattle.rubis_engine.proofs.RunFacts.{on_ok_both}
+use Rattle.std.proofs.Common.{◌≡◌, ◌∙◌, All, ap, arith, length, refl, subst, sym}
+use Rattle.rubis_reading.specs.Parsed.{FitsIn}
 use Rattle.rubis_reading.specs.Runs.{flat}
-use Rattle.rubis_script.proofs.LoopFacts.{same-stands, sound-single, stands-too_long, stop-count}
+use Rattle.rubis_reading.proofs.RunFacts.{window-singles}
+use Rattle.rubis_script.specs.Runs.{HasTaken}
+use Rattle.rubis_script.proofs.ChunkFacts.{first-taken}
+use Rattle.rubis_script.proofs.EndFacts.{ends_memory, ends_so}
 use Rattle.rubis_script.proofs.run.stop.Goals as goal
 
-pub answer_some-requires-clause-sound : goal.answer_some-requires-clause-sound
-answer_some-requires-clause-sound g c κs within =
-    let single = c.in_ok-make_single.ensures in
-    sound-single c.args.desk.now.site c.args.desk.now.plan c.args.backlog.now c.make_single.new.backlog single.ahead single.single single.window single.count
-    c.requires.sound
+pub answer_first-requires-clause-sound : goal.answer_first-requires-clause-sound
+answer_first-requires-clause-sound g c κs within =
+    let same = c.in_ok-single.ensures.same ∙ ap flat c.replace-together.ensures.value in (
+      record {
+        fits = subst (λ l. All (λ p. FitsIn c.args.desk.now.site.place.sites p) l) (sym same) c.requires.sound.fits;
+        windows = window-singles c.args.desk.now.plan.window c.in_ok-single.single c.in_ok-single.ensures.single;
+      },
+      c.in_ok-single.ensures.single,
+    )
 
-pub returns-clause-too_long : goal.returns-clause-too_long
-returns-clause-too_long g c =
-    let b0 = c.args.backlog.now in
-    let bs = c.make_single.new.backlog in
-    let single = c.make_single.ensures in
-    let apart = c.in_ok-make_single.ensures.ahead in
-    let long = ap length apart in
-    let b1 = c.answer_some.new.backlog in
-    let b2 = c.settle.new.backlog in
-    let site = c.settle.new.desk.site in
-    let some = c.in_ok-answer_some.ensures in
-    let ended = stop-count bs.answered b1.answered c.args.left (length (flat bs.ahead)) b1.ahead some.some some.count
-    (omega (arith, long, c.requires.more)) some.within in
-    let same = c.settle.ensures.count in
-    let left = ap (λ l. length (flat l)) c.settle.ensures.ahead in
-    let settled : OnOk c.settle.result ((b2.window.items ≡ []) × (b2.reply.sink ≡ [])) =
-    on_ok_both c.settle.result (λ window empty. (window, empty)) c.settle.ensures.window c.settle.ensures.empty in
-    on_ok_both {Q = (b2.window.items ≡ []) × (b2.reply.sink ≡ [])} c.settle.result (λ goes both first old records later h.
-    stands-too_long site (flat b2.ahead) b2.window.items first old (g.W.Write.contents c.settle.new.writer) b2.reply.sink b2.answered
-    (b0.answered + c.args.left) records later
-    both.1 both.0 (omega (arith, left, ended.1)) (omega (arith, same, ended.0, single.count))
-    (goes first old records later (some.goes first old (g.W.Write.contents c.args.writer.now) records later
-    (same-stands c.args.desk.now.site b0 bs first old (g.W.Write.contents c.args.writer.now) records later apart single.window single.sink single.count h))))
-    c.settle.ensures.goes settled
+pub answer_first-requires-clause-more : goal.answer_first-requires-clause-more
+answer_first-requires-clause-more g c κs within =
+    let long = ap length (c.in_ok-single.ensures.same ∙ ap flat c.replace-together.ensures.value) in
+    omega (arith, long, c.requires.more)
+
+pub returns-in_err-single : goal.returns-in_err-single
+returns-in_err-single g c = ends_memory _ _ _ c.from_residual.result c.from_residual.ensures refl
+
+pub returns-in_err-answer_first : goal.returns-in_err-answer_first
+returns-in_err-answer_first g c = ends_memory _ _ _ c.from_residual-in_err-answer_first.result c.from_residual-in_err-answer_first.ensures refl
+
+pub returns : goal.returns
+returns g c =
+    let now = g.W.Write.contents c.args.writer.now in
+    let same = c.in_ok-single.ensures.same ∙ ap flat c.replace-together.ensures.value in
+    let (taken, count) = c.in_ok-answer_first.ensures in
+    ends_so c.settle.result (λ v (last, settled). first-taken c.args.left c.args.desk.now c.answer_first.new.desk c.settle.new.desk c.args.ahead.now (flat c.answer_first.new.ahead) now _
+    (subst (λ l. HasTaken l c.args.desk.now c.answer_first.new.desk (flat c.answer_first.new.ahead) now now) same (taken now)) count c.requires.more last settled)
+    absurd absurd (λ stays. stays) c.settle.ensures

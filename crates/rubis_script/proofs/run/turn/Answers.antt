@@ -1,127 +1,97 @@
-use Rattle.std.proofs.Common.{◌≡◌, ◌+◌, ◌-◌, arith, false, refl, rules, subst}
-use Rattle.rubis_script.specs.Headline.{AnswersFirst, AnswersJust}
-use Rattle.rubis_engine.specs.Text.{input_records}
-use Rattle.rubis_reading.specs.Runs.{flat}
-use Rattle.rubis_engine.specs.declared.fault.RunFault.TheVariants as fault
-use Rattle.rubis_engine.proofs.RunFacts.{handed_on}
-use Rattle.rubis_script.proofs.LoopFacts.{stands-cut, stands-prefix, stands-waited}
+use Rattle.std.proofs.Common.{◌≡◌, ◌+◌, ◌-◌, arith, false, refl, rules}
+use Rattle.rubis_script.proofs.ChunkFacts.{caught, cut-just, first-upto, prefix-ahead, prefix-stays, reads-after, reads-caught, reads-waited, still-pending}
+use Rattle.rubis_script.proofs.EndFacts.{ends_on, ends_write}
+use Rattle.rubis_script.proofs.StepFacts.{prefix-after}
 use Rattle.rubis_script.proofs.run.turn.Goals as goal
 
-pub returns-in_err-stop-clause-memory : goal.returns-in_err-stop-clause-memory
-returns-in_err-stop-clause-memory g c e first old input h =
-    let memory = handed_on c.from_residual.result c.in_err-stop.field-0.0 fault.Memory c.from_residual.ensures e in
-    stands-prefix _ _ _ first old _ _ _ _ (input_records input) h.later (c.in_err-stop.ensures.memory (rw memory refl)) h.stands
+pub returns-in_err-stop : goal.returns-in_err-stop
+returns-in_err-stop g c =
+    ends_on _ _ c.from_residual.result c.in_err-stop.field-0.0 c.from_residual.ensures absurd absurd
+    (prefix-stays g.R.Read.remaining c.args.chunks.now c.args.desk.now c.args.ahead.now _ _) c.in_err-stop.ensures
 
-pub returns-then-len-left-clause-too_long : goal.returns-then-len-left-clause-too_long
-returns-then-len-left-clause-too_long g c e first old input h =
-    let b = c.args.backlog.now in
-    let most : b.answered + (c.args.limit - b.answered) ≡ c.args.limit = omega (arith, c.requires.within) in
-    subst (λ k. AnswersFirst k first c.stop.new.desk.site old (g.W.Write.contents c.stop.new.writer) (input_records input)) most
-    (c.in_ok-stop.ensures.too_long first old (input_records input) h.later h.stands)
+pub returns-then-len-left : goal.returns-then-len-left
+returns-then-len-left g c first old input h =
+    first-upto c.args.limit (c.args.limit - c.args.desk.now.answered) c.args.desk.now c.stop.new.desk c.args.ahead.now _ _ first old _ h.later
+    (omega (arith, c.requires.within)) c.in_ok-stop.ensures h.stands
 
-pub returns-in_err-go_on-clause-memory : goal.returns-in_err-go_on-clause-memory
-returns-in_err-go_on-clause-memory g c e first old input h =
-    let memory = handed_on c.from_residual-in_err-go_on.result c.in_err-go_on.field-0.0 fault.Memory c.from_residual-in_err-go_on.ensures e in
-    c.in_err-go_on.ensures.memory (rw memory refl) first old (input_records input) h.later h.stands
+pub returns-in_err-go_on : goal.returns-in_err-go_on
+returns-in_err-go_on g c =
+    ends_on _ _ c.from_residual-in_err-go_on.result c.in_err-go_on.field-0.0 c.from_residual-in_err-go_on.ensures absurd absurd (λ prefix. prefix)
+    c.in_err-go_on.ensures
 
-pub returns-then-not-alone-clause-goes : goal.returns-then-not-alone-clause-goes
-returns-then-not-alone-clause-goes g c first old input h =
-    let site = c.go_on.new.desk.site in
-    let b = c.go_on.new.backlog in
-    let read = c.in_ok-go_on.ensures.goes first old input h in
-    record {
-      later = read.later;
-      stands = stands-waited site (flat b.ahead) b.window.items first old (g.W.Write.contents c.go_on.new.writer) (g.W.Write.contents c.drain_full.new.writer)
-          b.reply.sink c.drain_full.new.self b.answered (input_records input) read.later c.in_ok-drain_full.ensures.ok read.stands;
-      pending = read.pending;
-    }
+pub returns-in_err-drain_full : goal.returns-in_err-drain_full
+returns-in_err-drain_full g c =
+    ends_write _ _ _ _ c.from_residual-in_err-drain_full.result c.in_err-drain_full.field-0.0 c.from_residual-in_err-drain_full.ensures
+    c.in_err-drain_full.ensures.faults
 
-pub returns-in_err-catch_up-clause-memory : goal.returns-in_err-catch_up-clause-memory
-returns-in_err-catch_up-clause-memory g c e first old input h =
-    let memory = handed_on c.from_residual-in_err-catch_up.result c.in_err-catch_up.field-0.0 fault.Memory c.from_residual-in_err-catch_up.ensures e in
-    c.in_err-catch_up.ensures.memory (rw memory refl) first old (input_records input) h.later h.stands
+pub returns-then-not-alone : goal.returns-then-not-alone
+returns-then-not-alone g c =
+    let (reads, count) = c.in_ok-go_on.ensures in (
+      reads-waited g.R.Read.remaining c.args.chunks.now c.go_on.new.chunks c.args.desk.now c.go_on.new.desk _ c.args.ahead.now c.go_on.new.ahead _ _ _ reads
+          refl refl refl refl c.in_ok-drain_full.ensures.ok,
+      omega (arith, count, c.requires.within, c.if-len-left.false, c.len.ensures),
+    )
 
-pub answer_chunk-requires-clause-alone : goal.answer_chunk-requires-clause-alone
-answer_chunk-requires-clause-alone g c κs within = record {
-  sound = c.in_ok-catch_up.ensures.sound;
-  none = c.in_ok-catch_up.ensures.all;
-  within = omega (arith, c.in_ok-catch_up.ensures.count, c.requires.within, c.if-len-left.false, c.len.ensures);
-}
+pub returns-in_err-catch_up : goal.returns-in_err-catch_up
+returns-in_err-catch_up g c =
+    ends_on _ _ c.from_residual-in_err-catch_up.result c.in_err-catch_up.field-0.0 c.from_residual-in_err-catch_up.ensures absurd absurd
+    (prefix-ahead g.R.Read.remaining c.args.chunks.now c.args.desk.now c.args.ahead.now _ _) c.in_err-catch_up.ensures
 
-pub returns-in_err-answer_chunk-clause-too_long : goal.returns-in_err-answer_chunk-clause-too_long
-returns-in_err-answer_chunk-clause-too_long g c e first old input h =
-    let same = handed_on c.from_residual-in_err-answer_chunk.result c.in_err-answer_chunk.field-0.0 fault.TooLong
-    c.from_residual-in_err-answer_chunk.ensures e in
-    c.in_err-answer_chunk.ensures.too_long (rw same refl) first old input (record {
-      later = h.later;
-      stands = c.in_ok-catch_up.ensures.goes first old (input_records input) h.later h.stands;
-      pending = h.pending;
-    })
+pub answer_chunk-requires-clause-within : goal.answer_chunk-requires-clause-within
+answer_chunk-requires-clause-within g c κs within =
+    omega (arith, c.in_ok-catch_up.ensures.0.count, c.requires.within, c.if-len-left.false, c.len.ensures)
 
-pub returns-in_err-answer_chunk-clause-memory : goal.returns-in_err-answer_chunk-clause-memory
-returns-in_err-answer_chunk-clause-memory g c e first old input h =
-    let same = handed_on c.from_residual-in_err-answer_chunk.result c.in_err-answer_chunk.field-0.0 fault.Memory
-    c.from_residual-in_err-answer_chunk.ensures e in
-    c.in_err-answer_chunk.ensures.memory (rw same refl) first old input (record {
-      later = h.later;
-      stands = c.in_ok-catch_up.ensures.goes first old (input_records input) h.later h.stands;
-      pending = h.pending;
-    })
+pub returns-in_err-answer_chunk : goal.returns-in_err-answer_chunk
+returns-in_err-answer_chunk g c =
+    let all = caught g.R.Read.remaining c.args.chunks.now c.args.desk.now c.catch_up.new.desk c.args.ahead.now _ _ c.in_ok-catch_up.ensures.0 in
+    ends_on _ _ c.from_residual-in_err-answer_chunk.result c.in_err-answer_chunk.field-0.0 c.from_residual-in_err-answer_chunk.ensures
+    (λ long first old input h. long first old input (all first old input h)) absurd
+    (λ prefix first old input h. prefix first old input (all first old input h)) c.in_err-answer_chunk.ensures
 
-pub returns-then-many-gt1-2-clause-goes : goal.returns-then-many-gt1-2-clause-goes
-returns-then-many-gt1-2-clause-goes g c first old input h =
-    c.in_ok-answer_chunk.ensures.goes first old input (record {
-      later = h.later;
-      stands = c.in_ok-catch_up.ensures.goes first old (input_records input) h.later h.stands;
-      pending = h.pending;
-    })
+pub returns-then-many-gt1-2 : goal.returns-then-many-gt1-2
+returns-then-many-gt1-2 g c =
+    let (takes, settled, none) = c.in_ok-catch_up.ensures in
+    let (reads, within) = c.in_ok-answer_chunk.ensures in
+    (reads-after g.R.Read.remaining c.args.chunks.now _ c.args.desk.now c.catch_up.new.desk _ c.args.ahead.now c.catch_up.new.ahead _ _ _ takes none reads, within)
+
+pub end-requires-clause-within : goal.end-requires-clause-within
+end-requires-clause-within g c κs within =
+    omega (arith, c.in_ok-catch_up.ensures.0.count, c.requires.within, c.if-len-left.false, c.len.ensures)
 
 pub end-requires-clause-last : goal.end-requires-clause-last
 end-requires-clause-last g c κs within = let none : c.in-Ok-false.field-0 ≡ false = search rules in c.in-Ok-false.ensures.last none
 
-pub returns-in-Ok-true-clause-goes : goal.returns-in-Ok-true-clause-goes
-returns-in-Ok-true-clause-goes g c first old input h = record {
-  later = h.later;
-  stands = c.in_ok-catch_up.ensures.goes first old (input_records input) h.later h.stands;
-  pending = c.in-Ok-true.ensures.keeps h.later h.pending;
-}
+pub returns-in-Ok-true : goal.returns-in-Ok-true
+returns-in-Ok-true g c =
+    let (takes, settled, none) = c.in_ok-catch_up.ensures in (
+      reads-caught g.R.Read.remaining c.args.chunks.now _ c.args.desk.now c.catch_up.new.desk c.args.ahead.now c.catch_up.new.ahead _ _ takes none
+          c.in-Ok-true.ensures.keeps,
+      omega (arith, takes.count, c.requires.within, c.if-len-left.false, c.len.ensures),
+    )
 
-pub returns-in_err-count-in-Ok-false-clause-too_long : goal.returns-in_err-count-in-Ok-false-clause-too_long
-returns-in_err-count-in-Ok-false-clause-too_long g c e first old input h =
-    let same = handed_on c.from_residual-in_err-count-in-Ok-false.result c.in_err-count-in-Ok-false.field-0.0 fault.TooLong
-    c.from_residual-in_err-count-in-Ok-false.ensures e in
-    c.in_err-count-in-Ok-false.ensures.too_long (rw same refl) first old input (record {
-      later = h.later;
-      stands = c.in_ok-catch_up.ensures.goes first old (input_records input) h.later h.stands;
-      pending = c.in-Ok-false.ensures.keeps h.later h.pending;
-    })
+pub returns-in_err-count-in-Ok-false : goal.returns-in_err-count-in-Ok-false
+returns-in_err-count-in-Ok-false g c =
+    let all = still-pending g.R.Read.remaining c.args.chunks.now c.fill.new.self c.args.desk.now c.catch_up.new.desk c.args.ahead.now _ _
+    c.in_ok-catch_up.ensures.0 c.in-Ok-false.ensures.keeps in
+    ends_on _ _ c.from_residual-in_err-count-in-Ok-false.result c.in_err-count-in-Ok-false.field-0.0 c.from_residual-in_err-count-in-Ok-false.ensures
+    (λ long first old input h. long first old input (all first old input h)) absurd
+    (λ prefix first old input h. prefix first old input (all first old input h)) c.in_err-count-in-Ok-false.ensures
 
-pub returns-in_err-count-in-Ok-false-clause-memory : goal.returns-in_err-count-in-Ok-false-clause-memory
-returns-in_err-count-in-Ok-false-clause-memory g c e first old input h =
-    let same = handed_on c.from_residual-in_err-count-in-Ok-false.result c.in_err-count-in-Ok-false.field-0.0 fault.Memory
-    c.from_residual-in_err-count-in-Ok-false.ensures e in
-    c.in_err-count-in-Ok-false.ensures.memory (rw same refl) first old input (record {
-      later = h.later;
-      stands = c.in_ok-catch_up.ensures.goes first old (input_records input) h.later h.stands;
-      pending = c.in-Ok-false.ensures.keeps h.later h.pending;
-    })
+pub returns-in_ok-count-in-Ok-false : goal.returns-in_ok-count-in-Ok-false
+returns-in_ok-count-in-Ok-false g c first old input h =
+    c.in_ok-count-in-Ok-false.ensures first old input
+    (still-pending g.R.Read.remaining c.args.chunks.now c.fill.new.self c.args.desk.now c.catch_up.new.desk c.args.ahead.now _ _
+    c.in_ok-catch_up.ensures.0 c.in-Ok-false.ensures.keeps first old input h)
 
-pub returns-in_ok-count-in-Ok-false-clause-goes : goal.returns-in_ok-count-in-Ok-false-clause-goes
-returns-in_ok-count-in-Ok-false-clause-goes g c first old input h =
-    c.in_ok-count-in-Ok-false.ensures.done first old input (record {
-      later = h.later;
-      stands = c.in_ok-catch_up.ensures.goes first old (input_records input) h.later h.stands;
-      pending = c.in-Ok-false.ensures.keeps h.later h.pending;
-    })
+pub returns-in-Err-Read : goal.returns-in-Err-Read
+returns-in-Err-Read g c =
+    let (takes, settled, none) = c.in_ok-catch_up.ensures in (
+      c.whole-many.ensures.none (omega (arith, c.if-many-gt1-2.false)),
+      takes.count,
+      cut-just g.R.Read.remaining c.args.chunks.now c.args.desk.now c.catch_up.new.desk c.args.ahead.now _ _ takes settled,
+    )
 
-pub returns-in-Err-Read-clause-read : goal.returns-in-Err-Read-clause-read
-returns-in-Err-Read-clause-read g c e first old input h =
-    let b = c.catch_up.new.backlog in
-    let site = c.catch_up.new.desk.site in
-    subst (λ k. AnswersJust k first site old (g.W.Write.contents c.catch_up.new.writer) (input_records input)) c.in_ok-catch_up.ensures.count
-    (stands-cut site (flat b.ahead) b.window.items first old (g.W.Write.contents c.catch_up.new.writer) b.reply.sink b.answered (input_records input) h.later
-    c.in_ok-catch_up.ensures.empty c.in_ok-catch_up.ensures.window (c.in_ok-catch_up.ensures.goes first old (input_records input) h.later h.stands))
-
-pub returns-in-Err-Memory-clause-memory : goal.returns-in-Err-Memory-clause-memory
-returns-in-Err-Memory-clause-memory g c e first old input h =
-    stands-prefix _ _ _ first old _ _ _ _ (input_records input) h.later refl (c.in_ok-catch_up.ensures.goes first old (input_records input) h.later h.stands)
+pub returns-in-Err-Memory : goal.returns-in-Err-Memory
+returns-in-Err-Memory g c =
+    prefix-ahead g.R.Read.remaining c.args.chunks.now c.args.desk.now c.args.ahead.now _ _
+    (prefix-after _ c.args.desk.now c.catch_up.new.desk _ _ _ c.in_ok-catch_up.ensures.0 refl)

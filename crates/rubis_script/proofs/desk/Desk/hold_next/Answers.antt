@@ -1,37 +1,28 @@
-use Rattle.std.proofs.Common.{◌≡◌, ◌∙◌, ◌++◌, ◌+◌, ◌∷◌, [], ap, arith, length, length-append, sym}
+use Rattle.std.proofs.Common.{◌≡◌, ◌∙◌, ◌++◌, ◌+◌, ◌∷◌, [], ap, arith, length, length-append, subst, sym}
+use Rattle.std.proofs.lemmas.List.Elements.{All-push}
+use Rattle.rubis_message.specs.Message.{sites_of}
+use Rattle.rubis_message.specs.declared.tokens.Packet.TheVariants.{Msg}
+use Rattle.rubis_model.specs.Runs.Input.{Came}
+use Rattle.rubis_script.specs.Desks.{left_at}
+use Rattle.rubis_script.specs.Headline.{StepsOn}
 use Rattle.rubis_script.specs.Windows.{held_by}
 use Rattle.rubis_script.proofs.LeadFacts.{settled_steps}
-use Rattle.rubis_script.proofs.WindowFacts.{held_more, holds_more, kept_answers}
+use Rattle.rubis_script.proofs.WindowFacts.{holds_more, kept_answers}
 use Rattle.rubis_script.proofs.desk.Desk.hold_next.Goals as goal
 
-pub returns-clause-held : goal.returns-clause-held
-returns-clause-held g c =
-    let made = c.make_room.ensures in
-    let items : c.push.new.self.items ≡ c.make_room.new.window.items ++ c.args.message ∷ [] = rw c.if-is_err.ensures.negation at c.push.ensures.items in
-    rw items (held_more c.make_room.new.self.site.place c.make_room.new.window.items c.args.message c.args.answered made.held
-    (c.requires.sites ∙ sym (ap (λ p. p.sites) made.place)))
-
-pub returns-clause-few : goal.returns-clause-few
-returns-clause-few g c =
-    let items : c.push.new.self.items ≡ c.make_room.new.window.items ++ c.args.message ∷ [] = rw c.if-is_err.ensures.negation at c.push.ensures.items in
-    let long = ap length items ∙ length-append c.make_room.new.window.items (c.args.message ∷ []) in
-    omega (arith, long, c.make_room.ensures.room)
-
-pub returns-clause-goes : goal.returns-clause-goes
-returns-clause-goes g c fields is =
-    let old = c.args.self.now.site in
-    let mid = c.make_room.new.self.site in
-    let left = c.make_room.new.window.items in
-    let n = c.args.answered + 1 in
-    let made = c.make_room.ensures in
+pub returns-clause-takes : goal.returns-clause-takes
+returns-clause-takes g c =
+    let d = c.args.self.now in
+    let mid = c.make_room.new.self in
+    let left = mid.window.items in
+    let kept = c.in_ok-make_room.ensures.kept in
+    let place = c.in_ok-make_room.ensures.same.0 in
     let items : c.push.new.self.items ≡ left ++ c.args.message ∷ [] = rw c.if-is_err.ensures.negation at c.push.ensures.items in
-    kept_answers (held_by old c.args.window.now.items n) (held_by mid left n) _ c.args.reply.now.sink c.make_room.new.reply.sink c.make_room.new.reply.sink
-    fields c.in_ok-make_room.ensures.kept
-    (rw items (holds_more mid n left c.args.message fields c.make_room.new.reply.sink (omega (arith, made.held.few)) (rw made.place is)))
-
-pub returns-clause-leads : goal.returns-clause-leads
-returns-clause-leads g c =
-    let items : c.push.new.self.items ≡ c.make_room.new.window.items ++ c.args.message ∷ [] = rw c.if-is_err.ensures.negation at c.push.ensures.items in
-    settled_steps c.args.self.now.site c.make_room.new.self.site
-    (c.args.answered + 1) c.args.window.now.items c.make_room.new.window.items c.push.new.self.items c.args.message
-    c.in_ok-make_room.ensures.leads items
+    record {
+      count = ap (λ k. k + 1) kept.count;
+      text = λ fields is. kept_answers (left_at d) (held_by mid.site left (mid.answered + 1)) (held_by mid.site c.push.new.self.items (mid.answered + 1 + 1))
+          d.reply.sink mid.reply.sink mid.reply.sink fields kept.text
+          (rw items (holds_more mid.site (mid.answered + 1) left c.args.message fields mid.reply.sink (omega (arith, mid.so_far)) (rw place is)));
+      leads = subst (λ k. StepsOn (k + 1) (Came (Msg c.args.message)) d.site d.window.items mid.site c.push.new.self.items) kept.count
+          (settled_steps d.site mid.site (mid.answered + 1) d.window.items left c.push.new.self.items c.args.message kept.leads items);
+    }

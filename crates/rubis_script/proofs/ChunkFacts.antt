@@ -1,0 +1,206 @@
+-- How a run goes on by a chunk of its text, and how it ends.
+use Rattle.std.proofs.Common.{◌≡◌, ◌∙◌, ◌≤◌, ◌<◌, ◌+◌, ◌-◌, ◌++◌, [], ℕ, All, List, Option, ap, append-nil, arith, length, length-append, refl, subst, sym, take}
+use Rattle.std.specs.Prelude.{MatchOption, None, Some}
+use Rattle.rubis_replica.specs.State.{SiteState}
+use Rattle.rubis_engine.specs.Progress.{IsWrittenOrWaits}
+use Rattle.rubis_engine.specs.Text.{input_records}
+use Rattle.rubis_engine.specs.declared.fault.Count.{Count}
+use Rattle.rubis_reading.specs.Chunked.{IsLast, KeepsPending, TakesOff, held_text}
+use Rattle.rubis_reading.specs.Parsed.{AreParsed}
+use Rattle.rubis_reading.specs.Runs.{FitWindow, flat}
+use Rattle.rubis_reading.specs.declared.chunks.Chunks.{Chunks}
+use Rattle.rubis_reading.specs.declared.parsed.Parsed.{Parsed}
+use Rattle.rubis_reading.specs.declared.parsed.Stretch.{Stretch}
+use Rattle.rubis_reading.proofs.AheadFacts.{all-fit}
+use Rattle.rubis_script.specs.Desks.{IsSettled, KeepsSetup}
+use Rattle.rubis_script.specs.Headline.{AnswersFirst}
+use Rattle.rubis_script.specs.Runs.{AnswersAllAhead, AnswersFirstAhead, AnswersFirstOf, AnswersJustAhead, HasReadAhead, HasTaken, IsChunk, IsSound, LeavesPrefix}
+use Rattle.rubis_script.specs.Runs.{OfEachAhead, OfEachPiece, ReadsOn, StandsAt, Takes, WritesPrefixAhead}
+use Rattle.rubis_script.specs.declared.desk.Desk.{Desk}
+use Rattle.rubis_script.proofs.AloneFacts.{pending-front}
+use Rattle.rubis_script.proofs.LoopFacts.{stands-cut, stands-done, stands-prefix, stands-read, stands-too_long, stands-waited}
+use Rattle.rubis_script.proofs.StepFacts.{sound-kept, sound-none, takes-whole}
+
+-- what was read is of this desk's system
+pub sound-read : {G : Type 0} (d d2 : Desk G) (ahead list : List Stretch) (rows : List (List (List ℕ))) → KeepsSetup d d2 → ahead ≡ list
+    → AreParsed d.site.place.sites rows (flat list) → FitWindow d.plan.window list → IsSound d2 ahead × AreParsed d2.site.place.sites rows (flat ahead)
+sound-read d d2 ahead list rows (place, plan) is parsed fits =
+    let read = subst (λ l. AreParsed d2.site.place.sites rows (flat l)) (sym is) (subst (λ p. AreParsed p.sites rows (flat list)) (sym place) parsed) in (
+      record {
+        fits = all-fit d2.site.place.sites rows (flat ahead) read;
+        windows = subst (λ l. FitWindow d2.plan.window l) (sym is) (subst (λ p. FitWindow p.window list) (sym plan) fits);
+      },
+      read,
+    )
+
+-- all that was read ahead was taken
+pub caught : {R G : Type 0} (rem : R → Option (List ℕ)) (chunks : Chunks R) (d d2 : Desk G) (ahead : List Stretch) (before after : Option (List ℕ))
+    → Takes (flat ahead) d d2 before after
+    → OfEachAhead rem chunks d ahead before (λ first old input. HasReadAhead rem chunks d2 [] first old after input)
+caught rem chunks d d2 ahead before after takes first old input h = record {
+  later = h.later;
+  stands = takes-whole (flat ahead) d d2 before after first old (input_records input) h.later takes h.stands;
+  pending = h.pending;
+}
+
+-- and a chunk was read meanwhile
+pub reads-chunk : {R G : Type 0} (rem : R → Option (List ℕ)) (chunks chunks2 : Chunks R) (d d2 : Desk G) (ahead ahead2 : List Stretch) (text : List ℕ)
+    (before after : Option (List ℕ)) → Takes (flat ahead) d d2 before after → TakesOff rem chunks chunks2 text
+    → AreParsed d2.site.place.sites (input_records text) (flat ahead2)
+    → OfEachAhead rem chunks d ahead before (λ first old input. HasReadAhead rem chunks2 d2 ahead2 first old after input)
+reads-chunk rem chunks chunks2 d d2 ahead ahead2 text before after takes off parsed first old input h =
+    let (more, split, pending) = off h.later h.pending in record {
+      later = more;
+      stands = stands-read d2.site [] (flat ahead2) d2.window.items first old after d2.reply.sink d2.answered (input_records input) h.later
+          (input_records text) more refl split parsed (takes-whole (flat ahead) d d2 before after first old (input_records input) h.later takes h.stands);
+      pending = pending;
+    }
+
+-- a prefix was written before all of it was taken
+pub prefix-ahead : {R G : Type 0} (rem : R → Option (List ℕ)) (chunks : Chunks R) (d : Desk G) (ahead : List Stretch) (before after : Option (List ℕ))
+    → LeavesPrefix (flat ahead) d before after → WritesPrefixAhead rem chunks d ahead before after
+prefix-ahead rem chunks d ahead before after front first old input h =
+    front [] first old (input_records input) h.later
+    (subst (λ l. StandsAt d l first old before (input_records input) h.later) (sym (append-nil (flat ahead))) h.stands)
+
+-- nothing more was written
+pub prefix-stays : {R G : Type 0} (rem : R → Option (List ℕ)) (chunks : Chunks R) (d : Desk G) (ahead : List Stretch) (before after : Option (List ℕ))
+    → after ≡ before → WritesPrefixAhead rem chunks d ahead before after
+prefix-stays rem chunks d ahead before after same first old input h =
+    stands-prefix d.site (flat ahead) d.window.items first old before after d.reply.sink d.answered (input_records input) h.later same h.stands
+
+-- text that waited was written out, or waits on
+pub waited : {R G : Type 0} (rem : R → Option (List ℕ)) (chunks : Chunks R) (d d2 : Desk G) (ahead : List Stretch) (before after : Option (List ℕ))
+    → d2.site ≡ d.site → d2.window.items ≡ d.window.items → d2.answered ≡ d.answered → IsWrittenOrWaits d.reply.sink d2.reply.sink before after
+    → OfEachAhead rem chunks d ahead before (λ first old input. HasReadAhead rem chunks d2 ahead first old after input)
+waited rem chunks d d2 ahead before after site held count out first old input h = record {
+  later = h.later;
+  stands = rw (site, held, count) (stands-waited d.site (flat ahead) d.window.items first old before after d.reply.sink d2.reply.sink d.answered
+      (input_records input) h.later out h.stands);
+  pending = h.pending;
+}
+
+-- ---- a chunk whose records are answered where they are read
+
+pub chunk-each : {R G : Type 0} (rem : R → Option (List ℕ)) (chunks : Chunks R) (many : ℕ) (text : List ℕ) (d : Desk G) (now : Option (List ℕ))
+    (holds : SiteState → Option (List ℕ) → List (List (List ℕ)) → Type 0) → IsChunk many (held_text chunks) → text ≡ take many (held_text chunks)
+    → OfEachPiece text d now (λ first old records rest. holds first old records)
+    → OfEachAhead rem chunks d [] now (λ first old input. holds first old (input_records input))
+chunk-each rem chunks many text d now holds chunk is each first old input h =
+    let (more, split) = pending-front rem chunks many h.later chunk h.pending in
+    each first old (input_records input) more
+    (subst (λ rows. StandsAt d [] first old now (input_records input) rows) (split ∙ ap (λ t. input_records t ++ more) (sym is)) h.stands)
+
+pub chunk-taken : {R G : Type 0} (rem : R → Option (List ℕ)) (chunks chunks2 : Chunks R) (text chunk : List ℕ) (d d2 : Desk G)
+    (before after : Option (List ℕ)) → text ≡ chunk → TakesOff rem chunks chunks2 chunk
+    → OfEachPiece text d before (λ first old records rest. StandsAt d2 [] first old after records rest)
+    → OfEachAhead rem chunks d [] before (λ first old input. HasReadAhead rem chunks2 d2 [] first old after input)
+chunk-taken rem chunks chunks2 text chunk d d2 before after is off each first old input h =
+    let (more, split, pending) = off h.later h.pending in record {
+      later = more;
+      stands = each first old (input_records input) more
+          (subst (λ rows. StandsAt d [] first old before (input_records input) rows) (split ∙ ap (λ t. input_records t ++ more) (sym is)) h.stands);
+      pending = pending;
+    }
+
+-- ---- the end
+
+-- what is held is the rest, and was read
+pub stands-last : {R G : Type 0} (rem : R → Option (List ℕ)) (chunks : Chunks R) (d : Desk G) (ahead : List Stretch) (first : SiteState)
+    (old now : Option (List ℕ)) (input : List ℕ) → IsLast rem chunks → AreParsed d.site.place.sites (input_records (held_text chunks)) (flat ahead)
+    → HasReadAhead rem chunks d [] first old now input → StandsAt d (flat ahead) first old now (input_records input) []
+stands-last rem chunks d ahead first old now input last parsed h =
+    stands-read d.site [] (flat ahead) d.window.items first old now d.reply.sink d.answered (input_records input) h.later
+    (input_records (held_text chunks)) [] refl (last h.later h.pending ∙ sym (append-nil (input_records (held_text chunks)))) parsed h.stands
+
+-- all was taken
+pub done-last : {R G : Type 0} (rem : R → Option (List ℕ)) (chunks : Chunks R) (limit : ℕ) (d d2 : Desk G) (ahead : List Stretch)
+    (before after : Option (List ℕ)) → IsLast rem chunks → AreParsed d.site.place.sites (input_records (held_text chunks)) (flat ahead)
+    → Takes (flat ahead) d d2 before after → IsSettled d2 → d2.answered ≤ limit
+    → AnswersAllAhead limit rem chunks d [] before d2 after (record { records = d2.answered })
+done-last rem chunks limit d d2 ahead before after last parsed takes settled within first old input h =
+    stands-done d2.site [] d2.window.items first old after d2.reply.sink d2.answered limit (input_records input) [] settled.1 settled.0 refl refl within
+    (takes-whole (flat ahead) d d2 before after first old (input_records input) [] takes
+    (stands-last rem chunks d ahead first old before input last parsed h))
+
+-- the first of them were taken, as many as were to be
+pub first-taken : {G : Type 0} (n : ℕ) (d mid d2 : Desk G) (ahead : List Stretch) (left : List Parsed) (before after : Option (List ℕ))
+    → HasTaken (flat ahead) d mid left before before → mid.answered ≡ d.answered + n → n < length (flat ahead) → Takes [] mid d2 before after
+    → IsSettled d2 → AnswersFirstOf n d ahead d2 before after
+first-taken n d mid d2 ahead left before after h count more settles settled first start records later stands =
+    let went = settles.goes left first start records later (h.takes.goes left first start records later
+    (subst (λ l. StandsAt d l first start before records later) h.parts stands)) in
+    let long = ap length h.parts in
+    stands-too_long d2.site left d2.window.items first start after d2.reply.sink d2.answered (d.answered + n) records later settled.1 settled.0
+    (omega (arith, long, length-append h.took left, h.takes.count, count, more)) (omega (arith, settles.count, count)) went
+
+-- the number of those is what is left of the limit
+pub first-upto : {G : Type 0} (limit left : ℕ) (d d2 : Desk G) (ahead : List Stretch) (before after : Option (List ℕ)) (first : SiteState)
+    (start : Option (List ℕ)) (records later : List (List (List ℕ))) → d.answered + left ≡ limit → AnswersFirstOf left d ahead d2 before after
+    → StandsAt d (flat ahead) first start before records later → AnswersFirst limit first d2.site start after records
+first-upto limit left d d2 ahead before after first start records later most answers stands =
+    subst (λ k. AnswersFirst k first d2.site start after records) most (answers first start records later stands)
+
+-- the reader failed where all that came was answered
+pub cut-just : {R G : Type 0} (rem : R → Option (List ℕ)) (chunks : Chunks R) (d d2 : Desk G) (ahead : List Stretch) (before after : Option (List ℕ))
+    → Takes (flat ahead) d d2 before after → IsSettled d2 → AnswersJustAhead d2.answered rem chunks d ahead before d2 after
+cut-just rem chunks d d2 ahead before after takes settled first old input h =
+    stands-cut d2.site [] d2.window.items first old after d2.reply.sink d2.answered (input_records input) h.later settled.1 settled.0
+    (takes-whole (flat ahead) d d2 before after first old (input_records input) h.later takes h.stands)
+
+pub prefix-last : {R G : Type 0} (rem : R → Option (List ℕ)) (chunks : Chunks R) (d : Desk G) (ahead : List Stretch) (before after : Option (List ℕ))
+    → IsLast rem chunks → AreParsed d.site.place.sites (input_records (held_text chunks)) (flat ahead) → LeavesPrefix (flat ahead) d before after
+    → WritesPrefixAhead rem chunks d [] before after
+prefix-last rem chunks d ahead before after last parsed front first old input h =
+    front [] first old (input_records input) []
+    (subst (λ l. StandsAt d l first old before (input_records input) []) (sym (append-nil (flat ahead)))
+    (stands-last rem chunks d ahead first old before input last parsed h))
+
+-- what was read of it
+pub read-last : {G : Type 0} (d : Desk G) (ahead list : List Stretch) (sites : ℕ) (text held : List ℕ) → sites ≡ d.site.place.sites → text ≡ held
+    → ahead ≡ list → AreParsed sites (input_records text) (flat list) → FitWindow d.plan.window list
+    → IsSound d ahead × AreParsed d.site.place.sites (input_records held) (flat ahead)
+read-last d ahead list sites text held same shown is parsed fits =
+    sound-read d d ahead list (input_records held) (refl, refl) is
+    (subst (λ t. AreParsed d.site.place.sites (input_records t) (flat list)) shown (subst (λ k. AreParsed k (input_records text) (flat list)) same parsed)) fits
+
+-- ---- a turn
+
+pub match-none : {A : Type 0} (o : Option A) (P : Type 0) (Q : A → Type 0) → MatchOption o P Q → o ≡ None → P
+match-none None P Q h e = h
+match-none (Some x) P Q h e = absurd cc
+
+-- the reader gave more
+pub still-pending : {R G : Type 0} (rem : R → Option (List ℕ)) (chunks chunks2 : Chunks R) (d d2 : Desk G) (ahead : List Stretch)
+    (before after : Option (List ℕ)) → Takes (flat ahead) d d2 before after → KeepsPending rem chunks chunks2
+    → OfEachAhead rem chunks d ahead before (λ first old input. HasReadAhead rem chunks2 d2 [] first old after input)
+still-pending rem chunks chunks2 d d2 ahead before after takes keeps first old input h =
+    let all = caught rem chunks d d2 ahead before after takes first old input h in
+    record { later = all.later; stands = all.stands; pending = keeps all.later all.pending }
+
+pub reads-caught : {R G : Type 0} (rem : R → Option (List ℕ)) (chunks chunks2 : Chunks R) (d d2 : Desk G) (ahead ahead2 : List Stretch)
+    (before after : Option (List ℕ)) → Takes (flat ahead) d d2 before after → ahead2 ≡ [] → KeepsPending rem chunks chunks2
+    → ReadsOn rem chunks d ahead before chunks2 d2 ahead2 after
+reads-caught rem chunks chunks2 d d2 ahead ahead2 before after takes none keeps =
+    subst (λ l. ReadsOn rem chunks d ahead before chunks2 d2 l after) (sym none)
+    (record { sound = sound-none d2; goes = still-pending rem chunks chunks2 d d2 ahead before after takes keeps })
+
+-- all was answered, and then a chunk
+pub reads-after : {R G : Type 0} (rem : R → Option (List ℕ)) (chunks chunks2 : Chunks R) (d mid d2 : Desk G) (ahead ahead2 : List Stretch)
+    (before between after : Option (List ℕ)) → Takes (flat ahead) d mid before between → ahead2 ≡ [] → ReadsOn rem chunks mid [] between chunks2 d2 [] after
+    → ReadsOn rem chunks d ahead before chunks2 d2 ahead2 after
+reads-after rem chunks chunks2 d mid d2 ahead ahead2 before between after takes none reads =
+    subst (λ l. ReadsOn rem chunks d ahead before chunks2 d2 l after) (sym none) (record {
+      sound = reads.sound;
+      goes = λ first old input h. reads.goes first old input (caught rem chunks d mid ahead before between takes first old input h);
+    })
+
+-- a chunk was read, and text was written out
+pub reads-waited : {R G : Type 0} (rem : R → Option (List ℕ)) (chunks chunks2 : Chunks R) (d mid d2 : Desk G) (ahead ahead2 : List Stretch)
+    (before between after : Option (List ℕ)) → ReadsOn rem chunks d ahead before chunks2 mid ahead2 between
+    → d2.site ≡ mid.site → d2.plan ≡ mid.plan → d2.window.items ≡ mid.window.items → d2.answered ≡ mid.answered
+    → IsWrittenOrWaits mid.reply.sink d2.reply.sink between after → ReadsOn rem chunks d ahead before chunks2 d2 ahead2 after
+reads-waited rem chunks chunks2 d mid d2 ahead ahead2 before between after reads site plan held count out = record {
+  sound = sound-kept mid d2 ahead2 (ap (λ s. s.place) site, plan) reads.sound;
+  goes = λ first old input h. waited rem chunks2 mid d2 ahead2 between after site held count out first old input (reads.goes first old input h);
+}
