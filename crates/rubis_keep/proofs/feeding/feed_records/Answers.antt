@@ -1,5 +1,10 @@
-use Rattle.std.proofs.Common.{refl}
+use Rattle.std.proofs.Common.{◌+◌, refl, subst}
 use Rattle.std.proofs.lemmas.Bool.{MatchBool-at_false, MatchBool-at_true}
+use Rattle.rubis_engine.specs.Accounts.{AnswersRecord}
+use Rattle.rubis_engine.specs.Reading.{fields_now}
+use Rattle.rubis_engine.specs.declared.service.Course.TheVariants.{GoesOn}
+use Rattle.rubis_script.specs.Desks.{left_at}
+use Rattle.rubis_script.specs.Windows.{held_by}
 use Rattle.rubis_keep.proofs.EachFacts.{each-end, each-ends, each-finish-ends, each-put, each-put-ends, each-step, ok_then, on_err, on_err_weaker}
 use Rattle.rubis_keep.proofs.feeding.feed_records.Goals.{then-is_full+in_ok-put_sink, else-is_full}
 use Rattle.rubis_keep.proofs.feeding.feed_records.Goals as goal
@@ -34,7 +39,11 @@ returns-in_err-put_sink-clause-err g c =
 pub loop-turn-preserved : goal.loop-turn-preserved
 loop-turn-preserved g c =
     let found = MatchBool-at_true _ _ c.if-not-branch.false c.in_ok-answer_next.ensures in
-    let step = each-step _ _ c.loop-turn.records c.answer_next.new.records _ _ _ _ _ _ _ _ _ _ _ _ c.loop-turn.invariant found.0 found.1 in
+    let old = c.loop-turn.clerk.desk in
+    let new = c.answer_next.new.clerk.desk in
+    let answers = subst (λ k. AnswersRecord GoesOn (left_at old) (held_by new.site new.window.items (k + 1)) old.reply.sink new.reply.sink
+    (fields_now c.answer_next.new.records)) found.2 found.1 in
+    let step = each-step _ _ c.loop-turn.records c.answer_next.new.records _ _ _ _ _ _ _ _ _ _ _ _ c.loop-turn.invariant found.0 answers in
     elim c.if-is_full.branch [
       | then-is_full+in_ok-put_sink w ↦
           rw (w.clerk-is, w.answers-is, w.put_sink.ensures.sink, found.2) (each-put _ _ _ _ _ _ _ _ _ _ _ _ _ _ _ step w.in_ok-put_sink.ensures.ok)

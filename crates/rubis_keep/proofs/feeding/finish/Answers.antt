@@ -7,11 +7,13 @@ use Rattle.rubis_keep.proofs.feeding.finish.Goals as goal
 
 pub returns-clause-ok : goal.returns-clause-ok
 returns-clause-ok g c =
-    on_ok_weaker c.put_sink.result (λ puts. (c.flush.new.self.reply.sink, told-flushed c.args.clerk.now.desk c.flush.new.self c.in_ok-flush.ensures.flushed c.in_ok-flush.ensures.empty, puts)) c.put_sink.ensures.ok
+    let told = told-flushed c.args.clerk.now.desk c.flush.new.self c.in_ok-flush.ensures.flushed c.in_ok-flush.ensures.empty in
+    on_ok_weaker c.put_sink.result (λ puts. (c.flush.new.self.reply.sink, told, puts)) c.put_sink.ensures.ok
 
 pub returns-clause-err : goal.returns-clause-err
 returns-clause-err g c =
-    on_err_weaker c.put_sink.result (λ front. inr (c.flush.new.self.reply.sink, told-flushed c.args.clerk.now.desk c.flush.new.self c.in_ok-flush.ensures.flushed c.in_ok-flush.ensures.empty, front)) c.put_sink.ensures.err
+    let told = told-flushed c.args.clerk.now.desk c.flush.new.self c.in_ok-flush.ensures.flushed c.in_ok-flush.ensures.empty in
+    on_err_weaker c.put_sink.result (λ front. inr (c.flush.new.self.reply.sink, told, front)) c.put_sink.ensures.err
 
 pub returns-clause-same : goal.returns-clause-same
 returns-clause-same g c = on_ok c.put_sink.result c.in_ok-flush.ensures.flushed.count
