@@ -15,6 +15,8 @@ What was kept is shortened, killed at random moments: `kept` is the old one or t
 logs and tables. A life and a shortening are killed at each of their system
 calls for files too, where there is a strace.
 
+Where `out` is torn at each of its bytes, a start with a greater --keep tells again what was told, or is refused if that was Full.
+
 The seed is in the first line of the output, so that a run can be repeated; LIVES is 60 for the gate."""
 
 import pathlib
@@ -408,6 +410,38 @@ def refuse_another_setup(shop: Shop) -> str:
     return "other setups and a second start"
 
 
+def raise_a_keep(shop: Shop) -> str:
+    """A greater --keep where `out` is torn at each of its bytes: what was told is told again, or the start is refused."""
+    full = shop.site("full keep", "--keep", "1")
+    full.run(b"user,ann\nuser,bob\n")
+    out, setup = full.read("out"), full.read("setup")
+    check(b"refused,2,Full" in out, "a full site: nothing was refused as Full")
+    raised = shop.site("full keep", "--keep", "2")
+    for size in range(len(out) + 1):
+        (full.folder / "out").write_bytes(out[:size])
+        refuses_to_keep_more(raised, out, setup, f"out of a full site torn at {size}")
+    room = shop.site("room", "--keep", "3")
+    room.run(b"user,ann\nuser,bob\n")
+    kept, out, setup = room.read("kept"), room.read("out"), room.read("setup")
+    for size in range(len(out) + 1):
+        for name, bytes_before in (("kept", kept), ("out", out[:size]), ("setup", setup)):
+            (room.folder / name).write_bytes(bytes_before)
+        more = shop.site("room", "--keep", "4")
+        done = more.run(b"user,eve\n")
+        check(done.returncode == 0 and more.read("out").startswith(out), f"a greater --keep with out torn at {size}: {done.stderr!r}")
+        check(b"0,1,4," in more.read("setup"), f"a greater --keep with out torn at {size} isn't written down")
+        more.ends_well(f"a greater --keep with out torn at {size}")
+    return f"a greater --keep with out torn at {2 * len(out)} places"
+
+
+def refuses_to_keep_more(site: Site, out: bytes, setup: bytes, what: str) -> None:
+    """A start with a greater --keep of a site that has refused a message as Full: `out` has what was told, and nothing else."""
+    done = site.run(b"user,never\n")
+    check(done.returncode == 1 and done.stderr.startswith(b"run fault: out differs at line "), f"{what}: {done.returncode}, {done.stderr!r}")
+    check(done.stdout == b"", f"{what}: something was answered: {done.stdout!r}")
+    check((site.read("out"), site.read("setup")) == (out, setup), f"{what}: something else was told")
+
+
 def main() -> None:
     if len(sys.argv) < 2:
         sys.exit(__doc__)
@@ -427,6 +461,7 @@ def main() -> None:
                 lambda: shorten_a_site(shop, dice, max(10, lives // 3)),
                 lambda: kill_at_each_call(shop),
                 lambda: refuse_another_setup(shop),
+                lambda: raise_a_keep(shop),
             ):
                 print(f"  {done()}", flush=True)
         except Failure as failure:

@@ -245,6 +245,28 @@ fn make_folder<R: Files<File = File> + AllocGlobal>(
     }
 }
 
+// Runs a site that keeps more messages from now on. What was kept is answered first as it was told, by the configuration that the
+// folder has: so the run compares the answers that it gives with all of those, and not with what a torn file has left of them.
+fn raise<
+    R: Files<File = File> + Print + Input + AllocGlobal + RandomSource + Threads + Wait + Sync,
+>(
+    rt: &R,
+    folder: &str,
+    config: &Config,
+    asked: Setup,
+    wanted: &Wanted,
+) -> Result<(), FolderFault> {
+    complete_out(rt, folder, config)?;
+    let Some(config) = wanted.config(rt, asked) else {
+        return Err(FolderFault::NotBelow);
+    };
+    let settles = Setup {
+        answers: ANSWERS,
+        ..asked
+    };
+    run(rt, folder, &config, wanted.is_synced, Some(settles))
+}
+
 /// Runs the site in a folder over standard input and output, until the input ends: it is made, if there is none, and otherwise goes
 /// on where the last run was cut off.
 ///
@@ -281,16 +303,8 @@ pub fn keep_folder<
     if wanted.shortens {
         return rewrite(rt, folder, &config);
     }
-    let Some(config) = wanted.config(rt, asked) else {
-        return Err(FolderFault::NotBelow);
-    };
-    let settles = if asked.keep > setup.keep {
-        Some(Setup {
-            answers: ANSWERS,
-            ..asked
-        })
-    } else {
-        None
-    };
-    run(rt, folder, &config, wanted.is_synced, settles)
+    if asked.keep > setup.keep {
+        return raise(rt, folder, &config, asked, wanted);
+    }
+    run(rt, folder, &config, wanted.is_synced, None)
 }
