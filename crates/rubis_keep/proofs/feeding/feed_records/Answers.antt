@@ -1,6 +1,7 @@
-use Rattle.std.proofs.Common.{refl}
+use Rattle.std.proofs.Common.{[], refl}
 use Rattle.std.proofs.lemmas.Bool.{MatchBool-at_false, MatchBool-at_true}
 use Rattle.rubis_keep.proofs.EachFacts.{each-end, each-ends, each-finish-ends, each-put, each-put-ends, each-step, ok_then, on_err, on_err_weaker}
+use Rattle.rubis_keep.proofs.HistoryFacts.{tells-later, told-failed, told-late, told-more}
 use Rattle.rubis_keep.proofs.feeding.feed_records.Goals.{then-is_full+in_ok-put_sink, else-is_full}
 use Rattle.rubis_keep.proofs.feeding.feed_records.Goals as goal
 
@@ -31,6 +32,23 @@ returns-in_err-put_sink-clause-err g c =
     (each-step _ _ c.loop-turn.records c.answer_next.new.records _ _ _ _ _ _ _ _ _ _ _ _ c.loop-turn.invariant.feeds found.0 found.1)
     c.in_err-put_sink.ensures.err)
 
+pub returns-in_err-answer_next-clause-told : goal.returns-in_err-answer_next-clause-told
+returns-in_err-answer_next-clause-told g c = told-late _ _ _ _ c.from_residual.result c.from_residual.ensures.0 c.loop-turn.invariant.told
+
+pub returns-in_err-put_sink-clause-told : goal.returns-in_err-put_sink-clause-told
+returns-in_err-put_sink-clause-told g c =
+    let before = c.loop-turn.invariant.told in
+    told-more _ _ _ _ _ _ c.from_residual-in_err-put_sink.result before.0 before.1.0 before.1.1
+    (told-failed _ _ _ _ c.from_residual-in_err-put_sink.result c.from_residual-in_err-put_sink.ensures.0 c.in_err-put_sink.ensures.told)
+
+pub returns-then-clerk-clause-told : goal.returns-then-clerk-clause-told
+returns-then-clerk-clause-told g c =
+    let before = c.loop-turn.invariant.told in
+    told-more _ _ _ _ _ _ c.stop.result before.0 before.1.0 before.1.1 c.stop.ensures.told
+
+pub returns-clause-told : goal.returns-clause-told
+returns-clause-told g c = let before = c.loop-turn.invariant.told in (before.0, (before.1.0, [], before.1.1))
+
 pub loop-turn-preserved : goal.loop-turn-preserved
 loop-turn-preserved g c =
     let found = MatchBool-at_true _ _ c.if-not-branch.false c.in_ok-answer_next.ensures.next in
@@ -44,5 +62,11 @@ loop-turn-preserved g c =
         | then-is_full+in_ok-put_sink w ↦
             rw (w.clerk-is, w.answers-is, w.put_sink.ensures.sink, found.2) (each-put _ _ _ _ _ _ _ _ _ _ _ _ _ _ _ step w.in_ok-put_sink.ensures.ok)
         | else-is_full w ↦ rw (w.clerk-is, w.answers-is, found.2) step
+      ];
+      told = elim c.if-is_full.branch [
+        | then-is_full+in_ok-put_sink w ↦
+            let before = c.loop-turn.invariant.told in
+            rw w.answers-is (tells-later _ _ _ _ _ _ before.0 before.1.0 before.1.1 w.in_ok-put_sink.ensures.told)
+        | else-is_full w ↦ rw w.answers-is c.loop-turn.invariant.told
       ];
     }
