@@ -15,10 +15,16 @@ What was kept is shortened, killed at random moments: `kept` is the old one or t
 logs and tables. A life and a shortening are killed at each of their system
 calls for files too, where there is a strace.
 
+Where `out` is torn at each of its bytes, a start with a greater --keep tells again what was told, or is refused if that was Full.
+
+With --sync, 200 lives are killed at a flush of `kept` or end, where there is a strace, and every other one is followed by a power failure:
+`kept` is cut to what was flushed, and `out`, which isn't flushed, anywhere. All that `out` had is answered again.
+
 The seed is in the first line of the output, so that a run can be repeated; LIVES is 60 for the gate."""
 
 import pathlib
 import random
+import re
 import resource
 import shutil
 import signal
@@ -32,6 +38,9 @@ WAIT = 60
 
 # How many lives a shop has.
 SHOP_LIVES = 60
+
+# How many lives with --sync a site has.
+SYNCED_LIVES = 200
 
 
 # The system calls by which a site works on its files.
@@ -378,6 +387,71 @@ def kill_at_each_call(shop: Shop) -> str:
     return f"a life killed at each of its {lives} calls for files, and a shortening at each of its {shortenings}"
 
 
+def lose_power(shop: Shop, dice: random.Random, lives: int) -> str:
+    """Lives with --sync, many of them killed at a flush of `kept`, and a power failure after every other one: `kept` is cut to what was
+    flushed or a little more, and `out`, which is never flushed, anywhere. All that `out` had has to be answered again."""
+    if not shutil.which("strace"):
+        return "no strace on this machine: no life with --sync was killed at a flush"
+    site = shop.site("synced")
+    made = [0]
+    killed = 0
+    flushed = 0
+    for number in range(lives):
+        when = f"power failure {number}"
+        before = len(site.read("kept"))
+        trace = shop.folder / "trace"
+        killed += synced_life(site, dice, made, trace)
+        kept, out = site.read("kept"), site.read("out")
+        flushed = flushed_by(trace.read_text(), before, flushed)
+        if dice.random() < 0.5:
+            continue
+        check(site.answers(whole_lines(kept[:flushed])).startswith(out), f"{when}: out is ahead of what was flushed of kept")
+        flushed = dice.choice((flushed, dice.randrange(flushed, len(kept) + 1)))
+        (site.folder / "kept").write_bytes(kept[:flushed])
+        (site.folder / "out").write_bytes(out[: dice.randrange(len(out) + 1)])
+        check(site.answers(site.kept()).startswith(out), f"{when}: something that was told isn't told again")
+    done = site.run()
+    check(done.returncode == 0, f"after the last power failure: {done.stderr!r}")
+    site.ends_well("after the last power failure")
+    return f"{lives} lives with --sync, {killed} killed at a flush, a power failure after every other one: {len(site.kept().splitlines())} lines kept"
+
+
+def synced_life(site: Site, dice: random.Random, made: list[int], trace: pathlib.Path) -> bool:
+    """A life with --sync that is given its records one by one, and is killed at its n-th flush: whether it was. Two flushes belong to its
+    start."""
+    inject = f"inject=fdatasync:signal=SIGKILL:when={dice.randrange(1, 10)}"
+    calls = "trace=write,fdatasync,ftruncate"
+    command = ["strace", "-f", "-qq", "-y", "-o", str(trace), "-e", calls, "-e", inject, *site.command("--workers", "1", "--sync")]
+    process = subprocess.Popen(command, stdin=subprocess.PIPE, stdout=subprocess.PIPE, stderr=subprocess.PIPE)
+    try:
+        for _ in range(dice.randrange(1, 10)):
+            process.stdin.write(requests(dice, made))
+            process.stdin.flush()
+            time.sleep(0.001)
+    except BrokenPipeError:
+        pass
+    _, said = process.communicate(timeout=WAIT)
+    check(process.returncode in (0, -signal.SIGKILL), f"a life with --sync: status {process.returncode}, {said!r}")
+    return process.returncode != 0
+
+
+def flushed_by(trace: str, length: int, flushed: int) -> int:
+    """How many bytes of `kept` are flushed at the end of a life, of how many at its start. A call at which the life was killed has no
+    result, and counts for nothing."""
+    for line in trace.splitlines():
+        call = re.search(r"\b(write|fdatasync|ftruncate)\(\d+<[^>]*/kept>(.*)\) += (\d+)$", line)
+        if not call:
+            continue
+        if call[1] == "write":
+            length += int(call[3])
+        elif call[1] == "ftruncate":
+            length = int(call[2].lstrip(", "))
+            flushed = min(flushed, length)
+        else:
+            flushed = length
+    return flushed
+
+
 def goes_on(site: Site, when: str) -> None:
     """A start after a kill, which has to complete the answers."""
     if (site.folder / "setup").exists():
@@ -408,6 +482,38 @@ def refuse_another_setup(shop: Shop) -> str:
     return "other setups and a second start"
 
 
+def raise_a_keep(shop: Shop) -> str:
+    """A greater --keep where `out` is torn at each of its bytes: what was told is told again, or the start is refused."""
+    full = shop.site("full keep", "--keep", "1")
+    full.run(b"user,ann\nuser,bob\n")
+    out, setup = full.read("out"), full.read("setup")
+    check(b"refused,2,Full" in out, "a full site: nothing was refused as Full")
+    raised = shop.site("full keep", "--keep", "2")
+    for size in range(len(out) + 1):
+        (full.folder / "out").write_bytes(out[:size])
+        refuses_to_keep_more(raised, out, setup, f"out of a full site torn at {size}")
+    room = shop.site("room", "--keep", "3")
+    room.run(b"user,ann\nuser,bob\n")
+    kept, out, setup = room.read("kept"), room.read("out"), room.read("setup")
+    for size in range(len(out) + 1):
+        for name, bytes_before in (("kept", kept), ("out", out[:size]), ("setup", setup)):
+            (room.folder / name).write_bytes(bytes_before)
+        more = shop.site("room", "--keep", "4")
+        done = more.run(b"user,eve\n")
+        check(done.returncode == 0 and more.read("out").startswith(out), f"a greater --keep with out torn at {size}: {done.stderr!r}")
+        check(b"0,1,4," in more.read("setup"), f"a greater --keep with out torn at {size} isn't written down")
+        more.ends_well(f"a greater --keep with out torn at {size}")
+    return f"a greater --keep with out torn at {2 * len(out)} places"
+
+
+def refuses_to_keep_more(site: Site, out: bytes, setup: bytes, what: str) -> None:
+    """A start with a greater --keep of a site that has refused a message as Full: `out` has what was told, and nothing else."""
+    done = site.run(b"user,never\n")
+    check(done.returncode == 1 and done.stderr.startswith(b"run fault: out differs at line "), f"{what}: {done.returncode}, {done.stderr!r}")
+    check(done.stdout == b"", f"{what}: something was answered: {done.stdout!r}")
+    check((site.read("out"), site.read("setup")) == (out, setup), f"{what}: something else was told")
+
+
 def main() -> None:
     if len(sys.argv) < 2:
         sys.exit(__doc__)
@@ -427,6 +533,8 @@ def main() -> None:
                 lambda: shorten_a_site(shop, dice, max(10, lives // 3)),
                 lambda: kill_at_each_call(shop),
                 lambda: refuse_another_setup(shop),
+                lambda: raise_a_keep(shop),
+                lambda: lose_power(shop, dice, SYNCED_LIVES),
             ):
                 print(f"  {done()}", flush=True)
         except Failure as failure:

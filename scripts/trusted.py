@@ -4,15 +4,16 @@
     scripts/trusted.py PROGRAM            compares it
     scripts/trusted.py --write PROGRAM    writes it
 
-PROGRAM is the built rubis. The list has three parts:
+PROGRAM is the built rubis. The list has four parts:
 
 - the libraries of the toolchain that the program's crates stand on, by crates.txt, with those that these stand on;
 - the C functions whose contracts the proof assumes: those that `rt check --list-axioms` marks `reached`, and those that its
   last line names for threads;
-- the C functions that the program calls, by its symbols.
+- the C functions that the program calls, by its symbols;
+- the seams: the types of files that a trait says of what happens to them, which no contract can.
 
 The second part is only read with --write, in crates/rubis_app, where the crates below are proved: on a new machine that
-check would take as long as the gate. Compared are the first part, and that the program calls no C function beyond the list.
+check would take as long as the gate. Compared are the first part and the last, and that the program calls no C function beyond the list.
 The last line says how many names were looked at; the status is 1 where something differed.
 """
 
@@ -69,6 +70,15 @@ def called(tools: pathlib.Path, program: str) -> list[str]:
     return sorted({name.partition("@")[0] for name in ran.stdout.split()})
 
 
+def seams() -> list[str]:
+    """The types of files whose history nothing can prove: what implements `SiteFiles` in the program's crates."""
+    found = []
+    for path in sorted((TOP / "crates").glob("*/src/*.rt")):
+        for name in re.findall(r"^impl\b.* SiteFiles for (\w+)", path.read_text(), re.M):
+            found.append(f"{path.parent.parent.name}::{path.stem}::{name}")
+    return found
+
+
 def listed() -> dict[str, list[str]]:
     """The parts of the page's list, by their words."""
     found = BLOCK.search(PAGE.read_text())
@@ -93,13 +103,14 @@ def main() -> int:
     tools = kit()
     stands_on, calls = libraries(tools), called(tools, words[0])
     if "--write" in sys.argv[1:]:
-        text = laid_out("libraries", stands_on) + laid_out("assumed", assumed()) + laid_out("called", calls)
+        text = laid_out("libraries", stands_on) + laid_out("assumed", assumed()) + laid_out("called", calls) + laid_out("seams", seams())
         PAGE.write_text(BLOCK.sub(lambda _: text, PAGE.read_text()))
     now = listed()
     faults = [f"docs/PROMISES.md: `{name}` is a library that is {'not listed' if name in stands_on else 'not used'}" for name in sorted(set(stands_on) ^ set(now["libraries"]))]
     more = set(calls) - set(now["assumed"]) - set(now["called"])
     faults += [f"docs/PROMISES.md: the program calls `{name}`, which isn't listed" for name in sorted(more)]
-    return report("trusted", len(stands_on) + len(calls), faults)
+    faults += [f"docs/PROMISES.md: `{name}` is a seam that is {'not listed' if name in seams() else 'not there'}" for name in sorted(set(seams()) ^ set(now["seams"]))]
+    return report("trusted", len(stands_on) + len(calls) + len(seams()), faults)
 
 
 if __name__ == "__main__":

@@ -99,6 +99,7 @@ if-differs (fault.ReadOut r) P p = tt
 if-differs (fault.ReadInput r) P p = tt
 if-differs (fault.WriteKept r) P p = tt
 if-differs (fault.WriteOut r) P p = tt
+if-differs (fault.Show r) P p = tt
 if-differs (fault.Edited n) P p = tt
 if-differs (fault.Differs d) P p = p
 if-differs fault.Memory P p = tt

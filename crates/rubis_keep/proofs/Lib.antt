@@ -13,3 +13,10 @@ pub mod CountFacts
 pub mod TellingFacts
 pub mod ShopFacts
 pub mod ShortenFacts
+pub mod HistoryFacts
+pub mod SafeFacts
+pub mod StartFacts
+pub mod GrowFacts
+pub mod MomentFacts
+pub mod SiteFacts
+pub mod HistoriesFacts

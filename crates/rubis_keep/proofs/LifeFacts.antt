@@ -311,7 +311,7 @@ replay-unfound account account2 past past2 before before2 out out2 out3 begun be
 -- ---- a whole run
 
 -- the log that was read through is one of lines that are kept as they are
-begins : (kept old : List ℕ) (first past log before out : Option (List ℕ)) → Opens kept old first past log before out →
+pub begins : (kept old : List ℕ) (first past log before out : Option (List ℕ)) → Opens kept old first past log before out →
     IfSome first (λ text. AreSound [] text) → Begins kept old past (Some kept) before out
 begins kept old first past log before out o sound =
     record { past_is = o.past_is; log_is = refl; before_is = o.before_is; out_is = o.out_is; sound = rw o.first_is at sound }
@@ -321,43 +321,58 @@ pub run-unread : (all : Account) (first past log before input out : Option (List
     Ended all kept old input input log out
 run-unread all first past log before input out kept old o = rw (o.log_is, o.out_is) (unread all kept old input)
 
-pub run-unreplayed : (all : Account) (first past log before input out out2 : Option (List ℕ)) → IfSome first (λ text. AreSound [] text)
-    → ((kept old : List ℕ) (input : Option (List ℕ)) → Begins kept old past (Some kept) before out → Ended all kept old input input (Some kept) out2)
-    → (kept old : List ℕ) → Opens kept old first past log before out → Ended all kept old input input log out2
-run-unreplayed all first past log before input out out2 sound h kept old o = rw o.log_is (h kept old input (begins kept old first past log before out o sound))
-
-pub run-lived : (all more : Account) (first past log log2 before before2 input input2 out out2 out3 : Option (List ℕ)) (number len : ℕ) →
-    IfSome first (λ text. AreSound [] text)
-    → ((kept old : List ℕ) → Begins kept old past (Some kept) before out → Replayed all more kept old before2 out2 number len)
-    → ((all : Account) (kept old : List ℕ) → AreSound [] kept → log ≡ Some kept → Replayed all more kept old before2 out2 number len →
-    Lived all kept old input input2 log2 out3)
-    → (kept old : List ℕ) → Opens kept old first past log before out → Lived all kept old input input2 log2 out3
-run-lived all more first past log log2 before before2 input input2 out out2 out3 number len sound r h kept old o =
-    let b = begins kept old first past log before out o sound in
-    h all kept old b.sound o.log_is (r kept old b)
-
-pub run-ended : (all more : Account) (first past log log2 before before2 input input2 out out2 out3 : Option (List ℕ)) (number len : ℕ) →
-    IfSome first (λ text. AreSound [] text)
-    → ((kept old : List ℕ) → Begins kept old past (Some kept) before out → Replayed all more kept old before2 out2 number len)
-    → ((all : Account) (kept old : List ℕ) → AreSound [] kept → log ≡ Some kept → Replayed all more kept old before2 out2 number len →
-    Ended all kept old input input2 log2 out3)
-    → (kept old : List ℕ) → Opens kept old first past log before out → Ended all kept old input input2 log2 out3
-run-ended all more first past log log2 before before2 input input2 out out2 out3 number len sound r h kept old o =
-    let b = begins kept old first past log before out o sound in
-    h all kept old b.sound o.log_is (r kept old b)
-
--- ---- after the replay
-
 kept-known : (kept : List ℕ) (log log2 : Option (List ℕ)) → log ≡ Some kept → Keeps log log2 → log2 ≡ Some kept
 kept-known kept None log2 e k = absurd (cc e)
 kept-known kept (Some xs) None e k = absurd k
 kept-known kept (Some xs) (Some ys) e k = ap (λ t. Some t) k ∙ e
 
-pub go-uncut : (more : Account) (input log log2 before out : Option (List ℕ)) (number len : ℕ) → Keeps log log2
-    → (all : Account) (kept old : List ℕ) → AreSound [] kept → log ≡ Some kept → Replayed all more kept old before out number len →
-    Ended all kept old input input log2 out
-go-uncut more input log log2 before out number len keeps all kept old sound e r =
-    rw (kept-known kept log log2 e keeps) (uncut all more kept old input before out number len sound r)
+-- files that have not changed meanwhile
+opens-kept : (kept old : List ℕ) (first past log log2 before out out2 : Option (List ℕ)) → Keeps log log2 → Keeps out out2 → Opens kept old first past log before out
+    → Opens kept old first past log2 before out2
+opens-kept kept old first past log log2 before out out2 same same2 o = record {
+  first_is = o.first_is;
+  past_is = o.past_is;
+  log_is = kept-known kept log log2 o.log_is same;
+  before_is = o.before_is;
+  out_is = kept-known old out out2 o.out_is same2;
+}
+
+pub run-unflushed : (all : Account) (first past log log2 before input out out2 : Option (List ℕ)) → Keeps log log2 → Keeps out out2
+    → (kept old : List ℕ) → Opens kept old first past log before out → Ended all kept old input input log2 out2
+run-unflushed all first past log log2 before input out out2 same same2 kept old o =
+    run-unread all first past log2 before input out2 kept old (opens-kept kept old first past log log2 before out out2 same same2 o)
+
+pub run-unreplayed : (all : Account) (first past log log1 log2 before input out out1 out2 : Option (List ℕ)) → IfSome first (λ text. AreSound [] text)
+    → Keeps log log1 → Keeps out out1 → Keeps log1 log2
+    → ((kept old : List ℕ) (input : Option (List ℕ)) → Begins kept old past (Some kept) before out1 → Ended all kept old input input (Some kept) out2)
+    → (kept old : List ℕ) → Opens kept old first past log before out → Ended all kept old input input log2 out2
+run-unreplayed all first past log log1 log2 before input out out1 out2 sound same same1 same2 h kept old o =
+    let o1 = opens-kept kept old first past log log1 before out out1 same same1 o in
+    rw (kept-known kept log1 log2 o1.log_is same2) (h kept old input (begins kept old first past log1 before out1 o1 sound))
+
+pub run-lived : (all more : Account) (first past log log1 log2 log3 before before2 input input2 out out1 out2 out3 : Option (List ℕ)) (number len : ℕ) →
+    IfSome first (λ text. AreSound [] text) → Keeps log log1 → Keeps out out1 → Keeps log1 log2
+    → ((kept old : List ℕ) → Begins kept old past (Some kept) before out1 → Replayed all more kept old before2 out2 number len)
+    → ((all : Account) (kept old : List ℕ) → AreSound [] kept → log2 ≡ Some kept → Replayed all more kept old before2 out2 number len →
+    Lived all kept old input input2 log3 out3)
+    → (kept old : List ℕ) → Opens kept old first past log before out → Lived all kept old input input2 log3 out3
+run-lived all more first past log log1 log2 log3 before before2 input input2 out out1 out2 out3 number len sound same same1 same2 r h kept old o =
+    let o1 = opens-kept kept old first past log log1 before out out1 same same1 o in
+    let b = begins kept old first past log1 before out1 o1 sound in
+    h all kept old b.sound (kept-known kept log1 log2 o1.log_is same2) (r kept old b)
+
+pub run-ended : (all more : Account) (first past log log1 log2 log3 before before2 input input2 out out1 out2 out3 : Option (List ℕ)) (number len : ℕ) →
+    IfSome first (λ text. AreSound [] text) → Keeps log log1 → Keeps out out1 → Keeps log1 log2
+    → ((kept old : List ℕ) → Begins kept old past (Some kept) before out1 → Replayed all more kept old before2 out2 number len)
+    → ((all : Account) (kept old : List ℕ) → AreSound [] kept → log2 ≡ Some kept → Replayed all more kept old before2 out2 number len →
+    Ended all kept old input input2 log3 out3)
+    → (kept old : List ℕ) → Opens kept old first past log before out → Ended all kept old input input2 log3 out3
+run-ended all more first past log log1 log2 log3 before before2 input input2 out out1 out2 out3 number len sound same same1 same2 r h kept old o =
+    let o1 = opens-kept kept old first past log log1 before out out1 same same1 o in
+    let b = begins kept old first past log1 before out1 o1 sound in
+    h all kept old b.sound (kept-known kept log1 log2 o1.log_is same2) (r kept old b)
+
+-- ---- after the replay
 
 live-starts : (all more : Account) (kept old : List ℕ) (input log before out : Option (List ℕ)) (begun : List ℕ) (number len : ℕ) →
     (r : Replayed all more kept old before out number len) → begun ≡ []
@@ -367,13 +382,27 @@ live-starts all more kept old input log before out begun number len r e =
     (subst (λ o. Stands all more r.told [] (whole_lines kept) [] input input log log (Some []) (Some r.told) o begun number len len) (sym r.out_is)
     (stands-start all more r.told [] (whole_lines kept) input log (Some r.told) begun number len r.answered e))
 
--- the same where `out` was told of the replay meanwhile
-told-of : (all more : Account) (kept old : List ℕ) (before out out1 : Option (List ℕ)) (number len : ℕ) → out1 ≡ out →
+-- the same where `out` has not changed meanwhile
+told-of : (all more : Account) (kept old : List ℕ) (before out out1 : Option (List ℕ)) (number len : ℕ) → Keeps out out1 →
     Replayed all more kept old before out number len → Replayed all more kept old before out1 number len
-told-of all more kept old before out out1 number len same r = subst (λ o. Replayed all more kept old before o number len) (sym same) r
+told-of all more kept old before out out1 number len same r = record {
+  found = r.found;
+  told = r.told;
+  answered = r.answered;
+  before_is = r.before_is;
+  out_is = kept-known r.told out out1 r.out_is same;
+  length_is = r.length_is;
+}
+
+pub go-uncut : (more : Account) (input log log2 before out out2 : Option (List ℕ)) (number len : ℕ) → Keeps log log2 → Keeps out out2
+    → (all : Account) (kept old : List ℕ) → AreSound [] kept → log ≡ Some kept → Replayed all more kept old before out number len →
+    Ended all kept old input input log2 out2
+go-uncut more input log log2 before out out2 number len keeps same all kept old sound e r =
+    rw (kept-known kept log log2 e keeps)
+    (uncut all more kept old input before out2 number len sound (told-of all more kept old before out out2 number len same r))
 
 pub go-err : (more : Account) (input input2 log log2 log3 before out out1 out2 : Option (List ℕ)) (begun : List ℕ) (number len : ℕ) → CutsTo log log2 len →
-    begun ≡ [] → out1 ≡ out
+    begun ≡ [] → Keeps out out1
     → HaveFailed more input log2 before out1 begun number len input2 log3 out2
     → (all : Account) (kept old : List ℕ) → AreSound [] kept → log ≡ Some kept → Replayed all more kept old before out number len →
     Ended all kept old input input2 log3 out2
@@ -383,14 +412,14 @@ go-err more input input2 log log2 log3 before out out1 out2 begun number len cut
     (f all r.told [] (whole_lines kept) [] input log2 (Some r.told) len (live-starts all more kept old input log2 before out1 begun number len r e)) r.found
 
 -- it ended before the first new record
-pub go-untold : (more : Account) (input log log2 before out out1 : Option (List ℕ)) (number len : ℕ) → CutsTo log log2 len → out1 ≡ out
+pub go-untold : (more : Account) (input log log2 before out out1 : Option (List ℕ)) (number len : ℕ) → CutsTo log log2 len → Keeps out out1
     → (all : Account) (kept old : List ℕ) → AreSound [] kept → log ≡ Some kept → Replayed all more kept old before out number len →
     Ended all kept old input input log2 out1
 go-untold more input log log2 before out out1 number len cuts same =
     go-err more input input log log2 log2 before out out1 out1 [] number len cuts refl same (each-stops more input log2 before out1 [] number len)
 
 pub go-ok : (more more2 : Account) (input input2 log log2 log3 before before2 out out1 out2 : Option (List ℕ)) (begun begun2 : List ℕ)
-    (number number2 len len2 : ℕ) → CutsTo log log2 len → begun ≡ [] → out1 ≡ out
+    (number number2 len len2 : ℕ) → CutsTo log log2 len → begun ≡ [] → Keeps out out1
     → HaveGone more input log2 before out1 begun number len more2 input2 log3 before2 out2 begun2 number2 len2 → IsAtEnd input2
     → (all : Account) (kept old : List ℕ) → AreSound [] kept → log ≡ Some kept → Replayed all more kept old before out number len →
     Lived all kept old input input2 log3 out2

@@ -1,6 +1,7 @@
 -- Texts that were put one after the other.
 use Rattle.std.proofs.Common.{◌≡◌, ◌∙◌, ◌≤◌, ◌+◌, ◌-◌, ◌⊎◌, inl, inr, ◌++◌, ◌∷◌, [], ℕ, List, Option, Some, None, drop, length, take, refl, sym, ap, subst}
-use Rattle.std.proofs.Common.{arith, append_assoc}
+use Rattle.std.proofs.Common.{Bool, Err, Ok, Result, arith, append_assoc}
+use Rattle.std.specs.Prelude.{MatchResult, OnErr, OnOk}
 use Rattle.std.proofs.lemmas.Bool.{cases_lt}
 use Rattle.std.proofs.lemmas.List.{append-nil, drop-take, drop_all, length-take, take-append-drop, take-take, take_all, take_rest}
 use Rattle.std.specs.Io.KnownBytes.{Appends, Consumes}
@@ -9,8 +10,10 @@ use Rattle.rubis_engine.specs.Accounts.{Account}
 use Rattle.rubis_engine.specs.Accounts.Ending.{AtEnd}
 use Rattle.rubis_engine.specs.Text.{input_records}
 use Rattle.rubis_keep.specs.Files.{AppendsFront, Found}
+use Rattle.rubis_keep.specs.History.{History, Tells, TellsFront, out_in}
 use Rattle.rubis_keep.specs.Kept.{OutEnds, Puts, PutsFront, Wrote}
 use Rattle.rubis_keep.proofs.FileFacts.{appends-kept, more-bound}
+use Rattle.rubis_keep.proofs.HistoryFacts.{front-front, tells-out}
 
 pub puts-front : (before before2 out out2 : Option (List ℕ)) (n : ℕ) (text : List ℕ) → Found before before2 text n
     → AppendsFront out out2 (take (length text - n) (drop n text)) → PutsFront before before2 out out2 text
@@ -117,3 +120,18 @@ put-ends all told old before before2 out0 out out2 since text kept w (inr p) beg
           ∙ ap (λ t. told ++ t) (append_assoc since (take p.0 text) (drop p.0 text) ∙ ap (λ t. since ++ t) (take-append-drop p.0 text)))
           ∙ b.1,
     ))
+
+-- a text was found as far as there was more of before, and the rest was told
+pub puts-told : {T E : Type 0} (live : Bool) (before before2 : Option (List ℕ)) (a b : Option History) (r : Result T E) (n : ℕ) (text : List ℕ)
+    → Found before before2 text n
+    → MatchResult r (λ _. Tells live a b (take (length text - n) (drop n text)) []) (λ _. TellsFront live a b (take (length text - n) (drop n text)))
+    → OnOk r (Puts before before2 (out_in a) (out_in b) text)
+puts-told live before before2 a b (Ok x) n text f t = (n, f, subst (Appends (out_in a) (out_in b)) (take_rest text n) (tells-out live a b _ [] t))
+puts-told live before before2 a b (Err e) n text f t = tt
+
+pub puts-torn : {T E : Type 0} (live : Bool) (before before2 : Option (List ℕ)) (a b : Option History) (r : Result T E) (n : ℕ) (text : List ℕ)
+    → Found before before2 text n
+    → MatchResult r (λ _. Tells live a b (take (length text - n) (drop n text)) []) (λ _. TellsFront live a b (take (length text - n) (drop n text)))
+    → OnErr r (PutsFront before before2 (out_in a) (out_in b) text)
+puts-torn live before before2 a b (Ok x) n text f t = tt
+puts-torn live before before2 a b (Err e) n text f t = puts-front before before2 (out_in a) (out_in b) n text f (front-front live a b _ t)

@@ -9,15 +9,10 @@ use Rattle.rubis_laws.proofs.Processes.AreARun.{processes_run, read_more}
 use Rattle.rubis_laws.proofs.Processes.Restarts.{nothing_left_out, restarted_agree, restarts_change_nothing}
 use Rattle.rubis_model.specs.Processes.{process}
 use Rattle.rubis_model.specs.Site.{opening_at}
-use Rattle.rubis_engine.specs.Text.{input_records}
 use Rattle.rubis_keep.specs.Crashes.{Files}
-use Rattle.rubis_keep.specs.Kept.{IsFrontOf}
-use Rattle.rubis_keep.specs.Lines.{AreSound, begun_after, is_marked, whole_after, whole_lines}
+use Rattle.rubis_keep.specs.Lines.{whole_lines}
 use Rattle.rubis_keep.specs.Shops.{AreKept, IsPrefix, KeptShopsAreRuns, records_of}
-use Rattle.rubis_keep.specs.Whole.{IsWhole}
-use Rattle.rubis_keep.proofs.RecordFacts.{records-append}
-use Rattle.rubis_keep.proofs.SoundFacts.{sound-back, sound-kept, whole-append-after, whole-ends, whole-whole}
-use Rattle.rubis_keep.proofs.WholeFacts.{kept-whole}
+use Rattle.rubis_keep.proofs.GrowFacts.{records-grow}
 
 -- ---- prefixes
 
@@ -47,19 +42,6 @@ prefix-same : (xs ys zs : Records) → IsPrefix xs zs → IsPrefix ys zs → len
 prefix-same xs ys zs p q l =
     let inner = prefix-within xs ys zs p q (omega (arith, l)) in
     sym (append-nil xs) ∙ ap (λ t. xs ++ t) (sym (none-left xs inner.0 ys inner.1 l)) ∙ inner.1
-
--- ---- what is kept grows record by record
-
-records-grow : (a b : List ℕ) → AreSound [] a → AreSound [] b → IsFrontOf (whole_lines a) b →
-    IsPrefix (input_records (whole_lines a)) (input_records (whole_lines b))
-records-grow a b sa sb (rest, e) =
-    let lines : whole_lines b ≡ whole_lines a ++ whole_lines rest =
-    ap whole_lines (sym e) ∙ whole-append-after [] (whole_lines a) rest ∙ ap (λ t. t ++ whole_after (begun_after [] (whole_lines a)) rest) (whole-whole a sa)
-    ∙ ap (λ s. whole_lines a ++ whole_after s rest) (whole-ends a sa) in
-    let sr : AreSound [] rest = subst (λ l. AreSound l rest) (whole-ends a sa) (sound-back [] (whole_lines a) rest (subst (AreSound []) (sym e) sb)) in
-    let whole = subst IsWhole (sound-kept [] a sa) (kept-whole [] a) in
-    let unmarked = subst (λ t. is_marked t ≡ false) (sound-kept [] rest sr) (kept-whole [] rest).unmarked in
-    (input_records (whole_lines rest), sym (ap input_records lines ∙ records-append (whole_lines a) (whole_lines rest) whole unmarked))
 
 -- ---- one moment more
 

@@ -5,7 +5,7 @@ use Rattle.std.specs.Io.KnownBytes.{Consumes, IsAtEnd}
 use Rattle.std.specs.Prelude.{IsTrue, MatchBool}
 use Rattle.std.proofs.lemmas.List.{append-nil, take-append-drop, take_more}
 use Rattle.std.proofs.lemmas.Bool.{and_parts, eqb-true}
-use Rattle.rubis_keep.specs.Lines.{AreSound, are_sound, begun_after, broken, is_sound, kept_after, kept_line, kept_of, whole_after, whole_lines}
+use Rattle.rubis_keep.specs.Lines.{AreSound, HasNoEnd, are_sound, begun_after, broken, is_sound, kept_after, kept_line, kept_of, whole_after, whole_lines}
 use Rattle.rubis_keep.proofs.LineFacts.{begun-append, kept-append}
 
 -- the lines of the beginning of such a text
@@ -122,11 +122,6 @@ whole-rest line (b ∷ t) =
       | false ↦ λ e. whole-rest (line ++ b ∷ []) t ∙ append_assoc line (b ∷ []) t
     ] refl
 
--- no line is begun after whole lines
-abbrev pub HasNoEnd : List ℕ → Type 0
-HasNoEnd [] = Unit {0}
-HasNoEnd (b ∷ line) = (eqb b 10 ≡ false) × HasNoEnd line
-
 no-end-more : (line : List ℕ) (b : ℕ) → HasNoEnd line → eqb b 10 ≡ false → HasNoEnd (line ++ b ∷ [])
 no-end-more [] b h e = (e, tt)
 no-end-more (c ∷ line) b h e = (h.0, no-end-more line b h.1 e)
@@ -155,7 +150,7 @@ kept-line-sound line rest h r =
       | false ↦ λ e. (refl, r)
     ] refl
 
-kept-sound-after : (line bytes : List ℕ) → HasNoEnd line → AreSound [] (kept_after line bytes)
+pub kept-sound-after : (line bytes : List ℕ) → HasNoEnd line → AreSound [] (kept_after line bytes)
 kept-sound-after line [] h = tt
 kept-sound-after line (b ∷ rest) h =
     elim (eqb b 10) as (λ v. eqb b 10 ≡ v → AreSound [] (cond v (kept_line line ++ kept_after [] rest) (kept_after (line ++ b ∷ []) rest))) [
@@ -175,7 +170,7 @@ kept-line-begun line h =
       | false ↦ refl
     ]
 
-kept-begun-after : (line bytes : List ℕ) → HasNoEnd line → begun_after [] (kept_after line bytes) ≡ []
+pub kept-begun-after : (line bytes : List ℕ) → HasNoEnd line → begun_after [] (kept_after line bytes) ≡ []
 kept-begun-after line [] h = refl
 kept-begun-after line (b ∷ rest) h =
     elim (eqb b 10) as (λ v. eqb b 10 ≡ v → begun_after [] (cond v (kept_line line ++ kept_after [] rest) (kept_after (line ++ b ∷ []) rest)) ≡ []) [

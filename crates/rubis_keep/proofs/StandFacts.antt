@@ -1,14 +1,15 @@
 -- How a run over an input goes on, piece by piece.
-use Rattle.std.proofs.Common.{◌≡◌, ◌∙◌, ◌+◌, ◌++◌, [], ℕ, Bool, List, Option, drop, length, take, refl, sym, ap, subst, arith, append_assoc, length-append}
+use Rattle.std.proofs.Common.{◌≡◌, ◌∙◌, ◌+◌, ◌++◌, [], ℕ, Bool, List, Option, None, drop, length, take, refl, sym, ap, subst, arith, append_assoc, length-append}
 use Rattle.std.proofs.lemmas.List.{append-nil, take-append-drop}
-use Rattle.std.specs.Io.KnownBytes.{Appends, Consumes}
+use Rattle.std.specs.Io.KnownBytes.{Appends, Consumes, Keeps}
 use Rattle.csv.proofs.WriteFacts.{appends-more, appends-none}
 use Rattle.rubis_engine.specs.Accounts.{Account}
+use Rattle.rubis_keep.specs.Files.{AppendsFront}
 use Rattle.rubis_keep.specs.Kept.{Fails, InEachRest, InEachStand, KeptFront, OutEnds, Rests, Stands, TookPiece}
 use Rattle.rubis_keep.specs.Lines.{begun_after, kept_after}
 use Rattle.rubis_keep.specs.Places.{begun_bytes}
 use Rattle.rubis_keep.specs.Whole.{IsWhole}
-use Rattle.rubis_keep.proofs.FileFacts.{consumes-more, consumes-none}
+use Rattle.rubis_keep.proofs.FileFacts.{appends-kept, consumes-more, consumes-none}
 use Rattle.rubis_keep.proofs.LineFacts.{begun-append, kept-append}
 use Rattle.rubis_keep.proofs.RestFacts.{keeps-same, rests-ends}
 use Rattle.rubis_keep.proofs.WholeFacts.{kept-whole}
@@ -89,12 +90,6 @@ stands-unanswered all more told old base line input0 input input2 log0 log log2 
           (answers all told old out0 (base ++ kept_after line s.bytes) s.rests);
     }
 
--- it was kept, and nothing of it was answered
-pub unanswered-same : (more : Account) (before out : Option (List ℕ)) (number : ℕ) (chunk : List ℕ) → IsWhole chunk
-    → InEachRest more before out number (λ all told old out0 kept. OutEnds all told old out0 out (kept ++ chunk))
-unanswered-same more before out number chunk w all told old out0 kept r = rests-ends all more told old before out0 out out number kept chunk r w
-    (keeps-same out)
-
 pub took-whole : (line input_begun : List ℕ) (input input2 log log2 : Option (List ℕ)) (chunk begun2 : List ℕ) (goes : Bool) →
     TookPiece line input input2 log log2 chunk begun2 goes → IsWhole chunk
 took-whole line input_begun input input2 log log2 chunk begun2 goes t = subst IsWhole (sym t.holds) (kept-whole line t.bytes)
@@ -151,3 +146,60 @@ pub each-stops : (more : Account) (input log before out : Option (List ℕ)) (be
     HaveFailed more input log before out begun number len input log out
 each-stops more input log before out begun number len =
     each-unkept more input input log log before out begun number len (λ line e. ([], consumes-none input, (0, omega arith, appends-none log)))
+
+-- ---- a run whose files are one value
+
+-- what a run keeps of its input was kept
+pub took-kept : (line : List ℕ) (input input2 log log2 : Option (List ℕ)) (chunk begun2 : List ℕ) (goes : Bool) → TookPiece line input input2 None None chunk begun2 goes
+    → Appends log log2 chunk → TookPiece line input input2 log log2 chunk begun2 goes
+took-kept line input input2 log log2 chunk begun2 goes t a =
+    record { bytes = t.bytes; taken = t.taken; holds = t.holds; kept = a; begun = t.begun; end = t.end }
+
+-- nothing was kept of it, or some first bytes
+pub unread-front : (line : List ℕ) (input input2 log : Option (List ℕ)) → KeptFront line input input2 None None → KeptFront line input input2 log log
+unread-front line input input2 log k = (k.0, k.1, (0, omega arith, appends-none log))
+
+pub torn-front : (line : List ℕ) (input input2 log log2 : Option (List ℕ)) (chunk begun2 : List ℕ) (goes : Bool) → TookPiece line input input2 None None chunk begun2 goes
+    → AppendsFront log log2 chunk → KeptFront line input input2 log log2
+torn-front line input input2 log log2 chunk begun2 goes t a = (t.bytes, t.taken, subst (AppendsFront log log2) t.holds a)
+
+rests-kept : (all more : Account) (told old : List ℕ) (before out0 out out2 : Option (List ℕ)) (number : ℕ) (kept : List ℕ) → Keeps out out2
+    → Rests all more told old before out0 out number kept → Rests all more told old before out0 out2 number kept
+rests-kept all more told old before out0 out out2 number kept same r = record {
+  since = r.since;
+  answered = r.answered;
+  wrote = record {
+    added = r.wrote.added;
+    left = r.wrote.left;
+    unread = r.wrote.unread;
+    appended = appends-kept out0 out out2 r.wrote.added r.wrote.appended same;
+    same = r.wrote.same;
+    one = r.wrote.one;
+  };
+}
+
+pub each-kept : (more : Account) (before out out2 : Option (List ℕ)) (number : ℕ) (holds : Account → List ℕ → List ℕ → Option (List ℕ) → List ℕ → Type 0)
+    → Keeps out out2 → InEachRest more before out2 number holds → InEachRest more before out number holds
+each-kept more before out out2 number holds same h all told old out0 kept r =
+    h all told old out0 kept (rests-kept all more told old before out0 out out2 number kept same r)
+
+pub each-torn : (more : Account) (input input2 log log2 before out out2 : Option (List ℕ)) (begun : List ℕ) (number len : ℕ) → Keeps out out2
+    → ((line2 : List ℕ) → begun ≡ begun_bytes line2 → KeptFront line2 input input2 log log2) →
+    HaveFailed more input log before out begun number len input2 log2 out2
+each-torn more input input2 log log2 before out out2 begun number len same h all told old base line input0 log0 out0 len0 s =
+    let f = stands-unkept all more told old base line input0 input input2 log0 log log2 before out0 out begun number len0 len s h in
+    let o = f.out_ends in
+    record {
+      bytes = f.bytes;
+      next = f.next;
+      torn = f.torn;
+      lost = f.lost;
+      taken = f.taken;
+      parts = f.parts;
+      logged = f.logged;
+      out_ends = (o.0, appends-kept out0 out out2 o.0 o.1 same, o.2);
+    }
+
+pub unanswered-kept : (more : Account) (before out out2 : Option (List ℕ)) (number : ℕ) (chunk : List ℕ) → Keeps out out2 → IsWhole chunk
+    → InEachRest more before out number (λ all told old out0 kept. OutEnds all told old out0 out2 (kept ++ chunk))
+unanswered-kept more before out out2 number chunk same w all told old out0 kept r = rests-ends all more told old before out0 out out2 number kept chunk r w same

@@ -8,7 +8,7 @@ use Rattle.rubis_engine.specs.Progress.{HasComeSoFar}
 use Rattle.rubis_engine.specs.Reading.{Advances}
 use Rattle.rubis_engine.specs.Text.{input_records}
 use Rattle.rubis_keep.specs.Files.{AppendsFront, Found}
-use Rattle.rubis_keep.specs.Lines.{AreSound, begun_after, kept_after, kept_of, whole_lines}
+use Rattle.rubis_keep.specs.Lines.{AreSound, HasNoEnd, begun_after, kept_after, kept_of, whole_lines}
 use Rattle.rubis_keep.specs.Places.{begun_bytes}
 use Rattle.rubis_keep.specs.Whole.{IsWhole}
 
@@ -139,7 +139,7 @@ InEachStand more input log before out begun number len holds =
 
 -- the beginning of some line
 abbrev pub IsBegun : List ℕ → Type 0
-IsBegun begun = (line : List ℕ) × (begun ≡ begun_bytes line)
+IsBegun begun = (line : List ℕ) × HasNoEnd line × (begun ≡ begun_bytes line)
 
 -- ---- a run that goes on where an earlier one was cut off
 

@@ -7,3 +7,7 @@ pub mod Crashes
 pub mod Shops
 pub mod Shortened
 pub mod Setups
+pub mod History
+pub mod Lives
+pub mod Moments
+pub mod Histories

@@ -1,5 +1,5 @@
 -- What is kept of an input: its lines, each one whole records of CSV.
-use Rattle.std.specs.Prelude.{◌==◌, ◌&&◌, ◌++◌, ◌∷◌, [], ℕ, Bool, List, IsTrue, false, true, if◌then◌else◌, length, nat_le, not, get_or, ⊤, MatchBool}
+use Rattle.std.specs.Prelude.{◌≡◌, ◌==◌, ◌&&◌, ◌++◌, ◌∷◌, [], ℕ, Bool, List, IsTrue, false, true, if◌then◌else◌, length, nat_le, not, get_or, ⊤, MatchBool}
 use Rattle.csv.specs.Machine.{step}
 use Rattle.csv.specs.Reading.{default_config}
 use Rattle.csv.specs.declared.parser.State.{State}
@@ -77,3 +77,8 @@ AreSound line (b ∷ rest) = MatchBool (b == 10) (IsTrue (is_sound line) × AreS
 abbrev pub are_sound : List ℕ → List ℕ → Bool
 are_sound line [] = true
 are_sound line (b ∷ rest) = if b == 10 then is_sound line && are_sound [] rest else are_sound (line ++ b ∷ []) rest
+
+-- a line has no end within it
+abbrev pub HasNoEnd : List ℕ → Type 0
+HasNoEnd [] = ⊤
+HasNoEnd (b ∷ line) = (b == 10 ≡ false) × HasNoEnd line

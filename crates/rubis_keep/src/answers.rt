@@ -1,45 +1,42 @@
 //! Answers on their way to where those of before stand.
 
-ghost use Rattle.std.specs.Prelude.{◌≡◌, [], OnErr, OnOk};
+ghost use Rattle.std.specs.Prelude.{◌≡◌, ◌≤◌, [], IfOk, MatchResult, OnErr, OnOk, false, length, take};
 ghost use Rattle.std.specs.Io.KnownBytes.{IsAtEnd, Keeps};
+ghost use Rattle.rubis_keep.specs.History.{HasTold, Tells, TellsFront, out_in};
 ghost use Rattle.rubis_keep.specs.Kept.{Puts, PutsFront};
 
 use crate::comparing::{compare, differ, ends_in};
 use crate::fault::KeepFault;
-use crate::writing::write_front;
+use crate::site_files::SiteFiles;
 use rubis_engine::Sink;
 use std::alloc::Global;
 use std::io;
-use std::io::{Read, Write};
+use std::io::{ErrorKind, Read};
 
-/// What answers are appended to.
-pub trait Out: Write {
-    /// All that was kept is answered: how many records that is, and how many messages of each site are released then. The
-    /// answers from here on are those to new records.
-    fn replayed(&mut self, records: u64, counts: &[u64]) -> io::Result<()>
-        ensures { Self.contents self.new ≡ Self.contents self.old };
-}
-
-/// Where answers go: those of before, with which they are compared as far as these go, and what they are appended to.
+/// Where answers go: those of before, with which they are compared as far as these go, and the files that they are appended to.
 #[derive(Drop)]
-pub struct Answers<O, W> {
+pub struct Answers<O, F> {
     pub before: O,
-    pub out: W,
+    pub files: F,
+    // Whether answers are shown: those to new records are.
+    pub(crate) is_live: bool,
     text: Vec<u8>,
     // How many lines of those of before were found.
     lines: u64,
     alloc: Global,
 }
 
-impl<O, W> Answers<O, W> {
+impl<O, F> Answers<O, F> {
     /// Over what stands in `before`, which is what `out` has now and no more.
-    pub fn new(alloc: Global, before: O, out: W) -> Answers<O, W>
+    pub fn new(alloc: Global, before: O, files: F) -> Answers<O, F>
         ensures before { result.before ≡ before }
-        ensures out { result.out ≡ out }
+        ensures files { result.files ≡ files }
+        ensures replays { result.is_live ≡ false }
     {
         Answers {
             before,
-            out,
+            files,
+            is_live: false,
             text: Vec::new(alloc),
             lines: 0,
             alloc,
@@ -52,44 +49,85 @@ impl<O, W> Answers<O, W> {
     }
 }
 
+// Appends as much of a text to `out` as that takes at once, and shows it then if answers are shown: how many bytes that is.
+fn tell_once<F: SiteFiles>(files: &mut F, is_live: bool, text: &[u8]) -> Result<usize, KeepFault>
+    ensures bound { IfOk result (λ n. n ≤ length text.now) }
+    ensures told { MatchResult result (λ n. Tells is_live (F.history files.old) (F.history files.new) (take n text.now) [])
+        (λ _. TellsFront is_live (F.history files.old) (F.history files.new) text.now) }
+{
+    let taken = match files.tell(text) {
+        Ok(0) => return Err(KeepFault::WriteOut(io::Error::from(ErrorKind::WriteZero))),
+        Ok(taken) => taken,
+        Err(e) => {
+            if e.kind() == ErrorKind::Interrupted {
+                return Ok(0);
+            }
+            return Err(KeepFault::WriteOut(e));
+        }
+    };
+    if is_live {
+        if let Err(e) = files.show(&text[..taken]) {
+            return Err(KeepFault::Show(e));
+        }
+    }
+    Ok(taken)
+}
+
+// Appends a text to `out`, and shows it if answers are shown.
+fn tell_all<F: SiteFiles>(files: &mut F, is_live: bool, text: &[u8]) -> Result<(), KeepFault>
+    ensures { MatchResult result (λ _. Tells is_live (F.history files.old) (F.history files.new) text.now [])
+        (λ _. TellsFront is_live (F.history files.old) (F.history files.new) text.now) }
+{
+    let mut at = 0;
+    for _turn in 0..u64::MAX {
+        if at >= text.len() {
+            return Ok(());
+        }
+        at += tell_once(files, is_live, &text[at..])?;
+    }
+    Err(KeepFault::TooLong)
+}
+
 // Finds a text in what stands there before, as far as that goes, and appends the rest. That many whole lines come before the text.
-fn put<O: Read, W: Write>(
+fn put<O: Read, F: SiteFiles>(
     alloc: Global,
     before: &mut O,
-    out: &mut W,
+    files: &mut F,
+    is_live: bool,
     text: &[u8],
     lines: &mut u64,
 ) -> Result<(), KeepFault>
-    ensures ok { OnOk result (Puts (O.remaining before.old) (O.remaining before.new) (W.contents out.old) (W.contents out.new) text.now) }
-    ensures err { OnErr result (PutsFront (O.remaining before.old) (O.remaining before.new) (W.contents out.old) (W.contents out.new) text.now) }
+    ensures ok { OnOk result (Puts (O.remaining before.old) (O.remaining before.new) (out_in (F.history files.old)) (out_in (F.history files.new)) text.now) }
+    ensures err { OnErr result (PutsFront (O.remaining before.old) (O.remaining before.new) (out_in (F.history files.old))
+        (out_in (F.history files.new)) text.now) }
+    ensures told { HasTold is_live is_live (F.history files.old) (F.history files.new) result }
 {
     let found = compare(alloc, before, text, *lines)?;
     *lines = lines.saturating_add(ends_in(&text[..found]));
-    match write_front(out, &text[found..]) {
-        Ok(()) => Ok(()),
-        Err(e) => Err(KeepFault::WriteOut(e)),
-    }
+    tell_all(files, is_live, &text[found..])
 }
 
-impl<O: Read, W: Write> Answers<O, W> {
+impl<O: Read, F: SiteFiles> Answers<O, F> {
     /// Puts the text of a sink, which is empty then.
     pub(crate) fn put_sink(&mut self, sink: &mut Sink) -> Result<(), KeepFault>
-        ensures ok { OnOk result (Puts (O.remaining self.old.before) (O.remaining self.new.before) (W.contents self.old.out)
-            (W.contents self.new.out) sink.old) }
+        ensures ok { OnOk result (Puts (O.remaining self.old.before) (O.remaining self.new.before) (out_in (F.history self.old.files))
+            (out_in (F.history self.new.files)) sink.old) }
         ensures sink { sink.new ≡ [] }
-        ensures err { OnErr result (PutsFront (O.remaining self.old.before) (O.remaining self.new.before) (W.contents self.old.out)
-            (W.contents self.new.out) sink.old) }
+        ensures err { OnErr result (PutsFront (O.remaining self.old.before) (O.remaining self.new.before) (out_in (F.history self.old.files))
+            (out_in (F.history self.new.files)) sink.old) }
+        ensures told { HasTold self.old.is_live self.new.is_live (F.history self.old.files) (F.history self.new.files) result }
     {
         let Answers {
             before,
-            out,
+            files,
+            is_live,
             text,
             lines,
             alloc,
         } = self;
         text.clear();
         match sink.drain(text) {
-            Ok(()) => put(*alloc, before, out, text, lines),
+            Ok(()) => put(*alloc, before, files, *is_live, text, lines),
             Err(_) => Err(KeepFault::Memory),
         }
     }
@@ -97,7 +135,8 @@ impl<O: Read, W: Write> Answers<O, W> {
     /// Refuses answers of before that are more than those to what was kept.
     pub(crate) fn check_end(&mut self) -> Result<(), KeepFault>
         ensures end { OnOk result (IsAtEnd (O.remaining self.new.before) × Keeps (O.remaining self.old.before) (O.remaining self.new.before)) }
-        ensures out { self.new.out ≡ self.old.out }
+        ensures files { self.new.files ≡ self.old.files }
+        ensures live { self.new.is_live ≡ self.old.is_live }
     {
         let mut next = [0; 256];
         match self.before.read(&mut next) {

@@ -35,6 +35,9 @@ pub enum KeepFault {
     /// An answer could not be written.
     #[error("write out: {0}")]
     WriteOut(io::Error),
+    /// Standard output failed.
+    #[error("write: {0}")]
+    Show(io::Error),
     /// The line of what was kept that has this number, counted from 1, is none that a run keeps.
     #[error("kept was changed: line {0} is none that a run keeps")]
     Edited(u64),

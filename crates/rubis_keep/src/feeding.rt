@@ -6,15 +6,17 @@ ghost use Rattle.rubis_engine.specs.declared.service.Course.TheVariants.{GoesOn}
 ghost use Rattle.rubis_engine.specs.Reading.{Advances, fields_now};
 ghost use Rattle.rubis_script.specs.Desks.{left_at};
 ghost use Rattle.rubis_script.specs.SiteRuns.{told_by};
+ghost use Rattle.rubis_keep.specs.History.{HasTold, out_in};
 ghost use Rattle.rubis_keep.specs.Kept.{FeedEnds, Finished, FinishedFront, InEachFeed, InEachRest, OutEnds, Rests};
 ghost use Rattle.rubis_keep.specs.Whole.{IsWhole};
 
 use crate::answers::Answers;
 use crate::clerk::Clerk;
 use crate::fault::KeepFault;
+use crate::site_files::SiteFiles;
 use rubis_engine::Records;
 use rubis_script::Gate;
-use std::io::{Read, Write};
+use std::io::Read;
 use std::sync::Wait;
 use std::thread::Threads;
 
@@ -40,39 +42,43 @@ fn answer_next<G: Gate, T: Threads + Wait + Sync, R: Read>(
 }
 
 // Takes in the messages that are held, and puts the answers.
-fn finish<G: Gate, T: Threads + Wait + Sync, O: Read, W: Write>(
+#[tactic(auto, using(crate::proofs::HistoryFacts::told_none))]
+fn finish<G: Gate, T: Threads + Wait + Sync, O: Read, F: SiteFiles>(
     rt: &T,
     clerk: &mut Clerk<G>,
-    answers: &mut Answers<O, W>,
+    answers: &mut Answers<O, F>,
 ) -> Result<(), KeepFault>
     ensures ok { OnOk result (Finished (left_at clerk.old.desk)
         (told_by clerk.new.desk.site
         (clerk.old.desk.answered + 1)) clerk.old.desk.reply.sink (O.remaining answers.old.before) (O.remaining answers.new.before)
-        (W.contents answers.old.out) (W.contents answers.new.out)) }
+        (out_in (F.history answers.old.files)) (out_in (F.history answers.new.files))) }
     ensures same { OnOk result (clerk.new.desk.answered ≡ clerk.old.desk.answered) }
     ensures empty { OnOk result (clerk.new.desk.reply.sink ≡ []) }
     ensures window { OnOk result (clerk.new.desk.window.items ≡ []) }
     ensures err { OnErr result (FinishedFront (left_at clerk.old.desk)
         (told_by clerk.new.desk.site
         (clerk.old.desk.answered + 1)) clerk.old.desk.reply.sink (O.remaining answers.old.before) (O.remaining answers.new.before)
-        (W.contents answers.old.out) (W.contents answers.new.out)) }
+        (out_in (F.history answers.old.files)) (out_in (F.history answers.new.files))) }
+    ensures told { HasTold answers.old.is_live answers.new.is_live (F.history answers.old.files) (F.history answers.new.files) result }
 {
     clerk.desk.flush(rt)?;
     answers.put_sink(&mut clerk.desk.reply.sink)
 }
 
 // Ends a run that has answered as many records as it takes, unless there are no more.
-fn stop<G: Gate, T: Threads + Wait + Sync, R: Read, O: Read, W: Write>(
+#[tactic(auto, using(crate::proofs::HistoryFacts::told_none))]
+fn stop<G: Gate, T: Threads + Wait + Sync, R: Read, O: Read, F: SiteFiles>(
     rt: &T,
     records: &mut Records<R>,
     clerk: &mut Clerk<G>,
-    answers: &mut Answers<O, W>,
+    answers: &mut Answers<O, F>,
 ) -> Result<(), KeepFault>
     ensures ok { OnOk result (Advances R.remaining records.old records.new false × (clerk.new ≡ clerk.old) × (answers.new ≡ answers.old)) }
     ensures err { OnErr result (FinishedFront (left_at clerk.old.desk)
         (told_by clerk.new.desk.site
         (clerk.old.desk.answered + 1)) clerk.old.desk.reply.sink (O.remaining answers.old.before) (O.remaining answers.new.before)
-        (W.contents answers.old.out) (W.contents answers.new.out)) }
+        (out_in (F.history answers.old.files)) (out_in (F.history answers.new.files))) }
+    ensures told { HasTold answers.old.is_live answers.new.is_live (F.history answers.old.files) (F.history answers.new.files) result }
 {
     if records.advance()? {
         finish(rt, clerk, answers)?;
@@ -82,19 +88,21 @@ fn stop<G: Gate, T: Threads + Wait + Sync, R: Read, O: Read, W: Write>(
 }
 
 // Answers records until there are no more, or as many as the clerk answers, and puts the answers where there is much of them.
-fn feed_records<G: Gate, T: Threads + Wait + Sync, R: Read, O: Read, W: Write>(
+#[tactic(auto, using(crate::proofs::HistoryFacts::told_none))]
+fn feed_records<G: Gate, T: Threads + Wait + Sync, R: Read, O: Read, F: SiteFiles>(
     rt: &T,
     records: &mut Records<R>,
     clerk: &mut Clerk<G>,
-    answers: &mut Answers<O, W>,
+    answers: &mut Answers<O, F>,
 ) -> Result<(), KeepFault>
     ensures ok { OnOk result (InEachFeed R.remaining records.old (left_at clerk.old.desk)
-        (O.remaining answers.old.before) (W.contents answers.old.out) clerk.old.desk.reply.sink (clerk.old.desk.answered + 1)
+        (O.remaining answers.old.before) (out_in (F.history answers.old.files)) clerk.old.desk.reply.sink (clerk.old.desk.answered + 1)
         (FeedEnds R.remaining records.new (left_at clerk.new.desk)
-        (O.remaining answers.new.before) (W.contents answers.new.out) clerk.new.desk.reply.sink (clerk.new.desk.answered + 1))) }
+        (O.remaining answers.new.before) (out_in (F.history answers.new.files)) clerk.new.desk.reply.sink (clerk.new.desk.answered + 1))) }
     ensures err { OnErr result (InEachFeed R.remaining records.old (left_at clerk.old.desk)
-        (O.remaining answers.old.before) (W.contents answers.old.out) clerk.old.desk.reply.sink (clerk.old.desk.answered + 1)
-        (λ all told old out0 kept. OutEnds all told old out0 (W.contents answers.new.out) kept)) }
+        (O.remaining answers.old.before) (out_in (F.history answers.old.files)) clerk.old.desk.reply.sink (clerk.old.desk.answered + 1)
+        (λ all told old out0 kept. OutEnds all told old out0 (out_in (F.history answers.new.files)) kept)) }
+    ensures told { HasTold answers.old.is_live answers.new.is_live (F.history answers.old.files) (F.history answers.new.files) result }
 {
     for _turn in 0..u64::MAX {
         if clerk.desk.answered >= clerk.limit {
@@ -111,24 +119,26 @@ fn feed_records<G: Gate, T: Threads + Wait + Sync, R: Read, O: Read, W: Write>(
 }
 
 /// Answers a text of whole records.
-pub(crate) fn feed_chunk<G: Gate, T: Threads + Wait + Sync, O: Read, W: Write>(
+#[tactic(auto, using(crate::proofs::HistoryFacts::told_none))]
+pub(crate) fn feed_chunk<G: Gate, T: Threads + Wait + Sync, O: Read, F: SiteFiles>(
     rt: &T,
     chunk: &[u8],
     clerk: &mut Clerk<G>,
-    answers: &mut Answers<O, W>,
+    answers: &mut Answers<O, F>,
 ) -> Result<(), KeepFault>
     requires whole { IsWhole chunk.now }
     requires empty { clerk.old.desk.reply.sink ≡ [] }
     requires window { clerk.old.desk.window.items ≡ [] }
     ensures ok { OnOk result (InEachRest (told_by clerk.old.desk.site (clerk.old.desk.answered + 1)) (O.remaining answers.old.before)
-        (W.contents answers.old.out) (clerk.old.desk.answered + 1)
+        (out_in (F.history answers.old.files)) (clerk.old.desk.answered + 1)
         (λ all told old out0 kept. Rests all (told_by clerk.new.desk.site (clerk.new.desk.answered + 1)) told old (O.remaining answers.new.before) out0
-        (W.contents answers.new.out) (clerk.new.desk.answered + 1) (kept ++ chunk.now))) }
+        (out_in (F.history answers.new.files)) (clerk.new.desk.answered + 1) (kept ++ chunk.now))) }
     ensures empty { OnOk result (clerk.new.desk.reply.sink ≡ []) }
     ensures window { OnOk result (clerk.new.desk.window.items ≡ []) }
     ensures err { OnErr result (InEachRest (told_by clerk.old.desk.site (clerk.old.desk.answered + 1)) (O.remaining answers.old.before)
-        (W.contents answers.old.out) (clerk.old.desk.answered + 1)
-        (λ all told old out0 kept. OutEnds all told old out0 (W.contents answers.new.out) (kept ++ chunk.now))) }
+        (out_in (F.history answers.old.files)) (clerk.old.desk.answered + 1)
+        (λ all told old out0 kept. OutEnds all told old out0 (out_in (F.history answers.new.files)) (kept ++ chunk.now))) }
+    ensures told { HasTold answers.old.is_live answers.new.is_live (F.history answers.old.files) (F.history answers.new.files) result }
 {
     let mut records = Records::new(clerk.alloc, chunk);
     feed_records(rt, &mut records, clerk, answers)?;

@@ -7,7 +7,7 @@ ghost use Rattle.rubis_keep.specs.Setups.{GoesOn, next_setup, opening_setup, pla
 
 use crate::answers::Answers;
 use crate::fault::KeepFault;
-use crate::files::{LogFile, OutFile, begin, open, settle, take_lock};
+use crate::files::{FolderFiles, begin, open, settle, take_lock};
 use crate::folder_fault::FolderFault;
 use crate::run::Recording;
 use crate::setup::{ANSWERS, Setup, read_setup, write_setup};
@@ -105,19 +105,14 @@ fn settled<R: Files<File = File> + AllocGlobal>(
     Ok(setup)
 }
 
-// What was kept in a folder, opened for a run.
+// What was kept in a folder, opened to be read.
 fn open_kept<R: Files<File = File> + AllocGlobal>(
     rt: &R,
     folder: &str,
-    is_synced: bool,
-) -> io::Result<Recording<File, File, LogFile>> {
+) -> io::Result<Recording<File, File>> {
     Ok(Recording {
         first: open(rt, folder, "kept")?,
         past: open(rt, folder, "kept")?,
-        log: LogFile {
-            file: open(rt, folder, "kept")?,
-            is_synced,
-        },
     })
 }
 
@@ -133,10 +128,18 @@ fn complete<R: Files<File = File> + Print + AllocGlobal + Threads + Wait + Sync>
     out: File,
     len: u64,
 ) -> Result<File, FolderFault> {
-    let mut recording = open_kept(rt, folder, true).map_err(FolderFault::Kept)?;
+    let mut recording = open_kept(rt, folder).map_err(FolderFault::Kept)?;
     let before = open(rt, folder, "out").map_err(FolderFault::Out)?.take(len);
-    let out = OutFile::new(rt, folder, out, false, None);
-    let mut answers = Answers::new(rt.alloc(), before, out);
+    let files = FolderFiles {
+        rt,
+        folder,
+        kept: open(rt, folder, "kept").map_err(FolderFault::Kept)?,
+        out,
+        is_synced: true,
+        is_live: false,
+        settles: None,
+    };
+    let mut answers = Answers::new(rt.alloc(), before, files);
     let mut none = io::empty();
     keep_site(
         rt,
@@ -147,7 +150,7 @@ fn complete<R: Files<File = File> + Print + AllocGlobal + Threads + Wait + Sync>
         KEPT_MAX,
     )
     .map_err(FolderFault::Run)?;
-    Ok(answers.out.file)
+    Ok(answers.files.out)
 }
 
 // Writes the answers to what was kept anew, beside those of another version, and puts them in their place. What the folder says of
@@ -205,12 +208,19 @@ fn run<R: Files<File = File> + Print + Input + AllocGlobal + Threads + Wait + Sy
     is_synced: bool,
     settles: Option<Setup>,
 ) -> Result<(), FolderFault> {
-    let mut recording = open_kept(rt, folder, is_synced).map_err(FolderFault::Kept)?;
+    let mut recording = open_kept(rt, folder).map_err(FolderFault::Kept)?;
     let before = open(rt, folder, "out").map_err(FolderFault::Out)?;
     let len = before.metadata().map_err(FolderFault::Out)?.len();
-    let file = open(rt, folder, "out").map_err(FolderFault::Out)?;
-    let out = OutFile::new(rt, folder, file, true, settles);
-    let mut answers = Answers::new(rt.alloc(), before.take(len), out);
+    let files = FolderFiles {
+        rt,
+        folder,
+        kept: open(rt, folder, "kept").map_err(FolderFault::Kept)?,
+        out: open(rt, folder, "out").map_err(FolderFault::Out)?,
+        is_synced,
+        is_live: true,
+        settles,
+    };
+    let mut answers = Answers::new(rt.alloc(), before.take(len), files);
     let mut live = rt.reader();
     match keep_site(
         rt,
@@ -221,7 +231,7 @@ fn run<R: Files<File = File> + Print + Input + AllocGlobal + Threads + Wait + Sy
         RECORDS_MAX,
     ) {
         Ok(()) => Ok(()),
-        Err(KeepFault::WriteOut(e)) if answers.out.is_closed => Err(FolderFault::Closed(e)),
+        Err(KeepFault::Show(e)) => Err(FolderFault::Closed(e)),
         Err(fault) => Err(FolderFault::Run(fault)),
     }
 }
@@ -243,6 +253,22 @@ fn make_folder<R: Files<File = File> + AllocGlobal>(
         Ok(None) => Err(FolderFault::NoSite),
         Err(e) => Err(FolderFault::Setup(e)),
     }
+}
+
+// Runs a site that keeps more messages from now on. What was kept is answered first as it was told, by the configuration that the
+// folder has: so the run compares the answers that it gives with all of those, and not with what a torn file has left of them.
+fn raise<
+    R: Files<File = File> + Print + Input + AllocGlobal + RandomSource + Threads + Wait + Sync,
+>(rt: &R, folder: &str, config: &Config, asked: Setup, wanted: &Wanted) -> Result<(), FolderFault> {
+    complete_out(rt, folder, config)?;
+    let Some(config) = wanted.config(rt, asked) else {
+        return Err(FolderFault::NotBelow);
+    };
+    let settles = Setup {
+        answers: ANSWERS,
+        ..asked
+    };
+    run(rt, folder, &config, wanted.is_synced, Some(settles))
 }
 
 /// Runs the site in a folder over standard input and output, until the input ends: it is made, if there is none, and otherwise goes
@@ -281,16 +307,8 @@ pub fn keep_folder<
     if wanted.shortens {
         return rewrite(rt, folder, &config);
     }
-    let Some(config) = wanted.config(rt, asked) else {
-        return Err(FolderFault::NotBelow);
-    };
-    let settles = if asked.keep > setup.keep {
-        Some(Setup {
-            answers: ANSWERS,
-            ..asked
-        })
-    } else {
-        None
-    };
-    run(rt, folder, &config, wanted.is_synced, settles)
+    if asked.keep > setup.keep {
+        return raise(rt, folder, &config, asked, wanted);
+    }
+    run(rt, folder, &config, wanted.is_synced, None)
 }

@@ -1,28 +1,19 @@
 //! The lines of an input, kept as they come.
 
-ghost use Rattle.std.specs.Prelude.{◌≡◌, ◌<◌, [], ℕ, List, IfOk, OnErr, OnOk, length, vec_len};
-ghost use Rattle.std.specs.Io.KnownBytes.{Appends, Keeps};
-ghost use Rattle.rubis_keep.specs.Files.{AppendsFront};
-ghost use Rattle.rubis_keep.specs.Kept.{CutsTo, KeptFront, TookPiece};
+ghost use Rattle.std.specs.Prelude.{◌≡◌, ◌<◌, [], ℕ, List, IfOk, None, OnErr, length, true, vec_len};
+ghost use Rattle.rubis_keep.specs.History.{HasKept};
+ghost use Rattle.rubis_keep.specs.Kept.{KeptFront, TookPiece};
 ghost use Rattle.rubis_keep.specs.Places.{begun_bytes};
 
 use crate::fault::KeepFault;
 use crate::lines::LineCutter;
-use crate::writing::write_front;
+use crate::site_files::SiteFiles;
 use std::alloc::{AllocError, Global};
 use std::io;
-use std::io::{ErrorKind, Read, Write};
+use std::io::{ErrorKind, Read};
 
 // How many bytes are read at once.
 const PIECE: usize = 65_536;
-
-/// Where lines are kept. `flush` returns when they are as safe as they are to be: what is read after it is answered.
-pub trait Log: Write {
-    /// Cuts it off after its first `len` bytes.
-    fn cut(&mut self, len: u64) -> io::Result<()>
-        ensures ok { OnOk result (CutsTo (Self.contents self.old) (Self.contents self.new) len) }
-        ensures err { OnErr result (Keeps (Self.contents self.old) (Self.contents self.new)) };
-}
 
 /// The lines of an input that are kept: the line that is begun, and those of the last piece.
 #[derive(Drop)]
@@ -53,40 +44,63 @@ impl KeptLines {
     }
 }
 
-// Keeps these lines.
-fn keep_chunk<K: Write>(log: &mut K, chunk: &[u8]) -> Result<(), KeepFault>
-    ensures ok { OnOk result (Appends (K.contents log.old) (K.contents log.new) chunk.now) }
-    ensures err { OnErr result (AppendsFront (K.contents log.old) (K.contents log.new) chunk.now) }
+// Keeps these lines, and returns once they are as safe as they are to be. A run that answers what was kept before keeps none.
+pub(crate) fn keep_chunk<F: SiteFiles>(
+    files: &mut F,
+    keeps: bool,
+    chunk: &[u8],
+) -> Result<(), KeepFault>
+    ensures { HasKept keeps (F.history files.old) (F.history files.new) result chunk.now }
 {
-    if chunk.is_empty() {
+    if !keeps || chunk.is_empty() {
         return Ok(());
     }
-    match write_front(log, chunk) {
+    match keep_lines(files, chunk) {
         Ok(()) => Ok(()),
         Err(e) => Err(KeepFault::WriteKept(e)),
     }
 }
 
-/// Reads the next piece of an input, and keeps the lines that end in it, which `chunk` has then. Whether the input goes on.
-pub fn keep_next<R: Read, K: Write>(
+// Keeps these lines, and flushes them.
+fn keep_lines<F: SiteFiles>(files: &mut F, chunk: &[u8]) -> io::Result<()>
+    ensures { HasKept true (F.history files.old) (F.history files.new) result chunk.now }
+{
+    let mut at = 0;
+    for _turn in 0..u64::MAX {
+        if at >= chunk.len() {
+            return files.flush_kept();
+        }
+        match files.keep(&chunk[at..]) {
+            Ok(0) => return Err(io::Error::from(ErrorKind::WriteZero)),
+            Ok(taken) => at += taken,
+            Err(e) => {
+                if e.kind() != ErrorKind::Interrupted {
+                    return Err(e);
+                }
+            }
+        }
+    }
+    Err(io::Error::from(ErrorKind::Other))
+}
+
+/// Reads the next piece of an input: `chunk` has then what is kept of the lines that end in it. Whether the input goes on.
+pub(crate) fn read_next<R: Read>(
     live: &mut R,
-    log: &mut K,
     cutter: &mut LineCutter,
     piece: &mut [u8],
     chunk: &mut Vec<u8>,
 ) -> Result<bool, KeepFault>
     requires { 0 < length piece.old }
     ensures ok { IfOk result (λ more. (line : List ℕ) → cutter.old ≡ begun_bytes line
-        → TookPiece line (R.remaining live.old) (R.remaining live.new) (K.contents log.old) (K.contents log.new) chunk.new.items cutter.new more) }
+        → TookPiece line (R.remaining live.old) (R.remaining live.new) None None chunk.new.items cutter.new more) }
     ensures err { OnErr result ((line : List ℕ) → cutter.old ≡ begun_bytes line
-        → KeptFront line (R.remaining live.old) (R.remaining live.new) (K.contents log.old) (K.contents log.new)) }
+        → KeptFront line (R.remaining live.old) (R.remaining live.new) None None) }
 {
     chunk.clear();
     match live.read(piece) {
         Ok(0) => Ok(false),
         Ok(given) => {
             cutter.take(&piece[..given], chunk)?;
-            keep_chunk(log, chunk)?;
             Ok(true)
         }
         Err(e) => {

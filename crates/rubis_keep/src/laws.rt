@@ -2,6 +2,8 @@
 
 ghost use Rattle.rubis_keep.specs.Shops.{KeptShopsAreRuns};
 ghost use Rattle.rubis_keep.specs.Crashes.{ComesBack, DifferencesAreFound, EditsAreFound, EndsLeft, LivesLeft};
+ghost use Rattle.rubis_keep.specs.Histories.{HistoriesAreKept, HistoriesAreRuns};
+ghost use Rattle.rubis_keep.specs.Moments.{KillsLeaveFiles, PowerFailuresLeaveFiles, RaisedKeepsTellTheSame, SiteTextsExtend};
 
 /// A run that was cut off any number of times, and anywhere, comes to where one comes that was never cut off. However a run ends,
 /// it leaves what the next one can begin with. Answers that aren't those to what was kept, and a line that no run kept, are found
@@ -14,8 +16,29 @@ pub fn crash_and_restart()
     ensures edits { EditsAreFound }
 {}
 
+/// What `keep_site` promises of each moment. A process that is killed at any moment, also within a write, leaves files with which the next
+/// one can begin; and so does a power failure, if what was flushed survives it: all that was told is told again then. What a site tells stays
+/// when more records come.
+pub fn moments_leave_files()
+    ensures kills { KillsLeaveFiles }
+    ensures power_failures { PowerFailuresLeaveFiles }
+    ensures sites { SiteTextsExtend }
+{}
+
+/// A site that keeps more messages from now on tells again what it told, or changes neither file.
+pub fn raised_keeps_tell_the_same()
+    ensures { RaisedKeepsTellTheSame }
+{}
+
 /// A shop of sites that keep their records, whose processes are killed and started again at any moments, is a run of the model: if
 /// packets are carried unchanged, and each site's files keep what was written to them.
 pub fn kept_shops_are_runs()
     ensures { KeptShopsAreRuns }
+{}
+
+/// The histories of the sites of a shop, interleaved in any way, are those of sites that keep their records; so such a shop is a run of the
+/// model, also after power failures: if packets are carried unchanged.
+pub fn histories_are_runs()
+    ensures kept { HistoriesAreKept }
+    ensures runs { HistoriesAreRuns }
 {}

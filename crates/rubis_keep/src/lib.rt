@@ -20,17 +20,22 @@ mod run;
 mod setup;
 mod shortening;
 mod site;
+mod site_files;
 mod writing;
 
-pub use answers::{Answers, Out};
+pub use answers::Answers;
 pub use clerk::Clerk;
 pub use fault::{Difference, KeepFault};
 pub use folder_fault::FolderFault;
 pub use keep::{Wanted, keep_folder};
-pub use keeping::{KeptLines, Log, keep_next};
-pub use laws::{crash_and_restart, kept_shops_are_runs};
+pub use keeping::KeptLines;
+pub use laws::{
+    crash_and_restart, histories_are_runs, kept_shops_are_runs, moments_leave_files,
+    raised_keeps_tell_the_same,
+};
 pub use lines::{LINE_MAX, LineCutter};
 pub use run::{Recording, run_kept};
 pub use setup::Setup;
 pub use shortening::shorten;
 pub use site::keep_site;
+pub use site_files::SiteFiles;

@@ -1,31 +1,36 @@
 //! A site that keeps its records, and goes on where an earlier run was cut off.
 
-ghost use Rattle.std.specs.Prelude.{◌≡◌, ◌+◌, [], ℕ, List, Option, OnErr, OnOk, Some};
+ghost use Rattle.std.specs.Prelude.{◌≡◌, ◌+◌, ◌∷◌, ◌⊎◌, [], ℕ, List, Option, OnErr, OnOk, Some, false, map};
+ghost use Rattle.std.specs.List.{range_with_len};
 ghost use Rattle.rubis_engine.specs.Accounts.{Account};
+ghost use Rattle.rubis_engine.specs.Accounts.Ending.{AtEnd};
 ghost use Rattle.rubis_script.specs.SiteRuns.{told_by};
+ghost use Rattle.rubis_model.specs.Settle.{counted};
+ghost use Rattle.rubis_keep.specs.History.{Grows, HasDone, HasTold, History, StaysSafe, kept_in, now, out_in};
+ghost use Rattle.rubis_keep.specs.History.Event.{Began, CutTo, Flushed, Settled};
 ghost use Rattle.rubis_keep.specs.Kept.{Begins, Ended, Lived, Opens, Replayed};
 ghost use Rattle.rubis_keep.specs.Lines.{AreSound};
+ghost use Rattle.rubis_keep.specs.Lives.{Found, IsOpened};
 
-use crate::answers::{Answers, Out};
+use crate::answers::Answers;
 use crate::checking::check_kept;
 use crate::clerk::Clerk;
 use crate::counts::counts_of;
 use crate::fault::KeepFault;
-use crate::keeping::{KeptLines, Log};
+use crate::keeping::KeptLines;
 use crate::lines::LineCutter;
 use crate::pieces::answer_pieces;
+use crate::site_files::SiteFiles;
 use rubis_script::Gate;
-use std::io;
-use std::io::{Read, Write};
+use std::io::Read;
 use std::sync::Wait;
 use std::thread::Threads;
 
-/// The file of what was kept, opened three times: to be read through, to be answered again, and to be gone on with.
+/// The file of what was kept, opened twice to be read: to be read through, and to be answered again.
 #[derive(Drop)]
-pub struct Recording<C, P, L> {
+pub struct Recording<C, P> {
     pub first: C,
     pub past: P,
-    pub log: L,
 }
 
 // A fault of the input, where the input is what was kept.
@@ -37,12 +42,12 @@ fn of_kept(fault: KeepFault) -> KeepFault {
 }
 
 // Answers what was kept before, and finds the answers in what stands there.
-fn replay<G: Gate, T: Threads + Wait + Sync, P: Read, O: Read, W: Write>(
+fn replay<G: Gate, T: Threads + Wait + Sync, P: Read, O: Read, F: SiteFiles>(
     rt: &T,
     past: &mut P,
     lines: &mut KeptLines,
     clerk: &mut Clerk<G>,
-    answers: &mut Answers<O, W>,
+    answers: &mut Answers<O, F>,
 ) -> Result<(), KeepFault>
     requires window { clerk.old.desk.window.items ≡ [] }
     requires empty { clerk.old.desk.reply.sink ≡ [] }
@@ -50,61 +55,88 @@ fn replay<G: Gate, T: Threads + Wait + Sync, P: Read, O: Read, W: Write>(
     requires cutter { lines.old.cutter ≡ [] }
     requires kept { lines.old.kept ≡ 0 }
     ensures ok { OnOk result ((kept old : List ℕ) → Begins kept old (P.remaining past.old) (Some kept) (O.remaining answers.old.before)
-        (W.contents answers.old.out)
+        (out_in (F.history answers.old.files))
         → Replayed (told_by clerk.old.desk.site 1) (told_by clerk.new.desk.site
-        (clerk.new.desk.answered + 1)) kept old (O.remaining answers.new.before) (W.contents answers.new.out) (clerk.new.desk.answered + 1) lines.new.kept) }
+        (clerk.new.desk.answered + 1)) kept old (O.remaining answers.new.before) (out_in (F.history answers.new.files)) (clerk.new.desk.answered + 1) lines.new.kept) }
     ensures window { OnOk result (clerk.new.desk.window.items ≡ []) }
     ensures empty { OnOk result (clerk.new.desk.reply.sink ≡ []) }
     ensures err { OnErr result ((kept old : List ℕ) (input : Option (List ℕ))
-        → Begins kept old (P.remaining past.old) (Some kept) (O.remaining answers.old.before) (W.contents answers.old.out)
-        → Ended (told_by clerk.old.desk.site 1) kept old input input (Some kept) (W.contents answers.new.out)) }
+        → Begins kept old (P.remaining past.old) (Some kept) (O.remaining answers.old.before) (out_in (F.history answers.old.files))
+        → Ended (told_by clerk.old.desk.site 1) kept old input input (Some kept) (out_in (F.history answers.new.files))) }
+    ensures told { HasTold answers.old.is_live answers.new.is_live (F.history answers.old.files) (F.history answers.new.files) result }
 {
-    let mut unkept = io::sink();
-    match answer_pieces(rt, past, &mut unkept, lines, clerk, answers) {
+    match answer_pieces(rt, past, false, lines, clerk, answers) {
         Ok(()) => answers.check_end(),
         Err(fault) => Err(of_kept(fault)),
     }
 }
 
 // Says that all that was kept is answered.
-fn tell_replayed<G: Gate, W: Out>(clerk: &Clerk<G>, out: &mut W) -> Result<(), KeepFault>
-    ensures { W.contents out.new ≡ W.contents out.old }
+fn tell_replayed<G: Gate, F: SiteFiles>(clerk: &Clerk<G>, files: &mut F) -> Result<(), KeepFault>
+    ensures ok { OnOk result (Grows (F.history files.old) (F.history files.new)
+        (Settled ∷ Began clerk.now.desk.answered (map (λ i. counted i clerk.now.desk.site.state.log) (range_with_len 0 clerk.now.desk.site.place.sites)) ∷ [])) }
+    ensures err { OnErr result (Grows (F.history files.old) (F.history files.new) [] ⊎ Grows (F.history files.old) (F.history files.new) (Settled ∷ [])) }
 {
     let site = &clerk.desk.site;
     let counts = counts_of(clerk.alloc, site.history(), clerk.desk.sites())?;
-    match out.replayed(clerk.desk.answered, &counts) {
+    if let Err(e) = files.settle() {
+        return Err(KeepFault::WriteOut(e));
+    }
+    match files.begin(clerk.desk.answered, &counts) {
         Ok(()) => Ok(()),
-        Err(e) => Err(KeepFault::WriteOut(e)),
+        Err(e) => Err(KeepFault::Show(e)),
+    }
+}
+
+// Returns once what was kept before is as safe as it is to be: it is answered then.
+fn flush<F: SiteFiles>(files: &mut F) -> Result<(), KeepFault>
+    ensures { HasDone Flushed (F.history files.old) (F.history files.new) result }
+{
+    match files.flush_kept() {
+        Ok(()) => Ok(()),
+        Err(e) => Err(KeepFault::WriteKept(e)),
+    }
+}
+
+// Cuts `kept` off after its first `len` bytes, and returns once that is as safe as it is to be.
+fn cut_and_flush<F: SiteFiles>(files: &mut F, len: u64) -> Result<(), KeepFault>
+    ensures ok { OnOk result (Grows (F.history files.old) (F.history files.new) (CutTo len ∷ Flushed ∷ [])) }
+    ensures err { OnErr result (Grows (F.history files.old) (F.history files.new) [] ⊎ Grows (F.history files.old) (F.history files.new) (CutTo len ∷ [])) }
+{
+    match files.cut_kept(len) {
+        Ok(()) => flush(files),
+        Err(e) => Err(KeepFault::WriteKept(e)),
     }
 }
 
 // Cuts off the line that isn't whole, and then keeps and answers an input to its end.
-fn go_on<G: Gate, T: Threads + Wait + Sync, L: Log, O: Read, W: Out, R: Read>(
+fn go_on<G: Gate, T: Threads + Wait + Sync, O: Read, F: SiteFiles, R: Read>(
     rt: &T,
     live: &mut R,
-    log: &mut L,
     lines: &mut KeptLines,
     clerk: &mut Clerk<G>,
-    answers: &mut Answers<O, W>,
+    answers: &mut Answers<O, F>,
 ) -> Result<(), KeepFault>
     requires window { clerk.old.desk.window.items ≡ [] }
     requires empty { clerk.old.desk.reply.sink ≡ [] }
-    ensures ok { OnOk result ((all : Account) (kept old : List ℕ) → AreSound [] kept → L.contents log.old ≡ Some kept
+    ensures ok { OnOk result ((all : Account) (kept old : List ℕ) → AreSound [] kept → kept_in (F.history answers.old.files) ≡ Some kept
         → Replayed all (told_by clerk.old.desk.site
-        (clerk.old.desk.answered + 1)) kept old (O.remaining answers.old.before) (W.contents answers.old.out) (clerk.old.desk.answered + 1) lines.old.kept
-        → Lived all kept old (R.remaining live.old) (R.remaining live.new) (L.contents log.new) (W.contents answers.new.out)) }
-    ensures err { OnErr result ((all : Account) (kept old : List ℕ) → AreSound [] kept → L.contents log.old ≡ Some kept
+        (clerk.old.desk.answered + 1)) kept old (O.remaining answers.old.before) (out_in (F.history answers.old.files)) (clerk.old.desk.answered + 1) lines.old.kept
+        → Lived all kept old (R.remaining live.old) (R.remaining live.new) (kept_in (F.history answers.new.files)) (out_in (F.history answers.new.files))) }
+    ensures err { OnErr result ((all : Account) (kept old : List ℕ) → AreSound [] kept → kept_in (F.history answers.old.files) ≡ Some kept
         → Replayed all (told_by clerk.old.desk.site
-        (clerk.old.desk.answered + 1)) kept old (O.remaining answers.old.before) (W.contents answers.old.out) (clerk.old.desk.answered + 1) lines.old.kept
-        → Ended all kept old (R.remaining live.old) (R.remaining live.new) (L.contents log.new) (W.contents answers.new.out)) }
+        (clerk.old.desk.answered + 1)) kept old (O.remaining answers.old.before) (out_in (F.history answers.old.files)) (clerk.old.desk.answered + 1) lines.old.kept
+        → Ended all kept old (R.remaining live.old) (R.remaining live.new) (kept_in (F.history answers.new.files)) (out_in (F.history answers.new.files))) }
+    ensures safe { (all : Account) (kept old : List ℕ) (h : History) → F.history answers.old.files ≡ Some h → AreSound [] kept → Found kept (now h)
+        → Replayed all (told_by clerk.old.desk.site
+        (clerk.old.desk.answered + 1)) kept old (O.remaining answers.old.before) (out_in (F.history answers.old.files)) (clerk.old.desk.answered + 1) lines.old.kept
+        → StaysSafe (all.text AtEnd) (Some h) (F.history answers.new.files) }
 {
-    match log.cut(lines.kept) {
-        Ok(()) => {}
-        Err(e) => return Err(KeepFault::WriteKept(e)),
-    }
+    cut_and_flush(&mut answers.files, lines.kept)?;
     lines.cutter = LineCutter::new(clerk.alloc);
-    tell_replayed(clerk, &mut answers.out)?;
-    answer_pieces(rt, live, log, lines, clerk, answers)
+    tell_replayed(clerk, &mut answers.files)?;
+    answers.is_live = true;
+    answer_pieces(rt, live, true, lines, clerk, answers)
 }
 
 /// Answers what was kept before, as far as it isn't answered yet, and then keeps and answers an input to its end: each line is
@@ -122,31 +154,35 @@ pub fn run_kept<
     T: Threads + Wait + Sync,
     C: Read,
     P: Read,
-    L: Log,
     O: Read,
-    W: Out,
+    F: SiteFiles,
     R: Read,
 >(
     rt: &T,
-    recording: &mut Recording<C, P, L>,
+    recording: &mut Recording<C, P>,
     live: &mut R,
     clerk: &mut Clerk<G>,
-    answers: &mut Answers<O, W>,
+    answers: &mut Answers<O, F>,
 ) -> Result<(), KeepFault>
     requires window { clerk.old.desk.window.items ≡ [] }
     requires empty { clerk.old.desk.reply.sink ≡ [] }
     requires answered { clerk.old.desk.answered ≡ 0 }
     ensures ok { OnOk result ((kept old : List ℕ) → Opens kept old (C.remaining recording.old.first) (P.remaining recording.old.past)
-        (L.contents recording.old.log) (O.remaining answers.old.before) (W.contents answers.old.out)
+        (kept_in (F.history answers.old.files)) (O.remaining answers.old.before) (out_in (F.history answers.old.files))
         → Lived (told_by clerk.old.desk.site 1) kept old (R.remaining live.old) (R.remaining live.new)
-        (L.contents recording.new.log) (W.contents answers.new.out)) }
+        (kept_in (F.history answers.new.files)) (out_in (F.history answers.new.files))) }
     ensures err { OnErr result ((kept old : List ℕ) → Opens kept old (C.remaining recording.old.first) (P.remaining recording.old.past)
-        (L.contents recording.old.log) (O.remaining answers.old.before) (W.contents answers.old.out)
+        (kept_in (F.history answers.old.files)) (O.remaining answers.old.before) (out_in (F.history answers.old.files))
         → Ended (told_by clerk.old.desk.site 1) kept old (R.remaining live.old) (R.remaining live.new)
-        (L.contents recording.new.log) (W.contents answers.new.out)) }
+        (kept_in (F.history answers.new.files)) (out_in (F.history answers.new.files))) }
+    ensures safe { answers.old.is_live ≡ false → (h : History) (kept old : List ℕ) → F.history answers.old.files ≡ Some h
+        → Opens kept old (C.remaining recording.old.first) (P.remaining recording.old.past) (kept_in (Some h)) (O.remaining answers.old.before) (out_in (Some h))
+        → IsOpened ((told_by clerk.old.desk.site 1).text AtEnd) (now h)
+        → StaysSafe ((told_by clerk.old.desk.site 1).text AtEnd) (Some h) (F.history answers.new.files) }
 {
     let mut lines = KeptLines::new(clerk.alloc)?;
     check_kept(clerk.alloc, &mut recording.first)?;
+    flush(&mut answers.files)?;
     replay(rt, &mut recording.past, &mut lines, clerk, answers)?;
-    go_on(rt, live, &mut recording.log, &mut lines, clerk, answers)
+    go_on(rt, live, &mut lines, clerk, answers)
 }

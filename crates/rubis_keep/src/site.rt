@@ -1,19 +1,22 @@
 //! A site that keeps its records, from its configuration.
 
-ghost use Rattle.std.specs.Prelude.{ℕ, List, OnErr, OnOk};
+ghost use Rattle.std.specs.Prelude.{◌≡◌, ℕ, List, OnErr, OnOk, Some, false};
 ghost use Rattle.rubis_model.specs.Site.{opening_at};
 ghost use Rattle.rubis_script.specs.Replica.{setup_place};
 ghost use Rattle.rubis_script.specs.SiteRuns.{site_account};
+ghost use Rattle.rubis_engine.specs.Accounts.Ending.{AtEnd};
+ghost use Rattle.rubis_keep.specs.History.{History, StaysSafe, kept_in, now, out_in};
 ghost use Rattle.rubis_keep.specs.Kept.{Ended, Lived, Opens};
+ghost use Rattle.rubis_keep.specs.Lives.{IsOpened};
 
-use crate::answers::{Answers, Out};
+use crate::answers::Answers;
 use crate::clerk::Clerk;
 use crate::fault::KeepFault;
-use crate::keeping::Log;
 use crate::run::{Recording, run_kept};
+use crate::site_files::SiteFiles;
 use rubis_script::{Config, Free};
 use std::alloc::Global;
-use std::io::{Read, Write};
+use std::io::Read;
 use std::mem;
 use std::sync::Wait;
 use std::thread::Threads;
@@ -24,22 +27,26 @@ use std::thread::Threads;
 /// # Errors
 ///
 /// Those of `run_kept`.
-pub fn keep_site<T: Threads + Wait + Sync, C: Read, P: Read, L: Log, O: Read, W: Out, R: Read>(
+pub fn keep_site<T: Threads + Wait + Sync, C: Read, P: Read, O: Read, F: SiteFiles, R: Read>(
     rt: &T,
-    recording: &mut Recording<C, P, L>,
+    recording: &mut Recording<C, P>,
     live: &mut R,
-    answers: &mut Answers<O, W>,
+    answers: &mut Answers<O, F>,
     config: &Config,
     limit: u64,
 ) -> Result<(), KeepFault>
     ensures ok { OnOk result ((kept old : List ℕ) → Opens kept old (C.remaining recording.old.first) (P.remaining recording.old.past)
-        (L.contents recording.old.log) (O.remaining answers.old.before) (W.contents answers.old.out)
+        (kept_in (F.history answers.old.files)) (O.remaining answers.old.before) (out_in (F.history answers.old.files))
         → Lived (site_account (setup_place config.now)
-        (opening_at config.now.site) 1) kept old (R.remaining live.old) (R.remaining live.new) (L.contents recording.new.log) (W.contents answers.new.out)) }
+        (opening_at config.now.site) 1) kept old (R.remaining live.old) (R.remaining live.new) (kept_in (F.history answers.new.files)) (out_in (F.history answers.new.files))) }
     ensures err { OnErr result ((kept old : List ℕ) → Opens kept old (C.remaining recording.old.first) (P.remaining recording.old.past)
-        (L.contents recording.old.log) (O.remaining answers.old.before) (W.contents answers.old.out)
+        (kept_in (F.history answers.old.files)) (O.remaining answers.old.before) (out_in (F.history answers.old.files))
         → Ended (site_account (setup_place config.now)
-        (opening_at config.now.site) 1) kept old (R.remaining live.old) (R.remaining live.new) (L.contents recording.new.log) (W.contents answers.new.out)) }
+        (opening_at config.now.site) 1) kept old (R.remaining live.old) (R.remaining live.new) (kept_in (F.history answers.new.files)) (out_in (F.history answers.new.files))) }
+    ensures safe { answers.old.is_live ≡ false → (h : History) (kept old : List ℕ) → F.history answers.old.files ≡ Some h
+        → Opens kept old (C.remaining recording.old.first) (P.remaining recording.old.past) (kept_in (Some h)) (O.remaining answers.old.before) (out_in (Some h))
+        → IsOpened ((site_account (setup_place config.now) (opening_at config.now.site) 1).text AtEnd) (now h)
+        → StaysSafe ((site_account (setup_place config.now) (opening_at config.now.site) 1).text AtEnd) (Some h) (F.history answers.new.files) }
 {
     let mut clerk = Clerk::new(answers.alloc(), config, Free, limit)?;
     let ended = run_kept(rt, recording, live, &mut clerk, answers);

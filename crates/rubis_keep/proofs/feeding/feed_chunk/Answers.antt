@@ -1,6 +1,7 @@
 use Rattle.std.proofs.Common.{◌+◌}
 use Rattle.rubis_engine.proofs.RunFacts.{on_ok_both}
 use Rattle.rubis_keep.proofs.EachFacts.{chunk-feeds, chunk-finish-ends, chunk-rest, on_err, on_err_weaker}
+use Rattle.rubis_keep.proofs.HistoryFacts.{told-failed, told-more}
 use Rattle.rubis_keep.proofs.TellingFacts.{none-told, rests-told}
 use Rattle.rubis_keep.proofs.feeding.feed_chunk.Goals as goal
 
@@ -21,3 +22,11 @@ returns-clause-ok g c =
     (chunk-rest _ _ c.feed_records.new.records _ _ _ _ _ _ _ _ _ _ _ _ _ c.args.chunk.now c.in_ok-feed_records.ensures.ok c.requires.empty c.new-records.ensures
     c.requires.whole
     f (none-told c.finish.new.clerk.desk.site (c.feed_records.new.clerk.desk.answered + 1))))) c.finish.ensures.ok c.finish.ensures.same
+
+pub returns-in_err-feed_records-clause-told : goal.returns-in_err-feed_records-clause-told
+returns-in_err-feed_records-clause-told g c = told-failed _ _ _ _ c.from_residual.result c.from_residual.ensures.0 c.in_err-feed_records.ensures.told
+
+pub returns-clause-told : goal.returns-clause-told
+returns-clause-told g c =
+    let before = c.in_ok-feed_records.ensures.told in
+    told-more _ _ _ _ _ _ c.finish.result before.0 before.1.0 before.1.1 c.finish.ensures.told

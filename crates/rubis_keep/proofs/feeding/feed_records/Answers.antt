@@ -1,4 +1,4 @@
-use Rattle.std.proofs.Common.{◌+◌, refl, subst}
+use Rattle.std.proofs.Common.{[], ◌+◌, refl, subst}
 use Rattle.std.proofs.lemmas.Bool.{MatchBool-at_false, MatchBool-at_true}
 use Rattle.rubis_engine.specs.Accounts.{AnswersRecord}
 use Rattle.rubis_engine.specs.Reading.{fields_now}
@@ -6,35 +6,53 @@ use Rattle.rubis_engine.specs.declared.service.Course.TheVariants.{GoesOn}
 use Rattle.rubis_script.specs.Desks.{left_at}
 use Rattle.rubis_script.specs.Windows.{held_by}
 use Rattle.rubis_keep.proofs.EachFacts.{each-end, each-ends, each-finish-ends, each-put, each-put-ends, each-step, ok_then, on_err, on_err_weaker}
+use Rattle.rubis_keep.proofs.HistoryFacts.{tells-later, told-failed, told-late, told-more}
 use Rattle.rubis_keep.proofs.feeding.feed_records.Goals.{then-is_full+in_ok-put_sink, else-is_full}
 use Rattle.rubis_keep.proofs.feeding.feed_records.Goals as goal
 
 pub returns-in_err-answer_next-clause-err : goal.returns-in_err-answer_next-clause-err
-returns-in_err-answer_next-clause-err g c = on_err _ (each-ends _ _ _ _ _ _ _ _ _ _ _ _ _ c.loop-turn.invariant)
+returns-in_err-answer_next-clause-err g c = on_err _ (each-ends _ _ _ _ _ _ _ _ _ _ _ _ _ c.loop-turn.invariant.feeds)
 
 pub returns-clause-err : goal.returns-clause-err
-returns-clause-err g c = each-ends _ _ _ _ _ _ _ _ _ _ _ _ _ c.loop-turn.invariant
+returns-clause-err g c = each-ends _ _ _ _ _ _ _ _ _ _ _ _ _ c.loop-turn.invariant.feeds
 
 pub returns-then-clerk-clause-ok : goal.returns-then-clerk-clause-ok
 returns-then-clerk-clause-ok g c =
     ok_then c.stop.result c.stop.ensures.ok
-    (λ s. rw (s.1, s.2) (each-end _ _ c.loop-turn.records c.stop.new.records _ _ _ _ _ _ _ _ _ _ _ _ c.loop-turn.invariant s.0 refl refl))
+    (λ s. rw (s.1, s.2) (each-end _ _ c.loop-turn.records c.stop.new.records _ _ _ _ _ _ _ _ _ _ _ _ c.loop-turn.invariant.feeds s.0 refl refl))
 
 pub returns-then-clerk-clause-err : goal.returns-then-clerk-clause-err
 returns-then-clerk-clause-err g c =
-    on_err_weaker c.stop.result (each-finish-ends _ _ _ _ _ _ _ _ _ _ _ _ _ _ _ _ c.loop-turn.invariant) c.stop.ensures.err
+    on_err_weaker c.stop.result (each-finish-ends _ _ _ _ _ _ _ _ _ _ _ _ _ _ _ _ c.loop-turn.invariant.feeds) c.stop.ensures.err
 
 pub returns-then-not-branch-clause-ok : goal.returns-then-not-branch-clause-ok
 returns-then-not-branch-clause-ok g c =
     let none = MatchBool-at_false _ _ c.if-not-branch.true c.in_ok-answer_next.ensures in
-    rw none.1 (each-end _ _ c.loop-turn.records c.answer_next.new.records _ _ _ _ _ _ _ _ _ _ _ _ c.loop-turn.invariant none.0 refl refl)
+    rw none.1 (each-end _ _ c.loop-turn.records c.answer_next.new.records _ _ _ _ _ _ _ _ _ _ _ _ c.loop-turn.invariant.feeds none.0 refl refl)
 
 pub returns-in_err-put_sink-clause-err : goal.returns-in_err-put_sink-clause-err
 returns-in_err-put_sink-clause-err g c =
     let found = MatchBool-at_true _ _ c.if-not-branch.false c.in_ok-answer_next.ensures in
     on_err _ (each-put-ends _ _ _ _ _ _ _ _ _ _ _ _ _ _ _
-    (each-step _ _ c.loop-turn.records c.answer_next.new.records _ _ _ _ _ _ _ _ _ _ _ _ c.loop-turn.invariant found.0 found.1)
+    (each-step _ _ c.loop-turn.records c.answer_next.new.records _ _ _ _ _ _ _ _ _ _ _ _ c.loop-turn.invariant.feeds found.0 found.1)
     c.in_err-put_sink.ensures.err)
+
+pub returns-in_err-answer_next-clause-told : goal.returns-in_err-answer_next-clause-told
+returns-in_err-answer_next-clause-told g c = told-late _ _ _ _ c.from_residual.result c.from_residual.ensures.0 c.loop-turn.invariant.told
+
+pub returns-in_err-put_sink-clause-told : goal.returns-in_err-put_sink-clause-told
+returns-in_err-put_sink-clause-told g c =
+    let before = c.loop-turn.invariant.told in
+    told-more _ _ _ _ _ _ c.from_residual-in_err-put_sink.result before.0 before.1.0 before.1.1
+    (told-failed _ _ _ _ c.from_residual-in_err-put_sink.result c.from_residual-in_err-put_sink.ensures.0 c.in_err-put_sink.ensures.told)
+
+pub returns-then-clerk-clause-told : goal.returns-then-clerk-clause-told
+returns-then-clerk-clause-told g c =
+    let before = c.loop-turn.invariant.told in
+    told-more _ _ _ _ _ _ c.stop.result before.0 before.1.0 before.1.1 c.stop.ensures.told
+
+pub returns-clause-told : goal.returns-clause-told
+returns-clause-told g c = let before = c.loop-turn.invariant.told in (before.0, (before.1.0, [], before.1.1))
 
 pub loop-turn-preserved : goal.loop-turn-preserved
 loop-turn-preserved g c =
@@ -43,9 +61,17 @@ loop-turn-preserved g c =
     let new = c.answer_next.new.clerk.desk in
     let answers = subst (λ k. AnswersRecord GoesOn (left_at old) (held_by new.site new.window.items (k + 1)) old.reply.sink new.reply.sink
     (fields_now c.answer_next.new.records)) found.2 found.1 in
-    let step = each-step _ _ c.loop-turn.records c.answer_next.new.records _ _ _ _ _ _ _ _ _ _ _ _ c.loop-turn.invariant found.0 answers in
-    elim c.if-is_full.branch [
-      | then-is_full+in_ok-put_sink w ↦
-          rw (w.clerk-is, w.answers-is, w.put_sink.ensures.sink, found.2) (each-put _ _ _ _ _ _ _ _ _ _ _ _ _ _ _ step w.in_ok-put_sink.ensures.ok)
-      | else-is_full w ↦ rw (w.clerk-is, w.answers-is, found.2) step
-    ]
+    let step = each-step _ _ c.loop-turn.records c.answer_next.new.records _ _ _ _ _ _ _ _ _ _ _ _ c.loop-turn.invariant.feeds found.0 answers in
+    record {
+      feeds = elim c.if-is_full.branch [
+        | then-is_full+in_ok-put_sink w ↦
+            rw (w.clerk-is, w.answers-is, w.put_sink.ensures.sink, found.2) (each-put _ _ _ _ _ _ _ _ _ _ _ _ _ _ _ step w.in_ok-put_sink.ensures.ok)
+        | else-is_full w ↦ rw (w.clerk-is, w.answers-is, found.2) step
+      ];
+      told = elim c.if-is_full.branch [
+        | then-is_full+in_ok-put_sink w ↦
+            let before = c.loop-turn.invariant.told in
+            rw w.answers-is (tells-later _ _ _ _ _ _ before.0 before.1.0 before.1.1 w.in_ok-put_sink.ensures.told)
+        | else-is_full w ↦ rw w.answers-is c.loop-turn.invariant.told
+      ];
+    }

@@ -1,22 +1,29 @@
-use Rattle.std.proofs.Common.{◌≡◌, ◌+◌, []}
+use Rattle.std.proofs.Common.{◌≡◌, ◌+◌, [], ℕ, List, false, true}
 use Rattle.rubis_script.specs.SiteRuns.{told_by}
+use Rattle.rubis_keep.specs.History.{Tells, log_of, out_in}
+use Rattle.rubis_keep.specs.Lives.{Lives}
 use Rattle.rubis_keep.specs.Kept.{InEachStand, IsBegun, Stands}
 use Rattle.rubis_keep.proofs.pieces.answer_pieces.Given as goal
 
 abbrev pub invariant-loop-turn : goal.invariant-loop-turn
 invariant-loop-turn g l =
     let input = g.R.Read.remaining in
-    let log = g.K.Write.contents in
+    let history = g.F.SiteFiles.history in
     let before = g.O.Read.remaining in
-    let out = g.W.Write.contents in
     let old = l.fn.clerk in
     let new = l.clerk in
     record {
       window : new.desk.window.items ≡ [];
       empty : new.desk.reply.sink ≡ [];
       begun : IsBegun l.lines.cutter;
-      stands : InEachStand (told_by old.desk.site (old.desk.answered + 1)) (input l.fn.live) (log l.fn.log) (before l.fn.answers.before)
-          (out l.fn.answers.out) l.fn.lines.cutter (old.desk.answered + 1) l.fn.lines.kept
+      stands : InEachStand (told_by old.desk.site (old.desk.answered + 1)) (input l.fn.live) (log_of l.keeps (history l.fn.answers.files)) (before l.fn.answers.before)
+          (out_in (history l.fn.answers.files)) l.fn.lines.cutter (old.desk.answered + 1) l.fn.lines.kept
           (λ all told old base line input0 log0 out0 len0. Stands all (told_by new.desk.site (new.desk.answered + 1)) told old base line input0 (input l.live) log0
-          (log l.log) (before l.answers.before) out0 (out l.answers.out) l.lines.cutter (new.desk.answered + 1) len0 l.lines.kept);
+          (log_of l.keeps (history l.answers.files)) (before l.answers.before) out0 (out_in (history l.answers.files)) l.lines.cutter (new.desk.answered + 1) len0 l.lines.kept);
+      live : l.answers.is_live ≡ l.fn.answers.is_live;
+      told : l.keeps ≡ false → (l.answers.is_live ≡ l.fn.answers.is_live) × ((text : List ℕ)
+          × Tells l.fn.answers.is_live (history l.fn.answers.files) (history l.answers.files) text []);
+      safe : l.keeps ≡ true → l.fn.answers.is_live ≡ true
+          → Lives (told_by old.desk.site (old.desk.answered + 1)) (before l.fn.answers.before) (old.desk.answered + 1) (history l.fn.answers.files)
+          (told_by new.desk.site (new.desk.answered + 1)) (before l.answers.before) (new.desk.answered + 1) (history l.answers.files);
     }

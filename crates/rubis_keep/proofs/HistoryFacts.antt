@@ -1,0 +1,465 @@
+-- What events do to the files of a site, and that these stay safe.
+use Rattle.std.proofs.Common.{◌≡◌, ◌∙◌, ◌++◌, ◌∷◌, [], ℕ, Bool, true, false, List, Option, Some, None, cond, drop, length, map, take, refl, sym, ap, subst}
+use Rattle.std.proofs.Common.{Result, Ok, Err, append_assoc, take-append-drop, ◌⊎◌, inl, inr, ◌≤◌, ◌+◌, ◌-◌}
+use Rattle.std.proofs.lemmas.List.{append-nil, take_all}
+use Rattle.std.specs.Prelude.{IsErr, MatchBool, MatchResult}
+use Rattle.std.specs.Io.KnownBytes.{Appends, Keeps}
+use Rattle.rubis_keep.specs.History.{Answers, AreSafe, Event, FileState, Follows, Grows, History, IsAnswered, IsSafe, StaysSafe, Tells, after, after_all, kept_in}
+use Rattle.rubis_keep.specs.Files.{AppendsFront}
+use Rattle.rubis_keep.specs.History.{HasDone, HasKept, HasTold, TellsFront, KeepsLines, log_of, now, out_in, records_in, told_of}
+use Rattle.rubis_keep.specs.History.Event.{Began, CutTo, Flushed, Kept, Settled, Shown, Told}
+use Rattle.rubis_keep.specs.Kept.{CutsTo, IsFrontOf}
+use Rattle.rubis_keep.specs.Lines.{AreSound, whole_lines}
+use Rattle.rubis_keep.proofs.FileFacts.{more-bound, take-more}
+use Rattle.rubis_keep.proofs.SoundFacts.{sound-front}
+
+-- ---- histories that grow
+
+pub after-append : (s : FileState) (xs ys : List Event) → after_all s (xs ++ ys) ≡ after_all (after_all s xs) ys
+after-append s [] ys = refl
+after-append s (e ∷ xs) ys = after-append (after s e) xs ys
+
+pub grows-none : (a : Option History) → Grows a a []
+grows-none None = tt
+grows-none (Some h) = ap (λ (es : List Event). record { start = h.start; events = es }) (sym (append-nil h.events))
+
+pub grows-more : (a b c : Option History) (xs ys : List Event) → Grows a b xs → Grows b c ys → Grows a c (xs ++ ys)
+grows-more None b c xs ys f g = tt
+grows-more (Some h) None c xs ys f g = absurd f
+grows-more (Some h) (Some h2) None xs ys f g = absurd g
+grows-more (Some h) (Some h2) (Some h3) xs ys f g =
+    g ∙ ap (λ (t : History). record { start = t.start; events = t.events ++ ys }) f
+    ∙ ap (λ (es : List Event). record { start = h.start; events = es }) (append_assoc h.events xs ys)
+
+pub now-more : (h h2 : History) (es : List Event) → h2 ≡ record { start = h.start; events = h.events ++ es } → now h2 ≡ after_all (now h) es
+now-more h h2 es e = ap now e ∙ after-append h.start h.events es
+
+-- ---- answers
+
+-- only `text` was told
+pub record OnlyTells (s s2 : FileState) (text : List ℕ) : Type 0 where
+  pub kept : s2.kept ≡ s.kept
+  pub flushed : s2.flushed ≡ s.flushed
+  pub cut : s2.cut ≡ s.cut
+  pub begun : s2.begun ≡ s.begun
+  pub out : s2.out ≡ s.out ++ text
+
+pub only-tells : (live : Bool) (es : List Event) (due due2 : List ℕ) (s : FileState) → Answers live es due due2 → OnlyTells s (after_all s es) (told_of es)
+only-tells live [] due due2 s a = record { kept = refl; flushed = refl; cut = refl; begun = refl; out = sym (append-nil s.out) }
+only-tells live (Told b ∷ es) due due2 s a =
+    let r = only-tells live es (cond live (due ++ b ∷ []) due) due2 (after s (Told b)) a in
+    record { kept = r.kept; flushed = r.flushed; cut = r.cut; begun = r.begun; out = r.out ∙ append_assoc s.out (b ∷ []) (told_of es) }
+only-tells live (Shown b ∷ es) due due2 s a =
+    let r = only-tells live es a.0 due2 (after s (Shown b)) a.2 in
+    record { kept = r.kept; flushed = r.flushed; cut = r.cut; begun = r.begun; out = r.out }
+only-tells live (Kept b ∷ es) due due2 s a = absurd a
+only-tells live (Flushed ∷ es) due due2 s a = absurd a
+only-tells live (CutTo n ∷ es) due due2 s a = absurd a
+only-tells live (Settled ∷ es) due due2 s a = absurd a
+only-tells live (Began n counts ∷ es) due due2 s a = absurd a
+
+pub answers-append : (live : Bool) (xs ys : List Event) (due mid due2 : List ℕ) → Answers live xs due mid → Answers live ys mid due2 → Answers live (xs ++ ys) due due2
+answers-append live [] ys due mid due2 a b = subst (λ d. Answers live ys d due2) a b
+answers-append live (Told c ∷ xs) ys due mid due2 a b = answers-append live xs ys (cond live (due ++ c ∷ []) due) mid due2 a b
+answers-append live (Shown c ∷ xs) ys due mid due2 a b = (a.0, a.1, answers-append live xs ys a.0 mid due2 a.2 b)
+answers-append live (Kept c ∷ xs) ys due mid due2 a b = absurd a
+answers-append live (Flushed ∷ xs) ys due mid due2 a b = absurd a
+answers-append live (CutTo n ∷ xs) ys due mid due2 a b = absurd a
+answers-append live (Settled ∷ xs) ys due mid due2 a b = absurd a
+answers-append live (Began n counts ∷ xs) ys due mid due2 a b = absurd a
+
+told-append : (xs ys : List Event) → told_of (xs ++ ys) ≡ told_of xs ++ told_of ys
+told-append [] ys = refl
+told-append (Told b ∷ xs) ys = ap (λ t. b ∷ t) (told-append xs ys)
+told-append (Shown b ∷ xs) ys = told-append xs ys
+told-append (Kept b ∷ xs) ys = told-append xs ys
+told-append (Flushed ∷ xs) ys = told-append xs ys
+told-append (CutTo n ∷ xs) ys = told-append xs ys
+told-append (Settled ∷ xs) ys = told-append xs ys
+told-append (Began n counts ∷ xs) ys = told-append xs ys
+
+told-all : (text : List ℕ) → told_of (map (λ b. Told b) text) ≡ text
+told-all [] = refl
+told-all (b ∷ text) = ap (λ t. b ∷ t) (told-all text)
+
+shown-tells-none : (text : List ℕ) → told_of (map (λ b. Shown b) text) ≡ []
+shown-tells-none [] = refl
+shown-tells-none (b ∷ text) = shown-tells-none text
+
+answers-told : (live : Bool) (text due : List ℕ) → Answers live (map (λ b. Told b) text) due (cond live (due ++ text) due)
+answers-told true [] due = append-nil due
+answers-told false [] due = refl
+answers-told true (b ∷ text) due = subst (Answers true (map (λ b. Told b) text) (due ++ b ∷ [])) (append_assoc due (b ∷ []) text) (answers-told true text (due ++ b ∷ []))
+answers-told false (b ∷ text) due = answers-told false text due
+
+answers-shown : (text due : List ℕ) → Answers true (map (λ b. Shown b) text) (text ++ due) due
+answers-shown [] due = refl
+answers-shown (b ∷ text) due = (text ++ due, refl, answers-shown text due)
+
+-- ---- safe at each moment
+
+pub safe-first : (text : List (List (List ℕ)) → List ℕ) (s : FileState) (es : List Event) → AreSafe text s es → IsSafe text s
+safe-first text s [] h = h
+safe-first text s (e ∷ es) h = h.0
+
+pub safe-last : (text : List (List (List ℕ)) → List ℕ) (s : FileState) (es : List Event) → AreSafe text s es → IsSafe text (after_all s es)
+safe-last text s [] h = h
+safe-last text s (e ∷ es) h = safe-last text (after s e) es h.2
+
+pub safe-append : (text : List (List (List ℕ)) → List ℕ) (s : FileState) (xs ys : List Event) → AreSafe text s xs → AreSafe text (after_all s xs) ys
+    → AreSafe text s (xs ++ ys)
+safe-append text s [] ys h k = k
+safe-append text s (e ∷ xs) ys h k = (h.0, h.1, safe-append text (after s e) xs ys h.2 k)
+
+pub stays-none : (text : List (List (List ℕ)) → List ℕ) (h : History) → IsSafe text (now h) → StaysSafe text (Some h) (Some h)
+stays-none text h safe = ([], grows-none (Some h), safe)
+
+pub stays-more : (text : List (List (List ℕ)) → List ℕ) (a b c : Option History) → StaysSafe text a b → StaysSafe text b c → StaysSafe text a c
+stays-more text None b c f g = tt
+stays-more text (Some h) None c f g = absurd f.1
+stays-more text (Some h) (Some h2) c f g = (
+  f.0 ++ g.0,
+  grows-more (Some h) (Some h2) c f.0 g.0 f.1 g.1,
+  safe-append text (now h) f.0 g.0 f.2 (subst (λ s. AreSafe text s g.0) (now-more h h2 f.0 f.1) g.2),
+)
+
+-- what is shown is what `out` has, but for `due`; or nothing is shown
+abbrev pub IsDue : Bool → FileState → List ℕ → Type 0
+IsDue live s due = (s.begun ≡ live) × MatchBool live (s.shown ++ due ≡ s.out) ((s.shown ≡ []) × (due ≡ []))
+
+due-shown : (live : Bool) (s : FileState) (due : List ℕ) → IsDue live s due → MatchBool s.begun (IsFrontOf s.shown s.out) (s.shown ≡ [])
+due-shown live s due d = subst (λ b. MatchBool b (IsFrontOf s.shown s.out) (s.shown ≡ [])) (sym d.0) (go live d.1)
+  where
+    go : (b : Bool) → MatchBool b (s.shown ++ due ≡ s.out) ((s.shown ≡ []) × (due ≡ [])) → MatchBool b (IsFrontOf s.shown s.out) (s.shown ≡ [])
+    go true e = (due, e)
+    go false e = e.0
+
+due-told : (live : Bool) (s : FileState) (due : List ℕ) (b : ℕ) → IsDue live s due → IsDue live (after s (Told b)) (cond live (due ++ b ∷ []) due)
+due-told true s due b d = (d.0, sym (append_assoc s.shown due (b ∷ [])) ∙ ap (λ t. t ++ b ∷ []) d.1)
+due-told false s due b d = d
+
+due-more : (live : Bool) (s : FileState) (due rest : List ℕ) (b : ℕ) → due ≡ b ∷ rest → IsDue live s due → IsDue live (after s (Shown b)) rest
+due-more true s due rest b e d = (d.0, append_assoc s.shown (b ∷ []) rest ∙ ap (λ t. s.shown ++ t) (sym e) ∙ d.1)
+due-more false s due rest b e d = absurd (cc (d.1.1, e))
+
+pub due-after : (live : Bool) (es : List Event) (due due2 : List ℕ) (s : FileState) → Answers live es due due2 → IsDue live s due → IsDue live (after_all s es) due2
+due-after live [] due due2 s a d = subst (IsDue live s) (sym a) d
+due-after live (Told b ∷ es) due due2 s a d = due-after live es (cond live (due ++ b ∷ []) due) due2 (after s (Told b)) a (due-told live s due b d)
+due-after live (Shown b ∷ es) due due2 s a d = due-after live es a.0 due2 (after s (Shown b)) a.2 (due-more live s due a.0 b a.1 d)
+due-after live (Kept b ∷ es) due due2 s a d = absurd a
+due-after live (Flushed ∷ es) due due2 s a d = absurd a
+due-after live (CutTo n ∷ es) due due2 s a d = absurd a
+due-after live (Settled ∷ es) due due2 s a d = absurd a
+due-after live (Began n counts ∷ es) due due2 s a d = absurd a
+
+safe-here : (text : List (List (List ℕ)) → List ℕ) (live : Bool) (due rest : List ℕ) (s : FileState) → AreSound [] (s.kept ++ s.cut) → IsFrontOf s.flushed s.kept
+    → IsDue live s due → IsFrontOf (s.out ++ rest) (text (records_in s.flushed)) → IsSafe text s
+safe-here text live due rest s sound flushed d (more, e) =
+    record { sound = sound; flushed = flushed; told = (rest ++ more, sym (append_assoc s.out rest more) ∙ e); shown = due-shown live s due d }
+
+-- what is told is the next of the text of the records that were flushed
+pub safe-answers : (text : List (List (List ℕ)) → List ℕ) (live : Bool) (es : List Event) (due due2 : List ℕ) (s : FileState) → Answers live es due due2
+    → AreSound [] (s.kept ++ s.cut) → IsFrontOf s.flushed s.kept → IsDue live s due → IsFrontOf (s.out ++ told_of es) (text (records_in s.flushed))
+    → AreSafe text s es
+safe-answers text live [] due due2 s a sound flushed d f = safe-here text live due [] s sound flushed d f
+safe-answers text live (Told b ∷ es) due due2 s a sound flushed d f = (
+  safe-here text live due (b ∷ told_of es) s sound flushed d f,
+  tt,
+  safe-answers text live es (cond live (due ++ b ∷ []) due) due2 (after s (Told b)) a sound flushed (due-told live s due b d)
+      (f.0, ap (λ t. t ++ f.0) (append_assoc s.out (b ∷ []) (told_of es)) ∙ f.1),
+)
+safe-answers text live (Shown b ∷ es) due due2 s a sound flushed d f = (
+  safe-here text live due (told_of es) s sound flushed d f,
+  tt,
+  safe-answers text live es a.0 due2 (after s (Shown b)) a.2 sound flushed (due-more live s due a.0 b a.1 d) f,
+)
+safe-answers text live (Kept b ∷ es) due due2 s a sound flushed d f = absurd a
+safe-answers text live (Flushed ∷ es) due due2 s a sound flushed d f = absurd a
+safe-answers text live (CutTo n ∷ es) due due2 s a sound flushed d f = absurd a
+safe-answers text live (Settled ∷ es) due due2 s a sound flushed d f = absurd a
+safe-answers text live (Began n counts ∷ es) due due2 s a sound flushed d f = absurd a
+
+-- ---- lines that are kept
+
+pub record OnlyKeeps (s s2 : FileState) (bytes : List ℕ) : Type 0 where
+  pub kept : s2.kept ≡ s.kept ++ bytes
+  pub flushed : s2.flushed ≡ s.flushed
+  pub cut : s2.cut ≡ s.cut
+  pub begun : s2.begun ≡ s.begun
+  pub shown : s2.shown ≡ s.shown
+  pub out : s2.out ≡ s.out
+
+pub only-keeps : (bytes : List ℕ) (s : FileState) → OnlyKeeps s (after_all s (map (λ b. Kept b) bytes)) bytes
+only-keeps [] s = record { kept = sym (append-nil s.kept); flushed = refl; cut = refl; begun = refl; shown = refl; out = refl }
+only-keeps (b ∷ bytes) s =
+    let r = only-keeps bytes (after s (Kept b)) in
+    record { kept = r.kept ∙ append_assoc s.kept (b ∷ []) bytes; flushed = r.flushed; cut = r.cut; begun = r.begun; shown = r.shown; out = r.out }
+
+pub safe-keeps : (text : List (List (List ℕ)) → List ℕ) (bytes : List ℕ) (s : FileState) → IsSafe text s → s.cut ≡ [] → AreSound [] (s.kept ++ bytes)
+    → AreSafe text s (map (λ b. Kept b) bytes)
+safe-keeps text [] s safe none sound = safe
+safe-keeps text (b ∷ bytes) s safe none sound =
+    let all : AreSound [] ((s.kept ++ b ∷ []) ++ bytes) = subst (AreSound []) (sym (append_assoc s.kept (b ∷ []) bytes)) sound in (
+      safe,
+      tt,
+      safe-keeps text bytes (after s (Kept b))
+          (record {
+            sound = subst (λ c. AreSound [] ((s.kept ++ b ∷ []) ++ c)) (sym none)
+                (subst (AreSound []) (sym (append-nil (s.kept ++ b ∷ []))) (sound-front [] (s.kept ++ b ∷ []) bytes all));
+            flushed = (safe.flushed.0 ++ b ∷ [], sym (append_assoc s.flushed safe.flushed.0 (b ∷ [])) ∙ ap (λ t. t ++ b ∷ []) safe.flushed.1);
+            told = safe.told;
+            shown = safe.shown;
+          })
+          none all,
+    )
+
+-- ---- what the files have
+
+pub tells-out : (live : Bool) (old new : Option History) (text due : List ℕ) → Tells live old new text due → Appends (out_in old) (out_in new) text
+tells-out live None new text due t = tt
+tells-out live (Some h) None text due t = absurd t.1
+tells-out live (Some h) (Some h2) text due t =
+    ap (λ (s : FileState). s.out) (now-more h h2 t.0 t.1) ∙ (only-tells live t.0 [] due (now h) t.2).out ∙ ap (λ x. (now h).out ++ x) t.3
+
+pub tells-more : (live : Bool) (a b c : Option History) (xs ys due : List ℕ) → Tells live a b xs [] → Tells live b c ys due → Tells live a c (xs ++ ys) due
+tells-more live a b c xs ys due f g = (
+  f.0 ++ g.0,
+  grows-more a b c f.0 g.0 f.1 g.1,
+  answers-append live f.0 g.0 [] [] due f.2 g.2,
+  told-append f.0 g.0 ∙ ap (λ t. t ++ told_of g.0) f.3 ∙ ap (λ t. xs ++ t) g.3,
+)
+
+pub tells-none : (live : Bool) (a : Option History) → Tells live a a [] []
+tells-none live a = ([], grows-none a, refl, refl)
+
+-- ---- what of them a run sees
+
+kept-all : (s : FileState) (bytes : List ℕ) → (after_all s (map (λ b. Kept b) bytes ++ Flushed ∷ [])).kept ≡ s.kept ++ bytes
+kept-all s bytes = ap (λ (t : FileState). t.kept) (after-append s (map (λ b. Kept b) bytes) (Flushed ∷ [])) ∙ (only-keeps bytes s).kept
+
+kept-same-out : (s : FileState) (bytes : List ℕ) → (after_all s (map (λ b. Kept b) bytes ++ Flushed ∷ [])).out ≡ s.out
+kept-same-out s bytes = ap (λ (t : FileState). t.out) (after-append s (map (λ b. Kept b) bytes) (Flushed ∷ [])) ∙ (only-keeps bytes s).out
+
+pub kept-log : (keeps : Bool) (a b : Option History) (lines : List ℕ) → KeepsLines keeps a b lines → Appends (log_of keeps a) (log_of keeps b) lines
+kept-log false a b lines k = tt
+kept-log true None b lines k = tt
+kept-log true (Some h) None lines (inl g) = absurd g
+kept-log true (Some h) None lines (inr g) = absurd g.0
+kept-log true (Some h) (Some h2) lines (inl g) = ap (λ (s : FileState). s.kept) (now-more h h2 _ g) ∙ kept-all (now h) lines
+kept-log true (Some h) (Some h2) lines (inr g) =
+    ap (λ (s : FileState). s.kept) (now-more h h2 [] g.0) ∙ sym (append-nil (now h).kept) ∙ ap (λ t. (now h).kept ++ t) (sym g.1)
+
+pub front-log : (a b : Option History) (bytes : List ℕ) → Grows a b (map (λ b. Kept b) bytes) → Appends (log_of true a) (log_of true b) bytes
+front-log None b bytes g = tt
+front-log (Some h) None bytes g = absurd g
+front-log (Some h) (Some h2) bytes g = ap (λ (s : FileState). s.kept) (now-more h h2 _ g) ∙ (only-keeps bytes (now h)).kept
+
+pub kept-out : (keeps : Bool) (a b : Option History) (lines : List ℕ) → KeepsLines keeps a b lines → Keeps (out_in a) (out_in b)
+kept-out keeps None b lines k = tt
+kept-out true (Some h) None lines (inl g) = absurd g
+kept-out true (Some h) None lines (inr g) = absurd g.0
+kept-out false (Some h) None lines g = absurd g
+kept-out true (Some h) (Some h2) lines (inl g) = ap (λ (s : FileState). s.out) (now-more h h2 _ g) ∙ kept-same-out (now h) lines
+kept-out true (Some h) (Some h2) lines (inr g) = ap (λ (s : FileState). s.out) (now-more h h2 [] g.0)
+kept-out false (Some h) (Some h2) lines g = ap (λ (s : FileState). s.out) (now-more h h2 [] g)
+
+pub front-out : (a b : Option History) (bytes : List ℕ) → Grows a b (map (λ b. Kept b) bytes) → Keeps (out_in a) (out_in b)
+front-out None b bytes g = tt
+front-out (Some h) None bytes g = absurd g
+front-out (Some h) (Some h2) bytes g = ap (λ (s : FileState). s.out) (now-more h h2 _ g) ∙ (only-keeps bytes (now h)).out
+
+tells-log : (keeps live : Bool) (a b : Option History) (text due : List ℕ) → Tells live a b text due → Keeps (log_of keeps a) (log_of keeps b)
+tells-log false live a b text due t = tt
+tells-log true live None b text due t = tt
+tells-log true live (Some h) None text due t = absurd t.1
+tells-log true live (Some h) (Some h2) text due t = ap (λ (s : FileState). s.kept) (now-more h h2 t.0 t.1) ∙ (only-tells live t.0 [] due (now h) t.2).kept
+
+pub told-log : {T E : Type 0} (keeps live live2 : Bool) (a b : Option History) (r : Result T E) → HasTold live live2 a b r → Keeps (log_of keeps a) (log_of keeps b)
+told-log keeps live live2 a b (Ok x) t = tells-log keeps live a b t.1.0 [] t.1.1
+told-log keeps live live2 a b (Err e) t = tells-log keeps live a b t.1.0 t.1.1 t.1.2
+
+-- ---- one write and the next
+
+pub once-told : (live : Bool) (a b : Option History) (text : List ℕ) → Grows a b (map (λ c. Told c) text) → Tells live a b text (cond live text [])
+once-told live a b text g = (map (λ c. Told c) text, g, answers-told live text [], told-all text)
+
+pub once-shown : (a b c : Option History) (text : List ℕ) → Grows a b (map (λ d. Told d) text) → Grows b c (map (λ d. Shown d) text) → Tells true a c text []
+once-shown a b c text f g = (
+  map (λ d. Told d) text ++ map (λ d. Shown d) text,
+  grows-more a b c _ _ f g,
+  answers-append true (map (λ d. Told d) text) (map (λ d. Shown d) text) [] text [] (answers-told true text [])
+      (subst (λ t. Answers true (map (λ d. Shown d) text) t []) (append-nil text) (answers-shown text [])),
+  told-append (map (λ d. Told d) text) (map (λ d. Shown d) text) ∙ ap (λ t. told_of (map (λ d. Told d) text) ++ t) (shown-tells-none text)
+      ∙ append-nil (told_of (map (λ d. Told d) text)) ∙ told-all text,
+)
+
+pub once-torn : (a b c : Option History) (text : List ℕ) (n : ℕ) → Grows a b (map (λ d. Told d) text) → Grows b c (map (λ d. Shown d) (take n text))
+    → Tells true a c text (drop n text)
+once-torn a b c text n f g = (
+  map (λ d. Told d) text ++ map (λ d. Shown d) (take n text),
+  grows-more a b c _ _ f g,
+  answers-append true (map (λ d. Told d) text) (map (λ d. Shown d) (take n text)) [] text (drop n text) (answers-told true text [])
+      (subst (λ t. Answers true (map (λ d. Shown d) (take n text)) t (drop n text)) (take-append-drop n text) (answers-shown (take n text) (drop n text))),
+  told-append (map (λ d. Told d) text) (map (λ d. Shown d) (take n text)) ∙ ap (λ t. told_of (map (λ d. Told d) text) ++ t) (shown-tells-none (take n text))
+      ∙ append-nil (told_of (map (λ d. Told d) text)) ∙ told-all text,
+)
+
+pub tells-after : (live : Bool) (a b c : Option History) (text due : List ℕ) → Grows a b [] → Tells live b c text due → Tells live a c text due
+tells-after live a b c text due g t = tells-more live a b c [] text due ([], g, refl, refl) t
+
+pub told-after : {T E : Type 0} (live live2 : Bool) (a b c : Option History) (r : Result T E) → Grows a b [] → HasTold live live2 b c r → HasTold live live2 a c r
+told-after live live2 a b c (Ok x) g t = (t.0, (t.1.0, tells-after live a b c t.1.0 [] g t.1.1))
+told-after live live2 a b c (Err e) g t = (t.0, (t.1.0, t.1.1, tells-after live a b c t.1.0 t.1.1 g t.1.2))
+
+-- more is told after what was told
+pub told-more : {T E : Type 0} (live live2 live3 : Bool) (a b c : Option History) (r : Result T E) → live2 ≡ live → (text : List ℕ) → Tells live a b text []
+    → HasTold live2 live3 b c r → HasTold live live3 a c r
+told-more live live2 live3 a b c (Ok x) e text f t = (t.0 ∙ e, (text ++ t.1.0, tells-more live a b c text t.1.0 [] f (subst (λ l. Tells l b c t.1.0 []) e t.1.1)))
+told-more live live2 live3 a b c (Err x) e text f t =
+    (t.0 ∙ e, (text ++ t.1.0, t.1.1, tells-more live a b c text t.1.0 t.1.1 f (subst (λ l. Tells l b c t.1.0 t.1.1) e t.1.2)))
+
+pub told_none : {T E : Type 0} (live : Bool) (a : Option History) (r : Result T E) → HasTold live live a a r
+told_none live a (Ok x) = (refl, ([], tells-none live a))
+told_none live a (Err e) = (refl, ([], [], tells-none live a))
+
+pub match-err : {T E Q : Type 0} (P : Type 0) (r : Result T E) → IsErr r → Q → MatchResult r (λ _. P) (λ _. Q)
+match-err P (Ok x) e q = absurd (cc e)
+match-err P (Err x) e q = q
+
+pub told-failed : {T E : Type 0} (live live2 : Bool) (a b : Option History) (r : Result T E) → IsErr r
+    → (live2 ≡ live) × ((text : List ℕ) × (due : List ℕ) × Tells live a b text due) → HasTold live live2 a b r
+told-failed live live2 a b (Ok x) e t = absurd (cc e)
+told-failed live live2 a b (Err x) e t = t
+
+-- all that was told was shown, and then more
+pub tells-later : (live live2 live3 : Bool) (a b c : Option History) → live2 ≡ live → (text : List ℕ) → Tells live a b text []
+    → (live3 ≡ live2) × ((text2 : List ℕ) × Tells live2 b c text2 []) → (live3 ≡ live) × ((text2 : List ℕ) × Tells live a c text2 [])
+tells-later live live2 live3 a b c e text f (g, (text2, t)) =
+    (g ∙ e, (text ++ text2, tells-more live a b c text text2 [] f (subst (λ l. Tells l b c text2 []) e t)))
+
+-- a fault after all that was told was shown
+pub told-late : {T E : Type 0} (live live2 : Bool) (a b : Option History) (r : Result T E) → IsErr r
+    → (live2 ≡ live) × ((text : List ℕ) × Tells live a b text []) → HasTold live live2 a b r
+told-late live live2 a b r e (same, (text, t)) = told-failed live live2 a b r e (same, (text, [], t))
+
+-- ---- bytes that are written one part after the other
+
+map-append : (event : ℕ → Event) (xs ys : List ℕ) → map event (xs ++ ys) ≡ map event xs ++ map event ys
+map-append event [] ys = refl
+map-append event (x ∷ xs) ys = ap (λ t. event x ∷ t) (map-append event xs ys)
+
+pub grows-front : (a b c : Option History) (event : ℕ → Event) (at n : ℕ) (bytes : List ℕ) → Grows a b (map event (take at bytes))
+    → Grows b c (map event (take n (take (length bytes - at) (drop at bytes)))) → Grows a c (map event (take (at + n) bytes))
+grows-front a b c event at n bytes f g =
+    subst (Grows a c) (sym (map-append event (take at bytes) (take n (take (length bytes - at) (drop at bytes)))) ∙ ap (map event) (take-more at n bytes))
+    (grows-more a b c _ _ f g)
+
+pub grows-still : (a b c : Option History) (xs : List Event) → Grows a b xs → Grows b c [] → Grows a c xs
+grows-still a b c xs f g = subst (Grows a c) (append-nil xs) (grows-more a b c xs [] f g)
+
+pub kept-end : {T E : Type 0} (a b c : Option History) (r : Result T E) (lines : List ℕ) (at : ℕ) → length lines ≤ at → at ≤ length lines
+    → Grows a b (map (λ d. Kept d) (take at lines)) → HasDone Flushed b c r → HasKept true a c r lines
+kept-end a b c (Ok x) lines at l m g d =
+    inl (subst (λ t. Grows a c (map (λ d. Kept d) t ++ Flushed ∷ [])) (take_all at lines l) (grows-more a b c _ _ g d))
+kept-end a b c (Err e) lines at l m g d = (refl, at, m, grows-still a b c _ g d)
+
+pub tells-grown : (live : Bool) (a b c : Option History) (at n : ℕ) (text due : List ℕ) → Tells live a b (take at text) []
+    → Tells live b c (take n (take (length text - at) (drop at text))) due → Tells live a c (take (at + n) text) due
+tells-grown live a b c at n text due f g = subst (λ t. Tells live a c t due) (take-more at n text) (tells-more live a b c _ _ due f g)
+
+pub tells-whole : (live : Bool) (a b : Option History) (at : ℕ) (text due : List ℕ) → length text ≤ at → Tells live a b (take at text) due → Tells live a b text due
+tells-whole live a b at text due l t = subst (λ x. Tells live a b x due) (take_all at text l) t
+
+pub tells-front : (live : Bool) (a b c : Option History) (at : ℕ) (text : List ℕ) → at ≤ length text → Tells live a b (take at text) []
+    → TellsFront live b c (take (length text - at) (drop at text)) → TellsFront live a c text
+tells-front live a b c at text l f (n, m, due, t) = (at + n, more-bound at n text l m, due, tells-grown live a b c at n text due f t)
+
+pub front-front : (live : Bool) (a b : Option History) (text : List ℕ) → TellsFront live a b text → AppendsFront (out_in a) (out_in b) text
+front-front live a b text (n, l, due, t) = (n, l, tells-out live a b (take n text) due t)
+
+pub has-told : {T E : Type 0} (live : Bool) (a b : Option History) (r : Result T E) (text : List ℕ)
+    → MatchResult r (λ _. Tells live a b text []) (λ _. TellsFront live a b text) → HasTold live live a b r
+has-told live a b (Ok x) text t = (refl, (text, t))
+has-told live a b (Err e) text (n, l, due, t) = (refl, (take n text, due, t))
+
+-- ---- what a run does between its pieces
+
+-- what was kept and told is as it was
+abbrev pub IsStill : Option History → Option History → Type 0
+IsStill a b = Keeps (kept_in a) (kept_in b) × Keeps (out_in a) (out_in b)
+
+still-more : (a b c : Option (List ℕ)) → Keeps a b → Keeps b c → Keeps a c
+still-more None b c f g = tt
+still-more (Some x) None c f g = absurd f
+still-more (Some x) (Some y) None f g = absurd g
+still-more (Some x) (Some y) (Some z) f g = g ∙ f
+
+pub is-still-more : (a b c : Option History) → IsStill a b → IsStill b c → IsStill a c
+is-still-more a b c f g = (still-more (kept_in a) (kept_in b) (kept_in c) f.0 g.0, still-more (out_in a) (out_in b) (out_in c) f.1 g.1)
+
+still-by : (a b : Option History) (es : List Event) → Grows a b es → ((s : FileState) → ((after_all s es).kept ≡ s.kept) × ((after_all s es).out ≡ s.out)) → IsStill a b
+still-by None b es g h = (tt, tt)
+still-by (Some x) None es g h = absurd g
+still-by (Some x) (Some y) es g h =
+    let e = now-more x y es g in
+    (ap (λ (s : FileState). s.kept) e ∙ (h (now x)).0, ap (λ (s : FileState). s.out) e ∙ (h (now x)).1)
+
+pub still-none : (a b : Option History) → Grows a b [] → IsStill a b
+still-none a b g = still-by a b [] g (λ s. (refl, refl))
+
+pub still-flushed : (a b : Option History) → Grows a b (Flushed ∷ []) → IsStill a b
+still-flushed a b g = still-by a b (Flushed ∷ []) g (λ s. (refl, refl))
+
+pub still-settled : (a b : Option History) → Grows a b (Settled ∷ []) → IsStill a b
+still-settled a b g = still-by a b (Settled ∷ []) g (λ s. (refl, refl))
+
+pub still-begun : (a b : Option History) (n : ℕ) (counts : List ℕ) → Grows a b (Settled ∷ Began n counts ∷ []) → IsStill a b
+still-begun a b n counts g = still-by a b (Settled ∷ Began n counts ∷ []) g (λ s. (refl, refl))
+
+pub still-unbegun : (a b : Option History) → Grows a b [] ⊎ Grows a b (Settled ∷ []) → IsStill a b
+still-unbegun a b (inl g) = still-none a b g
+still-unbegun a b (inr g) = still-settled a b g
+
+-- what was kept is cut off
+abbrev pub IsCut : Option History → Option History → ℕ → Type 0
+IsCut a b len = CutsTo (kept_in a) (kept_in b) len × Keeps (out_in a) (out_in b)
+
+pub cut-by : (a b : Option History) (len : ℕ) → Grows a b (CutTo len ∷ []) → IsCut a b len
+cut-by None b len g = (tt, tt)
+cut-by (Some x) None len g = absurd g
+cut-by (Some x) (Some y) len g =
+    let e = now-more x y (CutTo len ∷ []) g in
+    (ap (λ (s : FileState). Some s.kept) e, ap (λ (s : FileState). s.out) e)
+
+pub cut-flushed : (a b : Option History) (len : ℕ) → Grows a b (CutTo len ∷ Flushed ∷ []) → IsCut a b len
+cut-flushed None b len g = (tt, tt)
+cut-flushed (Some x) None len g = absurd g
+cut-flushed (Some x) (Some y) len g =
+    let e = now-more x y (CutTo len ∷ Flushed ∷ []) g in
+    (ap (λ (s : FileState). Some s.kept) e, ap (λ (s : FileState). s.out) e)
+
+cuts-still : (a b c : Option (List ℕ)) (len : ℕ) → CutsTo a b len → Keeps b c → CutsTo a c len
+cuts-still None b c len f g = tt
+cuts-still (Some x) None c len f g = absurd (cc f)
+cuts-still (Some x) (Some y) None len f g = absurd g
+cuts-still (Some x) (Some y) (Some z) len f g = ap (λ t. Some t) g ∙ f
+
+pub cut-still : (a b c : Option History) (len : ℕ) → IsCut a b len → IsStill b c → IsCut a c len
+cut-still a b c len f g = (cuts-still (kept_in a) (kept_in b) (kept_in c) len f.0 g.0, still-more (out_in a) (out_in b) (out_in c) f.1 g.1)
+
+-- whatever was told and not shown yet, all that was told was
+pub told-either : {T E : Type 0} (live live2 : Bool) (a b : Option History) (r : Result T E) → (live2 ≡ live) × ((text : List ℕ) × Tells live a b text [])
+    → HasTold live live2 a b r
+told-either live live2 a b (Ok x) t = t
+told-either live live2 a b (Err e) (same, (text, t)) = (same, (text, [], t))
+
+pub told-kept : {T E : Type 0} (live live2 : Bool) (a b : Option History) (r : Result T E) → HasTold live live2 a b r → Keeps (kept_in a) (kept_in b)
+told-kept live live2 a b r t = told-log true live live2 a b r t
+
+-- only the first bytes of lines were kept
+pub torn-log : (keeps : Bool) (a b : Option History) (lines : List ℕ) → keeps ≡ true → (n : ℕ) → n ≤ length lines → Grows a b (map (λ c. Kept c) (take n lines))
+    → AppendsFront (log_of keeps a) (log_of keeps b) lines
+torn-log keeps a b lines is n l g = rw is (n, l, front-log a b (take n lines) g)
+
+pub torn-out : (a b : Option History) (lines : List ℕ) (n : ℕ) → Grows a b (map (λ c. Kept c) (take n lines)) → Keeps (out_in a) (out_in b)
+torn-out a b lines n g = front-out a b (take n lines) g

@@ -1,0 +1,347 @@
+-- The files of a run stay safe from its start on.
+use Rattle.std.proofs.Common.{◌≡◌, ◌∙◌, ◌+◌, ◌⊎◌, inl, inr, ◌++◌, ◌∷◌, [], ℕ, Bool, true, false, List, Option, Some, None, Result, Ok, Err, drop, length, map, take}
+use Rattle.std.proofs.Common.{arith, refl, sym, ap, subst, append_assoc, take-append-drop}
+use Rattle.std.proofs.lemmas.List.{append-nil}
+use Rattle.std.proofs.Math.Seq.{take-append_seam}
+use Rattle.std.specs.Prelude.{IfSome}
+use Rattle.rubis_engine.specs.Accounts.{Account}
+use Rattle.rubis_engine.specs.Accounts.Ending.{AtEnd}
+use Rattle.rubis_engine.specs.Text.{input_records}
+use Rattle.rubis_keep.specs.History.{Answers, AreSafe, Event, FileState, Grows, HasDone, HasTold, History, IsAnswered, IsSafe, StaysSafe, Tells, after, after_all}
+use Rattle.rubis_keep.specs.History.{kept_in, now, out_in, records_in, told_of}
+use Rattle.rubis_keep.specs.History.Event.{Began, CutTo, Flushed, Kept, Settled, Shown, Told}
+use Rattle.rubis_keep.specs.Kept.{Begins, Ended, HasAnswered, IsFrontOf, Opens, Replayed}
+use Rattle.rubis_keep.specs.Lines.{AreSound, begun_after, whole_lines}
+use Rattle.rubis_keep.specs.Lives.{Found, IsOpened, LivesSafe, Rested}
+use Rattle.rubis_keep.proofs.HistoryFacts.{IsCut, cut-by, cut-flushed, cut-still, still-begun, still-none, still-unbegun}
+use Rattle.rubis_keep.proofs.HistoryFacts.{grows-none, now-more, only-tells, safe-answers, safe-first, safe-last, stays-more, stays-none}
+use Rattle.rubis_keep.proofs.LifeFacts.{begins, go-uncut, go-untold}
+use Rattle.rubis_keep.proofs.SoundFacts.{whole-ends, whole-rest, whole-sound, whole-whole}
+
+-- the text of what was kept whole begins with what was told
+told-front : (all more : Account) (told : List ℕ) (number : ℕ) (kept : List ℕ) → HasAnswered all more told number (whole_lines kept)
+    → IsFrontOf told (all.text AtEnd (records_in kept))
+told-front all more told number kept a =
+    (more.text AtEnd [], sym (a.text AtEnd []) ∙ ap (all.text AtEnd) (append-nil (input_records (whole_lines kept))))
+
+told-all : (all more : Account) (told : List ℕ) (number : ℕ) (kept : List ℕ) → HasAnswered all more told number (whole_lines kept) → more.text AtEnd [] ≡ []
+    → told ≡ all.text AtEnd (records_in kept)
+unfolding told-front
+told-all all more told number kept a none =
+    sym (append-nil told) ∙ ap (λ t. told ++ t) (sym none) ∙ (told-front all more told number kept a).1
+
+found-safe : (text : List (List (List ℕ)) → List ℕ) (kept : List ℕ) (s : FileState) → AreSound [] kept → Found kept s → IsFrontOf s.out (text (records_in kept))
+    → IsSafe text s
+found-safe text kept s sound f front = record {
+  sound = rw (f.kept_is, f.cut) (subst (AreSound []) (sym (append-nil kept)) sound);
+  flushed = ([], append-nil s.flushed ∙ f.flushed ∙ sym f.kept_is);
+  told = subst (λ k. IsFrontOf s.out (text (records_in k))) (sym f.flushed) front;
+  shown = rw f.begun f.shown;
+}
+
+-- ---- what was kept is answered again
+
+told-within : (text : List (List (List ℕ)) → List ℕ) (kept : List ℕ) (h h2 : History) (live : Bool) (told due : List ℕ) → live ≡ false → AreSound [] kept
+    → Found kept (now h) → Tells live (Some h) (Some h2) told due → IsFrontOf (now h2).out (text (records_in kept)) → StaysSafe text (Some h) (Some h2)
+told-within text kept h h2 live told due e sound f t front =
+    let s = now h in
+    let a = subst (λ b. Answers b t.0 [] due) e t.2 in
+    let o = only-tells false t.0 [] due s a in (
+      t.0,
+      t.1,
+      safe-answers text false t.0 [] due s a
+          (rw (f.kept_is, f.cut) (subst (AreSound []) (sym (append-nil kept)) sound))
+          ([], append-nil s.flushed ∙ f.flushed ∙ sym f.kept_is)
+          (f.begun, (f.shown, refl))
+          (subst (λ k. IsFrontOf (s.out ++ told_of t.0) (text (records_in k))) (sym f.flushed)
+          (subst (λ x. IsFrontOf x (text (records_in kept))) (ap (λ (x : FileState). x.out) (now-more h h2 t.0 t.1) ∙ o.out) front)),
+    )
+
+-- what was told of it is the beginning of the text of its records
+pub replay-safe : {T E : Type 0} (text : List (List (List ℕ)) → List ℕ) (kept : List ℕ) (h : History) (new : Option History) (live live2 : Bool) (r : Result T E)
+    → live ≡ false → AreSound [] kept → Found kept (now h) → HasTold live live2 (Some h) new r
+    → ((h2 : History) → new ≡ Some h2 → IsFrontOf (now h2).out (text (records_in kept))) → StaysSafe text (Some h) new
+replay-safe text kept h None live live2 (Ok x) e sound f t front = absurd t.1.1.1
+replay-safe text kept h None live live2 (Err x) e sound f t front = absurd t.1.2.1
+replay-safe text kept h (Some h2) live live2 (Ok x) e sound f t front = told-within text kept h h2 live t.1.0 [] e sound f t.1.1 (front h2 refl)
+replay-safe text kept h (Some h2) live live2 (Err x) e sound f t front = told-within text kept h h2 live t.1.0 t.1.1 e sound f t.1.2 (front h2 refl)
+
+none-shown : (es : List Event) (due due2 : List ℕ) (s : FileState) → Answers false es due due2 → due ≡ [] → (after_all s es).shown ≡ s.shown
+none-shown [] due due2 s a e = refl
+none-shown (Told b ∷ es) due due2 s a e = none-shown es due due2 (after s (Told b)) a e
+none-shown (Shown b ∷ es) due due2 s a e = absurd (cc (e, a.1))
+none-shown (Kept b ∷ es) due due2 s a e = absurd a
+none-shown (Flushed ∷ es) due due2 s a e = absurd a
+none-shown (CutTo n ∷ es) due due2 s a e = absurd a
+none-shown (Settled ∷ es) due due2 s a e = absurd a
+none-shown (Began n counts ∷ es) due due2 s a e = absurd a
+
+-- and the files are found so still
+pub replay-found : (kept : List ℕ) (h h2 : History) (live : Bool) (told due : List ℕ) → live ≡ false → Found kept (now h) → Tells live (Some h) (Some h2) told due
+    → Found kept (now h2)
+replay-found kept h h2 live told due e f t =
+    let a = subst (λ b. Answers b t.0 [] due) e t.2 in
+    let o = only-tells false t.0 [] due (now h) a in
+    let is = now-more h h2 t.0 t.1 in
+    rw is (record {
+      kept_is = o.kept ∙ f.kept_is;
+      flushed = o.flushed ∙ f.flushed;
+      cut = o.cut ∙ f.cut;
+      begun = o.begun ∙ f.begun;
+      shown = none-shown t.0 [] due (now h) a refl ∙ f.shown;
+    })
+
+-- ---- the line that isn't whole is cut off, and new records come
+
+-- all that was kept is answered, and a line may be torn
+record Answered (all more : Account) (kept : List ℕ) (number : ℕ) (s : FileState) : Type 0 where
+  sound : AreSound [] kept
+  found : Found kept s
+  answered : HasAnswered all more s.out number (whole_lines kept)
+
+cut-kept : (kept : List ℕ) (len : ℕ) → len ≡ length (whole_lines kept) → take len kept ≡ whole_lines kept
+cut-kept kept len e = ap (λ n. take n kept) e ∙ ap (take (length (whole_lines kept))) (sym (whole-rest [] kept)) ∙ take-append_seam (whole_lines kept) (begun_after [] kept)
+
+cut-safe : (all more : Account) (kept : List ℕ) (number len : ℕ) (s : FileState) → Answered all more kept number s → len ≡ length (whole_lines kept)
+    → AreSafe (all.text AtEnd) s (CutTo len ∷ [])
+cut-safe all more kept number len s a e =
+    let f = a.found in
+    let front = told-front all more s.out number kept a.answered in
+    let cut = cut-kept kept len e in (
+      found-safe (all.text AtEnd) kept s a.sound f front,
+      ([], append-nil (whole_lines s.kept) ∙ ap whole_lines f.kept_is ∙ sym cut ∙ ap (take len) (sym f.kept_is)),
+      record {
+        sound = subst (AreSound []) (append_assoc (take len s.kept) (drop len s.kept) s.cut)
+            (subst (λ t. AreSound [] (t ++ s.cut)) (sym (take-append-drop len s.kept))
+            (rw (f.kept_is, f.cut) (subst (AreSound []) (sym (append-nil kept)) a.sound)));
+        flushed = ([], append-nil (take len s.flushed) ∙ ap (take len) (f.flushed ∙ sym f.kept_is));
+        told = subst (λ k. IsFrontOf s.out (all.text AtEnd (input_records k)))
+            (sym (whole-whole kept a.sound) ∙ ap whole_lines (sym cut ∙ ap (take len) (sym f.flushed))) front;
+        shown = rw f.begun f.shown;
+      },
+    )
+
+-- after the cut was flushed
+flush-safe : (all more : Account) (kept : List ℕ) (number len : ℕ) (s : FileState) → Answered all more kept number s → len ≡ length (whole_lines kept)
+    → IsSafe (all.text AtEnd) (after_all s (CutTo len ∷ Flushed ∷ []))
+flush-safe all more kept number len s a e =
+    let f = a.found in
+    let cut : take len s.kept ≡ whole_lines kept = ap (take len) f.kept_is ∙ cut-kept kept len e in
+    record {
+      sound = rw cut (subst (AreSound []) (sym (append-nil (whole_lines kept))) (whole-sound kept a.sound));
+      flushed = ([], append-nil (take len s.kept));
+      told = subst (λ k. IsFrontOf s.out (all.text AtEnd (input_records k))) (sym (whole-whole kept a.sound) ∙ ap whole_lines (sym cut))
+          (told-front all more s.out number kept a.answered);
+      shown = rw f.begun f.shown;
+    }
+
+-- the site is settled, and the line `kept,..` shown
+begin-safe : (all more : Account) (kept : List ℕ) (number len answered : ℕ) (counts : List ℕ) (s : FileState) → Answered all more kept number s
+    → len ≡ length (whole_lines kept) → number ≡ answered + 1 → more.text AtEnd [] ≡ []
+    → AreSafe (all.text AtEnd) (after_all s (CutTo len ∷ Flushed ∷ [])) (Settled ∷ Began answered counts ∷ [])
+begin-safe all more kept number len answered counts s a e n none =
+    let safe = flush-safe all more kept number len s a e in
+    let cut : take len s.kept ≡ whole_lines kept = ap (take len) a.found.kept_is ∙ cut-kept kept len e in
+    let told : s.out ≡ all.text AtEnd (records_in (take len s.kept)) =
+    told-all all more s.out number kept a.answered none ∙ ap (λ k. all.text AtEnd (input_records k)) (sym (whole-whole kept a.sound) ∙ ap whole_lines (sym cut)) in
+    let count = a.answered.count in
+    let size : length (records_in (take len s.kept)) ≡ length (input_records (whole_lines kept)) =
+    ap (λ k. length (input_records k)) (ap whole_lines cut ∙ whole-whole kept a.sound) in (
+      safe,
+      told,
+      (safe, (told, omega (arith, count, size, n)), record { sound = safe.sound; flushed = safe.flushed; told = safe.told; shown = ([], append-nil s.out) }),
+    )
+
+-- between two pieces of the input, before the first
+begin-rests : (all more : Account) (kept : List ℕ) (number len answered : ℕ) (counts : List ℕ) (before : Option (List ℕ)) (s : FileState)
+    → Answered all more kept number s → len ≡ length (whole_lines kept) → before ≡ Some []
+    → Rested all more number before (after_all s (CutTo len ∷ Flushed ∷ Settled ∷ Began answered counts ∷ []))
+begin-rests all more kept number len answered counts before s a e none =
+    let cut : take len s.kept ≡ whole_lines kept = ap (take len) a.found.kept_is ∙ cut-kept kept len e in
+    record {
+      answered = rw cut a.answered;
+      found = none;
+      sound = rw cut (whole-sound kept a.sound);
+      ends = rw cut (whole-ends kept a.sound);
+      flushed = refl;
+      cut = refl;
+      begun = refl;
+      shown = refl;
+    }
+
+-- ---- from the start to the end
+
+-- all that was kept is answered again
+ready : (all more : Account) (kept old : List ℕ) (before : Option (List ℕ)) (h : History) (number len : ℕ) → AreSound [] kept → Found kept (now h)
+    → Replayed all more kept old before (out_in (Some h)) number len → Answered all more kept number (now h)
+ready all more kept old before h number len sound f r =
+    record { sound = sound; found = f; answered = subst (λ t. HasAnswered all more t number (whole_lines kept)) (told-is r.out_is) r.answered }
+  where
+    told-is : Some (now h).out ≡ Some r.told → r.told ≡ (now h).out
+    told-is e = cc e
+
+-- a fault before the first new record: `mid` is after the cut
+pub go-safe-uncut : (all more : Account) (kept old : List ℕ) (before : Option (List ℕ)) (h : History) (new : Option History) (number len : ℕ) → AreSound [] kept
+    → Found kept (now h) → Replayed all more kept old before (out_in (Some h)) number len → Grows (Some h) new [] ⊎ Grows (Some h) new (CutTo len ∷ [])
+    → StaysSafe (all.text AtEnd) (Some h) new
+go-safe-uncut all more kept old before h new number len sound f r (inl g) =
+    ([], g, safe-first (all.text AtEnd) (now h) (CutTo len ∷ []) (cut-safe all more kept number len (now h) (ready all more kept old before h number len sound f r) r.length_is))
+go-safe-uncut all more kept old before h new number len sound f r (inr g) =
+    (CutTo len ∷ [], g, cut-safe all more kept number len (now h) (ready all more kept old before h number len sound f r) r.length_is)
+
+cut-and-flushed : (all more : Account) (kept : List ℕ) (number len : ℕ) (s : FileState) → Answered all more kept number s → len ≡ length (whole_lines kept)
+    → AreSafe (all.text AtEnd) s (CutTo len ∷ Flushed ∷ [])
+cut-and-flushed all more kept number len s a e =
+    let c = cut-safe all more kept number len s a e in
+    (c.0, c.1, (c.2, tt, flush-safe all more kept number len s a e))
+
+pub go-safe-untold : (all more : Account) (kept old : List ℕ) (before : Option (List ℕ)) (h : History) (mid new : Option History) (number len : ℕ) → AreSound [] kept
+    → Found kept (now h) → Replayed all more kept old before (out_in (Some h)) number len → more.text AtEnd [] ≡ [] → Grows (Some h) mid (CutTo len ∷ Flushed ∷ [])
+    → Grows mid new [] ⊎ Grows mid new (Settled ∷ []) → StaysSafe (all.text AtEnd) (Some h) new
+go-safe-untold all more kept old before h None new number len sound f r none g e = absurd g
+go-safe-untold all more kept old before h (Some m) new number len sound f r none g e =
+    let a = ready all more kept old before h number len sound f r in
+    stays-more (all.text AtEnd) (Some h) (Some m) new (CutTo len ∷ Flushed ∷ [], g, cut-and-flushed all more kept number len (now h) a r.length_is) (next a e)
+  where
+    next : Answered all more kept number (now h) → Grows (Some m) new [] ⊎ Grows (Some m) new (Settled ∷ []) → StaysSafe (all.text AtEnd) (Some m) new
+    next a (inl e) = ([], e, subst (IsSafe (all.text AtEnd)) (sym (now-more h m (CutTo len ∷ Flushed ∷ []) g)) (flush-safe all more kept number len (now h) a r.length_is))
+    next a (inr e) =
+        let b = begin-safe all more kept number len (length (input_records (whole_lines kept))) [] (now h) a r.length_is (sym a.answered.count) none in
+        (Settled ∷ [], e, subst (λ s. AreSafe (all.text AtEnd) s (Settled ∷ [])) (sym (now-more h m (CutTo len ∷ Flushed ∷ []) g)) (b.0, b.1, b.0))
+
+-- the run goes on with new records
+pub go-safe : {T E : Type 0} (all more more2 : Account) (kept old : List ℕ) (before before2 : Option (List ℕ)) (h : History) (mid mid2 new : Option History)
+    (number number2 len answered : ℕ) (counts : List ℕ) (res : Result T E) → AreSound [] kept → Found kept (now h)
+    → Replayed all more kept old before (out_in (Some h)) number len → more.text AtEnd [] ≡ [] → number ≡ answered + 1
+    → Grows (Some h) mid (CutTo len ∷ Flushed ∷ []) → Grows mid mid2 (Settled ∷ Began answered counts ∷ [])
+    → LivesSafe more before number mid2 more2 before2 number2 new res → StaysSafe (all.text AtEnd) (Some h) new
+go-safe all more more2 kept old before before2 h None mid2 new number number2 len answered counts res sound f r none n g e lives = absurd g
+go-safe all more more2 kept old before before2 h (Some m) None new number number2 len answered counts res sound f r none n g e lives = absurd e
+go-safe all more more2 kept old before before2 h (Some m) (Some m2) new number number2 len answered counts res sound f r none n g e lives =
+    let a = ready all more kept old before h number len sound f r in
+    let text = all.text AtEnd in
+    let is1 = now-more h m (CutTo len ∷ Flushed ∷ []) g in
+    let is2 : now m2 ≡ after_all (now h) (CutTo len ∷ Flushed ∷ Settled ∷ Began answered counts ∷ []) =
+    now-more m m2 (Settled ∷ Began answered counts ∷ []) e ∙ ap (λ s. after_all s (Settled ∷ Began answered counts ∷ [])) is1 in
+    let rested = subst (Rested all more number before) (sym is2) (begin-rests all more kept number len answered counts before (now h) a r.length_is r.before_is) in
+    stays-more text (Some h) (Some m) new (CutTo len ∷ Flushed ∷ [], g, cut-and-flushed all more kept number len (now h) a r.length_is)
+    (stays-more text (Some m) (Some m2) new (
+      Settled ∷ Began answered counts ∷ [],
+      e,
+      subst (λ s. AreSafe text s (Settled ∷ Began answered counts ∷ [])) (sym is1) (begin-safe all more kept number len answered counts (now h) a r.length_is n none),
+    )
+    (lives all m2 refl rested).0)
+
+-- ---- a whole run
+
+flushed-found : (text : List (List (List ℕ)) → List ℕ) (kept : List ℕ) (s : FileState) → IsOpened text s → s.kept ≡ kept → Found kept (after s Flushed)
+flushed-found text kept s o e = record { kept_is = e; flushed = e; cut = refl; begun = o.begun; shown = rw o.begun at o.safe.shown }
+
+flushed-safe : (text : List (List (List ℕ)) → List ℕ) (s : FileState) → IsOpened text s → AreSafe text s (Flushed ∷ [])
+flushed-safe text s o = (o.safe, tt, found-safe text s.kept (after s Flushed) o.left.sound (flushed-found text s.kept s o refl) (o.left.rest, o.left.begins))
+
+-- it ended before anything was flushed
+pub run-safe-start : (text : List (List (List ℕ)) → List ℕ) (h : History) (new : Option History) → IsOpened text (now h) → Grows (Some h) new [] → StaysSafe text (Some h) new
+run-safe-start text h new o g = ([], g, o.safe)
+
+kept-is : (a b : List ℕ) → Some a ≡ Some b → a ≡ b
+kept-is a b e = cc e
+
+-- what was told when the replay failed is the beginning of the text of what was kept
+ended-front : (all : Account) (kept old out : List ℕ) (input : Option (List ℕ)) → Ended all kept old input input (Some kept) (Some out)
+    → IsFrontOf old (all.text AtEnd (records_in kept)) → IsFrontOf out (all.text AtEnd (records_in kept))
+ended-front all kept old out input e front = go e.answers
+  where
+    out-is : out ≡ e.told
+    out-is = cc e.out_is
+
+    log-is : kept ≡ e.kept
+    log-is = cc e.log_is
+
+    go : ((e.kept ≡ kept) × (e.told ≡ old)) ⊎ (AreSound [] kept × IsFrontOf old (all.text AtEnd (input_records (whole_lines kept)))
+        × ((more : List (List (List ℕ))) → IsFrontOf e.told (all.text AtEnd (input_records (whole_lines e.kept) ++ more))))
+        → IsFrontOf out (all.text AtEnd (records_in kept))
+    go (inl same) = subst (λ t. IsFrontOf t (all.text AtEnd (records_in kept))) (sym (out-is ∙ same.1)) front
+    go (inr (sound, found, begins)) =
+        let b = begins [] in
+        (b.0, ap (λ t. t ++ b.0) out-is ∙ b.1 ∙ ap (all.text AtEnd) (append-nil (input_records (whole_lines e.kept)) ∙ ap (λ k. input_records (whole_lines k)) (sym log-is)))
+
+-- what was kept could not be answered again
+pub run-safe-unreplayed : {T E : Type 0} (all : Account) (first past before : Option (List ℕ)) (h : History) (mid new : Option History) (live live2 : Bool)
+    (res : Result T E) (kept old : List ℕ) → live ≡ false → IfSome first (λ text. AreSound [] text)
+    → Opens kept old first past (kept_in (Some h)) before (out_in (Some h)) → IsOpened (all.text AtEnd) (now h) → Grows (Some h) mid (Flushed ∷ [])
+    → HasTold live live2 mid new res
+    → ((kept old : List ℕ) (input : Option (List ℕ)) → Begins kept old past (Some kept) before (out_in mid) → Ended all kept old input input (Some kept) (out_in new))
+    → StaysSafe (all.text AtEnd) (Some h) new
+run-safe-unreplayed all first past before h None new live live2 res kept old off sound o opened g t ends = absurd g
+run-safe-unreplayed all first past before h (Some m) new live live2 res kept old off sound o opened g t ends =
+    let text = all.text AtEnd in
+    let is = now-more h m (Flushed ∷ []) g in
+    let kept_now : (now h).kept ≡ kept = kept-is (now h).kept kept o.log_is in
+    let found : Found kept (now m) = subst (Found kept) (sym is) (flushed-found text kept (now h) opened kept_now) in
+    let b = begins kept old first past (Some (now m).kept) before (Some (now m).out) (record {
+      first_is = o.first_is;
+      past_is = o.past_is;
+      log_is = ap (λ (s : FileState). Some s.kept) is ∙ o.log_is;
+      before_is = o.before_is;
+      out_is = ap (λ (s : FileState). Some s.out) is ∙ o.out_is;
+    }) sound in
+    let front : IsFrontOf old (text (records_in kept)) =
+    subst (λ t. IsFrontOf t (text (records_in kept))) (kept-is (now h).out old o.out_is)
+    (subst (λ k. IsFrontOf (now h).out (text (records_in k))) kept_now (opened.left.rest, opened.left.begins)) in
+    stays-more text (Some h) (Some m) new (Flushed ∷ [], g, flushed-safe text (now h) opened)
+    (replay-safe text kept m new live live2 res off b.sound found t
+    (λ h2 e. ended-front all kept old (now h2).out None (subst (λ n. Ended all kept old None None (Some kept) (out_in n)) e (ends kept old None b)) front))
+
+-- what was kept is answered again, and the run goes on
+pub run-safe : (all more : Account) (first past before before2 : Option (List ℕ)) (h : History) (mid mid2 new : Option History) (live live2 : Bool)
+    (number len : ℕ) (kept old : List ℕ) → live ≡ false → IfSome first (λ text. AreSound [] text)
+    → Opens kept old first past (kept_in (Some h)) before (out_in (Some h)) → IsOpened (all.text AtEnd) (now h) → Grows (Some h) mid (Flushed ∷ [])
+    → (live2 ≡ live) × ((told : List ℕ) × Tells live mid mid2 told [])
+    → ((kept old : List ℕ) → Begins kept old past (Some kept) before (out_in mid) → Replayed all more kept old before2 (out_in mid2) number len)
+    → ((all : Account) (kept old : List ℕ) (h2 : History) → mid2 ≡ Some h2 → AreSound [] kept → Found kept (now h2)
+    → Replayed all more kept old before2 (out_in mid2) number len → StaysSafe (all.text AtEnd) (Some h2) new)
+    → StaysSafe (all.text AtEnd) (Some h) new
+run-safe all more first past before before2 h None mid2 new live live2 number len kept old off sound o opened g t replayed goes = absurd g
+run-safe all more first past before before2 h (Some m) None new live live2 number len kept old off sound o opened g t replayed goes = absurd t.1.1.1
+run-safe all more first past before before2 h (Some m) (Some m2) new live live2 number len kept old off sound o opened g t replayed goes =
+    let text = all.text AtEnd in
+    let is = now-more h m (Flushed ∷ []) g in
+    let kept_now : (now h).kept ≡ kept = kept-is (now h).kept kept o.log_is in
+    let found : Found kept (now m) = subst (Found kept) (sym is) (flushed-found text kept (now h) opened kept_now) in
+    let b = begins kept old first past (Some (now m).kept) before (Some (now m).out) (record {
+      first_is = o.first_is;
+      past_is = o.past_is;
+      log_is = ap (λ (s : FileState). Some s.kept) is ∙ o.log_is;
+      before_is = o.before_is;
+      out_is = ap (λ (s : FileState). Some s.out) is ∙ o.out_is;
+    }) sound in
+    let r = replayed kept old b in
+    let front : IsFrontOf (now m2).out (text (records_in kept)) =
+    subst (λ t. IsFrontOf t (text (records_in kept))) (sym (kept-is (now m2).out r.told r.out_is)) (told-front all more r.told number kept r.answered) in
+    stays-more text (Some h) (Some m) new (Flushed ∷ [], g, flushed-safe text (now h) opened)
+    (stays-more text (Some m) (Some m2) new (told-within text kept m m2 live t.1.0 [] off b.sound found t.1.1 front)
+    (goes all kept old m2 refl b.sound (replay-found kept m m2 live t.1.0 [] off found t.1.1) r))
+
+-- ---- the ends of a run, as the code has them
+
+pub cut-fails : (more : Account) (input : Option (List ℕ)) (a b : Option History) (before : Option (List ℕ)) (number len : ℕ)
+    → Grows a b [] ⊎ Grows a b (CutTo len ∷ []) → (all : Account) (kept old : List ℕ) → AreSound [] kept → kept_in a ≡ Some kept
+    → Replayed all more kept old before (out_in a) number len → Ended all kept old input input (kept_in b) (out_in b)
+cut-fails more input a b before number len (inl g) =
+    let s = still-none a b g in
+    go-uncut more input (kept_in a) (kept_in b) before (out_in a) (out_in b) number len s.0 s.1
+cut-fails more input a b before number len (inr g) =
+    let s = cut-by a b len g in
+    go-untold more input (kept_in a) (kept_in b) before (out_in a) (out_in b) number len s.0 s.1
+
+pub begin-fails : (more : Account) (input : Option (List ℕ)) (a b c : Option History) (before : Option (List ℕ)) (number len : ℕ)
+    → Grows a b (CutTo len ∷ Flushed ∷ []) → Grows b c [] ⊎ Grows b c (Settled ∷ []) → (all : Account) (kept old : List ℕ) → AreSound [] kept → kept_in a ≡ Some kept
+    → Replayed all more kept old before (out_in a) number len → Ended all kept old input input (kept_in c) (out_in c)
+begin-fails more input a b c before number len g e =
+    let s = cut-still a b c len (cut-flushed a b len g) (still-unbegun b c e) in
+    go-untold more input (kept_in a) (kept_in c) before (out_in a) (out_in c) number len s.0 s.1
+
+-- after the cut, and the line `kept,..`
+pub begun-cut : (a b c : Option History) (len n : ℕ) (counts : List ℕ) → Grows a b (CutTo len ∷ Flushed ∷ []) → Grows b c (Settled ∷ Began n counts ∷ []) → IsCut a c len
+begun-cut a b c len n counts g e = cut-still a b c len (cut-flushed a b len g) (still-begun b c n counts e)

@@ -1,0 +1,8 @@
+use Rattle.std.proofs.Common.{◌≤◌, length, map, take}
+use Rattle.rubis_keep.specs.History.{Grows}
+use Rattle.rubis_keep.specs.History.Event.{Kept}
+use Rattle.rubis_keep.proofs.keeping.keep_lines.Given as goal
+
+abbrev pub invariant-loop-turn : goal.invariant-loop-turn
+invariant-loop-turn g l = (l.at ≤ length l.chunk)
+    × Grows (g.F.SiteFiles.history l.fn.files) (g.F.SiteFiles.history l.files) (map (λ b. Kept b) (take l.at l.chunk))

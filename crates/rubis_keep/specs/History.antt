@@ -1,0 +1,168 @@
+-- What happens to the files of a site, byte by byte, and what holds of them at each moment.
+use Rattle.std.specs.Prelude.{◌≡◌, ◌≤◌, ◌⊎◌, ◌++◌, ◌∷◌, [], ℕ, Bool, List, Option, Result, Some, None, MatchBool, MatchResult, cond, drop, length, map, take, true, false, ⊤}
+use Rattle.std.specs.Option.{option_map}
+use Rattle.rubis_engine.specs.Text.{input_records}
+use Rattle.rubis_keep.specs.Kept.{IsFrontOf}
+use Rattle.rubis_keep.specs.Lines.{AreSound, whole_lines}
+
+-- a byte is appended to `kept` or to `out`, or shown on standard output: of a write that is cut off, some first bytes are. `kept` is
+-- flushed, after which it survives a power failure if that is asked for, or cut off after its first bytes. The line `kept,..` is
+-- shown: how many records were kept, and how many messages of each site are released
+pub data Event : Type 0 where
+  Kept : (byte : ℕ) → Event
+  Flushed : Event
+  CutTo : (len : ℕ) → Event
+  Told : (byte : ℕ) → Event
+  Settled : Event
+  Began : (records : ℕ) (counts : List ℕ) → Event
+  Shown : (byte : ℕ) → Event
+
+-- what stands in the files of a site
+pub record FileState : Type 0 where
+  pub kept : List ℕ
+  -- what of it survives a power failure
+  pub flushed : List ℕ
+  -- what was cut off from it, and may come back with a power failure
+  pub cut : List ℕ
+  pub out : List ℕ
+  -- whether the line `kept,..` was shown; and what `out` had then, with the answers that were shown since
+  pub begun : Bool
+  pub shown : List ℕ
+
+abbrev pub after : FileState → Event → FileState
+after s (Kept b) = record s { kept = s.kept ++ b ∷ [] }
+after s Flushed = record s { flushed = s.kept; cut = [] }
+after s (CutTo n) = record s { kept = take n s.kept; flushed = take n s.flushed; cut = drop n s.kept ++ s.cut }
+after s (Told b) = record s { out = s.out ++ b ∷ [] }
+after s Settled = s
+after s (Began n counts) = record s { begun = true; shown = s.out }
+after s (Shown b) = record s { shown = s.shown ++ b ∷ [] }
+
+abbrev pub after_all : FileState → List Event → FileState
+after_all s [] = s
+after_all s (e ∷ later) = after_all (after s e) later
+
+-- how the files stood when a process opened them, and what has happened to them since
+pub record History : Type 0 where
+  pub start : FileState
+  pub events : List Event
+
+abbrev pub now : History → FileState
+now h = after_all h.start h.events
+
+abbrev pub kept_in : Option History → Option (List ℕ)
+kept_in known = option_map (λ h. (now h).kept) known
+
+abbrev pub out_in : Option History → Option (List ℕ)
+out_in known = option_map (λ h. (now h).out) known
+
+-- where the history is known, these events and no others have happened since
+abbrev pub Grows : Option History → Option History → List Event → Type 0
+Grows None new events = ⊤
+Grows (Some h) None events = ⊥
+Grows (Some h) (Some h2) events = h2 ≡ record { start = h.start; events = h.events ++ events }
+
+-- some of these bytes are written at once, or none
+abbrev pub HasWritten : {E : Type 0} → (ℕ → Event) → Option History → Option History → Result ℕ E → List ℕ → Type 0
+HasWritten event old new r bytes = MatchResult r (λ n. Grows old new (map event (take n bytes))) (λ _. Grows old new [])
+
+-- the one event happens, or none
+abbrev pub HasDone : {T E : Type 0} → Event → Option History → Option History → Result T E → Type 0
+HasDone event old new r = MatchResult r (λ _. Grows old new (event ∷ [])) (λ _. Grows old new [])
+
+-- these bytes are shown, or some first ones
+abbrev pub HasShown : {T E : Type 0} → Option History → Option History → Result T E → List ℕ → Type 0
+HasShown old new r text = MatchResult r (λ _. Grows old new (map (λ b. Shown b) text)) (λ _. (n : ℕ) × Grows old new (map (λ b. Shown b) (take n text)))
+
+-- ---- what holds at each moment
+
+-- the records of what was kept whole
+abbrev pub records_in : List ℕ → List (List (List ℕ))
+records_in kept = input_records (whole_lines kept)
+
+-- What was kept is lines that are kept as they are, the last of which may be torn. What survives a power failure is a prefix of it, and
+-- `out` is the beginning of the text of the records that survive: so nothing is told that isn't kept and flushed. Nothing is shown before
+-- the line `kept,..`, and then nothing that `out` doesn't have
+pub record IsSafe (text : List (List (List ℕ)) → List ℕ) (s : FileState) : Type 0 where
+  pub sound : AreSound [] (s.kept ++ s.cut)
+  pub flushed : IsFrontOf s.flushed s.kept
+  pub told : IsFrontOf s.out (text (records_in s.flushed))
+  pub shown : MatchBool s.begun (IsFrontOf s.shown s.out) (s.shown ≡ [])
+
+-- all that was kept is answered
+abbrev pub IsAnswered : (List (List (List ℕ)) → List ℕ) → FileState → Type 0
+IsAnswered text s = s.out ≡ text (records_in s.kept)
+
+-- no event loses a line that was kept whole. The line `kept,..` is shown, and the site set up anew, once all that was kept is answered
+abbrev pub Follows : (List (List (List ℕ)) → List ℕ) → FileState → Event → Type 0
+Follows text s (Kept b) = ⊤
+Follows text s Flushed = ⊤
+Follows text s (CutTo n) = IsFrontOf (whole_lines s.kept) (take n s.kept)
+Follows text s (Told b) = ⊤
+Follows text s Settled = IsAnswered text s
+Follows text s (Began n counts) = IsAnswered text s × (n ≡ length (records_in s.kept))
+Follows text s (Shown b) = ⊤
+
+-- at each moment of these events the files are safe
+abbrev pub AreSafe : (List (List (List ℕ)) → List ℕ) → FileState → List Event → Type 0
+AreSafe text s [] = IsSafe text s
+AreSafe text s (e ∷ later) = IsSafe text s × Follows text s e × AreSafe text (after s e) later
+
+-- where the history is known, the files were safe at each moment since
+abbrev pub StaysSafe : (List (List (List ℕ)) → List ℕ) → Option History → Option History → Type 0
+StaysSafe text None new = ⊤
+StaysSafe text (Some h) new = (events : List Event) × Grows (Some h) new events × AreSafe text (now h) events
+
+-- ---- what a run does to them
+
+-- only answers are told, and in a run that shows them each is shown once it is told: `due` is still to be shown before these events,
+-- and `due2` after them
+abbrev pub Answers : Bool → List Event → List ℕ → List ℕ → Type 0
+Answers live [] due due2 = due2 ≡ due
+Answers live (Told b ∷ later) due due2 = Answers live later (cond live (due ++ b ∷ []) due) due2
+Answers live (Shown b ∷ later) due due2 = (rest : List ℕ) × (due ≡ b ∷ rest) × Answers live later rest due2
+Answers live (Kept b ∷ later) due due2 = ⊥
+Answers live (Flushed ∷ later) due due2 = ⊥
+Answers live (CutTo n ∷ later) due due2 = ⊥
+Answers live (Settled ∷ later) due due2 = ⊥
+Answers live (Began n counts ∷ later) due due2 = ⊥
+
+-- what is told by these events
+abbrev pub told_of : List Event → List ℕ
+told_of [] = []
+told_of (Told b ∷ later) = b ∷ told_of later
+told_of (Kept b ∷ later) = told_of later
+told_of (Flushed ∷ later) = told_of later
+told_of (CutTo n ∷ later) = told_of later
+told_of (Settled ∷ later) = told_of later
+told_of (Began n counts ∷ later) = told_of later
+told_of (Shown b ∷ later) = told_of later
+
+-- this text was told, and shown if answers are shown; or `due` of it is still to be shown
+abbrev pub Tells : Bool → Option History → Option History → List ℕ → List ℕ → Type 0
+Tells live old new text due = (events : List Event) × Grows old new events × Answers live events [] due × (told_of events ≡ text)
+
+-- a prefix of this text was told, of which some may not be shown yet
+abbrev pub TellsFront : Bool → Option History → Option History → List ℕ → Type 0
+TellsFront live old new text = (n : ℕ) × (n ≤ length text) × (due : List ℕ) × Tells live old new (take n text) due
+
+-- a run that shows its answers, or doesn't, goes on so; what it told was shown, or at a fault some of it may not be
+abbrev pub HasTold : {T E : Type 0} → Bool → Bool → Option History → Option History → Result T E → Type 0
+HasTold live live2 old new r = (live2 ≡ live)
+    × MatchResult r (λ _. (text : List ℕ) × Tells live old new text []) (λ _. (text : List ℕ) × (due : List ℕ) × Tells live old new text due)
+
+-- ---- lines that are kept
+
+-- a run that keeps lines has kept these, and flushed them
+abbrev pub KeepsLines : Bool → Option History → Option History → List ℕ → Type 0
+KeepsLines true old new lines = Grows old new (map (λ b. Kept b) lines ++ Flushed ∷ []) ⊎ (Grows old new [] × (lines ≡ []))
+KeepsLines false old new lines = Grows old new []
+
+-- the lines of a run that keeps them are kept, and flushed; at a fault some first bytes of them are
+abbrev pub HasKept : {T E : Type 0} → Bool → Option History → Option History → Result T E → List ℕ → Type 0
+HasKept keeps old new r lines = MatchResult r (λ _. KeepsLines keeps old new lines)
+    (λ _. (keeps ≡ true) × (n : ℕ) × (n ≤ length lines) × Grows old new (map (λ b. Kept b) (take n lines)))
+
+-- what of `kept` a run sees that keeps lines
+abbrev pub log_of : Bool → Option History → Option (List ℕ)
+log_of keeps known = cond keeps (kept_in known) None

@@ -1,0 +1,46 @@
+//! The files of a site and standard output: what happens to them, in its order.
+
+ghost use Rattle.std.specs.Prelude.{◌∷◌, [], ℕ, List, Option, None};
+ghost use Rattle.std.specs.Io.{WritesAtMost};
+ghost use Rattle.rubis_keep.specs.History.{HasDone, HasShown, HasWritten, History};
+ghost use Rattle.rubis_keep.specs.History.Event.{Began, CutTo, Flushed, Kept, Settled, Told};
+
+use std::io;
+
+/// The files of a site, `kept` and `out`, and standard output, as one value: so its history has what happens to each of them in the
+/// order of time.
+pub trait SiteFiles {
+    // What has happened to them since they were opened, where that is known.
+    ghost history: { Self → Option History } = { λ _. None };
+
+    /// Appends lines to `kept`. Returns how many bytes it took at once.
+    fn keep(&mut self, lines: &[u8]) -> io::Result<usize>
+        ensures bound { WritesAtMost result lines.now }
+        ensures kept { HasWritten (λ b. Kept b) (history self.old) (history self.new) result lines.now };
+
+    /// Returns when what was kept is as safe as it is to be: only then it is answered.
+    fn flush_kept(&mut self) -> io::Result<()>
+        ensures { HasDone Flushed (history self.old) (history self.new) result };
+
+    /// Cuts `kept` off after its first `len` bytes.
+    fn cut_kept(&mut self, len: u64) -> io::Result<()>
+        ensures { HasDone (CutTo len) (history self.old) (history self.new) result };
+
+    /// Appends answers to `out`. Returns how many bytes it took at once.
+    fn tell(&mut self, text: &[u8]) -> io::Result<usize>
+        ensures bound { WritesAtMost result text.now }
+        ensures told { HasWritten (λ b. Told b) (history self.old) (history self.new) result text.now };
+
+    /// Writes down how the site is set up from now on, if that isn't how the folder has it.
+    fn settle(&mut self) -> io::Result<()>
+        ensures { HasDone Settled (history self.old) (history self.new) result };
+
+    /// Says on standard output that all that was kept is answered: how many records that is, and how many messages of each site are
+    /// released then.
+    fn begin(&mut self, records: u64, counts: &[u64]) -> io::Result<()>
+        ensures { HasDone (Began records counts.now) (history self.old) (history self.new) result };
+
+    /// Shows answers on standard output.
+    fn show(&mut self, text: &[u8]) -> io::Result<()>
+        ensures { HasShown (history self.old) (history self.new) result text.now };
+}
