@@ -21,7 +21,7 @@ use Rattle.rubis_engine.specs.declared.fault.RunFault.TheVariants as fault
 use Rattle.rubis_engine.proofs.ReadBack.{HaveFields, HasNoMark, no_mark, rows_back}
 use Rattle.rubis_script.specs.Headline.{AnswersJust, HasAnswered, HasReadJust, OfRead, StandsAsProcess, WritesAsProcess}
 use Rattle.rubis_script.proofs.LeadFacts.{stands_as, writes_as}
-use Rattle.rubis_reading.proofs.ParsedFacts.{asked, came}
+use Rattle.rubis_script.proofs.OneReading.{asked, came}
 
 abbrev token_to_one : Packet
 token_to_one = packet.Token (record { turn = 1; to = 1; issued = 0 })
