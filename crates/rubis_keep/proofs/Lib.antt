@@ -20,3 +20,4 @@ pub mod GrowFacts
 pub mod MomentFacts
 pub mod SiteFacts
 pub mod HistoriesFacts
+pub mod RefusedFacts

@@ -1,5 +1,5 @@
 -- A site that is killed at any moment, or loses its power.
-use Rattle.std.specs.Prelude.{◌≡◌, ◌++◌, ◌⊎◌, [], ℕ, List, Option, Some, false}
+use Rattle.std.specs.Prelude.{◌≡◌, ◌++◌, ◌∷◌, ◌⊎◌, [], ℕ, List, Option, Some, false, map}
 use Rattle.rubis_model.specs.Runs.{answers}
 use Rattle.rubis_model.specs.Site.{Place, Replica}
 use Rattle.rubis_engine.specs.Accounts.{Account}
@@ -7,6 +7,7 @@ use Rattle.rubis_engine.specs.Accounts.Ending.{AtEnd, Cut}
 use Rattle.rubis_engine.specs.Text.{rows_text}
 use Rattle.rubis_keep.specs.Crashes.{Files}
 use Rattle.rubis_keep.specs.History.{AreSafe, Event, FileState, after_all, records_in}
+use Rattle.rubis_keep.specs.History.Event.{Kept, Shown, Told}
 use Rattle.rubis_keep.specs.Kept.{Ended, IsFrontOf, Lived}
 use Rattle.rubis_keep.specs.Lines.{whole_lines}
 use Rattle.rubis_keep.specs.Lives.{IsOpened}
@@ -55,3 +56,15 @@ RaisedKeepsTellTheSame = (before raised : Account) (files mid : Files) (done log
     → (Lived raised mid.log mid.out input later log out → IsFrontOf told (raised.text AtEnd (records_in mid.log)))
     × (Ended raised mid.log mid.out input later log out
     → ((log ≡ Some mid.log) × (out ≡ Some mid.out)) ⊎ IsFrontOf told (raised.text AtEnd (records_in mid.log)))
+
+-- ---- histories that are refused
+
+-- a byte is told where nothing is flushed: before lines are kept, or once they are kept and not flushed yet
+abbrev pub ToldTooEarlyIsUnsafe : Type 0
+ToldTooEarlyIsUnsafe = (text : List (List (List ℕ)) → List ℕ) (s : FileState) (lines : List ℕ) (b : ℕ) (later : List Event) → text (records_in []) ≡ []
+    → s.flushed ≡ [] → s.out ≡ [] → AreSafe text s (map (λ c. Kept c) lines ++ Told b ∷ later) → ⊥
+
+-- a byte is shown before the line `kept,..`, or that `out` doesn't have
+abbrev pub ShownTooEarlyIsUnsafe : Type 0
+ShownTooEarlyIsUnsafe = (text : List (List (List ℕ)) → List ℕ) (s : FileState) (b : ℕ) (later : List Event) → (s.begun ≡ false) ⊎ (s.shown ≡ s.out)
+    → AreSafe text s (Shown b ∷ later) → ⊥

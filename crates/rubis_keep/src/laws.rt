@@ -3,7 +3,7 @@
 ghost use Rattle.rubis_keep.specs.Shops.{KeptShopsAreRuns};
 ghost use Rattle.rubis_keep.specs.Crashes.{ComesBack, DifferencesAreFound, EditsAreFound, EndsLeft, LivesLeft};
 ghost use Rattle.rubis_keep.specs.Histories.{HistoriesAreKept, HistoriesAreRuns};
-ghost use Rattle.rubis_keep.specs.Moments.{KillsLeaveFiles, PowerFailuresLeaveFiles, RaisedKeepsTellTheSame, SiteTextsExtend};
+ghost use Rattle.rubis_keep.specs.Moments.{KillsLeaveFiles, PowerFailuresLeaveFiles, RaisedKeepsTellTheSame, ShownTooEarlyIsUnsafe, SiteTextsExtend, ToldTooEarlyIsUnsafe};
 
 /// A run that was cut off any number of times, and anywhere, comes to where one comes that was never cut off. However a run ends,
 /// it leaves what the next one can begin with. Answers that aren't those to what was kept, and a line that no run kept, are found
@@ -41,4 +41,11 @@ pub fn kept_shops_are_runs()
 pub fn histories_are_runs()
     ensures kept { HistoriesAreKept }
     ensures runs { HistoriesAreRuns }
+{}
+
+/// A history is refused in which something is told before its line is kept and flushed, or shown before the line `kept,..` or before `out` has
+/// it.
+pub fn early_answers_are_unsafe()
+    ensures told { ToldTooEarlyIsUnsafe }
+    ensures shown { ShownTooEarlyIsUnsafe }
 {}
