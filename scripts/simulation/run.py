@@ -297,9 +297,9 @@ class Run:
                 raise Violation(f"a red ask at site {site} isn't accepted: {asker.answers}; {self._state()}; "
                                 f"token {world.turn}, turns {[(its.number, its.ledger.turn, its.ledger.holds_token) for its in self._sites()]}")
         until = world.clock.now + LAST_SECONDS
-        while any(any(site.shop.behind(site).values()) for site in self._sites()):
+        while len(counts := {tuple(site.keeper.site.release.counts) for site in self._sites() if site.keeper}) > 1:
             if world.clock.now > until:
-                raise Violation(f"messages aren't read: {[(site.number, site.shop.behind(site)) for site in self._sites()]}")
+                raise Violation(f"messages aren't released everywhere: {sorted(counts)}")
             world.clock.run(world.clock.now + 0.5)
 
     def _is_kept(self) -> None:
