@@ -68,6 +68,8 @@ class World:
         self.accepted: dict[bytes, set[tuple[int, int]]] = {}       # asks, each with the ids under which a site accepted it
         self.made: dict[tuple[int, int], bytes] = {}                # the message that had each id last
         self.text_of: dict[bytes, bytes] = {}                       # the message that each ask became
+        self.open_asks: dict[int, set[bytes]] = {}  # by folder: asks of which an asker was told that a later answer decides
+        self.decided: set[bytes] = set()            # those that weren't accepted when it came
         self.lost: set[bytes] = set()                               # messages of which nothing whole was left
         self.excused: set[tuple[int, int]] = set()                  # ids that were given twice as they may be
         self.is_unreached = False           # a site was opened of which a folder has more that couldn't be reached
