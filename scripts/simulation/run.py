@@ -17,6 +17,7 @@ from .world import Command, Rules, SimulatedSite, Supervisor, Violation, World
 ASKS, FAULTS_OF_A_RUN = (58, 75), (12, 18)
 FAULT_SECONDS = 30.0        # how long things go wrong
 CALM_SECONDS = 240.0        # how long it may take then until all goes on
+WELL_SECONDS = 3.0          # how long it has to be well
 LAST_SECONDS = 60.0         # how long a red ask may take then
 LEAST_EVENTS, LEAST_TURNS, MORE = 300, 3, 12
 EXACT = 15                  # how often an operator tries to rebuild a site before he says --anyway
@@ -246,7 +247,10 @@ class Run:
             machine.is_cut_off = False
         self.resting.clear()
         until = world.clock.now + CALM_SECONDS
-        while not self._is_well():
+        well_since = world.clock.now
+        while world.clock.now - well_since < WELL_SECONDS:
+            if not self._is_well():
+                well_since = world.clock.now
             if world.clock.now > until:
                 if self._is_excused():
                     return
@@ -270,7 +274,7 @@ class Run:
     def why_excused(self) -> str | None:
         """Why so much was lost that the shop may not go on, if it was."""
         if self.world.excused:
-            return "an id was given twice by a site that couldn't reach what knew of it"
+            return "an id or a turn was given twice by a site that couldn't reach what knew of it"
         if self.world.is_unreached:
             return "a site was opened that couldn't reach what has more of it"
         if self.is_token_lost:

@@ -71,7 +71,7 @@ class World:
         self.open_asks: dict[int, set[bytes]] = {}  # by folder: asks of which an asker was told that a later answer decides
         self.decided: set[bytes] = set()            # those that weren't accepted when it came
         self.lost: set[bytes] = set()                               # messages of which nothing whole was left
-        self.excused: set[tuple[int, int]] = set()                  # ids that were given twice as they may be
+        self.excused: set[tuple[int, int]] = set()  # ids, and turns as negative numbers, that were given twice as they may be
         self.is_unreached = False           # a site was opened of which a folder has more that couldn't be reached
         self.turn = (0, 0, 0)                                       # of the last token, from and to which site
         self.passes: dict[int, bytes] = {}                          # the last token of each turn
@@ -150,6 +150,8 @@ class World:
                 self.note("Passes", keeper.folder.number, to, turn)
                 if turn > self.turn[0]:
                     self.turn = turn, site, to
+                if self.passes.get(turn, text) != text and self._is_anywhere(self.passes[turn]):
+                    self.excused.add((site, -turn))
                 self.passes[turn] = text
             case b"holding":
                 self.note("Reads", keeper.folder.number, "pass", int(record.split(b",")[2]))
