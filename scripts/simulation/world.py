@@ -643,7 +643,7 @@ class Supervisor(Process, Shop):
             return set()
         return {(site.number, site.starts) for other in self.world.supervisors() if other.machine.name != self.machine.name
                 for site in other.sites.values()
-                if other.reaches() and isinstance(other.link, SimulatedServerLink) and not other.link.down and not other.is_leaving
+                if site.number not in self.sites and other.reaches() and isinstance(other.link, SimulatedServerLink) and not other.link.down and not other.is_leaving
                 and other.paused_until + 3 < self.clock.now
                 and site.up.is_set and site.compared.is_set and not site.fenced_by}
 
