@@ -246,6 +246,7 @@ class Run:
         for machine in world.machines:
             machine.is_cut_off = False
         self.resting.clear()
+        world.clock.run(max([world.clock.now, *(supervisor.paused_until + 2 for supervisor in self.supervisors.values())]))
         until = world.clock.now + CALM_SECONDS
         well_since = world.clock.now
         while world.clock.now - well_since < WELL_SECONDS:
