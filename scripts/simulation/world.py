@@ -121,7 +121,8 @@ class World:
                     if site == number:
                         more = sum(text.startswith(b"msg,") for text in folder.sent())
                     else:
-                        more = max((int(line.split(b",", 4)[3]) for line in folder.lines("kept") if line.startswith(b"msg,1,%d," % number)),
+                        more = max((int(line.split(b",", 4)[3]) for line in folder.lines("kept") if line.startswith(b"msg,1,%d," % number)
+                                    and line.endswith(b"\n")),
                                    default=0)
                     self.is_unreached = more > own
 
