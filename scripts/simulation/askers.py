@@ -14,6 +14,7 @@ if TYPE_CHECKING:
 
 MARGIN = 2.0            # as the client's: seconds beyond its time-out that a request has
 NOTHING = ("nothing was given to it", "nothing more was given to it", "nothing was asked")
+WORDS = {"ok": "TellsOk", "unknown": "TellsUnknown", "not-given": "TellsNothing", "not-accepted": "TellsNothing", "refused": "TellsNo"}
 UNKNOWN = ("may still be accepted", "isn't known")
 
 
@@ -27,7 +28,8 @@ class Told:
 class Asker:
     """One request of a client, and what came of it."""
 
-    def __init__(self, world: "World", supervisor: Supervisor | None, site: int, records: list[bytes], seconds: float, published: bool) -> None:
+    def __init__(self, world: "World", supervisor: Supervisor | None, site: int, records: list[bytes], seconds: float,
+                 published: bool) -> None:
         self.world, self.supervisor, self.site, self.records, self.seconds = world, supervisor, site, records, seconds
         self.answers: list[dict[str, Any]] = []
         self.told: list[Told] = []
@@ -95,8 +97,7 @@ class Asker:
             self.world.decided |= {record for record in self.open_before & open_asks if record not in self.world.accepted}
             open_asks -= self.open_before
         for told in self.told:
-            word = {"ok": "TellsOk", "unknown": "TellsUnknown", "not-given": "TellsNothing", "not-accepted": "TellsNothing"}.get(told.what, "TellsNo")
-            self.world.note(word, told.site, self.world.ask(told.record), *(told.id or ())[1:])
+            self.world.note(WORDS[told.what], told.site, self.world.ask(told.record), *(told.id or ())[1:])
 
     def _look_at_published(self, here: SimulatedSite) -> None:
         """What was accepted is where the others find it, unless the server lost something meanwhile."""
@@ -117,7 +118,7 @@ class Asker:
             site, number = map(int, head[3].split("."))
             self.told.append(Told(self.site, record, "ok", (site, number)))
         else:
-            self.told.append(Told(self.site, record, "refused" if head[2] == "refused" else head[2]))
+            self.told.append(Told(self.site, record, "refused"))
 
     @staticmethod
     def _what(fault: str, at: int) -> str:

@@ -7,6 +7,7 @@ from collections.abc import Iterable
 from shop_tool.carrier.rebuilding import Rebuild
 from shop_tool.carrier.records import Message, packet_of
 from shop_tool.carrier.site import State
+from shop_tool.carrier.steps import Broken
 from shop_tool.ends import Fault
 
 from .askers import Asker, asked
@@ -145,19 +146,17 @@ class Run:
         world, command = self.world, Command(self.world, machine)
         self.tries[number] = self.tries.get(number, 0) + 1
         anyway = self.tries[number] > EXACT and world.is_calm
-        machine_of = Rebuild(number, world.sites, machine.here, anyway)
+        rebuild = Rebuild(number, world.sites, machine.here, anyway)
         self.commands[machine.name] = command
 
         def ended(said: object, fault: Exception | None) -> None:
             self.commands.pop(machine.name, None)
             command.end()
-            if anyway:
-                self.may_be_lost = True
-            if fault and "is running elsewhere" not in str(fault) and not isinstance(fault, Fault) and "away" not in str(fault):
-                if not type(fault).__name__ == "Broken":
-                    raise fault
+            self.may_be_lost = self.may_be_lost or anyway
+            if fault and not isinstance(fault, (Fault, Broken)):
+                raise fault
             self.note_losses()
-        command.spawn(machine_of.over_server() if world.is_over_server else machine_of.over_files(), ended)
+        command.spawn(rebuild.over_server() if world.is_over_server else rebuild.over_files(), ended)
 
     def rest(self, machine: Machine, seconds: float) -> None:
         """Nobody starts it for some time."""

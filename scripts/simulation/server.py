@@ -126,7 +126,8 @@ class Server:
 
     def say(self, number: int, fields: dict[str, Any]) -> None:
         """A want, or a request to another supervisor."""
-        self.wants.append((number, {name.encode(): value if isinstance(value, bytes) else str(value).encode() for name, value in fields.items()}))
+        said = {name.encode(): value if isinstance(value, bytes) else str(value).encode() for name, value in fields.items()}
+        self.wants.append((number, said))
         del self.wants[:-WANTS]
         self.news.tell()
 

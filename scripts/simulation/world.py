@@ -118,13 +118,10 @@ class World:
         for machine in self.machines:
             for site, folder in machine.folders.items():
                 if folder is not opened and not self.is_unreached:
-                    if site == number:
-                        more = sum(text.startswith(b"msg,") for text in folder.sent())
-                    else:
-                        more = max((int(line.split(b",", 4)[3]) for line in folder.lines("kept") if line.startswith(b"msg,1,%d," % number)
-                                    and line.endswith(b"\n")),
-                                   default=0)
-                    self.is_unreached = more > own
+                    whole = [line for line in folder.lines("kept") if line.startswith(b"msg,1,%d," % number) and line.endswith(b"\n")]
+                    has = [line.split(b",", 4)[3] for line in whole]
+                    sent = sum(text.startswith(b"msg,") for text in folder.sent()) if site == number else 0
+                    self.is_unreached = max([sent, *map(int, has)]) > own
 
     def answered(self, keeper: Keeper, record: bytes, said: bytes) -> None:
         """A site has answered a record."""
@@ -639,9 +636,11 @@ class Supervisor(Process, Shop):
         """The sites elsewhere that could take the token now, each with how often it was started; none where one here couldn't pass it, or
         a connection failed."""
         holder = next((site for site in self.sites.values() if site.ledger.holds_token), None)
-        if not isinstance(self.link, SimulatedServerLink) or not self.reaches() or self.link.down or not holder or not self.may_give(holder) \
-                or holder.is_passing or self.world.disturbed_at > self.clock.now - 3:
+        link = self.link
+        if not isinstance(link, SimulatedServerLink) or not self.reaches() or link.down or self.world.disturbed_at > self.clock.now - 3:
             return set()
+        if not holder or not self.may_give(holder) or holder.is_passing or not all(site.known.is_set for site in self.sites.values()):
+            return set()        # what stands in the files of one that can't be started may be anything
         return {(site.number, site.starts) for other in self.world.supervisors() if other.machine.name != self.machine.name
                 for site in other.sites.values()
                 if site.number not in self.sites and other.reaches() and isinstance(other.link, SimulatedServerLink) and not other.link.down and not other.is_leaving
