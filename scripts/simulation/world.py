@@ -113,15 +113,17 @@ class World:
                    for machine in self.machines for folder in machine.folders.values()) or \
             any(text == its for stream in self.server.streams for _, its in stream.entries)
 
-    def note_unreached(self, number: int, opened: Folder, own: int) -> None:
-        """A site is opened with so many messages: notes whether a folder has more of it that can't be reached."""
+    def note_unreached(self, number: int, opened: Folder, opens: StandIn) -> None:
+        """A site is opened: notes whether a folder has more of it that can't be reached, or has had the token since."""
+        own, held = opens.release.counts[number], opens.turn if opens.issued is not None else None
         for machine in self.machines:
             for site, folder in machine.folders.items():
                 if folder is not opened and not self.is_unreached:
                     whole = [line for line in folder.lines("kept") if line.startswith(b"msg,1,%d," % number) and line.endswith(b"\n")]
                     has = [line.split(b",", 4)[3] for line in whole]
                     sent = sum(text.startswith(b"msg,") for text in folder.sent()) if site == number else 0
-                    self.is_unreached = max([sent, *map(int, has)]) > own
+                    turns = [int(text.split(b",")[2]) for text in tokens_of(folder.lines("kept"))]
+                    self.is_unreached = max([sent, *map(int, has)]) > own or held is not None and max(turns, default=0) > held
 
     def answered(self, keeper: Keeper, record: bytes, said: bytes) -> None:
         """A site has answered a record."""
@@ -510,7 +512,7 @@ class Supervisor(Process, Shop):
         keeper = self.sites[site.number].keeper
         assert keeper
         messages = keeper.site.release.counts[site.number]
-        self.world.note_unreached(site.number, keeper.folder, messages)
+        self.world.note_unreached(site.number, keeper.folder, keeper.site)
         own = dict(sends_of(keeper.folder.lines("out")))
         for other in self.sites.values():
             if other is not site and other.known.is_set and other.ledger.have[site.number].greatest > messages:
