@@ -643,11 +643,12 @@ class Supervisor(Process, Shop):
             return set()
         if not holder or not self.may_give(holder) or holder.is_passing or not all(site.known.is_set for site in self.sites.values()):
             return set()        # what stands in the files of one that can't be started may be anything
+        said = self.world.server.do(self, Statuses())
         return {(site.number, site.starts) for other in self.world.supervisors() if other.machine.name != self.machine.name
                 for site in other.sites.values()
                 if site.number not in self.sites and other.reaches() and isinstance(other.link, SimulatedServerLink) and not other.link.down and not other.is_leaving
                 and other.paused_until + 3 < self.clock.now
-                and site.up.is_set and site.compared.is_set and not site.fenced_by}
+                and site.up.is_set and site.compared.is_set and not site.fenced_by and said.get(site.number, {}).get("state") == "up"}
 
     def _leave(self) -> Steps[None]:
         if len(self.sites) < self.count and self.world.rules.hands_over:
