@@ -21,7 +21,7 @@ import zlib
 from collections.abc import Iterable
 from typing import Any
 
-from .carrier.ledger import NOWHERE, Place
+from .carrier.ledger import Place
 from .carrier.over_server import WANTS
 from .carrier.rebuilding import STATUS_SECONDS
 from .carrier.steps import (Adopt, Append, Entries, Hear, Mark, Marks, Owner, Packets, Page, PageOf, Read, Rewrite, SeeLife, State, Statuses,
@@ -176,12 +176,6 @@ class Streams:
         for key, entries in found:
             made[int(key.rsplit(b":", 1)[1])] = [(place_of(name), fields.get(b"p", b"")) for name, fields in entries]
         return made
-
-    async def read_all(self, site: int) -> Packets:
-        packets: Packets = []
-        while page := await self.entries(site, packets[-1][0] if packets else NOWHERE):
-            packets += page
-        return packets
 
     async def entries(self, site: int, after: Place, upto: Place | None = None) -> Packets:
         found = await self.redis.xrange(self.key(site), b"(" + id_of(after), id_of(upto) if upto else b"+", count=PAGE)

@@ -22,10 +22,6 @@ class Signal:
     def __init__(self) -> None:
         self._waiters: dict[Callable[[], None], None] = {}
 
-    @property
-    def is_awaited(self) -> bool:
-        return bool(self._waiters)
-
     def tell(self) -> None:
         waiters, self._waiters = self._waiters, {}
         for wake in waiters:
