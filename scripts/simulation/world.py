@@ -299,12 +299,15 @@ class Process:
             task.cancel()
         self.tasks.clear()
 
-    def identity(self, site: int) -> tuple[str, str]:
-        """Names the folder of a site here, and how people read that."""
-        return f"{self.machine.identity}:{self.machine.folders[site].inode}", f"{self.machine.name}:{site}"
+    made: Folder | None = None      # what takes the place of a folder
+
+    def owner_text(self, site: int, is_fresh: bool = False) -> str:
+        """Names the folder of a site here, or the fresh one beside it, and says where it is."""
+        folder = self.made if is_fresh else self.machine.folders[site]
+        return f"{self.machine.identity}:{folder and folder.inode} {self.machine.name}:{site}"
 
     def named_of(self, site: int) -> str:
-        return f"{self.machine.boot} {' '.join(self.identity(site))}"
+        return f"{self.machine.boot} {self.owner_text(site)}"
 
     def kept_of(self, keeper: int, origin: int, after: int) -> Kept | None:
         """What stands in the file `kept` of a site here."""
@@ -709,8 +712,6 @@ def heard(answers: list[dict[str, Any]], record: bytes, answer: Any) -> None:
 
 class Command(Process):
     """A command that changes the folder of a site while the shop is stopped."""
-
-    made: Folder | None = None      # what takes the place of a folder
 
     def do(self, task: Task, step: tuple[Any, ...]) -> None:
         folders = self.machine.folders

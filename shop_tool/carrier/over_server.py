@@ -36,7 +36,7 @@ class ServerLink(Link):
 
     @abc.abstractmethod
     def named(self, site: Site) -> str:
-        """Names this supervisor as one that runs the site's folder."""
+        """Names this supervisor as one that runs the site's folder: the start of the machine, which folder it is, and where."""
 
     @abc.abstractmethod
     def called(self, site: Site, fields: dict[bytes, bytes]) -> Callable[[], None]:

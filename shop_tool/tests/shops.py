@@ -66,7 +66,7 @@ class OverServer(ServerLink):
         super().__init__(shop, "the server")
 
     def named(self, site: Site) -> str:
-        return "me"
+        return "boot me:1 here:0"
 
     def called(self, site: Site, fields: dict[bytes, bytes]) -> Callable[[], None]:
         return lambda: None

@@ -34,7 +34,7 @@ class Opening(unittest.TestCase):
 
     def answers(self, **changed: Any) -> dict[type, Any]:
         state = StreamState(0, (0, 0), b"", (0, 0), "")._replace(**{key: value for key, value in changed.items() if key != "statuses"})
-        return {State: state, Owner: None, Statuses: changed.get("statuses", {}), SeeLife: True}
+        return {State: state, Owner: "me:1 here:0", Statuses: changed.get("statuses", {}), SeeLife: True}
 
     def published(self, answers: dict[type, Any]) -> Site:
         shop = Supervisor(OverServer, 1)
@@ -49,7 +49,7 @@ class Opening(unittest.TestCase):
         self.assertEqual(site.written, site.fenced_by)
 
     def test_another_folder_that_has_it_may_go(self) -> None:
-        site = self.published(self.answers() | {Owner: "elsewhere:0"})
+        site = self.published(self.answers() | {Owner: "other:1 elsewhere:0"})
         assert isinstance(site, Known)
         self.assertIn("elsewhere:0 has it", site.fenced_by or "")
         self.assertIsNone(site.written)
