@@ -90,12 +90,14 @@ class ServerLink(Link):
 
     def _tell(self) -> Steps[None]:
         while not self.is_over:
+            said = [site.number for site in self.own_sites()]
             yield from self.look()
             self.works("tell")
+            if said == [site.number for site in self.own_sites()]:
+                yield Wait(self.shop.changes, COMPARE_SECONDS)
             for origin in range(self.shop.count):
                 if origin not in self.shop.sites:
                     yield from self._append_for(origin)
-            yield Wait(self.shop.changes, COMPARE_SECONDS)
 
     def look(self) -> Steps[None]:
         """Says how the sites here are, and sees what the streams have."""
