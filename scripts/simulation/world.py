@@ -521,7 +521,7 @@ class Supervisor(Process, Shop):
             if other is not site and other.known.is_set and other.ledger.have[site.number].greatest > messages:
                 raise Violation(f"site {site.number} is opened with {messages} messages, and site {other.number} has "
                                 f"{other.ledger.have[site.number].greatest}")
-        if not isinstance(self.link, SimulatedServerLink) or not self.reaches() or self.link.down:
+        if not isinstance(self.link, SimulatedServerLink) or not self.reaches() or f"publish {site.number}" in self.link.down:
             return
         for place, text in self.world.server.streams[site.number].entries:
             if place[0] > messages or place in own and own[place] != text:

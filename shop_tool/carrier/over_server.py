@@ -77,7 +77,8 @@ class ServerLink(Link):
             self.shop.event(f"link: {self.over}: {why} ({name})")
         self.down.setdefault(name, f"down since {self.shop.stamp()}: {why}")
         for site in self.shop.sites.values():
-            self.shop.open_unseen(site)
+            if name == Publisher(self, site).name:      # its stream can't be seen
+                self.shop.open_unseen(site)
         self.shop.progress.tell()
 
     def works(self, name: str) -> None:

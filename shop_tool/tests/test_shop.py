@@ -24,7 +24,10 @@ class Opening(unittest.TestCase):
         shop.begin_site(shop.sites[0], 100)
         shop.begin_site(shop.sites[1], None)
         self.assertEqual([site.opened.is_set for site in shop.sites.values()], [False, False])
-        shop.link.fail("tell", "away")
+        shop.link.fail("hear", "broke")
+        self.assertFalse(shop.sites[0].opened.is_set)
+        for site in shop.sites:
+            shop.link.fail(f"publish {site}", "away")
         self.assertEqual([site.opened.is_set for site in shop.sites.values()], [True, False])
 
     def test_alone_it_opens(self) -> None:
