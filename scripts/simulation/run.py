@@ -21,6 +21,8 @@ CALM_SECONDS = 240.0        # how long it may take then until all goes on
 WELL_SECONDS = 3.0          # how long it has to be well
 LAST_SECONDS = 60.0         # how long a red ask may take then
 LEAST_EVENTS, LEAST_TURNS, MORE = 300, 3, 12
+FIRST_TURNS = 6             # how many red asks there are at alternate sites before anything goes wrong
+LAST = 10 ** 6              # the number of the first of the last asks
 EXACT = 15                  # how often an operator tries to rebuild a site before he says --anyway
 
 
@@ -40,7 +42,7 @@ class Run:
         self.changed: list[tuple[Folder, list[bytes]]] = []
         self.is_token_lost = False                      # nothing whole was left that knows of it
         self.may_be_lost = False                        # a site was rebuilt though others were silent
-        self.fault_count = 0
+        self.fault_count = self.planned = 0
 
     # What happens.
 
@@ -50,6 +52,8 @@ class Run:
         events = [(plan.uniform(0.3, FAULT_SECONDS + 1), "ask", str(plan.random())) for _ in range(plan.randint(*ASKS))]
         events += [(plan.uniform(1, FAULT_SECONDS), plan.choices(list(FAULTS), list(FAULTS.values()))[0].__name__, str(plan.random()))
                    for _ in range(plan.randint(*FAULTS_OF_A_RUN))]
+        events += [(0.2 + 0.12 * at, "turn", str(at)) for at in range(FIRST_TURNS)]
+        self.planned = len(events)
         for number, (at, what, seed) in enumerate(events):
             if number not in self.skip:
                 self.world.clock.after(at, functools.partial(self._happens, number, what, seed))
@@ -75,9 +79,12 @@ class Run:
     def _happens(self, number: int, what: str, seed: str) -> None:
         dice = random.Random(seed)
         if what == "ask":
-            return self._ask(number, dice)
-        self.fault_count += 1
-        next(fault for fault in FAULTS if fault.__name__ == what)(self, dice)
+            self._ask(number, dice)
+        elif what == "turn":
+            self._ask_red(int(seed) % self.world.sites, number)
+        else:
+            self.fault_count += 1
+            next(fault for fault in FAULTS if fault.__name__ == what)(self, dice)
 
     def _ask(self, number: int, dice: random.Random) -> None:
         world = self.world
@@ -92,6 +99,13 @@ class Run:
         self.askers.append(asker)
         if dice.random() < 0.05:
             world.clock.after(dice.random() * seconds, asker.leave)
+
+    def _ask_red(self, site: int, number: int) -> Asker:
+        """Asks a site what only the holder of the token accepts."""
+        supervisor = next((its for its in self.supervisors.values() if site in its.sites), None)
+        asker = Asker(self.world, supervisor, site, [b"user,red%d" % number], LAST_SECONDS, False)
+        self.askers.append(asker)
+        return asker
 
     # Operators.
 
@@ -292,9 +306,7 @@ class Run:
         if self._is_excused():
             return
         for site in range(world.sites):
-            supervisor = next(its for its in self.supervisors.values() if site in its.sites)
-            asker = Asker(world, supervisor, site, [b"user,last%d" % site], LAST_SECONDS, False)
-            self.askers.append(asker)
+            asker = self._ask_red(site, LAST + site)
             while not asker.is_over:
                 world.clock.run(world.clock.now + 0.2)
             if asker.told[0].what != "ok":
