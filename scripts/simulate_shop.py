@@ -46,6 +46,7 @@ class Played(NamedTuple):
     excused: str | None
     counts: dict[str, int]
     least: dict[str, int]
+    planned: int            # how many events could be left out
 
 
 def play(seed: str, without: str | None, skip: frozenset[int] = frozenset(), steps: str | None = None) -> Played:
@@ -63,7 +64,7 @@ def play(seed: str, without: str | None, skip: frozenset[int] = frozenset(), ste
         pathlib.Path(steps, f"{seed}.steps").write_text("".join(f"{word}\n" for word in words))
     counts = dict(run.world.counts)
     least = {"events": sum(counts.values()), "faults": run.fault_count, "asks": len(run.askers), "turns": counts.get("Passes", 0)}
-    return Played(seed, broken, run.why_excused(), counts, least)
+    return Played(seed, broken, run.why_excused(), counts, least, run.planned)
 
 
 def smaller(seed: str, without: str | None, events: int) -> frozenset[int]:
@@ -149,7 +150,7 @@ def main() -> int:
         return 0
     told_of(plays.broken)
     if plays.broken.broken and "\n" not in plays.broken.broken:
-        skip = smaller(plays.broken.seed, args.without, plays.broken.least["asks"] + plays.broken.least["faults"])
+        skip = smaller(plays.broken.seed, args.without, plays.broken.planned)
         without = f" --without {args.without}" if args.without else ""
         print(f"smaller: scripts/simulate_shop.py {plays.broken.seed} 1{without} --skip {','.join(map(str, sorted(skip)))}")
         told_of(play(plays.broken.seed, args.without, skip))

@@ -712,6 +712,55 @@ def put_back(at: Folder, folder: str, copy: str) -> None:
     at.run(f"rm -f {folder}/* && cp -a {copy}/. {folder}/")
 
 
+def test_older_copy_that_lacks_a_pass(at: Folder) -> None:
+    """A folder is put back to a copy of the same life that lacks nothing but that the token was passed on: it would be there twice."""
+    at.run("./shop start auction --sites 2")
+    at.shop(f"ask 0 {SALE} --published")
+    at.run("cp -a auction/0 aside")
+    at.shop("pass 0 1")
+    at.shop("wait 1")
+    at.wait("the token", lambda: at.status()["token"] == 1)
+    at.run("./shop stop auction")
+    put_back(at, "auction/0", "aside")
+    why = "site 1 has had the token of turn 1, and its folder holds that of turn 0 (shop rebuild 0)"
+    at.run("./shop start auction", 3, why)
+    at.shop("ask 0 user,eve", 3, "nothing was given to it")
+    expect(at.text("auction/0/fenced") == f"{why}\n", "why it is stopped")
+    at.run("./shop stop auction; ./shop -C auction rebuild 0; ./shop start auction")
+    expect(at.shop("ask 1 user,cat") + at.shop("ask 0 user,dan") == "ok,1.1\nok,0.4\n", "red asks at each")
+    expect(at.shop("audit") == "audit,Agree\n", "the audit")
+
+
+def test_fenced_for_good(at: Folder) -> None:
+    """A folder is lost, and its site is fenced; then the server loses all: it is fenced still, and goes on once it is rebuilt."""
+    server = Server(at).start_shop()
+    at.shop(f"ask 0 {SALE} --published", folder="a")
+    at.shop("wait 2", folder="b")
+    at.run("./shop stop a; rm -r a/0")
+    at.run("./shop start a", 3, "and its folder ends with 0-0 (shop rebuild 0)")
+    at.run("./shop stop a; ./shop stop b")
+    server.say("flushall")
+    at.run("./shop start a", 3, "and its folder ends with 0-0 (shop rebuild 0)")
+    at.shop("ask 0 user,eve", 3, "nothing was given to it", folder="a")
+    at.run("./shop start b; ./shop stop a")
+    at.shop("rebuild 0", folder="a")
+    at.run("./shop start a")
+    expect(at.shop("ask 0 user,eve", folder="a") == "ok,0.4\n", "its next number")
+    expect(at.shop("audit", folder="b") == "audit,Agree\n", "the audit")
+
+
+def test_copy_on_the_same_machine(at: Folder) -> None:
+    """What stands in memory of a folder isn't said of a copy of it, made in the same start of the machine."""
+    server = Server(at).start_shop()
+    at.shop(f"ask 0 {SALE} --published", folder="a")
+    at.run("./shop stop a; cp -a a c")
+    server.kill()
+    at.run("./shop start c", 3, "takes no asks until it is known what the others have of it")
+    at.shop("ask 0 user,eve --timeout 1", 3, "nothing was given to it", folder="c")
+    at.run("./shop stop c; ./shop start a; true")
+    expect(at.shop("ask 0 item,0.1,vase,7,1,1,0", folder="a") == "ok,0.4\n", "the original goes on")
+
+
 def test_older_copy(at: Folder, options: str = "") -> None:
     """Over files a site's folder is put back to an older copy, in the same boot, made before its last start or after it: it accepts
     nothing, also where the others have no more of it, and goes on once it is rebuilt."""

@@ -3,13 +3,10 @@
 import argparse
 import asyncio
 import contextlib
-import io
 import os
 import shutil
 import subprocess
 import sys
-import threading
-from collections.abc import Iterator
 from typing import Any
 
 from . import program, settings
@@ -93,33 +90,17 @@ def replayed(site: int, steps: list[Given], folder: str, now: settings.Settings)
     """Gives the steps to a fresh site in the folder SITE.new."""
     new = f"{folder}/{site}.new"
     shutil.rmtree(new, ignore_errors=True)
-    keeper = subprocess.Popen(keep_command(new, site, now, program.path()), stdin=subprocess.PIPE, stdout=subprocess.PIPE)
-    assert keeper.stdin and isinstance(keeper.stdout, io.BufferedReader)
-    writer = threading.Thread(target=_give, args=(keeper.stdin, steps), daemon=True)
-    writer.start()
-    keeper.stdout.readline()
-    reader = AnswerReader()
-    left: Iterator[Given] = iter(steps)
-    while data := keeper.stdout.read1(1 << 16):
-        for answer in reader.feed(data):
-            step = next(left)
-            if answer.packet != step.packet or answer.refusal:
-                keeper.kill()
-                want = step.packet.decode() if step.packet else "nothing"
-                raise Fault(Status.REFUSED, f"{step.record.decode()} sends {want} no more, but {answer.lines}: {UNCHANGED}")
-    if keeper.wait() or list(left):
-        raise Fault(Status.REFUSED, f"the site in {new} ended with status {keeper.returncode}: {UNCHANGED}")
+    given = b"".join(step.record + b"\n" for step in steps)
+    done = subprocess.run(keep_command(new, site, now, program.path()), input=given, stdout=subprocess.PIPE)
+    answers = AnswerReader().feed(done.stdout.partition(b"\n")[2])
+    for step, answer in zip(steps, answers):
+        if answer.packet != step.packet or answer.refusal:
+            want = step.packet.decode() if step.packet else "nothing"
+            raise Fault(Status.REFUSED, f"{step.record.decode()} sends {want} no more, but {answer.lines}: {UNCHANGED}")
+    if done.returncode or len(answers) < len(steps):
+        raise Fault(Status.REFUSED, f"the site in {new} ended with status {done.returncode}: {UNCHANGED}")
     for name in ("kept", "out", ""):
         synced(f"{new}/{name}")
-
-
-def _give(site: Any, steps: list[Given]) -> None:
-    try:
-        for step in steps:
-            site.write(step.record + b"\n")
-        site.close()
-    except BrokenPipeError:
-        pass        # its end is told by its status
 
 
 def swapped(folder: str, site: int) -> str | None:

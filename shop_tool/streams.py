@@ -21,9 +21,10 @@ import zlib
 from collections.abc import Iterable
 from typing import Any
 
-from .carrier.ledger import NOWHERE, Place
+from .carrier.ledger import Place
 from .carrier.over_server import WANTS
 from .carrier.rebuilding import STATUS_SECONDS
+from .carrier.records import bytes_of
 from .carrier.steps import (Adopt, Append, Entries, Hear, Mark, Marks, Owner, Packets, Page, PageOf, Read, Rewrite, SeeLife, State, Statuses,
                             StreamState, Tell)
 from .folders import boot, identity
@@ -177,12 +178,6 @@ class Streams:
             made[int(key.rsplit(b":", 1)[1])] = [(place_of(name), fields.get(b"p", b"")) for name, fields in entries]
         return made
 
-    async def read_all(self, site: int) -> Packets:
-        packets: Packets = []
-        while page := await self.entries(site, packets[-1][0] if packets else NOWHERE):
-            packets += page
-        return packets
-
     async def entries(self, site: int, after: Place, upto: Place | None = None) -> Packets:
         found = await self.redis.xrange(self.key(site), b"(" + id_of(after), id_of(upto) if upto else b"+", count=PAGE)
         return [(place_of(name), fields.get(b"p", b"")) for name, fields in found]
@@ -194,17 +189,13 @@ class Streams:
 
     # Owners and statuses.
 
-    async def owner(self, site: int) -> str | None:
-        if await self.redis.set(self.key(f"owner:{site}"), owner_text(self._folder(site)), nx=True):
-            return None
-        owner = (await self.redis.get(self.key(f"owner:{site}")) or b"").decode("utf-8", "replace")
-        return None if owner.split(" ", 1)[0] == identity(self._folder(site)) else owner.split(" ", 1)[-1]
+    async def owner(self, site: int) -> str:
+        owner: bytes = await self.redis.get(self.key(f"owner:{site}")) or b""
+        return owner.decode("utf-8", "surrogateescape")
 
-    async def adopt(self, site: int) -> None:
-        await self.redis.set(self.key(f"owner:{site}"), owner_text(self._folder(site)))
-
-    def _folder(self, site: int) -> str:
-        return f"{self.folder}/{site}"
+    async def adopt(self, site: int, before: str, is_fresh: bool) -> bool:
+        owner = owner_text(f"{self.folder}/{site}", ".new" if is_fresh else "")
+        return bool(await self._change(keys=[self.key(f"owner:{site}")], args=[bytes_of(before), bytes_of(owner)]))
 
     async def tell(self, statuses: dict[int, dict[str, Any]]) -> tuple[list[int], list[Mark]]:
         pipe = self.redis.pipeline(transaction=False)
@@ -212,7 +203,7 @@ class Streams:
             pipe.xrevrange(self.key(site), count=1)
         pipe.mget(self._mark_keys)
         for site, status in statuses.items():
-            said = status | {"told": time.time_ns(), "by": run_by(self._folder(site))}
+            said = status | {"told": time.time_ns(), "by": run_by(f"{self.folder}/{site}")}
             pipe.set(self.key(f"status:{site}"), json.dumps(said), px=int(1000 * STATUS_SECONDS))
         found = await pipe.execute()
         return [place_of(last[0][0])[0] if last else 0 for last in found[:self.sites]], found[self.sites]
@@ -267,8 +258,9 @@ def new_mark() -> bytes:
     return os.urandom(8).hex().encode()
 
 
-def owner_text(folder: str) -> str:
-    return f"{identity(folder)} {socket.gethostname()}:{folder}"
+def owner_text(folder: str, new: str = "") -> str:
+    """Which folder it is, or the one beside it that takes its place, and where."""
+    return f"{identity(folder + new)} {socket.gethostname()}:{folder}"
 
 
 def run_by(folder: str) -> str:

@@ -6,7 +6,7 @@ from typing import TYPE_CHECKING, Any
 
 from shop_tool.carrier.records import bytes_of, text_of
 
-from .world import Supervisor, Violation, heard
+from .world import SimulatedSite, Supervisor, Violation, heard
 
 if TYPE_CHECKING:
     from .clock import Task
@@ -14,6 +14,7 @@ if TYPE_CHECKING:
 
 MARGIN = 2.0            # as the client's: seconds beyond its time-out that a request has
 NOTHING = ("nothing was given to it", "nothing more was given to it", "nothing was asked")
+WORDS = {"ok": "TellsOk", "unknown": "TellsUnknown", "not-given": "TellsNothing", "not-accepted": "TellsNothing", "refused": "TellsNo"}
 UNKNOWN = ("may still be accepted", "isn't known")
 
 
@@ -27,11 +28,16 @@ class Told:
 class Asker:
     """One request of a client, and what came of it."""
 
-    def __init__(self, world: "World", supervisor: Supervisor | None, site: int, records: list[bytes], seconds: float, published: bool) -> None:
+    def __init__(self, world: "World", supervisor: Supervisor | None, site: int, records: list[bytes], seconds: float,
+                 published: bool) -> None:
         self.world, self.supervisor, self.site, self.records, self.seconds = world, supervisor, site, records, seconds
         self.answers: list[dict[str, Any]] = []
         self.told: list[Told] = []
         self.is_over = False
+        self.published, self.server_times = published, world.server.times
+        here = supervisor.sites.get(site) if supervisor else None
+        self.asked_after = here.folder.number if here else None     # in which folder its site was
+        self.open_before = set(world.open_asks.get(self.asked_after or 0, set()))
         self.task: "Task | None" = None
         for record in records:
             world.note("IsAsked", site, world.ask(record), len(record.split(b"\n")))
@@ -79,11 +85,32 @@ class Asker:
                 self._told(record, answer["lines"][0].split(","))
             else:
                 last = answer.get("fault", "")
+        here = self.supervisor.sites.get(self.site) if self.supervisor else None
         for at, record in enumerate(records):
             self.told.append(Told(self.site, record, self._what(last, at)))
+            if "may still be accepted" in last and here:
+                self.world.open_asks.setdefault(here.folder.number, set()).add(record)
+        if here and self.published and not last:
+            self._look_at_published(here)
+        if here and self.asked_after == here.folder.number and any(told.what in ("ok", "refused") for told in self.told):
+            open_asks = self.world.open_asks.get(here.folder.number, set())
+            self.world.decided |= {record for record in self.open_before & open_asks if record not in self.world.accepted}
+            open_asks -= self.open_before
         for told in self.told:
-            word = {"ok": "TellsOk", "unknown": "TellsUnknown", "not-given": "TellsNothing", "not-accepted": "TellsNothing"}.get(told.what, "TellsNo")
-            self.world.note(word, told.site, self.world.ask(told.record), *(told.id or ())[1:])
+            self.world.note(WORDS[told.what], told.site, self.world.ask(told.record), *(told.id or ())[1:])
+
+    def _look_at_published(self, here: SimulatedSite) -> None:
+        """What was accepted is where the others find it, unless the server lost something meanwhile."""
+        world = self.world
+        texts = {world.text_of[told.record] for told in self.told if told.what == "ok"}
+        if world.is_over_server:
+            found = {text for _, text in world.server.streams[self.site].entries}
+            if world.server.times != self.server_times:
+                return
+        else:
+            found = {line[:-1] for site in here.shop.sites.values() if site is not here for line in site.folder.lines("kept")}
+        if not texts <= found and here.folder.is_whole and len(here.shop.sites) > 1 - world.is_over_server:
+            raise Violation(f"{sorted(texts - found)} were told published, and nobody else has them")
 
     def _told(self, record: bytes, head: list[str]) -> None:
         """An answer. One that a request ends with, since the token didn't come, is no acceptance either."""
@@ -91,7 +118,7 @@ class Asker:
             site, number = map(int, head[3].split("."))
             self.told.append(Told(self.site, record, "ok", (site, number)))
         else:
-            self.told.append(Told(self.site, record, "refused" if head[2] == "refused" else head[2]))
+            self.told.append(Told(self.site, record, "refused"))
 
     @staticmethod
     def _what(fault: str, at: int) -> str:

@@ -7,6 +7,7 @@ from collections.abc import Iterable
 from shop_tool.carrier.rebuilding import Rebuild
 from shop_tool.carrier.records import Message, packet_of
 from shop_tool.carrier.site import State
+from shop_tool.carrier.steps import Broken
 from shop_tool.ends import Fault
 
 from .askers import Asker, asked
@@ -17,8 +18,11 @@ from .world import Command, Rules, SimulatedSite, Supervisor, Violation, World
 ASKS, FAULTS_OF_A_RUN = (58, 75), (12, 18)
 FAULT_SECONDS = 30.0        # how long things go wrong
 CALM_SECONDS = 240.0        # how long it may take then until all goes on
+WELL_SECONDS = 3.0          # how long it has to be well
 LAST_SECONDS = 60.0         # how long a red ask may take then
 LEAST_EVENTS, LEAST_TURNS, MORE = 300, 3, 12
+FIRST_TURNS = 6             # how many red asks there are at alternate sites before anything goes wrong
+LAST = 10 ** 6              # the number of the first of the last asks
 EXACT = 15                  # how often an operator tries to rebuild a site before he says --anyway
 
 
@@ -38,7 +42,7 @@ class Run:
         self.changed: list[tuple[Folder, list[bytes]]] = []
         self.is_token_lost = False                      # nothing whole was left that knows of it
         self.may_be_lost = False                        # a site was rebuilt though others were silent
-        self.fault_count = 0
+        self.fault_count = self.planned = 0
 
     # What happens.
 
@@ -48,6 +52,8 @@ class Run:
         events = [(plan.uniform(0.3, FAULT_SECONDS + 1), "ask", str(plan.random())) for _ in range(plan.randint(*ASKS))]
         events += [(plan.uniform(1, FAULT_SECONDS), plan.choices(list(FAULTS), list(FAULTS.values()))[0].__name__, str(plan.random()))
                    for _ in range(plan.randint(*FAULTS_OF_A_RUN))]
+        events += [(0.2 + 0.12 * at, "turn", str(at)) for at in range(FIRST_TURNS)]
+        self.planned = len(events)
         for number, (at, what, seed) in enumerate(events):
             if number not in self.skip:
                 self.world.clock.after(at, functools.partial(self._happens, number, what, seed))
@@ -73,9 +79,12 @@ class Run:
     def _happens(self, number: int, what: str, seed: str) -> None:
         dice = random.Random(seed)
         if what == "ask":
-            return self._ask(number, dice)
-        self.fault_count += 1
-        next(fault for fault in FAULTS if fault.__name__ == what)(self, dice)
+            self._ask(number, dice)
+        elif what == "turn":
+            self._ask_red(int(seed) % self.world.sites, number)
+        else:
+            self.fault_count += 1
+            next(fault for fault in FAULTS if fault.__name__ == what)(self, dice)
 
     def _ask(self, number: int, dice: random.Random) -> None:
         world = self.world
@@ -90,6 +99,13 @@ class Run:
         self.askers.append(asker)
         if dice.random() < 0.05:
             world.clock.after(dice.random() * seconds, asker.leave)
+
+    def _ask_red(self, site: int, number: int) -> Asker:
+        """Asks a site what only the holder of the token accepts."""
+        supervisor = next((its for its in self.supervisors.values() if site in its.sites), None)
+        asker = Asker(self.world, supervisor, site, [b"user,red%d" % number], LAST_SECONDS, False)
+        self.askers.append(asker)
+        return asker
 
     # Operators.
 
@@ -144,19 +160,17 @@ class Run:
         world, command = self.world, Command(self.world, machine)
         self.tries[number] = self.tries.get(number, 0) + 1
         anyway = self.tries[number] > EXACT and world.is_calm
-        machine_of = Rebuild(number, world.sites, machine.here, anyway)
+        rebuild = Rebuild(number, world.sites, machine.here, anyway)
         self.commands[machine.name] = command
 
         def ended(said: object, fault: Exception | None) -> None:
             self.commands.pop(machine.name, None)
             command.end()
-            if anyway:
-                self.may_be_lost = True
-            if fault and "is running elsewhere" not in str(fault) and not isinstance(fault, Fault) and "away" not in str(fault):
-                if not type(fault).__name__ == "Broken":
-                    raise fault
+            self.may_be_lost = self.may_be_lost or anyway
+            if fault and not isinstance(fault, (Fault, Broken)):
+                raise fault
             self.note_losses()
-        command.spawn(machine_of.over_server() if world.is_over_server else machine_of.over_files(), ended)
+        command.spawn(rebuild.over_server() if world.is_over_server else rebuild.over_files(), ended)
 
     def rest(self, machine: Machine, seconds: float) -> None:
         """Nobody starts it for some time."""
@@ -245,8 +259,12 @@ class Run:
         for machine in world.machines:
             machine.is_cut_off = False
         self.resting.clear()
+        world.clock.run(max([world.clock.now, *(supervisor.paused_until + 2 for supervisor in self.supervisors.values())]))
         until = world.clock.now + CALM_SECONDS
-        while not self._is_well():
+        well_since = world.clock.now
+        while world.clock.now - well_since < WELL_SECONDS:
+            if not self._is_well():
+                well_since = world.clock.now
             if world.clock.now > until:
                 if self._is_excused():
                     return
@@ -270,7 +288,7 @@ class Run:
     def why_excused(self) -> str | None:
         """Why so much was lost that the shop may not go on, if it was."""
         if self.world.excused:
-            return "an id was given twice by a site that couldn't reach what knew of it"
+            return "an id or a turn was given twice by a site that couldn't reach what knew of it"
         if self.world.is_unreached:
             return "a site was opened that couldn't reach what has more of it"
         if self.is_token_lost:
@@ -288,18 +306,16 @@ class Run:
         if self._is_excused():
             return
         for site in range(world.sites):
-            supervisor = next(its for its in self.supervisors.values() if site in its.sites)
-            asker = Asker(world, supervisor, site, [b"user,last%d" % site], LAST_SECONDS, False)
-            self.askers.append(asker)
+            asker = self._ask_red(site, LAST + site)
             while not asker.is_over:
                 world.clock.run(world.clock.now + 0.2)
             if asker.told[0].what != "ok":
                 raise Violation(f"a red ask at site {site} isn't accepted: {asker.answers}; {self._state()}; "
                                 f"token {world.turn}, turns {[(its.number, its.ledger.turn, its.ledger.holds_token) for its in self._sites()]}")
         until = world.clock.now + LAST_SECONDS
-        while any(any(site.shop.behind(site).values()) for site in self._sites()):
+        while len(counts := {tuple(site.keeper.site.release.counts) for site in self._sites() if site.keeper}) > 1:
             if world.clock.now > until:
-                raise Violation(f"messages aren't read: {[(site.number, site.shop.behind(site)) for site in self._sites()]}")
+                raise Violation(f"messages aren't released everywhere: {sorted(counts)}")
             world.clock.run(world.clock.now + 0.5)
 
     def _is_kept(self) -> None:
@@ -309,6 +325,8 @@ class Run:
             accepted = world.accepted.get(told.record, set())
             if told.what in ("refused", "not-given", "not-accepted") and accepted:
                 raise Violation(f"{told.record!r} at site {told.site} was told {told.what}, and was accepted as {sorted(accepted)}")
+            if told.what == "unknown" and told.record in world.decided and accepted:
+                raise Violation(f"{told.record!r} was told that a later answer decides it, and was accepted after that")
             if told.what == "ok" and told.id not in accepted:
                 raise Violation(f"{told.record!r} was told ok,{told.id}, and was accepted as {sorted(accepted)}")
         if self._is_excused():

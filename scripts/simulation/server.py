@@ -43,7 +43,7 @@ class Server:
         self.streams = [Stream() for _ in range(self.sites)]
         self.marks: list[bytes | None] = [None] * self.sites
         self.lives = [""] * self.sites
-        self.owners: list[tuple[str, str] | None] = [None] * self.sites
+        self.owners = [""] * self.sites
         self.said: dict[int, tuple[float, dict[str, Any]]] = {}
         self.wants: list[tuple[int, dict[bytes, bytes]]] = []
         self.answers: dict[bytes, list[dict[str, Any]]] = {}
@@ -85,9 +85,12 @@ class Server:
                 packet = stream.entries[-1][1] if stream.entries else b""
                 return StreamState(len(stream.entries), stream.last, packet, stream.greatest, self.lives[site])
             case Owner(site):
-                return self._owner(by, site)
-            case Adopt(site):
-                self._write(functools.partial(self._own, site, by.identity(site)))
+                return self.owners[site]
+            case Adopt(site, before, is_fresh):
+                if self.owners[site] != before:
+                    return False
+                self._write(functools.partial(self._own, site, by.owner_text(site, is_fresh)))
+                return True
             case Statuses():
                 return {site: dict(said) for site, (until, said) in self.said.items() if until > self.clock.now}
             case Tell(statuses):
@@ -126,7 +129,8 @@ class Server:
 
     def say(self, number: int, fields: dict[str, Any]) -> None:
         """A want, or a request to another supervisor."""
-        self.wants.append((number, {name.encode(): value if isinstance(value, bytes) else str(value).encode() for name, value in fields.items()}))
+        said = {name.encode(): value if isinstance(value, bytes) else str(value).encode() for name, value in fields.items()}
+        self.wants.append((number, said))
         del self.wants[:-WANTS]
         self.news.tell()
 
@@ -137,14 +141,7 @@ class Server:
     def _entries(self, site: int, after: Place, upto: Place | None) -> Packets:
         return [entry for entry in self.streams[site].entries if entry[0] > after and (upto is None or entry[0] <= upto)][:PAGE]
 
-    def _owner(self, by: "Process", site: int) -> str | None:
-        owner = self.owners[site]
-        if owner is None:
-            self._write(functools.partial(self._own, site, by.identity(site)))
-            return None
-        return None if owner[0] == by.identity(site)[0] else owner[1]
-
-    def _own(self, site: int, owner: tuple[str, str]) -> None:
+    def _own(self, site: int, owner: str) -> None:
         self.owners[site] = owner
 
     def _see(self, site: int, life: str) -> None:

@@ -74,7 +74,8 @@ class StandIn:
     def _check(self, kind: bytes, fields: list[bytes], record: bytes) -> None:
         """Refuses a request, by the first refusal that holds."""
         ids = [field for field in fields if re.fullmatch(_ID, field)][:2 if kind == b"bid" else 1] if kind != b"user" else []
-        if any(int(name.split(b".")[0]) >= self.sites or int(name.split(b".")[1]) > MOST for name in ids) or not self._in_limits(kind, fields):
+        numbers = [list(map(int, name.split(b"."))) for name in ids]
+        if any(site >= self.sites or number > MOST for site, number in numbers) or not self._in_limits(kind, fields):
             raise Refused(1, "BadRecord")
         if len(self.log) + len(self.release.waiting) >= self.keep:
             raise Refused(2, "Full")

@@ -4,6 +4,7 @@ from contextlib import ExitStack
 from typing import Any
 from unittest import mock
 
+from shop_tool.carrier.files import Files
 from shop_tool.carrier.lives import Standing
 from shop_tool.carrier.over_server import ServerLink
 from shop_tool.carrier.records import Purpose, why_not_one_record
@@ -39,7 +40,7 @@ def patches_of(rule: str) -> list[Any]:
         "4": [mock.patch.object(Shop, "begin_site", opens_at_once)],
         "5": [instead(f"{name}.why_not_one_record", lambda *_: None) for name in LOOKS],
         "6": [instead(f"{name}.why_not_one_record", mark_passes) for name in LOOKS],
-        "7": [mock.patch.object(Site, "sent", sent_unguarded)],
+        "7": [mock.patch.object(Site, "sent", sent_unguarded), mock.patch.object(Files, "why_lost", lambda *_: None)],
         "9": [],
         "9-lives": [instead(f"shop_tool.carrier.{name}.standing", lambda *_: Standing.NEXT) for name in ("publisher", "over_files")],
         "11": [],

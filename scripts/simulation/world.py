@@ -68,8 +68,10 @@ class World:
         self.accepted: dict[bytes, set[tuple[int, int]]] = {}       # asks, each with the ids under which a site accepted it
         self.made: dict[tuple[int, int], bytes] = {}                # the message that had each id last
         self.text_of: dict[bytes, bytes] = {}                       # the message that each ask became
+        self.open_asks: dict[int, set[bytes]] = {}  # by folder: asks of which an asker was told that a later answer decides
+        self.decided: set[bytes] = set()            # those that weren't accepted when it came
         self.lost: set[bytes] = set()                               # messages of which nothing whole was left
-        self.excused: set[tuple[int, int]] = set()                  # ids that were given twice as they may be
+        self.excused: set[tuple[int, int]] = set()  # ids, and turns as negative numbers, that were given twice as they may be
         self.is_unreached = False           # a site was opened of which a folder has more that couldn't be reached
         self.turn = (0, 0, 0)                                       # of the last token, from and to which site
         self.passes: dict[int, bytes] = {}                          # the last token of each turn
@@ -111,17 +113,17 @@ class World:
                    for machine in self.machines for folder in machine.folders.values()) or \
             any(text == its for stream in self.server.streams for _, its in stream.entries)
 
-    def note_unreached(self, number: int, opened: Folder, own: int) -> None:
-        """A site is opened with so many messages: notes whether a folder has more of it that can't be reached."""
+    def note_unreached(self, number: int, opened: Folder, opens: StandIn) -> None:
+        """A site is opened: notes whether a folder has more of it that can't be reached, or has had the token since."""
+        own, held = opens.release.counts[number], opens.turn if opens.issued is not None else None
         for machine in self.machines:
             for site, folder in machine.folders.items():
                 if folder is not opened and not self.is_unreached:
-                    if site == number:
-                        more = sum(text.startswith(b"msg,") for text in folder.sent())
-                    else:
-                        more = max((int(line.split(b",", 4)[3]) for line in folder.lines("kept") if line.startswith(b"msg,1,%d," % number)),
-                                   default=0)
-                    self.is_unreached = more > own
+                    whole = [line for line in folder.lines("kept") if line.startswith(b"msg,1,%d," % number) and line.endswith(b"\n")]
+                    has = [line.split(b",", 4)[3] for line in whole]
+                    sent = sum(text.startswith(b"msg,") for text in folder.sent()) if site == number else 0
+                    turns = [int(text.split(b",")[2]) for text in tokens_of(folder.lines("kept"))]
+                    self.is_unreached = max([sent, *map(int, has)]) > own or held is not None and max(turns, default=0) > held
 
     def answered(self, keeper: Keeper, record: bytes, said: bytes) -> None:
         """A site has answered a record."""
@@ -148,6 +150,8 @@ class World:
                 self.note("Passes", keeper.folder.number, to, turn)
                 if turn > self.turn[0]:
                     self.turn = turn, site, to
+                if self.passes.get(turn, text) != text and self._is_anywhere(self.passes[turn]):
+                    self.excused.add((site, -turn))
                 self.passes[turn] = text
             case b"holding":
                 self.note("Reads", keeper.folder.number, "pass", int(record.split(b",")[2]))
@@ -295,12 +299,15 @@ class Process:
             task.cancel()
         self.tasks.clear()
 
-    def identity(self, site: int) -> tuple[str, str]:
-        """Names the folder of a site here, and how people read that."""
-        return f"{self.machine.identity}:{self.machine.folders[site].inode}", f"{self.machine.name}:{site}"
+    made: Folder | None = None      # what takes the place of a folder
+
+    def owner_text(self, site: int, is_fresh: bool = False) -> str:
+        """Names the folder of a site here, or the fresh one beside it, and says where it is."""
+        folder = self.made if is_fresh else self.machine.folders[site]
+        return f"{self.machine.identity}:{folder and folder.inode} {self.machine.name}:{site}"
 
     def named_of(self, site: int) -> str:
-        return f"{self.machine.boot} {' '.join(self.identity(site))}"
+        return f"{self.machine.boot} {self.owner_text(site)}"
 
     def kept_of(self, keeper: int, origin: int, after: int) -> Kept | None:
         """What stands in the file `kept` of a site here."""
@@ -508,13 +515,13 @@ class Supervisor(Process, Shop):
         keeper = self.sites[site.number].keeper
         assert keeper
         messages = keeper.site.release.counts[site.number]
-        self.world.note_unreached(site.number, keeper.folder, messages)
+        self.world.note_unreached(site.number, keeper.folder, keeper.site)
         own = dict(sends_of(keeper.folder.lines("out")))
         for other in self.sites.values():
             if other is not site and other.known.is_set and other.ledger.have[site.number].greatest > messages:
                 raise Violation(f"site {site.number} is opened with {messages} messages, and site {other.number} has "
                                 f"{other.ledger.have[site.number].greatest}")
-        if not isinstance(self.link, SimulatedServerLink) or not self.reaches() or self.link.down:
+        if not isinstance(self.link, SimulatedServerLink) or not self.reaches() or f"publish {site.number}" in self.link.down:
             return
         for place, text in self.world.server.streams[site.number].entries:
             if place[0] > messages or place in own and own[place] != text:
@@ -634,14 +641,17 @@ class Supervisor(Process, Shop):
         """The sites elsewhere that could take the token now, each with how often it was started; none where one here couldn't pass it, or
         a connection failed."""
         holder = next((site for site in self.sites.values() if site.ledger.holds_token), None)
-        if not isinstance(self.link, SimulatedServerLink) or not self.reaches() or self.link.down or not holder or not self.may_give(holder) \
-                or holder.is_passing or self.world.disturbed_at > self.clock.now - 3:
+        link = self.link
+        if not isinstance(link, SimulatedServerLink) or not self.reaches() or link.down or self.world.disturbed_at > self.clock.now - 3:
             return set()
+        if not holder or not self.may_give(holder) or holder.is_passing or not all(site.known.is_set for site in self.sites.values()):
+            return set()        # what stands in the files of one that can't be started may be anything
+        said = self.world.server.do(self, Statuses())
         return {(site.number, site.starts) for other in self.world.supervisors() if other.machine.name != self.machine.name
                 for site in other.sites.values()
-                if other.reaches() and isinstance(other.link, SimulatedServerLink) and not other.link.down and not other.is_leaving
+                if site.number not in self.sites and other.reaches() and isinstance(other.link, SimulatedServerLink) and not other.link.down and not other.is_leaving
                 and other.paused_until + 3 < self.clock.now
-                and site.up.is_set and site.compared.is_set and not site.fenced_by}
+                and site.up.is_set and site.compared.is_set and not site.fenced_by and said.get(site.number, {}).get("state") == "up"}
 
     def _leave(self) -> Steps[None]:
         if len(self.sites) < self.count and self.world.rules.hands_over:
@@ -702,8 +712,6 @@ def heard(answers: list[dict[str, Any]], record: bytes, answer: Any) -> None:
 
 class Command(Process):
     """A command that changes the folder of a site while the shop is stopped."""
-
-    made: Folder | None = None      # what takes the place of a folder
 
     def do(self, task: Task, step: tuple[Any, ...]) -> None:
         folders = self.machine.folders

@@ -162,11 +162,11 @@ class Ledger:
 
 
 def packets_of(kept: Iterable[bytes], origin: int, after: int) -> Iterator[tuple[int, bytes]]:
-    """Messages of a site with a number above `after` among the lines of a file `kept`, each with its number."""
+    """Messages of a site with a number above `after` among the lines of a file `kept`, each with its number; a torn last line is none."""
     for line in kept:
-        packet = packet_of(line.rstrip(b"\n")) if line.startswith(b"msg,") else None
+        packet = packet_of(line[:-1]) if line.startswith(b"msg,") and line.endswith(b"\n") else None
         if isinstance(packet, Message) and packet.origin == origin and packet.number > after:
-            yield packet.number, line.rstrip(b"\n")
+            yield packet.number, line[:-1]
 
 
 def sends_of(out: Iterable[bytes]) -> list[tuple[Place, bytes]]:
@@ -181,5 +181,5 @@ def sends_of(out: Iterable[bytes]) -> list[tuple[Place, bytes]]:
 
 
 def tokens_of(kept: Iterable[bytes]) -> list[bytes]:
-    """The tokens among the lines of a file `kept`."""
-    return [line.rstrip(b"\n") for line in kept if line.startswith(b"token,")]
+    """The tokens among the lines of a file `kept`; a torn last line is none."""
+    return [line[:-1] for line in kept if line.startswith(b"token,") and line.endswith(b"\n")]

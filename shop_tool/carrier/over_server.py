@@ -36,7 +36,7 @@ class ServerLink(Link):
 
     @abc.abstractmethod
     def named(self, site: Site) -> str:
-        """Names this supervisor as one that runs the site's folder."""
+        """Names this supervisor as one that runs the site's folder: the start of the machine, which folder it is, and where."""
 
     @abc.abstractmethod
     def called(self, site: Site, fields: dict[bytes, bytes]) -> Callable[[], None]:
@@ -77,7 +77,8 @@ class ServerLink(Link):
             self.shop.event(f"link: {self.over}: {why} ({name})")
         self.down.setdefault(name, f"down since {self.shop.stamp()}: {why}")
         for site in self.shop.sites.values():
-            self.shop.open_unseen(site)
+            if name == Publisher(self, site).name:      # its stream can't be seen
+                self.shop.open_unseen(site)
         self.shop.progress.tell()
 
     def works(self, name: str) -> None:
@@ -90,12 +91,14 @@ class ServerLink(Link):
 
     def _tell(self) -> Steps[None]:
         while not self.is_over:
+            said = [site.number for site in self.own_sites()]
             yield from self.look()
             self.works("tell")
+            if said == [site.number for site in self.own_sites()]:
+                yield Wait(self.shop.changes, COMPARE_SECONDS)
             for origin in range(self.shop.count):
                 if origin not in self.shop.sites:
                     yield from self._append_for(origin)
-            yield Wait(self.shop.changes, COMPARE_SECONDS)
 
     def look(self) -> Steps[None]:
         """Says how the sites here are, and sees what the streams have."""

@@ -114,10 +114,10 @@ class Publisher:
     def _why_other_site(self, state: StreamState) -> Steps[str | None]:
         """Why its folder can't be the one that the others know: another one owns the site, or another site has more of it."""
         site = self.site
-        if owner := (yield Owner(site.number)):
-            if not takes_place(site.lives, state.life):
-                raise Elsewhere(f"{owner} has it (shop adopt {site.number}, if that is gone for good)")
-            yield Adopt(site.number)    # the server had lost that
+        while (owner := (yield Owner(site.number))).split(" ")[0] != self.link.named(site).split(" ")[1]:
+            if owner and not takes_place(site.lives, state.life):
+                raise Elsewhere(f"{owner.partition(' ')[2]} has it (shop adopt {site.number}, if that is gone for good)")
+            yield Adopt(site.number, owner, False)      # nobody has it, or the server had lost who
         if site.compared.is_set:
             return None
         statuses = {other: status for other, status in (yield Statuses()).items() if other not in site.shop.sites}

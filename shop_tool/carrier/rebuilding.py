@@ -13,7 +13,7 @@ from ..ends import Fault, Status
 from .ledger import NOWHERE
 from .lives import count_of
 from .records import Message, Token, ask_of, bytes_of, packet_of
-from .steps import (Adopt, CallAll, Entries, Kept, KeptOf, Packets, Replay, Rewrite, SeenHere, SentHere, State, Statuses, Steps, StreamState,
+from .steps import (Adopt, CallAll, Entries, Kept, KeptOf, Owner, Packets, Replay, Rewrite, SeenHere, SentHere, State, Statuses, Steps, StreamState,
                     Swap, TakePlace, Wait)
 
 STATUS_SECONDS = 3.5    # a status that isn't written again for so long expires
@@ -56,8 +56,9 @@ class Rebuild:
         yield Replay(self.site, list(past.steps()))
         yield from statuses_without(self.site)
         state: StreamState = yield State(self.site)
+        if not (yield Adopt(self.site, (yield Owner(self.site)), True)):
+            raise Fault(Status.REFUSED, f"another folder has taken site {self.site}: {UNCHANGED}")
         yield Swap(self.site, count_of(state.life))
-        yield Adopt(self.site)
         return len(past.packets())
 
     def _past_on_server(self) -> Steps["Past"]:
@@ -125,7 +126,7 @@ def adopted(site: int) -> Steps[None]:
     """Gives the site to this folder, in the place of the one that was seen."""
     yield from statuses_without(site)
     state: StreamState = yield State(site)
-    yield Adopt(site)
+    yield Adopt(site, (yield Owner(site)), False)
     yield TakePlace(site, count_of(state.life))
 
 

@@ -8,7 +8,7 @@ from ..ends import Fault, Status
 from .ledger import Prefix
 from .opening import may_open_unseen, why_behind, why_passed_on
 from .records import Message, Purpose, Token, packet_of, why_not_one_record
-from .site import Pending, Site, State
+from .site import Pending, Site
 from .steps import CallAll, Flag, IsRunning, KeptOf, SayLeave, SayWant, Signal, Steps, UpElsewhere, Wait
 from .turns import SAY_AGAIN, Wants, taker
 
@@ -275,6 +275,3 @@ class Shop(abc.ABC):
             if shop and not shop.get("stopping"):
                 turns.update({site: one["turn"] for one in shop["site"] if one["site"] == site and "turn" in one})
         return turns
-
-    def is_up(self) -> bool:
-        return all(site.state == State.UP for site in self.sites.values())

@@ -11,7 +11,7 @@ from .answers import Answer, AnswerReader, KeptReader
 from .files import Files, Look
 from .ledger import Ledger, ReadOut
 from .records import Purpose, Token, text_of, why_not_one_record
-from .steps import Flag, Packets, Signal, Steps, Wait
+from .steps import Flag, Signal, Steps, Wait
 from .told import not_given, not_known
 from .turns import Hold
 
@@ -283,7 +283,3 @@ class Site(abc.ABC):
         if not pending.done.is_set:
             pending.answer = answer
             pending.done.set()
-
-    def sends_from(self, begin: int, end: int) -> Packets:
-        """Packets that it sent, with their places."""
-        return self.ledger.sends.read(begin, end)

@@ -22,10 +22,6 @@ class Signal:
     def __init__(self) -> None:
         self._waiters: dict[Callable[[], None], None] = {}
 
-    @property
-    def is_awaited(self) -> bool:
-        return bool(self._waiters)
-
     def tell(self) -> None:
         waiters, self._waiters = self._waiters, {}
         for wake in waiters:
@@ -125,11 +121,11 @@ Connect = NamedTuple("Connect", [])
 # How the stream of a site is: a StreamState.
 State = NamedTuple("State", [("site", int)])
 
-# Takes a site for its folder here if nobody has it; who has it else.
+# Which folder has a site, and where that is; empty if none has it.
 Owner = NamedTuple("Owner", [("site", int)])
 
-# Gives a site to its folder here.
-Adopt = NamedTuple("Adopt", [("site", int)])
+# Gives a site to its folder here, or to the fresh one beside it; False if another folder than `before` has it now.
+Adopt = NamedTuple("Adopt", [("site", int), ("before", str), ("is_fresh", bool)])
 
 # The statuses of all sites that run.
 Statuses = NamedTuple("Statuses", [])

@@ -3,7 +3,7 @@
 import unittest
 
 from shop_tool.carrier.answers import AnswerReader
-from shop_tool.carrier.ledger import Ledger, Prefix, packets_of
+from shop_tool.carrier.ledger import Ledger, Prefix, packets_of, tokens_of
 
 KEPT = [b"user,ann", b"pass,1", b"user,bob", b"comment,0.1,0.1,1.1,1,x", b"msg,1,1,2,3,1:1,user,cat", b"msg,1,1,1,2,1:0,user,dan",
         b"token,1,2,0,3", b"bid,0.3,0.1,5", b"pass,1"]
@@ -52,4 +52,11 @@ class Notes(unittest.TestCase):
         self.assertEqual(sends.last, (3, 1))
 
     def test_packets_of_another_site(self) -> None:
-        self.assertEqual(list(packets_of([record + b"\n" for record in KEPT], 1, 1)), [(2, KEPT[4])])
+        lines = [record + b"\n" for record in KEPT]
+        self.assertEqual(list(packets_of(lines, 1, 1)), [(2, KEPT[4])])
+        self.assertEqual(tokens_of(lines), [KEPT[6]])
+
+    def test_a_line_that_is_being_written_is_none(self) -> None:
+        """Its beginning may look like a packet that nobody sent."""
+        self.assertEqual(list(packets_of([KEPT[4] + b"\n", b"msg,1,1,3,0,1:2,user,ca"], 1, 0)), [(2, KEPT[4])])
+        self.assertEqual(tokens_of([b"token,1,2,0,1"]), [])

@@ -1,84 +1,13 @@
 """When a site takes asks, and what stops it, as its supervisor decides it."""
 
 import unittest
-from collections.abc import Callable
 from typing import Any
 
 from shop_tool.carrier.over_files import FileLink
-from shop_tool.carrier.over_server import ServerLink
 from shop_tool.carrier.publisher import Publisher
-from shop_tool.carrier.shop import Link, Shop
 from shop_tool.carrier.site import Site
-from shop_tool.carrier.steps import Owner, SeeLife, State, Statuses, Steps, StreamState, Wait
-
-
-class Known(Site):
-    """A site whose files nobody looks at."""
-
-    def __init__(self, shop: Shop, number: int) -> None:
-        super().__init__(shop, number, lambda pieces: [], lambda name: None)
-        self.lives = ["a"]
-        self.written: str | None = None
-        self.known.set()
-
-    def write(self, data: bytes) -> None:
-        pass
-
-    def kill(self) -> None:
-        pass
-
-    def write_fence(self, text: str) -> None:
-        self.written = text
-
-
-class Supervisor(Shop):
-    def __init__(self, link: Callable[[Shop], Link], sites: int, is_alone: bool = False) -> None:
-        super().__init__(2, is_alone)
-        self.sites: dict[int, Site] = {number: Known(self, number) for number in range(sites)}
-        self.link = link(self)
-
-    def now(self) -> float:
-        return 0.0
-
-    def stamp(self) -> str:
-        return "now"
-
-    def event(self, text: str) -> None:
-        pass
-
-    def later(self, seconds: float, call: Callable[[], None]) -> None:
-        pass
-
-    def begin(self, steps: Steps[None]) -> None:
-        pass
-
-    def witness_of(self, site: Site, answered: int) -> Callable[[int], None]:
-        return lambda upto: None
-
-
-class OverServer(ServerLink):
-    def __init__(self, shop: Shop) -> None:
-        super().__init__(shop, "the server")
-
-    def named(self, site: Site) -> str:
-        return "me"
-
-    def called(self, site: Site, fields: dict[bytes, bytes]) -> Callable[[], None]:
-        return lambda: None
-
-
-def done(steps: Steps[Any], answers: dict[type, Any]) -> list[tuple[Any, ...]]:
-    """Has steps done with these answers, until one waits for something; what they were."""
-    asked, said = [], None
-    try:
-        while True:
-            step = steps.send(said)
-            asked.append(step)
-            if isinstance(step, Wait) and not (step.signal and step.signal.is_set):
-                return asked
-            said = True if isinstance(step, Wait) else answers[type(step)]
-    except StopIteration:
-        return asked
+from shop_tool.carrier.steps import Owner, SeeLife, State, Statuses, StreamState
+from shop_tool.tests.shops import Known, OverServer, Supervisor, done
 
 
 class Opening(unittest.TestCase):
@@ -95,7 +24,10 @@ class Opening(unittest.TestCase):
         shop.begin_site(shop.sites[0], 100)
         shop.begin_site(shop.sites[1], None)
         self.assertEqual([site.opened.is_set for site in shop.sites.values()], [False, False])
-        shop.link.fail("tell", "away")
+        shop.link.fail("hear", "broke")
+        self.assertFalse(shop.sites[0].opened.is_set)
+        for site in shop.sites:
+            shop.link.fail(f"publish {site}", "away")
         self.assertEqual([site.opened.is_set for site in shop.sites.values()], [True, False])
 
     def test_alone_it_opens(self) -> None:
@@ -105,7 +37,7 @@ class Opening(unittest.TestCase):
 
     def answers(self, **changed: Any) -> dict[type, Any]:
         state = StreamState(0, (0, 0), b"", (0, 0), "")._replace(**{key: value for key, value in changed.items() if key != "statuses"})
-        return {State: state, Owner: None, Statuses: changed.get("statuses", {}), SeeLife: True}
+        return {State: state, Owner: "me:1 here:0", Statuses: changed.get("statuses", {}), SeeLife: True}
 
     def published(self, answers: dict[type, Any]) -> Site:
         shop = Supervisor(OverServer, 1)
@@ -120,7 +52,7 @@ class Opening(unittest.TestCase):
         self.assertEqual(site.written, site.fenced_by)
 
     def test_another_folder_that_has_it_may_go(self) -> None:
-        site = self.published(self.answers() | {Owner: "elsewhere:0"})
+        site = self.published(self.answers() | {Owner: "other:1 elsewhere:0"})
         assert isinstance(site, Known)
         self.assertIn("elsewhere:0 has it", site.fenced_by or "")
         self.assertIsNone(site.written)

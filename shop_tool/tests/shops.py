@@ -1,0 +1,86 @@
+"""A shop whose sites are told what they answer, for tests of the machines of the carrier."""
+
+from collections.abc import Callable
+from typing import Any
+
+from shop_tool.carrier.over_server import ServerLink
+from shop_tool.carrier.shop import Link, Shop
+from shop_tool.carrier.site import Site
+from shop_tool.carrier.steps import Steps, Wait
+
+
+class Known(Site):
+    """A site whose files nobody looks at."""
+
+    def __init__(self, shop: Shop, number: int) -> None:
+        super().__init__(shop, number, lambda pieces: [], lambda name: None)
+        self.lives = ["a"]
+        self.written: str | None = None     # why it is stopped for good, as its folder says
+        self.given = b""                    # what its keeper was given
+        self.known.set()
+
+    def start(self) -> None:
+        """It is up, and takes asks."""
+        self.opened.set()
+        self.up.set()
+
+    def write(self, data: bytes) -> None:
+        self.given += data
+
+    def kill(self) -> None:
+        pass
+
+    def write_fence(self, text: str) -> None:
+        self.written = text
+
+
+class Supervisor(Shop):
+    def __init__(self, link: Callable[[Shop], Link], sites: int, is_alone: bool = False) -> None:
+        super().__init__(2, is_alone)
+        self.time, self.begun = 0.0, list[Steps[None]]()
+        self.events: list[str] = []
+        self.sites: dict[int, Known] = {number: Known(self, number) for number in range(sites)}
+        self.link = link(self)
+
+    def now(self) -> float:
+        return self.time
+
+    def stamp(self) -> str:
+        return "now"
+
+    def event(self, text: str) -> None:
+        self.events.append(text)
+
+    def later(self, seconds: float, call: Callable[[], None]) -> None:
+        pass
+
+    def begin(self, steps: Steps[None]) -> None:
+        self.begun.append(steps)
+
+    def witness_of(self, site: Site, answered: int) -> Callable[[int], None]:
+        return lambda upto: None
+
+
+class OverServer(ServerLink):
+    def __init__(self, shop: Shop) -> None:
+        super().__init__(shop, "the server")
+
+    def named(self, site: Site) -> str:
+        return "boot me:1 here:0"
+
+    def called(self, site: Site, fields: dict[bytes, bytes]) -> Callable[[], None]:
+        return lambda: None
+
+
+def done(steps: Steps[Any], answers: dict[type, Any]) -> list[tuple[Any, ...]]:
+    """Has steps done with these answers, until one waits for something; what they were."""
+    asked, said = [], None
+    try:
+        while True:
+            step = steps.send(said)
+            asked.append(step)
+            if isinstance(step, Wait) and not (step.signal and step.signal.is_set):
+                return asked
+            said = True if isinstance(step, Wait) else answers[type(step)]
+    except StopIteration:
+        return asked

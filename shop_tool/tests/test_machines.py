@@ -1,0 +1,192 @@
+"""The machines of the carrier, step by step: an asker, what gives a site packets, and a stop that hands the token over."""
+
+import unittest
+from typing import Any
+
+from shop_tool.carrier.asking import Ask
+from shop_tool.carrier.over_files import BATCH, FileLink
+from shop_tool.carrier.reader import BLOCK_SECONDS, Reader
+from shop_tool.carrier.site import Disagreement, State
+from shop_tool.carrier.steps import CallAll, IsRunning, Marks, Page, PageOf, Read, Say, SayLeave, SayWant, Steps, UpElsewhere, Wait
+from shop_tool.ends import Fault
+from shop_tool.tests.shops import Known, OverServer, Supervisor
+
+TOKEN, ANN = b"token,1,2,1,0", b"msg,1,0,1,1,0:0,user,ann"
+
+
+def ask(site: Known, seconds: float = 3.0) -> Ask:
+    return Ask(site, seconds, fetches_token=True)
+
+
+class Asking(unittest.TestCase):
+    """Site 1, which doesn't hold the token at first."""
+
+    def setUp(self) -> None:
+        self.shop = Supervisor(FileLink, 2)
+        self.site = self.shop.sites[1]
+        self.site.start()
+
+    def fault(self, steps: Steps[None], said: Any = None) -> str:
+        with self.assertRaises(Fault) as raised:
+            steps.send(said)
+        return raised.exception.text
+
+    def test_an_answer_is_said(self) -> None:
+        steps = ask(self.site).run([b"item,0.1,lamp,7,1,1,0"])
+        self.assertEqual(steps.send(None), Wait(self.site.line[0].done, 3.0))
+        self.assertEqual(self.site.given, b"item,0.1,lamp,7,1,1,0\n")
+        self.site.take(b"reply,1,refused,6,NoUser\n")
+        step = steps.send(True)
+        self.assertIsInstance(step, Say)
+        self.assertRaises(StopIteration, steps.send, None)
+
+    def test_one_that_is_refused_for_want_of_the_token_is_asked_once_more(self) -> None:
+        steps = ask(self.site).run([b"user,bob"])
+        steps.send(None)
+        self.site.take(b"reply,1,refused,3,NoToken\n")
+        self.assertEqual(steps.send(True), Wait(self.site.token_came, 3.0))
+        self.assertEqual(self.shop.begun[0].send(None), SayWant(1, 0))
+        self.site.give([b"list,misfits"])
+        self.site.take(b"reply,2,rows,0\n")
+        steps.send(True)
+        self.assertEqual(self.site.given, b"user,bob\nlist,misfits\nuser,bob\n")
+
+    def test_when_the_token_does_not_come_it_is_not_accepted(self) -> None:
+        steps = ask(self.site).run([b"user,bob", b"user,cat"])
+        steps.send(None)
+        self.site.take(b"reply,1,refused,3,NoToken\n")
+        steps.send(True)
+        self.assertIsInstance(steps.send(False), Say)
+        self.assertEqual(steps.send(None), IsRunning(0, 0.5))
+        self.assertEqual(self.fault(steps, True), "site 1: site 0 has the token (turn 0); not accepted within 3 s")
+
+    def test_one_that_was_given_and_is_not_answered_may_still_be_accepted(self) -> None:
+        steps = ask(self.site).run([b"user,bob"])
+        steps.send(None)
+        self.assertIn("it may still be accepted: when site 1 has answered a later record, it is in `shop log 1` after record 0",
+                      self.fault(steps, False))
+
+    def test_one_that_was_not_given_is_not_given_any_more(self) -> None:
+        self.site.up.clear()
+        steps = ask(self.site).run([b"user,bob"])
+        steps.send(None)
+        self.assertIn("nothing was given to it", self.fault(steps, False))
+        self.site.come_up()
+        self.assertEqual(self.site.given, b"")
+
+    def test_an_asker_who_leaves_takes_along_what_was_not_given(self) -> None:
+        self.site.up.clear()
+        steps = ask(self.site).run([b"user,bob"])
+        steps.send(None)
+        steps.close()
+        self.assertFalse(self.site.line)
+
+    def test_a_site_that_ends(self) -> None:
+        steps = ask(self.site).run([b"user,bob"])
+        steps.send(None)
+        self.site.fence("it is a copy")
+        self.site.end()
+        self.assertEqual(self.site.state, State.FENCED)
+        self.assertIn("site 1: it is a copy; it may still be accepted", self.fault(steps, True))
+
+
+class Keeping(unittest.TestCase):
+    """What was given and not answered in time is answered where the keeper kept it, or given again."""
+
+    def caught_up(self, kept: bytes, out: bytes, count: int) -> Known:
+        site = Supervisor(FileLink, 2).sites[1]
+        site.start()
+        site.give([b"user,bob", b"user,cat"])
+        site.up.clear()
+        lines, pieces = iter(kept.splitlines(keepends=True)), iter([out])
+        for _ in site.catch_up(count, lambda: next(lines, b""), lambda: next(pieces, b"")):
+            pass
+        return site
+
+    def test_what_was_kept_is_answered_and_the_rest_is_given_again(self) -> None:
+        site = self.caught_up(b"user,bob\n", b"reply,1,refused,3,NoToken\n", 1)
+        self.assertEqual([pending.record for pending in site.line], [b"user,cat"])
+        site.given = b""
+        site.come_up()
+        self.assertEqual(site.given, b"user,cat\n")
+
+    def test_what_was_not_given_stops_it(self) -> None:
+        self.assertRaises(Disagreement, self.caught_up, b"user,eve\n", b"reply,1,refused,3,NoToken\n", 1)
+        self.assertRaises(ValueError, self.caught_up, b"user,bob\n", b"reply,1,refused,3,NoToken\n", 2)
+
+
+class Reading(unittest.TestCase):
+    def setUp(self) -> None:
+        self.shop = Supervisor(OverServer, 2)
+        del self.shop.sites[0]
+        self.site = self.shop.sites[1]
+        self.site.start()
+        assert isinstance(self.shop.link, OverServer)
+        self.link = self.shop.link
+        self.link.marks = [b"a", b"b"]
+
+    def test_tokens_behind_it_are_looked_for_where_a_stream_has_another_mark(self) -> None:
+        steps = Reader(self.link, self.site).run()
+        self.assertIsInstance(steps.send(None), Wait)
+        self.assertIsInstance(steps.send(True), Wait)
+        self.assertIsInstance(steps.send(True), Wait)
+        self.assertEqual(steps.send(True), Marks())
+        # Nothing is behind the beginning.
+        self.assertEqual(steps.send([b"a", b"b"]), Read({0: (0, 0)}, BATCH, BLOCK_SECONDS))
+        self.assertEqual(steps.send({0: [((1, 0), ANN)]}), Wait(self.site.line[0].done))
+        self.site.take(b"reply,1,released,1\n")
+        self.assertIsInstance(steps.send(True), Wait)
+        self.link.marks = [b"c", b"b"]
+        self.assertEqual(steps.send(True), Marks())
+        self.assertEqual(steps.send([b"c", b"b"]), PageOf(0, (0, 0), (1, 0)))
+        steps.send(Page(2, (1, 0), b"", [TOKEN]))
+        self.assertEqual(self.site.given, ANN + b"\n" + TOKEN + b"\n")
+
+    def fed(self, packets: list[bytes], answers: bytes) -> bool:
+        steps = self.shop.feed(self.site, packets)
+        try:
+            steps.send(None)
+            self.site.take(answers)
+            while True:
+                steps.send(True)
+        except StopIteration as end:
+            return bool(end.value)
+
+    def test_only_what_is_new_is_given(self) -> None:
+        own, other = b"msg,1,1,1,0,0:0,item,0.1,a,1,1,1,0", b"token,1,3,0,0"
+        self.assertTrue(self.fed([ANN, own, other], b"reply,1,released,1\n"))
+        self.assertEqual(self.site.given, ANN + b"\n")
+        self.assertTrue(self.fed([ANN], b""))
+
+    def test_a_token_that_was_here_already_is_not_given(self) -> None:
+        """Another site has had a later turn; the folder has lost that this one came and went."""
+        self.shop.wants.known(5)
+        self.assertTrue(self.fed([TOKEN], b""))
+        self.assertEqual(self.site.given, b"")
+
+    def test_a_site_that_is_full(self) -> None:
+        self.assertFalse(self.fed([ANN], b"reply,1,refused,2,Full\n"))
+
+
+class HandingOver(unittest.TestCase):
+    def setUp(self) -> None:
+        self.shop = Supervisor(OverServer, 1)
+        self.shop.sites[0].start()
+
+    def test_a_stop_passes_the_token_to_one_that_answers(self) -> None:
+        steps = self.shop.hand_over()
+        self.assertEqual(steps.send(None), SayLeave())
+        self.assertEqual(steps.send(None), UpElsewhere())
+        self.assertIsInstance(steps.send({1}), CallAll)
+        steps.send({1: [{"shop": {"stopping": False, "site": [{"site": 1, "turn": 0}]}}]})
+        self.assertEqual(self.shop.sites[0].given, b"pass,1\n")
+        self.assertEqual(self.shop.stays, "the token goes to site 1, which hasn't taken it yet")
+
+    def test_it_stays_where_nobody_takes_it(self) -> None:
+        for answers in ({}, {1: [{"shop": {"stopping": True, "site": [{"site": 1, "turn": 0}]}}]}):
+            steps = self.shop.hand_over()
+            steps.send(None)
+            steps.send(None)
+            steps.send({1})
+            self.assertRaises(StopIteration, steps.send, answers)
+            self.assertEqual(self.shop.stays, "the token stays with site 0, since no site elsewhere takes it")
