@@ -10,7 +10,7 @@ pub returns-in-Audit : goal.returns-in-Audit
 returns-in-Audit g c = c.audit_logs.ensures.status
 
 pub returns-in-Lack : goal.returns-in-Lack
-returns-in-Lack g c = c.run_lack.ensures
+returns-in-Lack g c = c.run_lack.ensures.status
 
 pub returns-in-Check : goal.returns-in-Check
 returns-in-Check g c = c.run_checker.ensures
