@@ -45,6 +45,14 @@ class Opening(unittest.TestCase):
         done(Publisher(shop.link, shop.sites[0]).run(), answers | {type(None): None})
         return shop.sites[0]
 
+    def test_its_life_is_seen_where_its_stream_ends_as_it_was_compared(self) -> None:
+        """Another process of the site may have appended something meanwhile; once the life is seen, that can't append any more."""
+        shop = Supervisor(OverServer, 1)
+        assert isinstance(shop.link, OverServer)
+        steps = done(Publisher(shop.link, shop.sites[0]).run(), self.answers())
+        self.assertIn(SeeLife(0, "", "1 a", (0, 0)), steps)
+        self.assertTrue(shop.sites[0].opened.is_set)
+
     def test_what_others_know_stops_each_later_start_too(self) -> None:
         site = self.published(self.answers(greatest=(3, 0)))
         assert isinstance(site, Known)
