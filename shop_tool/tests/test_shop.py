@@ -6,7 +6,7 @@ from typing import Any
 from shop_tool.carrier.over_files import FileLink
 from shop_tool.carrier.publisher import Publisher
 from shop_tool.carrier.site import Site
-from shop_tool.carrier.steps import Owner, SeeLife, State, Statuses, StreamState
+from shop_tool.carrier.steps import Owner, Page, PageOf, SeeLife, State, Statuses, StreamState
 from shop_tool.tests.shops import Known, OverServer, Supervisor, done
 
 
@@ -37,7 +37,7 @@ class Opening(unittest.TestCase):
 
     def answers(self, **changed: Any) -> dict[type, Any]:
         state = StreamState(0, (0, 0), b"", (0, 0), "")._replace(**{key: value for key, value in changed.items() if key != "statuses"})
-        return {State: state, Owner: "me:1 here:0", Statuses: changed.get("statuses", {}), SeeLife: True}
+        return {State: state, PageOf: Page(0, (0, 0), b"", []), Owner: "me:1 here:0", Statuses: changed.get("statuses", {}), SeeLife: True}
 
     def published(self, answers: dict[type, Any]) -> Site:
         shop = Supervisor(OverServer, 1)
