@@ -19,6 +19,7 @@ import pathlib
 import random
 import subprocess
 import sys
+import threading
 import time
 import traceback
 from collections.abc import Iterator
@@ -33,7 +34,7 @@ from simulation.stand_in import StandIn, records_of     # noqa: E402
 from simulation.without import RULES, rules_without, taken_out      # noqa: E402
 from simulation.world import Violation                  # noqa: E402
 
-AT_ONCE = 20            # how many runs a process makes before it says how they were
+AT_ONCE = 10            # how many runs a process makes before it says how they were
 RECORDS = 6000          # how many records are compared with the program's answers
 LEAST = {"events": 300, "faults": 10, "asks": 50, "turns": 3}
 
@@ -85,13 +86,28 @@ def many(job: tuple[list[str], str | None, str | None]) -> list[Played]:
     return [play(seed, without, steps=steps) for seed in seeds]
 
 
-def jobs_of(args: argparse.Namespace) -> Iterator[tuple[list[str], str | None, str | None]]:
-    until = time.monotonic() + args.seconds if args.seconds else None
-    for first in range(args.first, args.first + args.count, AT_ONCE):
-        if until and time.monotonic() > until:
-            return
-        numbers = range(first, min(first + AT_ONCE, args.first + args.count))
-        yield [f"{args.seed}.{number}" for number in numbers], args.without, args.steps
+class Jobs:
+    """Runs for the processes, some at a time, until the time is over or there are enough."""
+
+    def __init__(self, args: argparse.Namespace) -> None:
+        self.args = args
+        self.until = time.monotonic() + args.seconds if args.seconds else None
+        self.is_over = False
+        self._free = threading.Semaphore(args.processes + 1)
+
+    def all(self) -> Iterator[tuple[list[str], str | None, str | None]]:
+        args = self.args
+        for first in range(args.first, args.first + args.count, AT_ONCE):
+            self._free.acquire()
+            if self.is_over or self.until and time.monotonic() > self.until:
+                return
+            numbers = range(first, min(first + AT_ONCE, args.first + args.count))
+            yield [f"{args.seed}.{number}" for number in numbers], args.without, args.steps
+
+    def done(self, is_over: bool) -> None:
+        """One of them is done."""
+        self.is_over = self.is_over or is_over
+        self._free.release()
 
 
 def compared(program: str, seed: str) -> None:
@@ -137,14 +153,12 @@ def main() -> int:
         compared(args.program, args.seed)
     if args.skip is not None:
         return told_of(play(args.seed, args.without, frozenset(int(part) for part in args.skip.split(",") if part), args.steps))
-    began, plays = time.monotonic(), Counts()
+    began, plays, jobs = time.monotonic(), Counts(), Jobs(args)
     with multiprocessing.Pool(args.processes) as pool:
-        for done in pool.imap_unordered(many, jobs_of(args)):
+        for done in pool.imap_unordered(many, jobs.all()):
             for played in done:
                 plays.add(played)
-            if plays.broken:
-                pool.terminate()
-                break
+            jobs.done(plays.broken is not None)
     plays.tell(time.monotonic() - began, args)
     if not plays.broken:
         return 0

@@ -33,13 +33,14 @@ from .settings import Settings
 ANSWER_SECONDS = 60
 PAGE = 5000
 
-# Appends packets, if the last entry is the one that the caller knows; else returns the last id. A stream that it begins gets a mark.
+# Appends packets, if the last entry is the one that the caller knows, and so is the life that was seen last, if it names one; else returns
+# the last id. A stream that it begins gets a mark.
 APPEND = b"""
 local last = redis.call('XREVRANGE', KEYS[1], '+', '-', 'COUNT', 1)
 local id = last[1] and last[1][1] or '0-0'
-if id ~= ARGV[1] then return id end
+if id ~= ARGV[1] or ARGV[3] ~= '' and (redis.call('GET', KEYS[3]) or '') ~= ARGV[3] then return id end
 if id == '0-0' then redis.call('SET', KEYS[2], ARGV[2]) end
-for at = 3, #ARGV, 2 do redis.call('XADD', KEYS[1], ARGV[at], 'p', ARGV[at + 1]) end
+for at = 4, #ARGV, 2 do redis.call('XADD', KEYS[1], ARGV[at], 'p', ARGV[at + 1]) end
 return 'ok'
 """
 
@@ -61,6 +62,14 @@ local last = redis.call('XREVRANGE', KEYS[1], '+', '-', 'COUNT', 1)
 local info, greatest = redis.call('XINFO', 'STREAM', KEYS[1]), '0-0'
 for at = 1, #info, 2 do if info[at] == 'last-generated-id' then greatest = info[at + 1] end end
 return {redis.call('XLEN', KEYS[1]), last[1] and last[1][1] or '0-0', last[1] and last[1][2][2] or '', greatest, life}
+"""
+
+# Sets the life of a site, if it is still the one that the caller knows, and so is the last entry of its stream.
+SEE_LIFE = b"""
+local last = redis.call('XREVRANGE', KEYS[2], '+', '-', 'COUNT', 1)
+if (last[1] and last[1][1] or '0-0') ~= ARGV[3] or (redis.call('GET', KEYS[1]) or '') ~= ARGV[1] then return 0 end
+redis.call('SET', KEYS[1], ARGV[2])
+return 1
 """
 
 # Sets a key, if it still has what the caller knows.
@@ -112,6 +121,7 @@ class Streams:
         self._mark_keys = [self.key(f"mark:{site}") for site in range(self.sites)]
         self._append = self.redis.register_script(APPEND)
         self._state = self.redis.register_script(STATE)
+        self._see_life = self.redis.register_script(SEE_LIFE)
         self._change = self.redis.register_script(CHANGE)
         self._page = self.redis.register_script(PAGE_OF)
 
@@ -138,12 +148,13 @@ class Streams:
         entries, last, packet, greatest, life = await self._state(keys=[self.key(site), self.key(f"life:{site}")])
         return StreamState(entries, place_of(last), packet, place_of(greatest), life.decode("utf-8", "replace"))
 
-    async def see_life(self, site: int, before: str, life: str) -> bool:
-        return bool(await self._change(keys=[self.key(f"life:{site}")], args=[before, life]))
+    async def see_life(self, site: int, before: str, life: str, last: Place) -> bool:
+        return bool(await self._see_life(keys=[self.key(f"life:{site}"), self.key(site)], args=[before, life, id_of(last)]))
 
-    async def append(self, site: int, last: Place, packets: Packets) -> bool:
-        words = [id_of(last), new_mark()] + [word for place, text in packets for word in (id_of(place), text)]
-        return bool(await self._append(keys=[self.key(site), self.key(f"mark:{site}")], args=words) == b"ok")
+    async def append(self, site: int, last: Place, packets: Packets, life: str) -> bool:
+        words: list[Any] = [id_of(last), new_mark(), life] + [word for place, text in packets for word in (id_of(place), text)]
+        keys = [self.key(site), self.key(f"mark:{site}"), self.key(f"life:{site}")]
+        return bool(await self._append(keys=keys, args=words) == b"ok")
 
     async def rewrite(self, site: int, packets: Packets) -> None:
         new = self.key(f"{site}:new")

@@ -102,7 +102,7 @@ class Asker:
     def _look_at_published(self, here: SimulatedSite) -> None:
         """What was accepted is where the others find it, unless the server lost something meanwhile."""
         world = self.world
-        texts = {world.text_of[told.record] for told in self.told if told.what == "ok"}
+        texts = {world.text_of.get(told.record, told.record) for told in self.told if told.what == "ok"}
         if world.is_over_server:
             found = {text for _, text in world.server.streams[self.site].entries}
             if world.server.times != self.server_times:

@@ -215,8 +215,29 @@ def passed_by_hand(run: "Run", dice: random.Random) -> None:
             site.give([b"pass,%d" % dice.randrange(run.world.sites)])
 
 
+def passed_to_a_stopped_site(run: "Run", dice: random.Random) -> None:
+    """The token is passed to a stopped site, a message follows, and the server loses something while the sender is stopped too."""
+    holder = next((site for supervisor in run.supervisors.values() if supervisor.is_alive for site in supervisor.sites.values()
+                   if site.ledger.holds_token and supervisor.may_give(site)), None)
+    others = [machine for machine in run.world.machines if holder and machine is not holder.machine]
+    if not holder or not others:
+        return killed_supervisor(run, dice)
+    sender, to = holder.machine, dice.choice(others)
+    run.switch_off(to)
+    run.rest(to, 4.0)
+    holder.give([b"pass,%d" % dice.choice(to.here)])
+    run.ask_at(holder.number, [b"item,0.1,t%d,1,1,1,0" % run.world.new_number()])
+
+    def lose() -> None:
+        run.switch_off(sender)
+        run.rest(sender, 6.0)
+        dice.choice([server_loses_end, server_loses_all])(run, dice)
+    run.world.clock.after(1.0, lose)
+
+
 FAULTS: dict[Callable[["Run", random.Random], None], float] = {
     killed_keeper: 6, killed_supervisor: 5, stopped: 4, lost_power: 0.7, lost_all_power: 0.15, lost_end: 0.2, copied: 2.5, put_back: 0.6,
     lost: 0.25, lost_file: 0.25, changed_word: 0.2, ran_copy: 0.6, paused: 2, jumped: 1.5, cut_off: 3, server_goes: 2, server_loses_end: 1.5,
     server_loses_all: 0.5, server_comes_from_backup: 0.2, passed_by_hand: 1.5,
+    passed_to_a_stopped_site: 0.4,
 }

@@ -100,12 +100,16 @@ class Run:
         if dice.random() < 0.05:
             world.clock.after(dice.random() * seconds, asker.leave)
 
-    def _ask_red(self, site: int, number: int) -> Asker:
-        """Asks a site what only the holder of the token accepts."""
+    def ask_at(self, site: int, records: list[bytes]) -> Asker:
+        """Asks a site where it runs."""
         supervisor = next((its for its in self.supervisors.values() if site in its.sites), None)
-        asker = Asker(self.world, supervisor, site, [b"user,red%d" % number], LAST_SECONDS, False)
+        asker = Asker(self.world, supervisor, site, records, LAST_SECONDS, False)
         self.askers.append(asker)
         return asker
+
+    def _ask_red(self, site: int, number: int) -> Asker:
+        """Asks a site what only the holder of the token accepts."""
+        return self.ask_at(site, [b"user,red%d" % number])
 
     # Operators.
 

@@ -98,12 +98,14 @@ class Server:
                     said = status | {"told": by.clock.now, "by": by.named_of(site)}
                     self.said[site] = self.clock.now + STATUS_SECONDS, said
                 return [stream.last[0] for stream in self.streams], list(self.marks)
-            case SeeLife(site, before, life):
-                if self.lives[site] != before:
+            case SeeLife(site, before, life, last):
+                if self.lives[site] != before or self.streams[site].last != last:
                     return False
                 self._write(functools.partial(self._see, site, life))
                 return True
-            case Append(site, last, packets):
+            case Append(site, last, packets, life):
+                if life and self.lives[site] != life:
+                    return False
                 if self.streams[site].last != last or packets[0][0] <= self.streams[site].greatest:
                     return False
                 self._write(functools.partial(self._append, site, packets, by.world.new_mark()))

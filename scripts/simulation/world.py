@@ -378,7 +378,7 @@ class Process:
 
     def _note(self, step: tuple[Any, ...], said: Any) -> None:
         match step:
-            case Append(site, _, packets) if said:
+            case Append(site, _, packets, _) if said:
                 folder = self.machine.folders.get(site) or next(iter(self.machine.folders.values()))
                 for place, _ in packets:
                     self.world.note("Appends", folder.number, site, "%d-%d" % place)

@@ -29,8 +29,9 @@ def count_of(seen: str | None) -> int:
 
 
 def takes_place(lives: Sequence[str], seen: str | None) -> bool:
-    """Whether the folder was made again, or adopted, since that life was seen."""
-    return 0 < count_of(seen) <= max((at for at, life in enumerate(lives, 1) if life.startswith(PLACE)), default=0)
+    """Whether the folder was made again, or adopted, since that life was seen, or where none was."""
+    place = max((at for at, life in enumerate(lives, 1) if life.startswith(PLACE)), default=0)
+    return 0 < place and (not seen or 0 < count_of(seen) <= place)
 
 
 def standing(lives: Sequence[str], seen: str | None) -> Standing:

@@ -124,7 +124,7 @@ class ServerLink(Link):
         for number, text in ((yield KeptOf(site.number, origin, state.last[0])) or ([], []))[0]:
             if number == state.last[0] + len(packets) + 1 and len(packets) < BATCH:
                 packets.append(((number, 0), text))
-        if packets and (yield Append(origin, state.last, packets)):
+        if packets and (yield Append(origin, state.last, packets, "")):
             self.shop.event(f"link: {len(packets)} messages of site {origin} that the server had lost are appended by site {site.number}")
 
     # Wants and requests of other supervisors.

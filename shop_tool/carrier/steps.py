@@ -133,11 +133,11 @@ Statuses = NamedTuple("Statuses", [])
 # Writes statuses of sites; how many messages each stream has, and its mark.
 Tell = NamedTuple("Tell", [("statuses", dict[int, dict[str, Any]])])
 
-# Writes down the life of a site's folder; False if another one was since `before` was.
-SeeLife = NamedTuple("SeeLife", [("site", int), ("before", str), ("life", str)])
+# Writes down the life of a site's folder; False if another one was since `before` was, or its stream has another last entry.
+SeeLife = NamedTuple("SeeLife", [("site", int), ("before", str), ("life", str), ("last", Place)])
 
-# Appends packets behind the entry `last`; False if that isn't the last one.
-Append = NamedTuple("Append", [("site", int), ("last", Place), ("packets", Packets)])
+# Appends packets behind the entry `last`; False if that isn't the last one, or the life that was seen last isn't this one, if one is named.
+Append = NamedTuple("Append", [("site", int), ("last", Place), ("packets", Packets), ("life", str)])
 
 # Puts a stream with these packets in place of the site's stream, at once.
 Rewrite = NamedTuple("Rewrite", [("site", int), ("packets", Packets)])

@@ -51,7 +51,8 @@ class Lives(unittest.TestCase):
         self.assertEqual({seen: standing(own, seen) for seen in cases}, cases)
         take_place(self.folder, 2)      # adopted: it takes the place of itself too
         self.assertEqual(standing(begin_life(self.folder), "4 x"), Standing.AHEAD)
-        self.assertFalse(takes_place(own, None))
+        self.assertTrue(takes_place(own, None))         # the server lost its end: the word that this folder has the site, and the life
+        self.assertFalse(takes_place(["a", "b"], None))
 
     def test_what_the_others_saw_over_files(self) -> None:
         os.makedirs(self.folder)

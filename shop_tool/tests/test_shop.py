@@ -6,7 +6,7 @@ from typing import Any
 from shop_tool.carrier.over_files import FileLink
 from shop_tool.carrier.publisher import Publisher
 from shop_tool.carrier.site import Site
-from shop_tool.carrier.steps import Owner, SeeLife, State, Statuses, StreamState
+from shop_tool.carrier.steps import Owner, Page, PageOf, SeeLife, State, Statuses, StreamState
 from shop_tool.tests.shops import Known, OverServer, Supervisor, done
 
 
@@ -37,13 +37,21 @@ class Opening(unittest.TestCase):
 
     def answers(self, **changed: Any) -> dict[type, Any]:
         state = StreamState(0, (0, 0), b"", (0, 0), "")._replace(**{key: value for key, value in changed.items() if key != "statuses"})
-        return {State: state, Owner: "me:1 here:0", Statuses: changed.get("statuses", {}), SeeLife: True}
+        return {State: state, PageOf: Page(0, (0, 0), b"", []), Owner: "me:1 here:0", Statuses: changed.get("statuses", {}), SeeLife: True}
 
     def published(self, answers: dict[type, Any]) -> Site:
         shop = Supervisor(OverServer, 1)
         assert isinstance(shop.link, OverServer)
         done(Publisher(shop.link, shop.sites[0]).run(), answers | {type(None): None})
         return shop.sites[0]
+
+    def test_its_life_is_seen_where_its_stream_ends_as_it_was_compared(self) -> None:
+        """Another process of the site may have appended something meanwhile; once the life is seen, that can't append any more."""
+        shop = Supervisor(OverServer, 1)
+        assert isinstance(shop.link, OverServer)
+        steps = done(Publisher(shop.link, shop.sites[0]).run(), self.answers())
+        self.assertIn(SeeLife(0, "", "1 a", (0, 0)), steps)
+        self.assertTrue(shop.sites[0].opened.is_set)
 
     def test_what_others_know_stops_each_later_start_too(self) -> None:
         site = self.published(self.answers(greatest=(3, 0)))
