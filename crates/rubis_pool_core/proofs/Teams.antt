@@ -62,8 +62,7 @@ follows_the_share first batch p messages shard h =
     let rest = share n (first + length (take messages batch)) (drop messages batch) k in
     let all : share n first batch k ≡ done ++ rest =
     ap (λ ms. share n first ms k) (sym (take-append-drop messages batch)) ∙ share_append n first (take messages batch) (drop messages batch) k in
-    let d : Done = record { shard = shard; share = (in_batch first batch p).share; done = length done } in
-    (
+    let d : Done = record { shard = shard; share = (in_batch first batch p).share; done = length done } in (
       d,
       refl,
       record {

@@ -178,7 +178,8 @@ fn two_workers_meet_in_the_third_arrival(rt: HostRuntime) -> Result<(), Fail> {
 const SAID: &str = "msg,1,0,2,2,1:0,user,bob\nmsg,1,0,2,2,1:0,user,bob\nmsg,1,0,1,1,0:0,user,ann\n\
 msg,1,0,2,2,1:0,user,bob\nmsg,1,0,1,1,0:0,user,ann\nlist,users\n";
 
-const HEARD: &str = "reply,1,held\nreply,2,repeat\nreply,3,released,2\nreply,4,repeat\nreply,5,repeat\nreply,6,rows,2\n\
+const HEARD: &str =
+    "reply,1,held\nreply,2,repeat\nreply,3,released,2\nreply,4,repeat\nreply,5,repeat\nreply,6,rows,2\n\
 row,user,0.1,ann,0,0,0,0\nrow,user,0.2,bob,0,0,0,0\n";
 
 #[test]

@@ -73,7 +73,11 @@ fn the_gate_is_called_for_each_shard_in_every_application(rt: HostRuntime) -> Re
         (200, 3, 3_003_003_003_003),
     ] {
         let counts = count_calls_of_workers(&rt, rt.alloc(), &records, batch)?;
-        assert_eq!(rt; counts, [one_shard, five_shards, five_shards], "batches of {batch}");
+        assert_eq!(rt;
+            counts,
+            [one_shard, five_shards, five_shards],
+            "batches of {batch}"
+        );
     }
     Ok(())
 }
