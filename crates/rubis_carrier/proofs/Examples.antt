@@ -3,3 +3,4 @@ pub mod Runs
 pub mod Opening
 pub mod Answers
 pub mod Places
+pub mod TakingOver
