@@ -1,17 +1,19 @@
 -- What stands in a stream under a number is one message, whoever appended it.
-use Rattle.std.proofs.Common.{◌≡◌, ◌∙◌, ◌≢◌, ◌⊎◌, inl, inr, ⊎_elim, ◌≤◌, ◌<◌, ◌+◌, ◌++◌, ◌∷◌, [], ℕ, List, refl, sym, ap, subst, arith}
+use Rattle.std.proofs.Common.{◌≡◌, ◌∙◌, ⊎_elim, ◌++◌, ◌∷◌, [], ℕ, List, sym, ap, subst, arith}
 use Rattle.std.specs.Prelude.{take}
 use Rattle.rubis_model.specs.Settle.{Has}
 use Rattle.rubis_model.proofs.Lists.{has_left, push_cases}
-use Rattle.rubis_carrier.specs.Packets.{Packet, highest, sender}
+use Rattle.rubis_carrier.specs.Packets.{Packet, sender}
 use Rattle.rubis_carrier.specs.Packets.Packet.{Message, Pass}
-use Rattle.rubis_carrier.specs.Shops.{Carrier, Shop, put, start}
-use Rattle.rubis_carrier.specs.Shops.Place.{InFolder, InStream}
+use Rattle.rubis_carrier.specs.Shops.{Carrier, Shop, start}
+use Rattle.rubis_carrier.specs.Shops.Place.{InStream}
 use Rattle.rubis_carrier.specs.Events.{Event, Harms, IsWhole, after, run}
 use Rattle.rubis_carrier.specs.Events.Event.{Appends, Opens, ServerLosesAll, Starts, StreamLosesEnd, TellsOk, TellsPublished, WritesAnew}
-use Rattle.rubis_carrier.specs.Standby.{AreStepsWithStandby, IdsAreToldOnce, IsAtItsPlace, MayWithStandby, ToldStaysInStream}
+use Rattle.rubis_carrier.specs.Shops.Told.{No}
+use Rattle.rubis_carrier.specs.Standby.{AreStepsWithStandby, IdsAreToldOnce, IsAtItsPlace, MayWithStandby, NoIsTrueWithStandby, ToldStaysInStream}
 use Rattle.rubis_carrier.proofs.PacketFacts.{number_within}
 use Rattle.rubis_carrier.proofs.PutFacts.{has_take, put_cases}
+use Rattle.rubis_carrier.proofs.Telling.{Tells, opens_tells, tells_start, tells_step, told_after}
 use Rattle.rubis_carrier.proofs.Whole.{run_append, stream_more, stream_other}
 
 -- ---- lists of steps
@@ -36,9 +38,9 @@ placed_append : (s : Shop) → ArePlaced s → (x : Packet) → IsAtItsPlace s x
 placed_append s q (Message i m p) place n r d a b =
     ⊎_elim
     (λ old. ⊎_elim (λ other. q i n r d old other)
-      (λ (new : Message i n d ≡ Message i m p). absurd (late r old (cc new))) (push_cases (Message i n d) (Message i m p) (s.stream i) b))
+    (λ (new : Message i n d ≡ Message i m p). absurd (late r old (cc new))) (push_cases (Message i n d) (Message i m p) (s.stream i) b))
     (λ (new : Message i n r ≡ Message i m p). ⊎_elim (λ other. absurd (late d other (cc new)))
-      (λ (too : Message i n d ≡ Message i m p). both (cc new) (cc too)) (push_cases (Message i n d) (Message i m p) (s.stream i) b))
+    (λ (too : Message i n d ≡ Message i m p). both (cc new) (cc too)) (push_cases (Message i n d) (Message i m p) (s.stream i) b))
     (push_cases (Message i n r) (Message i m p) (s.stream i) a)
   where
     late : (r : ℕ) → Has (Message i n r) (s.stream i) → n ≡ m → ⊥
@@ -51,7 +53,7 @@ placed_append s q (Message i m p) place n r d a b =
 placed_append s q (Pass i t j a) place n r d x y =
     ⊎_elim
     (λ old. ⊎_elim (λ other. q i n r d old other) (λ (new : Message i n d ≡ Pass i t j a). absurd (cc new))
-      (push_cases (Message i n d) (Pass i t j a) (s.stream i) y))
+    (push_cases (Message i n d) (Pass i t j a) (s.stream i) y))
     (λ (new : Message i n r ≡ Pass i t j a). absurd (cc new)) (push_cases (Message i n r) (Pass i t j a) (s.stream i) x)
 
 placed_step : (c : Carrier) (s : Shop) (e : Event) → MayWithStandby c s e → ArePlaced s → ArePlaced (after s e)
@@ -109,3 +111,21 @@ told_once c before between k j r q n m site whole =
     (placed_step c s (TellsPublished k r n) steps.0
     (placed_after c start before (steps_left c start before (TellsPublished k r n ∷ (between ++ last)) m) (λ d a b e x y. absurd x))) in
     placed i n r q mine theirs
+
+-- ---- what is told
+
+tells_step_too : (c : Carrier) (s : Shop) (e : Event) → MayWithStandby c s e → Tells s → Tells (after s e)
+tells_step_too c s (Opens k) m q = opens_tells s k q
+tells_step_too c s (TellsOk k r n) m q = absurd m
+tells_step_too c s (WritesAnew k) m q = absurd m
+tells_step_too c s (Appends k x) m q = tells_step c s (Appends k x) m.0 q
+tells_step_too c s e m q = tells_step c s e m q
+
+tells_after_too : (c : Carrier) (s : Shop) (events : List Event) → AreStepsWithStandby c s events → Tells s → Tells (run s events)
+tells_after_too c s [] m q = q
+tells_after_too c s (e ∷ rest) m q = tells_after_too c (after s e) rest m.1 (tells_step_too c s e m.0 q)
+
+pub no_is_true : NoIsTrueWithStandby
+no_is_true c before later m r told =
+    let still = subst (λ (s : Shop). Has (No r) s.told) (sym (run_append start before later)) (told_after (run start before) later (No r) told) in
+    ((tells_after_too c start (before ++ later) m tells_start).no r still).1

@@ -5,8 +5,10 @@ use Rattle.rubis_carrier.specs.Packets.{Packet, highest}
 use Rattle.rubis_carrier.specs.Packets.Packet.{Message, Pass}
 use Rattle.rubis_carrier.specs.Shops.{Carrier, Shop, start}
 use Rattle.rubis_carrier.specs.Shops.Place.{InStream}
+use Rattle.rubis_carrier.specs.Shops.Told.{No}
 use Rattle.rubis_carrier.specs.Events.{Event, IsWhole, May, after, run}
 use Rattle.rubis_carrier.specs.Events.Event.{Appends, Opens, TellsOk, TellsPublished, WritesAnew}
+use Rattle.rubis_carrier.specs.Laws.{IsUnmade}
 
 -- a message is the next of its stream
 abbrev pub IsAtItsPlace : Shop → Packet → Type 0
@@ -38,3 +40,8 @@ IdsAreToldOnce = (c : Carrier) (before between : List Event) (k j r q n : ℕ)
     → AreStepsWithStandby c start (before ++ TellsPublished k r n ∷ (between ++ TellsPublished j q n ∷ []))
     → let i = ((run start before).folder k).site in
     ((run start (before ++ TellsPublished k r n ∷ between)).folder j).site ≡ i → IsWhole (InStream i) between → r ≡ q
+
+-- an ask that was refused, or of which nothing was given to a site, is never made a message of
+abbrev pub NoIsTrueWithStandby : Type 0
+NoIsTrueWithStandby = (c : Carrier) (before later : List Event) → AreStepsWithStandby c start (before ++ later) → (r : ℕ)
+    → Has (No r) (run start before).told → IsUnmade (run start (before ++ later)) r

@@ -1,7 +1,7 @@
 //! The laws of shops, each with its statement in specs/.
 
 ghost use Rattle.rubis_carrier.specs.Laws.{AnswersComeInOrder, AsksAreAcceptedOnce, ComparingIsNeeded, GivenAgainOnlyWhereLost, IdsAreGivenOnce, NothingAcceptedIsLost, TheFirstSiteHolds, TheTokenComesBack};
-ghost use Rattle.rubis_carrier.specs.Standby.{IdsAreToldOnce, ToldStaysInStream};
+ghost use Rattle.rubis_carrier.specs.Standby.{IdsAreToldOnce, NoIsTrueWithStandby, ToldStaysInStream};
 ghost use Rattle.rubis_carrier.specs.Sites.{SitesGiveTheseNames};
 ghost use Rattle.rubis_carrier.specs.Laws.{NobodyIsToldBoth, PublishedIsInStream, ToldOkIsKept, WhatIsOverStays, WhatIsToldIsTrue};
 
@@ -49,8 +49,9 @@ pub fn sites_give_these_names()
 
 /// Sites with a standby, of which any folder may take asks at any time, compared with nothing: as long as the stream is whole, no two
 /// asks are told one id, by whichever folders, and what was told ok stands in the stream. Ok is told only once the message stands
-/// there, and a message is appended only as the next of its stream.
+/// there, and a message is appended only as the next of its stream. An ask that was told no stands nowhere, then and for ever.
 pub fn a_standby_takes_over()
     ensures once { IdsAreToldOnce }
     ensures stays { ToldStaysInStream }
+    ensures never { NoIsTrueWithStandby }
 {}
