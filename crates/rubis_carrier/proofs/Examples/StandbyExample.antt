@@ -7,7 +7,7 @@ use Rattle.rubis_carrier.specs.Shops.Told.{Ok}
 use Rattle.rubis_carrier.specs.Events.{Event, run}
 use Rattle.rubis_carrier.specs.Events.Event.{Accepts, Appends, Gives, IsAsked, IsCopied, Opens, Serves, Starts, TellsPublished}
 use Rattle.rubis_carrier.specs.Standby.{AreStepsWithStandby, IsAtItsPlace}
-use Rattle.rubis_carrier.proofs.Examples.Runs.{first_message, other_message}
+use Rattle.rubis_carrier.proofs.Examples.ExampleRuns.{first_message, other_message}
 
 -- folder 5 takes over from folder 0, which goes on. Each accepts an ask, under the same number, and folder 0 is the first to append its
 -- message, and to tell its asker
