@@ -30,7 +30,7 @@ in_stream : (s : Shop) (e : Event) (i : ℕ) (xs : List Packet) (x : Packet) →
     → (j : ℕ) → Has x (put i xs s.stream j) → IsSomewhere s x ⊎ IsNew s e x
 in_stream s e i xs x here = put_cases (λ j ys. Has x ys → IsSomewhere s x ⊎ IsNew s e x) i xs s.stream here (λ j n h. inl (InStream j, h))
 
-in_opened : (s : Shop) (k : ℕ) (f : Folder) (x : Packet) → f.kept ≡ (s.folder k).kept → (j : ℕ)
+pub in_opened : (s : Shop) (k : ℕ) (f : Folder) (x : Packet) → f.kept ≡ (s.folder k).kept → (j : ℕ)
     → Has x (put k f (λ i. forgotten (s.folder k).site (s.folder i)) j).kept → IsSomewhere s x ⊎ IsNew s (Opens k) x
 in_opened s k f x e = put_cases (λ j g. Has x g.kept → IsSomewhere s x ⊎ IsNew s (Opens k) x) k f (λ i. forgotten (s.folder k).site (s.folder i))
     (λ h. inl (InFolder k, subst (Has x) e h)) (λ j n h. inl (InFolder j, h))

@@ -8,4 +8,5 @@ pub mod Telling
 pub mod Over
 pub mod Needed
 pub mod Sites
+pub mod Standby
 pub mod Examples

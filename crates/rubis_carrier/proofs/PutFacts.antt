@@ -1,5 +1,5 @@
 -- One folder or stream that is put in the place of another, and lists that get longer or shorter.
-use Rattle.std.proofs.Common.{◌≡◌, ◌≢◌, ◌⊎◌, inl, inr, ◌∷◌, [], ℕ, Bool, true, false, cond, eqb, List, refl, sym, subst, arith}
+use Rattle.std.proofs.Common.{◌≡◌, ◌≢◌, inl, inr, ◌∷◌, [], ℕ, Bool, true, false, cond, eqb, List, refl, sym, subst, arith}
 use Rattle.std.specs.Prelude.{filter, take, zero, suc}
 use Rattle.std.proofs.lemmas.Bool.{eqb-false, eqb-true}
 use Rattle.rubis_model.specs.Settle.{Has}
@@ -24,12 +24,6 @@ pub put_cases : {A : Type 0} (P : ℕ → A → Type 0) (k : ℕ) (x : A) (f : �
 put_cases P k x f here there j = elim (eqb j k) as (λ b. eqb j k ≡ b → P j (cond b x (f j))) [
   | true ↦ λ e. subst (λ n. P n x) (sym (eqb-true j k e)) here
   | false ↦ λ e. there j (eqb-false j k e)
-] refl
-
-pub same_or_not : (j k : ℕ) → (j ≡ k) ⊎ (j ≢ k)
-same_or_not j k = elim (eqb j k) as (λ b. eqb j k ≡ b → (j ≡ k) ⊎ (j ≢ k)) [
-  | true ↦ λ e. inl (eqb-true j k e)
-  | false ↦ λ e. inr (eqb-false j k e)
 ] refl
 
 -- ---- in a shorter list

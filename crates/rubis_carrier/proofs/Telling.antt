@@ -13,7 +13,7 @@ use Rattle.rubis_carrier.specs.Events.Event.{Accepts, Appends, Gives, IsAsked, I
 use Rattle.rubis_carrier.specs.Events.Event.{Passes, Reads, Rebuilds, Refuses, Serves, ServerLosesAll, Starts, StreamLosesEnd, TellsNothing, TellsOk, TellsPublished}
 use Rattle.rubis_carrier.specs.Events.Event.{KeeperStarts, TellsUnknown, WritesAnew}
 use Rattle.rubis_carrier.specs.Laws.{AsksAreAcceptedOnce, IsUnmade, NobodyIsToldBoth, PublishedIsInStream, ToldOkIsKept, WhatIsToldIsTrue}
-use Rattle.rubis_carrier.proofs.Changes.{AreApart, IsNew, apart_more, apart_others, first_in, from_step, has_others, has_without}
+use Rattle.rubis_carrier.proofs.Changes.{AreApart, IsNew, apart_more, apart_others, first_in, from_step, has_others, in_opened, has_without}
 use Rattle.rubis_carrier.proofs.PutFacts.{put_cases, put_there}
 use Rattle.rubis_carrier.proofs.Sound.{IsSomewhere}
 use Rattle.rubis_carrier.proofs.Whole.{run_append, steps_left, steps_right}
@@ -618,10 +618,10 @@ asked_tells c s r life d q m =
 no_message : (s : Shop) (k to i n r : ℕ) → IsNew s (Passes k to) (Message i n r) → ⊥
 no_message s k to i n r e = cc e
 
-pub tells_step : (c : Carrier) (s : Shop) (e : Event) → May c s e → Tells s → Tells (after s e)
-tells_step c s (Starts k) m q = starts_tells c s k q m
-tells_step c s (Opens k) m q = quiet_tells s (after s (Opens k)) q (record {
-  from = nothing_new c s (Opens k) m (λ i n p e. e);
+-- a folder opens, whether it may or not
+pub opens_tells : (s : Shop) (k : ℕ) → Tells s → Tells (after s (Opens k))
+opens_tells s k q = quiet_tells s (after s (Opens k)) q (record {
+  from = from;
   memory = memory_opened s k _ (same (s.folder k) _ refl refl refl refl refl refl refl (λ x h. h));
   asks = refl;
   request = refl;
@@ -629,6 +629,14 @@ tells_step c s (Opens k) m q = quiet_tells s (after s (Opens k)) q (record {
   no = λ r a. a;
   ok = λ r i n a. inl a;
 })
+  where
+    from : (h : Place) (i n r : ℕ) → Has (Message i n r) (there (after s (Opens k)) h) → IsSomewhere s (Message i n r)
+    from (InFolder j) i n r a = ⊎_elim (λ old. old) (λ z. absurd z) (in_opened s k _ (Message i n r) refl j a)
+    from (InStream j) i n r a = (InStream j, a)
+
+pub tells_step : (c : Carrier) (s : Shop) (e : Event) → May c s e → Tells s → Tells (after s e)
+tells_step c s (Starts k) m q = starts_tells c s k q m
+tells_step c s (Opens k) m q = opens_tells s k q
 tells_step c s (KeeperStarts k) m q = q
 tells_step c s (IsKilled k) m q = quiet_put c s (IsKilled k) k _ q m (λ i n p e. e) refl (inr (idle _ refl refl refl refl refl)) refl refl refl refl
 tells_step c s (MachineStarts k) m q = quiet_put c s (MachineStarts k) k _ q m (λ i n p e. e) refl (inr (idle _ refl refl refl refl refl)) refl refl refl refl
@@ -675,7 +683,7 @@ tells_step c s (WritesAnew k) m q = quiet_streams c s (WritesAnew k) q m (λ i d
 
 -- ---- the laws
 
-tells_start : Tells start
+pub tells_start : Tells start
 tells_start = record {
   lives = λ k j runs e. absurd (omega (arith, runs));
   begun = λ k. omega arith;
@@ -710,7 +718,7 @@ told_step s (TellsUnknown k r) w h = inr h
 told_step s (Starts k) w h = h
 told_step s e w h = h
 
-told_after : (s : Shop) (events : List Event) (w : Told) → Has w s.told → Has w (run s events).told
+pub told_after : (s : Shop) (events : List Event) (w : Told) → Has w s.told → Has w (run s events).told
 told_after s [] w h = h
 told_after s (e ∷ rest) w h = told_after (after s e) rest w (told_step s e w h)
 

@@ -48,11 +48,11 @@ opened_kept : (s : Shop) (k : ℕ) (f : Folder) (x : Packet) → f.kept ≡ (s.f
 opened_kept s k f x e = put_cases (λ i g. Has x (s.folder i).kept → Has x g.kept) k f (λ i. forgotten (s.folder k).site (s.folder i))
     (subst (Has x) (sym e)) (λ i d h. h)
 
-stream_more : (s : Shop) (i : ℕ) (xs : List Packet) → ((x : Packet) → Has x (s.stream i) → Has x xs) → (j : ℕ) (x : Packet)
+pub stream_more : (s : Shop) (i : ℕ) (xs : List Packet) → ((x : Packet) → Has x (s.stream i) → Has x xs) → (j : ℕ) (x : Packet)
     → Has x (s.stream j) → Has x (put i xs s.stream j)
 stream_more s i xs more j x = put_cases (λ n ys. Has x (s.stream n) → Has x ys) i xs s.stream (more x) (λ n d h. h) j
 
-stream_other : (s : Shop) (i : ℕ) (xs : List Packet) (j : ℕ) → j ≢ i → (x : Packet) → Has x (s.stream j) → Has x (put i xs s.stream j)
+pub stream_other : (s : Shop) (i : ℕ) (xs : List Packet) (j : ℕ) → j ≢ i → (x : Packet) → Has x (s.stream j) → Has x (put i xs s.stream j)
 stream_other s i xs j n x h = put_cases (λ k ys. k ≢ i → Has x (s.stream k) → Has x ys) i xs s.stream (λ d. absurd (d refl)) (λ k d e a. a) j n h
 
 pub folder_step : (c : Carrier) (s : Shop) (e : Event) (j : ℕ) → May c s e → (Harms e (InFolder j) → ⊥) → (x : Packet)

@@ -16,8 +16,8 @@ pub data Event : Type 0 where
   KeeperStarts : (folder : ℕ) → Event
   IsKilled : (folder : ℕ) → Event
   MachineStarts : (folder : ℕ) → Event
-  -- an asker asks, names the life that is to serve the ask, and sends so many records; its supervisor takes it, and gives it to the
-  -- site, which accepts or refuses the record of that ask
+  -- an asker asks, names the life that is to serve the ask, and sends a text of that many records; its supervisor takes it, and gives it
+  -- to the site, which accepts or refuses the record of that ask
   IsAsked : (ask life records : ℕ) → Event
   Serves : (folder ask : ℕ) → Event
   Gives : (folder ask : ℕ) → Event
@@ -48,7 +48,7 @@ pub data Event : Type 0 where
 
 -- ---- when it may happen
 
--- what a site finds of a packet: in its sender's folder over files, in its sender's stream over a server
+-- a site finds the packet: over files in a folder of its sender, over a server in its sender's stream
 abbrev pub IsOffered : Carrier → Shop → Packet → Type 0
 IsOffered Files s x = (j : ℕ) × ((s.folder j).site ≡ sender x) × Has x (s.folder j).kept
 IsOffered Server s x = Has x (s.stream (sender x))
@@ -129,7 +129,7 @@ abbrev pub others : List ℕ → List ℕ
 others [] = []
 others (r ∷ asks) = asks
 
--- so many times
+-- the ask, n times
 abbrev pub times : ℕ → ℕ → List ℕ
 times zero r = []
 times (suc n) r = r ∷ times n r
@@ -144,11 +144,11 @@ next_pass f to = Pass f.site (taken f.site f.kept + 1) to (highest f.site f.kept
 abbrev pub keeping : Folder → Packet → Folder
 keeping f x = record f { kept = f.kept ++ x ∷ [] }
 
--- an ask that waited is given to the site, as so many records
+-- an ask that waited is given to the site, as n records
 abbrev pub giving : Folder → ℕ → ℕ → Folder
 giving f r n = record f { waiting = without r f.waiting; given = f.given ++ r ∷ []; lines = f.lines ++ times n r }
 
--- the first record was answered; so, it is taken, was the first ask
+-- the first record has its answer, which is taken to be that of the first ask
 abbrev pub answering : Folder → Folder
 answering f = record f { given = others f.given; lines = others f.lines }
 

@@ -63,7 +63,7 @@ abbrev pub IsOf : Carrier → Shop → ℕ → Place → Type 0
 IsOf c s i (InFolder k) = (s.folder k).site ≡ i
 IsOf c s i (InStream j) = (j ≡ i) × (c ≡ Server)
 
--- the last pass, of site i to site j, stands where it did: in a folder of site i that is whole, or in its stream. Then site j holds
+-- the pass of the greatest turn that there ever was, of site i to site j, stands where it did: in a folder of site i that is whole, or in its stream. Then site j holds
 -- the token, or reads that pass and holds it
 abbrev pub TheTokenComesBack : Type 0
 TheTokenComesBack = (c : Carrier) (before later : List Event) → AreSteps c start (before ++ later) → (i t j a : ℕ) (h : Place)

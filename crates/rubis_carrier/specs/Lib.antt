@@ -3,3 +3,4 @@ pub mod Shops
 pub mod Events
 pub mod Laws
 pub mod Sites
+pub mod Standby

@@ -20,11 +20,6 @@ abbrev pub name : Packet → Name
 name (Message i n r) = Id i n
 name (Pass i t j a) = Turn i t
 
--- it is a message that was made of this ask
-abbrev pub IsMadeOf : ℕ → Packet → Type 0
-IsMadeOf r (Message i n q) = r ≡ q
-IsMadeOf r (Pass i t j a) = ⊥
-
 abbrev pub same_packet : Packet → Packet → Bool
 same_packet (Message i n r) (Message j m q) = (i == j) && (n == m) && (r == q)
 same_packet (Pass i t j a) (Pass k u l b) = (i == k) && (t == u) && (j == l) && (a == b)

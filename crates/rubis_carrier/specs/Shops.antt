@@ -36,7 +36,7 @@ pub data Carrier : Type 0 where
   Files : Carrier
   Server : Carrier
 
--- what an asker sends: the life that is to serve it, and how many records its text is, which is one for an ask as it should be
+-- what an asker sends: which life is to serve it, and how many records its text has. An ask is one record
 pub record Request : Type 0 where
   pub life : ℕ
   pub records : ℕ
@@ -69,7 +69,7 @@ abbrev pub there : Shop → Place → List Packet
 there s (InFolder k) = (s.folder k).kept
 there s (InStream i) = s.stream i
 
--- a list of things with another one at that number
+-- the same, but for that number
 abbrev pub put : {A : Type 0} → ℕ → A → (ℕ → A) → ℕ → A
 put k x f j = cond (j == k) x (f j)
 

@@ -1,6 +1,7 @@
 //! The laws of shops, each with its statement in specs/.
 
 ghost use Rattle.rubis_carrier.specs.Laws.{AnswersComeInOrder, AsksAreAcceptedOnce, ComparingIsNeeded, GivenAgainOnlyWhereLost, IdsAreGivenOnce, NothingAcceptedIsLost, TheFirstSiteHolds, TheTokenComesBack};
+ghost use Rattle.rubis_carrier.specs.Standby.{IdsAreToldOnce, NoIsTrueWithStandby, ToldStaysInStream};
 ghost use Rattle.rubis_carrier.specs.Sites.{SitesGiveTheseNames};
 ghost use Rattle.rubis_carrier.specs.Laws.{NobodyIsToldBoth, PublishedIsInStream, ToldOkIsKept, WhatIsOverStays, WhatIsToldIsTrue};
 
@@ -44,4 +45,13 @@ pub fn what_is_told_is_true()
 /// it makes next, have the names that they have in a shop, and it passes the token only where it holds it there.
 pub fn sites_give_these_names()
     ensures { SitesGiveTheseNames }
+{}
+
+/// Sites with a standby, of which any folder may take asks at any time, compared with nothing: as long as the stream is whole, no two
+/// asks are told one id, by whichever folders, and what was told ok stands in the stream. Ok is told only once the message stands
+/// there, and a message is appended only as the next of its stream. An ask that was told no stands nowhere, then and for ever.
+pub fn a_standby_takes_over()
+    ensures once { IdsAreToldOnce }
+    ensures stays { ToldStaysInStream }
+    ensures never { NoIsTrueWithStandby }
 {}

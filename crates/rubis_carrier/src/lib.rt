@@ -4,6 +4,6 @@
 mod laws;
 
 pub use laws::{
-    ids_are_given_once, nothing_accepted_is_lost, sites_give_these_names, the_token_comes_back,
-    what_is_told_is_true,
+    a_standby_takes_over, ids_are_given_once, nothing_accepted_is_lost, sites_give_these_names,
+    the_token_comes_back, what_is_told_is_true,
 };

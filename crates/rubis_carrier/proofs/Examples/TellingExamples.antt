@@ -11,7 +11,7 @@ use Rattle.rubis_carrier.specs.Events.{AreSteps, Event, IsWhole, MayRebuild, May
 use Rattle.rubis_carrier.specs.Events.Event.{Accepts, Appends, Gives, IsAsked, IsCopied, IsKilled, LosesEnd, Rebuilds, Serves}
 use Rattle.rubis_carrier.specs.Events.Event.{Starts, TellsNothing, TellsOk, WritesAnew}
 use Rattle.rubis_carrier.specs.Laws.{IsUnmade}
-use Rattle.rubis_carrier.proofs.Examples.Runs.{asked_once, first_message, opening}
+use Rattle.rubis_carrier.proofs.Examples.ExampleRuns.{asked_once, first_message, opening}
 
 -- ---- a copy that answers
 

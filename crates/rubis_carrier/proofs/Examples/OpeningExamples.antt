@@ -9,7 +9,7 @@ use Rattle.rubis_carrier.specs.Events.Event.{Accepts, Appends, Gives, IsAsked, I
 use Rattle.rubis_carrier.specs.Events.Event.{StreamLosesEnd}
 use Rattle.rubis_carrier.specs.Laws.{AreGivenOnce}
 use Rattle.rubis_carrier.proofs.Whole.{steps_append}
-use Rattle.rubis_carrier.proofs.Examples.Runs.{asked_once, asked_once_may, asking, first_message, not_the_same, other_message}
+use Rattle.rubis_carrier.proofs.Examples.ExampleRuns.{asked_once, asked_once_may, asking, first_message, not_the_same, other_message}
 
 -- ---- a folder that was put back
 

@@ -14,7 +14,7 @@ use Rattle.rubis_carrier.proofs.Changes.{IsNew, from_step}
 use Rattle.rubis_carrier.proofs.PacketFacts.{number_more, taken_message}
 use Rattle.rubis_carrier.proofs.PutFacts.{put_cases}
 use Rattle.rubis_carrier.proofs.Whole.{steps_append}
-use Rattle.rubis_carrier.proofs.Examples.Runs.{asked_once, asked_once_may, first_message}
+use Rattle.rubis_carrier.proofs.Examples.ExampleRuns.{asked_once, asked_once_may, first_message}
 
 -- ---- the run
 
