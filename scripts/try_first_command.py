@@ -7,7 +7,7 @@ interrupted, and that a later run starts the program without proofs.
 
     try_first_command.py --measure [PROCESSORS ..]
 
-measures the first command itself in a fresh clone, from nothing, on so many processors, by default on all: by the clock, and by processor
+measures the first command itself in a fresh clone, from nothing, on each of these numbers of processors, by default on all: by the clock, and by processor
 time. It isn't part of the gate: each takes half an hour, and wants a machine that does nothing else.
 """
 
@@ -180,7 +180,7 @@ def try_toolchain(copy: Copy) -> None:
 
 
 def measure(processors: int) -> None:
-    """Measures the first command in a fresh clone, on so many processors."""
+    """Measures the first command in a fresh clone, on that number of processors."""
     with tempfile.TemporaryDirectory(prefix="rubis-measured-") as room:
         subprocess.run(["git", "clone", "--quiet", TOP, f"{room}/rubis"], check=True)
         os.sched_setaffinity(0, range(processors))

@@ -56,7 +56,7 @@ class Server:
         self.news.tell()
 
     def lose_end(self, seconds: float) -> None:
-        """It comes back as it was so many seconds ago."""
+        """It comes back as it was that long ago."""
         log = [entry for entry in self.log if entry[0] <= self.clock.now - seconds]
         self._empty()
         for _, change in log:
