@@ -7,11 +7,10 @@ use Rattle.csv.proofs.WriteFacts.{appends-more, appends-none}
 use Rattle.rubis_engine.specs.Reading.{HasToGive, ReadsNext}
 use Rattle.rubis_engine.specs.Text.{rows_text}
 use Rattle.rubis_engine.proofs.TextFacts.{text-goes}
-use Rattle.rubis_audit.specs.Checking.{HasChecked, HasCheckedAll, HasRowOf, IsChecked, checked_row, checker_after, fault_for, none_so_far, place_for, recent}
+use Rattle.rubis_audit.specs.Checking.{HasChecked, HasCheckedAll, HasRowOf, checker_after, fault_for, none_so_far, place_for, recent}
 use Rattle.rubis_audit.specs.Checking.{row_for, rows_from, tally_for, tally_from}
 use Rattle.rubis_audit.specs.declared.checker.Check.{Check}
 use Rattle.rubis_audit.specs.declared.checker.Grammar.{Grammar}
-use Rattle.rubis_audit.specs.declared.checker.Tally.{Tally}
 use Rattle.rubis_audit.specs.declared.line_reader.Recent.{Recent}
 use Rattle.rubis_audit.specs.declared.widener.LinePlace.TheVariants.{BeforeLogs}
 

@@ -5,7 +5,7 @@ use Rattle.std.specs.Prelude.{Some, None, filter, map, not, nat_lt, reverse, sli
 use Rattle.std.specs.Borrow.{Bor}
 use Rattle.std.proofs.lemmas.Bool.{cond-true, cond-false, cases_lt, true≢false}
 use Rattle.std.proofs.lemmas.Bool.Decides.{nat_tests}
-use Rattle.std.proofs.lemmas.List.{append-nil, drop_all, take_all, take_more, take-append-drop}
+use Rattle.std.proofs.lemmas.List.{drop_all, take_all, take_more, take-append-drop}
 use Rattle.std.proofs.lemmas.List.Elements.{filter-append}
 use Rattle.rubis_clock.specs.Clocks.{MessageCounts, IsReady, advanced, opening_clock}
 use Rattle.rubis_message.specs.Message.{IsMessage, Message, dep, sites_of}

@@ -5,7 +5,8 @@ use Rattle.rubis_schema.specs.NumberForms.{number_of, rating_of}
 use Rattle.rubis_schema.specs.Texts.{is_name, is_nick, is_text}
 use Rattle.rubis_schema.specs.declared.limits.TheConstants.{COUNT_MAX}
 use Rattle.rubis_message.specs.Counts.{deps_of}
-use Rattle.rubis_audit.specs.Shapes.{effect_said, listing_said}
+use Rattle.rubis_message.specs.Readings.{shown_of}
+use Rattle.rubis_audit.specs.Shapes.{effect_said}
 use Rattle.rubis_audit.specs.declared.field_rules.FieldRule.{FieldRule}
 use Rattle.rubis_audit.specs.declared.field_rules.FieldRule.TheVariants.{Nick, Name, Text, Rating, Id, Winner, Site, Counts, Number}
 use Rattle.rubis_audit.specs.declared.field_rules.FieldRule.TheVariants.{Positive, Red, Blue, First, Second, Version, Effect, Shown}
@@ -41,4 +42,4 @@ fits sites First field = bytes_eq field (codes "1")
 fits sites Second field = bytes_eq field (codes "2")
 fits sites Version field = bytes_eq field (codes "1") || bytes_eq field (codes "2")
 fits sites Effect field = is_some (effect_said field)
-fits sites Shown field = is_some (listing_said field)
+fits sites Shown field = is_some (shown_of field)

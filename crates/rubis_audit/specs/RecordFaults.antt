@@ -6,6 +6,7 @@ use Rattle.std.specs.Option.{option_or}
 use Rattle.rubis_schema.specs.NumberForms.{number_of}
 use Rattle.rubis_schema.specs.declared.limits.TheConstants.{SEQ_MAX}
 use Rattle.rubis_message.specs.Counts.{deps_of}
+use Rattle.rubis_message.specs.declared.kinds.RecordKind.TheVariants as kind
 use Rattle.rubis_audit.specs.FieldRules.{fits}
 use Rattle.rubis_audit.specs.Shapes.{audit_shape, head_of, is_open, is_sent, request_shape, site_shape, tail_of, world_shape}
 use Rattle.rubis_audit.specs.declared.field_rules.FieldRule.{FieldRule}
@@ -54,7 +55,7 @@ is_next sites fields = next_by (number_of 255 (field_at fields 3)) (number_of SE
 
 -- a rename whose two nicknames are one
 abbrev pub changes_nothing : Shape → List (List ℕ) → Bool
-changes_nothing shape.SentRename fields = bytes_eq (field_at fields 9) (field_at fields 10)
+changes_nothing (shape.Sent (Some kind.Rename)) fields = bytes_eq (field_at fields 9) (field_at fields 10)
 changes_nothing shape fields = false
 
 -- of fields each of which is as its rule says: a message counts those of its own site before it, and a rename changes the nickname

@@ -1,104 +1,57 @@
 -- What the words of a record say that it is, and what its fields may be then: the grammar of the manual, a line for each form.
 use Rattle.std.specs.Prelude.{ℕ, ◌+◌, Bool, true, false, if◌then◌else◌, List, [], ◌∷◌, ◌++◌, bytes_eq, codes, slice_get, option_and_then}
-use Rattle.std.specs.Prelude.{option_map, unwrap_or, Option, Some, None}
+use Rattle.std.specs.Prelude.{option_map, Option, Some, None}
 use Rattle.rubis_schema.specs.declared.limits.TheConstants.{AMOUNT_MAX, CAT_MAX, COUNT_MAX, PASS_MAX, QUANTITY_MAX, RECORDS_MAX, SEQ_MAX, TURN_MAX}
-use Rattle.rubis_message.specs.Readings.{said}
+use Rattle.rubis_message.specs.Readings.{kind_of, shown_of, shown_text}
+use Rattle.rubis_message.specs.declared.kinds.RecordKind.{RecordKind}
+use Rattle.rubis_message.specs.declared.kinds.RecordKind.TheVariants as kind
+use Rattle.rubis_message.specs.declared.words.Shown.{Shown}
+use Rattle.rubis_message.specs.declared.words.Shown.TheVariants as shown
 use Rattle.rubis_audit.specs.declared.field_rules.FieldRule.{FieldRule}
 use Rattle.rubis_audit.specs.declared.field_rules.FieldRule.TheVariants as rule
 use Rattle.rubis_audit.specs.declared.shapes.Shape.{Shape}
-use Rattle.rubis_audit.specs.declared.shapes.Shape.TheVariants.{User, Item, Bid, Buy, Close, Comment, Pass, Restock, Rename, ListUsers}
-use Rattle.rubis_audit.specs.declared.shapes.Shape.TheVariants.{ListItems, ListBids, ListPurchases, ListComments, ListCategories, ListLog}
-use Rattle.rubis_audit.specs.declared.shapes.Shape.TheVariants.{ListMisfits, ListTables, ListOther, SentUser, SentItem, SentBid, SentBuy}
-use Rattle.rubis_audit.specs.declared.shapes.Shape.TheVariants.{SentClose, SentComment, SentRestock, SentRename, SentOther, Token, LogSite}
-use Rattle.rubis_audit.specs.declared.shapes.Shape.TheVariants.{LogRow, At, Deliver, Audit}
+use Rattle.rubis_audit.specs.declared.shapes.Shape.TheVariants.{Asked, At, Audit, Deliver, Listed, LogRow, LogSite, Sent, Token}
 
 -- ---- words
 
--- the word for a request, for what a listing shows, or for what a message does
-abbrev pub word_of : Shape → List ℕ
-word_of User = codes "user"
-word_of Item = codes "item"
-word_of Bid = codes "bid"
-word_of Buy = codes "buy"
-word_of Close = codes "close"
-word_of Comment = codes "comment"
-word_of Pass = codes "pass"
-word_of Restock = codes "restock"
-word_of Rename = codes "rename"
-word_of ListUsers = codes "users"
-word_of ListItems = codes "items"
-word_of ListBids = codes "bids"
-word_of ListPurchases = codes "purchases"
-word_of ListComments = codes "comments"
-word_of ListCategories = codes "categories"
-word_of ListLog = codes "log"
-word_of ListMisfits = codes "misfits"
-word_of ListTables = codes "tables"
-word_of ListOther = codes "list"
-word_of SentUser = codes "user"
-word_of SentItem = codes "item"
-word_of SentBid = codes "bid"
-word_of SentBuy = codes "buy"
-word_of SentClose = codes "close"
-word_of SentComment = codes "comment"
-word_of SentRestock = codes "restock"
-word_of SentRename = codes "rename"
-word_of SentOther = codes "msg"
-word_of Token = codes "token"
-word_of LogSite = codes "site"
-word_of LogRow = codes "row"
-word_of At = codes "at"
-word_of Deliver = codes "deliver"
-word_of Audit = codes "audit"
+-- what a message does by the word for that: every kind of request but two makes one
+abbrev pub effect_of : RecordKind → Option RecordKind
+effect_of kind.Pass = None
+effect_of kind.List = None
+effect_of k = Some k
 
-abbrev pub requests : List Shape
-requests = User ∷ Item ∷ Bid ∷ Buy ∷ Close ∷ Comment ∷ Pass ∷ ListOther ∷ Restock ∷ Rename ∷ []
-
-abbrev pub listings : List Shape
-listings = ListUsers ∷ ListItems ∷ ListBids ∷ ListPurchases ∷ ListComments ∷ ListCategories ∷ ListLog ∷ ListMisfits ∷ ListTables ∷ []
-
-abbrev pub effects : List Shape
-effects = SentUser ∷ SentItem ∷ SentBid ∷ SentBuy ∷ SentClose ∷ SentComment ∷ SentRestock ∷ SentRename ∷ []
-
--- the request, the listing, and the message, of that word
-unfoldable pub request_said : List ℕ → Option Shape
-request_said = said word_of requests
-
-unfoldable pub listing_said : List ℕ → Option Shape
-listing_said = said word_of listings
-
-unfoldable pub effect_said : List ℕ → Option Shape
-effect_said = said word_of effects
+abbrev pub effect_said : List ℕ → Option RecordKind
+effect_said word = option_and_then effect_of (kind_of word)
 
 -- ---- records
 
--- the listing whose second word stands after the place `from`
-abbrev pub listing_in : ℕ → List (List ℕ) → Shape
-listing_in from fields = unwrap_or (option_and_then listing_said (slice_get fields (from + 1))) ListOther
+-- what a listing shows, whose second word stands after the place `from`
+abbrev pub shown_in : ℕ → List (List ℕ) → Option Shown
+shown_in from fields = option_and_then shown_of (slice_get fields (from + 1))
 
 -- a message says in its seventh field what it does
-abbrev pub message_in : List (List ℕ) → Shape
-message_in fields = unwrap_or (option_and_then effect_said (slice_get fields 6)) SentOther
+abbrev pub effect_in : List (List ℕ) → Option RecordKind
+effect_in fields = option_and_then effect_said (slice_get fields 6)
 
-abbrev pub with_listing : Shape → Shape → Shape
-with_listing which ListOther = which
-with_listing which shape = shape
+abbrev pub asked_shape : ℕ → List (List ℕ) → RecordKind → Shape
+asked_shape from fields kind.List = Listed (shown_in from fields)
+asked_shape from fields k = Asked k
 
 -- the request whose first word stands at the place `from`
 abbrev pub request_shape : ℕ → List (List ℕ) → Option Shape
-request_shape from fields = option_map (with_listing (listing_in from fields)) (option_and_then request_said (slice_get fields from))
+request_shape from fields = option_map (asked_shape from fields) (option_and_then kind_of (slice_get fields from))
 
 -- a record of a site is a message, a token or a request
 abbrev pub site_shape : List (List ℕ) → Option Shape
 site_shape fields = option_and_then (λ word.
-    if bytes_eq word (codes "msg") then Some (message_in fields)
+    if bytes_eq word (codes "msg") then Some (Sent (effect_in fields))
     else if bytes_eq word (codes "token") then Some Token
     else request_shape 0 fields) (slice_get fields 0)
 
 -- one of an audit is a message, the site of a log or a row
 abbrev pub audit_shape : List (List ℕ) → Option Shape
 audit_shape fields = option_and_then (λ word.
-    if bytes_eq word (codes "msg") then Some (message_in fields)
+    if bytes_eq word (codes "msg") then Some (Sent (effect_in fields))
     else if bytes_eq word (codes "site") then Some LogSite
     else if bytes_eq word (codes "row") then Some LogRow
     else None) (slice_get fields 0)
@@ -113,55 +66,57 @@ world_shape fields = option_and_then (λ word.
 -- ---- what the fields after the first word may be
 
 -- of a message up to the word for what it does: its version, its site, its number there, its red number, and its counts
-abbrev pub sent_head : FieldRule → FieldRule → List FieldRule
-sent_head version red = version ∷ rule.Site ∷ rule.Positive SEQ_MAX ∷ red ∷ rule.Counts ∷ rule.Effect ∷ []
+abbrev pub message_head : FieldRule → FieldRule → List FieldRule
+message_head version red = version ∷ rule.Site ∷ rule.Positive SEQ_MAX ∷ red ∷ rule.Counts ∷ rule.Effect ∷ []
+
+abbrev pub sent_head : Option RecordKind → List FieldRule
+sent_head (Some kind.Item) = message_head rule.First rule.Blue
+sent_head (Some kind.Comment) = message_head rule.First rule.Blue
+sent_head (Some kind.Restock) = message_head rule.Second rule.Blue
+sent_head (Some kind.Rename) = message_head rule.Second rule.Red
+sent_head (Some k) = message_head rule.First rule.Red
+sent_head None = message_head rule.Version (rule.Number COUNT_MAX)
 
 -- up to the word for what a listing shows or a message does
 abbrev pub head_of : Shape → List FieldRule
-head_of ListUsers = rule.Shown ∷ []
-head_of ListItems = rule.Shown ∷ []
-head_of ListBids = rule.Shown ∷ []
-head_of ListPurchases = rule.Shown ∷ []
-head_of ListComments = rule.Shown ∷ []
-head_of ListCategories = rule.Shown ∷ []
-head_of ListLog = rule.Shown ∷ []
-head_of ListMisfits = rule.Shown ∷ []
-head_of ListTables = rule.Shown ∷ []
-head_of ListOther = rule.Shown ∷ []
-head_of SentUser = sent_head rule.First rule.Red
-head_of SentItem = sent_head rule.First rule.Blue
-head_of SentBid = sent_head rule.First rule.Red
-head_of SentBuy = sent_head rule.First rule.Red
-head_of SentClose = sent_head rule.First rule.Red
-head_of SentComment = sent_head rule.First rule.Blue
-head_of SentRestock = sent_head rule.Second rule.Blue
-head_of SentRename = sent_head rule.Second rule.Red
-head_of SentOther = sent_head rule.Version (rule.Number COUNT_MAX)
+head_of (Listed shown) = rule.Shown ∷ []
+head_of (Sent effect) = sent_head effect
 head_of shape = []
+
+-- after the word for what a request asks
+abbrev pub asked_tail : RecordKind → List FieldRule
+asked_tail kind.User = rule.Nick ∷ []
+asked_tail kind.Item = rule.Id ∷ rule.Name ∷ rule.Number CAT_MAX ∷ rule.Positive QUANTITY_MAX ∷ rule.Positive AMOUNT_MAX ∷ rule.Number AMOUNT_MAX ∷ []
+asked_tail kind.Bid = rule.Id ∷ rule.Id ∷ rule.Positive AMOUNT_MAX ∷ []
+asked_tail kind.Buy = rule.Id ∷ rule.Id ∷ rule.Positive QUANTITY_MAX ∷ []
+asked_tail kind.Close = rule.Id ∷ rule.Id ∷ []
+asked_tail kind.Comment = rule.Id ∷ rule.Id ∷ rule.Id ∷ rule.Rating ∷ rule.Text ∷ []
+asked_tail kind.Pass = rule.Number PASS_MAX ∷ []
+asked_tail kind.List = []
+asked_tail kind.Restock = rule.Id ∷ rule.Id ∷ rule.Positive QUANTITY_MAX ∷ []
+asked_tail kind.Rename = rule.Id ∷ rule.Nick ∷ []
+
+-- after the word for what a message does: what was asked, but that a closed sale has its category and winner, a restock no seller, and a
+-- renamed user both nicknames
+abbrev pub sent_tail : RecordKind → List FieldRule
+sent_tail kind.Close = rule.Id ∷ rule.Number CAT_MAX ∷ rule.Winner ∷ []
+sent_tail kind.Restock = rule.Id ∷ rule.Positive QUANTITY_MAX ∷ []
+sent_tail kind.Rename = rule.Id ∷ rule.Nick ∷ rule.Nick ∷ []
+sent_tail k = asked_tail k
+
+-- after the word for what a listing shows
+abbrev pub shown_tail : Shown → List FieldRule
+shown_tail shown.Items = rule.Number CAT_MAX ∷ []
+shown_tail shown.Bids = rule.Id ∷ []
+shown_tail shown.Purchases = rule.Id ∷ []
+shown_tail shown.Comments = rule.Id ∷ []
+shown_tail s = []
 
 -- and after that
 abbrev pub tail_of : Shape → List FieldRule
-tail_of User = rule.Nick ∷ []
-tail_of Item = rule.Id ∷ rule.Name ∷ rule.Number CAT_MAX ∷ rule.Positive QUANTITY_MAX ∷ rule.Positive AMOUNT_MAX ∷ rule.Number AMOUNT_MAX ∷ []
-tail_of Bid = rule.Id ∷ rule.Id ∷ rule.Positive AMOUNT_MAX ∷ []
-tail_of Buy = rule.Id ∷ rule.Id ∷ rule.Positive QUANTITY_MAX ∷ []
-tail_of Close = rule.Id ∷ rule.Id ∷ []
-tail_of Comment = rule.Id ∷ rule.Id ∷ rule.Id ∷ rule.Rating ∷ rule.Text ∷ []
-tail_of Pass = rule.Number PASS_MAX ∷ []
-tail_of Restock = rule.Id ∷ rule.Id ∷ rule.Positive QUANTITY_MAX ∷ []
-tail_of Rename = rule.Id ∷ rule.Nick ∷ []
-tail_of ListItems = rule.Number CAT_MAX ∷ []
-tail_of ListBids = rule.Id ∷ []
-tail_of ListPurchases = rule.Id ∷ []
-tail_of ListComments = rule.Id ∷ []
-tail_of SentUser = rule.Nick ∷ []
-tail_of SentItem = rule.Id ∷ rule.Name ∷ rule.Number CAT_MAX ∷ rule.Positive QUANTITY_MAX ∷ rule.Positive AMOUNT_MAX ∷ rule.Number AMOUNT_MAX ∷ []
-tail_of SentBid = rule.Id ∷ rule.Id ∷ rule.Positive AMOUNT_MAX ∷ []
-tail_of SentBuy = rule.Id ∷ rule.Id ∷ rule.Positive QUANTITY_MAX ∷ []
-tail_of SentClose = rule.Id ∷ rule.Number CAT_MAX ∷ rule.Winner ∷ []
-tail_of SentComment = rule.Id ∷ rule.Id ∷ rule.Id ∷ rule.Rating ∷ rule.Text ∷ []
-tail_of SentRestock = rule.Id ∷ rule.Positive QUANTITY_MAX ∷ []
-tail_of SentRename = rule.Id ∷ rule.Nick ∷ rule.Nick ∷ []
+tail_of (Asked k) = asked_tail k
+tail_of (Listed (Some s)) = shown_tail s
+tail_of (Sent (Some k)) = sent_tail k
 tail_of Token = rule.First ∷ rule.Number TURN_MAX ∷ rule.Site ∷ rule.Number COUNT_MAX ∷ []
 tail_of LogSite = rule.Site ∷ []
 tail_of At = rule.Site ∷ []
@@ -170,54 +125,42 @@ tail_of shape = []
 
 -- more fields may follow these: what a row claims, a request at a site, or what no word names
 abbrev pub is_open : Shape → Bool
-is_open ListOther = true
-is_open SentOther = true
+is_open (Listed None) = true
+is_open (Sent None) = true
 is_open LogRow = true
 is_open At = true
 is_open shape = false
 
 -- a message of an effect that a word names
 abbrev pub is_sent : Shape → Bool
-is_sent SentUser = true
-is_sent SentItem = true
-is_sent SentBid = true
-is_sent SentBuy = true
-is_sent SentClose = true
-is_sent SentComment = true
-is_sent SentRestock = true
-is_sent SentRename = true
+is_sent (Sent (Some k)) = true
 is_sent shape = false
 
--- what a record of the shape is called
+-- ---- what a record of the shape is called
+
+abbrev pub kind_name : RecordKind → List ℕ
+kind_name kind.User = codes "a user"
+kind_name kind.Item = codes "an item"
+kind_name kind.Bid = codes "a bid"
+kind_name kind.Buy = codes "a buy"
+kind_name kind.Close = codes "a close"
+kind_name kind.Comment = codes "a comment"
+kind_name kind.Pass = codes "a pass"
+kind_name kind.List = codes "a list"
+kind_name kind.Restock = codes "a restock"
+kind_name kind.Rename = codes "a rename"
+
+abbrev pub shown_name : Shown → List ℕ
+shown_name shown.Log = codes "the log"
+shown_name shown.Tables = codes "the tables"
+shown_name s = shown_text s
+
 abbrev pub name_of : Shape → List ℕ
-name_of User = codes "a user"
-name_of Item = codes "an item"
-name_of Bid = codes "a bid"
-name_of Buy = codes "a buy"
-name_of Close = codes "a close"
-name_of Comment = codes "a comment"
-name_of Pass = codes "a pass"
-name_of Restock = codes "a restock"
-name_of Rename = codes "a rename"
-name_of ListUsers = codes "a list of users"
-name_of ListItems = codes "a list of items"
-name_of ListBids = codes "a list of bids"
-name_of ListPurchases = codes "a list of purchases"
-name_of ListComments = codes "a list of comments"
-name_of ListCategories = codes "a list of categories"
-name_of ListLog = codes "a list of the log"
-name_of ListMisfits = codes "a list of misfits"
-name_of ListTables = codes "a list of the tables"
-name_of ListOther = codes "a list"
-name_of SentUser = codes "a message with a user"
-name_of SentItem = codes "a message with an item"
-name_of SentBid = codes "a message with a bid"
-name_of SentBuy = codes "a message with a buy"
-name_of SentClose = codes "a message with a close"
-name_of SentComment = codes "a message with a comment"
-name_of SentRestock = codes "a message with a restock"
-name_of SentRename = codes "a message with a rename"
-name_of SentOther = codes "a message"
+name_of (Asked k) = kind_name k
+name_of (Listed None) = codes "a list"
+name_of (Listed (Some s)) = codes "a list of " ++ shown_name s
+name_of (Sent None) = codes "a message"
+name_of (Sent (Some k)) = codes "a message with " ++ kind_name k
 name_of Token = codes "a token"
 name_of LogSite = codes "the site of a log"
 name_of LogRow = codes "a row"

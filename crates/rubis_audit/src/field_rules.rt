@@ -7,11 +7,12 @@ ghost use Rattle.rubis_schema.specs.declared.limits.TheConstants.{COUNTED_MAX};
 ghost use Rattle.rubis_audit.specs.FieldRules.{fits, is_site, is_within};
 
 use crate::counts::read_counts;
-use crate::shapes::{effect_said, listing_said, says};
+use crate::shapes::{effect_said, says};
+use rubis_message::Shown;
 use rubis_schema::{COUNT_MAX, Id, NAME_MAX, Nick, TEXT_MAX, read_number, read_rating};
 
 /// What a field may be.
-#[derive(Clone, Copy, PartialEq, Eq, Debug)]
+#[derive(Clone, Copy)]
 pub enum FieldRule {
     /// A nickname.
     Nick,
@@ -117,7 +118,7 @@ impl FieldRule {
             FieldRule::Second => says(field, b"2"),
             FieldRule::Version => says(field, b"1") || says(field, b"2"),
             FieldRule::Effect => effect_said(field).is_some(),
-            FieldRule::Shown => listing_said(field).is_some(),
+            FieldRule::Shown => Shown::read(field).is_some(),
         }
     }
 }

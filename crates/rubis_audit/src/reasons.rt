@@ -4,11 +4,13 @@ ghost use Rattle.std.specs.Prelude.{◌≡◌, ◌≤◌, ◌++◌, IfOk, OnOk, 
 ghost use Rattle.std.specs.List.{list_all};
 ghost use Rattle.rubis_schema.specs.Texts.{is_digit};
 ghost use Rattle.rubis_audit.specs.Reasons.{count_text, counts_text, has_digits, has_leading_zero, limited_text, id_text, marks};
+ghost use Rattle.rubis_audit.specs.Shapes.{kind_name, name_of, shown_name};
 ghost use Rattle.rubis_audit.specs.Reasons.{named_text, number_text, quote_text, reason_text, rule_text, shown_byte, site_text, words_of};
 
 use crate::field_rules::FieldRule;
 use crate::record_faults::{Fault, Reason, field_at};
 use crate::shapes::{Shape, says};
+use rubis_message::{RecordKind, Shown};
 use rubis_schema::{COUNT_MAX, NUMBER_TEXT_MAX, Record, push_digits};
 use std::alloc::{AllocError, Global};
 
@@ -16,7 +18,7 @@ use std::alloc::{AllocError, Global};
 const SHOWN: usize = 20;
 
 /// The lines of an input in which a record begins, and a field of it begins and ends.
-#[derive(Clone, Copy, PartialEq, Eq, Debug)]
+#[derive(Clone, Copy)]
 pub struct Lines {
     pub first: u64,
     pub opened: u64,
@@ -200,6 +202,70 @@ fn rule_reason(
     }
 }
 
+// What a request of that kind is called.
+fn kind_name(kind: RecordKind) -> &'static [u8]
+    ensures { result.now ≡ kind_name kind }
+{
+    match kind {
+        RecordKind::User => b"a user",
+        RecordKind::Item => b"an item",
+        RecordKind::Bid => b"a bid",
+        RecordKind::Buy => b"a buy",
+        RecordKind::Close => b"a close",
+        RecordKind::Comment => b"a comment",
+        RecordKind::Pass => b"a pass",
+        RecordKind::List => b"a list",
+        RecordKind::Restock => b"a restock",
+        RecordKind::Rename => b"a rename",
+    }
+}
+
+// What a listing shows.
+fn shown_name(shown: Shown) -> &'static [u8]
+    ensures { result.now ≡ shown_name shown }
+{
+    match shown {
+        Shown::Users => b"users",
+        Shown::Items => b"items",
+        Shown::Bids => b"bids",
+        Shown::Purchases => b"purchases",
+        Shown::Comments => b"comments",
+        Shown::Categories => b"categories",
+        Shown::Log => b"the log",
+        Shown::Misfits => b"misfits",
+        Shown::Tables => b"the tables",
+    }
+}
+
+// A text, and then a name.
+fn joined(alloc: Global, words: &[u8], name: &[u8]) -> Result<Vec<u8>, AllocError>
+    ensures { IfOk result (λ text. text.items ≡ words.now ++ name.now) }
+{
+    let mut text = Vec::from_slice(alloc, words)?;
+    text.extend_from_slice(name)?;
+    Ok(text)
+}
+
+// What a record of the shape is called.
+fn shape_name(alloc: Global, shape: Shape) -> Result<Vec<u8>, AllocError>
+    ensures { IfOk result (λ text. text.items ≡ name_of shape) }
+{
+    let (words, name): (&[u8], &[u8]) = match shape {
+        Shape::Asked(kind) => (b"", kind_name(kind)),
+        Shape::Listed(Some(shown)) => (b"a list of ", shown_name(shown)),
+        Shape::Listed(None) => (b"", b"a list"),
+        Shape::Sent(Some(kind)) => (b"a message with ", kind_name(kind)),
+        Shape::Sent(None) => (b"", b"a message"),
+        Shape::Token => (b"", b"a token"),
+        Shape::LogSite => (b"", b"the site of a log"),
+        Shape::LogRow => (b"", b"a row"),
+        Shape::At => (b"", b"a request at a site"),
+        Shape::Deliver => (b"", b"a delivery"),
+        Shape::Audit => (b"", b"an audit"),
+    };
+    joined(alloc, words, name)
+}
+
 // How many fields a record of this shape has, and how many this one has.
 fn count_reason(
     alloc: Global,
@@ -209,7 +275,7 @@ fn count_reason(
 ) -> Result<Vec<u8>, AllocError>
     ensures { IfOk result (λ text. text.items ≡ count_text shape wanted given) }
 {
-    let mut text = Vec::from_slice(alloc, shape.name())?;
+    let mut text = shape_name(alloc, shape)?;
     if shape.is_open() {
         text.extend_from_slice(b" has at least ")?;
     } else {

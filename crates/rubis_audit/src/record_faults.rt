@@ -11,10 +11,11 @@ use crate::counts::read_counts;
 use crate::field_rules::FieldRule;
 use crate::shapes::{Shape, audit_shape, request_shape, says, site_shape, world_shape};
 use crate::widener::LinePlace;
+use rubis_message::RecordKind;
 use rubis_schema::{Record, SEQ_MAX, read_number};
 
 /// What is wrong with a field, or with a record.
-#[derive(Clone, Copy, PartialEq, Eq, Debug)]
+#[derive(Clone, Copy)]
 pub enum Reason {
     /// No record begins so.
     NoRecord,
@@ -41,7 +42,7 @@ pub enum Reason {
 }
 
 /// What is wrong with a record: the number of the field, from 1, or 0 for the whole record; and why.
-#[derive(Clone, Copy, PartialEq, Eq, Debug)]
+#[derive(Clone, Copy)]
 pub struct Fault {
     pub field: usize,
     pub reason: Reason,
@@ -113,7 +114,7 @@ fn changes_nothing<F: Record>(fields: &F, shape: Shape) -> bool
     ensures { result ≡ changes_nothing shape (F.fields fields.now) }
 {
     match shape {
-        Shape::SentRename => says(field_at(fields, 9), field_at(fields, 10)),
+        Shape::Sent(Some(RecordKind::Rename)) => says(field_at(fields, 9), field_at(fields, 10)),
         _ => false,
     }
 }

@@ -1,10 +1,9 @@
-use Rattle.std.proofs.Common.{◌++◌, ◌+◌, ◌∙◌, ◌&&◌, ◌==◌, ap, drop, length, subst, sym}
+use Rattle.std.proofs.Common.{◌++◌, ◌+◌, ◌∙◌, ◌==◌, ap, length, subst, sym}
 use Rattle.std.specs.Prelude.{map}
 use Rattle.rubis_model.specs.LackRecords.{lack_rows, made_at}
 use Rattle.rubis_engine.specs.Text.{rows_text}
 use Rattle.rubis_laws.proofs.Lacking.InOrder.{log_released}
 use Rattle.rubis_release.specs.Release.{AllAmong}
-use Rattle.rubis_audit.specs.Running.{none_lost}
 use Rattle.rubis_audit.proofs.Lacking.{log_among, log_at, log_told, lost_told}
 use Rattle.rubis_audit.proofs.lacks.write_lacks.Goals as goal
 

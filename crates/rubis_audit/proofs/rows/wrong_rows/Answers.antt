@@ -1,4 +1,4 @@
-use Rattle.std.proofs.Common.{◌∙◌, Some, ap, refl, sym}
+use Rattle.std.proofs.Common.{◌∙◌, ap, refl, sym}
 use Rattle.std.specs.Prelude.{option_map}
 use Rattle.rubis_schema.specs.declared.listings.Listing.TheVariants as Shown
 use Rattle.rubis_model.specs.Listings.{table_rows}

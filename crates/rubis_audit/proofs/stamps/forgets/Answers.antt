@@ -1,4 +1,4 @@
-use Rattle.std.proofs.Common.{◌∙◌, ◌<◌, arith, ap, length, sym, false}
+use Rattle.std.proofs.Common.{◌∙◌, arith, ap, length, sym, false}
 use Rattle.std.specs.Prelude.{slice_index}
 use Rattle.std.specs.Option.{option_map_or}
 use Rattle.rubis_audit.specs.Lookups.{by_message_id, exceeds, last_of}
