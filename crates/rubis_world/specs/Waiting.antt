@@ -21,6 +21,5 @@ waiting_from p s n = record { text = λ ending records. waiting_text ending (sit
 abbrev pub waiting_account : Place → Account
 waiting_account p = waiting_from p (opening_at p.site) 1
 
--- what is still to be made at a site
 abbrev pub waiting_at : SiteState → ℕ → Account
 waiting_at s n = waiting_from s.place s.state n
