@@ -1,12 +1,12 @@
 -- A number that is read up to a mark.
-use Rattle.std.proofs.Common.{◌≡◌, ◌≢◌, ◌≤◌, ◌<◌, ◌+◌, ◌*◌, ◌-◌, ◌^◌, ◌&&◌, ℕ, Bool, true, false, ◌⊎◌, inl, inr, List, [], ◌∷◌, ◌++◌, length, get_or, take}
+use Rattle.std.proofs.Common.{◌≡◌, ◌≢◌, ◌≤◌, ◌<◌, ◌+◌, ◌*◌, ◌-◌, ◌^◌, ◌&&◌, ℕ, zero, suc, Bool, true, false, ◌⊎◌, inl, inr, List, [], ◌∷◌, ◌++◌, length, get_or, take}
 use Rattle.std.proofs.Common.{drop, decimal, refl, ap, sym, subst, ◌∙◌, arith, rules, tests}
 use Rattle.std.specs.Prelude.{Option, Some, None, nat_lt}
 use Rattle.std.specs.Str.{all_ascii_digits}
 use Rattle.std.specs.Char.{is_ascii_digit}
 use Rattle.std.specs.Int.{IsInRange}
 use Rattle.std.proofs.lemmas.Bool.{cases_lt, false≢true, le-ltb, lt-ltb}
-use Rattle.std.proofs.lemmas.Fmt.{decimal_nonempty, length-decimal-le}
+use Rattle.std.proofs.lemmas.Fmt.{decimal_digit, decimal_nonempty, length-decimal-le}
 use Rattle.std.proofs.lemmas.List.{get_or_append_left, get_or_at, take_more, take_at, take-append-drop, drop_more, drop_all, length-take-le, get_or-take}
 use Rattle.rubis_numbers.specs.Numbers.{IsField, ◌>>=◌, number_of, only_if}
 use Rattle.rubis_numbers.proofs.Decimals.{decimal_at}
@@ -251,6 +251,23 @@ one_digit mark number bytes many here other low high is =
     found_at mark bytes 1 number many (omega (arith, is, high))
     (front_more mark bytes 0 0 number (omega (arith, many)) (omega arith) (front_starts mark bytes) free low high (omega (arith, is)))
     here (omega arith) (λ zero. refl)
+
+-- ---- a number of one digit before a point
+pub digit_first : (bytes : List ℕ) → 1 < length bytes → get_or bytes 1 0 ≡ 46 → 48 ≤ get_or bytes 0 0 → get_or bytes 0 0 ≤ 57
+    → Some (get_or bytes 0 0 - 48, drop 2 bytes) ≡ number_before 46 255 bytes
+digit_first bytes many here low high =
+    is_before 46 255 (omega arith) (no_digit 46 (inl (omega arith))) bytes (get_or bytes 0 0 - 48) (drop 2 bytes) (omega (arith, high))
+    (one_digit 46 (get_or bytes 0 0 - 48) bytes many here (inl (omega arith)) low high refl)
+
+pub no_digit_first : (bytes : List ℕ) → (get_or bytes 0 0 < 48) ⊎ (57 < get_or bytes 0 0) → None ≡ number_before 46 255 bytes
+no_digit_first bytes other =
+    not_before 46 255 (omega arith) bytes (λ n back le e. no_first_digit 46 n bytes back (omega (arith, le)) other e)
+
+-- a number that doesn't begin with 0 isn't 0
+pub above_zero : (high : ℕ) → high < 10 ^ 19 → (digits : List ℕ) (n : ℕ) → Some n ≡ number_of high digits → get_or digits 0 0 ≢ 48 → 0 < n
+above_zero high small digits zero is first =
+    absurd (first (ap (λ l. get_or l 0 0) (((law 0 high small).only digits 0 (sym is)).1 ∙ decimal_digit 0 (omega arith))))
+above_zero high small digits (suc n) is first = omega arith
 
 -- ---- ids
 by_seq : ℕ → ℕ × List ℕ → Option Id

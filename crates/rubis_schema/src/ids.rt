@@ -1,9 +1,10 @@
 //! Ids: a site and a number that it counted.
 
-ghost use Rattle.std.specs.Prelude.{◌≡◌, ◌≤◌, ◌+◌, ◌++◌, ◌∷◌, [], IfOk, OnErr, OnOk, true};
+ghost use Rattle.std.specs.Prelude.{◌≡◌, ◌≢◌, ◌≤◌, ◌<◌, ◌+◌, ◌++◌, ◌∷◌, [], IfOk, OnErr, OnOk, length, slice_index, true};
 ghost use Rattle.rubis_schema.specs.FieldList.{is_plain};
 ghost use Rattle.rubis_schema.specs.FieldForms.{id_of};
 ghost use Rattle.rubis_schema.specs.Ids.{id_text};
+ghost use Rattle.rubis_schema.specs.NumberForms.{number_of};
 
 use crate::field_list::Fields;
 use crate::limits::{ID_TEXT_MAX, SEQ_MAX};
@@ -36,11 +37,55 @@ impl Hash for Id {
     }
 }
 
+// The number up to `SEQ_MAX` that at most seven digits write, the first of which isn't 0. The compiler writes the seven steps out.
+#[inline(always)]
+fn read_few_digits(digits: &[u8]) -> Option<u32>
+    requires few { (0 < length digits.now) × (length digits.now ≤ 7) }
+    requires first { slice_index digits.now 0 ≢ 48 }
+    ensures { result ≡ number_of SEQ_MAX digits.now }
+{
+    let mut number: u32 = 0;
+    for byte in digits {
+        if *byte < b'0' || *byte > b'9' {
+            return None;
+        }
+        number = number * 10 + u32::from(*byte - b'0');
+    }
+    if number <= SEQ_MAX {
+        Some(number)
+    } else {
+        None
+    }
+}
+
+// The id whose site is one digit and whose number is at most seven: most are written so.
+#[inline(always)]
+fn read_short(bytes: &[u8], sites: u8) -> Option<Id>
+    requires short { (2 < length bytes.now) × (length bytes.now < 10) }
+    requires point { slice_index bytes.now 1 ≡ 46 }
+    requires first { slice_index bytes.now 2 ≢ 48 }
+    ensures { result ≡ id_of sites bytes.now }
+{
+    let byte = bytes[0];
+    if byte < b'0' || byte > b'9' {
+        return None;
+    }
+    let site = byte - b'0';
+    let seq = read_few_digits(&bytes[2..])?;
+    if site >= sites {
+        return None;
+    }
+    Some(Id { site, seq })
+}
+
 impl Id {
     /// Parses an id whose site is below `sites`. `None` if `bytes` isn't one.
     pub fn read(bytes: &[u8], sites: u8) -> Option<Id>
         ensures { result ≡ id_of sites bytes.now }
     {
+        if bytes.len() > 2 && bytes.len() < 10 && bytes[1] == b'.' && bytes[2] != b'0' {
+            return read_short(bytes, sites);
+        }
         let (site, digits) = read_number_before(bytes, b'.', u64::from(u8::MAX))?;
         let seq = read_number(digits, u64::from(SEQ_MAX))?;
         if site >= u64::from(sites) || seq == 0 {

@@ -1,4 +1,4 @@
-use Rattle.std.proofs.Common.{◌<◌, ◌^◌, ℕ, List, drop, Some, inl, inr, ap, ◌∙◌, arith}
+use Rattle.std.proofs.Common.{ℕ, List, drop, Some, inl, inr, ap, ◌∙◌, arith}
 use Rattle.std.proofs.lemmas.List.{take_rest}
 use Rattle.rubis_schema.proofs.Before.{is_before, no_digit, no_first_digit, not_before, one_digit}
 use Rattle.rubis_schema.proofs.splits.read_digit_before.Goals as goal
