@@ -93,6 +93,8 @@ fn take_next<T: Threads + Wait + Sync, R: Read, W: Write>(
         (W.contents writer.new) }
     ensures memory { IsErrOf result RunFault.Memory → EndsInPrefix R.remaining run.old (waiting_at waiting.old.desk.site) (W.contents writer.old)
         (W.contents writer.new) }
+    ensures write { IsErrOf result RunFault.Write → EndsInPrefix R.remaining run.old (waiting_at waiting.old.desk.site) (W.contents writer.old)
+        (W.contents writer.new) }
     ensures faults { IfErr result (λ e. (e ≡ RunFault.Read) ⊎ (e ≡ RunFault.Write) ⊎ (e ≡ RunFault.Memory)) }
 {
     let sink = &mut run.reply.sink;
@@ -121,6 +123,8 @@ fn serve<T: Threads + Wait + Sync, R: Read, W: Write>(
         IsCut (waiting_at waiting.old.desk.site 1) (W.contents writer.old) (W.contents writer.new) records) }
     ensures memory { IsErrOf result RunFault.Memory → FromStart R.remaining run.old (λ records.
         WrotePrefix ((waiting_at waiting.old.desk.site 1).text AtEnd) (W.contents writer.old) (W.contents writer.new) records) }
+    ensures write { IsErrOf result RunFault.Write → FromStart R.remaining run.old (λ records.
+        WrotePrefix ((waiting_at waiting.old.desk.site 1).text AtEnd) (W.contents writer.old) (W.contents writer.new) records) }
 {
     'steps: for _taken in 0..limit {
         if let Some(count) = take_next(rt, run, waiting, writer)? {
@@ -137,7 +141,7 @@ fn serve<T: Threads + Wait + Sync, R: Read, W: Write>(
 /// # Errors
 ///
 /// `Read` if the reader failed, and `TooLong` if the input has more records: nothing is written then. `Write` if the writer
-/// failed. `Memory` if memory ran out: what was written is a prefix of the whole text.
+/// failed, and `Memory` if memory ran out: what was written is a prefix of the whole text.
 pub fn run_waiting<T: Threads + Wait + Sync, R: Read + Drop, W: Write>(
     rt: &T,
     alloc: Global,

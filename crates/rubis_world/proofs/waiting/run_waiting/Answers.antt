@@ -16,4 +16,4 @@ returns g c =
     let new = g.W.Write.contents c.serve.new.writer in
     subst₂ (λ (p : Place) (s : Replica). IsRun (waiting_from p s 1) RECORDS_MAX input old new c.serve.result) made.place made.state
     (ends_so g.R.Read.remaining c.new-run.result (waiting_at c.in_ok-waiting.waiting.desk.site 1) RECORDS_MAX input old new c.serve.result run.gives run.empty
-    said.ok said.too_long said.read said.memory)
+    said.ok said.too_long said.read said.memory said.write)

@@ -21,3 +21,6 @@ returns-clause-read g c e input gives empty = c.stop.ensures.read e _ _ input (c
 
 pub returns-clause-memory : goal.returns-clause-memory
 returns-clause-memory g c e input gives empty = c.stop.ensures.memory e _ _ input (c.steps.invariant.1 input gives empty)
+
+pub returns-clause-write : goal.returns-clause-write
+returns-clause-write g c e input gives empty = c.stop.ensures.write e _ _ input (c.steps.invariant.1 input gives empty)
