@@ -23,8 +23,8 @@ use std::io::{Read, Write};
 /// # Errors
 ///
 /// `Read` if the reader failed, and `TooLong` if the input has more records and none of the first 4,000,000 is
-/// malformed: nothing is written then. `Write` if the writer failed. `Memory` if memory ran out: what was written is a
-/// prefix of the answer.
+/// malformed: nothing is written then. `Write` if the writer failed, and `Memory` if memory ran out: what was written is
+/// a prefix of the answer.
 pub fn run_auditor<R: Read + Drop, W: Write>(
     alloc: Global,
     reader: R,

@@ -18,8 +18,8 @@ use std::io::{Read, Write};
 /// # Errors
 ///
 /// `Read` if the reader failed and `TooLong` if the input has more records, all of the first 4,000,000 in the grammar: the
-/// records before are written. `Write` if the writer failed. `Memory` if memory ran out: what was written is a prefix of the
-/// whole text.
+/// records before are written. `Write` if the writer failed, and `Memory` if memory ran out: what was written is a prefix of
+/// the whole text.
 pub fn run_widen<R: Read + Drop, W: Write>(
     alloc: Global,
     reader: R,

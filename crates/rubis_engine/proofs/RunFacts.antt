@@ -13,7 +13,8 @@ use Rattle.rubis_engine.specs.Accounts.{Account, AnswersRecord, Keeps}
 use Rattle.rubis_engine.specs.Accounts.Ending.{AtEnd, Cut}
 use Rattle.rubis_engine.specs.Reading.{Advances, Gives, fields_now}
 use Rattle.rubis_engine.specs.Text.{input_records}
-use Rattle.rubis_engine.specs.Progress.{Drained, FromStart, HasComeSoFar, IsCut, IsDone, IsRun, IsTooLong, IsWrittenOrWaits, StandsAt, WrotePrefix}
+use Rattle.rubis_engine.specs.Progress.{AppendsFront, Drained, FromStart, HasComeSoFar, IsCut, IsDone, IsRun, IsTooLong, IsWrittenOrWaits, StandsAt, WrotePrefix}
+use Rattle.rubis_engine.proofs.FrontFacts.{front-behind}
 use Rattle.rubis_engine.specs.declared.fault.Count.{Count}
 use Rattle.rubis_engine.specs.declared.fault.RunFault.{RunFault}
 use Rattle.rubis_engine.specs.declared.fault.RunFault.TheVariants as fault
@@ -189,6 +190,40 @@ pub progress-prefix : {R : Type 0} (rem : R → Option (List ℕ)) (a : Records 
 progress-prefix rem a all more old now sink n input p =
     (p.written, sink ++ more.text AtEnd p.rest, p.appended, sym (ap (all.text AtEnd) p.parts ∙ p.told AtEnd p.rest))
 
+-- ---- where the writer failed
+
+-- the writer failed while something was written out
+pub progress-front : {R : Type 0} (rem : R → Option (List ℕ)) (a : Records R) (all more : Account)
+    (old now now2 : Option (List ℕ)) (sink : List ℕ) (n : ℕ) (input : List ℕ)
+    → HasComeSoFar rem a all more old now sink n input
+    → ((to_come : List (List (List ℕ))) → AppendsFront now now2 (sink ++ more.text AtEnd to_come))
+    → WrotePrefix (all.text AtEnd) old now2 (input_records input)
+progress-front rem a all more old now now2 sink n input p front =
+    front-behind old now now2 p.written (sink ++ more.text AtEnd p.rest) (all.text AtEnd (input_records input)) p.appended (front p.rest)
+    (ap (all.text AtEnd) p.parts ∙ p.told AtEnd p.rest)
+
+-- at the end of the input
+pub progress-end-front : {R : Type 0} (rem : R → Option (List ℕ)) (a b : Records R) (all more : Account)
+    (old now now2 : Option (List ℕ)) (sink : List ℕ) (n : ℕ) (input : List ℕ)
+    → HasComeSoFar rem a all more old now sink n input → Advances rem a b false
+    → AppendsFront now now2 (sink ++ more.text AtEnd []) → WrotePrefix (all.text AtEnd) old now2 (input_records input)
+progress-end-front rem a b all more old now now2 sink n input p takes front =
+    let whole : input_records input ≡ p.done ++ [] = p.parts ∙ ap (λ t. p.done ++ t) (takes p.rest p.gives) in
+    front-behind old now now2 p.written (sink ++ more.text AtEnd []) (all.text AtEnd (input_records input)) p.appended front
+    (ap (all.text AtEnd) whole ∙ p.told AtEnd [])
+
+-- at a record that ends the run
+pub progress-ended-front : {R : Type 0} (rem : R → Option (List ℕ)) (a b : Records R) (all more more2 : Account)
+    (old now now2 : Option (List ℕ)) (sink sink2 : List ℕ) (n : ℕ) (input : List ℕ)
+    → HasComeSoFar rem a all more old now sink n input → Advances rem a b true
+    → AnswersRecord Ends more more2 sink sink2 (fields_now b) → AppendsFront now now2 sink2
+    → WrotePrefix (all.text AtEnd) old now2 (input_records input)
+progress-ended-front rem a b all more more2 old now now2 sink sink2 n input p takes answered front =
+    let (left, first, gives) = takes p.rest p.gives in
+    let whole : input_records input ≡ p.done ++ (fields_now b ∷ left) = p.parts ∙ ap (λ t. p.done ++ t) first in
+    front-behind old now now2 p.written sink2 (all.text AtEnd (input_records input)) p.appended front
+    (ap (all.text AtEnd) whole ∙ p.told AtEnd (fields_now b ∷ left) ∙ ap (λ t. p.written ++ t) (answered left).0)
+
 -- a read, once it is known whether it found a record
 pub takes-at : {R : Type 0} (rem : R → Option (List ℕ)) (a b : Records R) (found v : Bool) → found ≡ v
     → Advances rem a b found → Advances rem a b v
@@ -263,13 +298,14 @@ pub ends_so : {R : Type 0} (rem : R → Option (List ℕ)) (run : Run R) (all : 
     → (IsErrOf result fault.TooLong → FromStart rem run (λ records. IsTooLong all limit old new records))
     → (IsErrOf result fault.Read → FromStart rem run (λ records. IsCut all old new records))
     → (IsErrOf result fault.Memory → FromStart rem run (λ records. WrotePrefix (all.text AtEnd) old new records))
+    → (IsErrOf result fault.Write → FromStart rem run (λ records. WrotePrefix (all.text AtEnd) old new records))
     → IsRun all limit input old new result
-ends_so rem run all limit None old new result gives empty done long cut prefix = tt
-ends_so rem run all limit (Some bytes) old new (Ok count) gives empty done long cut prefix = done bytes gives empty
-ends_so rem run all limit (Some bytes) old new (Err fault.TooLong) gives empty done long cut prefix = long refl bytes gives empty
-ends_so rem run all limit (Some bytes) old new (Err fault.Read) gives empty done long cut prefix = cut refl bytes gives empty
-ends_so rem run all limit (Some bytes) old new (Err fault.Memory) gives empty done long cut prefix = prefix refl bytes gives empty
-ends_so rem run all limit (Some bytes) old new (Err fault.Write) gives empty done long cut prefix = tt
+ends_so rem run all limit None old new result gives empty done long cut prefix front = tt
+ends_so rem run all limit (Some bytes) old new (Ok count) gives empty done long cut prefix front = done bytes gives empty
+ends_so rem run all limit (Some bytes) old new (Err fault.TooLong) gives empty done long cut prefix front = long refl bytes gives empty
+ends_so rem run all limit (Some bytes) old new (Err fault.Read) gives empty done long cut prefix front = cut refl bytes gives empty
+ends_so rem run all limit (Some bytes) old new (Err fault.Memory) gives empty done long cut prefix front = prefix refl bytes gives empty
+ends_so rem run all limit (Some bytes) old new (Err fault.Write) gives empty done long cut prefix front = front refl bytes gives empty
 
 -- a run that ended well is done
 pub run_done : (all : Account) (limit : ℕ) (input old new : Option (List ℕ)) (result : Result Count RunFault) → IsRun all limit input old new result

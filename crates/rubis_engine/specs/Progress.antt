@@ -1,5 +1,5 @@
 -- How far a run has come, and how it ended.
-use Rattle.std.specs.Prelude.{◌≡◌, ◌≤◌, ◌<◌, ◌+◌, ◌++◌, ◌⊎◌, [], ℕ, ⊤, List, IfSome, MatchOption, length, take, Option, Result, Ok, Err}
+use Rattle.std.specs.Prelude.{◌≡◌, ◌≤◌, ◌<◌, ◌+◌, ◌++◌, ◌⊎◌, [], ℕ, List, IfSome, MatchOption, length, take, Option, Result, Ok, Err}
 use Rattle.std.specs.Io.KnownBytes.{Appends}
 use Rattle.rubis_engine.specs.declared.fault.Count.{Count}
 use Rattle.rubis_engine.specs.declared.fault.RunFault.{RunFault}
@@ -36,6 +36,14 @@ pub record Drained (old new : Account) (held : List ℕ) (before after : Option 
 abbrev pub IsWrittenOrWaits : List ℕ → List ℕ → Option (List ℕ) → Option (List ℕ) → Type 0
 IsWrittenOrWaits waited waits before after = (Appends before after waited × (waits ≡ [])) ⊎ ((after ≡ before) × (waits ≡ waited))
 
+-- a prefix of the text was written
+abbrev pub AppendsFront : Option (List ℕ) → Option (List ℕ) → List ℕ → Type 0
+AppendsFront old now text = (written left : List ℕ) × Appends old now written × (written ++ left ≡ text)
+
+-- of the text that waited and what is still to be made of any records, a prefix was written
+abbrev pub WritesFrontOf : (ℕ → Account) → List ℕ → Option (List ℕ) → Option (List ℕ) → Type 0
+WritesFrontOf account sink before after = (number : ℕ) (more : List (List (List ℕ))) → AppendsFront before after (sink ++ (account number).text AtEnd more)
+
 -- ---- what a run has written and read
 
 -- of every run that has come so far this holds, `all` being the account of its records and `old` what stood in its writer
@@ -59,16 +67,15 @@ IsCut all old now records = (k : ℕ) × Appends old now (all.text Cut (take k r
 
 -- what was written is a prefix of the text of all records
 abbrev pub WrotePrefix : (List (List (List ℕ)) → List ℕ) → Option (List ℕ) → Option (List ℕ) → List (List (List ℕ)) → Type 0
-WrotePrefix all old now records = (written left : List ℕ) × Appends old now written × (written ++ left ≡ all records)
+WrotePrefix all old now records = AppendsFront old now (all records)
 
--- what a run over these records leaves in its writer, by how it ends: `all` is the account of the records. Where the writer
--- failed, nothing is said
+-- what a run over these records leaves in its writer, by how it ends: `all` is the account of the records
 abbrev pub EndsSo : Account → ℕ → Option (List ℕ) → Option (List ℕ) → List (List (List ℕ)) → Result Count RunFault → Type 0
 EndsSo all limit old new records (Ok count) = IsDone all limit old new records count.records
 EndsSo all limit old new records (Err TooLong) = IsTooLong all limit old new records
 EndsSo all limit old new records (Err Read) = IsCut all old new records
 EndsSo all limit old new records (Err Memory) = WrotePrefix (all.text AtEnd) old new records
-EndsSo all limit old new records (Err Write) = ⊤
+EndsSo all limit old new records (Err Write) = WrotePrefix (all.text AtEnd) old new records
 
 -- a run over an input, of which at most `limit` records are read: `all` is the account of its records, and `old` and `new` are
 -- what its writer had and has

@@ -13,6 +13,7 @@ mod run;
 mod service;
 mod signals;
 mod sink;
+mod writing;
 
 pub use fault::{Count, OutOfMemory, RunFault};
 pub use input_record::InputRecord;

@@ -4,7 +4,7 @@ ghost use Rattle.std.specs.Prelude.{◌≡◌, ◌<◌, ◌+◌, ◌++◌, ◌^�
 ghost use Rattle.rubis_engine.specs.Accounts.{Account};
 ghost use Rattle.rubis_engine.specs.Accounts.Ending.{AtEnd, Cut};
 ghost use Rattle.rubis_engine.specs.Progress.{Drained, EndsCut, EndsInPrefix, FromStart, HasComeSoFar, HasMoved, InEachRun, IsCut, IsDone};
-ghost use Rattle.rubis_engine.specs.Progress.{IsRun, IsTooLong, WrotePrefix};
+ghost use Rattle.rubis_engine.specs.Progress.{IsRun, IsTooLong, WritesFrontOf, WrotePrefix};
 ghost use Rattle.rubis_engine.specs.Reading.{Advances, Gives};
 ghost use Rattle.rubis_engine.specs.Text.{input_records};
 
@@ -29,6 +29,7 @@ fn write_out_held<T, S: Service<T>, W: Write>(
     ensures empty { OnOk result (sink.new ≡ []) }
     ensures stays { OnOk result (S.stays service.old service.new) }
     ensures memory { IsErrOf result RunFault.Memory → W.contents writer.new ≡ W.contents writer.old }
+    ensures write { IsErrOf result RunFault.Write → WritesFrontOf (S.account service.old) sink.old (W.contents writer.old) (W.contents writer.new) }
     ensures faults { IfErr result (λ e. (e ≡ RunFault.Write) ⊎ (e ≡ RunFault.Memory)) }
 {
     service.answer_held(rt, sink)?;
@@ -48,6 +49,7 @@ pub fn write_out<T, S: Service<T>, R: Read, W: Write>(
         → HasComeSoFar R.remaining records.now all (S.account service.new number) old (W.contents writer.new) sink.new number input) }
     ensures stays { OnOk result (S.stays service.old service.new) }
     ensures memory { IsErrOf result RunFault.Memory → W.contents writer.new ≡ W.contents writer.old }
+    ensures write { IsErrOf result RunFault.Write → WritesFrontOf (S.account service.old) sink.old (W.contents writer.old) (W.contents writer.new) }
     ensures faults { IfErr result (λ e. (e ≡ RunFault.Write) ⊎ (e ≡ RunFault.Memory)) }
 {
     if records.is_used_up() {
@@ -77,6 +79,9 @@ pub fn next_record<T, S: Service<T>, R: Read, W: Write>(
         (W.contents writer.old) sink.old (answered + 1) (λ all old input.
         IsCut all old (W.contents writer.new) (input_records input)) }
     ensures memory { IsErrOf result RunFault.Memory → InEachRun R.remaining records.old (S.account service.old (answered + 1))
+        (W.contents writer.old) sink.old (answered + 1) (λ all old input.
+        WrotePrefix (all.text AtEnd) old (W.contents writer.new) (input_records input)) }
+    ensures write { IsErrOf result RunFault.Write → InEachRun R.remaining records.old (S.account service.old (answered + 1))
         (W.contents writer.old) sink.old (answered + 1) (λ all old input.
         WrotePrefix (all.text AtEnd) old (W.contents writer.new) (input_records input)) }
     ensures faults { IfErr result (λ e. (e ≡ RunFault.Read) ⊎ (e ≡ RunFault.Write) ⊎ (e ≡ RunFault.Memory)) }
@@ -116,6 +121,9 @@ pub fn stop<T, S: Service<T>, R: Read, W: Write>(
         (W.contents writer.old) sink.old (answered + 1) (λ all old input.
         IsCut all old (W.contents writer.new) (input_records input)) }
     ensures memory { IsErrOf result RunFault.Memory → InEachRun R.remaining records.old (S.account service.old (answered + 1))
+        (W.contents writer.old) sink.old (answered + 1) (λ all old input.
+        WrotePrefix (all.text AtEnd) old (W.contents writer.new) (input_records input)) }
+    ensures write { IsErrOf result RunFault.Write → InEachRun R.remaining records.old (S.account service.old (answered + 1))
         (W.contents writer.old) sink.old (answered + 1) (λ all old input.
         WrotePrefix (all.text AtEnd) old (W.contents writer.new) (input_records input)) }
 {
@@ -164,6 +172,7 @@ fn answer_next<T, S: Answering<T>, R: Read, W: Write>(
     ensures counted { IfOk result (λ over. IfNone over (run.new.answered ≡ run.old.answered + 1)) }
     ensures read { IsErrOf result RunFault.Read → EndsCut R.remaining run.old (S.account service.old) (W.contents writer.old) (W.contents writer.new) }
     ensures memory { IsErrOf result RunFault.Memory → EndsInPrefix R.remaining run.old (S.account service.old) (W.contents writer.old) (W.contents writer.new) }
+    ensures write { IsErrOf result RunFault.Write → EndsInPrefix R.remaining run.old (S.account service.old) (W.contents writer.old) (W.contents writer.new) }
     ensures faults { IfErr result (λ e. (e ≡ RunFault.Read) ⊎ (e ≡ RunFault.Write) ⊎ (e ≡ RunFault.Memory)) }
 {
     let sink = &mut run.reply.sink;
@@ -204,6 +213,8 @@ fn serve<T, S: Answering<T>, R: Read, W: Write>(
         IsCut (S.account service.old 1) (W.contents writer.old) (W.contents writer.new) records) }
     ensures memory { IsErrOf result RunFault.Memory → FromStart R.remaining run.old (λ records.
         WrotePrefix ((S.account service.old 1).text AtEnd) (W.contents writer.old) (W.contents writer.new) records) }
+    ensures write { IsErrOf result RunFault.Write → FromStart R.remaining run.old (λ records.
+        WrotePrefix ((S.account service.old 1).text AtEnd) (W.contents writer.old) (W.contents writer.new) records) }
 {
     'steps: for _answered in 0..limit {
         if let Some(count) = answer_next(rt, run, service, writer)? {
@@ -221,7 +232,7 @@ fn serve<T, S: Answering<T>, R: Read, W: Write>(
 /// # Errors
 ///
 /// `Read` if the reader failed: the first records are answered then, as if there were no more. `Write` if the writer
-/// failed. `Memory` if memory ran out: what was written is a prefix of the whole text. `TooLong` if the input has more
+/// failed, and `Memory` if memory ran out: what was written is a prefix of the whole text. `TooLong` if the input has more
 /// than `limit` records and none of the first `limit` ends the run: these are answered then.
 pub fn run_upto<T, S: Answering<T>, R: Read + Drop, W: Write>(
     rt: &T,

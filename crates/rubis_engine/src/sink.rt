@@ -4,13 +4,14 @@ ghost use Rattle.std.specs.Prelude.{◌≡◌, ◌<◌, ◌≤◌, ◌++◌, [],
 ghost use Rattle.std.specs.Io.KnownBytes.{Appends};
 ghost use Rattle.csv.specs.Writing.{row_text};
 ghost use Rattle.rubis_schema.specs.FieldList.{all_plain};
-ghost use Rattle.rubis_engine.specs.Progress.{IsWrittenOrWaits};
+ghost use Rattle.rubis_engine.specs.Progress.{AppendsFront, IsWrittenOrWaits};
 ghost use Rattle.rubis_engine.specs.Rows.{plain_row, prefix_text};
 ghost use Rattle.rubis_engine.specs.Text.{plain_writer};
 
 use crate::fault::RunFault;
 use crate::plain_sinks::PlainSink;
 use crate::quoted_rows::QuotedRows;
+use crate::writing::write_front;
 use rubis_schema::{Fields, PlainRow, RowSink, SharedSink, is_plain, make_room, push_bytes};
 use std::alloc::{AllocError, Global};
 use std::io::Write;
@@ -137,18 +138,14 @@ fn add_both(text: &mut Vec<u8>, first: &[u8], second: &[u8]) -> Result<(), Alloc
     Ok(())
 }
 
-// Writes two texts out.
+// Writes two texts out. Where the writer fails, a prefix of them was written.
 fn write_both<W: Write>(writer: &mut W, first: &[u8], second: &[u8]) -> Result<(), RunFault>
     ensures ok { OnOk result (Appends (W.contents writer.old) (W.contents writer.new) (first.now ++ second.now)) }
+    ensures err { OnErr result (AppendsFront (W.contents writer.old) (W.contents writer.new) (first.now ++ second.now)) }
     ensures faults { IfErr result (λ e. e ≡ RunFault.Write) }
 {
-    if !first.is_empty() && writer.write_all(first).is_err() {
-        return Err(RunFault::Write);
-    }
-    match writer.write_all(second) {
-        Ok(()) => Ok(()),
-        Err(_) => Err(RunFault::Write),
-    }
+    write_front(writer, first)?;
+    write_front(writer, second)
 }
 
 impl Sink {
@@ -252,10 +249,11 @@ impl Sink {
     ///
     /// # Errors
     ///
-    /// `Write` where the writer failed.
+    /// `Write` where the writer failed: it has a prefix of the text then.
     pub fn drain<W: Write>(&mut self, writer: &mut W) -> Result<(), RunFault>
         ensures ok { OnOk result (Appends (W.contents writer.old) (W.contents writer.new) self.old) }
         ensures empty { self.new ≡ [] }
+        ensures err { OnErr result (AppendsFront (W.contents writer.old) (W.contents writer.new) self.old) }
         ensures faults { IfErr result (λ e. e ≡ RunFault.Write) }
     {
         let written = write_both(writer, self.before.as_slice(), self.text.as_slice());
@@ -267,9 +265,10 @@ impl Sink {
     ///
     /// # Errors
     ///
-    /// `Write` where the writer failed.
+    /// `Write` where the writer failed: it has a prefix of the text then.
     pub fn drain_full<W: Write>(&mut self, writer: &mut W) -> Result<(), RunFault>
         ensures ok { OnOk result (IsWrittenOrWaits self.old self.new (W.contents writer.old) (W.contents writer.new)) }
+        ensures err { OnErr result (AppendsFront (W.contents writer.old) (W.contents writer.new) self.old) }
         ensures faults { IfErr result (λ e. e ≡ RunFault.Write) }
     {
         if self.is_full() {
@@ -282,10 +281,11 @@ impl Sink {
     ///
     /// # Errors
     ///
-    /// `Write` where the writer failed.
+    /// `Write` where the writer failed: it has a prefix of the text then.
     pub fn close<W: Write>(&mut self, writer: &mut W) -> Result<(), RunFault>
         ensures ok { OnOk result (Appends (W.contents writer.old) (W.contents writer.new) self.old) }
         ensures empty { self.new ≡ [] }
+        ensures err { OnErr result (AppendsFront (W.contents writer.old) (W.contents writer.new) self.old) }
         ensures faults { IfErr result (λ e. e ≡ RunFault.Write) }
     {
         self.drain(writer)?;

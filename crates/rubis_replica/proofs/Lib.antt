@@ -5,3 +5,5 @@ pub mod Standing
 pub mod Extending
 pub mod Comings
 pub mod Kept
+pub mod Trying
+mod TryExamples

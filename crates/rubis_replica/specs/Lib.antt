@@ -6,3 +6,4 @@ pub mod Faults
 pub mod Follow
 pub mod Progress
 pub mod Lengths
+pub mod Tries

@@ -8,6 +8,7 @@ mod follower;
 mod lengths;
 mod progress;
 mod site;
+mod tries;
 
 pub use arriving::Arrived;
 pub use config::Config;
@@ -17,3 +18,7 @@ pub use progress::{Progress, Stage};
 pub use rubis_listing::ListingRows;
 pub use rubis_workers::{Free, Gate};
 pub use site::Site;
+pub use tries::{
+    refused_memory_changes_no_answer, try_arrive, try_arrive_all, try_catch_up, try_cut, try_list,
+    try_list_into, try_pass, try_prepare, try_request, try_token,
+};

@@ -9,7 +9,7 @@ use Rattle.rubis_model.specs.Runs.Input.{Asked}
 use Rattle.rubis_replica.specs.State.{SiteState}
 use Rattle.rubis_engine.specs.Accounts.{Account, AnswersRecord, Keeps}
 use Rattle.rubis_engine.specs.Accounts.Ending.{AtEnd}
-use Rattle.rubis_engine.specs.Progress.{IsWrittenOrWaits, WrotePrefix}
+use Rattle.rubis_engine.specs.Progress.{AppendsFront, IsWrittenOrWaits, WrotePrefix}
 use Rattle.rubis_engine.specs.Adding.{more_written}
 use Rattle.rubis_engine.specs.Text.{rows_text}
 use Rattle.rubis_engine.specs.declared.service.Course.TheVariants.{GoesOn}
@@ -22,7 +22,7 @@ use Rattle.rubis_script.specs.Inputs.{IsAnswered}
 use Rattle.rubis_script.specs.Runs.{Stands, stopped_at}
 use Rattle.rubis_script.specs.SiteRuns.{told_by}
 use Rattle.rubis_script.specs.Windows.{held_by}
-use Rattle.rubis_script.proofs.LoopFacts.{first_read, stands-answered}
+use Rattle.rubis_script.proofs.LoopFacts.{first_read, stands-answered, stands-prefix}
 use Rattle.rubis_script.proofs.WindowFacts.{flush_goes}
 
 pub appends_none : (o : Option (List ℕ)) → Appends o o []
@@ -53,6 +53,10 @@ off_all text left now now2 out none = record {
   appended = out;
   parts = sym (ap (λ l. text ++ l) none ∙ append-nil text);
 }
+
+-- a prefix of it was written
+pub off_front : (text : List ℕ) (now now2 : Option (List ℕ)) → (front : AppendsFront now now2 text) → WritesOff text front.1 now now2
+off_front text now now2 front = record { out = front.0; appended = front.2; parts = sym front.3 }
 
 -- it was written, or waits
 pub off_waited : (text left : List ℕ) (now now2 : Option (List ℕ)) → IsWrittenOrWaits text left now now2 → WritesOff text left now now2
@@ -142,6 +146,14 @@ stands_part s ps w first old now now2 sink left answered records later off stand
   text = ahead_part s.place.sites ps (told_by first 1) (held_by s w (answered + 1)) old now now2 sink left (answered + 1) records later off stands.text;
   led = stands.led;
 }
+
+-- the writer failed while what waited was written out
+pub stands_broken : (s : SiteState) (ps : List Parsed) (w : List Message) (first : SiteState) (old now now2 : Option (List ℕ)) (sink : List ℕ)
+    (answered : ℕ) (records later : List (List (List ℕ))) → AppendsFront now now2 sink
+    → Stands s ps w sink answered first old now records later → WrotePrefix ((told_by first 1).text AtEnd) old now2 records
+stands_broken s ps w first old now now2 sink answered records later front stands =
+    stands-prefix s ps w first old now2 now2 front.1 answered records later refl
+    (stands_part s ps w first old now now2 sink front.1 answered records later (off_front sink now now2 front) stands)
 
 -- the listing that was asked for is answered
 pub stands_listed : (s s2 : SiteState) (rest : List Parsed) (l : Listing) (w w2 : List Message) (first : SiteState) (old now now2 : Option (List ℕ))

@@ -1,6 +1,6 @@
 -- How the end of one step becomes that of another.
 use Rattle.std.proofs.Common.{◌≡◌, subst, sym}
-use Rattle.std.specs.Prelude.{IfErr, IsErr, IsErrAnd, OnOk, Result, Ok, Err}
+use Rattle.std.specs.Prelude.{IfErr, IsErr, IsErrAnd, OnErr, OnOk, Result, Ok, Err}
 use Rattle.rubis_engine.specs.declared.fault.RunFault.{RunFault}
 use Rattle.rubis_engine.specs.declared.fault.RunFault.TheVariants as fault
 use Rattle.rubis_script.specs.Endings.{ByEnd}
@@ -12,7 +12,7 @@ ends_so (Ok v) done too_long read memory h = done v h
 ends_so (Err fault.TooLong) done too_long read memory h = too_long h
 ends_so (Err fault.Read) done too_long read memory h = read h
 ends_so (Err fault.Memory) done too_long read memory h = memory h
-ends_so (Err fault.Write) done too_long read memory h = tt
+ends_so (Err fault.Write) done too_long read memory h = memory h
 
 same_end : {T : Type 0} (P : T → Type 0) (L R M : Type 0) (r : Result T RunFault) (e : RunFault) → IsErr r × IsErrAnd r (λ f. f ≡ e)
     → ByEnd {T = T} (Err e) P L R M → ByEnd r P L R M
@@ -24,7 +24,7 @@ at_error : {T U : Type 0} (P : T → Type 0) (Q : U → Type 0) (L L2 R R2 M M2 
 at_error P Q L L2 R R2 M M2 fault.TooLong too_long read memory h = too_long h
 at_error P Q L L2 R R2 M M2 fault.Read too_long read memory h = read h
 at_error P Q L L2 R R2 M M2 fault.Memory too_long read memory h = memory h
-at_error P Q L L2 R R2 M M2 fault.Write too_long read memory h = tt
+at_error P Q L L2 R R2 M M2 fault.Write too_long read memory h = memory h
 
 -- an error of a step is handed on
 pub ends_on : {T U : Type 0} (P : T → Type 0) (Q : U → Type 0) {L L2 R R2 M M2 : Type 0} (r : Result U RunFault) (e : RunFault)
@@ -38,11 +38,12 @@ pub ends_memory : {U : Type 0} (Q : U → Type 0) (L R : Type 0) {M : Type 0} (r
 ends_memory Q L R {M = M} r handed h = same_end Q L R M r fault.Memory handed h
 
 -- the writer failed in it
-pub ends_write : {U : Type 0} (Q : U → Type 0) (L R M : Type 0) (r : Result U RunFault) (e : RunFault) → IsErr r × IsErrAnd r (λ f. f ≡ e)
-    → e ≡ fault.Write → ByEnd r Q L R M
-ends_write {U = U} Q L R M r e handed is = same_end Q L R M r e handed (subst (λ x. ByEnd {T = U} (Err x) Q L R M) (sym is) tt)
+pub ends_write : {U : Type 0} (Q : U → Type 0) (L R : Type 0) {M : Type 0} (r : Result U RunFault) (e : RunFault) → IsErr r × IsErrAnd r (λ f. f ≡ e)
+    → e ≡ fault.Write → M → ByEnd r Q L R M
+ends_write {U = U} Q L R {M = M} r e handed is h = same_end Q L R M r e handed (subst (λ x. ByEnd {T = U} (Err x) Q L R M) (sym is) h)
 
 -- the writer is all that can fail
-pub ends_writer : {T : Type 0} (P L R M : Type 0) (r : Result T RunFault) → OnOk r P → IfErr r (λ e. e ≡ fault.Write) → ByEnd r (λ v. P) L R M
-ends_writer P L R M (Ok v) done failed = done
-ends_writer {T = T} P L R M (Err e) done failed = subst (λ x. ByEnd {T = T} (Err x) (λ v. P) L R M) (sym failed) tt
+pub ends_writer : {T F : Type 0} (P L R M : Type 0) (r : Result T RunFault) → OnOk r P → (F → M) → OnErr r F → IfErr r (λ e. e ≡ fault.Write)
+    → ByEnd r (λ v. P) L R M
+ends_writer P L R M (Ok v) done broke front failed = done
+ends_writer {T = T} P L R M (Err e) done broke front failed = subst (λ x. ByEnd {T = T} (Err x) (λ v. P) L R M) (sym failed) (broke front)

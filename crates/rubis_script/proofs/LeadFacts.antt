@@ -119,7 +119,7 @@ SiteEnds limit first new old now records (Ok count) = AnswersAll limit first new
 SiteEnds limit first new old now records (Err fault.TooLong) = AnswersFirst limit first new old now records
 SiteEnds limit first new old now records (Err fault.Read) = (k : ℕ) × HasAnswered first new old now (take k records)
 SiteEnds limit first new old now records (Err fault.Memory) = WrotePrefix ((told_by first 1).text AtEnd) old now records
-SiteEnds limit first new old now records (Err fault.Write) = ⊤
+SiteEnds limit first new old now records (Err fault.Write) = WrotePrefix ((told_by first 1).text AtEnd) old now records
 
 -- what it leaves in its writer is a run
 pub ends_run : (limit : ℕ) (first new : SiteState) (input old now : Option (List ℕ)) (result : Result Count RunFault)
@@ -129,7 +129,7 @@ ends_run limit first new (Some bytes) old now (Ok count) h = (h.0.0, h.1, h.2)
 ends_run limit first new (Some bytes) old now (Err fault.TooLong) h = (h.0.0, h.1, h.1)
 ends_run limit first new (Some bytes) old now (Err fault.Read) h = (h.0, h.1.0)
 ends_run limit first new (Some bytes) old now (Err fault.Memory) h = h
-ends_run limit first new (Some bytes) old now (Err fault.Write) h = tt
+ends_run limit first new (Some bytes) old now (Err fault.Write) h = h
 
 -- and its records lead to where it ends
 pub ends_led : (limit : ℕ) (first new : SiteState) (input old now : Option (List ℕ)) (result : Result Count RunFault)

@@ -252,4 +252,5 @@ ends_ahead rem chunks d new ahead limit (Some bytes) old now (Err fault.Read) pe
     (new.answered, (ends d.site old bytes (starts rem chunks d ahead old bytes none fresh pending)).0)
 ends_ahead rem chunks d new ahead limit (Some bytes) old now (Err fault.Memory) pending none fresh ends =
     ends d.site old bytes (starts rem chunks d ahead old bytes none fresh pending)
-ends_ahead rem chunks d new ahead limit (Some bytes) old now (Err fault.Write) pending none fresh ends = tt
+ends_ahead rem chunks d new ahead limit (Some bytes) old now (Err fault.Write) pending none fresh ends =
+    ends d.site old bytes (starts rem chunks d ahead old bytes none fresh pending)

@@ -9,6 +9,7 @@ use Rattle.rubis_message.specs.declared.requests.Request.TheVariants as request
 use Rattle.rubis_model.specs.Runs.Input.{Asked}
 use Rattle.rubis_replica.specs.State.{SiteState}
 use Rattle.rubis_engine.specs.Accounts.{AnswersRecord, Keeps}
+use Rattle.rubis_engine.specs.Progress.{AppendsFront}
 use Rattle.rubis_engine.specs.declared.service.Course.TheVariants.{GoesOn}
 use Rattle.rubis_reading.specs.Parsed.{FitsIn, IsParsed, meant}
 use Rattle.rubis_reading.proofs.RunFacts.{came-length}
@@ -19,7 +20,7 @@ use Rattle.rubis_script.specs.Desks.{KeepsSetup, TakesHeld, TakesNext, WritesNex
 use Rattle.rubis_script.specs.Runs.{HasTaken, IsSound, LeavesPrefix, LeavesRecord, Stands, StandsAt, Takes, TakesAll, TakesRecord, stopped_at}
 use Rattle.rubis_script.specs.Windows.{held_by}
 use Rattle.rubis_script.specs.declared.desk.Desk.{Desk}
-use Rattle.rubis_script.proofs.DrainFacts.{stands_front, stands_listed}
+use Rattle.rubis_script.proofs.DrainFacts.{stands_broken, stands_front, stands_listed}
 use Rattle.rubis_script.proofs.LoopFacts.{all-back, all-front, parsed-one, run-held, stands-answered, stands-kept, stands-prefix, stands-read, stands-written}
 use Rattle.rubis_script.proofs.WindowFacts.{told-held}
 
@@ -90,6 +91,13 @@ pub prefix-after : {G : Type 0} (ps : List Parsed) (a b : Desk G) (before mid af
     → LeavesPrefix ps a before after
 prefix-after ps a b before mid after one same left first start records later h =
     stands-prefix b.site left b.window.items first start mid after b.reply.sink b.answered records later same (one.goes left first start records later h)
+
+-- all were taken, and then the writer failed while what waited was written out
+pub prefix-front : {G : Type 0} (ps : List Parsed) (a b : Desk G) (before mid after : Option (List ℕ)) → Takes ps a b before mid
+    → AppendsFront mid after b.reply.sink → LeavesPrefix ps a before after
+prefix-front ps a b before mid after one front left first start records later h =
+    stands_broken b.site left b.window.items first start mid after b.reply.sink b.answered records later front
+    (one.goes left first start records later h)
 
 -- nothing else was read ahead
 pub takes-whole : {G : Type 0} (ps : List Parsed) (a b : Desk G) (before after : Option (List ℕ)) (first : SiteState) (start : Option (List ℕ))

@@ -132,7 +132,7 @@ pub fn settle<G: Gate, T: Threads + Wait + Sync, W: Write>(
     writer: &mut W,
 ) -> Result<(), RunFault>
     ensures { ByEnd result (λ _. Takes [] desk.old desk.new (W.contents writer.old) (W.contents writer.new) × IsSettled desk.new) ⊥ ⊥
-        (W.contents writer.new ≡ W.contents writer.old) }
+        (LeavesPrefix [] desk.old (W.contents writer.old) (W.contents writer.new)) }
 {
     desk.flush(rt)?;
     desk.reply.sink.close(writer)

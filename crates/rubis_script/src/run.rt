@@ -75,7 +75,7 @@ fn stop<G: Gate, T: Threads + Wait + Sync, W: Write>(
     requires more { left < length (flat ahead.old) }
     requires room { desk.old.answered + left < 2 ^ 64 }
     ensures { ByEnd result (λ _. AnswersFirstOf left desk.old ahead.old desk.new (W.contents writer.old) (W.contents writer.new)) ⊥ ⊥
-        (W.contents writer.new ≡ W.contents writer.old) }
+        (LeavesPrefix (flat ahead.old) desk.old (W.contents writer.old) (W.contents writer.new)) }
 {
     let alloc = *desk.window.allocator();
     let together = mem::replace(ahead, Ahead::new(alloc));
@@ -254,7 +254,7 @@ fn serve<G: Gate, T: Threads + Wait + Sync, R: Read, W: Write>(
 /// # Errors
 ///
 /// `Read` if the reader failed: the records that came whole before are answered then, as if there were no more. `Write` if the writer
-/// failed. `Memory` if memory ran out: what was written is a prefix of the whole text. `TooLong` if the input has more
+/// failed, and `Memory` if memory ran out: what was written is a prefix of the whole text. `TooLong` if the input has more
 /// than `limit` records: the first `limit` are answered then.
 pub fn run_desk<G: Gate, T: Threads + Wait + Sync, R: Read + Drop, W: Write>(
     rt: &T,

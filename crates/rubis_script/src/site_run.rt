@@ -23,7 +23,7 @@ use std::thread::Threads;
 /// # Errors
 ///
 /// `Read` if the reader failed: the records that came whole before are answered then, as if there were no more. `Write` if the writer
-/// failed. `Memory` if memory ran out: what was written is a prefix of the whole text. `TooLong` if the input has more
+/// failed, and `Memory` if memory ran out: what was written is a prefix of the whole text. `TooLong` if the input has more
 /// than `limit` records: the first `limit` are answered then.
 pub fn run_site_upto<G: Gate + Drop, T: Threads + Wait + Sync, R: Read + Drop, W: Write>(
     rt: &T,

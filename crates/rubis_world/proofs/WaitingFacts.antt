@@ -24,7 +24,7 @@ by_fault first p s limit None old new now e ends = tt
 by_fault first p s limit (Some bytes) old new now fault.TooLong ends = (nothing_appended now, ends.1, ends.2)
 by_fault first p s limit (Some bytes) old new now fault.Read ends = (ends.0, nothing_appended now)
 by_fault first p s limit (Some bytes) old new now fault.Memory ends = ([], (waiting_from p s 1).text AtEnd (input_records bytes), nothing_appended now, refl)
-by_fault first p s limit (Some bytes) old new now fault.Write ends = tt
+by_fault first p s limit (Some bytes) old new now fault.Write ends = ([], (waiting_from p s 1).text AtEnd (input_records bytes), nothing_appended now, refl)
 
 abbrev failed : RunFault → Result Count RunFault
 failed e = Err e

@@ -34,6 +34,8 @@ fn answer_next<T: Threads + Wait + Sync, R: Read, W: Write>(
     ensures read { IsErrOf result RunFault.Read → EndsCut R.remaining run.old (told_by_world desk.old.world) (W.contents writer.old) (W.contents writer.new) }
     ensures memory { IsErrOf result RunFault.Memory → EndsInPrefix R.remaining run.old (told_by_world desk.old.world) (W.contents writer.old)
         (W.contents writer.new) }
+    ensures write { IsErrOf result RunFault.Write → EndsInPrefix R.remaining run.old (told_by_world desk.old.world) (W.contents writer.old)
+        (W.contents writer.new) }
     ensures faults { IfErr result (λ e. (e ≡ RunFault.Read) ⊎ (e ≡ RunFault.Write) ⊎ (e ≡ RunFault.Memory)) }
 {
     let sink = &mut run.reply.sink;
@@ -64,6 +66,8 @@ fn serve<T: Threads + Wait + Sync, R: Read, W: Write>(
     ensures read { IsErrOf result RunFault.Read → FromStart R.remaining run.old (λ records.
         IsCut (told_by_world desk.old.world 1) (W.contents writer.old) (W.contents writer.new) records) }
     ensures memory { IsErrOf result RunFault.Memory → FromStart R.remaining run.old (λ records.
+        WrotePrefix ((told_by_world desk.old.world 1).text AtEnd) (W.contents writer.old) (W.contents writer.new) records) }
+    ensures write { IsErrOf result RunFault.Write → FromStart R.remaining run.old (λ records.
         WrotePrefix ((told_by_world desk.old.world 1).text AtEnd) (W.contents writer.old) (W.contents writer.new) records) }
 {
     'steps: for _answered in 0..limit {
@@ -105,7 +109,7 @@ pub fn run_world_desk<T: Threads + Wait + Sync, R: Read + Drop, W: Write>(
 /// # Errors
 ///
 /// `Read` if the reader failed: the first records are answered then, as if there were no more. `Write` if the writer
-/// failed. `Memory` if memory ran out, or a site came to be behind: what was written is a prefix of the whole text.
+/// failed, and `Memory` if memory ran out, or a site came to be behind: what was written is a prefix of the whole text.
 /// `TooLong` if the input has more records: the first 4,000,000 are answered then.
 pub fn run_world<T: Threads + Wait + Sync, R: Read + Drop, W: Write>(
     rt: &T,

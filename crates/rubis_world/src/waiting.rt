@@ -21,7 +21,7 @@ use std::thread::Threads;
 /// # Errors
 ///
 /// `Read` if the reader failed, and `TooLong` if the input has more records: nothing is written then. `Write` if the writer
-/// failed. `Memory` if memory ran out: what was written is a prefix of the whole text.
+/// failed, and `Memory` if memory ran out: what was written is a prefix of the whole text.
 pub fn run_waiting<T: Threads + Wait + Sync, R: Read + Drop, W: Write>(
     rt: &T,
     alloc: Global,

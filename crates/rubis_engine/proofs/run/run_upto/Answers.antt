@@ -7,4 +7,4 @@ returns g c =
     let run = c.new-run.ensures in
     ends_so g.R.Read.remaining c.new-run.result (g.S.Service.account c.args.service.now 1) c.args.limit (g.R.Read.remaining c.args.reader)
     (g.W.Write.contents c.args.writer.now) (g.W.Write.contents c.serve.new.writer) c.serve.result run.gives run.empty said.ok said.too_long said.read
-    said.memory
+    said.memory said.write

@@ -1,6 +1,6 @@
 use Rattle.std.proofs.Common.{◌+◌, ap, refl, arith}
 use Rattle.rubis_engine.specs.declared.fault.RunFault.TheVariants as fault
-use Rattle.rubis_engine.proofs.RunFacts.{handed_on, if_none, progress-drained, progress-more, progress-moved, progress-stays, progress-too_long}
+use Rattle.rubis_engine.proofs.RunFacts.{handed_on, if_none, progress-drained, progress-front, progress-more, progress-moved, progress-stays, progress-too_long}
 use Rattle.rubis_engine.proofs.run.stop.Goals as goal
 
 pub returns-in_default-clause-too_long : goal.returns-in_default-clause-too_long
@@ -26,3 +26,14 @@ returns-in_err-write_out_held-clause-memory g c e all old input p =
     (g.W.Write.contents c.next_record.new.writer) _ c.next_record.new.sink n input p
     (ap (λ s. g.S.Service.account s n) same.0) (ap g.W.Write.contents same.2) same.1 in
     progress-stays _ _ all _ old _ _ _ n input moved (c.in_err-write_out_held.ensures.memory (rw memory refl))
+
+pub returns-in_err-write_out_held-clause-write : goal.returns-in_err-write_out_held-clause-write
+returns-in_err-write_out_held-clause-write g c e all old input p =
+    let n = c.args.answered + 1 in
+    let same = if_none c.in_ok-count.field-0 c.in_ok-count.ensures.same c.in_default.is in
+    let write = handed_on c.from_residual-in_err-write_out_held.result c.in_err-write_out_held.field-0.0 fault.Write
+    c.from_residual-in_err-write_out_held.ensures e in
+    let moved = progress-moved _ c.args.records.now all _ (g.S.Service.account c.next_record.new.service n) old _
+    (g.W.Write.contents c.next_record.new.writer) _ c.next_record.new.sink n input p
+    (ap (λ s. g.S.Service.account s n) same.0) (ap g.W.Write.contents same.2) same.1 in
+    progress-front _ _ all _ old _ _ _ n input moved (c.in_err-write_out_held.ensures.write (rw write refl) n)

@@ -1,4 +1,7 @@
 use Rattle.std.proofs.lemmas.Result.{on_ok_weaker}
+use Rattle.rubis_engine.specs.Accounts.Ending.{AtEnd}
+use Rattle.rubis_engine.specs.declared.fault.RunFault.TheVariants as fault
+use Rattle.rubis_engine.proofs.FrontFacts.{at_err, front-longer}
 use Rattle.rubis_engine.proofs.RunFacts.{on_ok, on_ok_both, progress-drained, progress-waited}
 use Rattle.rubis_engine.proofs.run.write_out.Goals as goal
 
@@ -13,3 +16,7 @@ returns-clause-goes g c =
 
 pub returns-clause-stays : goal.returns-clause-stays
 returns-clause-stays g c = on_ok c.drain_full.result (g.met.S.Service.stays_same c.args.service.now)
+
+pub returns-clause-write : goal.returns-clause-write
+returns-clause-write g c e number more =
+    front-longer _ _ _ ((g.S.Service.account c.args.service.now number).text AtEnd more) (at_err c.drain_full.result fault.Write c.drain_full.ensures.err e)

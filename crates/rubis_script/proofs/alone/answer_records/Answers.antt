@@ -2,6 +2,7 @@ use Rattle.std.proofs.Common.{◌≡◌, ◌++◌, [], arith, false, refl, rules
 use Rattle.rubis_engine.specs.Reading.{Advances}
 use Rattle.rubis_script.specs.Runs.{LeavesRecord, TakesRecord}
 use Rattle.rubis_script.proofs.AloneFacts.{yet-none, yet-one, yet-prefix, yet-too_long}
+use Rattle.rubis_script.proofs.DrainFacts.{stands_broken}
 use Rattle.rubis_script.proofs.EndFacts.{ends_on, ends_write}
 use Rattle.rubis_script.proofs.LoopFacts.{stands-waited}
 use Rattle.rubis_script.proofs.StepFacts.{setup-on}
@@ -28,7 +29,8 @@ returns-then-not-found g c =
 pub returns-in_err-settle : goal.returns-in_err-settle
 returns-in_err-settle g c =
     ends_on _ _ c.from_residual.result c.in_err-settle.field-0.0 c.from_residual.ensures absurd absurd
-    (λ same first start records rest h. yet-prefix _ _ c.records.desk first start _ _ records rest same (c.records.invariant.stands first start records rest h))
+    (λ front first start records rest h.
+    let yet = c.records.invariant.stands first start records rest h in front [] first start records (yet.rows ++ rest) yet.stands)
     c.in_err-settle.ensures
 
 pub returns-then-desk-limit : goal.returns-then-desk-limit
@@ -52,8 +54,20 @@ returns-in_err-answer_record g c =
 
 pub returns-in_err-drain_full : goal.returns-in_err-drain_full
 returns-in_err-drain_full g c =
-    ends_write _ _ _ _ c.from_residual-in_err-drain_full.result c.in_err-drain_full.field-0.0 c.from_residual-in_err-drain_full.ensures
+    let some : c.in-Ok.found ≡ true = search rules in
+    let takes = subst (λ found. Advances g.R.Read.remaining c.records.piece c.advance.new.self found) some c.in-Ok.ensures.takes in
+    let d = c.records.desk in
+    let d2 = c.answer_record.new.desk in
+    let now = g.W.Write.contents c.records.writer in
+    let now2 = g.W.Write.contents c.answer_record.new.writer in
+    let took = subst (λ fields. TakesRecord fields d d2 now now2) c.fields.ensures c.in_ok-answer_record.ensures in
+    ends_write _ _ _ c.from_residual-in_err-drain_full.result c.in_err-drain_full.field-0.0 c.from_residual-in_err-drain_full.ensures
     c.in_err-drain_full.ensures.faults
+    (λ first start records rest h.
+    let (more, gives, one) = yet-one g.R.Read.remaining c.records.piece c.advance.new.self d first start now records rest takes
+    (c.records.invariant.stands first start records rest h) in
+    stands_broken d2.site [] d2.window.items first start now2 (g.W.Write.contents c.drain_full.new.writer) d2.reply.sink d2.answered records (more ++ rest)
+    c.in_err-drain_full.ensures.err (took.goes first start records (more ++ rest) one))
 
 pub records-preserved : goal.records-preserved
 records-preserved g c =

@@ -1,11 +1,13 @@
 use Rattle.std.proofs.Common.{[], refl}
 use Rattle.std.proofs.lemmas.Result.{on_ok_weaker}
 use Rattle.rubis_script.proofs.EndFacts.{ends_memory, ends_writer}
-use Rattle.rubis_script.proofs.StepFacts.{takes-held, takes-more, takes-written}
+use Rattle.rubis_script.proofs.StepFacts.{prefix-front, prefix-none, takes-held, takes-more, takes-written}
 use Rattle.rubis_script.proofs.answering.settle.Goals as goal
 
 pub returns-in_err-flush : goal.returns-in_err-flush
-returns-in_err-flush g c = ends_memory _ _ _ c.from_residual.result c.from_residual.ensures refl
+returns-in_err-flush g c =
+    ends_memory _ _ _ c.from_residual.result c.from_residual.ensures
+    (prefix-none [] c.args.desk.now (g.W.Write.contents c.args.writer.now) (g.W.Write.contents c.args.writer.now) refl)
 
 pub returns : goal.returns
 returns g c =
@@ -18,4 +20,5 @@ returns g c =
       takes-more [] [] d mid _ before before after (takes-held d mid flushed.same flushed.flushed before)
           (takes-written mid _ before after refl refl refl refl out c.close.ensures.empty),
       (flushed.empty, c.close.ensures.empty),
-    )) c.close.ensures.ok) c.close.ensures.faults
+    )) c.close.ensures.ok)
+    (prefix-front [] d mid before before after (takes-held d mid flushed.same flushed.flushed before)) c.close.ensures.err c.close.ensures.faults

@@ -1,6 +1,7 @@
 use Rattle.std.proofs.Common.{◌++◌}
 use Rattle.rubis_engine.specs.Text.{rows_text}
-use Rattle.rubis_script.proofs.DrainFacts.{off_more, off_waited, rows_end, rows_part}
+use Rattle.rubis_script.proofs.DrainFacts.{off_front, off_more, off_waited, rows_end, rows_part}
+use Rattle.rubis_script.proofs.EndFacts.{ends_write}
 use Rattle.rubis_script.proofs.rows_out.write_rows.Goals as goal
 
 pub parts-preserved : goal.parts-preserved
@@ -21,3 +22,16 @@ returns-then-not-more g c =
     (c.in_ok-more.ensures.last c.if-not-more.true)
     (off_more text (c.parts.sink ++ rows_text c.parts.rows) (c.drain_full.new.self ++ rows_text c.put_next.new.self)
     (g.W.Write.contents c.args.writer.now) (g.W.Write.contents c.parts.writer) (g.W.Write.contents c.drain_full.new.writer) c.parts.invariant part)
+
+pub returns-in_err-drain_full : goal.returns-in_err-drain_full
+returns-in_err-drain_full g c =
+    let (first, split, added) = c.in_ok-more.ensures.next in
+    let front = c.in_err-drain_full.ensures.err in
+    let part = rows_part c.parts.sink c.put_next.new.sink front.1 c.parts.rows first c.put_next.new.self (g.W.Write.contents c.parts.writer)
+    (g.W.Write.contents c.drain_full.new.writer) split added (off_front _ _ _ front) in
+    ends_write _ _ _ c.from_residual-in_err-drain_full.result c.in_err-drain_full.field-0.0 c.from_residual-in_err-drain_full.ensures
+    c.in_err-drain_full.ensures.faults (
+      front.1 ++ rows_text c.put_next.new.self,
+      off_more (c.args.sink.now ++ rows_text c.args.rows.now) (c.parts.sink ++ rows_text c.parts.rows) (front.1 ++ rows_text c.put_next.new.self)
+          (g.W.Write.contents c.args.writer.now) (g.W.Write.contents c.parts.writer) (g.W.Write.contents c.drain_full.new.writer) c.parts.invariant part,
+    )

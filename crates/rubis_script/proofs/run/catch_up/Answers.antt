@@ -1,7 +1,7 @@
 use Rattle.std.proofs.Common.{[], append-nil, arith, refl, sym}
 use Rattle.rubis_reading.specs.Runs.{flat}
 use Rattle.rubis_script.proofs.EndFacts.{ends_memory, ends_on, ends_so}
-use Rattle.rubis_script.proofs.StepFacts.{prefix-after, prefix-none, taken-all, taken-few, taken-more, taken-prefix, taken-same, takes-more, takes-same}
+use Rattle.rubis_script.proofs.StepFacts.{prefix-more, prefix-none, prefix-same, taken-all, taken-few, taken-more, taken-prefix, taken-same, takes-more, takes-same}
 use Rattle.rubis_script.proofs.run.catch_up.Goals as goal
 
 pub finish-requires-clause-room : goal.finish-requires-clause-room
@@ -32,4 +32,6 @@ returns g c =
           (takes-more (flat c.args.ahead.now) [] d c.finish.new.desk c.settle.new.desk _ _ _ all last),
       settled,
       c.in_ok-finish.ensures.1,
-    )) absurd absurd (λ same. prefix-after (flat c.args.ahead.now) d c.finish.new.desk _ _ _ all same) c.settle.ensures
+    )) absurd absurd
+    (λ front. prefix-same _ (flat c.args.ahead.now) d _ _ (append-nil (flat c.args.ahead.now))
+    (prefix-more (flat c.args.ahead.now) [] d c.finish.new.desk _ _ _ all front)) c.settle.ensures

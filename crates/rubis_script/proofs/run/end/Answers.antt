@@ -26,8 +26,10 @@ returns-in_err-ahead g c =
 
 pub returns-in_err-stop : goal.returns-in_err-stop
 returns-in_err-stop g c =
+    let read = read-last c.args.desk.now c.in_ok-ahead.ahead c.in_ok-list.list.items c.sites.result c.held.result.now (held_text c.args.chunks.now)
+    c.sites.ensures.same c.held.ensures c.in_ok-ahead.ensures c.in_ok-list.ensures.parsed c.in_ok-list.ensures.window in
     ends_on _ _ c.from_residual-in_err-stop.result c.in_err-stop.field-0.0 c.from_residual-in_err-stop.ensures absurd absurd
-    (prefix-stays g.R.Read.remaining c.args.chunks.now c.args.desk.now [] _ _) c.in_err-stop.ensures
+    (prefix-last g.R.Read.remaining c.args.chunks.now c.args.desk.now c.in_ok-ahead.ahead _ _ c.requires.last read.1) c.in_err-stop.ensures
 
 pub returns-then-len-left : goal.returns-then-len-left
 returns-then-len-left g c first old input h =

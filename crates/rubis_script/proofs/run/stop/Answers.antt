@@ -1,10 +1,11 @@
-use Rattle.std.proofs.Common.{◌≡◌, ◌∙◌, All, ap, arith, length, refl, subst, sym}
+use Rattle.std.proofs.Common.{◌≡◌, ◌∙◌, [], All, ap, arith, length, refl, subst, sym}
 use Rattle.rubis_reading.specs.Parsed.{FitsIn}
 use Rattle.rubis_reading.specs.Runs.{flat}
 use Rattle.rubis_reading.proofs.RunFacts.{window-singles}
 use Rattle.rubis_script.specs.Runs.{HasTaken}
 use Rattle.rubis_script.proofs.ChunkFacts.{first-taken}
 use Rattle.rubis_script.proofs.EndFacts.{ends_memory, ends_so}
+use Rattle.rubis_script.proofs.StepFacts.{prefix-none, taken-prefix}
 use Rattle.rubis_script.proofs.run.stop.Goals as goal
 
 pub answer_first-requires-clause-sound : goal.answer_first-requires-clause-sound
@@ -23,10 +24,13 @@ answer_first-requires-clause-more g c κs within =
     omega (arith, long, c.requires.more)
 
 pub returns-in_err-single : goal.returns-in_err-single
-returns-in_err-single g c = ends_memory _ _ _ c.from_residual.result c.from_residual.ensures refl
+returns-in_err-single g c =
+    ends_memory _ _ _ c.from_residual.result c.from_residual.ensures (prefix-none (flat c.args.ahead.now) c.args.desk.now _ _ refl)
 
 pub returns-in_err-answer_first : goal.returns-in_err-answer_first
-returns-in_err-answer_first g c = ends_memory _ _ _ c.from_residual-in_err-answer_first.result c.from_residual-in_err-answer_first.ensures refl
+returns-in_err-answer_first g c =
+    ends_memory _ _ _ c.from_residual-in_err-answer_first.result c.from_residual-in_err-answer_first.ensures
+    (prefix-none (flat c.args.ahead.now) c.args.desk.now _ _ refl)
 
 pub returns : goal.returns
 returns g c =
@@ -35,4 +39,7 @@ returns g c =
     let (taken, count) = c.in_ok-answer_first.ensures in
     ends_so c.settle.result (λ v (last, settled). first-taken c.args.left c.args.desk.now c.answer_first.new.desk c.settle.new.desk c.args.ahead.now (flat c.answer_first.new.ahead) now _
     (subst (λ l. HasTaken l c.args.desk.now c.answer_first.new.desk (flat c.answer_first.new.ahead) now now) same (taken now)) count c.requires.more last settled)
-    absurd absurd (λ stays. stays) c.settle.ensures
+    absurd absurd
+    (λ front. taken-prefix (flat c.args.ahead.now) (flat c.answer_first.new.ahead) [] (flat c.answer_first.new.ahead) c.args.desk.now c.answer_first.new.desk
+    now now _ (subst (λ l. HasTaken l c.args.desk.now c.answer_first.new.desk (flat c.answer_first.new.ahead) now now) same (taken now)) refl front)
+    c.settle.ensures

@@ -1,5 +1,8 @@
 use Rattle.std.proofs.Common.{◌≡◌, ◌+◌, ◌-◌, arith, false, refl, rules}
-use Rattle.rubis_script.proofs.ChunkFacts.{caught, cut-just, first-upto, prefix-ahead, prefix-stays, reads-after, reads-caught, reads-waited, still-pending}
+use Rattle.rubis_script.proofs.ChunkFacts.{caught, cut-just, first-upto, prefix-ahead, reads-after, reads-caught, reads-waited, still-pending}
+use Rattle.rubis_engine.specs.Text.{input_records}
+use Rattle.rubis_reading.specs.Runs.{flat}
+use Rattle.rubis_script.proofs.DrainFacts.{stands_broken}
 use Rattle.rubis_script.proofs.EndFacts.{ends_on, ends_write}
 use Rattle.rubis_script.proofs.StepFacts.{prefix-after}
 use Rattle.rubis_script.proofs.run.turn.Goals as goal
@@ -7,7 +10,7 @@ use Rattle.rubis_script.proofs.run.turn.Goals as goal
 pub returns-in_err-stop : goal.returns-in_err-stop
 returns-in_err-stop g c =
     ends_on _ _ c.from_residual.result c.in_err-stop.field-0.0 c.from_residual.ensures absurd absurd
-    (prefix-stays g.R.Read.remaining c.args.chunks.now c.args.desk.now c.args.ahead.now _ _) c.in_err-stop.ensures
+    (prefix-ahead g.R.Read.remaining c.args.chunks.now c.args.desk.now c.args.ahead.now _ _) c.in_err-stop.ensures
 
 pub returns-then-len-left : goal.returns-then-len-left
 returns-then-len-left g c first old input h =
@@ -21,8 +24,14 @@ returns-in_err-go_on g c =
 
 pub returns-in_err-drain_full : goal.returns-in_err-drain_full
 returns-in_err-drain_full g c =
-    ends_write _ _ _ _ c.from_residual-in_err-drain_full.result c.in_err-drain_full.field-0.0 c.from_residual-in_err-drain_full.ensures
+    let d = c.go_on.new.desk in
+    let reads = c.in_ok-go_on.ensures.0 in
+    ends_write _ _ _ c.from_residual-in_err-drain_full.result c.in_err-drain_full.field-0.0 c.from_residual-in_err-drain_full.ensures
     c.in_err-drain_full.ensures.faults
+    (λ first old input h.
+    let stands = reads.goes first old input h in
+    stands_broken d.site (flat c.go_on.new.ahead) d.window.items first old (g.W.Write.contents c.go_on.new.writer)
+    (g.W.Write.contents c.drain_full.new.writer) d.reply.sink d.answered (input_records input) stands.later c.in_err-drain_full.ensures.err stands.stands)
 
 pub returns-then-not-alone : goal.returns-then-not-alone
 returns-then-not-alone g c =

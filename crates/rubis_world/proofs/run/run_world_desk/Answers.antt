@@ -13,7 +13,7 @@ returns-clause-run g c =
     let run = c.new-run.ensures in
     ends_so g.R.Read.remaining c.new-run.result (told_by_world c.args.desk.now.world 1) c.args.limit (g.R.Read.remaining c.args.reader)
     (g.W.Write.contents c.args.writer.now) (g.W.Write.contents c.serve.new.writer) c.serve.result run.gives run.empty said.ok said.too_long said.read
-    said.memory
+    said.memory said.write
 
 pub returns-clause-leads : goal.returns-clause-leads
 returns-clause-leads g c =
@@ -27,7 +27,7 @@ returns-clause-text g c sites keep opened some few small =
     let run = c.new-run.ensures in
     let ended = ends_so g.R.Read.remaining c.new-run.result (told_by_world c.args.desk.now.world 1) c.args.limit (g.R.Read.remaining c.args.reader)
     (g.W.Write.contents c.args.writer.now) (g.W.Write.contents c.serve.new.writer) c.serve.result run.gives run.empty said.ok said.too_long said.read
-    said.memory in
+    said.memory said.write in
     tells_a_run sites keep some few small c.args.limit (g.R.Read.remaining c.args.reader) (g.W.Write.contents c.args.writer.now)
     (g.W.Write.contents c.serve.new.writer) c.serve.result
     (subst (λ (s : WorldState). IsRun (told_by_world s 1) c.args.limit (g.R.Read.remaining c.args.reader) (g.W.Write.contents c.args.writer.now)

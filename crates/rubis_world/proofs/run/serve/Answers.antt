@@ -43,6 +43,9 @@ returns-clause-read g c e input gives empty = c.stop.ensures.read e _ _ input (c
 pub returns-clause-memory : goal.returns-clause-memory
 returns-clause-memory g c e input gives empty = c.stop.ensures.memory e _ _ input (c.steps.invariant.stands input gives empty)
 
+pub returns-clause-write : goal.returns-clause-write
+returns-clause-write g c e input gives empty = c.stop.ensures.write e _ _ input (c.steps.invariant.stands input gives empty)
+
 pub returns-in-Some-clause-leads : goal.returns-in-Some-clause-leads
 returns-in-Some-clause-leads g c rows gives =
     let last = subst (λ (over : Option Count). LeadsOn g.R.Read.remaining c.steps.run c.answer_next.new.run c.steps.desk.world c.answer_next.new.desk.world
