@@ -21,7 +21,7 @@ _shop() {
     wait,*) [[ $at -eq 0 && $word != -* ]] && words='0 1 2 3 4 5 6 7 8 9 10 11 12 13 14 15' ;;&
     wait,*) [[ $word == -* ]] && words='--help --timeout' ;;&
     ask,*) [[ $at -eq 0 && $word != -* ]] && words='0 1 2 3 4 5 6 7 8 9 10 11 12 13 14 15' ;;&
-    ask,*) [[ $word == -* ]] && words='--help --json --raw --no-wait --published --timeout' ;;&
+    ask,*) [[ $word == -* ]] && words='--help --json --raw --no-wait --key --keys --published --timeout' ;;&
     pass,*) [[ $at -eq 0 && $word != -* ]] && words='0 1 2 3 4 5 6 7 8 9 10 11 12 13 14 15' ;;&
     pass,*) [[ $at -eq 1 && $word != -* ]] && words='0 1 2 3 4 5 6 7 8 9 10 11 12 13 14 15' ;;&
     pass,*) [[ $word == -* ]] && words='--help --timeout' ;;&

@@ -182,10 +182,11 @@ class Server:
         async def do(step: tuple[Any, ...]) -> Any:
             if not isinstance(step, SayAnswer):
                 return await self.shop.link.do(step)
-            return await say({"record": text_of(step.record), "lines": [text_of(line) for line in step.answer.lines]})
+            answer = {"record": text_of(step.record), "lines": [text_of(line) for line in step.answer.lines]}
+            return await say(answer | {"again": True} if step.is_again else answer)
 
         ask = Ask(site, seconds, asked.fetches_token)
-        await done(ask.run(asked.records), do)
+        await done(ask.run(asked.records, asked.names), do)
         if asked.published:
             await done(ask.published(), do)
 
