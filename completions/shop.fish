@@ -2,7 +2,7 @@
 complete -c shop -f
 complete -c shop -s h -l help -d 'Prints the help'
 complete -c shop -s C -x -a '(__fish_complete_directories)' -d 'The folder of the shop'
-set -l commands start run stop status log wait ask pass list show tables audit rebuild shorten carry adopt
+set -l commands start run stop status log wait ask pass list show tables audit serve rebuild shorten carry adopt
 complete -c shop -n "not __fish_seen_subcommand_from $commands" -a start -d 'start the sites of a shop in the background'
 complete -c shop -n "__fish_seen_subcommand_from start" -l sites -x -d 'how many sites the shop has, 1 to 16; 1 by default. It stays'
 complete -c shop -n "__fish_seen_subcommand_from start" -l here -x -d 'which of them run here; all by default'
@@ -69,6 +69,12 @@ complete -c shop -n "not __fish_seen_subcommand_from $commands" -a audit -d 'aud
 complete -c shop -n "__fish_seen_subcommand_from audit" -l save -r -F -d 'keep the logs in this file'
 complete -c shop -n "__fish_seen_subcommand_from audit" -l with -r -F -d 'logs of an earlier audit'
 complete -c shop -n "__fish_seen_subcommand_from audit" -l timeout -x -d 'seconds until it gives up; 600 by default'
+complete -c shop -n "not __fish_seen_subcommand_from $commands" -a serve -d 'serve the shop over HTTP: asks, rows, events, metrics and a page'
+complete -c shop -n "__fish_seen_subcommand_from serve" -s C -x -d 'the folder of the shop'
+complete -c shop -n "__fish_seen_subcommand_from serve" -l listen -x -d 'where it listens; 127.0.0.1:8080 by default. Others reach it only with a certificate and keys'
+complete -c shop -n "__fish_seen_subcommand_from serve" -l certificate -x -d 'its certificate and those above it, as PEM'
+complete -c shop -n "__fish_seen_subcommand_from serve" -l private-key -x -d 'the key of the certificate, as PEM'
+complete -c shop -n "__fish_seen_subcommand_from serve" -l keys-file -x -d 'who may do what: lines of what a bearer key may (read, ask, operate), and the key'
 complete -c shop -n "not __fish_seen_subcommand_from $commands" -a rebuild -d 'make the folder of a lost site again from what it sent; the shop here is stopped meanwhile'
 complete -c shop -n "__fish_seen_subcommand_from rebuild" -l anyway -d 'even where other sites are silent that may have more of it'
 complete -c shop -n "__fish_seen_subcommand_from rebuild" -a '0 1 2 3 4 5 6 7 8 9 10 11 12 13 14 15' -d 'site'

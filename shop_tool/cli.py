@@ -64,6 +64,7 @@ class CommandLine:
         self._life()
         self._asks()
         self._reading()
+        self._serving()
         self._care()
 
     def command(self, name: str, does: str, about: str, examples: str = "") -> argparse.ArgumentParser:
@@ -190,6 +191,19 @@ class CommandLine:
         parser.add_argument("--save", metavar="FILE", help="keep the logs in this file")
         parser.add_argument("--with", dest="logs", metavar="FILE", action="append", help="logs of an earlier audit")
         self.timeout(parser, 600)
+
+    def _serving(self) -> None:
+        about = "serve the shop over HTTP: asks, rows, events, metrics and a page"
+        parser = self.command("serve", "serving.serve", about, """\
+  shop serve                                       http://127.0.0.1:8080/ for this machine
+  shop serve --listen 0.0.0.0:443 --certificate shop.pem --private-key shop.key --keys-file keys
+""")
+        parser.add_argument("-C", dest="named", metavar="FOLDER", help="the folder of the shop")
+        parser.add_argument("--listen", metavar="HOST:PORT", default="127.0.0.1:8080",
+                            help="where it listens; 127.0.0.1:8080 by default. Others reach it only with a certificate and keys")
+        parser.add_argument("--certificate", metavar="FILE", help="its certificate and those above it, as PEM")
+        parser.add_argument("--private-key", metavar="FILE", help="the key of the certificate, as PEM")
+        parser.add_argument("--keys-file", metavar="FILE", help="who may do what: lines of what a bearer key may (read, ask, operate), and the key")
 
     def _care(self) -> None:
         about = "make the folder of a lost site again from what it sent; the shop here is stopped meanwhile"

@@ -1,6 +1,7 @@
 """A site's keeper: its process, which is started again whenever it ends, and the files of its folder."""
 
 import asyncio
+import collections
 import errno
 import os
 import time
@@ -37,6 +38,7 @@ class KeptSite(Site):
         super().__init__(shop, number, self._read_out, lambda name: file_at(f"{self.folder}/{name}"))
         self.since = stamp()
         self.process: asyncio.subprocess.Process | None = None
+        self.answers: collections.Counter[str] = collections.Counter()     # that askers were told, by what they are
         self._keys: int | None = None       # the file of keys, once there was one to write
 
     def _read_out(self, pieces: Sequence[tuple[int, int]]) -> list[bytes]:

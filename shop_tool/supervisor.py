@@ -140,7 +140,7 @@ class Supervisor(Shop):
             "waits": [waits.record for waits in waits_of(ledger.release, SHOWN_WAITS)], "answered": changed(f"{kept.folder}/out"),
             "sent": len(ledger.sends), "published": self.link.published(site), "waiting": len(site.line) + site.token_askers,
             "starts": site.starts, "pid": kept.process.pid if kept.process and kept.process.returncode is None else None,
-            "fault": " ".join(site.fault) if site.fault else None,
+            "fault": " ".join(site.fault) if site.fault else None, "faults": site.faults, "answers": dict(kept.answers),
         }
 
     async def status(self) -> tuple[bool, dict[str, Any]]:

@@ -79,6 +79,7 @@ class Site(abc.ABC):
         self.state = State.STARTING
         self.starts = 0
         self.fault: tuple[str, str] | None = None   # the last one: when, and what
+        self.faults = 0
         self.fenced_by: str | None = None
         self.line: collections.deque[Pending] = collections.deque()     # the first is answered next
         self.reader = AnswerReader()
@@ -184,6 +185,7 @@ class Site(abc.ABC):
         return True
 
     def note_fault(self, text: str) -> None:
+        self.faults += 1
         if not self.fenced_by or text == self.fenced_by:
             self.fault = self.shop.stamp(), text    # what a site says that is stopped for good isn't why
         self.shop.event(f"site {self.number}: {text}")
