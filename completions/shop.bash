@@ -11,7 +11,7 @@ _shop() {
     case $command,$before in
     *,-C | *,--save | *,--with) mapfile -t COMPREPLY < <(compgen -f -- "$word"); return ;;
     *,--over) words='files redis://' ;;
-    ,*) words='start run stop status log wait ask pass list show tables audit rebuild shorten carry adopt -C --help' ;;
+    ,*) words='start run stop status log wait ask pass list show tables audit serve rebuild shorten carry adopt -C --help' ;;
     start,*) [[ $word == -* ]] && words='--help --sites --here --over --sync --no-sync --alone --keep --batch --shards --workers --timeout' ;;&
     run,*) [[ $word == -* ]] && words='--help --sites --here --over --sync --no-sync --alone --keep --batch --shards --workers' ;;&
     stop,*) [[ $word == -* ]] && words='--help' ;;&
@@ -21,7 +21,7 @@ _shop() {
     wait,*) [[ $at -eq 0 && $word != -* ]] && words='0 1 2 3 4 5 6 7 8 9 10 11 12 13 14 15' ;;&
     wait,*) [[ $word == -* ]] && words='--help --timeout' ;;&
     ask,*) [[ $at -eq 0 && $word != -* ]] && words='0 1 2 3 4 5 6 7 8 9 10 11 12 13 14 15' ;;&
-    ask,*) [[ $word == -* ]] && words='--help --json --raw --no-wait --published --timeout' ;;&
+    ask,*) [[ $word == -* ]] && words='--help --json --raw --no-wait --key --keys --published --timeout' ;;&
     pass,*) [[ $at -eq 0 && $word != -* ]] && words='0 1 2 3 4 5 6 7 8 9 10 11 12 13 14 15' ;;&
     pass,*) [[ $at -eq 1 && $word != -* ]] && words='0 1 2 3 4 5 6 7 8 9 10 11 12 13 14 15' ;;&
     pass,*) [[ $word == -* ]] && words='--help --timeout' ;;&
@@ -34,6 +34,7 @@ _shop() {
     tables,*) [[ $at -eq 0 && $word != -* ]] && words='0 1 2 3 4 5 6 7 8 9 10 11 12 13 14 15' ;;&
     tables,*) [[ $word == -* ]] && words='--help --timeout' ;;&
     audit,*) [[ $word == -* ]] && words='--help --save --with --timeout' ;;&
+    serve,*) [[ $word == -* ]] && words='--help --listen --certificate --private-key --keys-file' ;;&
     rebuild,*) [[ $at -eq 0 && $word != -* ]] && words='0 1 2 3 4 5 6 7 8 9 10 11 12 13 14 15' ;;&
     rebuild,*) [[ $word == -* ]] && words='--help --anyway' ;;&
     shorten,*) [[ $at -eq 0 && $word != -* ]] && words='0 1 2 3 4 5 6 7 8 9 10 11 12 13 14 15' ;;&

@@ -2,7 +2,7 @@
 complete -c shop -f
 complete -c shop -s h -l help -d 'Prints the help'
 complete -c shop -s C -x -a '(__fish_complete_directories)' -d 'The folder of the shop'
-set -l commands start run stop status log wait ask pass list show tables audit rebuild shorten carry adopt
+set -l commands start run stop status log wait ask pass list show tables audit serve rebuild shorten carry adopt
 complete -c shop -n "not __fish_seen_subcommand_from $commands" -a start -d 'start the sites of a shop in the background'
 complete -c shop -n "__fish_seen_subcommand_from start" -l sites -x -d 'how many sites the shop has, 1 to 16; 1 by default. It stays'
 complete -c shop -n "__fish_seen_subcommand_from start" -l here -x -d 'which of them run here; all by default'
@@ -43,6 +43,8 @@ complete -c shop -n "not __fish_seen_subcommand_from $commands" -a ask -d 'ask a
 complete -c shop -n "__fish_seen_subcommand_from ask" -l json -d 'print an object for each answer'
 complete -c shop -n "__fish_seen_subcommand_from ask" -l raw -d 'print the lines of the site'
 complete -c shop -n "__fish_seen_subcommand_from ask" -l no-wait -d 'don\'t fetch the token: a site without it answers NoToken'
+complete -c shop -n "__fish_seen_subcommand_from ask" -l key -x -d 'of one record: asked again within a day under this key, it isn\'t accepted a second time, and gets the answer that it got'
+complete -c shop -n "__fish_seen_subcommand_from ask" -l keys -x -d 'of several records: the n-th has the key PREFIX.n'
 complete -c shop -n "__fish_seen_subcommand_from ask" -l published -d 'end only once the server, or over files another site, has what was accepted'
 complete -c shop -n "__fish_seen_subcommand_from ask" -l timeout -x -d 'seconds until it gives up; 10 by default'
 complete -c shop -n "__fish_seen_subcommand_from ask" -a '0 1 2 3 4 5 6 7 8 9 10 11 12 13 14 15' -d 'site'
@@ -67,6 +69,12 @@ complete -c shop -n "not __fish_seen_subcommand_from $commands" -a audit -d 'aud
 complete -c shop -n "__fish_seen_subcommand_from audit" -l save -r -F -d 'keep the logs in this file'
 complete -c shop -n "__fish_seen_subcommand_from audit" -l with -r -F -d 'logs of an earlier audit'
 complete -c shop -n "__fish_seen_subcommand_from audit" -l timeout -x -d 'seconds until it gives up; 600 by default'
+complete -c shop -n "not __fish_seen_subcommand_from $commands" -a serve -d 'serve the shop over HTTP: asks, rows, events, metrics and a page'
+complete -c shop -n "__fish_seen_subcommand_from serve" -s C -x -d 'the folder of the shop'
+complete -c shop -n "__fish_seen_subcommand_from serve" -l listen -x -d 'where it listens; 127.0.0.1:8080 by default. Others reach it only with a certificate and keys'
+complete -c shop -n "__fish_seen_subcommand_from serve" -l certificate -x -d 'its certificate and those above it, as PEM'
+complete -c shop -n "__fish_seen_subcommand_from serve" -l private-key -x -d 'the key of the certificate, as PEM'
+complete -c shop -n "__fish_seen_subcommand_from serve" -l keys-file -x -d 'who may do what: lines of what a bearer key may (read, ask, operate), and the key'
 complete -c shop -n "not __fish_seen_subcommand_from $commands" -a rebuild -d 'make the folder of a lost site again from what it sent; the shop here is stopped meanwhile'
 complete -c shop -n "__fish_seen_subcommand_from rebuild" -l anyway -d 'even where other sites are silent that may have more of it'
 complete -c shop -n "__fish_seen_subcommand_from rebuild" -a '0 1 2 3 4 5 6 7 8 9 10 11 12 13 14 15' -d 'site'

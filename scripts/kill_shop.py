@@ -8,7 +8,8 @@ Askers ask at random sites, red and blue asks, and write down what they were tol
 supervisor or the server. Over `everysec` and `always` there are two supervisors and a redis-server with that
 appendfsync; with `everysec` the server also loses the end of its file at times, as after a power failure. With --disks a site's folder is
 lost, and made again by `shop rebuild`. With --power `kept` and `out` lose their ends, and with --older a site's folder is put back to a
-copy that was made while it ran. --published: asks end only once another site, or the server, has them; with --disks, --power and --older
+copy that was made while it ran. Where no folder loses anything, half of the asks have keys: one that isn't answered is asked again under its
+key until it is, and some that were answered are asked once more, and have to get the same answer. --published: asks end only once another site, or the server, has them; with --disks, --power and --older
 what was told otherwise may be gone. With --elsewhere any supervisor is asked for any site.
 
 At the end a red ask at each site is accepted, all sites have equal logs as sets and equal tables, the audit says Agree, each accepted ask
@@ -42,6 +43,7 @@ from shop_tool.carrier.records import Message, ask_of, packet_of            # no
 PORT = 17300 + os.getpid() % 900
 # How often each kind of ask is made.
 KINDS = {"user": 4, "item": 4, "bid": 6, "comment": 6, "buy": 2, "restock": 2, "close": 1, "list": 1}
+TRIES = 1000        # how often one is asked again under its key at most: some time after the last kill
 # Asks that are one of their kind, so that they can be counted in the logs.
 COUNTED = ("user", "item", "comment", "bid", "restock")
 
@@ -59,6 +61,8 @@ class Asked:
         self.users: list[str] = []
         self.items: list[tuple[str, str]] = []              # with their sellers
         self.bad: list[str] = []
+        self.again = 0                                      # asked again under their keys, since no answer had come
+        self.same = 0                                       # and once more, after the answer
 
 
 class Asker(threading.Thread):
@@ -71,13 +75,32 @@ class Asker(threading.Thread):
     def run(self) -> None:
         while not self.trial.ending.is_set():
             self.turn += 1
-            record = self.record()
-            began = time.monotonic()
+            record, site = self.record(), self.dice.randrange(self.trial.args.sites)
+            if self.trial.has_keys and self.dice.random() < 0.5:
+                self.ask_by_key(site, record, f"{self.number}.{self.turn}")
+                continue
             try:
-                self.ask(self.dice.randrange(self.trial.args.sites), record)
-                self.trial.asked.seconds.append(time.monotonic() - began)
+                self.ask(site, record)
             except Fault as fault:
                 self.told_fault(record, fault)
+
+    def ask_by_key(self, site: int, record: str, key: str) -> None:
+        """Asks until an answer comes, and then maybe once more, when the answer has to be the same."""
+        asked, first = self.trial.asked, None
+        for turn in range(TRIES):
+            try:
+                lines = self.ask(site, record, key)
+            except Fault as fault:
+                self.note_fault(fault)
+                asked.again += first is None
+                continue
+            if first and lines != first:
+                asked.bad.append(f"{record} was answered {first} under its key, and then {lines}")
+            if first or self.dice.random() < 0.7:
+                asked.same += first is not None
+                return
+            first = lines
+        asked.open += first is None
 
     def record(self) -> str:
         asked, dice, tag = self.trial.asked, self.dice, f"{self.number}x{self.turn}"
@@ -95,17 +118,19 @@ class Asker(threading.Thread):
             "restock": f"restock,{item},{seller},{self.number * 10000 + self.turn % 10000 + 1}",
             "close": f"close,{item},{seller}", "list": "list,categories"}[kind]
 
-    def ask(self, site: int, record: str) -> None:
-        args, asked = self.trial.args, self.trial.asked
-        request = {"op": "ask", "site": site, "records": [record], "timeout": args.timeout, "fetch": True, "published": args.published}
+    def ask(self, site: int, record: str, key: str | None = None) -> list[str]:
+        args, asked, began = self.trial.args, self.trial.asked, time.monotonic()
+        request = {"op": "ask", "site": site, "records": [record], "keys": [key] if key else None, "timeout": args.timeout, "fetch": True,
+                   "published": args.published}
         folder = self.dice.choice(list(self.trial.parts)) if args.elsewhere else self.trial.folder_of(site)
         answers = list(client.call(folder, request, 60))
         client.raise_fault(answers[-1])
-        lines = answers[0]["lines"]
+        asked.seconds.append(time.monotonic() - began)
+        lines: list[str] = answers[0]["lines"]
         head = lines[0].split(",")
         if head[2] == "refused":
             asked.refused[head[4]] += 1
-        elif head[2] == "ok":
+        elif head[2] == "ok" and asked.accepted.get(head[3], ("", ""))[0] != (key and record):
             if head[3] in asked.accepted:
                 asked.bad.append(f"{head[3]} was given to {record} and to {asked.accepted[head[3]][0]}")
             asked.accepted[head[3]] = (record, lines[1][5:])
@@ -113,6 +138,7 @@ class Asker(threading.Thread):
                 asked.users.append(head[3])
             elif record.startswith("item"):
                 asked.items.append((head[3], record.split(",")[1]))
+        return lines
 
     def told_fault(self, record: str, fault: Fault) -> None:
         asked = self.trial.asked
@@ -120,6 +146,10 @@ class Asker(threading.Thread):
             asked.never.append(record)
         else:
             asked.open += 1
+        self.note_fault(fault)
+
+    def note_fault(self, fault: Fault) -> None:
+        asked = self.trial.asked
         asked.faults[re.sub(r"\(.*?\)|[0-9T:+.-]*[0-9]", "N", fault.text.replace(str(self.trial.folder), ".."))[:100]] += 1
         if any(words in fault.text for words in ("running", "ended", "takes no requests")):
             time.sleep(0.05)
@@ -130,6 +160,7 @@ class Trial:
         self.args, self.folder = args, folder
         self.dice = random.Random(args.seed)
         self.asked, self.ending = Asked(), threading.Event()
+        self.has_keys = not (args.disks or args.power or args.older)
         self.kills: collections.Counter[str] = collections.Counter()
         half = args.sites // 2
         groups = [range(args.sites)] if args.over == "files" else [range(half), range(half, args.sites)]
@@ -328,6 +359,7 @@ class Trial:
         return {
             "over": self.args.over, "seed": self.args.seed, "kills": dict(self.kills),
             "asks answered": len(spans), "accepted": len(asked.accepted), "not told": asked.open,
+            "asked again by key": asked.again, "and after the answer": asked.same,
             "of these accepted": len(messages[0]) - len(asked.accepted), "told: not accepted": len(asked.never),
             "refused": dict(asked.refused), "faults told": dict(asked.faults), "token passes": passes, "messages": len(messages[0]),
             "answered within ms (half, 99 of 100, all)": [round(1000 * seconds) for seconds in within],

@@ -50,7 +50,7 @@ CHECKED = {
 }
 
 # Settings that change no answer.
-SETTINGS = [
+SETTINGS: list[dict[str, str]] = [
     {},
     {"--batch": "1", "--shards": "1", "--workers": "1"},
     {"--batch": "7", "--shards": "5", "--workers": "2"},
@@ -256,7 +256,7 @@ def ending_what_runs_in(folder: str) -> Iterator[None]:
 def play_examples(program: pathlib.Path, path: pathlib.Path, name: str) -> tuple[int, int]:
     """Runs the examples of a page; how many were run, and how many were skipped."""
     examples = examples_of(path)
-    skipped, told = 0, []
+    skipped, told = 0, list[str]()
     paths = os.pathsep.join([os.environ.get("PATH", os.defpath), "/usr/sbin"])
     with tempfile.TemporaryDirectory() as folder, tempfile.TemporaryFile() as written, ending_what_runs_in(folder):
         os.symlink(program, pathlib.Path(folder) / "rubis")

@@ -177,6 +177,7 @@ def test_records_on_standard_input(at: Folder) -> None:
     answers = at.run("seq -f bid,0.3,0.2,1%05.0f 2500 | ./shop -C auction ask 0 -").split()
     expect(answers == [f"ok,0.{number}" for number in range(4, 2504)], "the answers")
     at.run("printf 'user,cat\\r\\nuser,\"eve\\n' | ./shop -C auction ask 0 -", 2, "its quotes don't close")
+    at.run("printf 'user,cat\\n\\nuser,dan\\n' | ./shop -C auction ask 0 -", 2, "line 2: '': an empty line is no record; nothing was asked")
     expect("cat" not in at.shop("list 0 users"), "nothing of that piece was asked")
     at.run("printf 'user,cat\\r\\nuser,dan' | ./shop -C auction ask 0 -")
     at.run("printf 'user,\\377\\n' | ./shop -C auction ask 0 -", 1)
@@ -210,6 +211,64 @@ def test_rows(at: Folder) -> None:
     count = at.run(f"{PYTHON} -c 'import sqlite3, sys; d = sqlite3.connect(\":memory:\"); d.executescript(sys.stdin.read()); "
                    "print(d.execute(\"select name, stock, winner from item\").fetchall())' <<'END'\n" + sql + "END\n")
     expect(count == "[('a \"blue\" lamp, it\\'s old', 1, None)]\n", f"from the database: {count}")
+
+
+def test_keys(at: Folder) -> None:
+    """An ask is accepted once under its key and always gets that answer, whatever is killed in between; another record is refused."""
+    at.run("./shop start auction --sites 2")
+    expect(at.shop("ask 0 user,ann --key a") == "ok,0.1\n" == at.shop("ask 0 user,ann --key a"), "asked again")
+    expect(at.shop("ask 0 user,bob --key a", 1, "another record was asked under that key") == "refused,40,KeyTaken\n", "another record")
+    at.shop("ask 0 user,bob user,cat --key b", 2, "--key is for one record")
+    at.shop(f"ask 0 user,bob --key {'x' * 256}", 2, "a key has 1 to 255 printable ASCII characters")
+    lamp = "item,0.1,lamp,7,3,100,80"
+    expect(at.shop(f"ask 0 user,bob {lamp} --keys m") == "ok,0.2\nok,0.3\n", "keys of several")
+    expect(at.shop("ask 0 user,ann --key b", 1) == at.shop("ask 0 user,ann --key b", 1) == "refused,5,NickTaken\n", "a refusal")
+    at.kill(at.site(0)["pid"])
+    expect(at.shop(f"ask 0 user,bob {lamp} user,cat --keys m") == "ok,0.2\nok,0.3\nok,0.4\n", "the keeper was killed")
+    at.kill(at.status()["pid"])
+    at.run("./shop start auction")
+    expect(at.shop("ask 0 user,ann --key a") == "ok,0.1\n", "the supervisor was killed")
+    expect(at.shop("ask 1 user,dan --key a --raw") == at.shop("ask 1 user,dan --key a --raw"), "a key of another site, where the token comes")
+    said = at.said(b'{"op": "ask", "site": 1, "records": ["user,dan"], "keys": ["a"], "timeout": 5, "fetch": true}')
+    expect(said[0]["again"] and said[0]["lines"][0].endswith("ok,1.1"), f"it says that this was the answer before: {said}")
+    _keys_of_asks_under_way(at)
+    at.shop("stop")
+    log = at.text("auction/0/kept").splitlines()
+    expect(at.shop("shorten 0").startswith("site 0: "), "shortened")
+    at.run("./shop start auction")
+    expect(at.shop("ask 0 user,ann --key b", 1) == "refused,5,NickTaken\n", "a refusal that was taken out")
+    expect(at.shop(f"ask 0 user,bob {lamp} user,cat --keys m") == "ok,0.2\nok,0.3\nok,0.4\n", "shortened")
+    at.shop("stop")
+    at.shop("rebuild 0")
+    at.run("./shop start auction")
+    expect(at.shop(f"ask 0 user,bob {lamp} user,cat --keys m") == "ok,0.2\nok,0.3\nok,0.4\n", "made again")
+    for record in ("user,ann", "user,bob", "user,cat", lamp, "user,eve", "user,fay"):
+        made = [line for line in at.text("auction/0/out").splitlines() if line.startswith("send,msg,") and line.endswith("," + record)]
+        expect(len(made) == 1, f"{record} was accepted {len(made)} times: {log}")
+    expect(at.shop("audit") == "audit,Agree\n", "the audit")
+    os.unlink(at.path / "auction/0/keys")
+    at.shop("stop")
+    at.run("./shop start auction")
+    os.mkdir(at.path / "auction/0/keys")
+    at.shop("ask 0 user,gus --key g", 3, "its keys can't be written (Is a directory); nothing was given to it")
+    os.rmdir(at.path / "auction/0/keys")
+    expect(at.shop("ask 0 user,gus --key g").startswith("ok,"), "once it can")
+
+
+def _keys_of_asks_under_way(at: Folder) -> None:
+    """An ask that its keeper got and didn't keep is given again, once; one that it kept is answered."""
+    keeper = at.site(0)["pid"]
+    os.kill(keeper, signal.SIGSTOP)
+    at.shop("ask 0 user,eve --key e --timeout 0.3", 3, "it may still be accepted")
+    at.shop("ask 0 user,eve --key e --timeout 0.3", 3, "whether what was asked under its key is accepted isn't known yet")
+    os.kill(keeper, signal.SIGCONT)
+    first = at.shop("ask 0 user,eve --key e")
+    expect(first.startswith("ok,") and first == at.shop("ask 0 user,eve --key e"), f"once it goes on: {first}")
+    os.kill(keeper, signal.SIGSTOP)
+    at.shop("ask 0 user,fay --key f --timeout 0.3", 3, "it may still be accepted")
+    at.kill(keeper)
+    first = at.shop("ask 0 user,fay --key f")
+    expect(first.startswith("ok,") and first == at.shop("ask 0 user,fay --key f"), f"it was never kept: {first}")
 
 
 def test_log(at: Folder) -> None:

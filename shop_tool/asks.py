@@ -21,19 +21,41 @@ def ask(args: argparse.Namespace) -> int:
         raise Fault(Status.MISUSE, "there is no record to ask")
     printer = Printer(args)
     given = [[os.fsencode(record) for record in args.records]] if args.records != ["-"] else _pieces_of(sys.stdin.fileno())
-    for records in given:
-        for record in records:
-            if why := why_not_one_record(record):
-                asked = f"nothing was asked after the first {printer.count}" if printer.count else "nothing was asked"
-                raise Fault(Status.MISUSE, f"{text_of(record[:80])!r}: {why}; {asked}")
-        request = {
-            "op": "ask", "site": args.site, "records": [text_of(record) for record in records], "timeout": args.timeout,
-            "fetch": not args.no_wait, "published": args.published}
-        for answer in client.call(args.folder, request):
-            client.raise_fault(answer)
-            if not answer.get("end"):
-                printer.show(answer["record"], answer["lines"])
+    try:
+        for records in given:
+            for answer in client.call(args.folder, _request(args, records, printer.count)):
+                client.raise_fault(answer)
+                if not answer.get("end"):
+                    printer.show(answer["record"], answer["lines"])
+    except Fault as fault:
+        raise Fault(fault.status, fault.text + _how_far(args, printer.count)) from None
     return printer.status
+
+
+def _request(args: argparse.Namespace, records: list[bytes], before: int) -> dict[str, Any]:
+    """The request that asks some records, behind others."""
+    for number, record in enumerate(records, before + 1):
+        if why := why_not_one_record(record):
+            where = f"line {number}: " if args.records == ["-"] else ""
+            asked = "nothing more was asked" if before else "nothing was asked"
+            raise Fault(Status.MISUSE, f"{where}{text_of(record[:80])!r}: {why}; {asked}")
+    request = {
+        "op": "ask", "site": args.site, "records": [text_of(record) for record in records], "timeout": args.timeout,
+        "fetch": not args.no_wait, "published": args.published}
+    if args.key is not None:
+        if before + len(records) > 1:
+            raise Fault(Status.MISUSE, "--key is for one record; --keys gives each of several its own; nothing was asked")
+        request["keys"] = [args.key]
+    if args.keys is not None:
+        request["keys"] = [f"{args.keys}.{number}" for number in range(before + 1, before + 1 + len(records))]
+    return request
+
+
+def _how_far(args: argparse.Namespace, answered: int) -> str:
+    """How far an ask of several records came that was cut."""
+    if not answered:
+        return ""
+    return f" (answered: the first {answered})" + ("; the same command again goes on" if args.keys is not None else "")
 
 
 def _pieces_of(file: int) -> Iterator[list[bytes]]:
@@ -93,4 +115,5 @@ class Printer:
 def pass_token(args: argparse.Namespace) -> int:
     """Hands the token on by hand; asks fetch it by themselves."""
     args.records, args.json, args.raw, args.no_wait, args.published = [f"pass,{args.to}"], False, False, True, False
+    args.key = args.keys = None
     return ask(args)

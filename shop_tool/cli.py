@@ -64,6 +64,7 @@ class CommandLine:
         self._life()
         self._asks()
         self._reading()
+        self._serving()
         self._care()
 
     def command(self, name: str, does: str, about: str, examples: str = "") -> argparse.ArgumentParser:
@@ -134,6 +135,8 @@ class CommandLine:
   shop ask 0 - < records            the records on standard input, one a line
   shop ask 1 bid,0.3,0.2,500        a site that needs the token fetches it
   shop ask 1 list,bids,0.3
+  shop ask 0 bid,0.3,0.2,500 --key order-17         said again, it is the same bid, and gets the same answer
+  shop ask 0 - --keys monday < records              the same for each record; one that was cut goes on
 """)
         self.site(parser)
         parser.add_argument("records", metavar="RECORD", nargs="*", help="a request or a listing; - reads them from standard input")
@@ -141,6 +144,10 @@ class CommandLine:
         shown.add_argument("--json", action="store_true", help="print an object for each answer")
         shown.add_argument("--raw", action="store_true", help="print the lines of the site")
         parser.add_argument("--no-wait", action="store_true", help="don't fetch the token: a site without it answers NoToken")
+        keys = parser.add_mutually_exclusive_group()
+        keys.add_argument("--key", metavar="KEY", help="of one record: asked again within a day under this key, it isn't accepted a second "
+                          "time, and gets the answer that it got")
+        keys.add_argument("--keys", metavar="PREFIX", help="of several records: the n-th has the key PREFIX.n")
         published = "end only once the server, or over files another site, has what was accepted"
         parser.add_argument("--published", action="store_true", help=published)
         self.timeout(parser, 10)
@@ -184,6 +191,19 @@ class CommandLine:
         parser.add_argument("--save", metavar="FILE", help="keep the logs in this file")
         parser.add_argument("--with", dest="logs", metavar="FILE", action="append", help="logs of an earlier audit")
         self.timeout(parser, 600)
+
+    def _serving(self) -> None:
+        about = "serve the shop over HTTP: asks, rows, events, metrics and a page"
+        parser = self.command("serve", "serving.serve", about, """\
+  shop serve                                       http://127.0.0.1:8080/ for this machine
+  shop serve --listen 0.0.0.0:443 --certificate shop.pem --private-key shop.key --keys-file keys
+""")
+        parser.add_argument("-C", dest="named", metavar="FOLDER", help="the folder of the shop")
+        parser.add_argument("--listen", metavar="HOST:PORT", default="127.0.0.1:8080",
+                            help="where it listens; 127.0.0.1:8080 by default. Others reach it only with a certificate and keys")
+        parser.add_argument("--certificate", metavar="FILE", help="its certificate and those above it, as PEM")
+        parser.add_argument("--private-key", metavar="FILE", help="the key of the certificate, as PEM")
+        parser.add_argument("--keys-file", metavar="FILE", help="who may do what: lines of what a bearer key may (read, ask, operate), and the key")
 
     def _care(self) -> None:
         about = "make the folder of a lost site again from what it sent; the shop here is stopped meanwhile"

@@ -50,11 +50,7 @@ def call(folder: str, request: dict[str, Any], seconds: float | None = None) -> 
     until = time.monotonic() + seconds + MARGIN if seconds else None
     line = connect(folder, min(CONNECT_SECONDS, seconds + MARGIN) if seconds else CONNECT_SECONDS)
     if line is None:
-        if not os.path.isdir(folder):
-            raise Fault(Status.AWAY, f"{folder}: there is no shop (shop start)")
-        holder = holder_of(folder)
-        why = f"takes no requests: {holder} holds it, which is about to begin or to end" if holder else "is not running (shop start)"
-        raise Fault(Status.AWAY, f"{folder} {why}")
+        raise away(folder)
     with line, line.makefile("rb") as answers:
         try:
             line.settimeout(left(until) if until else None)
@@ -70,6 +66,15 @@ def call(folder: str, request: dict[str, Any], seconds: float | None = None) -> 
         except OSError:
             pass
     raise Fault(Status.AWAY, f"the supervisor of {folder} ended before it answered{unanswered(request) or ' (shop log)'}")
+
+
+def away(folder: str) -> Fault:
+    """That the shop in a folder has no supervisor that could be reached."""
+    if not os.path.isdir(folder):
+        return Fault(Status.AWAY, f"{folder}: there is no shop (shop start)")
+    holder = holder_of(folder)
+    why = f"takes no requests: {holder} holds it, which is about to begin or to end" if holder else "is not running (shop start)"
+    return Fault(Status.AWAY, f"{folder} {why}")
 
 
 def left(until: float) -> float:

@@ -16,6 +16,7 @@ from .carrier.rebuilding import UNCHANGED, Given, Rebuild, adopted
 from .carrier.steps import CallAll, KeptOf, Replay, Result, SeenHere, SentHere, Steps, Swap, TakePlace
 from .ends import Fault, Status
 from .folders import synced
+from .kept_keys import has_keys, put_fixed_keys
 from .link import kept_of
 from .lives import Seen, lives_of, take_place
 from .signals import done
@@ -77,6 +78,7 @@ class Stopped:
                 return replayed(site, records, self.folder, self.now)
             case Swap(site, starts):
                 take_place(f"{self.folder}/{site}.new", max(starts, len(lives_of(f"{self.folder}/{site}"))))
+                keep_keys(f"{self.folder}/{site}")
                 self.lost = swapped(self.folder, site)
                 return None
             case TakePlace(site, starts):
@@ -101,6 +103,13 @@ def replayed(site: int, steps: list[Given], folder: str, now: settings.Settings)
         raise Fault(Status.REFUSED, f"the site in {new} ended with status {done.returncode}: {UNCHANGED}")
     for name in ("kept", "out", ""):
         synced(f"{new}/{name}")
+
+
+def keep_keys(folder: str) -> None:
+    """Takes the keys of a folder along to the one that takes its place, as far as their answers are known and true there."""
+    with contextlib.suppress(OSError, ValueError):      # it lost what it takes to know them
+        if has_keys(folder):
+            put_fixed_keys(folder, f"{folder}.new", {text for _, text in sends_of(lines_of(f"{folder}.new/out"))})
 
 
 def swapped(folder: str, site: int) -> str | None:

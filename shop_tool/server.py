@@ -1,6 +1,9 @@
-"""What the supervisor answers on the socket in its folder: one request a connection, a line of JSON, and answers of a line each."""
+"""What the supervisor answers on the socket in its folder: a request is a line of JSON, and so is each answer to it; the last one has `end`.
+A connection has one request, or, after a line {"op": "several"}, many at once: each has a number `call`, which its answers have too, and
+{"leave": CALL} leaves one."""
 
 import asyncio
+import functools
 import json
 import os
 import time
@@ -24,6 +27,9 @@ from .supervisor import Supervisor
 CONNECTIONS = 500
 READER_SECONDS = 60.0       # a client that takes in nothing for so long is cut off
 REFUSE_SECONDS = 2.0        # how long one that is too many has to say what it wants
+UNREAD_BYTES = 1 << 16      # how much may wait for a client to read it, before it is waited for
+SEVERAL = b'{"op": "several"}\n'
+AT_ONCE = 4000              # how many requests of such a connection are under way at once
 LISTINGS = 4                # how many long answers are made at once, since each is in memory whole
 AUDITED = [b"list,log", b"list,tables"]
 
@@ -58,10 +64,7 @@ class Server:
             writer.close()
 
     async def _connected(self, reader: asyncio.StreamReader, writer: asyncio.StreamWriter) -> None:
-        async def say(answer: dict[str, Any]) -> None:
-            writer.write(json.dumps(answer).encode() + b"\n")
-            await asyncio.wait_for(writer.drain(), READER_SECONDS)
-
+        say = functools.partial(said, writer, {})
         self.connections.add(writer)
         try:
             is_one_too_many = len(self.connections) > CONNECTIONS
@@ -73,6 +76,8 @@ class Server:
                 return
             if is_one_too_many:
                 return await say(end_of(Fault(Status.AWAY, f"{CONNECTIONS} others are connected; nothing was asked")))
+            if line == SEVERAL:
+                return await self._serve_several(reader, writer)
             serving = asyncio.create_task(self._serve_line(line, reader, say))
             # A client that goes takes its request along, unless a site has it already.
             gone = asyncio.create_task(reader.read(1))
@@ -86,6 +91,31 @@ class Server:
         finally:
             self.connections.discard(writer)
             writer.close()
+
+    async def _serve_several(self, reader: asyncio.StreamReader, writer: asyncio.StreamWriter) -> None:
+        """Answers requests as they come, many at once. A client that goes takes along what no site has yet."""
+        serving: dict[int, asyncio.Task[None]] = {}
+        try:
+            while (line := await reader.readline()).endswith(b"\n"):
+                request = request_of(line)
+                if "leave" in request:
+                    if task := serving.get(field(request, "leave", int)):
+                        task.cancel()       # one that has just ended isn't there any more
+                elif (name := field(request, "call", int)) in serving:
+                    raise no_request("its `call` is that of another one")
+                elif len(serving) == AT_ONCE:
+                    await said(writer, {"call": name}, end_of(Fault(Status.AWAY, f"{AT_ONCE} requests are under way; nothing was asked")))
+                else:
+                    serving[name] = task = asyncio.create_task(self.serve(request, functools.partial(said, writer, {"call": name})))
+                    task.add_done_callback(functools.partial(forget, serving, name))
+        except Fault as fault:
+            await said(writer, {}, end_of(fault))
+        except ValueError:
+            await said(writer, {}, end_of(no_request(f"it has more than {REQUEST_BYTES} bytes")))
+        finally:
+            for task in serving.values():
+                task.cancel()
+            await asyncio.gather(*serving.values(), return_exceptions=True)
 
     async def _refuse_long(self, reader: asyncio.StreamReader, say: Say) -> None:
         """Reads the rest, since a client that is writing still wouldn't see the answer."""
@@ -182,10 +212,12 @@ class Server:
         async def do(step: tuple[Any, ...]) -> Any:
             if not isinstance(step, SayAnswer):
                 return await self.shop.link.do(step)
-            return await say({"record": text_of(step.record), "lines": [text_of(line) for line in step.answer.lines]})
+            site.answers[step.answer.refusal or step.answer.kind.decode()] += 1
+            answer = {"record": text_of(step.record), "lines": [text_of(line) for line in step.answer.lines]}
+            return await say(answer | {"again": True} if step.is_again else answer)
 
         ask = Ask(site, seconds, asked.fetches_token)
-        await done(ask.run(asked.records), do)
+        await done(ask.run(asked.records, asked.names), do)
         if asked.published:
             await done(ask.published(), do)
 
@@ -270,6 +302,19 @@ class Server:
             if site.fenced_by or self.shop.stopping.is_set:
                 raise Fault(Status.AWAY, f"site {site.number}: {site.fenced_by or 'the shop is being stopped'}")
             await waited(self.shop.changes)
+
+
+async def said(writer: asyncio.StreamWriter, name: dict[str, Any], answer: dict[str, Any]) -> None:
+    """Says an answer, under the number of its request if that has one."""
+    writer.write(json.dumps(name | answer).encode() + b"\n")
+    if writer.transport.get_write_buffer_size() > UNREAD_BYTES:
+        await asyncio.wait_for(writer.drain(), READER_SECONDS)
+
+
+def forget(serving: "dict[int, asyncio.Task[None]]", name: int, task: "asyncio.Task[None]") -> None:
+    del serving[name]
+    if not task.cancelled():
+        task.exception()        # the client has gone, or reads nothing
 
 
 def end_of(fault: Fault | None) -> dict[str, Any]:

@@ -5,6 +5,7 @@ import subprocess
 
 from . import program
 from .ends import Fault, Status
+from .kept_keys import has_keys, put_fixed_keys
 from .site import keep_command
 from .stopped import stopped_shop
 
@@ -15,11 +16,18 @@ def shorten(args: argparse.Namespace) -> int:
     kept = f"{args.folder}/{args.site}/kept"
     before = count_lines(kept)
     command = keep_command(f"{args.folder}/{args.site}", args.site, now, program.path())
-    done = subprocess.run([*command, "--shorten"], stdin=subprocess.DEVNULL, capture_output=True, text=True)
-    if done.returncode:
-        raise Fault(Status.REFUSED, f"site {args.site}: {done.stderr.strip() or f'ended with status {done.returncode}'}; it is as it was")
+    if has_keys(f"{args.folder}/{args.site}"):
+        _run(args.site, command)        # completes `out`, where their answers are found by numbers that change now
+        put_fixed_keys(f"{args.folder}/{args.site}", f"{args.folder}/{args.site}")
+    _run(args.site, [*command, "--shorten"])
     print(f"site {args.site}: {count_lines(kept)} of {before} records are left")
     return Status.WELL
+
+
+def _run(site: int, command: list[str]) -> None:
+    done = subprocess.run(command, stdin=subprocess.DEVNULL, capture_output=True, text=True)
+    if done.returncode:
+        raise Fault(Status.REFUSED, f"site {site}: {done.stderr.strip() or f'ended with status {done.returncode}'}; it is as it was")
 
 
 def count_lines(path: str) -> int:

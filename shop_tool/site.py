@@ -1,6 +1,7 @@
 """A site's keeper: its process, which is started again whenever it ends, and the files of its folder."""
 
 import asyncio
+import collections
 import errno
 import os
 import time
@@ -10,7 +11,7 @@ from typing import TYPE_CHECKING, Any
 
 from .carrier.files import File
 from .carrier.site import FIRST_WAIT, LAST_WAIT, Disagreement, Site, State
-from .folders import put
+from .folders import put, synced
 from .settings import Settings
 from .signals import done, waited
 from .times import stamp
@@ -19,6 +20,7 @@ if TYPE_CHECKING:
     from .supervisor import Supervisor
 
 PIECE = 1 << 16
+KEYS = "keys"           # the file in a site's folder that has the keys of asks
 FENCED = "fenced"       # the file in a site's folder that says why it is never started again
 
 
@@ -36,6 +38,8 @@ class KeptSite(Site):
         super().__init__(shop, number, self._read_out, lambda name: file_at(f"{self.folder}/{name}"))
         self.since = stamp()
         self.process: asyncio.subprocess.Process | None = None
+        self.answers: collections.Counter[str] = collections.Counter()     # that askers were told, by what they are
+        self._keys: int | None = None       # the file of keys, once there was one to write
 
     def _read_out(self, pieces: Sequence[tuple[int, int]]) -> list[bytes]:
         return read_pieces(f"{self.folder}/out", pieces)
@@ -120,6 +124,26 @@ class KeptSite(Site):
     def write(self, data: bytes) -> None:
         if self.process and self.process.stdin:
             self.process.stdin.write(data)
+
+    def write_keys(self, lines: bytes) -> None:
+        if self._keys is None:
+            self._keys = os.open(f"{self.folder}/{KEYS}", os.O_WRONLY | os.O_CREAT | os.O_APPEND, 0o600)
+            synced(self.folder)
+        size = os.fstat(self._keys).st_size
+        try:
+            if os.write(self._keys, lines) < len(lines):
+                raise OSError(errno.ENOSPC, os.strerror(errno.ENOSPC))
+            if self.shop.settings.sync:
+                os.fdatasync(self._keys)
+        except OSError:
+            os.ftruncate(self._keys, size)      # else the next line would begin behind a part of these
+            raise
+
+    def put_keys(self, lines: bytes) -> None:
+        put(f"{self.folder}/{KEYS}", lines.decode())
+        if self._keys is not None:
+            os.close(self._keys)
+            self._keys = None
 
     def write_fence(self, text: str) -> None:
         try:

@@ -19,7 +19,7 @@ from .lock import take_lock
 from .render import shown
 from .settings import FILES, Settings, write
 from .signals import done, is_over_within, waited
-from .site import FENCED, KeptSite, lines_of
+from .site import FENCED, KEYS, KeptSite, lines_of
 from .times import changed, stamp
 from .witness import Witness, has_all, witnessed
 
@@ -72,11 +72,14 @@ class Supervisor(Shop):
         from .stream_link import StreamLink
         return StreamLink(self)
 
-    now = staticmethod(time.monotonic)
+    now, unix_time = staticmethod(time.monotonic), staticmethod(time.time)
     stamp = staticmethod(stamp)
 
     def later(self, seconds: float, call: Callable[[], None]) -> None:
         asyncio.get_running_loop().call_later(seconds, call)
+
+    def soon(self, call: Callable[[], None]) -> None:
+        asyncio.get_running_loop().call_soon(call)
 
     def begin(self, steps: Steps[None]) -> None:
         self.task(done(steps, self.link.do), is_needed=False)
@@ -137,7 +140,7 @@ class Supervisor(Shop):
             "waits": [waits.record for waits in waits_of(ledger.release, SHOWN_WAITS)], "answered": changed(f"{kept.folder}/out"),
             "sent": len(ledger.sends), "published": self.link.published(site), "waiting": len(site.line) + site.token_askers,
             "starts": site.starts, "pid": kept.process.pid if kept.process and kept.process.returncode is None else None,
-            "fault": " ".join(site.fault) if site.fault else None,
+            "fault": " ".join(site.fault) if site.fault else None, "faults": site.faults, "answers": dict(kept.answers),
         }
 
     async def status(self) -> tuple[bool, dict[str, Any]]:
@@ -187,6 +190,7 @@ class Supervisor(Shop):
             site.lives = begin_life(site.folder)
         except OSError as fault:
             return site.fence(f"{site.folder}/life: {fault.strerror}")
+        site.keys.read(lines_of(f"{site.folder}/{KEYS}"), self.unix_time())
         if why := next(lines_of(f"{site.folder}/{FENCED}"), b""):
             site.fence(text_of(why.rstrip()))
         self.begin_site(site, answered if has_all(kept, answered) else None)

@@ -2,6 +2,7 @@
 
 import functools
 import random
+from collections.abc import Callable
 from typing import TYPE_CHECKING, Any
 
 from shop_tool.carrier.records import bytes_of, text_of
@@ -12,6 +13,7 @@ if TYPE_CHECKING:
     from .clock import Task
     from .world import World
 
+KEYED_TRIES = 4         # how often one asks again once it was answered; three times as often before
 MARGIN = 2.0            # as the client's: seconds beyond its time-out that a request has
 NOTHING = ("nothing was given to it", "nothing more was given to it", "nothing was asked")
 WORDS = {"ok": "TellsOk", "unknown": "TellsUnknown", "not-given": "TellsNothing", "not-accepted": "TellsNothing", "refused": "TellsNo"}
@@ -29,7 +31,8 @@ class Asker:
     """One request of a client, and what came of it."""
 
     def __init__(self, world: "World", supervisor: Supervisor | None, site: int, records: list[bytes], seconds: float,
-                 published: bool) -> None:
+                 published: bool, key: str | None = None, on_end: Callable[[], None] = lambda: None) -> None:
+        self.key, self.on_end = key, on_end
         self.world, self.supervisor, self.site, self.records, self.seconds = world, supervisor, site, records, seconds
         self.answers: list[dict[str, Any]] = []
         self.told: list[Told] = []
@@ -39,13 +42,13 @@ class Asker:
         self.asked_after = here.folder.number if here else None     # in which folder its site was
         self.open_before = set(world.open_asks.get(self.asked_after or 0, set()))
         self.task: "Task | None" = None
-        for record in records:
+        for record in records if key is None else ():
             world.note("IsAsked", site, world.ask(record), len(record.split(b"\n")))
         if not supervisor or not supervisor.is_alive:
             self._end([{"end": True, "fault": "not running; nothing was asked"}])
             return
         self.request = {"op": "ask", "site": site, "records": [text_of(record) for record in records], "timeout": seconds, "fetch": True,
-                        "published": published}
+                        "published": published, "keys": [key] if key else None}
         self.task = supervisor.spawn(supervisor.serve(self.request, self.answers), self._ended, functools.partial(heard, self.answers))
         world.clock.after(seconds + MARGIN, self._late)
 
@@ -88,7 +91,7 @@ class Asker:
         here = self.supervisor.sites.get(self.site) if self.supervisor else None
         for at, record in enumerate(records):
             self.told.append(Told(self.site, record, self._what(last, at)))
-            if "may still be accepted" in last and here:
+            if "may still be accepted" in last and here and self.key is None:
                 self.world.open_asks.setdefault(here.folder.number, set()).add(record)
         if here and self.published and not last:
             self._look_at_published(here)
@@ -96,8 +99,9 @@ class Asker:
             open_asks = self.world.open_asks.get(here.folder.number, set())
             self.world.decided |= {record for record in self.open_before & open_asks if record not in self.world.accepted}
             open_asks -= self.open_before
-        for told in self.told:
-            self.world.note(WORDS[told.what], told.site, self.world.ask(told.record), *(told.id or ())[1:])
+        if self.key is None:
+            note_told(self.world, self.told)
+        self.on_end()
 
     def _look_at_published(self, here: SimulatedSite) -> None:
         """What was accepted is where the others find it, unless the server lost something meanwhile."""
@@ -115,8 +119,7 @@ class Asker:
     def _told(self, record: bytes, head: list[str]) -> None:
         """An answer. One that a request ends with, since the token didn't come, is no acceptance either."""
         if head[2] == "ok":
-            site, number = map(int, head[3].split("."))
-            self.told.append(Told(self.site, record, "ok", (site, number)))
+            self.told.append(Told(self.site, record, "ok", id_of(head[3])))
         else:
             self.told.append(Told(self.site, record, "refused"))
 
@@ -134,6 +137,69 @@ class Asker:
         if "published" in fault or "accepted here" in fault:
             return "unknown"
         raise Violation(f"an asker isn't told what came of a record: {fault}")
+
+
+def id_of(name: str) -> tuple[int, int]:
+    site, number = map(int, name.split("."))
+    return site, number
+
+
+def note_told(world: "World", told: list[Told]) -> None:
+    for one in told:
+        world.note(WORDS[one.what], one.site, world.ask(one.record), *(one.id or ())[1:])
+
+
+class KeyedAsker:
+    """Asks one record under a key, again and again until it is answered, and then some times more: it always gets that answer."""
+
+    def __init__(self, world: "World", at: Callable[[], Supervisor | None], site: int, record: bytes, dice: random.Random) -> None:
+        self.world, self.at, self.site, self.record, self.dice = world, at, site, record, dice
+        self.key = f"key {world.new_number()}"
+        self.first: list[str] | None = None     # the answer
+        self.told: list[Told] = []              # what it was told last
+        self.tries = 0
+        world.keyed[record] = site
+        world.note("IsAsked", site, world.ask(record), 1)
+        self._ask()
+
+    @property
+    def is_over(self) -> bool:
+        return bool(self.told)
+
+    def look(self) -> None:
+        self.asker.look()
+
+    def leave(self) -> None:
+        self.asker.leave()
+
+    def _ask(self) -> None:
+        self.tries += 1
+        self.world.note("asked-by-key" if self.tries == 1 else "asked-again")
+        seconds = self.dice.choice([0.05, 0.1, 0.5, 3.0, 10.0])
+        self.asker = Asker(self.world, self.at(), self.site, [self.record], seconds, False, self.key, lambda: self.world.clock.soon(self._ended))
+        if self.dice.random() < 0.1:
+            self.world.clock.after(self.dice.random() * 0.1, self.asker.leave)
+
+    def _ended(self) -> None:
+        lines = next((answer["lines"] for answer in self.asker.answers if "record" in answer), None)
+        if lines and not {"NoToken", "RedBehind"} & set(lines[0].split(",")):
+            if self.first is None:
+                self.first = lines
+            elif lines != self.first and self.world.knows_keys(self.site):
+                raise Violation(f"{self.record!r} was answered {self.first} under its key, and then {lines}")
+        if self.tries < (KEYED_TRIES if self.first else 3 * KEYED_TRIES) and not self.world.is_calm:
+            return self.world.clock.after(self.dice.choice([0.0, 0.05, 0.5, 3.0]), self._ask)
+        self.told = [self._last()]
+        note_told(self.world, self.told)
+
+    def _last(self) -> Told:
+        """What it knows at last. A try that failed says nothing of those before it."""
+        if self.tries == 1:
+            return self.asker.told[0]
+        if not self.first or not self.world.knows_keys(self.site):
+            return Told(self.site, self.record, "unknown")
+        head = self.first[0].split(",")
+        return Told(self.site, self.record, "ok", id_of(head[3])) if head[2] == "ok" else Told(self.site, self.record, "refused")
 
 
 def asked(dice: random.Random, number: int, sites: int) -> list[bytes]:

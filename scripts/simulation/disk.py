@@ -115,6 +115,8 @@ class Machine:
         self.memory, self.boot = {}, self.world.new_number()
         for folder in self.folders.values():
             folder.has_lost = [folder.file(name).lose_end(dice) for name in ("kept", "out")][0]
+            if "keys" in folder.files and folder.files["keys"].lose_end(dice):
+                self.world.lost_keys |= set(self.here)
         return [folder for folder in self.folders.values() if folder.has_lost]
 
     def copied(self, name: str, is_clone: bool) -> "Machine":

@@ -5,12 +5,12 @@ import random
 from collections.abc import Iterable
 
 from shop_tool.carrier.rebuilding import Rebuild
-from shop_tool.carrier.records import Message, packet_of
+from shop_tool.carrier.records import Message, packet_of, why_not_one_record
 from shop_tool.carrier.site import State
 from shop_tool.carrier.steps import Broken
 from shop_tool.ends import Fault
 
-from .askers import Asker, asked
+from .askers import Asker, KeyedAsker, asked
 from .disk import Folder, Machine
 from .faults import FAULTS
 from .world import Command, Rules, SimulatedSite, Supervisor, Violation, World
@@ -30,7 +30,7 @@ class Run:
     def __init__(self, seed: str, rules: Rules, skip: frozenset[int] = frozenset(), words: list[str] | None = None) -> None:
         self.seed, self.skip = seed, skip
         self.world = World(seed, rules, words)
-        self.askers: list[Asker] = []
+        self.askers: list[Asker | KeyedAsker] = []
         self.supervisors: dict[str, Supervisor] = {}
         self.copies: list[Supervisor] = []              # those of copies of folders
         self.backups: list[tuple[Machine, int, Folder]] = []
@@ -94,6 +94,11 @@ class Run:
         if self.copies and dice.random() < 0.25:
             supervisor = dice.choice(self.copies)
         records = asked(dice, number, world.sites)
+        if dice.random() < 0.3 and not why_not_one_record(records[0]):
+            def here() -> Supervisor | None:
+                return self.supervisors.get(at.name)
+            self.askers.append(KeyedAsker(world, here, site, records[0], dice))
+            return
         seconds = dice.choice([0.1, 0.5, 3.0, 10.0])
         asker = Asker(world, supervisor, site, records, seconds, dice.random() < 0.15)
         self.askers.append(asker)
@@ -215,6 +220,8 @@ class Run:
         """Something happened to these folders; they aren't whole any more, unless that is said."""
         for folder in folders:
             self.world.note(what, folder.number, len(folder.sent()))
+            self.world.lost_keys |= {number for machine in [*self.world.machines, folder.machine] for number, its in machine.folders.items()
+                                     if its is folder}
             self.tainted[folder.inode] = self.world.clock.now, what
             folder.is_whole = folder.is_whole and is_whole
         self.note_losses()

@@ -5,6 +5,7 @@ from typing import Any
 from unittest import mock
 
 from shop_tool.carrier.files import Files
+from shop_tool.carrier.keys import Key, Keys
 from shop_tool.carrier.lives import Standing
 from shop_tool.carrier.over_server import ServerLink
 from shop_tool.carrier.records import Purpose, why_not_one_record
@@ -23,6 +24,11 @@ def opens_at_once(shop: Shop, site: Site, answered: int | None) -> None:
 
 def sent_unguarded(site: Site, begin: int, end: int) -> list[bytes]:
     return [text for _, text in site.ledger.sends.read(begin, end)]
+
+
+def answered_only(keys: Keys, name: bytes, now: float) -> Key | None:
+    key = keys._keys.get(name)
+    return key if key and key.is_answered else None
 
 
 def mark_passes(record: bytes, purpose: Purpose = Purpose.ASK) -> str | None:
@@ -44,12 +50,14 @@ def patches_of(rule: str) -> list[Any]:
         "9": [],
         "9-lives": [instead(f"shop_tool.carrier.{name}.standing", lambda *_: Standing.NEXT) for name in ("publisher", "over_files")],
         "11": [],
+        "keys-read": [mock.patch.object(Keys, "read", lambda *_: None)],
+        "keys-given": [mock.patch.object(Keys, "find", answered_only)],
         "turns": [instead("shop_tool.carrier.shop.why_passed_on", lambda *_: None)],
     }
     return changes[rule]
 
 
-RULES = ("1", "2", "3", "4", "5", "6", "7", "9", "9-lives", "11", "turns")
+RULES = ("1", "2", "3", "4", "5", "6", "7", "9", "9-lives", "11", "keys-read", "keys-given", "turns")
 
 
 def rules_without(rule: str | None) -> Rules:

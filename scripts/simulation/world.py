@@ -23,7 +23,7 @@ from shop_tool.ends import Fault, Status
 from shop_tool.requests import Request, asks_of
 
 from .clock import Clock, Task
-from .disk import Folder, Keeper, Machine, sum_of
+from .disk import File, Folder, Keeper, Machine, sum_of
 from .server import WRITES, Server
 from .stand_in import StandIn
 
@@ -70,6 +70,8 @@ class World:
         self.text_of: dict[bytes, bytes] = {}                       # the message that each ask became
         self.open_asks: dict[int, set[bytes]] = {}  # by folder: asks of which an asker was told that a later answer decides
         self.decided: set[bytes] = set()            # those that weren't accepted when it came
+        self.keyed: dict[bytes, int] = {}           # the sites of asks that are asked again under keys
+        self.lost_keys: set[int] = set()            # sites of which a folder lost something, and so maybe keys
         self.lost: set[bytes] = set()                               # messages of which nothing whole was left
         self.excused: set[tuple[int, int]] = set()  # ids, and turns as negative numbers, that were given twice as they may be
         self.is_unreached = False           # a site was opened of which a folder has more that couldn't be reached
@@ -107,6 +109,10 @@ class World:
         if self.words is not None:
             self.words.append(",".join([f"{self.clock.now:.4f}", word, *map(str, fields)]))
 
+    def knows_keys(self, site: int) -> bool:
+        """Whether nothing was taken from a folder of a site that had its keys."""
+        return site not in self.lost_keys and not self.excused
+
     def _is_anywhere(self, text: bytes) -> bool:
         """Whether a folder or a stream has a message."""
         return any(text in (line.rstrip(b"\n") for line in folder.lines("kept")) or text in folder.sent()
@@ -136,7 +142,7 @@ class World:
                 name, text = (site, number), rest[5:-1] if rest.endswith(b"\n") else rest[5:]
                 self.note("Accepts", keeper.folder.number, self.ask(record), site, number)
                 self.accepted.setdefault(record, set()).add(name)
-                if len(self.accepted[record]) > 1:
+                if len(self.accepted[record]) > 1 and (record not in self.keyed or self.knows_keys(site)):
                     raise Violation(f"one ask was accepted twice: {record!r} as {sorted(self.accepted[record])}")
                 if (before := self.made.get(name, text)) != text:
                     if self._is_anywhere(before):
@@ -192,6 +198,15 @@ class SimulatedSite(Site):
             self.shop.world.note("fenced", self.folder.number)
             self.shop.fenced.append((self.number, text))
         super().fence(text, outlasts)
+
+    def write_keys(self, lines: bytes) -> None:
+        file = self.folder.file("keys")
+        file.data += lines
+        if self.shop.world.is_synced:
+            file.synced = len(file.data)
+
+    def put_keys(self, lines: bytes) -> None:
+        self.folder.files["keys"] = File(self.shop.world.new_number(), lines)
 
     def write_fence(self, text: str) -> None:
         self.folder.fenced = text
@@ -461,6 +476,9 @@ class Supervisor(Process, Shop):
     def now(self) -> float:
         return self.clock.now + self.skew
 
+    def unix_time(self) -> float:
+        return self.clock.now + self.skew
+
     def stamp(self) -> str:
         return f"{self.clock.now:.3f}"
 
@@ -468,10 +486,16 @@ class Supervisor(Process, Shop):
         self.events.append(f"{self.clock.now:.3f} {self.machine.name} {text}")
 
     def later(self, seconds: float, call: Callable[[], None]) -> None:
+        self.clock.after(seconds, self._guarded(call))
+
+    def soon(self, call: Callable[[], None]) -> None:
+        self.clock.soon(self._guarded(call))
+
+    def _guarded(self, call: Callable[[], None]) -> Callable[[], None]:
         def guarded() -> None:
             if self.is_alive:
                 call()
-        self.clock.after(seconds, guarded)
+        return guarded
 
     def begin(self, steps: Steps[None]) -> None:
         self.spawn(steps)
@@ -497,6 +521,7 @@ class Supervisor(Process, Shop):
         folder.lives.append(f"{self.world.new_number():016x}")
         site.lives = list(folder.lives)
         self.world.note("Starts", folder.number, site.number)
+        site.keys.read(folder.lines("keys"), self.unix_time())
         has_all = answered is not None and "kept" in folder.files and len(folder.files["kept"].data) >= answered
         if folder.fenced:
             site.fence(folder.fenced)
@@ -546,7 +571,7 @@ class Supervisor(Process, Shop):
     def do(self, task: Task, step: tuple[Any, ...]) -> None:
         server, is_over_server = self.world.server, self.world.is_over_server
         match step:
-            case Say(record, answer):
+            case Say(record, answer, _):
                 if task.hear:
                     task.hear(record, answer)
                 return task.answer()
@@ -613,7 +638,7 @@ class Supervisor(Process, Shop):
         if self.is_leaving:
             raise Fault(Status.AWAY, "the shop is being stopped; nothing was asked")
         ask = Ask(site, request["timeout"], asked.fetches_token)
-        yield from ask.run(asked.records)
+        yield from ask.run(asked.records, asked.names)
         if asked.published:
             yield from ask.published()
         return None

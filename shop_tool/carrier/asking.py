@@ -1,13 +1,19 @@
 """An asker's records at a site: the token is fetched for those that need it, and each ask is with the site once at most."""
 
+from collections.abc import Sequence
+
 from ..ends import Fault, Status
+from .answers import Answer
+from .keys import TAKEN, Key
 from .records import RED, kind_of
 from .site import Gone, Pending, Site, State
 from .steps import Say, Steps, Wait
-from .told import not_given, not_known
+from .told import not_given, not_known, under_key
 
 WINDOW = 64         # how many records of one asker are with the site at once, where that changes no answer
 ASK_AGAIN = 1.0     # seconds
+
+Name = bytes | None     # the key of a record, if it has one
 
 
 class Ask:
@@ -16,6 +22,8 @@ class Ask:
     def __init__(self, site: Site, seconds: float, fetches_token: bool) -> None:
         self.site, self.seconds, self.fetches_token = site, seconds, fetches_token
         self.until = site.shop.now() + seconds
+        self.names: Sequence[Name] = ()
+        self.keys: list[Key] = []       # those that this asker is at
         self.answered = 0
         self.was_refused = False        # the record that is asked was answered NoToken or RedBehind
 
@@ -23,21 +31,24 @@ class Ask:
     def left(self) -> float:
         return max(self.until - self.site.shop.now(), 0.001)
 
-    def run(self, records: list[bytes]) -> Steps[None]:
-        """Asks them all. A Fault says what is known of the rest when the time is over, or the site is gone."""
+    def run(self, records: list[bytes], names: Sequence[Name] = ()) -> Steps[None]:
+        """Asks them all, those that have keys under these. A Fault says what is known of the rest when the time is over, or the site is
+        gone."""
+        self.names = names = names or [None] * len(records)
         if not self.site.opened.is_set and not (yield Wait(self.site.opened, self.left)):
             if not self.site.up.is_set:
                 raise self._no_answer(None)
             raise Fault(Status.AWAY, f"site {self.site.number}: it isn't known yet what the others have of it "
-                        f"({self.site.shop.link.state}); {not_given()}")
-        at = 0
+                        f"({self.site.shop.link.state}); {self._not_given()}")
         try:
-            while at < len(records):
+            while (at := self.answered) < len(records):
+                name = names[at]
+                if name and (yield from self._was_asked(records[at], name)):
+                    continue
                 end = self._window_end(records, at)
-                yield from self._ask(records[at:end])
-                at = end
+                yield from self._ask(records[at:end], names[at:end])
         except Gone as gone:
-            raise Fault(gone.status, f"{gone.why}; {gone.unknown or not_given(self.answered, self.was_refused)}") from None
+            raise Fault(gone.status, f"{gone.why}; {gone.unknown or self._not_given()}") from None
 
     def published(self) -> Steps[None]:
         """Returns once all that the site has sent is where the others find it, so that the loss of this disk doesn't take it back."""
@@ -47,19 +58,43 @@ class Ask:
             if not (yield Wait(site.shop.progress, self.left)):
                 raise Fault(Status.AWAY, f"site {site.number}: accepted here, and not published within {self.seconds:g} s")
 
-    def _window_end(self, records: list[bytes], at: int) -> int:
-        """Several are given at once only where none can be answered NoToken or RedBehind, after which it is asked again."""
+    def _key(self, name: Name) -> Key | None:
+        return self.site.keys.find(name, self.site.shop.unix_time()) if name else None
+
+    def _was_asked(self, record: bytes, name: bytes) -> Steps[bool]:
+        """Says the answer that an ask under this key got before, or that another asker gets now; False once the key is free."""
         site = self.site
+        while key := self._key(name):
+            if site.has_lost_files() or site.shop.stopping.is_set:
+                raise site.gone()
+            if not key.is_of(record):
+                yield from self._say(record, TAKEN)
+                return True
+            if key.is_answered:
+                yield from self._say(record, key.answer(site.read_out), is_again=True)
+                return True
+            if not (yield Wait(key.changed, self.left)):
+                raise self._no_answer(None)
+        return False
+
+    def _window_end(self, records: list[bytes], at: int) -> int:
+        """Several are given at once only where none can be answered NoToken or RedBehind, after which it is asked again; and only where no
+        key is known already, or where none has one."""
+        site, names = self.site, self.names
         any_kind = not self.fetches_token or (site.ledger.holds_token and not site.is_passing and site.hold.used_since is not None)
         end = at + 1
         while end < len(records) and end - at < WINDOW and (any_kind or not {kind_of(records[end]), kind_of(records[end - 1])} & RED):
+            name = names[end]
+            if (name is None) != (names[at] is None) or name and (name in names[at:end] or self._key(name)):
+                break
             end += 1
         return end
 
-    def _ask(self, window: list[bytes]) -> Steps[None]:
-        site = self.site
+    def _ask(self, window: list[bytes], names: Sequence[Name]) -> Steps[None]:
+        site, now = self.site, self.site.shop.unix_time()
         is_red = any(kind_of(record) in RED for record in window)
         site.red_askers += is_red
+        self.keys = [site.keys.hold(name, record, now) for name, record in zip(names, window) if name]
         try:
             self.was_refused = False
             pending = yield from self._asked(window)
@@ -69,20 +104,22 @@ class Ask:
             if is_red and site.ledger.holds_token:
                 site.hold.used(site.shop.now())
             for each in pending:
-                yield from self._say(each)
+                yield from self._say(each.record, each.result())
         finally:
             site.red_askers -= is_red
+            for key in self.keys:
+                site.keys.let_go(key)
             site.shop.pass_on(site)
 
-    def _say(self, pending: Pending) -> Steps[None]:
-        yield Say(pending.record, pending.result())
+    def _say(self, record: bytes, answer: Answer, is_again: bool = False) -> Steps[None]:
+        yield Say(record, answer, is_again)
         self.answered += 1
 
     def _asked(self, window: list[bytes]) -> Steps[list[Pending]]:
         """Gives these records and waits for their answers, which come in their order."""
-        pending = self.site.give(window)
+        pending = self.site.give(window, keys=self.keys)
         try:
-            if (yield Wait(pending[-1].done, self.left)):
+            if (yield Wait(pending[-1].done, self.left)) or pending[-1].done.is_set:
                 return pending
         except GeneratorExit:
             self.site.leave(pending)
@@ -90,14 +127,21 @@ class Ask:
         given = self.site.leave(pending)
         for each in pending:
             if each.done.is_set:
-                yield from self._say(each)
+                yield from self._say(each.record, each.result())
         raise self._no_answer(given)
 
     def _no_answer(self, given: Pending | None) -> Fault:
         site = self.site
         why = f" ({site.fault[1]})" if site.state != State.UP and site.fault else ""
-        what = not_known(site.number, given.behind) if given else not_given(self.answered, self.was_refused)
+        what = not_known(site.number, given.behind) if given else self._not_given()
         return Fault(Status.AWAY, f"site {site.number} is {site.state}{why}: no answer within {self.seconds:g} s; {what}")
+
+    def _not_given(self) -> str:
+        """What is said of the records that this asker hasn't given: the first of them may be known by its key."""
+        key = self._key(next(iter(self.names[self.answered:]), None))
+        if key and (key not in self.keys or key.number or key.is_answered):
+            return under_key(self.answered)
+        return not_given(self.answered, self.was_refused)
 
     def _is_settled(self, pending: Pending) -> Steps[bool]:
         """False once what it was refused for may have changed: the token came, or the red messages before it did."""
@@ -106,7 +150,7 @@ class Ask:
             return True
         waiting = site.shop.fetch_token(site, self.left) if refusal == "NoToken" else self._red_messages(pending.releases)
         if not (yield from waiting):
-            yield from self._say(pending)
+            yield from self._say(pending.record, pending.result())
             where = yield from site.shop.where_is_token(site)
             raise Fault(Status.AWAY, f"site {site.number}: {where}; not accepted within {self.seconds:g} s")
         return False

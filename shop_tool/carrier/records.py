@@ -51,6 +51,7 @@ REFUSALS = {
     "LastTurn": "the token has had its last turn",
     "NotOurs": "the message claims that this site made it, and it didn't",
     "NotForMe": "the token is for another site",
+    "KeyTaken": "another record was asked under that key",
 }
 
 _FIELD = rb'(?:"(?:[^"]|"")*"|[^",]*)'

@@ -57,6 +57,10 @@ class Shop(abc.ABC):
         """Seconds by a clock that only goes forward."""
 
     @abc.abstractmethod
+    def unix_time(self) -> float:
+        """Seconds since 1970, by the clock of the machine."""
+
+    @abc.abstractmethod
     def stamp(self) -> str:
         """The time as people read it."""
 
@@ -67,6 +71,10 @@ class Shop(abc.ABC):
     @abc.abstractmethod
     def later(self, seconds: float, call: Callable[[], None]) -> None:
         """Has this called in some time."""
+
+    @abc.abstractmethod
+    def soon(self, call: Callable[[], None]) -> None:
+        """Has this called once what comes now has come."""
 
     @abc.abstractmethod
     def begin(self, steps: Steps[None]) -> None:

@@ -2,13 +2,16 @@
 
 import abc
 import collections
+import contextlib
 import enum
-from collections.abc import Callable, Iterator
+import itertools
+from collections.abc import Callable, Iterator, Sequence
 from typing import TYPE_CHECKING
 
 from ..ends import Fault, Status
 from .answers import Answer, AnswerReader, KeptReader
 from .files import Files, Look
+from .keys import Key, Keys
 from .ledger import Ledger, ReadOut
 from .records import Purpose, Token, text_of, why_not_one_record
 from .steps import Flag, Signal, Steps, Wait
@@ -46,11 +49,12 @@ class Gone(Fault):
 class Pending:
     """One record on its way through a site."""
 
-    __slots__ = ("record", "behind", "done", "answer", "gone", "is_given", "is_left", "releases")
+    __slots__ = ("record", "behind", "key", "done", "answer", "gone", "is_given", "is_left", "releases")
 
-    def __init__(self, record: bytes, behind: int) -> None:
+    def __init__(self, record: bytes, behind: int, key: Key | None = None) -> None:
         self.record = record
         self.behind = behind        # how many records the site had answered when this one came
+        self.key = key
         self.done = Flag()
         self.answer: Answer | None = None
         self.gone: Gone | None = None
@@ -70,10 +74,12 @@ class Site(abc.ABC):
     def __init__(self, shop: "Shop", number: int, read_out: ReadOut, look: Look) -> None:
         self.shop, self.number = shop, number
         self.ledger = Ledger(number, shop.count, read_out)
+        self.keys, self.read_out = Keys(), read_out
         self.files = Files(number, look)
         self.state = State.STARTING
         self.starts = 0
         self.fault: tuple[str, str] | None = None   # the last one: when, and what
+        self.faults = 0
         self.fenced_by: str | None = None
         self.line: collections.deque[Pending] = collections.deque()     # the first is answered next
         self.reader = AnswerReader()
@@ -87,6 +93,7 @@ class Site(abc.ABC):
         self.tried = Flag()                         # its first start has succeeded or failed
         self.hold = Hold()
         self.is_passing = False
+        self.gives_soon = False
         self.red_askers = 0                         # askers with a record under way that only the holder accepts
         self.token_askers = 0                       # those of them that wait for the token
         self.is_wanting = False                     # it is being said that it wants the token
@@ -97,6 +104,14 @@ class Site(abc.ABC):
     @abc.abstractmethod
     def write(self, data: bytes) -> None:
         """Gives its keeper these bytes."""
+
+    @abc.abstractmethod
+    def write_keys(self, lines: bytes) -> None:
+        """Writes these lines behind those of keys in its folder, or none of them and an OSError."""
+
+    @abc.abstractmethod
+    def put_keys(self, lines: bytes) -> None:
+        """Puts these lines in the place of all lines of keys."""
 
     @abc.abstractmethod
     def write_fence(self, text: str) -> None:
@@ -141,9 +156,12 @@ class Site(abc.ABC):
         self.files.read(self.ledger.kept_bytes, self.ledger.out_bytes)
         # What is left wasn't kept, so it is given again, unless nobody waits for it.
         self.line = collections.deque(pending for pending in self.line if not pending.done.is_set and not pending.is_left)
+        self.keys.kept(count)
 
     def come_up(self) -> None:
         """All that it kept is known: it gets what it was given and didn't keep."""
+        if self.keys.is_stale:
+            self.put_keys(self.keys.text(self.shop.unix_time()))
         self.known.set()
         self.become(State.UP)
         self._write(list(self.line))
@@ -167,6 +185,7 @@ class Site(abc.ABC):
         return True
 
     def note_fault(self, text: str) -> None:
+        self.faults += 1
         if not self.fenced_by or text == self.fenced_by:
             self.fault = self.shop.stamp(), text    # what a site says that is stopped for good isn't why
         self.shop.event(f"site {self.number}: {text}")
@@ -210,6 +229,7 @@ class Site(abc.ABC):
                 pending.gone = self.gone(pending)
                 pending.done.set()
         self.line.clear()
+        self.keys.end()
         self.token_came.tell()
         self.released.tell()
 
@@ -220,19 +240,25 @@ class Site(abc.ABC):
 
     # Records.
 
-    def give(self, records: list[bytes], purpose: Purpose = Purpose.ASK) -> list[Pending]:
-        """Gives it records, one behind the other. Each is given again when the keeper died before it kept it. What isn't one record
-        would shift the answers of all that come after it, so nothing else gets through here."""
+    def give(self, records: list[bytes], purpose: Purpose = Purpose.ASK, keys: Sequence[Key | None] = ()) -> list[Pending]:
+        """Gives it records, one behind the other, and some of them with keys. Each is given again when the keeper died before it kept it.
+        What isn't one record would shift the answers of all that come after it, so nothing else gets through here."""
         for record in records:
             if why := why_not_one_record(record, purpose):
                 raise Fault(Status.MISUSE, f"{text_of(record[:80])!r}: {why}; nothing was asked")
         if self.fenced_by or self.shop.stopping.is_set:
             raise self.gone()
-        given = [Pending(record, self.ledger.records) for record in records]
+        given = [Pending(record, self.ledger.records, key) for record, key in itertools.zip_longest(records, keys)]
         self.line.extend(given)
-        if self.up.is_set:
-            self._write(given)
+        if self.up.is_set and not self.gives_soon:
+            self.gives_soon = True          # what comes together is written together
+            self.shop.soon(self._give_line)
         return given
+
+    def _give_line(self) -> None:
+        self.gives_soon = False
+        if self.up.is_set:
+            self._write([*itertools.takewhile(lambda each: not each.is_given, reversed(self.line))][::-1])
 
     def leave(self, pending: list[Pending]) -> Pending | None:
         """Nobody waits for these any more: what wasn't given isn't given. The first of them that was given and isn't answered."""
@@ -246,6 +272,9 @@ class Site(abc.ABC):
         return [pending.record for pending in self.line if pending.is_given and not pending.done.is_set]
 
     def _write(self, pending: list[Pending]) -> None:
+        """Gives the keeper the last records of its line, once their keys are written."""
+        if any(each.key for each in pending):
+            pending = self._with_keys_written(pending)
         if not pending:
             return
         self.write(b"".join(each.record + b"\n" for each in pending))
@@ -254,8 +283,31 @@ class Site(abc.ABC):
         for each in pending:
             each.is_given = True
 
+    def _with_keys_written(self, pending: list[Pending]) -> list[Pending]:
+        """Those of these that may be given, which are the last of the line: none whose key can't be written."""
+        now = self.shop.unix_time()
+        if self.keys.is_long(now):
+            with contextlib.suppress(OSError):
+                self.put_keys(self.keys.text(now))
+        before = self.ledger.records + len(self.line) - len(pending)
+        lines = b"".join([self.keys.give(each.key, number) for number, each in enumerate(pending, before + 1) if each.key])
+        try:
+            self.write_keys(lines)
+            return pending
+        except OSError as fault:
+            gone = Gone(f"site {self.number}: its keys can't be written ({fault.strerror})", None)
+        for each in pending:
+            if each.key:
+                self.keys.take_back(each.key)
+                each.gone = gone
+                each.done.set()
+        self.line = collections.deque(each for each in self.line if not each.done.is_set)
+        return [each for each in pending if not each.done.is_set]
+
     def _note(self, record: bytes, answer: Answer, size: int | None = None) -> None:
+        start = self.ledger.out_bytes
         sent = self.ledger.note(record, answer, size)
+        self.keys.note(self.ledger.records, record, answer, start)
         if self.witness:
             self.witness(self.ledger.kept_bytes)
         kind = answer.kind

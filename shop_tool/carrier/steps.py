@@ -72,8 +72,14 @@ class Wait(NamedTuple):
     seconds: float | None = None
 
 
-# An asker is told the answer to a record.
-Say = NamedTuple("Say", [("record", bytes), ("answer", Any)])
+
+class Say(NamedTuple):
+    """An asker is told the answer to a record; `is_again` if an ask under the same key got it before."""
+
+    record: bytes
+    answer: Any
+    is_again: bool = False
+
 
 # A turn of the token is asked for: all supervisors hear it.
 SayWant = NamedTuple("SayWant", [("site", int), ("known", int)])

@@ -20,6 +20,12 @@ def not_known(site: int, records: int) -> str:
         "or it never will be"
 
 
+def under_key(answered: int) -> str:
+    """Of records that no site was given by this request, in which so many were answered before: an earlier one has asked the first of them
+    under its key, or another one does now."""
+    return f"{not_given(answered)} by this request, and whether what was asked under its key is accepted isn't known yet"
+
+
 def unanswered(request: dict[str, Any]) -> str:
     """Of a request of which no more is known. Only asks change something."""
     return f"; whether it was accepted isn't known (shop log {request.get('site')})" if request.get("op") == "ask" else ""

@@ -1,5 +1,6 @@
 """A shop whose sites are told what they answer, for tests of the machines of the carrier."""
 
+import errno
 from collections.abc import Callable
 from typing import Any
 
@@ -17,6 +18,7 @@ class Known(Site):
         self.lives = ["a"]
         self.written: str | None = None     # why it is stopped for good, as its folder says
         self.given = b""                    # what its keeper was given
+        self.key_lines, self.is_full = b"", False       # the file of keys; and whether the disk has no room
         self.known.set()
 
     def start(self) -> None:
@@ -29,6 +31,14 @@ class Known(Site):
 
     def kill(self) -> None:
         pass
+
+    def write_keys(self, lines: bytes) -> None:
+        if self.is_full:
+            raise OSError(errno.ENOSPC, "No space left on device")
+        self.key_lines += lines
+
+    def put_keys(self, lines: bytes) -> None:
+        self.key_lines = lines
 
     def write_fence(self, text: str) -> None:
         self.written = text
@@ -45,6 +55,9 @@ class Supervisor(Shop):
     def now(self) -> float:
         return self.time
 
+    def unix_time(self) -> float:
+        return self.time
+
     def stamp(self) -> str:
         return "now"
 
@@ -53,6 +66,9 @@ class Supervisor(Shop):
 
     def later(self, seconds: float, call: Callable[[], None]) -> None:
         pass
+
+    def soon(self, call: Callable[[], None]) -> None:
+        call()
 
     def begin(self, steps: Steps[None]) -> None:
         self.begun.append(steps)

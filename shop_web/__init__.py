@@ -1,0 +1,1 @@
+"""A shop over HTTP: `shop serve`."""

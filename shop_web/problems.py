@@ -1,0 +1,72 @@
+"""What went wrong, as RFC 9457 has it: problem details with a type, a title, the status, a detail, and the refusal's name and number."""
+
+import json
+from typing import Any, NamedTuple
+
+from aiohttp import web
+
+from shop_tool.carrier.records import REFUSALS
+from shop_tool.ends import Fault, Status
+from shop_tool.render import shown
+
+CONTENT = "application/problem+json"
+RETRY_SECONDS = "1"
+
+
+class Kind(NamedTuple):
+    status: int
+    title: str
+
+
+# Of refusals that aren't here the status is 409: what is asked doesn't fit what stands there.
+_STATUSES = {"BadRecord": 400, "KeyTaken": 422, "SelfComment": 422, "BadTarget": 422, "Full": 507, "NoToken": 503, "RedBehind": 503}
+_OWN = {
+    "BadRequest": Kind(400, "the request isn't one that this page describes"),
+    "Unauthorized": Kind(401, "the request has no bearer key that is known here"),
+    "Forbidden": Kind(403, "the bearer key may not do this"),
+    "NotFound": Kind(404, "there is no such thing"),
+    "NoMethod": Kind(405, "this can't be done there"),
+    "TooLong": Kind(413, "the request is too long"),
+    "OtherHost": Kind(421, "the request is for another host"),
+    "OtherContent": Kind(415, "the content is neither JSON nor CSV"),
+    "Refused": Kind(409, "it can't be done now"),
+    "Broken": Kind(500, "a fault of the server's own"),
+    "Away": Kind(503, "the site takes no asks now; nothing was given to it"),
+    "Unknown": Kind(504, "no answer came in time, and whether the ask is accepted isn't known"),
+}
+KINDS = {name: Kind(_STATUSES.get(name, 409), meaning) for name, meaning in REFUSALS.items() if name not in ("NotOurs", "NotForMe")} | _OWN
+
+
+class Problem(Exception):
+    def __init__(self, name: str, detail: str, number: int | None = None) -> None:
+        super().__init__(detail)
+        self.name, self.detail, self.number = name, detail, number
+
+    @property
+    def status(self) -> int:
+        return KINDS[self.name].status
+
+    def said(self) -> dict[str, Any]:
+        said = {"type": f"/problems/{self.name}", "title": KINDS[self.name].title, "status": self.status, "detail": shown(self.detail),
+                "name": self.name}
+        return said if self.number is None else said | {"number": self.number}
+
+    def response(self) -> web.Response:
+        headers = {"Retry-After": RETRY_SECONDS} if self.status == 503 else {"WWW-Authenticate": "Bearer"} if self.status == 401 else {}
+        return web.Response(status=self.status, body=json.dumps(self.said()).encode() + b"\n", content_type=CONTENT, headers=headers)
+
+
+def refused(record: str, head: list[str]) -> Problem:
+    """What a site, or `shop` itself, refused: a record, and the fields of the answer's first line."""
+    name = head[4] if head[4] in KINDS else "Refused"
+    return Problem(name, f"{record}: {REFUSALS.get(head[4], head[4])}", int(head[3]))
+
+
+def of_fault(fault: Fault, is_ask: bool = False) -> Problem:
+    """What a fault of `shop` is over HTTP."""
+    if fault.status == Status.MISUSE:
+        return Problem("BadRequest", fault.text)
+    if fault.status == Status.REFUSED:
+        return Problem("Refused", fault.text)
+    is_unknown = is_ask and ("may still be accepted" in fault.text or "isn't known" in fault.text or "accepted here" in fault.text)
+    return Problem("Unknown" if is_unknown else "Away", fault.text)
