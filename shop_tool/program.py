@@ -43,8 +43,11 @@ def version(args: argparse.Namespace) -> int:
 
 def answers_questions(program: str) -> bool:
     """Whether the program answers questions, lines that begin with `?`. An older one keeps them as records."""
-    with tempfile.TemporaryDirectory() as folder:
-        done = subprocess.run([program, "keep", f"{folder}/0"], input=b"?state\n", capture_output=True)
+    try:
+        with tempfile.TemporaryDirectory() as folder:
+            done = subprocess.run([program, "keep", f"{folder}/0"], input=b"?state\n", capture_output=True)
+    except OSError:
+        return False
     return b"\n?state," in done.stdout
 
 

@@ -94,7 +94,7 @@ class Server:
         """Says what goes wrong as a problem, and counts."""
         began = time.monotonic()
         route = request.match_info.route.resource
-        path = route.canonical if route else "none"
+        method, path = (request.method, route.canonical) if route else ("none", "none")
         try:
             response = await handler(request)
         except Problem as problem:
@@ -109,8 +109,8 @@ class Server:
         except Exception as fault:
             print(f"shop serve: {request.method} {shown(request.path)}: {fault!r}", file=sys.stderr, flush=True)
             response = Problem("Broken", repr(fault)).response()
-        self.metrics.requests.labels(request.method, path, str(response.status)).inc()
-        self.metrics.request_seconds.labels(request.method, path).observe(time.monotonic() - began)
+        self.metrics.requests.labels(method, path, str(response.status)).inc()
+        self.metrics.request_seconds.labels(method, path).observe(time.monotonic() - began)
         return response
 
     # What a request says.
