@@ -5,6 +5,7 @@ Each trial runs in a folder of its own, in which `./shop` is the command and `./
 names are run. A trial that needs what isn't installed is skipped, aloud. The last line says how many passed; the status is 1 if one
 failed."""
 
+import itertools
 import json
 import os
 import pathlib
@@ -18,7 +19,11 @@ import time
 from collections.abc import Callable
 from typing import Any
 
-from trials import PYTHON, TOP, Skipped, expect, expect_types, expect_units, run_trials, trials_in
+TOP = pathlib.Path(__file__).resolve().parent.parent
+sys.path.insert(0, str(TOP))
+
+from shop_tool.program import answers_questions     # noqa: E402
+from trials import PYTHON, Skipped, expect, expect_types, expect_units, run_trials, trials_in
 
 SECONDS = 60
 
@@ -72,6 +77,23 @@ class Folder:
             asked.sendall(line + b"\n")
             with asked.makefile("rb") as answers:
                 return [json.loads(answer) for answer in answers]
+
+    def said_at_once(self, requests: list[dict[str, Any]], folder: str = "auction") -> list[dict[str, Any]]:
+        """The last answers to requests that are made over one connection, some hundred at once."""
+        last: dict[int, dict[str, Any]] = {}
+        with socket.socket(socket.AF_UNIX) as asked:
+            asked.settimeout(SECONDS)
+            asked.connect(os.path.relpath(self.path / folder / "sock"))
+            asked.sendall(b'{"op": "several"}\n')
+            with asked.makefile("rb") as answers:
+                for begin in range(0, len(requests), 200):
+                    some = range(begin, min(begin + 200, len(requests)))
+                    asked.sendall(b"".join(json.dumps(requests[number] | {"call": number}).encode() + b"\n" for number in some))
+                    while not all(number in last for number in some):
+                        answer = json.loads(answers.readline())
+                        if answer.get("end"):
+                            last[answer["call"]] = answer
+        return [last[number] for number in range(len(requests))]
 
     def wait(self, what: str, holds: Any) -> None:
         end = time.monotonic() + SECONDS
@@ -213,6 +235,67 @@ def test_rows(at: Folder) -> None:
     expect(count == "[('a \"blue\" lamp, it\\'s old', 1, None)]\n", f"from the database: {count}")
 
 
+def test_reads_leave_nothing(at: Folder) -> None:
+    """10,000 rows, 1,000 listings and 100 audits leave `kept` and `out` as they were, byte for byte, and write no event."""
+    at.run("./shop start auction --sites 2")
+    if not answers_questions(str(at.path / "rubis")):
+        raise Skipped("this program answers no questions, and keeps listings")
+    at.shop(f"ask 0 {SALE} bid,0.3,0.2,500 comment,0.3,0.2,0.1,5,good buy,0.3,0.2,1")
+    at.run("seq -f bid,0.3,0.2,1%05.0f 300 | ./shop -C auction ask 0 -")
+    at.shop("wait 1")
+    names = ["auction/events", *(f"auction/{site}/{name}" for site in (0, 1) for name in ("kept", "out", "life"))]
+    before = {name: (at.path / name).read_bytes() for name in names}
+    asks = [{"op": "row", "site": number % 2, "table": table, "key": key, "timeout": 10} for number, (table, key) in enumerate(zip(
+        itertools.cycle(["user", "nickname", "item", "bid", "purchase", "comment", "category"]),
+        itertools.islice(itertools.cycle(["0.1", "bob", "0.3", "0.4", "0.6", "0.5", "7", "0.99", "eve", "0.1", "1.1", "0.3", "9.9", "8"]), 10_000)))]
+    asks += [{"op": "list", "site": 0, "record": record, "timeout": 10} for record in itertools.islice(itertools.cycle(
+        ["list,users", "list,bids,0.3", "list,categories", "list,log", "list,tables", "list,misfits", "list,items,7"]), 1000)]
+    asks += [{"op": "page", "site": 1, "record": "list,bids,0.3", "after": "0.4", "most": 10, "timeout": 10}] * 100
+    answers = at.said_at_once(asks)
+    shown = [answer["row"] for answer in answers[:10_000]]
+    expect([row and row.split(",")[1] for row in shown[:14]] == ["user", "user", "item", "bid", "purchase", "comment", "category", *[None] * 7],
+           f"the rows: {shown[:14]}")
+    expect(all("fault" not in answer for answer in answers), f"answers: {[answer for answer in answers if 'fault' in answer][:3]}")
+    for _ in range(100):
+        for answer in at.said(b'{"op": "logs", "timeout": 10}'):
+            expect("fault" not in answer, f"an audit: {answer}")
+    for command in ("list 0 users", "show 0 item 0.3", "show 1 user ann", "tables 1", "audit", "status"):
+        at.shop(command)
+    after = {name: (at.path / name).read_bytes() for name in names}
+    expect(before == after, f"what reads have changed: {[name for name in names if before[name] != after[name]]}")
+    at.kill(at.site(0)["pid"])
+    expect(at.shop("show 0 user ann --json").startswith('{"kind": "user", "id": "0.1"'), "a question that its keeper died with is asked again")
+    expect(at.shop("ask 0 '?state'", 2, "a record doesn't begin with `?`") == "", "an ask is no question")
+    at.shop("stop")
+    (at.path / "auction/0/kept").open("a").write("?list,users\n")
+    at.run("./shop start auction")
+    expect(at.shop("log 0 -n 2") == "< ?list,users\n> reply,307,refused,1,BadRecord\n", "a line of an older folder stays a record")
+    expect(at.shop("audit") == "audit,Agree\n", "the audit")
+
+
+def test_several(at: Folder) -> None:
+    """A connection that is kept has many requests at once, each answered under its number; one can be left."""
+    at.run("./shop start auction --sites 2")
+    at.shop(f"ask 0 {SALE}")
+    answers = at.said_at_once([{"op": "ask", "site": 0, "records": [f"bid,0.3,0.2,{1000 + number}"], "timeout": 10, "fetch": True}
+                               for number in range(1000)])
+    expect({answer.get("fault") for answer in answers} == {None}, "each is answered")
+    expect(len(at.shop("list 0 bids 0.3").splitlines()) == 1001, "each is accepted once")
+    os.kill(at.site(0)["pid"], signal.SIGSTOP)
+    with socket.socket(socket.AF_UNIX) as line:
+        line.settimeout(SECONDS)
+        line.connect(os.path.relpath(at.path / "auction/sock"))
+        said = line.makefile("rb")
+        line.sendall(b'{"op": "several"}\n{"call": 1, "op": "wait", "site": 0, "timeout": 0.2}\n')
+        expect(json.loads(said.readline())["call"] == 1, "one that is answered")
+        line.sendall(b'{"call": 2, "op": "list", "site": 0, "record": "list,users", "timeout": 30}\n{"leave": 2}\n{"leave": 7}\n')
+        line.sendall(b'{"call": 3, "op": "nothing", "site": 0, "timeout": 1}\n')
+        expect(json.loads(said.readline())["call"] == 3, "one that is left isn't answered")
+        line.sendall(b'{"op": "status"}\n')
+        expect("`call` is no int" in json.loads(said.readline())["fault"] and said.readline() == b"", "one without a number ends it")
+    os.kill(at.site(0)["pid"], signal.SIGCONT)
+
+
 def test_keys(at: Folder) -> None:
     """An ask is accepted once under its key and always gets that answer, whatever is killed in between; another record is refused."""
     at.run("./shop start auction --sites 2")
@@ -253,6 +336,22 @@ def test_keys(at: Folder) -> None:
     at.shop("ask 0 user,gus --key g", 3, "its keys can't be written (Is a directory); nothing was given to it")
     os.rmdir(at.path / "auction/0/keys")
     expect(at.shop("ask 0 user,gus --key g").startswith("ok,"), "once it can")
+
+
+def test_keys_are_flushed(at: Folder) -> None:
+    """With --sync a key is on the disk before the site is given its ask; the keys of what comes together with one flush."""
+    if not shutil.which("strace"):
+        raise Skipped("no strace on this machine")
+    at.run("./shop start auction --sync")
+    trace = at.start(f"strace -f -qq -y -e trace=write,fdatasync -s 200 -o trace -p {at.status()['pid']}")
+    time.sleep(1)
+    at.shop("ask 0 user,ann --key first")
+    at.shop("ask 0 'item,0.1,a,7,1,5,0' 'item,0.1,b,7,1,5,0' --keys m")
+    os.killpg(trace.pid, signal.SIGINT)
+    trace.wait(SECONDS)
+    calls = [line for line in at.text("trace").splitlines() if "/keys>" in line or "user,ann\\n" in line or "item,0.1," in line and "pipe:" in line]
+    kinds = ["key" if "write" in line and "/keys>" in line else "flush" if "fdatasync" in line else "ask" for line in calls]
+    expect(kinds == ["key", "flush", "ask", "key", "flush", "ask"], "the order: " + "\n".join(calls))
 
 
 def _keys_of_asks_under_way(at: Folder) -> None:
@@ -296,7 +395,8 @@ def test_control_bytes(at: Folder) -> None:
     escapes, shown = "\\033]0;eve\\007\\302\\2332J\\377", "user,\\x1b]0;eve\\x07\\x9b2J\\xff"
     raw = "user,\x1b]0;eve\x07\x9b2J\udcff"
     said = at.run(f"printf 'user,{escapes}\\n' | ./shop -C auction ask 0 - 2>&1", 1)
-    expect(said == f"refused,1,BadRecord\nshop: {shown}: the record isn't in the grammar\n", f"what the asker is told: {said!r}")
+    why = "the record isn't in the grammar: field 2: a nickname has 1 to 20 of a-z, 0-9 and _, the first a letter"
+    expect(said == f"refused,1,BadRecord\nshop: {shown}: {why}\n", f"what the asker is told: {said!r}")
     expect(at.shop("log 0 -n 2") == f"< {shown}\n> reply,1,refused,1,BadRecord\n", "what a site was asked")
     expect(at.shop("log 0 -n 2 --raw") == f"< {raw}\n> reply,1,refused,1,BadRecord\n", "the same, raw")
     at.wait("what is followed", lambda: f"< {shown}\n" in at.text("followed"))
@@ -1208,12 +1308,16 @@ def test_one_record_a_request(at: Folder) -> None:
     at.shop("list 0 items \"$(printf '7\\nuser,eve')\"", 2, "a record has no line end in it; nothing was asked")
     no_records = ["", "list,users\n", "list,users\nuser,eve", "list,users\ruser,eve", 'list,items,"7', '"list",users', "\ufefflist,users",
                   "\udcefist,users", "\ud800", "msg,1,1,1,1,0:0,user,eve", "token,1,9,0,9", "list,items," + "7" * 5000, None, 7,
-                  ["list,users"]]
+                  ["list,users"], "?list,users", "?"]
     requests: list[dict[str, Any]] = [{"op": "list", "record": record} for record in [*no_records, "user,eve", "pass,1", "list\0,users"]]
     requests += [{"op": "ask", "records": ["user,eve", record], "fetch": True} for record in no_records]
     requests += [{"op": "ask", "records": records, "fetch": True} for records in ("user,eve", None, 7, ["user,eve"] * 10_001)]
     requests += [{"op": "ask", "records": ["user,eve"], "fetch": "no"}, {"op": "have", "origin": "0", "after": 0}]
     requests += [{"op": "ask"}, {"op": "eve"}]
+    requests += [{"op": "row", "table": table, "key": key} for table, key in (
+        ("user", "0.1\nuser,eve"), ("user", "0.1\r"), ("user", "7" * 5000), ("user", None), ("log", "1"), ("misfit", "1"), (None, "0.1"))]
+    pages: list[dict[str, Any]] = [{}, {"most": 0}, {"most": 10_001}, {"most": 1, "after": 7}, {"most": 1, "record": "list,users\nuser,eve"}]
+    requests += [{"op": "page", "record": "list,users"} | more for more in pages]
     lines = [json.dumps({"site": 0, "timeout": 5} | request) for request in requests]
     for seconds in ("NaN", "Infinity", "-1", "0", "1e300", '"5"', "null"):
         lines.append('{"op": "ask", "site": 0, "records": ["user,eve"], "fetch": true, "timeout": %s}' % seconds)
@@ -1222,10 +1326,11 @@ def test_one_record_a_request(at: Folder) -> None:
     for line in [line.encode() for line in lines] + [b'{"op": "ask\xff"}']:
         answer = at.said(line)[-1]
         expect(answer.get("end") is True and answer["status"] == 2 and bool(answer["fault"]), f"the answer to {line[:80]!r}: {answer}")
-    expect(at.said(b'{"op": "list", "site": 0, "record": "list,categories", "timeout": 5}')[0]["lines"][0] == "reply,4,rows,1", "a listing")
+    expect(at.said(b'{"op": "list", "site": 0, "record": "list,categories", "timeout": 5}')[0]["rows"] == ["row,category,7,1,1"], "a listing")
     at.run("printf 'user,\\000eve\\n' | ./shop -C auction ask 0 -", 1)
     expect(at.shop("ask 0 user,cat") == "ok,0.4\n", "the next answer is that of its record")
-    kept = b"user,ann\nuser,bob\nitem,0.1,lamp,7,3,100,80\nlist,categories\nuser,\0eve\nuser,cat\n"
+    listing = b"" if answers_questions(str(at.path / "rubis")) else b"list,categories\n"
+    kept = b"user,ann\nuser,bob\nitem,0.1,lamp,7,3,100,80\n%buser,\0eve\nuser,cat\n" % listing
     expect((at.path / "auction/0/kept").read_bytes() == kept, "what site 0 was given")
 
 
@@ -1344,11 +1449,14 @@ def test_full(at: Folder) -> None:
     """A site that is full goes on with a greater --keep, once its recording is shortened; in whichever order that is done."""
     at.run("./shop start auction --keep 3")
     at.shop(f"ask 0 {SALE} user,cat", 1, "keeps no more messages than --keep")
+    expect(not at.status()["well"] and " full " in at.run("./shop -C auction status; test $? = 1"), "a site that is full isn't well")
     at.shop("stop")
+    was = at.text("auction/shop.json")
     at.run("./shop start auction --keep 100", 3, 'out differs at line 7: it has "reply,4,refused,2,Full"')
-    at.shop("stop")
+    at.shop("status", 3, "is not running")
+    expect(at.text("auction/shop.json") == was, "a start that failed leaves nothing behind")
     expect(at.shop("shorten 0") == "site 0: 3 of 4 records are left\n", "what is left")
-    at.run("./shop start auction")
+    at.run("./shop start auction --keep 100")
     expect(at.shop("ask 0 user,dan") == "ok,0.4\n", "it goes on")
     at.shop("audit")
 
@@ -1386,6 +1494,41 @@ def test_service(at: Folder) -> None:
     at.running[0].terminate()
     expect(at.running[0].wait(SECONDS) == 0, "its status")
     at.shop("status", 3, "is not running")
+    at.start("sh -c './shop run auction > journal'")
+    at.wait("what it prints", lambda: (at.path / "journal").exists() and "site 1: up with" in at.text("journal"))
+    at.wait("its events", lambda: at.text("auction/events").endswith(at.text("journal")))
+
+
+def test_hung(at: Folder) -> None:
+    """A keeper that hangs isn't well, also where nobody asks it."""
+    at.run("./shop start auction --sites 2")
+    at.shop("status")
+    keeper = at.site(1)["pid"]
+    os.kill(keeper, signal.SIGSTOP)
+    at.run("./shop -C auction ask 1 user,ann --timeout 0.2", 3)
+    at.wait("the status", lambda: at.site(1)["silent"])
+    shown = at.run("./shop -C auction status; test $? = 1")
+    expect("1     silent " in shown and "0     up " in shown, f"how it is shown: {shown}")
+    os.kill(keeper, signal.SIGCONT)
+    at.wait("that it goes on", lambda: at.status()["well"])
+    if answers_questions(str(at.path / "rubis")):
+        os.kill(at.site(0)["pid"], signal.SIGSTOP)
+        at.wait("the status of one that isn't asked", lambda: at.site(0)["silent"])
+
+
+def test_small_things(at: Folder) -> None:
+    """What an operator meets: a version, what is wrong with a record, and somebody else's folder."""
+    expect(at.run("./shop --version") == "shop of " + at.run("./rubis --version"), "the version")
+    at.run("./shop", 2, "COMMAND")
+    at.run("./shop start auction")
+    at.shop("ask 0 user,Ann", 1, "user,Ann: the record isn't in the grammar: field 2: a nickname has 1 to 20 of a-z, 0-9 and _, the first a letter")
+    at.shop("ask 0 bid,0.3", 1, "a bid has 4 fields, this record has 2")
+    expect("this record has 2" in at.shop("ask 0 bid,0.3 --json", 1), "in JSON")
+    at.run("./shop start other --workers 0", 2, "0 is not in 1..=16")
+    expect(not (at.path / "other").exists(), "nothing is left of a start that is refused")
+    if os.getuid() == 0 and shutil.which("setpriv"):
+        os.chmod(at.path, 0o755)
+        at.run("setpriv --reuid 65534 --regid 65534 --clear-groups ./shop -C auction ask 0 user,ann", 3, "auction: this user may not use it")
 
 
 def test_unit(at: Folder) -> None:

@@ -76,6 +76,7 @@ class Printer:
 
     def __init__(self, args: argparse.Namespace) -> None:
         self.show = self._raw if args.raw else self._json if args.json else self._plain
+        self.folder = args.folder
         self.status = Status.WELL
         self.count = 0
 
@@ -97,14 +98,23 @@ class Printer:
             return
         print(",".join(head[2:]), flush=True)
         if head[2] == "refused":
-            print(f"shop: {shown(record)}: {REFUSALS.get(head[4], head[4])}", file=sys.stderr)
+            print(f"shop: {shown(record)}: {shown(self._meaning(head[4], record))}", file=sys.stderr)
+
+    def _meaning(self, refusal: str, record: str) -> str:
+        if refusal != "BadRecord":
+            return REFUSALS.get(refusal, refusal)
+        from . import reasons, settings
+        try:
+            return reasons.meaning_of(refusal, record, settings.existing(self.folder).sites)
+        except (Fault, OSError):
+            return REFUSALS[refusal]        # somebody else's shop
 
     def _json(self, record: str, lines: list[str]) -> None:
         head = self._noted(lines)
         said: dict[str, Any] = {"record": record, "answer": head[2]}
         match head[2]:
             case "refused":
-                said |= {"code": int(head[3]), "refusal": head[4], "meaning": REFUSALS.get(head[4])}
+                said |= {"code": int(head[3]), "refusal": head[4], "meaning": self._meaning(head[4], record)}
             case "ok":
                 said |= {"id": head[3], "message": lines[1][5:]}
             case "rows":

@@ -60,7 +60,8 @@ class CommandLine:
             prog="shop", description=ABOUT, epilog=f"{NOTES}\nexamples:\n{EXAMPLES}", formatter_class=argparse.RawDescriptionHelpFormatter)
         folder = os.environ.get("SHOP", "shop")
         self.words.add_argument("-C", dest="folder", metavar="FOLDER", default=folder, help="the folder of the shop")
-        self.commands = self.words.add_subparsers(dest="command", required=True, metavar="COMMAND")
+        self.words.add_argument("--version", action="store_true", help="print which version of rubis it runs")
+        self.commands = self.words.add_subparsers(dest="command", metavar="COMMAND")
         self._life()
         self._asks()
         self._reading()
@@ -232,6 +233,11 @@ class CommandLine:
 def with_records(words: Words, command_line: list[str]) -> argparse.Namespace:
     """Reads the command line; records may also stand behind options, which argparse doesn't see by itself."""
     args, rest = words.parse_known_args(command_line)
+    if args.version:
+        args.does = "program.version"
+        return args
+    if args.command is None:
+        words.error("the following arguments are required: COMMAND")
     if rest and (args.command != "ask" or any(word.startswith("-") for word in rest)):
         words.error(f"unknown: {' '.join(rest)[:80]}")
     if rest:

@@ -72,6 +72,8 @@ def away(folder: str) -> Fault:
     """That the shop in a folder has no supervisor that could be reached."""
     if not os.path.isdir(folder):
         return Fault(Status.AWAY, f"{folder}: there is no shop (shop start)")
+    if not os.access(folder, os.X_OK):
+        return Fault(Status.AWAY, f"{folder}: this user may not use it")
     holder = holder_of(folder)
     why = f"takes no requests: {holder} holds it, which is about to begin or to end" if holder else "is not running (shop start)"
     return Fault(Status.AWAY, f"{folder} {why}")

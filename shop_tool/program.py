@@ -1,9 +1,11 @@
 """Which program `rubis` is used."""
 
+import argparse
 import os
 import shutil
 import subprocess
 import sys
+import tempfile
 
 from .ends import Fault, Status
 
@@ -30,6 +32,23 @@ def checked_path() -> str:
     if done.returncode:
         raise Fault(Status.MISUSE, f"{program} --version ended with status {done.returncode}")
     return program
+
+
+def version(args: argparse.Namespace) -> int:
+    """Prints the version: shop comes with the program, and has the same."""
+    done = subprocess.run([path(), "--version"], stdin=subprocess.DEVNULL, capture_output=True, text=True)
+    print(f"shop of {done.stdout.strip() or path()}")
+    return Status.WELL
+
+
+def answers_questions(program: str) -> bool:
+    """Whether the program answers questions, lines that begin with `?`. An older one keeps them as records."""
+    try:
+        with tempfile.TemporaryDirectory() as folder:
+            done = subprocess.run([program, "keep", f"{folder}/0"], input=b"?state\n", capture_output=True)
+    except OSError:
+        return False
+    return b"\n?state," in done.stdout
 
 
 def refuses(program: str, options: list[str]) -> str | None:

@@ -9,7 +9,7 @@ from typing import IO
 
 from . import client, program
 from .ends import Fault, Status
-from .carrier.records import COLUMNS, LISTINGS, NUMBERS, REFUSALS, Purpose, Row, bytes_of, fields_of, row_of, why_not_one_record
+from .carrier.records import COLUMNS, LISTINGS, NUMBERS, Purpose, Row, bytes_of, row_of, why_not_one_record
 from .render import print_fields, print_rows
 
 NULLS = ("best", "winner")      # columns in which `none` says that there is nothing
@@ -17,11 +17,7 @@ NULLS = ("best", "winner")      # columns in which `none` says that there is not
 
 def listing(folder: str, site: int, record: str, seconds: float) -> list[Row]:
     """The rows of one listing of a site."""
-    lines = client.one(folder, {"op": "list", "site": site, "record": record, "timeout": seconds})["lines"]
-    head = lines[0].split(",")
-    if head[2] == "refused":
-        raise Fault(Status.REFUSED, f"{record}: {REFUSALS[head[4]]}")
-    return [row_of(line) for line in lines[1:]]
+    return [row_of(line) for line in client.one(folder, {"op": "list", "site": site, "record": record, "timeout": seconds})["rows"]]
 
 
 def list_rows(args: argparse.Namespace) -> int:
@@ -41,40 +37,15 @@ def list_rows(args: argparse.Namespace) -> int:
 
 def show(args: argparse.Namespace) -> int:
     """Prints one row."""
-    until = time.monotonic() + args.timeout
-    nothing = Fault(Status.REFUSED, f"site {args.site} has no {args.kind} {args.key}")
-    key = "nickname" if args.kind == "user" and "." not in args.key else COLUMNS[args.kind][0]
-    record = _listing_with(args)
-    if record is None:
-        raise nothing
-    row = next((row for row in listing(args.folder, args.site, record, client.left(until)) if str(row[key]) == args.key), None)
-    if row is None:
-        raise nothing
+    table = "nickname" if args.kind == "user" and "." not in args.key else args.kind
+    line = client.one(args.folder, {"op": "row", "site": args.site, "table": table, "key": args.key, "timeout": args.timeout})["row"]
+    if line is None:
+        raise Fault(Status.REFUSED, f"site {args.site} has no {args.kind} {args.key}")
     if args.json:
-        print(json.dumps(row))
+        print(json.dumps(row_of(line)))
     else:
-        print_fields(row)
+        print_fields(row_of(line))
     return Status.WELL
-
-
-def _listing_with(args: argparse.Namespace) -> str | None:
-    """The listing that has a row: the message that made it says which; None where no such message was sent."""
-    if args.kind == "user":
-        return "list,users"
-    if args.kind == "category":
-        return "list,categories"
-    message = client.one(args.folder, {"op": "message", "id": args.key}, args.timeout)["message"]
-    shadow = fields_of(message)[6:] if message else [""]
-    match args.kind, shadow[0]:
-        case "item", "item":
-            return f"list,items,{shadow[3]}"
-        case "bid", "bid":
-            return f"list,bids,{shadow[1]}"
-        case "purchase", "buy":
-            return f"list,purchases,{shadow[1]}"
-        case "comment", "comment":
-            return f"list,comments,{shadow[3]}"
-    return None
 
 
 def tables(args: argparse.Namespace) -> int:

@@ -6,10 +6,10 @@ from typing import Any, NamedTuple, TypeVar
 
 from .ends import Fault, Status
 from .carrier.keys import KEY_BYTES, is_key
-from .carrier.records import Purpose, bytes_of, text_of, why_not_one_record
+from .carrier.records import COLUMNS, Purpose, bytes_of, line_of, text_of, why_not_one_record
 
 REQUEST_BYTES = 16 << 20
-RECORDS_OF_A_REQUEST = 10_000
+RECORDS_OF_A_REQUEST = ROWS_OF_A_PAGE = 10_000
 MOST_SECONDS = 1e6
 
 Request = dict[str, Any]
@@ -92,6 +92,24 @@ def _name_of(key: Any) -> bytes:
 def listing_of(request: Request) -> bytes:
     """The listing that a site is asked for."""
     return _record_of(request.get("record"), Purpose.LISTING)
+
+
+def row_of_request(request: Request) -> tuple[str, str]:
+    """The table and the key of the row that is asked for."""
+    table, key = field(request, "table", str), field(request, "key", str)
+    if table not in (*COLUMNS, "nickname") or table == "misfit":
+        raise no_request(f"there is no table {table!r}")
+    if why := why_not_one_record(bytes_of(line_of(["?row", table, key])), Purpose.QUESTION):
+        raise Fault(Status.MISUSE, f"{key[:80]!r}: {why}; nothing was asked")
+    return table, key
+
+
+def page_of(request: Request) -> tuple[str | None, int]:
+    """Behind which row a page begins, and how many rows it has at most."""
+    most = field(request, "most", int)
+    if not 1 <= most <= ROWS_OF_A_PAGE:
+        raise no_request(f"`most` is 1 to {ROWS_OF_A_PAGE}")
+    return None if request.get("after") is None else field(request, "after", str), most
 
 
 def message_of(request: Request, sites: int) -> tuple[int, int] | None:

@@ -38,7 +38,7 @@ def reached(folder: str) -> socket.socket | None:
 
 def start(args: argparse.Namespace) -> int:
     """Starts the supervisor in the background, and returns once the sites are up."""
-    now = settings.changed(args.folder, said_settings(args))
+    before, now = settings.read(args.folder), settings.changed(args.folder, said_settings(args))
     if reached(args.folder):
         if said_settings(args) and now != settings.read(args.folder):
             raise Fault(Status.MISUSE, f"{args.folder} is running with other settings; stop it first")
@@ -48,7 +48,17 @@ def start(args: argparse.Namespace) -> int:
     said = _started(args.folder, now, found, args.timeout, ["--alone"] if args.alone else [])
     if said == "ready":
         return Status.WELL
+    if said and _has_failed(args.folder):
+        _stopped(args.folder)
+        settings.put_back(args.folder, before)
+        raise Fault(Status.AWAY, f"{said}; it is stopped again (shop log)")
     raise Fault(Status.AWAY, f"{said or 'the supervisor is starting still, or has ended'} (shop log)")
+
+
+def _has_failed(folder: str) -> bool:
+    """Whether none of the sites here can be started. Where some run, or are only stopped for good, the others go on."""
+    sites = client.one(folder, {"op": "status"}, STOP_SECONDS)["shop"]["site"]
+    return all(site["state"] in ("down", "starting") for site in sites if "starts" in site)
 
 
 def _checked(folder: str, now: settings.Settings) -> str:
@@ -102,11 +112,17 @@ def stop(args: argparse.Namespace) -> int:
     """Stops the sites, once what they were given is answered, and then the supervisor."""
     if not os.path.isdir(args.folder):
         raise Fault(Status.MISUSE, f"{args.folder}: there is no shop")
-    line = reached(args.folder)
-    if not line:
+    if not _stopped(args.folder):
         print(f"shop: {args.folder} is not running", file=sys.stderr)
-        return Status.WELL
-    holder, until = lock.holder_of(args.folder), time.monotonic() + STOP_SECONDS
+    return Status.WELL
+
+
+def _stopped(folder: str) -> bool:
+    """Stops a shop, and returns once its supervisor has ended; False if it wasn't running."""
+    line = reached(folder)
+    if not line:
+        return False
+    holder, until = lock.holder_of(folder), time.monotonic() + STOP_SECONDS
     with line:
         line.settimeout(STOP_SECONDS)
         try:
@@ -116,11 +132,11 @@ def stop(args: argparse.Namespace) -> int:
                 print(f"shop: {answer['said']}", file=sys.stderr)
         except OSError:
             pass
-    while holder and lock.holder_of(args.folder) == holder:
+    while holder and lock.holder_of(folder) == holder:
         if time.monotonic() > until:
-            raise Fault(Status.AWAY, f"{args.folder} has not ended within {STOP_SECONDS:g} s: {holder} holds it")
+            raise Fault(Status.AWAY, f"{folder} has not ended within {STOP_SECONDS:g} s: {holder} holds it")
         time.sleep(0.01)
-    return Status.WELL
+    return True
 
 
 def status(args: argparse.Namespace) -> int:
@@ -147,12 +163,19 @@ def _print_status(shop: dict[str, Any]) -> None:
             continue
         behind = " ".join(f"{origin}:{count}" for origin, count in site["behind"].items() if count)
         rows.append([
-            str(site["site"]), site["state"], site["since"], str(site["records"]), str(site["messages"]), behind or "-",
+            str(site["site"]), state_text(site), site["since"], str(site["records"]), str(site["messages"]), behind or "-",
             f"{site['published']}/{site['sent']}", str(site["waiting"]), str(site["starts"]), site["fault"] or "-"])
-    print_columns(rows, {"up": GREEN, "starting": YELLOW, "down": RED, "fenced": RED, "ended": RED, "away": YELLOW})
+    print_columns(rows, {"up": GREEN, "starting": YELLOW, "away": YELLOW} | dict.fromkeys(["down", "fenced", "ended", "full", "silent"], RED))
     grid = grid_of_status(shop)
     if shop["sites"] > 1 and grid.columns:
         print(f"\n{grid_text(grid)}", end="")
+
+
+def state_text(site: dict[str, Any]) -> str:
+    """How a site is: one that is up may be full, or not answer what it was given."""
+    if site["state"] != "up":
+        return str(site["state"])
+    return "silent" if site.get("silent") else "full" if site.get("full") else "up"
 
 
 def log(args: argparse.Namespace) -> int:

@@ -10,17 +10,17 @@ import time
 from collections.abc import Awaitable, Callable
 from typing import Any
 
-from .carrier.answers import Answer
 from .carrier.asking import Ask
-from .carrier.records import Purpose, text_of
-from .carrier.site import Pending
+from .carrier.records import text_of
 from .carrier.steps import KeptOf
 from .carrier.steps import Say as SayAnswer
 from .carrier.told import unanswered
 from .ends import Fault, Status
 from .link import kept_of
-from .requests import REQUEST_BYTES, Request, asks_of, field, listing_of, message_of, no_request, request_of, seconds_of, site_of
-from .signals import done, waited
+from .reads import Reads
+from .requests import (REQUEST_BYTES, Request, asks_of, field, listing_of, no_request, page_of, request_of, row_of_request, seconds_of,
+                       site_of)
+from .signals import Together, done, waited
 from .site import KeptSite
 from .supervisor import Supervisor
 
@@ -30,7 +30,6 @@ REFUSE_SECONDS = 2.0        # how long one that is too many has to say what it w
 UNREAD_BYTES = 1 << 16      # how much may wait for a client to read it, before it is waited for
 SEVERAL = b'{"op": "several"}\n'
 AT_ONCE = 4000              # how many requests of such a connection are under way at once
-LISTINGS = 4                # how many long answers are made at once, since each is in memory whole
 AUDITED = [b"list,log", b"list,tables"]
 
 Say = Callable[[dict[str, Any]], Awaitable[None]]
@@ -40,7 +39,7 @@ class Server:
     def __init__(self, shop: Supervisor) -> None:
         self.shop = shop
         self.connections: set[asyncio.StreamWriter] = set()
-        self.listings = asyncio.Semaphore(LISTINGS)
+        self.reads = Reads(shop)
 
     async def listen(self) -> None:
         # A socket's path has at most 107 bytes, so the folder is named by a number.
@@ -64,7 +63,7 @@ class Server:
             writer.close()
 
     async def _connected(self, reader: asyncio.StreamReader, writer: asyncio.StreamWriter) -> None:
-        say = functools.partial(said, writer, {})
+        say = functools.partial(said, AtOnce(writer), {})
         self.connections.add(writer)
         try:
             is_one_too_many = len(self.connections) > CONNECTIONS
@@ -95,6 +94,7 @@ class Server:
     async def _serve_several(self, reader: asyncio.StreamReader, writer: asyncio.StreamWriter) -> None:
         """Answers requests as they come, many at once. A client that goes takes along what no site has yet."""
         serving: dict[int, asyncio.Task[None]] = {}
+        together = Together(writer)
         try:
             while (line := await reader.readline()).endswith(b"\n"):
                 request = request_of(line)
@@ -104,14 +104,16 @@ class Server:
                 elif (name := field(request, "call", int)) in serving:
                     raise no_request("its `call` is that of another one")
                 elif len(serving) == AT_ONCE:
-                    await said(writer, {"call": name}, end_of(Fault(Status.AWAY, f"{AT_ONCE} requests are under way; nothing was asked")))
+                    await said(together, {"call": name}, end_of(Fault(Status.AWAY, f"{AT_ONCE} requests are under way; nothing was asked")))
                 else:
-                    serving[name] = task = asyncio.create_task(self.serve(request, functools.partial(said, writer, {"call": name})))
+                    serving[name] = task = asyncio.create_task(self.serve(request, functools.partial(said, together, {"call": name})))
                     task.add_done_callback(functools.partial(forget, serving, name))
         except Fault as fault:
-            await said(writer, {}, end_of(fault))
+            await said(together, {}, end_of(fault))
+            await asyncio.sleep(0)          # it is written
         except ValueError:
-            await said(writer, {}, end_of(no_request(f"it has more than {REQUEST_BYTES} bytes")))
+            await said(together, {}, end_of(no_request(f"it has more than {REQUEST_BYTES} bytes")))
+            await asyncio.sleep(0)
         finally:
             for task in serving.values():
                 task.cancel()
@@ -164,8 +166,6 @@ class Server:
                 await asyncio.Event().wait()        # the connection ends with the supervisor
             case "logs":
                 return await self._logs(request, say)
-            case "message":
-                return await self._message(request)
             case "follow":
                 return await self._follow(request, say)
         number = site_of(request, self.shop.settings.sites)
@@ -181,15 +181,20 @@ class Server:
                 await self._ask(site, request, seconds, say)
                 return None
             case "list":
-                answer, = await self._listings(site, [listing_of(request)], seconds)
-                return {"lines": [text_of(line) for line in answer.lines]}
+                rows, = await self.reads.listings(site, [listing_of(request)], seconds)
+                return {"rows": rows}
+            case "row":
+                return {"row": await self.reads.row(site, *row_of_request(request), seconds)}
+            case "page":
+                rows, following = await self.reads.page(site, listing_of(request), *page_of(request), seconds)
+                return {"rows": rows, "next": following}
             case "log":
                 return {"text": await self._log(site, seconds)}
             case "have":
                 return await self._have(site, field(request, "origin", int), field(request, "after", int))
             case "count":
                 # Behind whatever was given before.
-                await self._listings(site, [b"list,misfits"], seconds)
+                await self.reads.settle(site, seconds)
                 return {"count": site.ledger.sends.messages}
             case "wait":
                 await self._wait(site, seconds)
@@ -221,24 +226,10 @@ class Server:
         if asked.published:
             await done(ask.published(), do)
 
-    async def _listings(self, site: KeptSite, records: list[bytes], seconds: float) -> list[Answer]:
-        """The answers to listings that are taken at one moment."""
-        pending: list[Pending] = []
-        try:
-            async with asyncio.timeout(seconds), self.listings:
-                pending = site.give(records, Purpose.LISTING)
-                await waited(pending[-1].done)
-                return [each.result() for each in pending]
-        except TimeoutError:
-            raise Fault(Status.AWAY, f"site {site.number} is {site.state}, and gave no answer within {round(seconds, 2):g} s") from None
-        finally:
-            site.leave(pending)
-
     async def _log(self, site: KeptSite, seconds: float) -> str:
         """A site's log and tables of one moment, as records for an audit."""
-        log, tables = await self._listings(site, AUDITED, seconds)
-        lines = [b"site,%d" % site.number, *(line.split(b",", 3)[3] for line in log.lines[1:]), *tables.lines[1:]]
-        return text_of(b"\n".join(lines) + b"\n")
+        log, tables = await self.reads.listings(site, AUDITED, seconds)
+        return "\n".join([f"site,{site.number}", *(line.split(",", 3)[3] for line in log), *tables]) + "\n"
 
     async def _have(self, site: KeptSite, origin: int, after: int) -> dict[str, Any]:
         """What a site has of another one beyond a number, and all tokens that came to it: for a rebuild of the other."""
@@ -258,11 +249,6 @@ class Server:
             else:
                 raise Fault(Status.AWAY, f"no log came from site {number}: {(answer or {}).get('fault', 'no answer')}")
         return {"sites": self.shop.settings.sites}
-
-    async def _message(self, request: Request) -> dict[str, Any]:
-        name = message_of(request, self.shop.settings.sites)
-        text = await self.shop.link.message(*name) if name else None
-        return {"message": text_of(text) if text else None}
 
     async def _wait(self, site: KeptSite, seconds: float) -> None:
         """Returns once the site is up and has all that the others sent."""
@@ -304,11 +290,18 @@ class Server:
             await waited(self.shop.changes)
 
 
-async def said(writer: asyncio.StreamWriter, name: dict[str, Any], answer: dict[str, Any]) -> None:
+class AtOnce(Together):
+    """Writes each answer at once: a connection that has one request ends with its last one."""
+
+    def write(self, data: bytes) -> None:
+        self.writer.write(data)
+
+
+async def said(to: Together, name: dict[str, Any], answer: dict[str, Any]) -> None:
     """Says an answer, under the number of its request if that has one."""
-    writer.write(json.dumps(name | answer).encode() + b"\n")
-    if writer.transport.get_write_buffer_size() > UNREAD_BYTES:
-        await asyncio.wait_for(writer.drain(), READER_SECONDS)
+    to.write(json.dumps(name | answer).encode() + b"\n")
+    if to.writer.transport.get_write_buffer_size() > UNREAD_BYTES:
+        await asyncio.wait_for(to.writer.drain(), READER_SECONDS)
 
 
 def forget(serving: "dict[int, asyncio.Task[None]]", name: int, task: "asyncio.Task[None]") -> None:

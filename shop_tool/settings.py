@@ -125,6 +125,14 @@ def check_new(folder: str, settings: Settings, program: str) -> None:
             raise Fault(Status.MISUSE, f"{folder}/{site} {why}")
 
 
+def put_back(folder: str, before: Settings | None) -> None:
+    """Has the folder have the settings again that it had before a start that failed."""
+    if before:
+        write(folder, before)
+    else:
+        os.unlink(path_of(folder))
+
+
 def write(folder: str, settings: Settings) -> None:
     """Writes the settings, if they are new, so that a crash leaves the old or the new ones."""
     if read(folder) == settings:

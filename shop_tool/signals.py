@@ -50,6 +50,25 @@ async def waited(signal: Signal | None, seconds: float | None = None) -> bool:
             timer.cancel()
 
 
+class Together:
+    """Writes what comes within one turn of the loop at once."""
+
+    def __init__(self, writer: asyncio.StreamWriter) -> None:
+        self.writer = writer
+        self._parts: list[bytes] = []
+
+    def write(self, data: bytes) -> None:
+        if not self._parts:
+            asyncio.get_running_loop().call_soon(self._flush)
+        self._parts.append(data)
+
+    def _flush(self) -> None:
+        data = b"".join(self._parts)
+        self._parts.clear()
+        if not self.writer.is_closing():
+            self.writer.write(data)
+
+
 async def is_over_within(seconds: float, work: Coroutine[Any, Any, None]) -> bool:
     """Whether some work ends in time. It is cancelled else, and not waited for: work over a broken connection may swallow that."""
     task = asyncio.create_task(work)

@@ -1,6 +1,7 @@
 """The supervisor of a shop: runs the sites of one folder, has their packets carried, and hands the token on. One thread, by asyncio."""
 
 import asyncio
+import contextlib
 import os
 import signal
 import socket
@@ -8,7 +9,7 @@ import time
 from collections.abc import Callable, Coroutine
 from typing import TYPE_CHECKING, Any
 
-from .carrier.records import RECORDS_OF_A_RUN, text_of
+from .carrier.records import RECORDS_OF_A_RUN, Purpose, text_of
 from .carrier.shop import HAND_OVER_SECONDS, Shop
 from .carrier.site import Site, State
 from .carrier.steps import Steps
@@ -16,6 +17,8 @@ from .ends import Fault, Status
 from .grid import waits_of
 from .lives import begin_life, lives_of
 from .lock import take_lock
+from .program import answers_questions
+from .reads import STATE
 from .render import shown
 from .settings import FILES, Settings, write
 from .signals import done, is_over_within, waited
@@ -28,6 +31,7 @@ if TYPE_CHECKING:
 
 EVENTS_BYTES = 16 << 20     # a start puts the events aside when there are more
 FOLLOWED_LINES = 10_000     # how many lines a follower may be behind before it is cut off
+SILENT_SECONDS = 5.0        # after which a keeper that hasn't answered is said to hang
 LOOK_SECONDS = 1.0          # how often it looks whether its folder is still there
 COMPARE_SECONDS = 10.0      # how long a start waits until its sites are compared with their streams
 SHOWN_WAITS = 20            # how many messages that wait a status names
@@ -56,6 +60,8 @@ class Supervisor(Shop):
     def __init__(self, folder: str, settings: Settings, program: str, is_alone: bool) -> None:
         super().__init__(settings.sites, is_alone)
         self.folder, self.settings, self.program = os.path.realpath(folder), settings, program
+        self.asks_questions = answers_questions(program)
+        self.prints_events = "SHOP_READY" not in os.environ     # it runs in the foreground, or for systemd
         self.since = stamp()
         self.tasks: set[asyncio.Task[None]] = set()
         self.followers: dict[int | None, set[Follower]] = {}
@@ -97,6 +103,9 @@ class Supervisor(Shop):
 
     def event(self, text: str) -> None:
         line = f"{stamp()} {shown(text)}"
+        if self.prints_events:
+            with contextlib.suppress(OSError):
+                print(line, flush=True)
         try:
             os.write(self.events, line.encode() + b"\n")
         except OSError:
@@ -140,6 +149,7 @@ class Supervisor(Shop):
             "waits": [waits.record for waits in waits_of(ledger.release, SHOWN_WAITS)], "answered": changed(f"{kept.folder}/out"),
             "sent": len(ledger.sends), "published": self.link.published(site), "waiting": len(site.line) + site.token_askers,
             "starts": site.starts, "pid": kept.process.pid if kept.process and kept.process.returncode is None else None,
+            "full": ledger.messages >= self.settings.keep, "silent": silent if (silent := round(site.silent_seconds, 1)) > SILENT_SECONDS else None,
             "fault": " ".join(site.fault) if site.fault else None, "faults": site.faults, "answers": dict(kept.answers),
         }
 
@@ -152,7 +162,7 @@ class Supervisor(Shop):
             else:
                 sites.append(await self.link.status_of(number) or {"site": number, "state": "away"})
         holder = next((one["site"] for one in sites if one.get("holds_token") and one["turn"] >= self.wants.turn), None)
-        well = self.link.state == "up" and all(one["state"] == State.UP for one in sites)
+        well = self.link.state == "up" and all(one["state"] == State.UP and not one.get("full") and not one.get("silent") for one in sites)
         return well, {
             "folder": self.folder, "sites": self.settings.sites, "over": self.settings.shown_over, "sync": self.settings.sync,
             "keep": self.settings.keep, "pid": os.getpid(), "since": self.since, "stopping": self.is_leaving,
@@ -282,7 +292,8 @@ class Supervisor(Shop):
                 self.stop(f"{self.folder} is gone")
                 return
             for site in self.sites.values():
-                site.has_lost_files()
+                if not site.has_lost_files() and self.asks_questions and self.may_give(site) and not site.line:
+                    site.give([STATE], Purpose.QUESTION)        # a keeper that hangs is seen
 
 
 def run(folder: str, settings: Settings, program: str, is_alone: bool) -> None:

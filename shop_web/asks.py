@@ -38,6 +38,7 @@ class Told(NamedTuple):
     record: str
     head: list[str]         # the fields of its first line
     is_again: bool          # an ask under the same key got it before
+    meaning: str | None = None      # of a refusal, where more is known than its name says
 
     @property
     def answer(self) -> str:
@@ -46,7 +47,7 @@ class Told(NamedTuple):
 
     @property
     def problem(self) -> Problem | None:
-        return refused(self.record, self.head) if self.head[2] == "refused" else None
+        return refused(self.record, self.head, self.meaning) if self.head[2] == "refused" else None
 
     def said(self) -> dict[str, Any]:
         """The object that says it."""

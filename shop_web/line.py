@@ -11,6 +11,7 @@ from shop_tool.carrier.told import unanswered
 from shop_tool.client import CONNECT_SECONDS, MARGIN, away, raise_fault
 from shop_tool.ends import Fault, Status
 from shop_tool.requests import Request
+from shop_tool.signals import Together
 
 ANSWER_BYTES = 1 << 30      # a listing is one line
 Answer = dict[str, Any]
@@ -21,7 +22,7 @@ class Line:
         self.folder = folder
         self._names = itertools.count(1)
         self._waiting: dict[int, asyncio.Queue[Answer | None]] = {}
-        self._writer: asyncio.StreamWriter | None = None
+        self._writer: Together | None = None
         self._reading: asyncio.Task[None] | None = None
         self._opening = asyncio.Lock()
 
@@ -49,7 +50,7 @@ class Line:
                         f"{unanswered(request)}") from None
         finally:
             del self._waiting[name]
-            if not is_over and not writer.is_closing():
+            if not is_over:
                 writer.write(json.dumps({"leave": name}).encode() + b"\n")
 
     async def one(self, request: Request, seconds: float | None = None) -> Answer:
@@ -61,16 +62,19 @@ class Line:
 
     async def close(self) -> None:
         if self._writer:
-            self._writer.close()
+            self._writer.writer.close()
         if self._reading:
             await self._reading
 
-    async def _connected(self) -> asyncio.StreamWriter:
+    async def _connected(self) -> Together:
+        if self._writer:
+            return self._writer
         async with self._opening:
-            if self._writer is None or self._writer.is_closing():
-                reader, self._writer = await self._open()
+            if self._writer is None:
+                reader, writer = await self._open()
+                self._writer = Together(writer)
                 self._writer.write(b'{"op": "several"}\n')
-                self._reading = asyncio.create_task(self._read(reader, self._writer))
+                self._reading = asyncio.create_task(self._read(reader, writer))
             return self._writer
 
     async def _open(self) -> tuple[asyncio.StreamReader, asyncio.StreamWriter]:
@@ -97,7 +101,7 @@ class Line:
         except (OSError, ValueError):
             pass
         writer.close()
-        if self._writer is writer:
+        if self._writer and self._writer.writer is writer:
             self._writer = None
         for answers in self._waiting.values():
             answers.put_nowait(None)

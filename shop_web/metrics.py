@@ -9,6 +9,8 @@ from prometheus_client.core import CounterMetricFamily, GaugeMetricFamily, Metri
 SECONDS = (0.001, 0.002, 0.005, 0.01, 0.02, 0.05, 0.1, 0.2, 0.5, 1.0, 2.0, 5.0, 10.0)
 GAUGES = {
     "shop_site_up": "1 if the site is up, as far as is known here",
+    "shop_site_full": "1 if the site keeps no more messages",
+    "shop_site_silent_seconds": "Seconds for which the site hasn't answered what it was given, if it hangs",
     "shop_site_records": "Records that the site keeps, of 4000000",
     "shop_site_messages": "Messages that the site has, of --keep",
     "shop_site_waiting": "Asks and packets that wait for an answer of the site",
@@ -42,7 +44,7 @@ class Status:
             if "records" not in site:
                 continue        # it runs on another machine, which says less of it
             values = {"records": site["records"], "messages": site["messages"], "waiting": site["waiting"], "held": site["held"],
-                      "unpublished": site["sent"] - site["published"]}
+                      "unpublished": site["sent"] - site["published"], "full": float(site["full"]), "silent_seconds": site["silent"] or 0.0}
             for key, value in values.items():
                 gauges[f"shop_site_{key}"].add_metric(name, value)
             for origin, count in site["behind"].items():

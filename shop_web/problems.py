@@ -56,10 +56,10 @@ class Problem(Exception):
         return web.Response(status=self.status, body=json.dumps(self.said()).encode() + b"\n", content_type=CONTENT, headers=headers)
 
 
-def refused(record: str, head: list[str]) -> Problem:
-    """What a site, or `shop` itself, refused: a record, and the fields of the answer's first line."""
+def refused(record: str, head: list[str], meaning: str | None = None) -> Problem:
+    """What a site, or `shop` itself, refused: a record, the fields of the answer's first line, and what it means."""
     name = head[4] if head[4] in KINDS else "Refused"
-    return Problem(name, f"{record}: {REFUSALS.get(head[4], head[4])}", int(head[3]))
+    return Problem(name, f"{record}: {meaning or REFUSALS.get(head[4], head[4])}", int(head[3]))
 
 
 def of_fault(fault: Fault, is_ask: bool = False) -> Problem:

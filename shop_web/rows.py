@@ -2,19 +2,12 @@
 
 from typing import Any, NamedTuple
 
-from shop_tool.carrier.records import COLUMNS, Purpose, Row, bytes_of, fields_of, row_of, why_not_one_record
+from shop_tool.carrier.records import Purpose, Row, bytes_of, row_of, why_not_one_record
 from shop_tool.ends import Fault, Status
 
 from .line import Line
 
 MOST_ROWS, FEW_ROWS = 10_000, 100       # of a page, and of one that doesn't say how many
-
-
-class Listing(NamedTuple):
-    """One listing: its record, and by which columns its rows are told apart."""
-
-    record: str
-    key: tuple[str, ...]
 
 
 class Page(NamedTuple):
@@ -31,61 +24,33 @@ TABLES: dict[str, tuple[str, str | None]] = {
 }
 
 
-def listing_of(name: str, field: str | None = None) -> Listing:
-    kind, _ = TABLES[name]
-    key = ("entry", "part") if kind == "misfit" else (COLUMNS[kind][0],)
-    return Listing(",".join(["list", name] + ([] if field is None else [field])), key)
+def listing_of(name: str, field: str | None = None) -> str:
+    return ",".join(["list", name] + ([] if field is None else [field]))
 
 
-LOG = Listing("list,log", ("entry",))
+LOG = "list,log"
 
 
 class Rows:
     def __init__(self, line: Line) -> None:
         self._line = line
 
-    async def page(self, site: int, listing: Listing, after: str | None, limit: int, seconds: float) -> Page:
+    async def page(self, site: int, listing: str, after: str | None, limit: int, seconds: float) -> Page:
         """The rows behind the one that `after` names, that many at most."""
-        rows = await self.all(site, listing.record, seconds)
-        names = [".".join(str(row[column]) for column in listing.key) for row in rows]
-        if after is not None and after not in names:
-            raise Fault(Status.MISUSE, f"there is no row {after!r} in {listing.record}")
-        begin = 0 if after is None else names.index(after) + 1
-        end = begin + limit
-        return Page(rows[begin:end], names[end - 1] if end < len(rows) else None)
+        if why := why_not_one_record(bytes_of(listing), Purpose.LISTING):
+            raise Fault(Status.MISUSE, f"{listing[:80]!r}: {why}; nothing was asked")
+        request = {"op": "page", "site": site, "record": listing, "after": after, "most": limit, "timeout": seconds}
+        try:
+            said = await self._line.one(request)
+        except Fault as fault:
+            raise Fault(Status.MISUSE, fault.text) if fault.status == Status.REFUSED else fault from None
+        return Page([log_row(line) if line.startswith("row,log,") else row_of(line) for line in said["rows"]], said["next"])
 
     async def row(self, site: int, kind: str, key: str, seconds: float) -> Row | None:
         """One row by its id, a category by its number, and a user by its nickname too."""
-        record = await self._listing_with(site, kind, key, seconds)
-        column = "nickname" if kind == "user" and "." not in key else COLUMNS[kind][0]
-        rows = await self.all(site, record, seconds) if record else []
-        return next((row for row in rows if str(row[column]) == key), None)
-
-    async def _listing_with(self, site: int, kind: str, key: str, seconds: float) -> str | None:
-        """The listing that has a row: the message that made it says which; None where no such message was sent."""
-        if kind in ("user", "category"):
-            return "list,users" if kind == "user" else "list,categories"
-        message = (await self._line.one({"op": "message", "id": key}, seconds))["message"]
-        shadow = fields_of(message)[6:] if message else [""]
-        match kind, shadow[0]:
-            case "item", "item":
-                return f"list,items,{shadow[3]}"
-            case "bid", "bid":
-                return f"list,bids,{shadow[1]}"
-            case "purchase", "buy":
-                return f"list,purchases,{shadow[1]}"
-            case "comment", "comment":
-                return f"list,comments,{shadow[3]}"
-        return None
-
-    async def all(self, site: int, record: str, seconds: float) -> list[Row]:
-        """All rows of a listing."""
-        if why := why_not_one_record(bytes_of(record), Purpose.LISTING):
-            raise Fault(Status.MISUSE, f"{record[:80]!r}: {why}; nothing was asked")
-        lines = (await self._line.one({"op": "list", "site": site, "record": record, "timeout": seconds}))["lines"]
-        if lines[0].split(",")[2] == "refused":
-            raise Fault(Status.MISUSE, f"{record}: it isn't in the grammar")
-        return [log_row(line) if line.startswith("row,log,") else row_of(line) for line in lines[1:]]
+        table = "nickname" if kind == "user" and "." not in key else kind
+        line = (await self._line.one({"op": "row", "site": site, "table": table, "key": key, "timeout": seconds}))["row"]
+        return row_of(line) if line else None
 
 
 def log_row(line: str) -> Row:

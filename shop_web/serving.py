@@ -20,6 +20,7 @@ from shop_tool import settings
 from shop_tool.carrier.records import Row
 from shop_tool.ends import Fault, Status
 from shop_tool.reading import audited
+from shop_tool.reasons import meaning_of
 from shop_tool.render import shown
 
 from . import access
@@ -29,7 +30,7 @@ from .live import ANSWER_SECONDS, Watch, events, status_of, told
 from .metrics import Metrics
 from .problems import KINDS, Problem, of_fault
 from .routes import KEY, NEEDED, ROUTES, Route, columns_of, description
-from .rows import FEW_ROWS, LOG, MOST_ROWS, TABLES, Listing, Page, Rows, listing_of
+from .rows import FEW_ROWS, LOG, MOST_ROWS, TABLES, Page, Rows, listing_of
 
 BODY_BYTES = 16 << 20
 STOP_SECONDS = 5.0          # how long requests that are under way have at a stop
@@ -93,7 +94,7 @@ class Server:
         """Says what goes wrong as a problem, and counts."""
         began = time.monotonic()
         route = request.match_info.route.resource
-        path = route.canonical if route else "none"
+        method, path = (request.method, route.canonical) if route else ("none", "none")
         try:
             response = await handler(request)
         except Problem as problem:
@@ -108,8 +109,8 @@ class Server:
         except Exception as fault:
             print(f"shop serve: {request.method} {shown(request.path)}: {fault!r}", file=sys.stderr, flush=True)
             response = Problem("Broken", repr(fault)).response()
-        self.metrics.requests.labels(request.method, path, str(response.status)).inc()
-        self.metrics.request_seconds.labels(request.method, path).observe(time.monotonic() - began)
+        self.metrics.requests.labels(method, path, str(response.status)).inc()
+        self.metrics.request_seconds.labels(method, path).observe(time.monotonic() - began)
         return response
 
     # What a request says.
@@ -178,6 +179,8 @@ class Server:
     async def _asked(self, site: int, asks: list[One], options: Options) -> AsyncIterator[Told]:
         async for one in asked(self.line, site, asks, options):
             self.metrics.asks.labels(str(site), one.answer).inc()
+            if one.answer == "BadRecord":
+                one = one._replace(meaning=await asyncio.to_thread(meaning_of, one.answer, one.record, self.sites))
             yield one
 
     async def _one(self, site: int, ask: One, options: Options, wants: str) -> web.Response:
@@ -259,7 +262,7 @@ class Server:
     async def get_log(self, request: web.Request) -> web.StreamResponse:
         return await self._listed(request, self._site(request), "log", LOG)
 
-    async def _listed(self, request: web.Request, site: int, kind: str, listing: Listing) -> web.Response:
+    async def _listed(self, request: web.Request, site: int, kind: str, listing: str) -> web.Response:
         page = await self.rows.page(site, listing, request.query.get("after"), self._limit(request), self._seconds(request))
         return self._page(request, kind, page)
 

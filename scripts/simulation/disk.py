@@ -22,6 +22,10 @@ def text_lines(lines: list[bytes]) -> list[bytes]:
     return [next(records_of(line), line) for line in lines]
 
 
+def is_question(line: bytes) -> bool:
+    return line.startswith(b"?")
+
+
 def sum_of(line: bytes) -> int:
     return zlib.crc32(line)
 
@@ -226,9 +230,10 @@ class Keeper:
                 self._end(0)
             return
         lines = data.split(b"\n")[:-1]
-        records = [record for line in lines for record in records_of(line)]
+        records = [record for line in lines for record in ([line] if is_question(line) else records_of(line))]
+        lines = [line for line in lines if not is_question(line)]
         text = b"".join(line + b"\n" for line in text_lines(lines))
-        if self.dice.random() < 0.3:
+        if text and self.dice.random() < 0.3:
             # A kill may come in the middle of this write.
             cut = self.dice.randrange(len(text))
             self.kept.data += text[:cut]
@@ -249,16 +254,20 @@ class Keeper:
         """Answers what was kept, in `out` and then to the supervisor."""
         if not self.is_alive:
             return
-        answers = b""
+        answers = told = b""
         for record in records:
+            if is_question(record):
+                told += b"?state,%d\n" % self.site.records
+                continue
             said = self.site.answer(record)
             answers += said
+            told += said
             self.folder.noted += 1
             self.world.answered(self, record, said)
         self.out.data += answers
         if not self.is_heard:
             return self._end(1, "write")
-        self.clock.soon(functools.partial(self._tell, answers))
+        self.clock.soon(functools.partial(self._tell, told))
 
     def _tell(self, answers: bytes) -> None:
         if not self.is_alive:

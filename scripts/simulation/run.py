@@ -15,7 +15,7 @@ from .disk import Folder, Machine
 from .faults import FAULTS
 from .world import Command, Rules, SimulatedSite, Supervisor, Violation, World
 
-ASKS, FAULTS_OF_A_RUN = (58, 75), (12, 18)
+ASKS, FAULTS_OF_A_RUN, QUESTIONS = (58, 75), (12, 18), (8, 14)
 FAULT_SECONDS = 30.0        # how long things go wrong
 CALM_SECONDS = 240.0        # how long it may take then until all goes on
 WELL_SECONDS = 3.0          # how long it has to be well
@@ -52,6 +52,7 @@ class Run:
         events = [(plan.uniform(0.3, FAULT_SECONDS + 1), "ask", str(plan.random())) for _ in range(plan.randint(*ASKS))]
         events += [(plan.uniform(1, FAULT_SECONDS), plan.choices(list(FAULTS), list(FAULTS.values()))[0].__name__, str(plan.random()))
                    for _ in range(plan.randint(*FAULTS_OF_A_RUN))]
+        events += [(plan.uniform(0.3, FAULT_SECONDS), "question", str(plan.random())) for _ in range(plan.randint(*QUESTIONS))]
         events += [(0.2 + 0.12 * at, "turn", str(at)) for at in range(FIRST_TURNS)]
         self.planned = len(events)
         for number, (at, what, seed) in enumerate(events):
@@ -80,6 +81,9 @@ class Run:
         dice = random.Random(seed)
         if what == "ask":
             self._ask(number, dice)
+        elif what == "question":
+            if site := self.some_site(dice):
+                site.shop.question(site)
         elif what == "turn":
             self._ask_red(int(seed) % self.world.sites, number)
         else:

@@ -13,7 +13,7 @@ from shop_tool.carrier.lives import placed
 from shop_tool.carrier.over_files import FileLink
 from shop_tool.carrier.over_server import ServerLink
 from shop_tool.carrier.rebuilding import UNCHANGED
-from shop_tool.carrier.records import text_of
+from shop_tool.carrier.records import Purpose, text_of
 from shop_tool.carrier.shop import HAND_OVER_SECONDS, Shop
 from shop_tool.carrier.site import FIRST_WAIT, LAST_WAIT, Disagreement, Site, State
 from shop_tool.carrier.steps import (Append, Broken, CallAll, Connect, Flag, Hear, IsRunning, Kept, KeptOf, Read, Replay, Rewrite, Say,
@@ -530,6 +530,18 @@ class Supervisor(Process, Shop):
     def _opened(self, site: Site, answered: int) -> None:
         super()._opened(site, answered)
         self.look_at_open(site)
+
+    def question(self, site: SimulatedSite) -> None:
+        """Asks a site how many records it has: as many as it has answered by then."""
+        def steps() -> Steps[None]:
+            if site.fenced_by or self.stopping.is_set:
+                return
+            pending, = site.give([b"?state"], Purpose.QUESTION)
+            yield Wait(pending.done)
+            if pending.answer and pending.answer.lines != [b"?state,%d" % pending.records]:
+                raise Violation(f"site {site.number} says {pending.answer.lines} after {pending.records} records")
+        self.world.note("question", site.number)
+        self.spawn(steps())
 
     def look_at_open(self, site: Site) -> None:
         """A site is up and open for the first time only if nothing that it reaches has more of it, or another past."""

@@ -5,7 +5,8 @@ from collections.abc import Callable
 
 
 class Answer:
-    """What a site wrote for one record: a line `reply,n,..`, and the packet or the rows that follow it."""
+    """What a site wrote for one record, a line `reply,n,..` with the packet or the rows that follow it; or for a question, a line that
+    begins with `?`, with the rows that follow."""
 
     __slots__ = ("lines", "size")
 
@@ -23,8 +24,14 @@ class Answer:
         return self.lines[0].split(b",", 3)[2]
 
     @property
+    def is_to_question(self) -> bool:
+        return self.lines[0].startswith(b"?")
+
+    @property
     def refusal(self) -> str | None:
         head = self.head
+        if self.is_to_question:
+            return head[1].decode() if head[0] == b"?refused" else None
         return head[4].decode() if head[2] == b"refused" else None
 
     @property
@@ -36,6 +43,8 @@ class Answer:
 def lines_after(head: bytes) -> int:
     """How many lines belong to the answer that begins with this line."""
     fields = head.split(b",")
+    if head.startswith(b"?"):
+        return int(fields[1]) if fields[0] == b"?rows" else 0
     if fields[0] != b"reply" or len(fields) < 3:
         raise ValueError(f"not an answer: {head[:80]!r}")
     return int(fields[3]) if fields[2] == b"rows" else 1 if fields[2] in (b"ok", b"passed") else 0

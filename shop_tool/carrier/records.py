@@ -79,6 +79,7 @@ class Purpose(enum.Enum):
 
     ASK = "a request or a listing of a client"
     LISTING = "a listing"
+    QUESTION = "a question, which isn't kept"
     PACKET = "a packet of another site"
 
 
@@ -92,6 +93,8 @@ def why_not_one_record(record: bytes, purpose: Purpose = Purpose.ASK) -> str | N
         return f"a record has at most {BYTES_OF_A_RECORD} bytes"
     if record.startswith(b"\xef"):
         return "a record doesn't begin with the byte 239, as a byte order mark does"
+    if record.startswith(b"?") != (purpose == Purpose.QUESTION):
+        return "a record doesn't begin with `?`, as questions do" if record.startswith(b"?") else "it is no question"
     if record.startswith(b'"'):
         return "the first field of a record has no quotes"
     if b'"' in record and not _ONE_RECORD.fullmatch(record):

@@ -49,10 +49,11 @@ class Gone(Fault):
 class Pending:
     """One record on its way through a site."""
 
-    __slots__ = ("record", "behind", "key", "done", "answer", "gone", "is_given", "is_left", "releases")
+    __slots__ = ("record", "behind", "key", "is_question", "done", "answer", "gone", "is_given", "is_left", "releases", "records")
 
     def __init__(self, record: bytes, behind: int, key: Key | None = None) -> None:
         self.record = record
+        self.is_question = record.startswith(b"?")      # it isn't kept, and has no number
         self.behind = behind        # how many records the site had answered when this one came
         self.key = key
         self.done = Flag()
@@ -61,6 +62,7 @@ class Pending:
         self.is_given = False       # written to the keeper, so it may be kept
         self.is_left = False        # nobody waits for its answer
         self.releases = 0           # how often the site had released messages when it was answered
+        self.records = 0            # how many records it had answered then
 
     def result(self) -> Answer:
         """Its answer, once it is done."""
@@ -94,6 +96,7 @@ class Site(abc.ABC):
         self.hold = Hold()
         self.is_passing = False
         self.gives_soon = False
+        self.silent_since: float | None = None      # since when it hasn't answered what it was given
         self.red_askers = 0                         # askers with a record under way that only the holder accepts
         self.token_askers = 0                       # those of them that wait for the token
         self.is_wanting = False                     # it is being said that it wants the token
@@ -138,7 +141,7 @@ class Site(abc.ABC):
     def catch_up(self, count: int, next_line: Callable[[], bytes], next_piece: Callable[[], bytes]) -> Steps[None]:
         """Reads on in `kept` and `out` from where this supervisor was, up to so many records. What was kept and not answered in time is
         answered there."""
-        given: Iterator[Pending] = iter([pending for pending in self.line if pending.is_given])
+        given: Iterator[Pending] = iter([pending for pending in self.line if pending.is_given and not pending.is_question])
         self.reader = AnswerReader()
         records = KeptReader(next_line)
         while data := next_piece():
@@ -163,6 +166,7 @@ class Site(abc.ABC):
         if self.keys.is_stale:
             self.put_keys(self.keys.text(self.shop.unix_time()))
         self.known.set()
+        self.silent_since = None
         self.become(State.UP)
         self._write(list(self.line))
         self.up.set()
@@ -173,14 +177,17 @@ class Site(abc.ABC):
 
     def take(self, data: bytes) -> bool:
         """Takes in what its keeper has written; False if that is in no file that anybody finds again."""
-        if self.has_lost_files(len(data)):
+        answers = self.reader.feed(data)
+        if self.has_lost_files(sum(answer.size for answer in answers if not answer.is_to_question)):
             return False
-        for answer in self.reader.feed(data):
-            if not self.line:
+        for answer in answers:
+            if not self.line or self.line[0].is_question != answer.is_to_question:
                 raise Disagreement("it answered what it wasn't given")
             pending = self.line.popleft()
-            self._note(pending.record, answer)
+            if not pending.is_question:
+                self._note(pending.record, answer)
             self._answer(pending, answer)
+        self.silent_since = self.shop.now() if self.line and self.line[0].is_given else None
         self.shop.pass_on(self)
         return True
 
@@ -236,7 +243,7 @@ class Site(abc.ABC):
     def gone(self, pending: Pending | None = None) -> Gone:
         """That no answer comes to a record, or to one that it isn't given, since the site has ended."""
         why = f"site {self.number}: {self.fenced_by or 'the shop is being stopped'}"
-        return Gone(why, not_known(self.number, pending.behind) if pending and pending.is_given else None)
+        return Gone(why, not_known(self.number, pending.behind) if pending and pending.is_given and not pending.is_question else None)
 
     # Records.
 
@@ -269,7 +276,7 @@ class Site(abc.ABC):
 
     def unanswered(self) -> list[bytes]:
         """The records that the keeper was given and hasn't answered."""
-        return [pending.record for pending in self.line if pending.is_given and not pending.done.is_set]
+        return [pending.record for pending in self.line if pending.is_given and not pending.done.is_set and not pending.is_question]
 
     def _write(self, pending: list[Pending]) -> None:
         """Gives the keeper the last records of its line, once their keys are written."""
@@ -279,9 +286,16 @@ class Site(abc.ABC):
             return
         self.write(b"".join(each.record + b"\n" for each in pending))
         if self.shop.is_followed(self.number):
-            self.shop.tell_followers(self.number, [b"< " + each.record for each in pending if not each.is_given])
+            self.shop.tell_followers(self.number, [b"< " + each.record for each in pending if not (each.is_given or each.is_question)])
         for each in pending:
             each.is_given = True
+        if self.silent_since is None:
+            self.silent_since = self.shop.now()
+
+    @property
+    def silent_seconds(self) -> float:
+        """How long it hasn't answered what it was given; 0 where it isn't up."""
+        return self.shop.now() - self.silent_since if self.up.is_set and self.silent_since is not None else 0.0
 
     def _with_keys_written(self, pending: list[Pending]) -> list[Pending]:
         """Those of these that may be given, which are the last of the line: none whose key can't be written."""
@@ -289,8 +303,9 @@ class Site(abc.ABC):
         if self.keys.is_long(now):
             with contextlib.suppress(OSError):
                 self.put_keys(self.keys.text(now))
-        before = self.ledger.records + len(self.line) - len(pending)
-        lines = b"".join([self.keys.give(each.key, number) for number, each in enumerate(pending, before + 1) if each.key])
+        records = [each for each in pending if not each.is_question]
+        before = self.ledger.records + sum(not each.is_question for each in self.line) - len(records)
+        lines = b"".join([self.keys.give(each.key, number) for number, each in enumerate(records, before + 1) if each.key])
         try:
             self.write_keys(lines)
             return pending
@@ -329,9 +344,9 @@ class Site(abc.ABC):
         self.shop.progress.tell()
 
     def _answer(self, pending: Pending, answer: Answer) -> None:
-        if self.shop.is_followed(self.number):
+        if self.shop.is_followed(self.number) and not pending.is_question:
             self.shop.tell_followers(self.number, [b"> " + line for line in answer.lines])
-        pending.releases = self.releases
+        pending.releases, pending.records = self.releases, self.ledger.records
         if not pending.done.is_set:
             pending.answer = answer
             pending.done.set()

@@ -6,6 +6,7 @@ from typing import Any
 from shop_tool.carrier.asking import Ask
 from shop_tool.carrier.over_files import BATCH, FileLink
 from shop_tool.carrier.reader import BLOCK_SECONDS, Reader
+from shop_tool.carrier.records import Purpose
 from shop_tool.carrier.site import Disagreement, State
 from shop_tool.carrier.steps import CallAll, IsRunning, Marks, Page, PageOf, Read, Say, SayLeave, SayWant, Steps, UpElsewhere, Wait
 from shop_tool.ends import Fault
@@ -113,6 +114,52 @@ class Keeping(unittest.TestCase):
     def test_what_was_not_given_stops_it(self) -> None:
         self.assertRaises(Disagreement, self.caught_up, b"user,eve\n", b"reply,1,refused,3,NoToken\n", 1)
         self.assertRaises(ValueError, self.caught_up, b"user,bob\n", b"reply,1,refused,3,NoToken\n", 2)
+
+
+class Questioning(unittest.TestCase):
+    """Questions go through the line of a site beside records, and leave nothing."""
+
+    def setUp(self) -> None:
+        self.site = Supervisor(FileLink, 2).sites[1]
+        self.site.start()
+
+    def test_each_gets_its_answer(self) -> None:
+        record, = self.site.give([b"user,bob"])
+        rows, state = self.site.give([b"?list,users", b"?state"], Purpose.QUESTION)
+        last, = self.site.give([b"user,cat"])
+        self.assertEqual(self.site.given, b"user,bob\n?list,users\n?state\nuser,cat\n")
+        self.site.take(b"reply,1,refused,3,NoToken\n?rows,1\nrow,user,0.1,ann,0,0,0,0\n?state,1,0,0:0,none,0,0\nreply,2,refused,3,NoToken\n")
+        self.assertEqual([each.result().lines[0] for each in (record, rows, state, last)],
+                         [b"reply,1,refused,3,NoToken", b"?rows,1", b"?state,1,0,0:0,none,0,0", b"reply,2,refused,3,NoToken"])
+        self.assertEqual((self.site.ledger.records, self.site.ledger.out_bytes), (2, 52))
+
+    def test_it_isn_t_counted_among_records(self) -> None:
+        self.site.give([b"?state"], Purpose.QUESTION)
+        ask(self.site).run([b"comment,0.3,0.2,0.1,5,a"], [b"k"]).send(None)
+        self.assertIn(b'"number": 1}', self.site.key_lines)
+
+    def test_one_whose_keeper_died_is_asked_again(self) -> None:
+        self.site.give([b"?state"], Purpose.QUESTION)
+        self.site.give([b"user,bob"])
+        self.site.up.clear()
+        lines, pieces = iter([b"user,bob\n", b""]), iter([b"reply,1,refused,3,NoToken\n", b""])
+        for _ in self.site.catch_up(1, lines.__next__, pieces.__next__):
+            pass
+        self.site.given = b""
+        self.site.come_up()
+        self.assertEqual(self.site.given, b"?state\n")
+
+    def test_an_answer_to_something_else_stops_the_site(self) -> None:
+        self.site.give([b"?state"], Purpose.QUESTION)
+        self.assertRaises(Disagreement, self.site.take, b"reply,1,refused,3,NoToken\n")
+        self.site.give([b"user,bob"])
+        self.site.line.popleft()
+        self.assertRaises(Disagreement, self.site.take, b"?none\n")
+
+    def test_a_record_is_no_question(self) -> None:
+        self.assertRaises(Fault, self.site.give, [b"?state"])
+        self.assertRaises(Fault, self.site.give, [b"list,users"], Purpose.QUESTION)
+        self.assertEqual(self.site.given, b"")
 
 
 class Reading(unittest.TestCase):

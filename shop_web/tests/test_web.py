@@ -88,8 +88,7 @@ class Description(unittest.TestCase):
             self.assertTrue(hasattr(serving.Server, route.does), route.does)
 
     def test_listings(self) -> None:
-        self.assertEqual(rows.listing_of("bids", "0.3"), rows.Listing("list,bids,0.3", ("id",)))
-        self.assertEqual(rows.listing_of("misfits").key, ("entry", "part"))
+        self.assertEqual((rows.listing_of("bids", "0.3"), rows.listing_of("misfits")), ("list,bids,0.3", "list,misfits"))
         self.assertEqual(rows.log_row("row,log,1,msg,1,0,1,1,0:0,comment,0.3,0.2,0.1,5,\"a, b\"")["shadow"], "comment,0.3,0.2,0.1,5,\"a, b\"")
 
 

@@ -1,0 +1,95 @@
+"""Reads of a site here, by questions, which leave nothing: rows, pages and listings. An older program keeps a listing as a record."""
+
+import asyncio
+from typing import TYPE_CHECKING
+
+from .carrier.answers import Answer
+from .carrier.records import COLUMNS, REFUSALS, Purpose, bytes_of, fields_of, line_of, row_of, text_of
+from .ends import Fault, Status
+from .requests import message_of
+from .signals import waited
+from .site import KeptSite
+
+if TYPE_CHECKING:
+    from .supervisor import Supervisor
+
+AT_ONCE = 4                 # how many long answers are made at once, since each is in memory whole
+STATE = b"?state"
+
+
+class Reads:
+    def __init__(self, shop: "Supervisor") -> None:
+        self.shop = shop
+        self._long = asyncio.Semaphore(AT_ONCE)
+
+    async def listings(self, site: KeptSite, listings: list[bytes], seconds: float) -> list[list[str]]:
+        """The rows of listings, which are taken at one moment."""
+        is_asked = self.shop.asks_questions
+        records = [b"?" + listing if is_asked else listing for listing in listings]
+        found = []
+        async with asyncio.timeout(seconds + 1), self._long:
+            for listing, answer in zip(listings, await self._answers(site, records, seconds)):
+                if answer.refusal:
+                    raise Fault(Status.REFUSED, f"{text_of(listing)}: {REFUSALS['BadRecord']}")
+                found.append([text_of(line) for line in answer.lines[1:]])
+        return found
+
+    async def row(self, site: KeptSite, table: str, key: str, seconds: float) -> str | None:
+        """One row of a table by its key; of `nickname` a user's."""
+        if self.shop.asks_questions:
+            question = bytes_of(line_of(["?row", table, key]))
+            answer, = await self._answers(site, [question], seconds)
+            if answer.refusal is None:
+                return None if answer.lines[0] == b"?none" else text_of(answer.lines[0][1:])
+        listing = await self._listing_with(table, key)
+        rows, = await self.listings(site, [listing], seconds) if listing else [[]]
+        column = "nickname" if table == "nickname" else COLUMNS[table][0]
+        return next((line for line in rows if str(row_of(line)[column]) == key), None)
+
+    async def page(self, site: KeptSite, listing: bytes, after: str | None, most: int, seconds: float) -> tuple[list[str], str | None]:
+        """The rows of a listing behind the one of this name, so many at most; and the name of the last of them, if more come."""
+        rows, = await self.listings(site, [listing], seconds)
+        names = [name_of(line) for line in rows]
+        if after is not None and after not in names:
+            raise Fault(Status.MISUSE, f"there is no row {after!r} in {text_of(listing)}")
+        begin = 0 if after is None else names.index(after) + 1
+        end = begin + most
+        return rows[begin:end], names[end - 1] if end < len(rows) else None
+
+    async def settle(self, site: KeptSite, seconds: float) -> None:
+        """Returns once whatever was given to the site before is answered."""
+        await self._answers(site, [STATE if self.shop.asks_questions else b"list,misfits"], seconds)
+
+    async def _answers(self, site: KeptSite, records: list[bytes], seconds: float) -> list[Answer]:
+        """The answers to questions that are asked at one moment."""
+        pending = site.give(records, Purpose.QUESTION if self.shop.asks_questions else Purpose.LISTING)
+        try:
+            if not await waited(pending[-1].done, seconds):
+                raise Fault(Status.AWAY, f"site {site.number} is {site.state}, and gave no answer within {round(seconds, 2):g} s")
+            return [each.result() for each in pending]
+        finally:
+            site.leave(pending)
+
+    async def _listing_with(self, table: str, key: str) -> bytes | None:
+        """The listing that has a row: the message that made it says which; None where no such message was sent."""
+        if table in ("user", "nickname", "category"):
+            return b"list,categories" if table == "category" else b"list,users"
+        name = message_of({"id": key}, self.shop.settings.sites)
+        message = await self.shop.link.message(*name) if name else None
+        shadow = fields_of(text_of(message))[6:] if message else [""]
+        match table, shadow[0]:
+            case "item", "item":
+                return bytes_of(f"list,items,{shadow[3]}")
+            case "bid", "bid":
+                return bytes_of(f"list,bids,{shadow[1]}")
+            case "purchase", "buy":
+                return bytes_of(f"list,purchases,{shadow[1]}")
+            case "comment", "comment":
+                return bytes_of(f"list,comments,{shadow[3]}")
+        return None
+
+
+def name_of(line: str) -> str:
+    """What tells a row apart from the others of its listing."""
+    fields = line.split(",", 4)
+    return f"{fields[2]}.{fields[3]}" if fields[1] == "misfit" else fields[2]
