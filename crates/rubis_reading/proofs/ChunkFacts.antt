@@ -1,15 +1,16 @@
 -- What handing a chunk on does to the records that are to come.
-use Rattle.std.proofs.Common.{◌≡◌, ◌≤◌, ◌<◌, ◌+◌, ◌-◌, ◌∷◌, [], ◌++◌, ◌∙◌, ℕ, List, length, take, drop, Option, Some, None, sym, refl, ap, arith, append_assoc}
+use Rattle.std.proofs.Common.{◌≡◌, ◌≤◌, ◌<◌, ◌+◌, ◌-◌, ◌∷◌, [], ◌++◌, ◌∙◌, ℕ, zero, suc, List, length, take, drop, Option, Some, None, sym, refl, ap, arith, append_assoc}
 use Rattle.std.proofs.Common.{append-nil, length-append, take-append-drop}
 use Rattle.std.proofs.Transfers.{drop-appended}
 use Rattle.std.proofs.lemmas.List.{length-take-le}
-use Rattle.std.specs.Prelude.{Bool, Err, IfOk, Ok, OnOk, Result, false}
-use Rattle.std.specs.Io.KnownBytes.{Consumes, IsAtEnd, prepend_known}
-use Rattle.rubis_reading.specs.Streams.{IsWhole}
+use Rattle.std.specs.Prelude.{Bool, Err, IfOk, IfSome, Ok, OnOk, Result, false, true}
+use Rattle.std.specs.Io.KnownBytes.{Consumes, IsAtEnd, Keeps, prepend_known}
+use Rattle.csv.specs.Reading.{strip_bom}
+use Rattle.rubis_reading.specs.Streams.{IsWhole, records_on}
 use Rattle.rubis_engine.specs.Text.{input_records}
-use Rattle.rubis_reading.specs.Chunked.{HasPending, IsFilled, KeepsPending}
+use Rattle.rubis_reading.specs.Chunked.{HasCome, HasPending, IsFilled, KeepsCome, KeepsPending}
 use Rattle.rubis_reading.specs.declared.chunks.Chunks.{Chunks}
-use Rattle.rubis_reading.proofs.StreamFacts.{cut-off}
+use Rattle.rubis_reading.proofs.StreamFacts.{all-from-here, cut-off}
 
 some-is : {A : Type 0} {x y : A} → Some x ≡ Some y → x ≡ y
 some-is e = cc e
@@ -54,3 +55,102 @@ taken held bytes (Some xs) many some within whole e =
       refl,
       ap input_records split ∙ cut-off (take many held) (drop many held ++ xs) whole ∙ ap (λ t. input_records (take many held) ++ input_records t) (sym left),
     )
+
+-- ---- what came of an input
+
+-- bytes that come are behind those that are held
+pub filled-come : {R : Type 0} (rem : R → Option (List ℕ)) (old new : Chunks R) (more : Bool)
+    → IsFilled (rem old.reader) (rem new.reader) old.held new.held more → KeepsCome rem old new
+filled-come rem old new more f input h =
+    let (left, source, split) = rest (rem old.reader) (rem new.reader) f.consumed h.source in record {
+      front = h.front;
+      mark = h.mark;
+      begun = h.begun ++ f.bytes;
+      left = left;
+      parts = h.parts ∙ ap (λ t. h.front ++ (h.begun ++ t)) split ∙ ap (λ t. h.front ++ t) (sym (append_assoc h.begun f.bytes left));
+      few = h.few;
+      held = f.behind ∙ ap (λ t. t ++ f.bytes) h.held ∙ append_assoc h.mark h.begun f.bytes;
+      source = source;
+      first = h.first;
+    }
+  where
+    rest : (before after : Option (List ℕ)) → Consumes before after f.bytes → before ≡ Some h.left
+        → (left : List ℕ) × (after ≡ Some left) × (h.left ≡ f.bytes ++ left)
+    rest None after taken e = absurd cc
+    rest (Some xs) None taken e = absurd taken
+    rest (Some xs) (Some ys) taken e = (ys, refl, sym (some-is e) ∙ taken)
+
+-- the first bytes of what is held are those of the mark, and then of what came since
+front-split : (mark begun : List ℕ) (many : ℕ) → length mark ≤ 1 → 0 < many
+    → (t : List ℕ) × (take many (mark ++ begun) ≡ mark ++ t) × (begun ≡ t ++ drop many (mark ++ begun))
+front-split [] begun many few some = (take many begun, refl, sym (take-append-drop many begun))
+front-split (b ∷ []) begun zero few some = absurd (omega (arith, some))
+front-split (b ∷ []) begun (suc n) few some = (take n begun, refl, sym (take-append-drop n begun))
+front-split (b ∷ (d ∷ mark)) begun many few some = absurd (omega (arith, few))
+
+-- a chunk is handed on
+pub handed-come : {R : Type 0} (rem : R → Option (List ℕ)) (old new : Chunks R) (many : ℕ) (input : List ℕ) → new.reader ≡ old.reader
+    → new.held ≡ drop (many - 1) old.held → 0 < many → many ≤ length old.held → IsWhole (take many old.held) → HasCome rem input old → HasCome rem input new
+handed-come rem old new many input same handed some within whole h =
+    let (t, chunk, since) = front-split h.mark h.begun many h.few some in
+    let taken : take many old.held ≡ h.mark ++ t = ap (take many) h.held ∙ chunk in
+    let rest = drop many old.held in
+    let since : h.begun ≡ t ++ rest = since ∙ ap (λ x. t ++ drop many x) (sym h.held) in
+    record {
+      front = h.front ++ t;
+      mark = whole.last ∷ [];
+      begun = rest;
+      left = h.left;
+      parts = h.parts ∙ ap (λ x. h.front ++ (x ++ h.left)) since ∙ ap (λ x. h.front ++ x) (append_assoc t rest h.left)
+          ∙ sym (append_assoc h.front t (rest ++ h.left));
+      few = omega arith;
+      held = handed ∙ feed-left old.held many within some whole;
+      source = ap rem same ∙ h.source;
+      first = λ more.
+          ap input_records (append_assoc h.front t more) ∙ h.first (t ++ more)
+          ∙ ap (λ x. input_records h.front ++ input_records x) (sym (append_assoc h.mark t more) ∙ ap (λ x. x ++ more) (sym taken))
+          ∙ ap (λ x. input_records h.front ++ x) (cut-off (take many old.held) more whole)
+          ∙ sym (append_assoc (input_records h.front) (input_records (take many old.held)) (input_records (whole.last ∷ more)))
+          ∙ ap (λ x. x ++ input_records (whole.last ∷ more))
+          (ap (λ x. input_records h.front ++ input_records x) taken ∙ sym (h.first t));
+    }
+
+-- where the reader failed, nothing came
+pub still-filled : (before after : Option (List ℕ)) (old new : List ℕ) → new ≡ old → Keeps before after → IsFilled before after old new true
+still-filled before after old new same keeps = record {
+  bytes = [];
+  behind = same ∙ sym (append-nil old);
+  consumed = none before after keeps;
+  last = λ e. absurd cc;
+}
+  where
+    none : (a b : Option (List ℕ)) → Keeps a b → Consumes a b []
+    none None b k = tt
+    none (Some xs) None k = absurd k
+    none (Some xs) (Some ys) k = sym k
+
+no-records : input_records [] ≡ []
+unfolding input_records records_on strip_bom
+no-records = all-from-here (strip_bom [])
+
+-- nothing has come
+none-come : {R : Type 0} (rem : R → Option (List ℕ)) (c : Chunks R) (input : List ℕ) → rem c.reader ≡ Some input → c.held ≡ []
+    → HasCome rem input c
+none-come rem c input source empty = record {
+  front = [];
+  mark = [];
+  begun = [];
+  left = input;
+  parts = refl;
+  few = omega arith;
+  held = empty;
+  source = source;
+  first = λ more. ap (λ rows. rows ++ input_records more) (sym no-records);
+}
+
+pub new-come : {R : Type 0} (rem : R → Option (List ℕ)) (c : Chunks R) → c.held ≡ [] → IfSome (rem c.reader) (λ input. HasCome rem input c)
+new-come rem c empty = at (rem c.reader) refl
+  where
+    at : (known : Option (List ℕ)) → rem c.reader ≡ known → IfSome known (λ input. HasCome rem input c)
+    at None e = tt
+    at (Some input) e = none-come rem c input e empty

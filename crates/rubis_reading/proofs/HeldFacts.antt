@@ -1,5 +1,5 @@
 -- Bytes that are left of a buffer, as it is closed up, grows and is filled.
-use Rattle.std.proofs.Common.{◌≡◌, ◌≤◌, ◌+◌, ◌-◌, ◌++◌, ◌∙◌, ℕ, List, length, take, drop, sym, ap, arith, length-append, length-drop, length-take}
+use Rattle.std.proofs.Common.{◌≡◌, ◌≤◌, ◌+◌, ◌-◌, ◌++◌, ◌∙◌, ℕ, List, length, take, drop, append-nil, sym, ap, arith, length-append, length-drop, length-take}
 use Rattle.std.proofs.Common.{length-take-le}
 use Rattle.std.specs.Prelude.{Bool, Option, false, slice_range}
 use Rattle.std.specs.Io.KnownBytes.{Consumes, IsAtEnd}
@@ -30,6 +30,12 @@ range-filled xs block start end more on within =
     ap (take ((end + more) - start)) (drop-append-le start (take end xs) block (omega (arith, on, first)) ∙ ap (λ t. t ++ block) mid)
     ∙ ap (λ n. take n (slice_range xs start end ++ block)) upto
     ∙ take-append-add (slice_range xs start end) block more
+
+-- with none put behind them
+pub unfilled : (xs block : List ℕ) (start end : ℕ) → start ≤ end → end ≤ length xs → slice_range (take end xs ++ block) start end ≡ slice_range xs start end
+unfilled xs block start end on within =
+    let same : end ≡ end + 0 = omega arith in
+    ap (λ n. slice_range (take end xs ++ block) start n) same ∙ range-filled xs block start end 0 on within ∙ append-nil (slice_range xs start end)
 
 -- what was written into the room behind them is as long as the room
 pub written-length : (xs block : List ℕ) (end : ℕ) → end ≤ length xs → length block ≡ length xs - end

@@ -1,7 +1,8 @@
 -- What a source of chunks has still to give.
-use Rattle.std.specs.Prelude.{◌≡◌, ◌++◌, ℕ, Bool, List, Option, Some, false}
+use Rattle.std.specs.Prelude.{◌≡◌, ◌≤◌, ◌++◌, ℕ, Bool, List, Option, Some, false, length}
 use Rattle.std.specs.Io.KnownBytes.{Consumes, IsAtEnd, prepend_known}
 use Rattle.rubis_engine.specs.Text.{input_records}
+use Rattle.rubis_reading.specs.Streams.{EndsNoRecord}
 use Rattle.rubis_reading.specs.declared.chunks.Chunks.{Chunks}
 
 -- the bytes that came from the reader and were not handed on
@@ -37,3 +38,26 @@ KeepsPending rem old new = (rows : List (List (List ℕ))) → HasPending rem ol
 -- what came and was not handed on is the rest of the records
 abbrev pub IsLast : {R : Type 0} → (R → Option (List ℕ)) → Chunks R → Type 0
 IsLast rem c = (rows : List (List (List ℕ))) → HasPending rem c rows → rows ≡ input_records (held_text c)
+
+-- what came of an input: `front` was handed on, and whatever follows it, its records stand first; `begun` came since, and is held behind
+-- the end of the last line that was handed on, if there is one; the reader has what is left
+pub record HasCome {R : Type 0} (rem : R → Option (List ℕ)) (input : List ℕ) (c : Chunks R) : Type 0 where
+  pub front : List ℕ
+  pub mark : List ℕ
+  pub begun : List ℕ
+  pub left : List ℕ
+  pub parts : input ≡ front ++ (begun ++ left)
+  pub few : length mark ≤ 1
+  pub held : held_text c ≡ mark ++ begun
+  pub source : rem c.reader ≡ Some left
+  pub first : (more : List ℕ) → input_records (front ++ more) ≡ input_records front ++ input_records (mark ++ more)
+
+-- all that came is there still
+abbrev pub KeepsCome : {R : Type 0} → (R → Option (List ℕ)) → Chunks R → Chunks R → Type 0
+KeepsCome rem old new = (input : List ℕ) → HasCome rem input old → HasCome rem input new
+
+-- the reader failed: all that came is there still, and no record ends in what is held, if none did before
+pub record FailsShort {R : Type 0} (rem : R → Option (List ℕ)) (old new : Chunks R) : Type 0 where
+  pub pending : KeepsPending rem old new
+  pub come : KeepsCome rem old new
+  pub none : EndsNoRecord (held_text old) → EndsNoRecord (held_text new)

@@ -83,3 +83,7 @@ NoEndAfter s text n = (k : ℕ) → n < k → EndsFrom s text k → ⊥
 -- no more than the first n of these bytes are whole records
 abbrev pub NoWholeAfter : List ℕ → ℕ → Type 0
 NoWholeAfter text n = (k : ℕ) → n < k → k ≤ length text → IsWhole (take k text) → ⊥
+
+-- behind the line end that these bytes may begin with no record ends, a byte order mark at their start left aside
+abbrev pub EndsNoRecord : List ℕ → Type 0
+EndsNoRecord text = NoEndAfter st.StartRecord (strip_bom text) 1

@@ -1,9 +1,9 @@
 //! A source of chunks of text, each of whole records, over a reader.
 
-ghost use Rattle.std.specs.Prelude.{◌≡◌, ◌≤◌, ◌<◌, ◌-◌, drop, false, length, take, List, ℕ, IfSome, IfOk, OnOk};
-ghost use Rattle.rubis_reading.specs.Streams.{IsWhole, NoWholeAfter};
+ghost use Rattle.std.specs.Prelude.{◌≡◌, ◌≤◌, ◌<◌, ◌-◌, drop, false, length, take, List, ℕ, IfSome, IfOk, IsErrOf, OnOk};
+ghost use Rattle.rubis_reading.specs.Streams.{EndsNoRecord, IsWhole, NoWholeAfter};
 ghost use Rattle.rubis_engine.specs.Text.{input_records};
-ghost use Rattle.rubis_reading.specs.Chunked.{HasPending, IsLast, KeepsPending, TakesOff, held_text, pending_text};
+ghost use Rattle.rubis_reading.specs.Chunked.{FailsShort, HasCome, HasPending, IsLast, KeepsCome, KeepsPending, TakesOff, held_text, pending_text};
 
 use crate::cuts::{Looked, look_for_end, whole_end};
 use crate::held::{ChunkFault, Held};
@@ -27,7 +27,8 @@ pub struct Chunks<R> {
 impl<R: Read + Drop> Chunks<R> {
     /// The text of this reader, of which at least `size` bytes are asked for at a time.
     pub fn new(alloc: Global, reader: R, size: usize) -> Chunks<R>
-        ensures { IfSome (R.remaining reader) (λ input. HasPending R.remaining result (input_records input)) }
+        ensures pending { IfSome (R.remaining reader) (λ input. HasPending R.remaining result (input_records input)) }
+        ensures come { IfSome (R.remaining reader) (λ input. HasCome R.remaining input result) }
     {
         Chunks {
             reader,
@@ -47,9 +48,15 @@ impl<R: Read> Chunks<R> {
 
     /// Asks the reader for more until a record ends in what is held, and says whether there was any. Where there was none the bytes that
     /// are held are the rest. No byte is looked at again when more come, however long a record is.
+    ///
+    /// # Errors
+    ///
+    /// `Read` if the reader failed: what came is held. `Memory` if there is no room for more.
     pub fn fill(&mut self) -> Result<bool, ChunkFault>
         ensures keeps { OnOk result (KeepsPending R.remaining self.old self.new) }
         ensures last { IfOk result (λ more. more ≡ false → IsLast R.remaining self.new) }
+        ensures come { OnOk result (KeepsCome R.remaining self.old self.new) }
+        ensures failed { IsErrOf result ChunkFault.Read → FailsShort R.remaining self.old self.new }
     {
         let mut looked = Looked::none();
         'asks: for _ in 0..u64::MAX {
@@ -73,6 +80,7 @@ impl<R: Read> Chunks<R> {
         ensures within { result ≤ length (held_text self.now) }
         ensures whole { 0 < result → IsWhole (take result (held_text self.now)) }
         ensures none { result ≤ 1 → NoWholeAfter (held_text self.now) 1 }
+        ensures begun { result ≤ 1 → EndsNoRecord (held_text self.now) }
     {
         let held = self.held();
         let front = whole_end(&held[..most.min(held.len())]);
@@ -84,7 +92,8 @@ impl<R: Read> Chunks<R> {
         requires some { 0 < many }
         requires within { many ≤ length (held_text self.old) }
         requires whole { IsWhole (take many (held_text self.old)) }
-        ensures { TakesOff R.remaining self.old self.new (take many (held_text self.old)) }
+        ensures takes { TakesOff R.remaining self.old self.new (take many (held_text self.old)) }
+        ensures come { KeepsCome R.remaining self.old self.new }
     {
         self.held.pass(many - 1);
     }

@@ -1,12 +1,12 @@
 //! Where a text may be cut.
 
 ghost use Rattle.std.specs.Bool.{MatchBool};
-ghost use Rattle.std.specs.Prelude.{◌≡◌, ◌≤◌, ◌<◌, ℕ, IfNone, IfSome, List, drop, get_or, length, take};
+ghost use Rattle.std.specs.Prelude.{◌≡◌, ◌≤◌, ◌<◌, ℕ, IfNone, IfSome, List, drop, get_or, length, nat_lt, take};
 ghost use Rattle.csv.specs.Reading.{strip_bom};
 ghost use Rattle.csv.specs.declared.parser.State.TheVariants as st;
 ghost use Rattle.rubis_reading.specs.Standings.{state_of};
 ghost use Rattle.rubis_reading.specs.Looks.{HasLooked};
-ghost use Rattle.rubis_reading.specs.Streams.{EndsFrom, HasNoQuote, IsLike, IsOutside, IsWhole, NoEndAfter, NoWholeAfter, stands};
+ghost use Rattle.rubis_reading.specs.Streams.{EndsFrom, EndsNoRecord, HasNoQuote, IsLike, IsOutside, IsWhole, NoEndAfter, NoWholeAfter, stands};
 
 use crate::standing::{Standing, after, in_field};
 use memchr::{memchr, memrchr2};
@@ -74,7 +74,9 @@ impl Looked {
     }
 
     /// Whether a record ends in them, behind the line end at their start, if there is one.
-    pub fn ends(self) -> bool {
+    pub fn ends(self) -> bool
+        ensures { result ≡ nat_lt 1 self.end }
+    {
         self.end > 1
     }
 }
@@ -129,6 +131,7 @@ pub fn whole_end(text: &[u8]) -> usize
     ensures within { result ≤ length text.now }
     ensures whole { 0 < result → IsWhole (take result text.now) }
     ensures last { NoWholeAfter text.now result }
+    ensures none { result ≤ 1 → EndsNoRecord text.now }
 {
     let mark = mark_len(text);
     let (_, rest) = text.split_at(mark);
@@ -142,16 +145,20 @@ const LOOK: usize = 65_536;
 /// Looks on through a text until a record ends in what was looked at, or to its end.
 pub fn look_for_end(from: Looked, text: &[u8]) -> Looked
     requires { HasLooked (strip_bom text.now) from }
-    ensures { HasLooked (strip_bom text.now) result }
+    ensures looked { HasLooked (strip_bom text.now) result }
+    ensures none { result.end ≤ 1 → EndsNoRecord text.now }
 {
     let (_, rest) = text.split_at(mark_len(text));
     let mut looked = from;
     'looks: for _ in 0..u64::MAX {
-        if looked.ends() || looked.place >= rest.len() {
+        if looked.ends() {
+            return looked;
+        }
+        if looked.place >= rest.len() {
             return looked;
         }
         let front = rest.len().min(looked.place.saturating_add(LOOK));
         looked = look_on(looked, &rest[..front]);
     }
-    looked
+    look_on(looked, rest)
 }

@@ -1,11 +1,14 @@
 use Rattle.std.proofs.Common.{◌++◌, ℕ, List}
 use Rattle.csv.specs.Reading.{strip_bom}
-use Rattle.rubis_reading.specs.Chunked.{KeepsPending, held_text}
+use Rattle.rubis_reading.specs.Chunked.{KeepsCome, KeepsPending, held_text}
+use Rattle.rubis_reading.specs.Streams.{EndsNoRecord}
 use Rattle.rubis_reading.specs.Looks.{HasLooked}
 use Rattle.rubis_reading.proofs.chunks.Chunks.fill.Given as goal
 
 abbrev pub invariant-asks : goal.invariant-asks
 invariant-asks g l = record {
   keeps : KeepsPending g.R.Read.remaining l.fn.self l.self;
+  come : KeepsCome g.R.Read.remaining l.fn.self l.self;
+  none : EndsNoRecord (held_text l.fn.self) → EndsNoRecord (held_text l.self);
   looked : (more : List ℕ) → HasLooked (strip_bom (held_text l.self ++ more)) l.looked;
 }

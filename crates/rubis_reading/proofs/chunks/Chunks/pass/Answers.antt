@@ -1,14 +1,19 @@
 use Rattle.std.proofs.Common.{◌∙◌, ap, refl}
 use Rattle.std.specs.Io.KnownBytes.{prepend_known}
 use Rattle.rubis_engine.specs.Text.{input_records}
-use Rattle.rubis_reading.proofs.ChunkFacts.{taken}
+use Rattle.rubis_reading.proofs.ChunkFacts.{handed-come, taken}
 use Rattle.rubis_reading.proofs.chunks.Chunks.pass.Goals as goal
 
-pub returns : goal.returns
-returns g c rows h =
+pub returns-clause-takes : goal.returns-clause-takes
+returns-clause-takes g c rows h =
     let known = g.R.Read.remaining c.args.self.now.reader in
     let t = taken c.args.self.now.held h.bytes known c.args.many c.requires.some c.requires.within c.requires.whole h.source in (
       input_records t.0,
       h.reads ∙ t.2,
       record { bytes = t.0; source = ap (λ held. prepend_known held known) c.pass.ensures ∙ t.1; reads = refl },
     )
+
+pub returns-clause-come : goal.returns-clause-come
+returns-clause-come g c input h =
+    handed-come g.R.Read.remaining c.args.self.now (record { reader = c.args.self.now.reader; held = c.pass.new.self; size = c.args.self.now.size }) c.args.many input
+    refl c.pass.ensures c.requires.some c.requires.within c.requires.whole h

@@ -3,11 +3,11 @@ use Rattle.std.specs.Prelude.{nat_lt}
 use Rattle.std.specs.Io.KnownBytes.{Consumes}
 use Rattle.std.proofs.lemmas.Bool.Decides.{nat_tests}
 use Rattle.std.proofs.lemmas.List.{take-append-le, with_items_is}
-use Rattle.rubis_reading.proofs.HeldFacts.{filled, written-length}
+use Rattle.rubis_reading.proofs.HeldFacts.{filled, unfilled, written-length}
 use Rattle.rubis_reading.proofs.held.Held.fill.Goals as goal
 
-pub returns : goal.returns
-returns g c =
+pub returns-in-Ok-clause-given : goal.returns-in-Ok-clause-given
+returns-in-Ok-clause-given g c =
     let before = g.R.Read.remaining c.args.reader.now in
     let after = g.R.Read.remaining c.read_through_signals.new.reader in
     let xs : List ℕ = c.deref_mut.result.now in
@@ -27,3 +27,19 @@ returns g c =
     (ap (λ ys. slice_range ys c.self.inside.start (end + given)) back)
     (subst (Consumes before after) (sym (take-append-le given c.read_through_signals.new.buf past few)) c.in-Ok.ensures.bytes.0)
     (λ e. c.in-Ok.ensures.bytes.1 e some) none
+
+pub returns-in-Err-clause-failed : goal.returns-in-Err-clause-failed
+returns-in-Err-clause-failed g c e =
+    let xs : List ℕ = c.deref_mut.result.now in
+    let end : ℕ = c.self.inside.end in
+    let within : end ≤ length xs = search rules in
+    let was : c.args.self.now ≡ slice_range xs c.self.inside.start end = search rules in
+    let past : List ℕ = drop (length xs - end) (drop end xs) in
+    let written : List ℕ = take end xs ++ (c.read_through_signals.new.buf ++ past) in
+    let back = with_items_is c.self.inside.buffer written
+    (written-length xs c.read_through_signals.new.buf end within (search rules)
+    ∙ (let ok = c.self.inside.buffer.ok in let len = c.deref_mut.ensures.len in omega arith)) in (
+      ap (λ ys. slice_range ys c.self.inside.start end) back
+          ∙ unfilled xs (c.read_through_signals.new.buf ++ past) c.self.inside.start end c.self.inside.on within ∙ sym was,
+      rw c.in-Err.is at c.read_through_signals.ensures.bytes,
+    )
