@@ -78,7 +78,7 @@ step-flushed text i s (Does (Restarts j)) h m =
     ]
 step-flushed text i s (Does (Replays j fields)) h m = whole-front s.flushed
 
-safe-here : (text : List (List (List ℕ)) → List ℕ) (i : ℕ) (s : FileState) (steps : List Step) → IsHistory text i s steps → IsSafe text s
+pub safe-here : (text : List (List (List ℕ)) → List ℕ) (i : ℕ) (s : FileState) (steps : List Step) → IsHistory text i s steps → IsSafe text s
 safe-here text i s [] h = h
 safe-here text i s (e ∷ later) h = h.0
 

@@ -21,3 +21,4 @@ pub mod MomentFacts
 pub mod SiteFacts
 pub mod HistoriesFacts
 pub mod RefusedFacts
+pub mod SiteLivesFacts

@@ -11,3 +11,4 @@ pub mod History
 pub mod Lives
 pub mod Moments
 pub mod Histories
+pub mod SiteLives

@@ -3,6 +3,7 @@
 ghost use Rattle.rubis_keep.specs.Shops.{KeptShopsAreRuns};
 ghost use Rattle.rubis_keep.specs.Crashes.{ComesBack, DifferencesAreFound, EditsAreFound, EndsLeft, LivesLeft};
 ghost use Rattle.rubis_keep.specs.Histories.{HistoriesAreKept, HistoriesAreRuns};
+ghost use Rattle.rubis_keep.specs.SiteLives.{LivesAreHistories, ShopLivesAreRuns};
 ghost use Rattle.rubis_keep.specs.Moments.{KillsLeaveFiles, PowerFailuresLeaveFiles, RaisedKeepsTellTheSame, ShownTooEarlyIsUnsafe, SiteTextsExtend, ToldTooEarlyIsUnsafe};
 
 /// A run that was cut off any number of times, and anywhere, comes to where one comes that was never cut off. However a run ends,
@@ -41,6 +42,14 @@ pub fn kept_shops_are_runs()
 pub fn histories_are_runs()
     ensures kept { HistoriesAreKept }
     ensures runs { HistoriesAreRuns }
+{}
+
+/// What `keep_site` promises of each of its calls makes a shop. The lives of a site, each over the files that the one before has left, which
+/// end anywhere, by a kill or a power failure, keep its files safe at each step, whatever happens elsewhere; so sites with such lives,
+/// interleaved in any way, are a run of the model: if packets are carried unchanged.
+pub fn shop_lives_are_runs()
+    ensures histories { LivesAreHistories }
+    ensures runs { ShopLivesAreRuns }
 {}
 
 /// A history is refused in which something is told before its line is kept and flushed, or shown before the line `kept,..` or before `out` has

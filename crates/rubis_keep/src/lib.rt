@@ -31,7 +31,7 @@ pub use keep::{Wanted, keep_folder};
 pub use keeping::KeptLines;
 pub use laws::{
     crash_and_restart, early_answers_are_unsafe, histories_are_runs, kept_shops_are_runs,
-    moments_leave_files, raised_keeps_tell_the_same,
+    moments_leave_files, raised_keeps_tell_the_same, shop_lives_are_runs,
 };
 pub use lines::{LINE_MAX, LineCutter};
 pub use run::{Recording, run_kept};
