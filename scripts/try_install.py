@@ -15,7 +15,8 @@ import tempfile
 TOP = pathlib.Path(__file__).resolve().parent.parent
 PLACES = """bin/rubis bin/shop lib/rubis/shop lib/rubis/shop_tool/cli.py share/man/man1/rubis.1 share/man/man1/shop.1
 share/bash-completion/completions/shop share/zsh/site-functions/_shop share/fish/vendor_completions.d/shop.fish
-lib/systemd/system/shop@.service lib/sysusers.d/shop.conf""".split()
+lib/systemd/system/shop@.service lib/systemd/system/shop-http@.service lib/sysusers.d/shop.conf
+lib/rubis/shop_web/serving.py lib/rubis/shop_web/page.html""".split()
 
 
 def install(program: str, *words: str) -> "subprocess.CompletedProcess[str]":
@@ -46,12 +47,13 @@ def try_unit(prefix: pathlib.Path) -> str:
     assert f"ExecStart={prefix}/bin/shop run" in unit.read_text() and f"RUBIS={prefix}/bin/rubis" in unit.read_text()
     if not shutil.which("systemd-analyze"):
         return "; no systemd-analyze, so the unit was not verified"
-    copy = unit.with_name("shop@one.service")
-    shutil.copy(unit, copy)
-    done = subprocess.run(["systemd-analyze", "verify", "--man=no", str(copy)], capture_output=True, text=True, check=False)
-    copy.unlink()
-    faults = [line for line in done.stderr.splitlines() if "shop@" in line]
-    assert not faults, faults
+    for name in ("shop", "shop-http"):
+        copy = unit.with_name(f"{name}@one.service")
+        shutil.copy(unit.with_name(f"{name}@.service"), copy)
+        done = subprocess.run(["systemd-analyze", "verify", "--man=no", str(copy)], capture_output=True, text=True, check=False)
+        copy.unlink()
+        faults = [line for line in done.stderr.splitlines() if f"{name}@" in line]
+        assert not faults, faults
     return ""
 
 

@@ -338,6 +338,20 @@ def test_keys(at: Folder) -> None:
     expect(at.shop("ask 0 user,gus --key g").startswith("ok,"), "once it can")
 
 
+def test_asks_that_are_cut(at: Folder) -> None:
+    """An ask of many that is cut says how far it came, and the same command goes on, by the keys of its asks."""
+    at.run("./shop start auction")
+    asker = at.start("sh -c '(echo user,ann; echo user,bob; sleep 2; echo user,cat) | ./shop -C auction ask 0 - --keys m --timeout 0.5 > said 2>&1'")
+    at.wait("the first two", lambda: "bob" in at.shop("list 0 users"))
+    keeper = at.site(0)["pid"]
+    os.kill(keeper, signal.SIGSTOP)
+    expect(asker.wait(SECONDS) == 3, "its status")
+    said = at.text("said")
+    expect(said.startswith("ok,0.1\nok,0.2\n") and said.endswith("(answered: the first 2); the same command again goes on\n"), f"what it says: {said}")
+    os.kill(keeper, signal.SIGCONT)
+    expect(at.shop("ask 0 user,ann user,bob user,cat --keys m") == "ok,0.1\nok,0.2\nok,0.3\n", "the same again")
+
+
 def test_keys_are_flushed(at: Folder) -> None:
     """With --sync a key is on the disk before the site is given its ask; the keys of what comes together with one flush."""
     if not shutil.which("strace"):

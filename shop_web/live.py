@@ -8,7 +8,7 @@ from typing import Any
 
 from aiohttp import web
 
-from shop_tool.ends import Fault
+from shop_tool.ends import Fault, Status
 from shop_tool.render import shown
 
 from .line import Line
@@ -76,8 +76,10 @@ async def events(line: Line, site: int | None) -> AsyncIterator[dict[str, Any]]:
                 if "line" in answer:
                     at, _, text = answer["line"].partition(" ")
                     yield {"at": at, "text": shown(text)}
-        except Fault:
-            pass
+        except Fault as fault:
+            if fault.status == Status.MISUSE:
+                yield {"fault": fault.text}     # the site runs on another machine
+                return
         is_missing = True
         await asyncio.sleep(STATUS_SECONDS)
 
@@ -91,6 +93,7 @@ async def told(request: web.Request, stopping: asyncio.Event, sources: dict[str,
     async def read(name: str, source: AsyncIterator[dict[str, Any]]) -> None:
         async for said in source:
             await news.put(f"event: {name}\ndata: {json.dumps(said)}\n\n".encode())
+        await news.put(END)
 
     async def end() -> None:
         await stopping.wait()

@@ -264,7 +264,7 @@ class Site(abc.ABC):
 
     def _give_line(self) -> None:
         self.gives_soon = False
-        if self.up.is_set:
+        if self.up.is_set and not self.fenced_by and not self.shop.stopping.is_set:
             self._write([*itertools.takewhile(lambda each: not each.is_given, reversed(self.line))][::-1])
 
     def leave(self, pending: list[Pending]) -> Pending | None:
