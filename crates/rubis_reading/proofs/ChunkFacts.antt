@@ -154,3 +154,13 @@ new-come rem c empty = at (rem c.reader) refl
     at : (known : Option (List ℕ)) → rem c.reader ≡ known → IfSome known (λ input. HasCome rem input c)
     at None e = tt
     at (Some input) e = none-come rem c input e empty
+
+-- the records to come are those behind what was handed on
+pub come-rest : {R : Type 0} (rem : R → Option (List ℕ)) (c : Chunks R) (input : List ℕ) (later : List (List (List ℕ))) → HasPending rem c later
+    → (h : HasCome rem input c) → length (input_records input) ≡ length (input_records h.front) + length later
+come-rest rem c input later p h =
+    let rest : c.held ++ h.left ≡ p.bytes = some-is (sym (ap (prepend_known c.held) h.source) ∙ p.source) in
+    let behind : h.mark ++ (h.begun ++ h.left) ≡ p.bytes = sym (append_assoc h.mark h.begun h.left) ∙ ap (λ t. t ++ h.left) (sym h.held) ∙ rest in
+    let split : input_records input ≡ input_records h.front ++ later =
+    ap input_records h.parts ∙ h.first (h.begun ++ h.left) ∙ ap (λ t. input_records h.front ++ t) (ap input_records behind ∙ sym p.reads) in
+    ap length split ∙ length-append (input_records h.front) later

@@ -1,20 +1,22 @@
 -- How a run goes on by a chunk of its text, and how it ends.
-use Rattle.std.proofs.Common.{◌≡◌, ◌∙◌, ◌≤◌, ◌<◌, ◌+◌, ◌-◌, ◌++◌, [], ℕ, All, List, Option, ap, append-nil, arith, length, length-append, refl, subst, sym, take}
+use Rattle.std.proofs.Common.{◌≡◌, ◌∙◌, ◌≤◌, ◌<◌, ◌+◌, ◌-◌, ◌++◌, ◌∷◌, [], ℕ, All, List, Option, ap, append-nil, arith, length, length-append, refl, subst, sym, take}
 use Rattle.std.specs.Prelude.{MatchOption, None, Some}
 use Rattle.rubis_replica.specs.State.{SiteState}
 use Rattle.rubis_engine.specs.Progress.{IsWrittenOrWaits}
 use Rattle.rubis_engine.specs.Text.{input_records}
 use Rattle.rubis_engine.specs.declared.fault.Count.{Count}
-use Rattle.rubis_reading.specs.Chunked.{IsLast, KeepsPending, TakesOff, held_text}
+use Rattle.rubis_reading.specs.Chunked.{FailsShort, IsLast, KeepsCome, KeepsPending, TakesOff, held_text}
 use Rattle.rubis_reading.specs.Parsed.{AreParsed}
 use Rattle.rubis_reading.specs.Runs.{FitWindow, flat}
 use Rattle.rubis_reading.specs.declared.chunks.Chunks.{Chunks}
 use Rattle.rubis_reading.specs.declared.parsed.Parsed.{Parsed}
 use Rattle.rubis_reading.specs.declared.parsed.Stretch.{Stretch}
+use Rattle.rubis_reading.specs.Streams.{EndsNoRecord}
 use Rattle.rubis_reading.proofs.AheadFacts.{all-fit}
+use Rattle.rubis_reading.proofs.ChunkFacts.{come-rest}
 use Rattle.rubis_script.specs.Desks.{IsSettled, KeepsSetup}
 use Rattle.rubis_script.specs.Headline.{AnswersFirst}
-use Rattle.rubis_script.specs.Runs.{AnswersAllAhead, AnswersFirstAhead, AnswersFirstOf, AnswersJustAhead, HasReadAhead, HasTaken, IsChunk, IsSound, LeavesPrefix}
+use Rattle.rubis_script.specs.Runs.{AnswersAllAhead, AnswersFirstAhead, AnswersFirstOf, AnswersWholeAhead, HasReadAhead, HasTaken, IsChunk, IsSound, LeavesPrefix}
 use Rattle.rubis_script.specs.Runs.{OfEachAhead, OfEachPiece, ReadsOn, StandsAt, Takes, WritesPrefixAhead}
 use Rattle.rubis_script.specs.declared.desk.Desk.{Desk}
 use Rattle.rubis_script.proofs.AloneFacts.{pending-front}
@@ -41,19 +43,21 @@ caught rem chunks d d2 ahead before after takes first old input h = record {
   later = h.later;
   stands = takes-whole (flat ahead) d d2 before after first old (input_records input) h.later takes h.stands;
   pending = h.pending;
+  come = h.come;
 }
 
 -- and a chunk was read meanwhile
 pub reads-chunk : {R G : Type 0} (rem : R → Option (List ℕ)) (chunks chunks2 : Chunks R) (d d2 : Desk G) (ahead ahead2 : List Stretch) (text : List ℕ)
-    (before after : Option (List ℕ)) → Takes (flat ahead) d d2 before after → TakesOff rem chunks chunks2 text
+    (before after : Option (List ℕ)) → Takes (flat ahead) d d2 before after → TakesOff rem chunks chunks2 text → KeepsCome rem chunks chunks2
     → AreParsed d2.site.place.sites (input_records text) (flat ahead2)
     → OfEachAhead rem chunks d ahead before (λ first old input. HasReadAhead rem chunks2 d2 ahead2 first old after input)
-reads-chunk rem chunks chunks2 d d2 ahead ahead2 text before after takes off parsed first old input h =
+reads-chunk rem chunks chunks2 d d2 ahead ahead2 text before after takes off came parsed first old input h =
     let (more, split, pending) = off h.later h.pending in record {
       later = more;
       stands = stands-read d2.site [] (flat ahead2) d2.window.items first old after d2.reply.sink d2.answered (input_records input) h.later
           (input_records text) more refl split parsed (takes-whole (flat ahead) d d2 before after first old (input_records input) h.later takes h.stands);
       pending = pending;
+      come = came input h.come;
     }
 
 -- a prefix was written before all of it was taken
@@ -78,6 +82,7 @@ waited rem chunks d d2 ahead before after site held count out first old input h 
   stands = rw (site, held, count) (stands-waited d.site (flat ahead) d.window.items first old before after d.reply.sink d2.reply.sink d.answered
       (input_records input) h.later out h.stands);
   pending = h.pending;
+  come = h.come;
 }
 
 -- ---- a chunk whose records are answered where they are read
@@ -92,15 +97,16 @@ chunk-each rem chunks many text d now holds chunk is each first old input h =
     (subst (λ rows. StandsAt d [] first old now (input_records input) rows) (split ∙ ap (λ t. input_records t ++ more) (sym is)) h.stands)
 
 pub chunk-taken : {R G : Type 0} (rem : R → Option (List ℕ)) (chunks chunks2 : Chunks R) (text chunk : List ℕ) (d d2 : Desk G)
-    (before after : Option (List ℕ)) → text ≡ chunk → TakesOff rem chunks chunks2 chunk
+    (before after : Option (List ℕ)) → text ≡ chunk → TakesOff rem chunks chunks2 chunk → KeepsCome rem chunks chunks2
     → OfEachPiece text d before (λ first old records rest. StandsAt d2 [] first old after records rest)
     → OfEachAhead rem chunks d [] before (λ first old input. HasReadAhead rem chunks2 d2 [] first old after input)
-chunk-taken rem chunks chunks2 text chunk d d2 before after is off each first old input h =
+chunk-taken rem chunks chunks2 text chunk d d2 before after is off came each first old input h =
     let (more, split, pending) = off h.later h.pending in record {
       later = more;
       stands = each first old (input_records input) more
           (subst (λ rows. StandsAt d [] first old before (input_records input) rows) (split ∙ ap (λ t. input_records t ++ more) (sym is)) h.stands);
       pending = pending;
+      come = came input h.come;
     }
 
 -- ---- the end
@@ -141,13 +147,6 @@ pub first-upto : {G : Type 0} (limit left : ℕ) (d d2 : Desk G) (ahead : List S
 first-upto limit left d d2 ahead before after first start records later most answers stands =
     subst (λ k. AnswersFirst k first d2.site start after records) most (answers first start records later stands)
 
--- the reader failed where all that came was answered
-pub cut-just : {R G : Type 0} (rem : R → Option (List ℕ)) (chunks : Chunks R) (d d2 : Desk G) (ahead : List Stretch) (before after : Option (List ℕ))
-    → Takes (flat ahead) d d2 before after → IsSettled d2 → AnswersJustAhead d2.answered rem chunks d ahead before d2 after
-cut-just rem chunks d d2 ahead before after takes settled first old input h =
-    stands-cut d2.site [] d2.window.items first old after d2.reply.sink d2.answered (input_records input) h.later settled.1 settled.0
-    (takes-whole (flat ahead) d d2 before after first old (input_records input) h.later takes h.stands)
-
 pub prefix-last : {R G : Type 0} (rem : R → Option (List ℕ)) (chunks : Chunks R) (d : Desk G) (ahead : List Stretch) (before after : Option (List ℕ))
     → IsLast rem chunks → AreParsed d.site.place.sites (input_records (held_text chunks)) (flat ahead) → LeavesPrefix (flat ahead) d before after
     → WritesPrefixAhead rem chunks d [] before after
@@ -166,24 +165,29 @@ read-last d ahead list sites text held same shown is parsed fits =
 
 -- ---- a turn
 
+nothing-parsed : (sites : ℕ) (rows : List (List (List ℕ))) → AreParsed sites rows [] → rows ≡ []
+unfolding AreParsed
+nothing-parsed sites [] h = refl
+nothing-parsed sites (fields ∷ rows) h = absurd h
+
 pub match-none : {A : Type 0} (o : Option A) (P : Type 0) (Q : A → Type 0) → MatchOption o P Q → o ≡ None → P
 match-none None P Q h e = h
 match-none (Some x) P Q h e = absurd cc
 
 -- the reader gave more
 pub still-pending : {R G : Type 0} (rem : R → Option (List ℕ)) (chunks chunks2 : Chunks R) (d d2 : Desk G) (ahead : List Stretch)
-    (before after : Option (List ℕ)) → Takes (flat ahead) d d2 before after → KeepsPending rem chunks chunks2
+    (before after : Option (List ℕ)) → Takes (flat ahead) d d2 before after → KeepsPending rem chunks chunks2 → KeepsCome rem chunks chunks2
     → OfEachAhead rem chunks d ahead before (λ first old input. HasReadAhead rem chunks2 d2 [] first old after input)
-still-pending rem chunks chunks2 d d2 ahead before after takes keeps first old input h =
+still-pending rem chunks chunks2 d d2 ahead before after takes keeps came first old input h =
     let all = caught rem chunks d d2 ahead before after takes first old input h in
-    record { later = all.later; stands = all.stands; pending = keeps all.later all.pending }
+    record { later = all.later; stands = all.stands; pending = keeps all.later all.pending; come = came input all.come }
 
 pub reads-caught : {R G : Type 0} (rem : R → Option (List ℕ)) (chunks chunks2 : Chunks R) (d d2 : Desk G) (ahead ahead2 : List Stretch)
-    (before after : Option (List ℕ)) → Takes (flat ahead) d d2 before after → ahead2 ≡ [] → KeepsPending rem chunks chunks2
+    (before after : Option (List ℕ)) → Takes (flat ahead) d d2 before after → ahead2 ≡ [] → KeepsPending rem chunks chunks2 → KeepsCome rem chunks chunks2
     → ReadsOn rem chunks d ahead before chunks2 d2 ahead2 after
-reads-caught rem chunks chunks2 d d2 ahead ahead2 before after takes none keeps =
+reads-caught rem chunks chunks2 d d2 ahead ahead2 before after takes none keeps came =
     subst (λ l. ReadsOn rem chunks d ahead before chunks2 d2 l after) (sym none)
-    (record { sound = sound-none d2; goes = still-pending rem chunks chunks2 d d2 ahead before after takes keeps })
+    (record { sound = sound-none d2; goes = still-pending rem chunks chunks2 d d2 ahead before after takes keeps came })
 
 -- all was answered, and then a chunk
 pub reads-after : {R G : Type 0} (rem : R → Option (List ℕ)) (chunks chunks2 : Chunks R) (d mid d2 : Desk G) (ahead ahead2 : List Stretch)
@@ -204,3 +208,27 @@ reads-waited rem chunks chunks2 d mid d2 ahead ahead2 before between after reads
   sound = sound-kept mid d2 ahead2 (ap (λ s. s.place) site, plan) reads.sound;
   goes = λ first old input h. waited rem chunks2 mid d2 ahead2 between after site held count out first old input (reads.goes first old input h);
 }
+
+-- as many records were answered or are held as came whole, where none were read ahead
+come-count : {R G : Type 0} (rem : R → Option (List ℕ)) (chunks : Chunks R) (d : Desk G) (first : SiteState) (old now : Option (List ℕ)) (input : List ℕ)
+    → (h : HasReadAhead rem chunks d [] first old now input) → d.answered ≡ length (input_records h.come.front)
+come-count rem chunks d first old now input h =
+    let t = h.stands.text in
+    let none : t.next ≡ [] = nothing-parsed d.site.place.sites t.next t.parsed in
+    let all = ap length t.parts in
+    let parts = length-append t.done (t.next ++ h.later) in
+    let rest = length-append t.next h.later in
+    let next = ap length none in
+    let came = come-rest rem chunks input h.later h.pending h.come in
+    omega (arith, all, parts, rest, next, came, t.count)
+
+-- the reader failed where all that came was answered
+pub cut-just : {R G : Type 0} (rem : R → Option (List ℕ)) (chunks chunks2 : Chunks R) (d d2 : Desk G) (ahead : List Stretch) (before after : Option (List ℕ))
+    → Takes (flat ahead) d d2 before after → IsSettled d2 → FailsShort rem chunks chunks2 → EndsNoRecord (held_text chunks)
+    → AnswersWholeAhead rem chunks d ahead before chunks2 d2 after
+cut-just rem chunks chunks2 d d2 ahead before after takes settled failed none first old input h =
+    let all = still-pending rem chunks chunks2 d d2 ahead before after takes failed.pending failed.come first old input h in (
+      stands-cut d2.site [] d2.window.items first old after d2.reply.sink d2.answered (input_records input) h.later settled.1 settled.0
+          (takes-whole (flat ahead) d d2 before after first old (input_records input) h.later takes h.stands),
+      record { come = all.come; count = come-count rem chunks2 d2 first old after input all; none = failed.none none },
+    )

@@ -17,7 +17,7 @@ use Rattle.rubis_reading.specs.declared.parsed.Stretch.{Stretch}
 use Rattle.rubis_reading.specs.declared.parsed.Parsed.TheVariants.{Came}
 use Rattle.rubis_model.specs.Runs.{answers, input_of}
 use Rattle.rubis_engine.specs.Text.{input_records}
-use Rattle.rubis_reading.specs.Chunked.{HasPending}
+use Rattle.rubis_reading.specs.Chunked.{HasCome, HasPending}
 use Rattle.rubis_reading.specs.declared.chunks.Chunks.{Chunks}
 use Rattle.rubis_reading.specs.Parsed.{AreParsed, FitsIn, IsParsed, meant}
 use Rattle.rubis_reading.proofs.AheadFacts.{ahead-answered, ahead-done, ahead-kept, ahead-prefix, ahead-read, ahead-starts, ahead-too_long, ahead-written}
@@ -31,7 +31,7 @@ use Rattle.rubis_engine.specs.declared.fault.RunFault.{RunFault}
 use Rattle.rubis_engine.specs.declared.fault.RunFault.TheVariants as fault
 use Rattle.rubis_script.specs.Desks.{IsFresh}
 use Rattle.rubis_script.specs.Endings.{ByEnd}
-use Rattle.rubis_script.specs.Runs.{AnswersAllAhead, AnswersFirstAhead, AnswersJustAhead, HasReadAhead, Stands, WritesPrefixAhead}
+use Rattle.rubis_script.specs.Runs.{AnswersAllAhead, AnswersFirstAhead, AnswersWholeAhead, EndsWhole, HasAll, HasReadAhead, Stands, WritesPrefixAhead}
 use Rattle.std.specs.Prelude.{IfOk, IfSome, Result, Ok, Err, Some, None}
 use Rattle.rubis_script.specs.declared.desk.Desk.{Desk}
 
@@ -61,8 +61,8 @@ at_if_ok P (Err x) v h e = absurd cc
 
 -- nothing was read or answered yet
 pub starts : {R G : Type 0} (rem : R → Option (List ℕ)) (chunks : Chunks R) (d : Desk G) (ahead : List Stretch) (old : Option (List ℕ)) (input : List ℕ)
-    → ahead ≡ [] → IsFresh d → HasPending rem chunks (input_records input) → HasReadAhead rem chunks d ahead d.site old old input
-starts rem chunks d ahead old input none fresh pending = record {
+    → ahead ≡ [] → IsFresh d → HasAll rem chunks input → HasReadAhead rem chunks d ahead d.site old old input
+starts rem chunks d ahead old input none fresh (pending, come) = record {
   later = input_records input;
   stands = record {
     text = ahead-starts d.site.place.sites (flat ahead) (told_by d.site 1) (held_by d.site d.window.items (d.answered + 1)) old d.reply.sink (d.answered + 1)
@@ -71,6 +71,7 @@ starts rem chunks d ahead old input none fresh pending = record {
     led = led_none d.site d.window.items d.answered (input_records input) fresh.none fresh.zero;
   };
   pending = pending;
+  come = come;
 }
 
 -- ---- a step
@@ -237,20 +238,36 @@ run-held old_site site w w2 ms left first old now sink sink2 answered many recor
     (holds-run site ms [] left first old now sink2 answered records later (omega arith) kept)
 
 -- a run that has read nothing ahead so far ends so
-pub ends_ahead : {R G : Type 0} (rem : R → Option (List ℕ)) (chunks : Chunks R) (d new : Desk G) (ahead : List Stretch) (limit : ℕ)
-    (input old now : Option (List ℕ)) (result : Result Count RunFault)
-    → IfSome input (λ bytes. HasPending rem chunks (input_records bytes)) → ahead ≡ [] → IsFresh d
+pub ends_ahead : {R G : Type 0} (rem : R → Option (List ℕ)) (chunks chunks2 : Chunks R) (d new : Desk G) (ahead : List Stretch) (limit : ℕ)
+    (input : List ℕ) (old now : Option (List ℕ)) (result : Result Count RunFault) → HasAll rem chunks input → ahead ≡ [] → IsFresh d
     → ByEnd result (λ count. AnswersAllAhead limit rem chunks d ahead old new now count) (AnswersFirstAhead limit rem chunks d ahead old new now)
-    (AnswersJustAhead new.answered rem chunks d ahead old new now) (WritesPrefixAhead rem chunks d ahead old now)
-    → IfSome input (λ bytes. SiteEnds limit d.site new.site old now (input_records bytes) result)
-ends_ahead rem chunks d new ahead limit None old now result pending none fresh ends = tt
-ends_ahead rem chunks d new ahead limit (Some bytes) old now (Ok count) pending none fresh ends =
-    ends d.site old bytes (starts rem chunks d ahead old bytes none fresh pending)
-ends_ahead rem chunks d new ahead limit (Some bytes) old now (Err fault.TooLong) pending none fresh ends =
-    ends d.site old bytes (starts rem chunks d ahead old bytes none fresh pending)
-ends_ahead rem chunks d new ahead limit (Some bytes) old now (Err fault.Read) pending none fresh ends =
-    (new.answered, (ends d.site old bytes (starts rem chunks d ahead old bytes none fresh pending)).0)
-ends_ahead rem chunks d new ahead limit (Some bytes) old now (Err fault.Memory) pending none fresh ends =
-    ends d.site old bytes (starts rem chunks d ahead old bytes none fresh pending)
-ends_ahead rem chunks d new ahead limit (Some bytes) old now (Err fault.Write) pending none fresh ends =
-    ends d.site old bytes (starts rem chunks d ahead old bytes none fresh pending)
+    (AnswersWholeAhead rem chunks d ahead old chunks2 new now) (WritesPrefixAhead rem chunks d ahead old now)
+    → EndsWhole rem chunks2 limit d.site new.site old now input result
+ends_ahead rem chunks chunks2 d new ahead limit input old now (Ok count) all none fresh ends =
+    ends d.site old input (starts rem chunks d ahead old input none fresh all)
+ends_ahead rem chunks chunks2 d new ahead limit input old now (Err fault.TooLong) all none fresh ends =
+    ends d.site old input (starts rem chunks d ahead old input none fresh all)
+ends_ahead rem chunks chunks2 d new ahead limit input old now (Err fault.Read) all none fresh ends =
+    let whole = ends d.site old input (starts rem chunks d ahead old input none fresh all) in (new.answered, whole.0, whole.1)
+ends_ahead rem chunks chunks2 d new ahead limit input old now (Err fault.Memory) all none fresh ends =
+    ends d.site old input (starts rem chunks d ahead old input none fresh all)
+ends_ahead rem chunks chunks2 d new ahead limit input old now (Err fault.Write) all none fresh ends =
+    ends d.site old input (starts rem chunks d ahead old input none fresh all)
+
+-- in fewer words
+site_ends : {R : Type 0} (rem : R → Option (List ℕ)) (chunks : Chunks R) (limit : ℕ) (first new : SiteState) (old now : Option (List ℕ)) (input : List ℕ)
+    (result : Result Count RunFault) → EndsWhole rem chunks limit first new old now input result → SiteEnds limit first new old now (input_records input) result
+site_ends rem chunks limit first new old now input (Ok count) ends = ends
+site_ends rem chunks limit first new old now input (Err fault.TooLong) ends = ends
+site_ends rem chunks limit first new old now input (Err fault.Read) ends = (ends.0, ends.1.0)
+site_ends rem chunks limit first new old now input (Err fault.Memory) ends = ends
+site_ends rem chunks limit first new old now input (Err fault.Write) ends = ends
+
+-- a run over a reader ends so
+pub reader_ends : {R : Type 0} (rem : R → Option (List ℕ)) (chunks chunks2 : Chunks R) (limit : ℕ) (first new : SiteState) (known old now : Option (List ℕ))
+    (result : Result Count RunFault) → IfSome known (λ input. HasPending rem chunks (input_records input)) → IfSome known (λ input. HasCome rem input chunks)
+    → ((input : List ℕ) → HasAll rem chunks input → EndsWhole rem chunks2 limit first new old now input result)
+    → IfSome known (λ input. SiteEnds limit first new old now (input_records input) result)
+reader_ends rem chunks chunks2 limit first new None old now result pending come ends = tt
+reader_ends rem chunks chunks2 limit first new (Some input) old now result pending come ends =
+    site_ends rem chunks2 limit first new old now input result (ends input (pending, come))

@@ -1,5 +1,5 @@
 -- A run that reads ahead, at the desk of a site.
-use Rattle.std.specs.Prelude.{◌≡◌, ◌≤◌, ◌<◌, ◌+◌, ◌++◌, ◌∷◌, ◌⊎◌, [], ℕ, All, IfNone, List, MatchOption, None, Option, Result, Some, length, take}
+use Rattle.std.specs.Prelude.{◌≡◌, ◌≤◌, ◌<◌, ◌+◌, ◌++◌, ◌∷◌, ◌⊎◌, [], ℕ, All, IfNone, List, MatchOption, None, Option, Result, Ok, Err, Some, length, take}
 use Rattle.rubis_schema.specs.declared.listings.Listing.{Listing}
 use Rattle.rubis_message.specs.Message.{Message}
 use Rattle.rubis_message.specs.declared.requests.Request.TheVariants as request
@@ -14,11 +14,12 @@ use Rattle.rubis_engine.specs.Reading.{Gives}
 use Rattle.rubis_engine.specs.Text.{input_records}
 use Rattle.rubis_engine.specs.declared.fault.Count.{Count}
 use Rattle.rubis_engine.specs.declared.fault.RunFault.{RunFault}
+use Rattle.rubis_engine.specs.declared.fault.RunFault.TheVariants.{Memory, Read, TooLong, Write}
 use Rattle.rubis_engine.specs.declared.record_list.Records.{Records}
-use Rattle.rubis_reading.specs.Chunked.{HasPending, held_text}
+use Rattle.rubis_reading.specs.Chunked.{HasCome, HasPending, held_text}
 use Rattle.rubis_reading.specs.Parsed.{FitsIn}
 use Rattle.rubis_reading.specs.Runs.{FitWindow, flat}
-use Rattle.rubis_reading.specs.Streams.{IsWhole, NoWholeAfter}
+use Rattle.rubis_reading.specs.Streams.{EndsNoRecord, IsWhole}
 use Rattle.rubis_reading.specs.declared.parsed.Parsed.{Parsed}
 use Rattle.rubis_reading.specs.declared.parsed.Parsed.TheVariants.{Asked}
 use Rattle.rubis_reading.specs.declared.parsed.Stretch.{Stretch}
@@ -95,6 +96,7 @@ pub record HasReadAhead {R G : Type 0} (rem : R → Option (List ℕ)) (chunks :
   pub later : List (List (List ℕ))
   pub stands : StandsAt d (flat ahead) first old now (input_records input) later
   pub pending : HasPending rem chunks later
+  pub come : HasCome rem input chunks
 
 -- of every run that stands there this holds, `first` being the state in which it began
 abbrev pub OfEachAhead : {R G : Type 0} → (R → Option (List ℕ)) → Chunks R → Desk G → List Stretch → Option (List ℕ)
@@ -120,11 +122,33 @@ abbrev pub AnswersFirstAhead : {R G : Type 0} → ℕ → (R → Option (List �
 AnswersFirstAhead limit rem chunks d ahead before new after =
     OfEachAhead rem chunks d ahead before (λ first old input. AnswersFirst limit first new.site old after (input_records input))
 
--- every run that stands there has answered n first records, and no more
-abbrev pub AnswersJustAhead : {R G : Type 0} → ℕ → (R → Option (List ℕ)) → Chunks R → Desk G → List Stretch → Option (List ℕ)
-    → Desk G → Option (List ℕ) → Type 0
-AnswersJustAhead n rem chunks d ahead before new after =
-    OfEachAhead rem chunks d ahead before (λ first old input. AnswersJust n first new.site old after (input_records input))
+-- of an input k whole records came: they were handed on, and in what came since no record ends
+pub record CameWhole {R : Type 0} (rem : R → Option (List ℕ)) (chunks : Chunks R) (input : List ℕ) (k : ℕ) : Type 0 where
+  pub come : HasCome rem input chunks
+  pub count : k ≡ length (input_records come.front)
+  pub none : EndsNoRecord (held_text chunks)
+
+-- every run that stands there has answered the records that came whole, and no more
+abbrev pub AnswersWholeAhead : {R G : Type 0} → (R → Option (List ℕ)) → Chunks R → Desk G → List Stretch → Option (List ℕ)
+    → Chunks R → Desk G → Option (List ℕ) → Type 0
+AnswersWholeAhead rem chunks d ahead before chunks2 new after =
+    OfEachAhead rem chunks d ahead before (λ first old input. AnswersJust new.answered first new.site old after (input_records input)
+    × CameWhole rem chunks2 input new.answered)
+
+-- how a run over the chunks of an input ends: all records are answered; the first `limit` of more; those that came whole, where the reader
+-- failed; or a prefix of the text was written, where memory ran out or the writer failed
+abbrev pub EndsWhole : {R : Type 0} → (R → Option (List ℕ)) → Chunks R → ℕ → SiteState → SiteState → Option (List ℕ) → Option (List ℕ) → List ℕ
+    → Result Count RunFault → Type 0
+EndsWhole rem chunks limit first new old now input (Ok count) = AnswersAll limit first new old now (input_records input) count.records
+EndsWhole rem chunks limit first new old now input (Err TooLong) = AnswersFirst limit first new old now (input_records input)
+EndsWhole rem chunks limit first new old now input (Err Read) =
+    (k : ℕ) × AnswersJust k first new old now (input_records input) × CameWhole rem chunks input k
+EndsWhole rem chunks limit first new old now input (Err Memory) = WrotePrefix ((told_by first 1).text AtEnd) old now (input_records input)
+EndsWhole rem chunks limit first new old now input (Err Write) = WrotePrefix ((told_by first 1).text AtEnd) old now (input_records input)
+
+-- the chunks have all of the input still to give
+abbrev pub HasAll : {R : Type 0} → (R → Option (List ℕ)) → Chunks R → List ℕ → Type 0
+HasAll rem chunks input = HasPending rem chunks (input_records input) × HasCome rem input chunks
 
 -- every run that stands there has written a prefix of its text
 abbrev pub WritesPrefixAhead : {R G : Type 0} → (R → Option (List ℕ)) → Chunks R → Desk G → List Stretch → Option (List ℕ) → Option (List ℕ) → Type 0
@@ -146,11 +170,6 @@ abbrev pub GoesOnOrEnds : {R G : Type 0} → ℕ → (R → Option (List ℕ)) �
 GoesOnOrEnds limit rem chunks d ahead before chunks2 d2 ahead2 after over = MatchOption over
     (ReadsOn rem chunks d ahead before chunks2 d2 ahead2 after × (d2.answered ≤ limit))
     (λ count. AnswersAllAhead limit rem chunks d ahead before d2 after count)
-
--- the reader failed: no whole record is left in what came, and all that was read ahead is answered
-abbrev pub IsCutShort : {R G : Type 0} → (R → Option (List ℕ)) → Chunks R → Desk G → List Stretch → Option (List ℕ) → Desk G → Option (List ℕ) → Type 0
-IsCutShort rem chunks d ahead before new after = NoWholeAfter (held_text chunks) 1 × (new.answered ≡ d.answered + length (flat ahead))
-    × AnswersJustAhead new.answered rem chunks d ahead before new after
 
 -- ---- a piece of text whose records are answered one by one, where they are read
 

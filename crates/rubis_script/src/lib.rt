@@ -22,5 +22,5 @@ pub use replies::{
 };
 pub use rubis_engine::{Count, RunFault};
 pub use rubis_replica::{Arrived, Config, Fault, Free, Gate, Site};
-pub use run::run_desk;
+pub use run::{run_chunks, run_desk};
 pub use site_run::{run_site, run_site_upto};

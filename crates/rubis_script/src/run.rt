@@ -1,6 +1,6 @@
 //! A run of a site over the chunks of a text.
 
-ghost use Rattle.std.specs.Prelude.{◌≡◌, ◌≤◌, ◌<◌, ◌+◌, ◌^◌, [], length};
+ghost use Rattle.std.specs.Prelude.{◌≡◌, ◌≤◌, ◌<◌, ◌+◌, ◌^◌, [], ℕ, List, length};
 ghost use Rattle.rubis_model.specs.Site.{opening_at};
 ghost use Rattle.rubis_engine.specs.Progress.{IsRun};
 ghost use Rattle.rubis_reading.specs.Chunked.{IsLast, held_text};
@@ -8,8 +8,8 @@ ghost use Rattle.rubis_reading.specs.Runs.{flat};
 ghost use Rattle.rubis_script.specs.Desks.{IsSettled};
 ghost use Rattle.rubis_script.specs.Endings.{ByEnd};
 ghost use Rattle.rubis_script.specs.Headline.{HasAnswered, OfRead, StandsAsProcess, WritesAsProcess};
-ghost use Rattle.rubis_script.specs.Runs.{AnswersAllAhead, AnswersFirstAhead, AnswersFirstOf, AnswersJustAhead, GoesOnOrEnds, IsChunk, IsCutShort, IsSound};
-ghost use Rattle.rubis_script.specs.Runs.{LeavesPrefix, ReadsOn, Takes, WritesPrefixAhead};
+ghost use Rattle.rubis_script.specs.Runs.{AnswersAllAhead, AnswersFirstAhead, AnswersFirstOf, AnswersWholeAhead, EndsWhole, GoesOnOrEnds, HasAll, IsChunk};
+ghost use Rattle.rubis_script.specs.Runs.{IsSound, LeavesPrefix, ReadsOn, Takes, WritesPrefixAhead};
 ghost use Rattle.rubis_script.specs.SiteRuns.{told_by};
 
 use crate::alone::answer_piece;
@@ -184,7 +184,7 @@ fn turn<G: Gate, T: Threads + Wait + Sync, R: Read, W: Write>(
         (λ over. GoesOnOrEnds limit R.remaining chunks.old desk.old ahead.old (W.contents writer.old)
         chunks.new desk.new ahead.new (W.contents writer.new) over)
         (AnswersFirstAhead limit R.remaining chunks.old desk.old ahead.old (W.contents writer.old) desk.new (W.contents writer.new))
-        (IsCutShort R.remaining chunks.old desk.old ahead.old (W.contents writer.old) desk.new (W.contents writer.new))
+        (AnswersWholeAhead R.remaining chunks.old desk.old ahead.old (W.contents writer.old) chunks.new desk.new (W.contents writer.new))
         (WritesPrefixAhead R.remaining chunks.old desk.old ahead.old (W.contents writer.old) (W.contents writer.new)) }
 {
     let left = limit - desk.answered;
@@ -235,7 +235,7 @@ fn serve<G: Gate, T: Threads + Wait + Sync, R: Read, W: Write>(
     ensures { ByEnd result
         (λ count. AnswersAllAhead limit R.remaining chunks.old desk.old ahead.old (W.contents writer.old) desk.new (W.contents writer.new) count)
         (AnswersFirstAhead limit R.remaining chunks.old desk.old ahead.old (W.contents writer.old) desk.new (W.contents writer.new))
-        (AnswersJustAhead desk.new.answered R.remaining chunks.old desk.old ahead.old (W.contents writer.old) desk.new (W.contents writer.new))
+        (AnswersWholeAhead R.remaining chunks.old desk.old ahead.old (W.contents writer.old) chunks.new desk.new (W.contents writer.new))
         (WritesPrefixAhead R.remaining chunks.old desk.old ahead.old (W.contents writer.old) (W.contents writer.new)) }
 {
     'steps: for _ in 0..u64::MAX {
@@ -244,6 +244,28 @@ fn serve<G: Gate, T: Threads + Wait + Sync, R: Read, W: Write>(
         }
     }
     Err(RunFault::Memory)
+}
+
+/// Runs the desk of a site over chunks of text, as `run_desk` does over a reader. They are lent: where their reader failed, they have
+/// what came of its input and wasn't answered, in which no record ends, and the reader has the rest.
+///
+/// # Errors
+///
+/// Those of `run_desk`.
+pub fn run_chunks<G: Gate, T: Threads + Wait + Sync, R: Read, W: Write>(
+    rt: &T,
+    alloc: Global,
+    chunks: &mut Chunks<R>,
+    writer: &mut W,
+    desk: &mut Desk<G>,
+    limit: u64,
+) -> Result<Count, RunFault>
+    ensures { (input : List ℕ) → HasAll R.remaining chunks.old input → EndsWhole R.remaining chunks.new limit desk.old.site desk.new.site
+        (W.contents writer.old) (W.contents writer.new) input result }
+{
+    let mut ahead = Ahead::new(alloc);
+    desk.start();
+    serve(rt, chunks, desk, &mut ahead, writer, limit)
 }
 
 /// Runs the desk of a site over the records of `reader` until its end, or up to `limit` of them: appends the text of its
@@ -277,7 +299,5 @@ pub fn run_desk<G: Gate, T: Threads + Wait + Sync, R: Read + Drop, W: Write>(
         BLOCK
     };
     let mut chunks = Chunks::new(alloc, reader, size);
-    let mut ahead = Ahead::new(alloc);
-    desk.start();
-    serve(rt, &mut chunks, desk, &mut ahead, writer, limit)
+    run_chunks(rt, alloc, &mut chunks, writer, desk, limit)
 }

@@ -27,7 +27,7 @@ returns g c =
       record {
         sound = sound-none c.answer_piece.new.desk;
         goes = chunk-taken g.R.Read.remaining c.args.chunks.now c.pass.new.self c.split_at.result.0.now (take c.args.many (held_text c.args.chunks.now))
-            c.args.desk.now c.answer_piece.new.desk _ _ text c.pass.ensures stands;
+            c.args.desk.now c.answer_piece.new.desk _ _ text c.pass.ensures.takes c.pass.ensures.come stands;
       },
       within,
     )

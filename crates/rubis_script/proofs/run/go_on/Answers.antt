@@ -50,7 +50,7 @@ returns g c =
     (subst (λ t. AreParsed d.site.place.sites (input_records t) (flat c.in_ok-overlapped.overlapped.read.items)) piece read) fits in (
       record {
         sound = sound;
-        goes = reads-chunk g.R.Read.remaining c.args.chunks.now c.pass.new.self d d2 c.args.ahead.now c.in_ok-ahead.field-0 chunk _ _ all c.pass.ensures parsed;
+        goes = reads-chunk g.R.Read.remaining c.args.chunks.now c.pass.new.self d d2 c.args.ahead.now c.in_ok-ahead.field-0 chunk _ _ all c.pass.ensures.takes c.pass.ensures.come parsed;
       },
       all.count,
     )

@@ -12,7 +12,7 @@ returns-in_err-count g c =
     let stands = c.steps.invariant.stands in
     ends_on _ _ c.from_residual.result c.in_err-count.field-0.0 c.from_residual.ensures
     (λ long first old input h. long first old input (stands first old input h))
-    (λ cut first old input h. cut.2 first old input (stands first old input h))
+    (λ whole first old input h. whole first old input (stands first old input h))
     (λ prefix first old input h. prefix first old input (stands first old input h)) c.in_err-count.ensures
 
 pub returns-in-Some : goal.returns-in-Some

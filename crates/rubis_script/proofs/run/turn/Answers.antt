@@ -1,4 +1,5 @@
 use Rattle.std.proofs.Common.{◌≡◌, ◌+◌, ◌-◌, arith, false, refl, rules}
+use Rattle.rubis_reading.specs.declared.held.ChunkFault.TheVariants.{Read}
 use Rattle.rubis_script.proofs.ChunkFacts.{caught, cut-just, first-upto, prefix-ahead, reads-after, reads-caught, reads-waited, still-pending}
 use Rattle.rubis_engine.specs.Text.{input_records}
 use Rattle.rubis_reading.specs.Runs.{flat}
@@ -74,14 +75,14 @@ pub returns-in-Ok-true : goal.returns-in-Ok-true
 returns-in-Ok-true g c =
     let (takes, settled, none) = c.in_ok-catch_up.ensures in (
       reads-caught g.R.Read.remaining c.args.chunks.now _ c.args.desk.now c.catch_up.new.desk c.args.ahead.now c.catch_up.new.ahead _ _ takes none
-          c.in-Ok-true.ensures.keeps,
+          c.in-Ok-true.ensures.keeps c.in-Ok-true.ensures.come,
       omega (arith, takes.count, c.requires.within, c.if-len-left.false, c.len.ensures),
     )
 
 pub returns-in_err-count-in-Ok-false : goal.returns-in_err-count-in-Ok-false
 returns-in_err-count-in-Ok-false g c =
     let all = still-pending g.R.Read.remaining c.args.chunks.now c.fill.new.self c.args.desk.now c.catch_up.new.desk c.args.ahead.now _ _
-    c.in_ok-catch_up.ensures.0 c.in-Ok-false.ensures.keeps in
+    c.in_ok-catch_up.ensures.0 c.in-Ok-false.ensures.keeps c.in-Ok-false.ensures.come in
     ends_on _ _ c.from_residual-in_err-count-in-Ok-false.result c.in_err-count-in-Ok-false.field-0.0 c.from_residual-in_err-count-in-Ok-false.ensures
     (λ long first old input h. long first old input (all first old input h)) absurd
     (λ prefix first old input h. prefix first old input (all first old input h)) c.in_err-count-in-Ok-false.ensures
@@ -90,15 +91,14 @@ pub returns-in_ok-count-in-Ok-false : goal.returns-in_ok-count-in-Ok-false
 returns-in_ok-count-in-Ok-false g c first old input h =
     c.in_ok-count-in-Ok-false.ensures first old input
     (still-pending g.R.Read.remaining c.args.chunks.now c.fill.new.self c.args.desk.now c.catch_up.new.desk c.args.ahead.now _ _
-    c.in_ok-catch_up.ensures.0 c.in-Ok-false.ensures.keeps first old input h)
+    c.in_ok-catch_up.ensures.0 c.in-Ok-false.ensures.keeps c.in-Ok-false.ensures.come first old input h)
 
 pub returns-in-Err-Read : goal.returns-in-Err-Read
 returns-in-Err-Read g c =
-    let (takes, settled, none) = c.in_ok-catch_up.ensures in (
-      c.whole-many.ensures.none (omega (arith, c.if-many-gt1-2.false)),
-      takes.count,
-      cut-just g.R.Read.remaining c.args.chunks.now c.args.desk.now c.catch_up.new.desk c.args.ahead.now _ _ takes settled,
-    )
+    let (takes, settled, none) = c.in_ok-catch_up.ensures in
+    let read : c.in-Err-Read.field-0 ≡ Read = search rules in
+    cut-just g.R.Read.remaining c.args.chunks.now c.fill.new.self c.args.desk.now c.catch_up.new.desk c.args.ahead.now _ _ takes settled
+    (c.in-Err-Read.ensures.failed (rw read refl)) (c.whole-many.ensures.begun (omega (arith, c.if-many-gt1-2.false)))
 
 pub returns-in-Err-Memory : goal.returns-in-Err-Memory
 returns-in-Err-Memory g c =
