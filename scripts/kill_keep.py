@@ -20,6 +20,9 @@ Where `out` is torn at each of its bytes, a start with a greater --keep tells ag
 With --sync, 200 lives are killed at a flush of `kept` or end, where there is a strace, and every other one is followed by a power failure:
 `kept` is cut to what was flushed, and `out`, which isn't flushed, anywhere. All that `out` had is answered again.
 
+Questions stand among the records of each life. Where each input of a site has some, `kept` and `out` are what they are without them, and so are
+the answers on standard output, but for those to questions. A line of that form in the `kept` of an older folder is a record.
+
 The seed is in the first line of the output, so that a run can be repeated; LIVES is 60 for the gate."""
 
 import pathlib
@@ -131,9 +134,14 @@ class Site:
         check(self.read("out") == self.answers(self.kept()), f"{when}: out isn't the answers to kept")
 
 
+QUESTIONS = (b"?state\n", b"?list,users\n", b"?list,log\n", b"?list,tables\n", b'?list,"users\n', b"?\n", b"?users\n", b"?" + b"x" * 5000 + b"\n")
+
+
 def requests(dice: random.Random, made: list[int]) -> bytes:
-    """A request, or what isn't one."""
+    """A request, a question, or what is neither."""
     made[0] += 1
+    if dice.random() < 0.05:
+        return dice.choice(QUESTIONS)
     kind = dice.randrange(16)
     some = dice.randrange(1, 40)
     other = dice.randrange(1, 40)
@@ -228,6 +236,49 @@ def kill_a_shop(shop: Shop, dice: random.Random, name: str, lives: int) -> tuple
     verdict = shop.audit(sites)
     check(verdict == b"audit,Agree\n", f"the audit says {verdict!r}")
     return killed, sum(len(site.kept().splitlines()) for site in sites)
+
+
+def ask_questions(shop: Shop, dice: random.Random) -> str:
+    """Two sites, one of which is asked questions: their files are the same, and so are the answers to their records."""
+    asked, plain = (shop.site(name, "--site", "0", "--sites", "2") for name in ("asked", "plain"))
+    made = [0]
+    count = 0
+    for _ in range(12):
+        lines = [line for line in (requests(dice, made) for _ in range(40)) if not line.startswith(b"?")]
+        mixed = []
+        for line in lines:
+            while dice.random() < 0.4:
+                mixed.append(dice.choice(QUESTIONS))
+                count += 1
+            mixed.append(line)
+        answers = asked.run(b"".join(mixed)).stdout
+        expected = plain.run(b"".join(lines)).stdout
+        check(asked.read("kept") == plain.read("kept"), "kept has a question, or lacks a record")
+        check(asked.read("out") == plain.read("out"), "out differs where questions were asked")
+        check(without_replies(answers) == expected, "the answers to records differ where questions were asked")
+    old = shop.site("old")
+    old.run(b"user,ann\n")
+    (old.folder / "kept").write_bytes(b"user,ann\n?state\nuser,bob\n")
+    done = old.run(b"?list,users\nuser,cat\n")
+    check(done.returncode == 0, f"an older folder: {done.stderr!r}")
+    check(old.kept() == b"user,ann\n?state\nuser,bob\nuser,cat\n", "an older folder: kept changed")
+    old.ends_well("an older folder")
+    check(b"?rows,2\n" in done.stdout, "an older folder: its question wasn't answered")
+    return f"{count} questions left nothing"
+
+
+def without_replies(text: bytes) -> bytes:
+    """What stands on standard output without the answers to questions."""
+    left = []
+    rows = 0
+    for line in text.splitlines(keepends=True):
+        if rows > 0:
+            rows -= 1
+        elif line.startswith(b"?"):
+            rows = int(line.split(b",")[1]) if line.startswith(b"?rows,") else 0
+        else:
+            left.append(line)
+    return b"".join(left)
 
 
 SMALL = b'user,ann\nitem,0.1,"a, ""b""",7,3,10,100\n"open\nlist,users\nbid,0.2,0.1,20\n\nuser,ann\npass,0\n'
@@ -527,6 +578,7 @@ def main() -> None:
         try:
             for done in (
                 lambda: kill_shops(shop, dice, lives),
+                lambda: ask_questions(shop, dice),
                 lambda: tear_a_small_site(shop),
                 lambda: change_a_small_site(shop, dice),
                 lambda: fill_a_disk(shop),

@@ -4,12 +4,14 @@ use Rattle.std.proofs.lemmas.List.{append-nil, take-append-drop}
 use Rattle.rubis_engine.specs.Accounts.{Account}
 use Rattle.rubis_engine.specs.Accounts.Ending.{AtEnd, Cut}
 use Rattle.rubis_engine.specs.Text.{input_records}
-use Rattle.rubis_keep.specs.Crashes.{ComesBack, DifferencesAreFound, EditsAreFound, EndsLeft, Files, IsLeft, IsRefused, Life, LivesLeft, after_life}
+use Rattle.rubis_keep.specs.Crashes.{ComesBack, DifferencesAreFound, EditsAreFound, EndsLeft, Files, IsLeft, IsRefused, Life, LivesLeft, QuestionsLeaveNothing}
+use Rattle.rubis_keep.specs.Crashes.{after_life}
 use Rattle.rubis_keep.specs.Crashes.{after_lives, files_of, goes_on}
 use Rattle.rubis_keep.specs.Kept.{Ended, IsFrontOf}
 use Rattle.rubis_keep.specs.Lines.{AreSound, begun_after, kept_of, whole_lines}
 use Rattle.rubis_keep.proofs.LineFacts.{begun-append}
-use Rattle.rubis_keep.proofs.SoundFacts.{kept-ends, kept-goes-on, kept-sound, sound-append, sound-front, whole-ends, whole-rest, whole-sound}
+use Rattle.rubis_keep.proofs.CutFacts.{kept-without}
+use Rattle.rubis_keep.proofs.SoundFacts.{kept-ends, read-whole, kept-sound, sound-append, sound-front, whole-ends, whole-rest, whole-sound}
 
 goes-on-sound : (log input : List ℕ) → AreSound [] log → AreSound [] (whole_lines log ++ kept_of input)
 goes-on-sound log input h = sound-append [] (whole_lines log) (kept_of input) (whole-sound log h)
@@ -28,13 +30,19 @@ lives-left text files [] h = h
 lives-left text files (life ∷ lives) h = lives-left text (after_life text files life) lives (life-left text files life h)
 
 same-files : (text : List (List (List ℕ)) → List ℕ) (files : Files) (input : List ℕ) → AreSound [] files.log → goes_on text files input
-    ≡ files_of text (whole_lines files.log ++ input)
-same-files text files input h = ap (λ (l : List ℕ). record { log = l; out = text (input_records l) }) (sym (kept-goes-on files.log input h))
+    ≡ files_of text (whole_lines files.log) input
+same-files text files input h = ap (λ (l : List ℕ). record { log = l ++ kept_of input; out = text (input_records (l ++ kept_of input)) }) (sym (read-whole files.log h))
 
 pub comes-back : ComesBack
 comes-back text files lives input h =
     let left = lives-left text files lives h in
     (left, same-files text (after_lives text files lives) input left.sound)
+
+pub questions-leave-nothing : QuestionsLeaveNothing
+questions-leave-nothing text files life = ap (λ (k : List ℕ). record {
+  log = take life.log_bytes (whole_lines files.log ++ k);
+  out = take life.out_bytes (text (input_records (whole_lines (take life.log_bytes (whole_lines files.log ++ k)))));
+}) (kept-without [] life.input tt)
 
 -- how a run ended
 abbrev IsEnd : (all : Account) (files : Files) (kept told : List ℕ) → Type 0

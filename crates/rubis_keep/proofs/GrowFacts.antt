@@ -19,8 +19,8 @@ pub records-grow : (a b : List ℕ) → AreSound [] a → AreSound [] b → IsFr
 records-grow a b sa sb (rest, e) =
     let lines = whole-grow a b sa (rest, e) in
     let sr : AreSound [] rest = subst (λ l. AreSound l rest) (whole-ends a sa) (sound-back [] (whole_lines a) rest (subst (AreSound []) (sym e) sb)) in
-    let whole = subst IsWhole (sound-kept [] a sa) (kept-whole [] a) in
-    let unmarked = subst (λ t. is_marked t ≡ false) (sound-kept [] rest sr) (kept-whole [] rest).unmarked in
+    let whole = subst IsWhole (sound-kept [] a sa) (kept-whole false [] a) in
+    let unmarked = subst (λ t. is_marked t ≡ false) (sound-kept [] rest sr) (kept-whole false [] rest).unmarked in
     (input_records (whole_lines rest), sym (ap input_records lines ∙ records-append (whole_lines a) (whole_lines rest) whole unmarked))
 
 pub whole-more : (a b c : List ℕ) → AreSound [] a → IsFrontOf (whole_lines a) b → IsFrontOf (whole_lines b) c → IsFrontOf (whole_lines a) c

@@ -10,7 +10,7 @@ use Rattle.rubis_keep.specs.Crashes.{Files, IsLeft}
 use Rattle.rubis_keep.specs.Histories.{AreHistories, HistoriesAreKept, HistoriesAreRuns, IsHistory, MayHappen, Step, files_at, moments_in, stand_after, stands, up_to}
 use Rattle.rubis_keep.specs.Histories.Step.{Does, Fails, Happens}
 use Rattle.rubis_keep.specs.History.{Event, FileState, Follows, IsSafe, after, records_in}
-use Rattle.rubis_keep.specs.History.Event.{Began, CutTo, Flushed, Kept, Settled, Shown, Told}
+use Rattle.rubis_keep.specs.History.Event.{Began, CutTo, Flushed, Kept, Replied, Settled, Shown, Told}
 use Rattle.rubis_keep.specs.Kept.{IsFrontOf}
 use Rattle.rubis_keep.specs.Lines.{AreSound, begun_after, whole_lines}
 use Rattle.rubis_keep.specs.Moments.{SurvivesIn, from_disk}
@@ -56,6 +56,7 @@ event-flushed text s (CutTo n) h f = cut-flushed-front text s n h f
 event-flushed text s (Told b) h f = whole-front s.flushed
 event-flushed text s Settled h f = whole-front s.flushed
 event-flushed text s (Began n counts) h f = whole-front s.flushed
+event-flushed text s (Replied question reply) h f = whole-front s.flushed
 event-flushed text s (Shown b) h f = whole-front s.flushed
 
 step-flushed : (text : List (List (List ℕ)) → List ℕ) (i : ℕ) (s : FileState) (e : Step) → IsSafe text s → MayHappen text i s e

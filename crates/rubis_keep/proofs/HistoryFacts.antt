@@ -7,7 +7,7 @@ use Rattle.std.specs.Io.KnownBytes.{Appends, Keeps}
 use Rattle.rubis_keep.specs.History.{Answers, AreSafe, Event, FileState, Follows, Grows, History, IsAnswered, IsSafe, StaysSafe, Tells, after, after_all, kept_in}
 use Rattle.rubis_keep.specs.Files.{AppendsFront}
 use Rattle.rubis_keep.specs.History.{HasDone, HasKept, HasTold, TellsFront, KeepsLines, log_of, now, out_in, records_in, told_of}
-use Rattle.rubis_keep.specs.History.Event.{Began, CutTo, Flushed, Kept, Settled, Shown, Told}
+use Rattle.rubis_keep.specs.History.Event.{Began, CutTo, Flushed, Kept, Replied, Settled, Shown, Told}
 use Rattle.rubis_keep.specs.Kept.{CutsTo, IsFrontOf}
 use Rattle.rubis_keep.specs.Lines.{AreSound, whole_lines}
 use Rattle.rubis_keep.proofs.FileFacts.{more-bound, take-more}
@@ -57,6 +57,7 @@ only-tells live (Flushed ∷ es) due due2 s a = absurd a
 only-tells live (CutTo n ∷ es) due due2 s a = absurd a
 only-tells live (Settled ∷ es) due due2 s a = absurd a
 only-tells live (Began n counts ∷ es) due due2 s a = absurd a
+only-tells live (Replied question reply ∷ es) due due2 s a = absurd a
 
 pub answers-append : (live : Bool) (xs ys : List Event) (due mid due2 : List ℕ) → Answers live xs due mid → Answers live ys mid due2 → Answers live (xs ++ ys) due due2
 answers-append live [] ys due mid due2 a b = subst (λ d. Answers live ys d due2) a b
@@ -67,6 +68,7 @@ answers-append live (Flushed ∷ xs) ys due mid due2 a b = absurd a
 answers-append live (CutTo n ∷ xs) ys due mid due2 a b = absurd a
 answers-append live (Settled ∷ xs) ys due mid due2 a b = absurd a
 answers-append live (Began n counts ∷ xs) ys due mid due2 a b = absurd a
+answers-append live (Replied question reply ∷ xs) ys due mid due2 a b = absurd a
 
 told-append : (xs ys : List Event) → told_of (xs ++ ys) ≡ told_of xs ++ told_of ys
 told-append [] ys = refl
@@ -77,6 +79,7 @@ told-append (Flushed ∷ xs) ys = told-append xs ys
 told-append (CutTo n ∷ xs) ys = told-append xs ys
 told-append (Settled ∷ xs) ys = told-append xs ys
 told-append (Began n counts ∷ xs) ys = told-append xs ys
+told-append (Replied question reply ∷ xs) ys = told-append xs ys
 
 told-all : (text : List ℕ) → told_of (map (λ b. Told b) text) ≡ text
 told-all [] = refl
@@ -151,6 +154,7 @@ due-after live (Flushed ∷ es) due due2 s a d = absurd a
 due-after live (CutTo n ∷ es) due due2 s a d = absurd a
 due-after live (Settled ∷ es) due due2 s a d = absurd a
 due-after live (Began n counts ∷ es) due due2 s a d = absurd a
+due-after live (Replied question reply ∷ es) due due2 s a d = absurd a
 
 safe-here : (text : List (List (List ℕ)) → List ℕ) (live : Bool) (due rest : List ℕ) (s : FileState) → AreSound [] (s.kept ++ s.cut) → IsFrontOf s.flushed s.kept
     → IsDue live s due → IsFrontOf (s.out ++ rest) (text (records_in s.flushed)) → IsSafe text s
@@ -178,6 +182,7 @@ safe-answers text live (Flushed ∷ es) due due2 s a sound flushed d f = absurd 
 safe-answers text live (CutTo n ∷ es) due due2 s a sound flushed d f = absurd a
 safe-answers text live (Settled ∷ es) due due2 s a sound flushed d f = absurd a
 safe-answers text live (Began n counts ∷ es) due due2 s a sound flushed d f = absurd a
+safe-answers text live (Replied question reply ∷ es) due due2 s a sound flushed d f = absurd a
 
 -- ---- lines that are kept
 
@@ -397,7 +402,7 @@ still-more (Some x) (Some y) (Some z) f g = g ∙ f
 pub is-still-more : (a b c : Option History) → IsStill a b → IsStill b c → IsStill a c
 is-still-more a b c f g = (still-more (kept_in a) (kept_in b) (kept_in c) f.0 g.0, still-more (out_in a) (out_in b) (out_in c) f.1 g.1)
 
-still-by : (a b : Option History) (es : List Event) → Grows a b es → ((s : FileState) → ((after_all s es).kept ≡ s.kept) × ((after_all s es).out ≡ s.out)) → IsStill a b
+pub still-by : (a b : Option History) (es : List Event) → Grows a b es → ((s : FileState) → ((after_all s es).kept ≡ s.kept) × ((after_all s es).out ≡ s.out)) → IsStill a b
 still-by None b es g h = (tt, tt)
 still-by (Some x) None es g h = absurd g
 still-by (Some x) (Some y) es g h =

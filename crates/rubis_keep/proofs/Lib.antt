@@ -7,6 +7,8 @@ pub mod RestFacts
 pub mod EachFacts
 pub mod StandFacts
 pub mod SoundFacts
+pub mod CutFacts
+pub mod LeftFacts
 pub mod LifeFacts
 pub mod CrashFacts
 pub mod CountFacts
@@ -22,3 +24,6 @@ pub mod SiteFacts
 pub mod HistoriesFacts
 pub mod RefusedFacts
 pub mod SiteLivesFacts
+pub mod AskFacts
+pub mod ReplyFacts
+pub mod QuestionFacts

@@ -1,5 +1,5 @@
 -- A run that goes on where an earlier one was cut off.
-use Rattle.std.proofs.Common.{◌≡◌, ◌∙◌, ◌+◌, ◌⊎◌, inl, inr, ◌++◌, ◌∷◌, [], ℕ, List, Option, Some, None, IfSome, false, length, take, refl, sym, ap, subst}
+use Rattle.std.proofs.Common.{Bool, true, false, ◌≡◌, ◌∙◌, ◌+◌, ◌⊎◌, inl, inr, ◌++◌, ◌∷◌, [], ℕ, List, Option, Some, None, IfSome, false, length, take, refl, sym, ap, subst}
 use Rattle.std.proofs.Common.{arith, append_assoc}
 use Rattle.std.proofs.lemmas.List.{append-nil}
 use Rattle.std.proofs.Math.Seq.{take-append_seam}
@@ -10,8 +10,8 @@ use Rattle.csv.proofs.WriteFacts.{appends-none}
 use Rattle.rubis_engine.specs.Accounts.{Account}
 use Rattle.rubis_engine.specs.Accounts.Ending.{AtEnd, Cut}
 use Rattle.rubis_engine.specs.Text.{input_records}
-use Rattle.rubis_keep.specs.Kept.{Begins, CutsTo, Ended, Fails, HasAnswered, IsFrontOf, Lived, Opens, OutEnds, Replayed, Stands}
-use Rattle.rubis_keep.specs.Lines.{AreSound, begun_after, is_marked, kept_after, kept_of, whole_after, whole_lines}
+use Rattle.rubis_keep.specs.Kept.{Begins, CutsTo, Ended, Fails, HasAnswered, IsFrontOf, Lived, Opens, OutEnds, Replayed, Stands, left_of}
+use Rattle.rubis_keep.specs.Lines.{AreSound, begun_after, is_marked, kept_after, kept_of, read_back, whole_after, whole_lines}
 use Rattle.rubis_keep.specs.Whole.{IsWhole}
 use Rattle.rubis_keep.proofs.FileFacts.{consumes-none}
 use Rattle.rubis_keep.proofs.LineFacts.{begun-append, kept-append}
@@ -22,9 +22,9 @@ use Rattle.rubis_keep.proofs.SoundFacts.{whole-sound}
 use Rattle.rubis_keep.proofs.WholeFacts.{kept-whole, whole-append}
 
 -- a run over an input begins
-pub stands-start : (all more : Account) (told old base : List ℕ) (input log out : Option (List ℕ)) (begun : List ℕ) (number len : ℕ)
-    → HasAnswered all more told number base → begun ≡ [] → Stands all more told old base [] input input log log (Some old) out out begun number len len
-stands-start all more told old base input log out begun number len h e = record {
+pub stands-start : (asks : Bool) (all more : Account) (told old base : List ℕ) (input log out : Option (List ℕ)) (begun : List ℕ) (number len : ℕ)
+    → HasAnswered all more told number base → begun ≡ [] → Stands asks all more told old base [] input input log log (Some old) out out begun number len len
+stands-start asks all more told old base input log out begun number len h e = record {
   bytes = [];
   taken = consumes-none input;
   logged = appends-none log;
@@ -38,7 +38,7 @@ stands-start all more told old base input log out begun number len h e = record 
   };
 }
 
-none-read : input_records [] ≡ []
+pub none-read : input_records [] ≡ []
 unfolding input_records records_from strip_bom next_record
 none-read = refl
 
@@ -55,7 +55,7 @@ answered-none all none = record {
     zero-more : (n : ℕ) → n ≡ 0 + n
     zero-more n = omega arith
 
-at-end : (input : List ℕ) (later : Option (List ℕ)) (bytes : List ℕ) → Consumes (Some input) later bytes → IsAtEnd later → bytes ≡ input
+pub at-end : (input : List ℕ) (later : Option (List ℕ)) (bytes : List ℕ) → Consumes (Some input) later bytes → IsAtEnd later → bytes ≡ input
 at-end input None bytes c e = absurd c
 at-end input (Some rest) bytes c e = sym (c ∙ ap (λ t. bytes ++ t) e ∙ append-nil bytes)
 
@@ -65,13 +65,13 @@ known xs (Some ys) added a = ap (λ t. Some t) a
 
 -- what was kept is answered, and all answers of before were found
 pub replayed : (all more : Account) (kept old : List ℕ) (later before out log : Option (List ℕ)) (begun : List ℕ) (number len : ℕ) → AreSound [] kept
-    → Stands all more [] old [] [] (Some kept) later log log before (Some old) out begun number 0 len → IsAtEnd later → (ended : Option (List ℕ)) →
+    → Stands false all more [] old [] [] (Some kept) later log log before (Some old) out begun number 0 len → IsAtEnd later → (ended : Option (List ℕ)) →
     IsAtEnd ended → Keeps before ended
     → Replayed all more kept old ended out number len
 replayed all more kept old later before out log begun number len sound s e ended at same =
     let r = s.rests in
     let w = r.wrote in
-    let whole : kept_after [] s.bytes ≡ whole_lines kept = ap (kept_after []) (at-end kept later s.bytes s.taken e) ∙ sound-kept [] kept sound in
+    let whole : kept_after false [] s.bytes ≡ whole_lines kept = ap (kept_after false []) (at-end kept later s.bytes s.taken e) ∙ sound-kept [] kept sound in
     let ends : ended ≡ Some w.left = still w.left ended (rw w.unread at same) in
     let none : w.left ≡ [] = rw ends at at in
     let all_found : old ++ w.added ≡ r.since = w.same ∙ ap (λ t. r.since ++ t) none ∙ append-nil r.since in
@@ -86,7 +86,7 @@ replayed all more kept old later before out log begun number len sound s e ended
       answered = subst (HasAnswered all more r.since number) whole r.answered;
       before_is = ends ∙ ap (λ t. Some t) none;
       out_is = known old out w.added w.appended ∙ ap (λ t. Some t) all_found;
-      length_is = s.counted ∙ plain (length (kept_after [] s.bytes)) ∙ ap length whole;
+      length_is = s.counted ∙ plain (length (kept_after false [] s.bytes)) ∙ ap length whole;
     }
   where
     plain : (n : ℕ) → 0 + n ≡ n
@@ -111,7 +111,7 @@ none-right (x ∷ xs) ys h = absurd (cc h)
 -- the input ends
 pub lived : (all more : Account) (kept old told : List ℕ) (input later log log2 before out : Option (List ℕ)) (begun : List ℕ) (number len0 len : ℕ)
     → AreSound [] kept → log ≡ Some (whole_lines kept) →
-    Stands all more told [] (whole_lines kept) [] input later log log2 before (Some told) out begun number len0 len
+    Stands true all more told [] (whole_lines kept) [] input later log log2 before (Some told) out begun number len0 len
     → IsAtEnd later → IsFrontOf old (all.text AtEnd (input_records (whole_lines kept))) → Lived all kept old input later log2 out
 lived all more kept old told input later log log2 before out begun number len0 len sound e s end found =
     let r = s.rests in
@@ -155,7 +155,7 @@ unread all kept old input = still all kept old old input (Some old) refl (inl (r
 
 -- the text of what was replayed begins that of all that was kept
 pub replay-fails : (all : Account) (kept old : List ℕ) (input past log log2 out : Option (List ℕ)) → AreSound [] kept
-    → Fails all [] old [] [] (Some kept) past log log2 (Some old) out → Ended all kept old input input (Some kept) out
+    → Fails false all [] old [] [] (Some kept) past log log2 (Some old) out → Ended all kept old input input (Some kept) out
 replay-fails all kept old input past log log2 out sound f = go past f.taken f.out_ends
   where
     with_found : (added : List ℕ) → Beginning all kept (old ++ added) → AreSound [] kept × IsFrontOf old (all.text AtEnd (input_records (whole_lines kept)))
@@ -166,22 +166,22 @@ replay-fails all kept old input past log log2 out sound f = go past f.taken f.ou
       h,
     )
 
-    go : (later : Option (List ℕ)) → Consumes (Some kept) later (f.bytes ++ f.next) → OutEnds all [] old (Some old) out (kept_after [] f.bytes) →
+    go : (later : Option (List ℕ)) → Consumes (Some kept) later (f.bytes ++ f.next) → OutEnds all [] old (Some old) out (kept_after false [] f.bytes) →
         Ended all kept old input input (Some kept) out
     go None c o = absurd c
     go (Some rest) c (added, a, inl unread) = still all kept old (old ++ added) input out (known old out added a)
         (inl (refl, ap (λ t. old ++ t) unread.0 ∙ append-nil old))
     go (Some rest) c (added, a, inr begins) = still all kept old (old ++ added) input out (known old out added a) (inr (with_found added (λ more.
         let left = f.next ++ rest in
-        let lines : whole_lines kept ≡ kept_after [] f.bytes ++ kept_after (begun_after [] f.bytes) left =
-        sym (sound-kept [] kept sound) ∙ ap kept_of (c ∙ append_assoc f.bytes f.next rest) ∙ kept-append [] f.bytes left in
-        let later_lines = kept_after (begun_after [] f.bytes) left in
+        let lines : whole_lines kept ≡ kept_after false [] f.bytes ++ kept_after false (begun_after [] f.bytes) left =
+        sym (sound-kept [] kept sound) ∙ ap read_back (c ∙ append_assoc f.bytes f.next rest) ∙ kept-append false [] f.bytes left in
+        let later_lines = kept_after false (begun_after [] f.bytes) left in
         let records = ap input_records lines
-        ∙ records-append (kept_after [] f.bytes) later_lines (kept-whole [] f.bytes) (kept-whole (begun_after [] f.bytes) left).unmarked in
+        ∙ records-append (kept_after false [] f.bytes) later_lines (kept-whole false [] f.bytes) (kept-whole false (begun_after [] f.bytes) left).unmarked in
         let b = begins (input_records later_lines ++ more) in (
           b.0,
           b.1 ∙ ap (all.text AtEnd)
-              (sym (append_assoc (input_records (kept_after [] f.bytes)) (input_records later_lines) more) ∙ ap (λ t. t ++ more) (sym records)),
+              (sym (append_assoc (input_records (kept_after false [] f.bytes)) (input_records later_lines) more) ∙ ap (λ t. t ++ more) (sym records)),
         ))))
 
 -- the log could not be cut back
@@ -193,7 +193,7 @@ uncut all more kept old input before out number len sound r =
 
 -- a line could not be kept or answered
 pub live-fails : (all : Account) (kept old told : List ℕ) (input later log log2 out : Option (List ℕ)) → AreSound [] kept → log ≡ Some (whole_lines kept)
-    → Fails all told [] (whole_lines kept) [] input later log log2 (Some told) out → IsFrontOf old (all.text AtEnd (input_records (whole_lines kept)))
+    → Fails true all told [] (whole_lines kept) [] input later log log2 (Some told) out → IsFrontOf old (all.text AtEnd (input_records (whole_lines kept)))
     → Ended all kept old input later log2 out
 live-fails all kept old told input later log log2 out sound e f found = go f.out_ends
   where
@@ -201,7 +201,7 @@ live-fails all kept old told input later log log2 out sound e f found = go f.out
     log_is = known (whole_lines kept) log2 (kept_of f.bytes ++ f.torn) (subst (λ l. Appends l log2 (kept_of f.bytes ++ f.torn)) e f.logged)
 
     whole_text : kept_of (f.bytes ++ f.next) ≡ (kept_of f.bytes ++ f.torn) ++ f.lost
-    whole_text = kept-append [] f.bytes f.next ∙ ap (λ t. kept_of f.bytes ++ t) f.parts ∙ sym (append_assoc (kept_of f.bytes) f.torn f.lost)
+    whole_text = kept-append true [] f.bytes f.next ∙ ap (λ t. kept_of f.bytes ++ t) f.parts ∙ sym (append_assoc (kept_of f.bytes) f.torn f.lost)
 
     tail_sound : AreSound [] (kept_of f.bytes ++ f.torn)
     tail_sound = sound-front [] (kept_of f.bytes ++ f.torn) f.lost (subst (AreSound []) whole_text (kept-sound (f.bytes ++ f.next)))
@@ -214,7 +214,7 @@ live-fails all kept old told input later log log2 out sound e f found = go f.out
         (subst (λ l. AreSound l (kept_of f.bytes ++ f.torn)) (sym (whole-ends kept sound)) tail_sound)
 
     front_whole : IsWhole (whole_lines kept ++ kept_of f.bytes)
-    front_whole = whole-append (whole_lines kept) (kept_of f.bytes) (subst IsWhole (sound-kept [] kept sound) (kept-whole [] kept)) (kept-whole [] f.bytes)
+    front_whole = whole-append (whole_lines kept) (kept_of f.bytes) (subst IsWhole (sound-kept [] kept sound) (kept-whole false [] kept)) (kept-whole true [] f.bytes)
 
     front_ends : begun_after [] (whole_lines kept ++ kept_of f.bytes) ≡ []
     front_ends = begun-append [] (whole_lines kept) (kept_of f.bytes) ∙ ap (λ s. begun_after s (kept_of f.bytes)) (whole-ends kept sound) ∙ kept-ends f.bytes
@@ -231,7 +231,7 @@ live-fails all kept old told input later log log2 out sound e f found = go f.out
         ∙ ap (λ s. (whole_lines kept ++ kept_of f.bytes) ++ whole_after s f.torn) front_ends
 
     torn_unmarked : is_marked (whole_lines f.torn) ≡ false
-    torn_unmarked = subst (λ t. is_marked t ≡ false) (sound-kept [] f.torn torn_sound) (kept-whole [] f.torn).unmarked
+    torn_unmarked = subst (λ t. is_marked t ≡ false) (sound-kept [] f.torn torn_sound) (kept-whole false [] f.torn).unmarked
 
     records : input_records (whole_lines (whole_lines kept ++ (kept_of f.bytes ++ f.torn))) ≡ input_records (whole_lines kept ++ kept_of f.bytes)
         ++ input_records (whole_lines f.torn)
@@ -268,14 +268,14 @@ live-fails all kept old told input later log log2 out sound e f found = go f.out
 
 pub replay-starts : (account : ℕ → Account) (kept old : List ℕ) (past before out log : Option (List ℕ)) (begun : List ℕ) (answered len : ℕ)
     → (account 1).text Cut [] ≡ [] → begun ≡ [] → answered ≡ 0 → len ≡ 0 → Begins kept old past (Some kept) before out
-    → Stands (account 1) (account (answered + 1)) [] old [] [] (Some kept) past log log before (Some old) out begun (answered + 1) 0 len
+    → Stands false (account 1) (account (answered + 1)) [] old [] [] (Some kept) past log log before (Some old) out begun (answered + 1) 0 len
 replay-starts account kept old past before out log begun answered len none e f k b =
     rw (f, k, b.past_is, b.before_is, b.out_is)
-    (stands-start (account 1) (account 1) [] old [] (Some kept) log (Some old) begun 1 0 (answered-none (account 1) none) e)
+    (stands-start false (account 1) (account 1) [] old [] (Some kept) log (Some old) begun 1 0 (answered-none (account 1) none) e)
 
 pub replay-err : (account : ℕ → Account) (past past2 log log2 before out out2 : Option (List ℕ)) (begun : List ℕ) (answered len : ℕ)
     → (account 1).text Cut [] ≡ [] → begun ≡ [] → answered ≡ 0 → len ≡ 0
-    → HaveFailed (account (answered + 1)) past log before out begun (answered + 1) len past2 log2 out2
+    → HaveFailed false (account (answered + 1)) past log before out begun (answered + 1) len past2 log2 out2
     → (kept old : List ℕ) (input : Option (List ℕ)) → Begins kept old past (Some kept) before out → Ended (account 1) kept old input input (Some kept) out2
 replay-err account past past2 log log2 before out out2 begun answered len none e f k h kept old input b =
     replay-fails (account 1) kept old input past2 log log2 out2 b.sound
@@ -284,7 +284,7 @@ replay-err account past past2 log log2 before out out2 begun answered len none e
 pub replay-ok : (account account2 : ℕ → Account) (past past2 before before2 ended out out2 : Option (List ℕ)) (begun begun2 : List ℕ)
     (answered answered2 len len2 : ℕ)
     → (account 1).text Cut [] ≡ [] → begun ≡ [] → answered ≡ 0 → len ≡ 0
-    → HaveGone (account (answered + 1)) past None before out begun (answered + 1) len (account2 (answered2 + 1)) past2 None before2 out2 begun2
+    → HaveGone false (account (answered + 1)) past None before out begun (answered + 1) len (account2 (answered2 + 1)) past2 None before2 out2 begun2
     (answered2 + 1) len2
     → IsAtEnd past2 → IsAtEnd ended → Keeps before2 ended
     → (kept old : List ℕ) → Begins kept old past (Some kept) before out →
@@ -298,15 +298,15 @@ replay-ok account account2 past past2 before before2 ended out out2 begun begun2
 pub replay-unfound : (account account2 : ℕ → Account) (past past2 before before2 out out2 out3 : Option (List ℕ)) (begun begun2 : List ℕ)
     (answered answered2 len len2 : ℕ)
     → (account 1).text Cut [] ≡ [] → begun ≡ [] → answered ≡ 0 → len ≡ 0 → out3 ≡ out2
-    → HaveGone (account (answered + 1)) past None before out begun (answered + 1) len (account2 (answered2 + 1)) past2 None before2 out2 begun2
+    → HaveGone false (account (answered + 1)) past None before out begun (answered + 1) len (account2 (answered2 + 1)) past2 None before2 out2 begun2
     (answered2 + 1) len2
     → (kept old : List ℕ) (input : Option (List ℕ)) → Begins kept old past (Some kept) before out → Ended (account 1) kept old input input (Some kept) out3
 replay-unfound account account2 past past2 before before2 out out2 out3 begun begun2 answered answered2 len len2 none e f k same h kept old input b =
     subst (Ended (account 1) kept old input input (Some kept)) (sym same)
     (replay-err account past past2 None None before out out2 begun answered len none e f k
-    (gone-failed (account (answered + 1)) (account2 (answered2 + 1)) past past2 past2 None None None before before2 out out2 out2 begun begun2 (answered + 1)
+    (gone-failed false (account (answered + 1)) (account2 (answered2 + 1)) past past2 past2 None None None before before2 out out2 out2 begun begun2 (answered + 1)
     (answered2 + 1) len len2 h
-    (each-stops (account2 (answered2 + 1)) past2 None before2 out2 begun2 (answered2 + 1) len2)) kept old input b)
+    (each-stops false (account2 (answered2 + 1)) past2 None before2 out2 begun2 (answered2 + 1) len2)) kept old input b)
 
 -- ---- a whole run
 
@@ -342,6 +342,11 @@ pub run-unflushed : (all : Account) (first past log log2 before input out out2 :
 run-unflushed all first past log log2 before input out out2 same same2 kept old o =
     run-unread all first past log2 before input out2 kept old (opens-kept kept old first past log log2 before out out2 same same2 o)
 
+pub run-begins : (first past log log1 before out out1 : Option (List ℕ)) → IfSome first (λ text. AreSound [] text) → Keeps log log1 → Keeps out out1
+    → (kept old : List ℕ) → Opens kept old first past log before out → Begins kept old past (Some kept) before out1
+run-begins first past log log1 before out out1 sound same same1 kept old o =
+    begins kept old first past log1 before out1 (opens-kept kept old first past log log1 before out out1 same same1 o) sound
+
 pub run-unreplayed : (all : Account) (first past log log1 log2 before input out out1 out2 : Option (List ℕ)) → IfSome first (λ text. AreSound [] text)
     → Keeps log log1 → Keeps out out1 → Keeps log1 log2
     → ((kept old : List ℕ) (input : Option (List ℕ)) → Begins kept old past (Some kept) before out1 → Ended all kept old input input (Some kept) out2)
@@ -376,11 +381,11 @@ run-ended all more first past log log1 log2 log3 before before2 input input2 out
 
 live-starts : (all more : Account) (kept old : List ℕ) (input log before out : Option (List ℕ)) (begun : List ℕ) (number len : ℕ) →
     (r : Replayed all more kept old before out number len) → begun ≡ []
-    → Stands all more r.told [] (whole_lines kept) [] input input log log before (Some r.told) out begun number len len
+    → Stands true all more r.told [] (whole_lines kept) [] input input log log before (Some r.told) out begun number len len
 live-starts all more kept old input log before out begun number len r e =
-    subst (λ b. Stands all more r.told [] (whole_lines kept) [] input input log log b (Some r.told) out begun number len len) (sym r.before_is)
-    (subst (λ o. Stands all more r.told [] (whole_lines kept) [] input input log log (Some []) (Some r.told) o begun number len len) (sym r.out_is)
-    (stands-start all more r.told [] (whole_lines kept) input log (Some r.told) begun number len r.answered e))
+    subst (λ b. Stands true all more r.told [] (whole_lines kept) [] input input log log b (Some r.told) out begun number len len) (sym r.before_is)
+    (subst (λ o. Stands true all more r.told [] (whole_lines kept) [] input input log log (Some []) (Some r.told) o begun number len len) (sym r.out_is)
+    (stands-start true all more r.told [] (whole_lines kept) input log (Some r.told) begun number len r.answered e))
 
 -- the same where `out` has not changed meanwhile
 told-of : (all more : Account) (kept old : List ℕ) (before out out1 : Option (List ℕ)) (number len : ℕ) → Keeps out out1 →
@@ -403,7 +408,7 @@ go-uncut more input log log2 before out out2 number len keeps same all kept old 
 
 pub go-err : (more : Account) (input input2 log log2 log3 before out out1 out2 : Option (List ℕ)) (begun : List ℕ) (number len : ℕ) → CutsTo log log2 len →
     begun ≡ [] → Keeps out out1
-    → HaveFailed more input log2 before out1 begun number len input2 log3 out2
+    → HaveFailed true more input log2 before out1 begun number len input2 log3 out2
     → (all : Account) (kept old : List ℕ) → AreSound [] kept → log ≡ Some kept → Replayed all more kept old before out number len →
     Ended all kept old input input2 log3 out2
 go-err more input input2 log log2 log3 before out out1 out2 begun number len cuts e same f all kept old sound known replayed =
@@ -416,11 +421,11 @@ pub go-untold : (more : Account) (input log log2 before out out1 : Option (List 
     → (all : Account) (kept old : List ℕ) → AreSound [] kept → log ≡ Some kept → Replayed all more kept old before out number len →
     Ended all kept old input input log2 out1
 go-untold more input log log2 before out out1 number len cuts same =
-    go-err more input input log log2 log2 before out out1 out1 [] number len cuts refl same (each-stops more input log2 before out1 [] number len)
+    go-err more input input log log2 log2 before out out1 out1 [] number len cuts refl same (each-stops true more input log2 before out1 [] number len)
 
 pub go-ok : (more more2 : Account) (input input2 log log2 log3 before before2 out out1 out2 : Option (List ℕ)) (begun begun2 : List ℕ)
     (number number2 len len2 : ℕ) → CutsTo log log2 len → begun ≡ [] → Keeps out out1
-    → HaveGone more input log2 before out1 begun number len more2 input2 log3 before2 out2 begun2 number2 len2 → IsAtEnd input2
+    → HaveGone true more input log2 before out1 begun number len more2 input2 log3 before2 out2 begun2 number2 len2 → IsAtEnd input2
     → (all : Account) (kept old : List ℕ) → AreSound [] kept → log ≡ Some kept → Replayed all more kept old before out number len →
     Lived all kept old input input2 log3 out2
 go-ok more more2 input input2 log log2 log3 before before2 out out1 out2 begun begun2 number number2 len len2 cuts e same g end all kept old sound known
@@ -428,3 +433,88 @@ go-ok more more2 input input2 log log2 log3 before before2 out out1 out2 begun b
     let r = told-of all more kept old before out out1 number len same replayed in
     lived all more2 kept old r.told input input2 log2 log3 before2 out2 begun2 number2 len len2 sound (cut-back kept log log2 len known r.length_is cuts)
     (g all r.told [] (whole_lines kept) [] input log2 (Some r.told) len (live-starts all more kept old input log2 before out1 begun number len r e)) end r.found
+
+-- ---- what was read and not looked at
+
+-- what is read of an input and not looked at was read of it
+pub read-too : (input input2 : Option (List ℕ)) (bytes unread : List ℕ) → Consumes input (left_of unread input2) bytes → Consumes input input2 (bytes ++ unread)
+read-too None input2 bytes unread c = tt
+read-too (Some xs) None bytes unread c = absurd c
+read-too (Some xs) (Some ys) bytes unread c = c ∙ sym (append_assoc bytes unread ys)
+
+at-end-too : (input : Option (List ℕ)) (unread : List ℕ) → IsAtEnd (left_of unread input) → IsAtEnd input
+at-end-too None unread e = tt
+at-end-too (Some xs) unread e = none-right unread xs e
+
+pub read-all : (input input2 : Option (List ℕ)) (bytes unread : List ℕ) → IsAtEnd (left_of unread input2) → Consumes input (left_of unread input2) bytes → Consumes input input2 bytes
+read-all None input2 bytes unread e c = tt
+read-all (Some xs) None bytes unread e c = absurd c
+read-all (Some xs) (Some ys) bytes unread e c = c ∙ ap (λ t. bytes ++ t) (e ∙ sym (none-right unread ys e))
+
+pub lived-read : (all : Account) (kept old : List ℕ) (input input2 log out : Option (List ℕ)) (unread : List ℕ) → Lived all kept old input (left_of unread input2) log out
+    → Lived all kept old input input2 log out
+lived-read all kept old input input2 log out unread l = record {
+  sound = l.sound;
+  found = l.found;
+  bytes = l.bytes;
+  taken = read-all input input2 l.bytes unread l.end l.taken;
+  end = at-end-too input2 unread l.end;
+  log_is = l.log_is;
+  out_is = l.out_is;
+  begins = l.begins;
+}
+
+pub ended-read : (all : Account) (kept old : List ℕ) (input input2 log out : Option (List ℕ)) (unread : List ℕ) → Ended all kept old input (left_of unread input2) log out
+    → Ended all kept old input input2 log out
+ended-read all kept old input input2 log out unread e = record {
+  kept = e.kept;
+  told = e.told;
+  bytes = e.bytes ++ unread;
+  log_is = e.log_is;
+  out_is = e.out_is;
+  taken = read-too input input2 e.bytes unread e.taken;
+  sound = e.sound;
+  grows = wider e.grows;
+  answers = e.answers;
+}
+  where
+    wider : (e.kept ≡ kept) ⊎ (IsFrontOf (whole_lines kept) e.kept × IsFrontOf e.kept (whole_lines kept ++ kept_of e.bytes))
+        → (e.kept ≡ kept) ⊎ (IsFrontOf (whole_lines kept) e.kept × IsFrontOf e.kept (whole_lines kept ++ kept_of (e.bytes ++ unread)))
+    wider (inl same) = inl same
+    wider (inr (first, (rest, f))) =
+        let more = kept_after true (begun_after [] e.bytes) unread in
+        inr (
+          first,
+          (
+            rest ++ more,
+            sym (append_assoc e.kept rest more) ∙ ap (λ t. t ++ more) f ∙ append_assoc (whole_lines kept) (kept_of e.bytes) more
+                ∙ ap (λ t. whole_lines kept ++ t) (sym (kept-append true [] e.bytes unread)),
+          ),
+        )
+
+pub none-unread : (unread : List ℕ) (input : Option (List ℕ)) → unread ≡ [] → left_of unread input ≡ input
+none-unread unread None e = refl
+none-unread unread (Some xs) e = ap (λ t. Some (t ++ xs)) e
+
+-- the same of a run as the code has it, which looks at what it read
+pub go-ok-read : (more more2 : Account) (start input input2 log log2 log3 before before2 out out1 out2 : Option (List ℕ)) (unread begun begun2 : List ℕ)
+    (number number2 len len2 : ℕ) → start ≡ input → CutsTo log log2 len → begun ≡ [] → Keeps out out1
+    → HaveGone true more start log2 before out1 begun number len more2 (left_of unread input2) log3 before2 out2 begun2 number2 len2
+    → IsAtEnd (left_of unread input2) → (all : Account) (kept old : List ℕ) → AreSound [] kept → log ≡ Some kept
+    → Replayed all more kept old before out number len → Lived all kept old input input2 log3 out2
+go-ok-read more more2 start input input2 log log2 log3 before before2 out out1 out2 unread begun begun2 number number2 len len2 is cuts e same g end all kept old
+    sound known r =
+    subst (λ i. Lived all kept old i input2 log3 out2) is
+    (lived-read all kept old start input2 log3 out2 unread
+    (go-ok more more2 start (left_of unread input2) log log2 log3 before before2 out out1 out2 begun begun2 number number2 len len2 cuts e same g end all kept old
+    sound known r))
+
+pub go-err-read : (more : Account) (start input input2 log log2 log3 before out out1 out2 : Option (List ℕ)) (unread begun : List ℕ) (number len : ℕ)
+    → start ≡ input → CutsTo log log2 len → begun ≡ [] → Keeps out out1
+    → HaveFailed true more start log2 before out1 begun number len (left_of unread input2) log3 out2
+    → (all : Account) (kept old : List ℕ) → AreSound [] kept → log ≡ Some kept → Replayed all more kept old before out number len
+    → Ended all kept old input input2 log3 out2
+go-err-read more start input input2 log log2 log3 before out out1 out2 unread begun number len is cuts e same f all kept old sound known r =
+    subst (λ i. Ended all kept old i input2 log3 out2) is
+    (ended-read all kept old start input2 log3 out2 unread
+    (go-err more start (left_of unread input2) log log2 log3 before out out1 out2 begun number len cuts e same f all kept old sound known r))

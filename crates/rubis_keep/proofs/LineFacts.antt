@@ -4,19 +4,19 @@ use Rattle.std.proofs.Common.{arith, append_assoc, length-append}
 use Rattle.std.proofs.lemmas.Bool.{leb-true, leb-false, lt-leb}
 use Rattle.std.proofs.lemmas.List.{length-take, length-take-le, take_all, take_more, take-append-le}
 use Rattle.rubis_keep.specs.Places.{begun_bytes}
-use Rattle.rubis_keep.specs.Lines.{begun_after, is_sound, kept_after, kept_line, state_after}
+use Rattle.rubis_keep.specs.Lines.{begun_after, is_question, is_sound, kept_after, kept_line, kept_record, state_after}
 use Rattle.csv.specs.Machine.{step}
 use Rattle.csv.specs.Reading.{default_config}
 use Rattle.csv.specs.declared.parser.State.{State}
 
-pub kept-append : (line xs ys : List ℕ) → kept_after line (xs ++ ys) ≡ kept_after line xs ++ kept_after (begun_after line xs) ys
-kept-append line [] ys = refl
-kept-append line (b ∷ xs) ys =
-    elim (eqb b 10) as (λ t. cond t (kept_line line ++ kept_after [] (xs ++ ys)) (kept_after (line ++ b ∷ []) (xs ++ ys))
-    ≡ cond t (kept_line line ++ kept_after [] xs) (kept_after (line ++ b ∷ []) xs)
-    ++ kept_after (cond t (begun_after [] xs) (begun_after (line ++ b ∷ []) xs)) ys) [
-      | true ↦ ap (λ r. kept_line line ++ r) (kept-append [] xs ys) ∙ sym (append_assoc (kept_line line) (kept_after [] xs) (kept_after (begun_after [] xs) ys))
-      | false ↦ kept-append (line ++ b ∷ []) xs ys
+pub kept-append : (asks : Bool) (line xs ys : List ℕ) → kept_after asks line (xs ++ ys) ≡ kept_after asks line xs ++ kept_after asks (begun_after line xs) ys
+kept-append asks line [] ys = refl
+kept-append asks line (b ∷ xs) ys =
+    elim (eqb b 10) as (λ t. cond t (kept_line asks line ++ kept_after asks [] (xs ++ ys)) (kept_after asks (line ++ b ∷ []) (xs ++ ys))
+    ≡ cond t (kept_line asks line ++ kept_after asks [] xs) (kept_after asks (line ++ b ∷ []) xs)
+    ++ kept_after asks (cond t (begun_after [] xs) (begun_after (line ++ b ∷ []) xs)) ys) [
+      | true ↦ ap (λ r. kept_line asks line ++ r) (kept-append asks [] xs ys) ∙ sym (append_assoc (kept_line asks line) (kept_after asks [] xs) (kept_after asks (begun_after [] xs) ys))
+      | false ↦ kept-append asks (line ++ b ∷ []) xs ys
     ]
 
 pub begun-append : (line xs ys : List ℕ) → begun_after line (xs ++ ys) ≡ begun_after (begun_after line xs) ys
@@ -42,9 +42,9 @@ pub begun_take_more : (line xs : List ℕ) (i : ℕ) → i < length xs
     → begun_after line (take (i + 1) xs) ≡ begun_after (begun_after line (take i xs)) (get_or xs i 0 ∷ [])
 begun_take_more line xs i h = ap (begun_after line) (take_more xs i 0 h) ∙ begun-append line (take i xs) (get_or xs i 0 ∷ [])
 
-pub kept_take_more : (line xs : List ℕ) (i : ℕ) → i < length xs
-    → kept_after line (take (i + 1) xs) ≡ kept_after line (take i xs) ++ kept_after (begun_after line (take i xs)) (get_or xs i 0 ∷ [])
-kept_take_more line xs i h = ap (kept_after line) (take_more xs i 0 h) ∙ kept-append line (take i xs) (get_or xs i 0 ∷ [])
+pub kept_take_more : (asks : Bool) (line xs : List ℕ) (i : ℕ) → i < length xs
+    → kept_after asks line (take (i + 1) xs) ≡ kept_after asks line (take i xs) ++ kept_after asks (begun_after line (take i xs)) (get_or xs i 0 ∷ [])
+kept_take_more asks line xs i h = ap (kept_after asks line) (take_more xs i 0 h) ∙ kept-append asks line (take i xs) (get_or xs i 0 ∷ [])
 
 -- ---- the first bytes of a line say what is kept of it
 
@@ -57,15 +57,22 @@ not-sound line h = rw (lt-leb (length line) 4096 h) refl
 begun-length : (line : List ℕ) → 4096 < length line → length (begun_bytes line) ≡ 4097
 begun-length line h = length-take-le 4097 line (omega arith)
 
-pub kept_begun : (line : List ℕ) → kept_line (begun_bytes line) ≡ kept_line line
-kept_begun line =
-    elim (leb (length line) 4096) as (λ t. leb (length line) 4096 ≡ t → kept_line (begun_bytes line) ≡ kept_line line) [
-      | true ↦ λ e. ap kept_line (begun-short line (leb-true (length line) 4096 e))
+pub record_begun : (line : List ℕ) → kept_record (begun_bytes line) ≡ kept_record line
+record_begun line =
+    elim (leb (length line) 4096) as (λ t. leb (length line) 4096 ≡ t → kept_record (begun_bytes line) ≡ kept_record line) [
+      | true ↦ λ e. ap kept_record (begun-short line (leb-true (length line) 4096 e))
       | false ↦ λ e.
           let long = leb-false (length line) 4096 e in
           let size = begun-length line long in
           rw (not-sound (begun_bytes line) (omega (arith, size)), not-sound line long) refl
     ] refl
+
+pub question_begun : (line : List ℕ) → is_question (begun_bytes line) ≡ is_question line
+question_begun [] = refl
+question_begun (c ∷ rest) = refl
+
+pub kept_begun : (asks : Bool) (line : List ℕ) → kept_line asks (begun_bytes line) ≡ kept_line asks line
+kept_begun asks line = rw (question_begun line, record_begun line) refl
 
 pub sound_begun : (line : List ℕ) → is_sound (begun_bytes line) ≡ is_sound line
 sound_begun line =

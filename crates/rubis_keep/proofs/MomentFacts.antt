@@ -7,7 +7,7 @@ use Rattle.rubis_engine.specs.Accounts.Ending.{AtEnd, Cut}
 use Rattle.rubis_engine.specs.Text.{input_records}
 use Rattle.rubis_keep.specs.Crashes.{Files, IsLeft}
 use Rattle.rubis_keep.specs.History.{AreSafe, Event, FileState, Follows, IsSafe, after, after_all, records_in}
-use Rattle.rubis_keep.specs.History.Event.{Began, CutTo, Flushed, Kept, Settled, Shown, Told}
+use Rattle.rubis_keep.specs.History.Event.{Began, CutTo, Flushed, Kept, Replied, Settled, Shown, Told}
 use Rattle.rubis_keep.specs.Kept.{Ended, IsFrontOf, Lived}
 use Rattle.rubis_keep.specs.Lines.{AreSound, begun_after, kept_of, whole_lines}
 use Rattle.rubis_keep.specs.Lives.{IsOpened}
@@ -40,6 +40,7 @@ follows-lines text s (CutTo n) f = f
 follows-lines text s (Told b) f = whole-front s.kept
 follows-lines text s Settled f = whole-front s.kept
 follows-lines text s (Began n counts) f = whole-front s.kept
+follows-lines text s (Replied question reply) f = whole-front s.kept
 follows-lines text s (Shown b) f = whole-front s.kept
 
 lines-stay : (text : List (List (List ℕ)) → List ℕ) (s : FileState) (first later : List Event) → AreSafe text s (first ++ later)

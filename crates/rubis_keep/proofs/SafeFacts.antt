@@ -39,7 +39,7 @@ answered-now all more told number kept a ends =
     subst (λ k. IsFrontOf told (all.text AtEnd (records_in k))) (append-nil kept)
     (answered-front all more told number kept [] a (ap (begun_after []) (append-nil kept) ∙ ends) refl)
 
-rested-safe : (all more : Account) (number : ℕ) (before : Option (List ℕ)) (s : FileState) → Rested all more number before s → IsSafe (all.text AtEnd) s
+pub rested-safe : (all more : Account) (number : ℕ) (before : Option (List ℕ)) (s : FileState) → Rested all more number before s → IsSafe (all.text AtEnd) s
 rested-safe all more number before s r = record {
   sound = subst (λ c. AreSound [] (s.kept ++ c)) (sym r.cut) (subst (AreSound []) (sym (append-nil s.kept)) r.sound);
   flushed = ([], append-nil s.flushed ∙ r.flushed);
@@ -174,11 +174,11 @@ answered-safe all s h1 h2 chunk events due sound ends k e a (added, app, inr beg
     )
 
 -- the lines of the next piece end, and are kept as they are
-pub piece-lines : (line bytes chunk : List ℕ) → HasNoEnd line → chunk ≡ kept_after line bytes → Lines chunk
-piece-lines line bytes chunk h e = record {
-  whole = subst IsWhole (sym e) (kept-whole line bytes);
-  sound = subst (AreSound []) (sym e) (kept-sound-after line bytes h);
-  ends = ap (begun_after []) e ∙ kept-begun-after line bytes h;
+pub piece-lines : (asks : Bool) (line bytes chunk : List ℕ) → HasNoEnd line → chunk ≡ kept_after asks line bytes → Lines chunk
+piece-lines asks line bytes chunk h e = record {
+  whole = subst IsWhole (sym e) (kept-whole asks line bytes);
+  sound = subst (AreSound []) (sym e) (kept-sound-after asks line bytes h);
+  ends = ap (begun_after []) e ∙ kept-begun-after asks line bytes h;
 }
 
 -- where a run rests after a piece, if what it told is all of the text
@@ -214,7 +214,7 @@ rests-end all more2 told before2 out2 number2 kept r =
     subst (OutEnds all told [] (Some told) out2) (append-nil kept)
     (rests-ends all more2 told [] before2 (Some told) out2 out2 number2 kept [] r (record { closed = refl; unmarked = refl }) (keeps-same out2))
 
-some-same : (x y : History) → Some x ≡ Some y → x ≡ y
+pub some-same : (x y : History) → Some x ≡ Some y → x ≡ y
 some-same x y e = cc e
 
 -- a piece was kept, and was answered as far as a fault let it
@@ -291,7 +291,7 @@ pub lives-unanswered : {T E : Type 0} (more more2 : Account) (before before2 : O
 lives-unanswered more more2 before before2 number number2 old new chunk r bad l k all h is rested =
     (piece-unanswered all more number before h new chunk rested l (rw is at k), ok-of-err _ r bad)
 
-stays-known : (text : List (List (List ℕ)) → List ℕ) (h : History) (b : Option History) → StaysSafe text (Some h) b → (h2 : History) × (b ≡ Some h2)
+pub stays-known : (text : List (List (List ℕ)) → List ℕ) (h : History) (b : Option History) → StaysSafe text (Some h) b → (h2 : History) × (b ≡ Some h2)
 stays-known text h None f = absurd f.1
 stays-known text h (Some h2) f = (h2, refl)
 

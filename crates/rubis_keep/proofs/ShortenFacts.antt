@@ -107,12 +107,12 @@ shortened-append p s a b (x ∷ xs) ys (inl h) k =
 shortened-append p s a b (x ∷ xs) ys (inr h) k =
     inr (h.0 ++ b, ap (λ t. t ++ b) h.1, shortened-append p (input_step p s 1 (input_of p.sites x)).0 h.0 b xs ys h.2 k)
 
-after-append : (p : Place) (s : Replica) (xs ys : List (List (List ℕ))) → state_after p s (xs ++ ys) ≡ state_after p (state_after p s xs) ys
+pub after-append : (p : Place) (s : Replica) (xs ys : List (List (List ℕ))) → state_after p s (xs ++ ys) ≡ state_after p (state_after p s xs) ys
 after-append p s [] ys = refl
 after-append p s (x ∷ xs) ys = after-append p (input_step p s 1 (input_of p.sites x)).0 xs ys
 
 whole-of : (text : List ℕ) → AreSound [] text → IsWhole (whole_lines text)
-whole-of text h = subst IsWhole (sound-kept [] text h) (kept-whole [] text)
+whole-of text h = subst IsWhole (sound-kept [] text h) (kept-whole false [] text)
 
 text-whole : (text : List ℕ) → AreSound [] text → begun_after [] text ≡ [] → IsWhole text
 text-whole text h e =

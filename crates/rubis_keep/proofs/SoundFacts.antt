@@ -5,8 +5,9 @@ use Rattle.std.specs.Io.KnownBytes.{Consumes, IsAtEnd}
 use Rattle.std.specs.Prelude.{IsTrue, MatchBool}
 use Rattle.std.proofs.lemmas.List.{append-nil, take-append-drop, take_more}
 use Rattle.std.proofs.lemmas.Bool.{and_parts, eqb-true}
-use Rattle.rubis_keep.specs.Lines.{AreSound, HasNoEnd, are_sound, begun_after, broken, is_sound, kept_after, kept_line, kept_of, whole_after, whole_lines}
-use Rattle.rubis_keep.proofs.LineFacts.{begun-append, kept-append}
+use Rattle.rubis_keep.specs.Lines.{AreSound, HasNoEnd, are_sound, begun_after, broken, is_question, is_sound, kept_after, kept_line, kept_of, kept_record, read_back}
+use Rattle.rubis_keep.specs.Lines.{whole_after, whole_lines}
+use Rattle.rubis_keep.proofs.LineFacts.{begun-append}
 
 -- the lines of the beginning of such a text
 pub sound-front : (line p q : List ℕ) → AreSound line (p ++ q) → AreSound line p
@@ -94,18 +95,18 @@ sound-end (Some x) (Some y) (Some z) bytes more f s g none end =
     let all : x ≡ bytes = f ∙ ap (λ t. bytes ++ t) rest ∙ append-nil bytes in
     are-sound [] x (ap (are_sound []) all ∙ s)
 
--- what is kept of such a text is its whole lines
-pub sound-kept : (line t : List ℕ) → AreSound line t → kept_after line t ≡ whole_after line t
+-- what is read of such a text is its whole lines
+pub sound-kept : (line t : List ℕ) → AreSound line t → kept_after false line t ≡ whole_after line t
 sound-kept line [] h = refl
 sound-kept line (b ∷ t) h =
     elim (eqb b 10) as (λ v. MatchBool v (IsTrue (is_sound line) × AreSound [] t) (AreSound (line ++ b ∷ []) t)
-    → cond v (kept_line line ++ kept_after [] t) (kept_after (line ++ b ∷ []) t)
+    → cond v (kept_record line ++ kept_after false [] t) (kept_after false (line ++ b ∷ []) t)
     ≡ cond v ((line ++ 10 ∷ []) ++ whole_after [] t) (whole_after (line ++ b ∷ []) t)) [
-      | true ↦ λ s. ap (λ k. k ++ kept_after [] t) (sound s.0) ∙ ap (λ k. (line ++ 10 ∷ []) ++ k) (sound-kept [] t s.1)
+      | true ↦ λ s. ap (λ k. k ++ kept_after false [] t) (sound s.0) ∙ ap (λ k. (line ++ 10 ∷ []) ++ k) (sound-kept [] t s.1)
       | false ↦ λ s. sound-kept (line ++ b ∷ []) t s
     ] h
   where
-    sound : IsTrue (is_sound line) → kept_line line ≡ line ++ 10 ∷ []
+    sound : IsTrue (is_sound line) → kept_record line ≡ line ++ 10 ∷ []
     sound e = rw e refl
 
 -- a text is its whole lines, and a line that is begun
@@ -122,7 +123,7 @@ whole-rest line (b ∷ t) =
       | false ↦ λ e. whole-rest (line ++ b ∷ []) t ∙ append_assoc line (b ∷ []) t
     ] refl
 
-no-end-more : (line : List ℕ) (b : ℕ) → HasNoEnd line → eqb b 10 ≡ false → HasNoEnd (line ++ b ∷ [])
+pub no-end-more : (line : List ℕ) (b : ℕ) → HasNoEnd line → eqb b 10 ≡ false → HasNoEnd (line ++ b ∷ [])
 no-end-more [] b h e = (e, tt)
 no-end-more (c ∷ line) b h e = (h.0, no-end-more line b h.1 e)
 
@@ -143,44 +144,58 @@ begun-no-end line (b ∷ text) h =
       | false ↦ λ e. begun-no-end (line ++ b ∷ []) text (no-end-more line b h e)
     ] refl
 
-kept-line-sound : (line rest : List ℕ) → HasNoEnd line → AreSound [] rest → AreSound [] (kept_line line ++ rest)
-kept-line-sound line rest h r =
+kept-record-sound : (line rest : List ℕ) → HasNoEnd line → AreSound [] rest → AreSound [] (kept_record line ++ rest)
+kept-record-sound line rest h r =
     elim (is_sound line) as (λ v. is_sound line ≡ v → AreSound [] (cond v (line ++ 10 ∷ []) broken ++ rest)) [
       | true ↦ λ e. subst (AreSound []) (sym (append_assoc line (10 ∷ []) rest)) (sound-line [] line rest h e r)
       | false ↦ λ e. (refl, r)
     ] refl
 
-pub kept-sound-after : (line bytes : List ℕ) → HasNoEnd line → AreSound [] (kept_after line bytes)
-kept-sound-after line [] h = tt
-kept-sound-after line (b ∷ rest) h =
-    elim (eqb b 10) as (λ v. eqb b 10 ≡ v → AreSound [] (cond v (kept_line line ++ kept_after [] rest) (kept_after (line ++ b ∷ []) rest))) [
-      | true ↦ λ e. kept-line-sound line (kept_after [] rest) h (kept-sound-after [] rest tt)
-      | false ↦ λ e. kept-sound-after (line ++ b ∷ []) rest (no-end-more line b h e)
+kept-line-sound : (asks : Bool) (line rest : List ℕ) → HasNoEnd line → AreSound [] rest → AreSound [] (kept_line asks line ++ rest)
+kept-line-sound asks line rest h r =
+    elim (asks && is_question line) as (λ v. AreSound [] (cond v [] (kept_record line) ++ rest)) [
+      | true ↦ r
+      | false ↦ kept-record-sound line rest h r
+    ]
+
+pub kept-sound-after : (asks : Bool) (line bytes : List ℕ) → HasNoEnd line → AreSound [] (kept_after asks line bytes)
+kept-sound-after asks line [] h = tt
+kept-sound-after asks line (b ∷ rest) h =
+    elim (eqb b 10) as (λ v. eqb b 10 ≡ v → AreSound [] (cond v (kept_line asks line ++ kept_after asks [] rest) (kept_after asks (line ++ b ∷ []) rest))) [
+      | true ↦ λ e. kept-line-sound asks line (kept_after asks [] rest) h (kept-sound-after asks [] rest tt)
+      | false ↦ λ e. kept-sound-after asks (line ++ b ∷ []) rest (no-end-more line b h e)
     ] refl
 
 -- what is kept is kept as it is
 pub kept-sound : (bytes : List ℕ) → AreSound [] (kept_of bytes)
-kept-sound bytes = kept-sound-after [] bytes tt
+kept-sound bytes = kept-sound-after true [] bytes tt
 
 -- no line is begun after what is kept
-kept-line-begun : (line : List ℕ) → HasNoEnd line → begun_after [] (kept_line line) ≡ []
-kept-line-begun line h =
+kept-record-begun : (line : List ℕ) → HasNoEnd line → begun_after [] (kept_record line) ≡ []
+kept-record-begun line h =
     elim (is_sound line) as (λ v. begun_after [] (cond v (line ++ 10 ∷ []) broken) ≡ []) [
       | true ↦ begun-line [] line h
       | false ↦ refl
     ]
 
-pub kept-begun-after : (line bytes : List ℕ) → HasNoEnd line → begun_after [] (kept_after line bytes) ≡ []
-kept-begun-after line [] h = refl
-kept-begun-after line (b ∷ rest) h =
-    elim (eqb b 10) as (λ v. eqb b 10 ≡ v → begun_after [] (cond v (kept_line line ++ kept_after [] rest) (kept_after (line ++ b ∷ []) rest)) ≡ []) [
-      | true ↦ λ e. begun-append [] (kept_line line) (kept_after [] rest) ∙ ap (λ s. begun_after s (kept_after [] rest)) (kept-line-begun line h)
-          ∙ kept-begun-after [] rest tt
-      | false ↦ λ e. kept-begun-after (line ++ b ∷ []) rest (no-end-more line b h e)
+kept-line-begun : (asks : Bool) (line : List ℕ) → HasNoEnd line → begun_after [] (kept_line asks line) ≡ []
+kept-line-begun asks line h =
+    elim (asks && is_question line) as (λ v. begun_after [] (cond v [] (kept_record line)) ≡ []) [
+      | true ↦ refl
+      | false ↦ kept-record-begun line h
+    ]
+
+pub kept-begun-after : (asks : Bool) (line bytes : List ℕ) → HasNoEnd line → begun_after [] (kept_after asks line bytes) ≡ []
+kept-begun-after asks line [] h = refl
+kept-begun-after asks line (b ∷ rest) h =
+    elim (eqb b 10) as (λ v. eqb b 10 ≡ v → begun_after [] (cond v (kept_line asks line ++ kept_after asks [] rest) (kept_after asks (line ++ b ∷ []) rest)) ≡ []) [
+      | true ↦ λ e. begun-append [] (kept_line asks line) (kept_after asks [] rest) ∙ ap (λ s. begun_after s (kept_after asks [] rest)) (kept-line-begun asks line h)
+          ∙ kept-begun-after asks [] rest tt
+      | false ↦ λ e. kept-begun-after asks (line ++ b ∷ []) rest (no-end-more line b h e)
     ] refl
 
 pub kept-ends : (bytes : List ℕ) → begun_after [] (kept_of bytes) ≡ []
-kept-ends bytes = kept-begun-after [] bytes tt
+kept-ends bytes = kept-begun-after true [] bytes tt
 
 -- ---- whole lines
 
@@ -195,26 +210,24 @@ whole-append-after line (b ∷ xs) ys =
       | false ↦ whole-append-after (line ++ b ∷ []) xs ys
     ]
 
--- what is kept of whole lines and then of more
-pub kept-goes-on : (t more : List ℕ) → AreSound [] t → kept_of (whole_lines t ++ more) ≡ whole_lines t ++ kept_of more
-kept-goes-on t more h =
-    let whole : whole_lines t ≡ kept_of t = sym (sound-kept [] t h) in
-    let again : kept_of (whole_lines t) ≡ whole_lines t =
-    ap kept_of whole ∙ sound-kept [] (kept_of t) (kept-sound t) ∙ sym (append-nil (whole_lines (kept_of t)))
-    ∙ ap (λ r. whole_lines (kept_of t) ++ r) (sym (kept-ends t)) ∙ whole-rest [] (kept_of t) ∙ sym whole in
-    kept-append [] (whole_lines t) more
-    ∙ ap (λ k. k ++ kept_after (begun_after [] (whole_lines t)) more) again
-    ∙ ap (λ s. whole_lines t ++ kept_after s more) (ap (begun_after []) whole ∙ kept-ends t)
+back-ends : (t : List ℕ) → begun_after [] (read_back t) ≡ []
+back-ends t = kept-begun-after false [] t tt
+
+-- what is read of whole lines is what they are
+pub read-whole : (t : List ℕ) → AreSound [] t → read_back (whole_lines t) ≡ whole_lines t
+read-whole t h =
+    let whole : whole_lines t ≡ read_back t = sym (sound-kept [] t h) in
+    ap read_back whole ∙ sound-kept [] (read_back t) (kept-sound-after false [] t tt) ∙ sym (append-nil (whole_lines (read_back t)))
+    ∙ ap (λ r. whole_lines (read_back t) ++ r) (sym (back-ends t)) ∙ whole-rest [] (read_back t) ∙ sym whole
 
 -- whole lines are whole lines
 pub whole-whole : (t : List ℕ) → AreSound [] t → whole_lines (whole_lines t) ≡ whole_lines t
 whole-whole t h =
-    let whole : whole_lines t ≡ kept_of t = sym (sound-kept [] t h) in
-    ap whole_lines whole ∙ sym (sound-kept [] (kept_of t) (kept-sound t)) ∙ ap kept_of (sym whole)
-    ∙ sym (ap kept_of (append-nil (whole_lines t))) ∙ kept-goes-on t [] h ∙ append-nil (whole_lines t)
+    let whole : whole_lines t ≡ read_back t = sym (sound-kept [] t h) in
+    ap whole_lines whole ∙ sym (sound-kept [] (read_back t) (kept-sound-after false [] t tt)) ∙ ap read_back (sym whole) ∙ read-whole t h
 
 pub whole-sound : (t : List ℕ) → AreSound [] t → AreSound [] (whole_lines t)
-whole-sound t h = subst (AreSound []) (sound-kept [] t h) (kept-sound t)
+whole-sound t h = subst (AreSound []) (sound-kept [] t h) (kept-sound-after false [] t tt)
 
 pub whole-ends : (t : List ℕ) → AreSound [] t → begun_after [] (whole_lines t) ≡ []
-whole-ends t h = ap (begun_after []) (sym (sound-kept [] t h)) ∙ kept-ends t
+whole-ends t h = ap (begun_after []) (sym (sound-kept [] t h)) ∙ back-ends t

@@ -9,7 +9,7 @@ use Rattle.rubis_engine.specs.Accounts.Ending.{AtEnd}
 use Rattle.rubis_engine.specs.Text.{input_records}
 use Rattle.rubis_keep.specs.History.{Answers, AreSafe, Event, FileState, Grows, HasDone, HasTold, History, IsAnswered, IsSafe, StaysSafe, Tells, after, after_all}
 use Rattle.rubis_keep.specs.History.{kept_in, now, out_in, records_in, told_of}
-use Rattle.rubis_keep.specs.History.Event.{Began, CutTo, Flushed, Kept, Settled, Shown, Told}
+use Rattle.rubis_keep.specs.History.Event.{Began, CutTo, Flushed, Kept, Replied, Settled, Shown, Told}
 use Rattle.rubis_keep.specs.Kept.{Begins, Ended, HasAnswered, IsFrontOf, Opens, Replayed}
 use Rattle.rubis_keep.specs.Lines.{AreSound, begun_after, whole_lines}
 use Rattle.rubis_keep.specs.Lives.{Found, IsOpened, LivesSafe, Rested}
@@ -75,6 +75,7 @@ none-shown (Flushed ∷ es) due due2 s a e = absurd a
 none-shown (CutTo n ∷ es) due due2 s a e = absurd a
 none-shown (Settled ∷ es) due due2 s a e = absurd a
 none-shown (Began n counts ∷ es) due due2 s a e = absurd a
+none-shown (Replied question reply ∷ es) due due2 s a e = absurd a
 
 -- and the files are found so still
 pub replay-found : (kept : List ℕ) (h h2 : History) (live : Bool) (told due : List ℕ) → live ≡ false → Found kept (now h) → Tells live (Some h) (Some h2) told due

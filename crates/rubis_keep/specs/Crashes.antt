@@ -4,7 +4,7 @@ use Rattle.rubis_engine.specs.Accounts.{Account}
 use Rattle.rubis_engine.specs.Accounts.Ending.{AtEnd}
 use Rattle.rubis_engine.specs.Text.{input_records}
 use Rattle.rubis_keep.specs.Kept.{Ended, IsFrontOf, Lived}
-use Rattle.rubis_keep.specs.Lines.{AreSound, kept_of, whole_lines}
+use Rattle.rubis_keep.specs.Lines.{AreSound, kept_of, read_back, whole_lines, without_questions}
 
 -- a log and the answers beside it
 pub record Files : Type 0 where
@@ -18,9 +18,10 @@ pub record IsLeft (text : List (List (List ℕ)) → List ℕ) (files : Files) :
   pub rest : List ℕ
   pub begins : files.out ++ rest ≡ text (input_records (whole_lines files.log))
 
--- what a run over an input leaves that is never cut off, and began with no files
-abbrev pub files_of : (List (List (List ℕ)) → List ℕ) → List ℕ → Files
-files_of text input = record { log = kept_of input; out = text (input_records (kept_of input)) }
+-- what a run leaves that is never cut off, and began with no files: it is given lines that were kept, each one of records, and then an
+-- input, whose questions are left out
+abbrev pub files_of : (List (List (List ℕ)) → List ℕ) → List ℕ → List ℕ → Files
+files_of text kept input = record { log = read_back kept ++ kept_of input; out = text (input_records (read_back kept ++ kept_of input)) }
 
 -- what a start over these files and a run over an input leave
 abbrev pub goes_on : (List (List (List ℕ)) → List ℕ) → Files → List ℕ → Files
@@ -48,7 +49,12 @@ after_lives text files (life ∷ lives) = after_lives text (after_life text file
 abbrev pub ComesBack : Type 0
 ComesBack = (text : List (List (List ℕ)) → List ℕ) (files : Files) (lives : List Life) (input : List ℕ) → IsLeft text files
     → IsLeft text (after_lives text files lives)
-    × (goes_on text (after_lives text files lives) input ≡ files_of text (whole_lines (after_lives text files lives).log ++ input))
+    × (goes_on text (after_lives text files lives) input ≡ files_of text (whole_lines (after_lives text files lives).log) input)
+
+-- a run leaves what it leaves without the questions of its input, wherever it is cut off
+abbrev pub QuestionsLeaveNothing : Type 0
+QuestionsLeaveNothing = (text : List (List (List ℕ)) → List ℕ) (files : Files) (life : Life)
+    → after_life text files (record life { input = without_questions life.input }) ≡ after_life text files life
 
 -- however a run ends that began with what was left, it leaves what a next one can begin with, and no line that was kept whole is
 -- lost

@@ -7,7 +7,8 @@ use Rattle.rubis_keep.specs.Lines.{AreSound, whole_lines}
 
 -- a byte is appended to `kept` or to `out`, or shown on standard output: of a write that is cut off, some first bytes are. `kept` is
 -- flushed, after which it survives a power failure if that is asked for, or cut off after its first bytes. The line `kept,..` is
--- shown: how many records were kept, and how many messages of each site are released
+-- shown: how many records were kept, and how many messages of each site are released. A question is answered on standard output by
+-- this text, or by some first bytes of it where that failed
 pub data Event : Type 0 where
   Kept : (byte : ℕ) → Event
   Flushed : Event
@@ -16,6 +17,7 @@ pub data Event : Type 0 where
   Settled : Event
   Began : (records : ℕ) (counts : List ℕ) → Event
   Shown : (byte : ℕ) → Event
+  Replied : (question : List ℕ) (text : List ℕ) → Event
 
 -- what stands in the files of a site
 pub record FileState : Type 0 where
@@ -37,6 +39,7 @@ after s (Told b) = record s { out = s.out ++ b ∷ [] }
 after s Settled = s
 after s (Began n counts) = record s { begun = true; shown = s.out }
 after s (Shown b) = record s { shown = s.shown ++ b ∷ [] }
+after s (Replied question text) = s
 
 abbrev pub after_all : FileState → List Event → FileState
 after_all s [] = s
@@ -74,6 +77,11 @@ HasDone event old new r = MatchResult r (λ _. Grows old new (event ∷ [])) (λ
 abbrev pub HasShown : {T E : Type 0} → Option History → Option History → Result T E → List ℕ → Type 0
 HasShown old new r text = MatchResult r (λ _. Grows old new (map (λ b. Shown b) text)) (λ _. (n : ℕ) × Grows old new (map (λ b. Shown b) (take n text)))
 
+-- a question is answered by this text, or by some first bytes of it
+abbrev pub HasReplied : {T E : Type 0} → Option History → Option History → Result T E → List ℕ → List ℕ → Type 0
+HasReplied old new r question text = MatchResult r (λ _. Grows old new (Replied question text ∷ []))
+    (λ _. (n : ℕ) × Grows old new (Replied question (take n text) ∷ []))
+
 -- ---- what holds at each moment
 
 -- the records of what was kept whole
@@ -93,7 +101,12 @@ pub record IsSafe (text : List (List (List ℕ)) → List ℕ) (s : FileState) :
 abbrev pub IsAnswered : (List (List (List ℕ)) → List ℕ) → FileState → Type 0
 IsAnswered text s = s.out ≡ text (records_in s.kept)
 
--- no event loses a line that was kept whole. The line `kept,..` is shown, and the site set up anew, once all that was kept is answered
+-- what `out` has is shown, after the line `kept,..`
+abbrev pub IsShown : FileState → Type 0
+IsShown s = (s.begun ≡ true) × (s.shown ≡ s.out)
+
+-- no event loses a line that was kept whole. The line `kept,..` is shown, and the site set up anew, once all that was kept is answered.
+-- A question is answered once that is shown too
 abbrev pub Follows : (List (List (List ℕ)) → List ℕ) → FileState → Event → Type 0
 Follows text s (Kept b) = ⊤
 Follows text s Flushed = ⊤
@@ -102,6 +115,7 @@ Follows text s (Told b) = ⊤
 Follows text s Settled = IsAnswered text s
 Follows text s (Began n counts) = IsAnswered text s × (n ≡ length (records_in s.kept))
 Follows text s (Shown b) = ⊤
+Follows text s (Replied question reply) = IsAnswered text s × IsShown s
 
 -- at each moment of these events the files are safe
 abbrev pub AreSafe : (List (List (List ℕ)) → List ℕ) → FileState → List Event → Type 0
@@ -126,6 +140,7 @@ Answers live (Flushed ∷ later) due due2 = ⊥
 Answers live (CutTo n ∷ later) due due2 = ⊥
 Answers live (Settled ∷ later) due due2 = ⊥
 Answers live (Began n counts ∷ later) due due2 = ⊥
+Answers live (Replied question text ∷ later) due due2 = ⊥
 
 -- what is told by these events
 abbrev pub told_of : List Event → List ℕ
@@ -137,6 +152,7 @@ told_of (CutTo n ∷ later) = told_of later
 told_of (Settled ∷ later) = told_of later
 told_of (Began n counts ∷ later) = told_of later
 told_of (Shown b ∷ later) = told_of later
+told_of (Replied question text ∷ later) = told_of later
 
 -- this text was told, and shown if answers are shown; or `due` of it is still to be shown
 abbrev pub Tells : Bool → Option History → Option History → List ℕ → List ℕ → Type 0

@@ -1,31 +1,42 @@
 -- What a run that keeps its records has read, kept and written.
-use Rattle.std.specs.Prelude.{◌≡◌, ◌≢◌, ◌≤◌, ◌+◌, ◌++◌, ◌⊎◌, [], ℕ, Bool, List, Option, Some, IfSome, drop, false, length, take}
-use Rattle.std.specs.Io.KnownBytes.{Appends, Consumes, IsAtEnd, Keeps}
+use Rattle.std.specs.Prelude.{◌≡◌, ◌≢◌, ◌≤◌, ◌+◌, ◌++◌, ◌⊎◌, [], ℕ, Bool, List, Option, None, Some, IfSome, drop, false, length, take}
+use Rattle.std.specs.Io.KnownBytes.{Appends, Consumes, IsAtEnd, Keeps, prepend_known}
 use Rattle.rubis_engine.specs.Accounts.{Account, Ending, Keeps as TextStays}
 use Rattle.rubis_engine.specs.Accounts.Ending.{AtEnd, Cut}
 use Rattle.rubis_engine.specs.declared.record_list.Records.{Records}
 use Rattle.rubis_engine.specs.Progress.{HasComeSoFar}
 use Rattle.rubis_engine.specs.Reading.{Advances}
 use Rattle.rubis_engine.specs.Text.{input_records}
+use Rattle.rubis_keep.specs.Cuts.{asked_by}
 use Rattle.rubis_keep.specs.Files.{AppendsFront, Found}
-use Rattle.rubis_keep.specs.Lines.{AreSound, HasNoEnd, begun_after, kept_after, kept_of, whole_lines}
+use Rattle.rubis_keep.specs.Lines.{AreSound, HasNoEnd, asked_after, begun_after, kept_after, kept_of, whole_lines}
 use Rattle.rubis_keep.specs.Places.{begun_bytes}
 use Rattle.rubis_keep.specs.Whole.{IsWhole}
 
 -- ---- the next bytes of an input
 
--- the next bytes of an input came, and what is kept of them stands in `chunk` and in the log; the line `line` was begun
-pub record TookPiece (line : List ℕ) (input input2 log log2 : Option (List ℕ)) (chunk begun2 : List ℕ) (more : Bool) : Type 0 where
+-- the next bytes of an input came, and what is kept of them stands in `chunk` and in the log; the line `line` was begun. `asks`
+-- is whether the input asks questions, which what was kept doesn't
+pub record TookPiece (asks : Bool) (line : List ℕ) (input input2 log log2 : Option (List ℕ)) (chunk begun2 : List ℕ) (more : Bool) : Type 0 where
   pub bytes : List ℕ
   pub taken : Consumes input input2 bytes
-  pub holds : chunk ≡ kept_after line bytes
+  pub holds : chunk ≡ kept_after asks line bytes
   pub kept : Appends log log2 chunk
   pub begun : begun2 ≡ begun_bytes (begun_after line bytes)
   pub end : more ≡ false → IsAtEnd input2 × (bytes ≡ [])
 
 -- the next bytes of an input came, and a prefix of what is kept of them stands in the log
-abbrev pub KeptFront : List ℕ → Option (List ℕ) → Option (List ℕ) → Option (List ℕ) → Option (List ℕ) → Type 0
-KeptFront line input input2 log log2 = (bytes : List ℕ) × Consumes input input2 bytes × AppendsFront log log2 (kept_after line bytes)
+abbrev pub KeptFront : Bool → List ℕ → Option (List ℕ) → Option (List ℕ) → Option (List ℕ) → Option (List ℕ) → Type 0
+KeptFront asks line input input2 log log2 = (bytes : List ℕ) × Consumes input input2 bytes × AppendsFront log log2 (kept_after asks line bytes)
+
+-- the same, and the bytes end with the one question that they ask, if they ask one
+abbrev pub TookQuestion : Bool → List ℕ → Option (List ℕ) → Option (List ℕ) → List ℕ → List ℕ → Bool → Bool → List ℕ → Type 0
+TookQuestion asks line input input2 chunk begun2 more asked question = (t : TookPiece asks line input input2 None None chunk begun2 more)
+    × ((done : List ℕ) → asked_after asks done line t.bytes ≡ asked_by asked (done ++ chunk) question)
+
+-- what is left of an input of which these bytes were read and aren't looked at yet
+abbrev pub left_of : List ℕ → Option (List ℕ) → Option (List ℕ)
+left_of unread input = prepend_known unread input
 
 -- ---- answers, and those of before
 
@@ -109,33 +120,33 @@ FinishedFront old new sink before before2 out out2 =
 -- ---- a run over an input
 
 -- from where it began, with `base` kept and `line` begun, the run has come so far, between two pieces of its input
-pub record Stands (all more : Account) (told old base line : List ℕ) (input0 input log0 log before out0 out : Option
+pub record Stands (asks : Bool) (all more : Account) (told old base line : List ℕ) (input0 input log0 log before out0 out : Option
     (List ℕ)) (begun : List ℕ) (number len0 len : ℕ) : Type 0 where
   pub bytes : List ℕ
   pub taken : Consumes input0 input bytes
-  pub logged : Appends log0 log (kept_after line bytes)
+  pub logged : Appends log0 log (kept_after asks line bytes)
   pub begins : begun ≡ begun_bytes (begun_after line bytes)
-  pub counted : len ≡ len0 + length (kept_after line bytes)
-  pub rests : Rests all more told old before out0 out number (base ++ kept_after line bytes)
+  pub counted : len ≡ len0 + length (kept_after asks line bytes)
+  pub rests : Rests all more told old before out0 out number (base ++ kept_after asks line bytes)
 
 -- it ended with a fault: what is kept of `bytes` is in the log, and the beginning `torn` of what is kept of the bytes `next`, which
 -- came after them; what stands in `out` answers nothing else
-pub record Fails (all : Account) (told old base line : List ℕ) (input0 input log0 log out0 out : Option (List ℕ)) : Type 0 where
+pub record Fails (asks : Bool) (all : Account) (told old base line : List ℕ) (input0 input log0 log out0 out : Option (List ℕ)) : Type 0 where
   pub bytes : List ℕ
   pub next : List ℕ
   pub torn : List ℕ
   pub lost : List ℕ
   pub taken : Consumes input0 input (bytes ++ next)
-  pub parts : kept_after (begun_after line bytes) next ≡ torn ++ lost
-  pub logged : Appends log0 log (kept_after line bytes ++ torn)
-  pub out_ends : OutEnds all told old out0 out (base ++ kept_after line bytes)
+  pub parts : kept_after asks (begun_after line bytes) next ≡ torn ++ lost
+  pub logged : Appends log0 log (kept_after asks line bytes ++ torn)
+  pub out_ends : OutEnds all told old out0 out (base ++ kept_after asks line bytes)
 
 -- of every run that stands there this holds
-abbrev pub InEachStand : Account → Option (List ℕ) → Option (List ℕ) → Option (List ℕ) → Option (List ℕ) → List ℕ → ℕ → ℕ
+abbrev pub InEachStand : Bool → Account → Option (List ℕ) → Option (List ℕ) → Option (List ℕ) → Option (List ℕ) → List ℕ → ℕ → ℕ
     → (Account → List ℕ → List ℕ → List ℕ → List ℕ → Option (List ℕ) → Option (List ℕ) → Option (List ℕ) → ℕ → Type 0) → Type 0
-InEachStand more input log before out begun number len holds =
+InEachStand asks more input log before out begun number len holds =
     (all : Account) (told old base line : List ℕ) (input0 log0 out0 : Option (List ℕ)) (len0 : ℕ)
-    → Stands all more told old base line input0 input log0 log before out0 out begun number len0 len → holds all told old base line input0 log0 out0 len0
+    → Stands asks all more told old base line input0 input log0 log before out0 out begun number len0 len → holds all told old base line input0 log0 out0 len0
 
 -- the beginning of some line
 abbrev pub IsBegun : List ℕ → Type 0

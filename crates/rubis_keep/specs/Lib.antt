@@ -4,6 +4,7 @@ pub mod Files
 pub mod Whole
 pub mod Kept
 pub mod Crashes
+pub mod Cuts
 pub mod Shops
 pub mod Shortened
 pub mod Setups
@@ -12,3 +13,5 @@ pub mod Lives
 pub mod Moments
 pub mod Histories
 pub mod SiteLives
+pub mod Questions
+pub mod Asking

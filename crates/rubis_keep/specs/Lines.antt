@@ -1,5 +1,6 @@
--- What is kept of an input: its lines, each one whole records of CSV.
-use Rattle.std.specs.Prelude.{◌≡◌, ◌==◌, ◌&&◌, ◌++◌, ◌∷◌, [], ℕ, Bool, List, IsTrue, false, true, if◌then◌else◌, length, nat_le, not, get_or, ⊤, MatchBool}
+-- What is kept of an input: its lines, each one whole records of CSV, but for its questions.
+use Rattle.std.specs.Prelude.{◌≡◌, ◌==◌, ◌&&◌, ◌+◌, ◌++◌, ◌∷◌, [], ℕ, Bool, List, IsTrue, false, true, if◌then◌else◌, length, nat_le, not, get_or, take, ⊤}
+use Rattle.std.specs.Prelude.{MatchBool}
 use Rattle.csv.specs.Machine.{step}
 use Rattle.csv.specs.Reading.{default_config}
 use Rattle.csv.specs.declared.parser.State.{State}
@@ -41,14 +42,22 @@ line_max = 4096
 abbrev pub is_sound : List ℕ → Bool
 is_sound line = nat_le (length line) line_max && (closes line && not (is_marked line))
 
--- what is kept of a line, with its end
-abbrev pub kept_line : List ℕ → List ℕ
-kept_line line = if is_sound line then line ++ 10 ∷ [] else broken
+-- a line that begins with '?'
+abbrev pub is_question : List ℕ → Bool
+is_question line = get_or line 0 0 == 63
+
+-- what is kept of a line of records, with its end
+abbrev pub kept_record : List ℕ → List ℕ
+kept_record line = if is_sound line then line ++ 10 ∷ [] else broken
+
+-- the same of any line. An input asks questions, of which nothing is kept. What was kept asks none: a line of that form is a record there
+abbrev pub kept_line : Bool → List ℕ → List ℕ
+kept_line asks line = if asks && is_question line then [] else kept_record line
 
 -- what is kept of these bytes, the first of which go on with a line that was begun: what follows the last line end waits
-abbrev pub kept_after : List ℕ → List ℕ → List ℕ
-kept_after line [] = []
-kept_after line (b ∷ rest) = if b == 10 then kept_line line ++ kept_after [] rest else kept_after (line ++ b ∷ []) rest
+abbrev pub kept_after : Bool → List ℕ → List ℕ → List ℕ
+kept_after asks line [] = []
+kept_after asks line (b ∷ rest) = if b == 10 then kept_line asks line ++ kept_after asks [] rest else kept_after asks (line ++ b ∷ []) rest
 
 -- the line that is begun then
 abbrev pub begun_after : List ℕ → List ℕ → List ℕ
@@ -57,7 +66,34 @@ begun_after line (b ∷ rest) = if b == 10 then begun_after [] rest else begun_a
 
 -- what is kept of an input
 abbrev pub kept_of : List ℕ → List ℕ
-kept_of input = kept_after [] input
+kept_of input = kept_after true [] input
+
+-- what is read of what was kept, where each line is a line of records
+abbrev pub read_back : List ℕ → List ℕ
+read_back kept = kept_after false [] kept
+
+-- a question of an input, and what is kept of the input before it. Of a long question the first bytes are looked at
+pub record Asked : Type 0 where
+  pub kept : List ℕ
+  pub question : List ℕ
+
+-- the questions that a line asks, and these bytes: `kept` was kept before
+abbrev pub asked_line : Bool → List ℕ → List ℕ → List Asked
+asked_line asks kept line = if asks && is_question line then record { kept = kept; question = take (line_max + 1) line } ∷ [] else []
+
+abbrev pub asked_after : Bool → List ℕ → List ℕ → List ℕ → List Asked
+asked_after asks kept line [] = []
+asked_after asks kept line (b ∷ rest) =
+    if b == 10 then asked_line asks kept line ++ asked_after asks (kept ++ kept_line asks line) [] rest else asked_after asks kept (line ++ b ∷ []) rest
+
+-- these bytes, the first of which go on with a line that was begun, without the lines that are questions
+abbrev pub without_after : List ℕ → List ℕ → List ℕ
+without_after line [] = line
+without_after line (b ∷ rest) =
+    if b == 10 then (if is_question line then [] else line ++ 10 ∷ []) ++ without_after [] rest else without_after (line ++ b ∷ []) rest
+
+abbrev pub without_questions : List ℕ → List ℕ
+without_questions input = without_after [] input
 
 -- the whole lines of a text that goes on with a line that was begun
 abbrev pub whole_after : List ℕ → List ℕ → List ℕ

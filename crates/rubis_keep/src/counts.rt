@@ -1,10 +1,13 @@
-//! How many messages of each site a log has.
+//! How many messages of each site a log has, and their text.
 
-ghost use Rattle.std.specs.Prelude.{◌≡◌, ℕ, List, IfOk, map};
+ghost use Rattle.std.specs.Prelude.{◌≡◌, ◌≤◌, ◌++◌, ◌∷◌, [], ℕ, List, IfOk, OnOk, length, map};
 ghost use Rattle.std.specs.List.{range_with_len};
+ghost use Rattle.rubis_schema.specs.declared.limits.TheConstants.{COUNTED_MAX};
+ghost use Rattle.rubis_message.specs.Grammar.{deps_text};
 ghost use Rattle.rubis_model.specs.Settle.{counted};
 
 use rubis_message::Message;
+use rubis_schema::{COUNTS_TEXT_MAX, Fields, ShortText};
 use std::alloc::{AllocError, Global};
 
 // How many messages of that site there are.
@@ -34,4 +37,19 @@ pub(crate) fn counts_of(
         counts.push(count_of(messages, site))?;
     }
     Ok(counts)
+}
+
+/// Adds the counts of sites as one field.
+pub(crate) fn push_counts(fields: &mut Fields, counts: &[u32]) -> Result<(), AllocError>
+    requires { length counts.now ≤ COUNTED_MAX }
+    ensures { OnOk result (fields.new ≡ fields.old ++ deps_text counts.now ∷ []) }
+{
+    let mut text: ShortText<COUNTS_TEXT_MAX> = ShortText::new();
+    for site in (0..counts.len()).rev() {
+        if site + 1 < counts.len() {
+            text.put_byte(b':');
+        }
+        text.put_number(counts[site]);
+    }
+    fields.push_plain(text.as_bytes())
 }

@@ -1,11 +1,14 @@
 //! The answers of a site to a text of whole records.
 
-ghost use Rattle.std.specs.Prelude.{◌≡◌, ◌<◌, ◌+◌, ◌++◌, ◌^◌, [], IfOk, MatchBool, OnErr, OnOk, false, true};
+ghost use Rattle.std.specs.Prelude.{◌≡◌, ◌<◌, ◌+◌, ◌++◌, ◌^◌, [], ℕ, List, IfOk, MatchBool, OnErr, OnOk, false, true};
 ghost use Rattle.rubis_engine.specs.Accounts.{AnswersRecord};
 ghost use Rattle.rubis_engine.specs.declared.service.Course.TheVariants.{GoesOn};
-ghost use Rattle.rubis_engine.specs.Reading.{Advances, fields_now};
+ghost use Rattle.rubis_engine.specs.Reading.{Advances, Gives, fields_now};
 ghost use Rattle.rubis_script.specs.Desks.{left_at};
+ghost use Rattle.rubis_script.specs.Headline.{Settles};
 ghost use Rattle.rubis_script.specs.SiteRuns.{told_by};
+ghost use Rattle.rubis_engine.specs.Text.{input_records};
+ghost use Rattle.rubis_keep.specs.Asking.{LeadsOn, LedBy, StepsDesk};
 ghost use Rattle.rubis_keep.specs.History.{HasTold, out_in};
 ghost use Rattle.rubis_keep.specs.Kept.{FeedEnds, Finished, FinishedFront, InEachFeed, InEachRest, OutEnds, Rests};
 ghost use Rattle.rubis_keep.specs.Whole.{IsWhole};
@@ -30,7 +33,7 @@ fn answer_next<G: Gate, T: Threads + Wait + Sync, R: Read>(
     ensures { IfOk result (λ found. MatchBool found
         (Advances R.remaining records.old records.new true × AnswersRecord GoesOn
         (left_at clerk.old.desk) (left_at clerk.new.desk) clerk.old.desk.reply.sink clerk.new.desk.reply.sink (fields_now records.new)
-        × (clerk.new.desk.answered ≡ clerk.old.desk.answered + 1))
+        × (clerk.new.desk.answered ≡ clerk.old.desk.answered + 1) × StepsDesk clerk.old.desk clerk.new.desk (fields_now records.new))
         (Advances R.remaining records.old records.new false × (clerk.new ≡ clerk.old))) }
 {
     if !records.advance()? {
@@ -52,7 +55,8 @@ fn finish<G: Gate, T: Threads + Wait + Sync, O: Read, F: SiteFiles>(
         (told_by clerk.new.desk.site
         (clerk.old.desk.answered + 1)) clerk.old.desk.reply.sink (O.remaining answers.old.before) (O.remaining answers.new.before)
         (out_in (F.history answers.old.files)) (out_in (F.history answers.new.files))) }
-    ensures same { OnOk result (clerk.new.desk.answered ≡ clerk.old.desk.answered) }
+    ensures same { OnOk result ((clerk.new.desk.answered ≡ clerk.old.desk.answered)
+        × Settles clerk.old.desk.site clerk.old.desk.window.items clerk.new.desk.site clerk.new.desk.window.items) }
     ensures empty { OnOk result (clerk.new.desk.reply.sink ≡ []) }
     ensures window { OnOk result (clerk.new.desk.window.items ≡ []) }
     ensures err { OnErr result (FinishedFront (left_at clerk.old.desk)
@@ -103,6 +107,7 @@ fn feed_records<G: Gate, T: Threads + Wait + Sync, R: Read, O: Read, F: SiteFile
         (O.remaining answers.old.before) (out_in (F.history answers.old.files)) clerk.old.desk.reply.sink (clerk.old.desk.answered + 1)
         (λ all told old out0 kept. OutEnds all told old out0 (out_in (F.history answers.new.files)) kept)) }
     ensures told { HasTold answers.old.is_live answers.new.is_live (F.history answers.old.files) (F.history answers.new.files) result }
+    ensures leads { OnOk result ((all : List (List (List ℕ))) → Gives R.remaining records.old all → LeadsOn clerk.old.desk clerk.new.desk all) }
 {
     for _turn in 0..u64::MAX {
         if clerk.desk.answered >= clerk.limit {
@@ -139,6 +144,8 @@ pub(crate) fn feed_chunk<G: Gate, T: Threads + Wait + Sync, O: Read, F: SiteFile
         (out_in (F.history answers.old.files)) (clerk.old.desk.answered + 1)
         (λ all told old out0 kept. OutEnds all told old out0 (out_in (F.history answers.new.files)) (kept ++ chunk.now))) }
     ensures told { HasTold answers.old.is_live answers.new.is_live (F.history answers.old.files) (F.history answers.new.files) result }
+    ensures leads { OnOk result (LedBy clerk.old.desk.site.place clerk.old.desk.site.state clerk.old.desk.answered clerk.new.desk.site
+        clerk.new.desk.answered (input_records chunk.now)) }
 {
     let mut records = Records::new(clerk.alloc, chunk);
     feed_records(rt, &mut records, clerk, answers)?;

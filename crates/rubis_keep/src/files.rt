@@ -82,6 +82,10 @@ impl<R: Files<File = File> + Print + AllocGlobal> SiteFiles for FolderFiles<'_, 
         self.print(line.as_bytes())
     }
 
+    fn reply(&mut self, _question: &[u8], text: &[u8]) -> io::Result<()> {
+        self.print(text)
+    }
+
     fn show(&mut self, text: &[u8]) -> io::Result<()> {
         self.print(text)
     }

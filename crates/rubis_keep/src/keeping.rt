@@ -1,47 +1,52 @@
 //! The lines of an input, kept as they come.
 
-ghost use Rattle.std.specs.Prelude.{◌≡◌, ◌<◌, [], ℕ, List, IfOk, None, OnErr, length, true, vec_len};
+ghost use Rattle.std.specs.Prelude.{◌≡◌, [], ℕ, List, IfOk, None, OnErr, true};
 ghost use Rattle.rubis_keep.specs.History.{HasKept};
-ghost use Rattle.rubis_keep.specs.Kept.{KeptFront, TookPiece};
+ghost use Rattle.rubis_keep.specs.Kept.{KeptFront, TookQuestion, left_of};
 ghost use Rattle.rubis_keep.specs.Places.{begun_bytes};
 
 use crate::fault::KeepFault;
 use crate::lines::LineCutter;
 use crate::site_files::SiteFiles;
+use crate::unread::Unread;
 use std::alloc::{AllocError, Global};
 use std::io;
 use std::io::{ErrorKind, Read};
 
-// How many bytes are read at once.
-const PIECE: usize = 65_536;
-
-/// The lines of an input that are kept: the line that is begun, and those of the last piece.
+/// The lines of an input that are kept: the line that is begun, and those that came last.
 #[derive(Drop)]
 pub struct KeptLines {
     pub cutter: LineCutter,
-    /// What is read at once.
-    pub piece: Vec<u8>,
-    /// What is kept of the last piece.
+    /// What was read and isn't looked at yet.
+    pub unread: Unread,
+    /// What is kept of what came last.
     pub chunk: Vec<u8>,
+    /// The question that came last.
+    pub question: Vec<u8>,
     /// How many bytes were kept and answered.
     pub kept: u64,
-    ghost room: { 0 < vec_len piece },
 }
 
 impl KeptLines {
     /// Before the first line of all.
     pub(crate) fn new(alloc: Global) -> Result<KeptLines, AllocError>
-        ensures { IfOk result (λ lines. (lines.cutter ≡ []) × (lines.kept ≡ 0)) }
+        ensures { IfOk result (λ lines. (lines.cutter ≡ []) × (lines.unread ≡ []) × (lines.kept ≡ 0)) }
     {
-        let mut piece = Vec::new(alloc);
-        piece.resize(PIECE, 0)?;
         Ok(KeptLines {
             cutter: LineCutter::new(alloc),
-            piece,
+            unread: Unread::new(alloc)?,
             chunk: Vec::new(alloc),
+            question: Vec::new(alloc),
             kept: 0,
         })
     }
+}
+
+/// What came of an input: whether it goes on, and whether a question ended.
+#[derive(Clone, Copy)]
+pub(crate) struct Came {
+    pub(crate) more: bool,
+    pub(crate) is_asked: bool,
 }
 
 // Keeps these lines, and returns once they are as safe as they are to be. A run that answers what was kept before keeps none.
@@ -83,32 +88,34 @@ fn keep_lines<F: SiteFiles>(files: &mut F, chunk: &[u8]) -> io::Result<()>
     Err(io::Error::from(ErrorKind::Other))
 }
 
-/// Reads the next piece of an input: `chunk` has then what is kept of the lines that end in it. Whether the input goes on.
+/// Takes what comes next of an input, up to the end of its first question if it asks questions. `chunk` has then what is kept of
+/// the lines that end in it, and `question` the question: of a long one the first bytes.
 pub(crate) fn read_next<R: Read>(
     live: &mut R,
-    cutter: &mut LineCutter,
-    piece: &mut [u8],
-    chunk: &mut Vec<u8>,
-) -> Result<bool, KeepFault>
-    requires { 0 < length piece.old }
-    ensures ok { IfOk result (λ more. (line : List ℕ) → cutter.old ≡ begun_bytes line
-        → TookPiece line (R.remaining live.old) (R.remaining live.new) None None chunk.new.items cutter.new more) }
-    ensures err { OnErr result ((line : List ℕ) → cutter.old ≡ begun_bytes line
-        → KeptFront line (R.remaining live.old) (R.remaining live.new) None None) }
+    lines: &mut KeptLines,
+    asks: bool,
+) -> Result<Came, KeepFault>
+    ensures asks { IfOk result (λ came. came.is_asked ≡ true → asks ≡ true) }
+    ensures ok { IfOk result (λ came. (line : List ℕ) → lines.old.cutter ≡ begun_bytes line
+        → TookQuestion asks line (left_of lines.old.unread (R.remaining live.old)) (left_of lines.new.unread (R.remaining live.new)) lines.new.chunk.items
+        lines.new.cutter came.more came.is_asked lines.new.question.items) }
+    ensures err { OnErr result ((line : List ℕ) → lines.old.cutter ≡ begun_bytes line
+        → KeptFront asks line (left_of lines.old.unread (R.remaining live.old)) (left_of lines.new.unread (R.remaining live.new)) None None) }
+    ensures kept { lines.new.kept ≡ lines.old.kept }
 {
+    let KeptLines {
+        cutter,
+        unread,
+        chunk,
+        question,
+        kept: _,
+    } = lines;
     chunk.clear();
-    match live.read(piece) {
-        Ok(0) => Ok(false),
-        Ok(given) => {
-            cutter.take(&piece[..given], chunk)?;
-            Ok(true)
-        }
-        Err(e) => {
-            if e.kind() == ErrorKind::Interrupted {
-                Ok(true)
-            } else {
-                Err(KeepFault::ReadInput(e))
-            }
-        }
-    }
+    let more = unread.fill(live)?;
+    let cut = cutter.take(unread.bytes(), asks, chunk, question)?;
+    unread.pass(cut.taken);
+    Ok(Came {
+        more,
+        is_asked: cut.is_asked,
+    })
 }

@@ -1,13 +1,13 @@
 //! What holds of runs that are cut off and start again.
 
 ghost use Rattle.rubis_keep.specs.Shops.{KeptShopsAreRuns};
-ghost use Rattle.rubis_keep.specs.Crashes.{ComesBack, DifferencesAreFound, EditsAreFound, EndsLeft, LivesLeft};
+ghost use Rattle.rubis_keep.specs.Crashes.{ComesBack, DifferencesAreFound, EditsAreFound, EndsLeft, LivesLeft, QuestionsLeaveNothing};
 ghost use Rattle.rubis_keep.specs.Histories.{HistoriesAreKept, HistoriesAreRuns};
 ghost use Rattle.rubis_keep.specs.SiteLives.{LivesAreHistories, ShopLivesAreRuns};
 ghost use Rattle.rubis_keep.specs.Moments.{KillsLeaveFiles, PowerFailuresLeaveFiles, RaisedKeepsTellTheSame, ShownTooEarlyIsUnsafe, SiteTextsExtend, ToldTooEarlyIsUnsafe};
 
 /// A run that was cut off any number of times, and anywhere, comes to where one comes that was never cut off. However a run ends,
-/// it leaves what the next one can begin with. Answers that aren't those to what was kept, and a line that no run kept, are found
+/// it leaves what the next one can begin with. Questions leave nothing. Answers that aren't those to what was kept, and a line that no run kept, are found
 /// before a file is changed.
 pub fn crash_and_restart()
     ensures comes_back { ComesBack }
@@ -15,6 +15,7 @@ pub fn crash_and_restart()
     ensures lives { LivesLeft }
     ensures differences { DifferencesAreFound }
     ensures edits { EditsAreFound }
+    ensures questions { QuestionsLeaveNothing }
 {}
 
 /// What `keep_site` promises of each moment. A process that is killed at any moment, also within a write, leaves files with which the next

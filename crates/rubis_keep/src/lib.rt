@@ -16,11 +16,14 @@ mod keeping;
 mod laws;
 mod lines;
 mod pieces;
+mod questions;
+mod replying;
 mod run;
 mod setup;
 mod shortening;
 mod site;
 mod site_files;
+mod unread;
 mod writing;
 
 pub use answers::Answers;
@@ -33,9 +36,11 @@ pub use laws::{
     crash_and_restart, early_answers_are_unsafe, histories_are_runs, kept_shops_are_runs,
     moments_leave_files, raised_keeps_tell_the_same, shop_lives_are_runs,
 };
-pub use lines::{LINE_MAX, LineCutter};
+pub use lines::{Cut, LINE_MAX, LineCutter};
+pub use questions::Question;
 pub use run::{Recording, run_kept};
 pub use setup::Setup;
 pub use shortening::shorten;
 pub use site::keep_site;
 pub use site_files::SiteFiles;
+pub use unread::Unread;

@@ -1,10 +1,11 @@
 //! The lines of an input that comes in pieces.
 
-ghost use Rattle.std.specs.Prelude.{◌≡◌, ◌++◌, ◌∷◌, [], ◌≤◌, ◌+◌, ℕ, List, OnOk, length, not};
+ghost use Rattle.std.specs.Prelude.{◌≡◌, ◌&&◌, ◌++◌, ◌∷◌, [], ◌≤◌, ◌+◌, ℕ, List, IfOk, OnOk, false, length, not, take, true};
 ghost use Rattle.csv.specs.Reading.{default_config};
 ghost use Rattle.csv.specs.Machine.{step};
 ghost use Rattle.csv.specs.declared.parser.State.{State};
-ghost use Rattle.rubis_keep.specs.Lines.{begun_after, closes, is_sound, kept_after, kept_line};
+ghost use Rattle.rubis_keep.specs.Lines.{begun_after, closes, is_question, is_sound, kept_line, kept_record};
+ghost use Rattle.rubis_keep.specs.Cuts.{CutsLines};
 ghost use Rattle.rubis_keep.specs.Places.{StandsIn, begun_bytes, plain_place};
 
 use std::alloc::{AllocError, Global};
@@ -69,7 +70,7 @@ fn place_after(place: Place, byte: u8) -> Place
 
 // Whether the quotes of a line close.
 #[tactic(auto, using(crate::proofs::LineFacts::state_take_more))]
-fn closes(line: &[u8]) -> bool
+pub(crate) fn closes(line: &[u8]) -> bool
     ensures { result ≡ closes line.now }
 {
     let mut place = Place::FieldStart;
@@ -84,6 +85,20 @@ pub(crate) fn is_sound(line: &[u8]) -> bool
     ensures { result ≡ is_sound line.now }
 {
     line.len() <= LINE_MAX && closes(line) && line.first() != Some(&0xEF)
+}
+
+// Whether a line is a question.
+fn is_question(line: &[u8]) -> bool
+    ensures { result ≡ is_question line.now }
+{
+    line.first() == Some(&b'?')
+}
+
+/// How many bytes of a piece were taken, and whether a question ended with the last of them.
+#[derive(Clone, Copy)]
+pub struct Cut {
+    pub taken: usize,
+    pub is_asked: bool,
 }
 
 /// The lines of an input that comes in pieces: the line that is begun.
@@ -101,9 +116,9 @@ impl Model for LineCutter {
     ghost view = { λ c. c.begun.items };
 }
 
-// Adds what is kept of a line.
+// Adds what is kept of a line of records.
 fn push_line(line: &[u8], kept: &mut Vec<u8>) -> Result<(), AllocError>
-    ensures { OnOk result (kept.new.items ≡ kept.old.items ++ kept_line line.now) }
+    ensures { OnOk result (kept.new.items ≡ kept.old.items ++ kept_record line.now) }
 {
     if is_sound(line) {
         kept.extend_from_slice(line)?;
@@ -114,31 +129,76 @@ fn push_line(line: &[u8], kept: &mut Vec<u8>) -> Result<(), AllocError>
     }
 }
 
-// Takes one byte of the input.
-#[tactic(auto, using(crate::proofs::LineFacts::kept_begun, crate::proofs::LineFacts::begun_more, crate::proofs::LineFacts::begun_full))]
-fn take_byte(begun: &mut Vec<u8>, byte: u8, kept: &mut Vec<u8>) -> Result<(), AllocError>
-    ensures { OnOk result ((line : List ℕ) → begun.old.items ≡ begun_bytes line
-        → (begun.new.items ≡ begun_bytes (begun_after line (byte ∷ []))) × (kept.new.items ≡ kept.old.items ++ kept_after line (byte ∷ []))) }
+// Ends a line: what is kept of it is added to `kept`, or where it is asked, it is put into `question`. Whether it is.
+fn end_line(
+    line: &[u8],
+    asks: bool,
+    kept: &mut Vec<u8>,
+    question: &mut Vec<u8>,
+) -> Result<bool, AllocError>
+    ensures asked { IfOk result (λ asked. asked ≡ (asks && is_question line.now)) }
+    ensures question { IfOk result (λ asked. asked ≡ true → question.new.items ≡ line.now) }
+    ensures kept { OnOk result (kept.new.items ≡ kept.old.items ++ kept_line asks line.now) }
 {
-    if byte == b'\n' {
-        push_line(begun, kept)?;
-        begun.clear();
-    } else if begun.len() <= LINE_MAX {
-        begun.push(byte)?;
+    if asks && is_question(line) {
+        question.clear();
+        question.extend_from_slice(line)?;
+        return Ok(true);
     }
-    Ok(())
+    push_line(line, kept)?;
+    Ok(false)
 }
 
-// Takes the bytes of a piece.
-#[tactic(auto, using(crate::proofs::LineFacts::begun_take_more, crate::proofs::LineFacts::kept_take_more))]
-fn take_bytes(begun: &mut Vec<u8>, piece: &[u8], kept: &mut Vec<u8>) -> Result<(), AllocError>
-    ensures { OnOk result ((line : List ℕ) → begun.old.items ≡ begun_bytes line
-        → (begun.new.items ≡ begun_bytes (begun_after line piece.now)) × (kept.new.items ≡ kept.old.items ++ kept_after line piece.now)) }
+// Takes one byte of the input. Whether a question ends with it.
+fn take_byte(
+    begun: &mut Vec<u8>,
+    byte: u8,
+    asks: bool,
+    kept: &mut Vec<u8>,
+    question: &mut Vec<u8>,
+) -> Result<bool, AllocError>
+    ensures asks { IfOk result (λ asked. asked ≡ true → asks ≡ true) }
+    ensures cut { IfOk result (λ asked. (line : List ℕ) → begun.old.items ≡ begun_bytes line
+        → CutsLines asks line (byte ∷ []) begun.new.items kept.old.items kept.new.items asked question.new.items) }
 {
-    for byte in piece {
-        take_byte(begun, *byte, kept)?;
+    if byte == b'\n' {
+        let is_asked = end_line(begun, asks, kept, question)?;
+        begun.clear();
+        return Ok(is_asked);
     }
-    Ok(())
+    if begun.len() <= LINE_MAX {
+        begun.push(byte)?;
+    }
+    Ok(false)
+}
+
+// Takes the bytes of a piece, up to the end of its first question.
+fn take_bytes(
+    begun: &mut Vec<u8>,
+    piece: &[u8],
+    asks: bool,
+    kept: &mut Vec<u8>,
+    question: &mut Vec<u8>,
+) -> Result<Cut, AllocError>
+    ensures asks { IfOk result (λ cut. cut.is_asked ≡ true → asks ≡ true) }
+    ensures bound { IfOk result (λ cut. (cut.taken ≤ length piece.now) × (cut.is_asked ≡ false → cut.taken ≡ length piece.now)) }
+    ensures cut { IfOk result (λ cut. (line : List ℕ) → begun.old.items ≡ begun_bytes line
+        → CutsLines asks line (take cut.taken piece.now) begun.new.items kept.old.items kept.new.items cut.is_asked question.new.items) }
+{
+    let mut taken = 0;
+    for byte in piece {
+        taken += 1;
+        if take_byte(begun, *byte, asks, kept, question)? {
+            return Ok(Cut {
+                taken,
+                is_asked: true,
+            });
+        }
+    }
+    Ok(Cut {
+        taken,
+        is_asked: false,
+    })
 }
 
 impl LineCutter {
@@ -151,11 +211,20 @@ impl LineCutter {
         }
     }
 
-    /// Takes the next piece of the input, and adds to `kept` what is kept of the lines that end in it.
-    pub fn take(&mut self, piece: &[u8], kept: &mut Vec<u8>) -> Result<(), AllocError>
-        ensures { OnOk result ((line : List ℕ) → self.old ≡ begun_bytes line
-            → (self.new ≡ begun_bytes (begun_after line piece.now)) × (kept.new.items ≡ kept.old.items ++ kept_after line piece.now)) }
+    /// Takes the next piece of the input, up to the end of its first question if it asks questions. What is kept of the lines that
+    /// end in it is added to `kept`, and the question is put into `question`: of a long one the first bytes.
+    pub fn take(
+        &mut self,
+        piece: &[u8],
+        asks: bool,
+        kept: &mut Vec<u8>,
+        question: &mut Vec<u8>,
+    ) -> Result<Cut, AllocError>
+        ensures asks { IfOk result (λ cut. cut.is_asked ≡ true → asks ≡ true) }
+        ensures bound { IfOk result (λ cut. (cut.taken ≤ length piece.now) × (cut.is_asked ≡ false → cut.taken ≡ length piece.now)) }
+        ensures cut { IfOk result (λ cut. (line : List ℕ) → self.old ≡ begun_bytes line
+            → CutsLines asks line (take cut.taken piece.now) self.new kept.old.items kept.new.items cut.is_asked question.new.items) }
     {
-        take_bytes(&mut self.begun, piece, kept)
+        take_bytes(&mut self.begun, piece, asks, kept, question)
     }
 }

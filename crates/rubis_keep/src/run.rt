@@ -5,11 +5,14 @@ ghost use Rattle.std.specs.List.{range_with_len};
 ghost use Rattle.rubis_engine.specs.Accounts.{Account};
 ghost use Rattle.rubis_engine.specs.Accounts.Ending.{AtEnd};
 ghost use Rattle.rubis_script.specs.SiteRuns.{told_by};
+ghost use Rattle.rubis_engine.specs.Text.{input_records};
 ghost use Rattle.rubis_model.specs.Settle.{counted};
+ghost use Rattle.rubis_model.specs.Site.{Place, Replica};
+ghost use Rattle.rubis_keep.specs.Asking.{LedBy, RepliesTo};
 ghost use Rattle.rubis_keep.specs.History.{Grows, HasDone, HasTold, History, StaysSafe, kept_in, now, out_in};
 ghost use Rattle.rubis_keep.specs.History.Event.{Began, CutTo, Flushed, Settled};
 ghost use Rattle.rubis_keep.specs.Kept.{Begins, Ended, Lived, Opens, Replayed};
-ghost use Rattle.rubis_keep.specs.Lines.{AreSound};
+ghost use Rattle.rubis_keep.specs.Lines.{AreSound, whole_lines};
 ghost use Rattle.rubis_keep.specs.Lives.{Found, IsOpened};
 
 use crate::answers::Answers;
@@ -53,6 +56,7 @@ fn replay<G: Gate, T: Threads + Wait + Sync, P: Read, O: Read, F: SiteFiles>(
     requires empty { clerk.old.desk.reply.sink ≡ [] }
     requires answered { clerk.old.desk.answered ≡ 0 }
     requires cutter { lines.old.cutter ≡ [] }
+    requires unread { lines.old.unread ≡ [] }
     requires kept { lines.old.kept ≡ 0 }
     ensures ok { OnOk result ((kept old : List ℕ) → Begins kept old (P.remaining past.old) (Some kept) (O.remaining answers.old.before)
         (out_in (F.history answers.old.files))
@@ -64,6 +68,9 @@ fn replay<G: Gate, T: Threads + Wait + Sync, P: Read, O: Read, F: SiteFiles>(
         → Begins kept old (P.remaining past.old) (Some kept) (O.remaining answers.old.before) (out_in (F.history answers.old.files))
         → Ended (told_by clerk.old.desk.site 1) kept old input input (Some kept) (out_in (F.history answers.new.files))) }
     ensures told { HasTold answers.old.is_live answers.new.is_live (F.history answers.old.files) (F.history answers.new.files) result }
+    ensures led { OnOk result ((kept old : List ℕ) → Begins kept old (P.remaining past.old) (Some kept) (O.remaining answers.old.before)
+        (out_in (F.history answers.old.files))
+        → LedBy clerk.old.desk.site.place clerk.old.desk.site.state 0 clerk.new.desk.site clerk.new.desk.answered (input_records (whole_lines kept))) }
 {
     match answer_pieces(rt, past, false, lines, clerk, answers) {
         Ok(()) => answers.check_end(),
@@ -131,16 +138,21 @@ fn go_on<G: Gate, T: Threads + Wait + Sync, O: Read, F: SiteFiles, R: Read>(
         → Replayed all (told_by clerk.old.desk.site
         (clerk.old.desk.answered + 1)) kept old (O.remaining answers.old.before) (out_in (F.history answers.old.files)) (clerk.old.desk.answered + 1) lines.old.kept
         → StaysSafe (all.text AtEnd) (Some h) (F.history answers.new.files) }
+    ensures asked { (p : Place) (s : Replica) (kept : List ℕ) → AreSound [] kept
+        → LedBy p s 0 clerk.old.desk.site clerk.old.desk.answered (input_records (whole_lines kept))
+        → RepliesTo p s kept (R.remaining live.old) (R.remaining live.new) (F.history answers.old.files) (F.history answers.new.files) result }
 {
     cut_and_flush(&mut answers.files, lines.kept)?;
     lines.cutter = LineCutter::new(clerk.alloc);
+    lines.unread.clear();
     tell_replayed(clerk, &mut answers.files)?;
     answers.is_live = true;
     answer_pieces(rt, live, true, lines, clerk, answers)
 }
 
 /// Answers what was kept before, as far as it isn't answered yet, and then keeps and answers an input to its end: each line is
-/// kept before it is answered.
+/// kept before it is answered. A line of the input that begins with '?' is a question: it isn't kept and changes nothing, and its
+/// answer stands on standard output alone, behind those to all records before.
 ///
 /// # Errors
 ///
@@ -179,6 +191,10 @@ pub fn run_kept<
         → Opens kept old (C.remaining recording.old.first) (P.remaining recording.old.past) (kept_in (Some h)) (O.remaining answers.old.before) (out_in (Some h))
         → IsOpened ((told_by clerk.old.desk.site 1).text AtEnd) (now h)
         → StaysSafe ((told_by clerk.old.desk.site 1).text AtEnd) (Some h) (F.history answers.new.files) }
+    ensures asked { (kept old : List ℕ) → Opens kept old (C.remaining recording.old.first) (P.remaining recording.old.past)
+        (kept_in (F.history answers.old.files)) (O.remaining answers.old.before) (out_in (F.history answers.old.files))
+        → RepliesTo clerk.old.desk.site.place clerk.old.desk.site.state kept (R.remaining live.old) (R.remaining live.new) (F.history answers.old.files)
+        (F.history answers.new.files) result }
 {
     let mut lines = KeptLines::new(clerk.alloc)?;
     check_kept(clerk.alloc, &mut recording.first)?;

@@ -2,7 +2,7 @@
 
 ghost use Rattle.std.specs.Prelude.{◌∷◌, [], ℕ, List, Option, None};
 ghost use Rattle.std.specs.Io.{WritesAtMost};
-ghost use Rattle.rubis_keep.specs.History.{HasDone, HasShown, HasWritten, History};
+ghost use Rattle.rubis_keep.specs.History.{HasDone, HasReplied, HasShown, HasWritten, History};
 ghost use Rattle.rubis_keep.specs.History.Event.{Began, CutTo, Flushed, Kept, Settled, Told};
 
 use std::io;
@@ -39,6 +39,10 @@ pub trait SiteFiles {
     /// released then.
     fn begin(&mut self, records: u64, counts: &[u64]) -> io::Result<()>
         ensures { HasDone (Began records counts.now) (history self.old) (history self.new) result };
+
+    /// Answers a question on standard output.
+    fn reply(&mut self, question: &[u8], text: &[u8]) -> io::Result<()>
+        ensures { HasReplied (history self.old) (history self.new) result question.now text.now };
 
     /// Shows answers on standard output.
     fn show(&mut self, text: &[u8]) -> io::Result<()>

@@ -159,6 +159,14 @@ impl Intake {
         self.messages.waiting().messages(alloc)
     }
 
+    /// Which site it is.
+    pub fn site(&self) -> u8
+        ensures value { result ≡ self.now.place.site }
+        ensures conditions { IsIntake self.now }
+    {
+        self.site
+    }
+
     /// What a decision has to know of the site.
     pub fn standing(&self) -> Standing
         ensures value { result ≡ standing_of self.now.place.keep self.now.state }

@@ -29,6 +29,13 @@ impl Intake {
         self.held.map(|issued| Held { turn, issued })
     }
 
+    /// The greatest turn that the site took, 0 before it took any.
+    pub fn last_turn(&self) -> u32
+        ensures { result ≡ self.now.state.last }
+    {
+        self.last
+    }
+
     /// Takes a token that arrived, where it is for this site and its turn is a later one than all that the site took.
     pub fn take_token(&mut self, token: Token) -> Result<Taken, Refusal>
         ensures place { self.new.place ≡ self.old.place }

@@ -1,8 +1,10 @@
-use Rattle.std.proofs.Common.{◌≡◌, ◌∙◌, ap, false, refl, sym, true}
+use Rattle.std.proofs.Common.{◌≡◌, ◌∙◌, ◌+◌, ap, false, refl, subst, sym, true}
 use Rattle.rubis_engine.proofs.RunFacts.{takes-at}
 use Rattle.rubis_engine.specs.Reading.{fields_now}
 use Rattle.rubis_model.specs.Runs.{input_of}
 use Rattle.rubis_script.specs.Desks.{left_at}
+use Rattle.rubis_script.specs.Headline.{StepsOn}
+use Rattle.rubis_keep.proofs.AskFacts.{steps-settle}
 use Rattle.rubis_keep.proofs.TellingFacts.{answers-kept}
 use Rattle.rubis_keep.proofs.feeding.answer_next.Goals as goal
 
@@ -21,4 +23,7 @@ returns g c =
       answers-kept (left_at d) (left_at mid) (left_at new) d.reply.sink mid.reply.sink new.reply.sink (fields_now c.advance.new.self)
           (took.text (fields_now c.advance.new.self) (ap (input_of d.site.place.sites) (sym c.fields.ensures))) kept.text,
       kept.count ∙ took.count,
+      steps-settle (d.answered + 1) (input_of d.site.place.sites (fields_now c.advance.new.self)) d.site mid.site new.site d.window.items mid.window.items
+          new.window.items (subst (λ f. StepsOn (d.answered + 1) (input_of d.site.place.sites f) d.site d.window.items mid.site mid.window.items) c.fields.ensures
+          took.leads) kept.leads,
     )

@@ -1,5 +1,7 @@
 use Rattle.std.proofs.Common.{◌+◌}
 use Rattle.rubis_engine.proofs.RunFacts.{on_ok_both}
+use Rattle.rubis_engine.specs.Text.{input_records}
+use Rattle.rubis_keep.proofs.AskFacts.{chunk-led}
 use Rattle.rubis_keep.proofs.EachFacts.{chunk-feeds, chunk-finish-ends, chunk-rest, on_err, on_err_weaker}
 use Rattle.rubis_keep.proofs.HistoryFacts.{told-failed, told-more}
 use Rattle.rubis_keep.proofs.TellingFacts.{none-told, rests-told}
@@ -18,10 +20,15 @@ returns-clause-err g c =
 
 pub returns-clause-ok : goal.returns-clause-ok
 returns-clause-ok g c =
-    on_ok_both c.finish.result (λ f same. rw same (rests-told c.args.clerk.now.desk.site c.args.clerk.now.desk.window.items _ _ _ _ _ c.requires.window
+    on_ok_both c.finish.result (λ f same. rw same.0 (rests-told c.args.clerk.now.desk.site c.args.clerk.now.desk.window.items _ _ _ _ _ c.requires.window
     (chunk-rest _ _ c.feed_records.new.records _ _ _ _ _ _ _ _ _ _ _ _ _ c.args.chunk.now c.in_ok-feed_records.ensures.ok c.requires.empty c.new-records.ensures
     c.requires.whole
     f (none-told c.finish.new.clerk.desk.site (c.feed_records.new.clerk.desk.answered + 1))))) c.finish.ensures.ok c.finish.ensures.same
+
+pub returns-clause-leads : goal.returns-clause-leads
+returns-clause-leads g c =
+    on_ok_both c.finish.result (chunk-led c.args.clerk.now.desk.site _ _ _ _ _ _ _ _ (input_records c.args.chunk.now) c.requires.window
+    (c.in_ok-feed_records.ensures.leads (input_records c.args.chunk.now) c.new-records.ensures)) c.finish.ensures.same c.finish.ensures.window
 
 pub returns-in_err-feed_records-clause-told : goal.returns-in_err-feed_records-clause-told
 returns-in_err-feed_records-clause-told g c = told-failed _ _ _ _ c.from_residual.result c.from_residual.ensures.0 c.in_err-feed_records.ensures.told

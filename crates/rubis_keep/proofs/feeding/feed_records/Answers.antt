@@ -6,7 +6,8 @@ use Rattle.rubis_engine.specs.declared.service.Course.TheVariants.{GoesOn}
 use Rattle.rubis_script.specs.Desks.{left_at}
 use Rattle.rubis_script.specs.Windows.{held_by}
 use Rattle.rubis_keep.proofs.EachFacts.{each-end, each-ends, each-finish-ends, each-put, each-put-ends, each-step, ok_then, on_err, on_err_weaker}
-use Rattle.rubis_keep.proofs.HistoryFacts.{tells-later, told-failed, told-late, told-more}
+use Rattle.rubis_keep.proofs.HistoryFacts.{tells-later, tells-none, told-failed, told-late, told-more}
+use Rattle.rubis_keep.proofs.AskFacts.{feed-ends, feed-more, feed-starts}
 use Rattle.rubis_keep.proofs.feeding.feed_records.Goals.{then-is_full+in_ok-put_sink, else-is_full}
 use Rattle.rubis_keep.proofs.feeding.feed_records.Goals as goal
 
@@ -74,4 +75,25 @@ loop-turn-preserved g c =
             rw w.answers-is (tells-later _ _ _ _ _ _ before.0 before.1.0 before.1.1 w.in_ok-put_sink.ensures.told)
         | else-is_full w ↦ rw w.answers-is c.loop-turn.invariant.told
       ];
+      led = λ all gives.
+          let more = feed-more _ c.loop-turn.records c.answer_next.new.records _ _ _ _ new.site _ new.window.items _ new.answered all
+          (c.loop-turn.invariant.led all gives) found.0 found.3 found.2 in
+          elim c.if-is_full.branch [ then-is_full+in_ok-put_sink w ↦ rw w.clerk-is more | else-is_full w ↦ rw w.clerk-is more ];
     }
+
+pub loop-turn-init : goal.loop-turn-init
+loop-turn-init g c = record {
+  feeds = λ all told old out0 kept p. p;
+  told = (refl, ([], tells-none _ _));
+  led = λ all gives. feed-starts _ c.args.records.now _ _ _ all gives;
+}
+
+pub returns-then-clerk-clause-leads : goal.returns-then-clerk-clause-leads
+returns-then-clerk-clause-leads g c =
+    ok_then c.stop.result c.stop.ensures.ok
+    (λ s. rw s.1 (λ all gives. feed-ends _ c.loop-turn.records c.stop.new.records _ _ _ _ _ _ all (c.loop-turn.invariant.led all gives) s.0))
+
+pub returns-then-not-branch-clause-leads : goal.returns-then-not-branch-clause-leads
+returns-then-not-branch-clause-leads g c =
+    let none = MatchBool-at_false _ _ c.if-not-branch.true c.in_ok-answer_next.ensures in
+    rw none.1 (λ all gives. feed-ends _ c.loop-turn.records c.answer_next.new.records _ _ _ _ _ _ all (c.loop-turn.invariant.led all gives) none.0)

@@ -1,5 +1,7 @@
 use Rattle.std.proofs.Common.{◌≡◌, ◌+◌, [], ℕ, List}
+use Rattle.rubis_engine.specs.Reading.{Gives}
 use Rattle.rubis_script.specs.Desks.{left_at}
+use Rattle.rubis_keep.proofs.AskFacts.{LedFeed}
 use Rattle.rubis_keep.specs.History.{Tells, out_in}
 use Rattle.rubis_keep.specs.Kept.{Feeds, InEachFeed}
 use Rattle.rubis_keep.proofs.feeding.feed_records.Given as goal
@@ -18,4 +20,6 @@ invariant-loop-turn g l =
           (out l.answers.files) new.reply.sink (new.answered + 1) kept);
       told : (l.answers.is_live ≡ l.fn.answers.is_live) × ((text : List ℕ)
           × Tells l.fn.answers.is_live (g.F.SiteFiles.history l.fn.answers.files) (g.F.SiteFiles.history l.answers.files) text []);
+      led : (all : List (List (List ℕ))) → Gives rem l.fn.records all
+          → LedFeed rem l.records old.site old.window.items old.answered new.site new.window.items new.answered all;
     }

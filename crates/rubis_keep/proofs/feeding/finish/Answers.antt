@@ -16,4 +16,4 @@ returns-clause-err g c =
     on_err_weaker c.put_sink.result (λ front. inr (c.flush.new.self.reply.sink, told, front)) c.put_sink.ensures.err
 
 pub returns-clause-same : goal.returns-clause-same
-returns-clause-same g c = on_ok c.put_sink.result c.in_ok-flush.ensures.flushed.count
+returns-clause-same g c = on_ok c.put_sink.result (c.in_ok-flush.ensures.flushed.count, c.in_ok-flush.ensures.flushed.leads)

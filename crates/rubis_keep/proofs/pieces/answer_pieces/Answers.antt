@@ -1,5 +1,7 @@
 use Rattle.std.proofs.Common.{◌∙◌, [], refl}
+use Rattle.rubis_keep.proofs.AskFacts.{on_fault}
 use Rattle.rubis_keep.proofs.EachFacts.{on_err}
+use Rattle.rubis_keep.proofs.ReplyFacts.{each-stopped}
 use Rattle.rubis_keep.proofs.HistoryFacts.{tells-later, tells-none, told-failed, told-more}
 use Rattle.rubis_keep.proofs.SafeFacts.{lives-err, lives-known, lives-more, lives-start}
 use Rattle.rubis_keep.proofs.StandFacts.{each-stops, gone-failed}
@@ -7,11 +9,11 @@ use Rattle.rubis_keep.proofs.pieces.answer_pieces.Goals as goal
 
 pub returns-in_err-next_piece-clause-err : goal.returns-in_err-next_piece-clause-err
 returns-in_err-next_piece-clause-err g c =
-    on_err _ (gone-failed _ _ _ _ _ _ _ _ _ _ _ _ _ _ _ _ _ _ _ c.loop-turn.invariant.stands c.in_err-next_piece.ensures.err)
+    on_err _ (gone-failed _ _ _ _ _ _ _ _ _ _ _ _ _ _ _ _ _ _ _ _ c.loop-turn.invariant.stands c.in_err-next_piece.ensures.err)
 
 pub returns-clause-err : goal.returns-clause-err
 returns-clause-err g c =
-    gone-failed _ _ _ _ _ _ _ _ _ _ _ _ _ _ _ _ _ _ _ c.loop-turn.invariant.stands (each-stops _ _ _ _ _ _ _ _)
+    gone-failed _ _ _ _ _ _ _ _ _ _ _ _ _ _ _ _ _ _ _ _ c.loop-turn.invariant.stands (each-stops _ _ _ _ _ _ _ _ _)
 
 pub returns-in_err-next_piece-clause-told : goal.returns-in_err-next_piece-clause-told
 returns-in_err-next_piece-clause-told g c off =
@@ -48,7 +50,20 @@ loop-turn-init g c = record {
   live = refl;
   told = λ off. (refl, ([], tells-none _ _));
   safe = λ keeps live. lives-start _ _ _ _;
+  asked = λ p s0 kept line input0 h0 a. a;
 }
+
+pub returns-in_err-next_piece-clause-asked : goal.returns-in_err-next_piece-clause-asked
+returns-in_err-next_piece-clause-asked g c =
+    on_fault _ c.from_residual.result c.from_residual.ensures.0 (λ p s0 kept line input0 h0 a.
+    c.in_err-next_piece.ensures.asked p s0 kept line input0 h0 (c.loop-turn.invariant.asked p s0 kept line input0 h0 a))
+
+pub returns-then-not-branch-clause-asked : goal.returns-then-not-branch-clause-asked
+returns-then-not-branch-clause-asked g c p s0 kept line input0 h0 a =
+    c.in_ok-next_piece.ensures.asked p s0 kept line input0 h0 (c.loop-turn.invariant.asked p s0 kept line input0 h0 a)
+
+pub returns-clause-asked : goal.returns-clause-asked
+returns-clause-asked g c = each-stopped _ _ _ _ _ _ _ _ _ _ _ c.loop-turn.invariant.asked
 
 pub loop-turn-preserved : goal.loop-turn-preserved
 loop-turn-preserved g c =
@@ -66,4 +81,5 @@ loop-turn-preserved g c =
       safe = λ keeps live.
           lives-known _ _ _ _ _ _ _ _ c.next_piece.result _ c.in_ok-next_piece.was
           (lives-more _ _ _ _ _ _ _ _ _ _ _ _ c.next_piece.result (before.safe keeps live) (c.next_piece.ensures.safe keeps (before.live ∙ live)));
+      asked = λ p s0 kept line input0 h0 a. c.in_ok-next_piece.ensures.asked p s0 kept line input0 h0 (before.asked p s0 kept line input0 h0 a);
     }

@@ -2,7 +2,8 @@ use Rattle.std.proofs.Common.{◌≡◌, ◌+◌, [], ℕ, List, false, true}
 use Rattle.rubis_script.specs.SiteRuns.{told_by}
 use Rattle.rubis_keep.specs.History.{Tells, log_of, out_in}
 use Rattle.rubis_keep.specs.Lives.{Lives}
-use Rattle.rubis_keep.specs.Kept.{InEachStand, IsBegun, Stands}
+use Rattle.rubis_keep.specs.Kept.{InEachStand, IsBegun, Stands, left_of}
+use Rattle.rubis_keep.specs.Asking.{Asks, OfEachAsking}
 use Rattle.rubis_keep.proofs.pieces.answer_pieces.Given as goal
 
 abbrev pub invariant-loop-turn : goal.invariant-loop-turn
@@ -16,9 +17,9 @@ invariant-loop-turn g l =
       window : new.desk.window.items ≡ [];
       empty : new.desk.reply.sink ≡ [];
       begun : IsBegun l.lines.cutter;
-      stands : InEachStand (told_by old.desk.site (old.desk.answered + 1)) (input l.fn.live) (log_of l.keeps (history l.fn.answers.files)) (before l.fn.answers.before)
+      stands : InEachStand l.keeps (told_by old.desk.site (old.desk.answered + 1)) (left_of l.fn.lines.unread (input l.fn.live)) (log_of l.keeps (history l.fn.answers.files)) (before l.fn.answers.before)
           (out_in (history l.fn.answers.files)) l.fn.lines.cutter (old.desk.answered + 1) l.fn.lines.kept
-          (λ all told old base line input0 log0 out0 len0. Stands all (told_by new.desk.site (new.desk.answered + 1)) told old base line input0 (input l.live) log0
+          (λ all told old base line input0 log0 out0 len0. Stands l.keeps all (told_by new.desk.site (new.desk.answered + 1)) told old base line input0 (left_of l.lines.unread (input l.live)) log0
           (log_of l.keeps (history l.answers.files)) (before l.answers.before) out0 (out_in (history l.answers.files)) l.lines.cutter (new.desk.answered + 1) len0 l.lines.kept);
       live : l.answers.is_live ≡ l.fn.answers.is_live;
       told : l.keeps ≡ false → (l.answers.is_live ≡ l.fn.answers.is_live) × ((text : List ℕ)
@@ -26,4 +27,7 @@ invariant-loop-turn g l =
       safe : l.keeps ≡ true → l.fn.answers.is_live ≡ true
           → Lives (told_by old.desk.site (old.desk.answered + 1)) (before l.fn.answers.before) (old.desk.answered + 1) (history l.fn.answers.files)
           (told_by new.desk.site (new.desk.answered + 1)) (before l.answers.before) (new.desk.answered + 1) (history l.answers.files);
+      asked : OfEachAsking l.keeps (left_of l.fn.lines.unread (input l.fn.live)) (history l.fn.answers.files) l.fn.lines.cutter old.desk.site old.desk.answered
+          (λ p s0 kept line input0 h0. Asks l.keeps p s0 kept line input0 (left_of l.lines.unread (input l.live)) h0 (history l.answers.files) l.lines.cutter
+          new.desk.site new.desk.answered []);
     }

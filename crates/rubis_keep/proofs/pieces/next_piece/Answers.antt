@@ -1,116 +1,92 @@
-use Rattle.std.proofs.Common.{[], refl, rules}
-use Rattle.rubis_keep.specs.Lines.{begun_after}
+use Rattle.std.proofs.Common.{◌≡◌, ◌∙◌, ◌+◌, [], refl, ap}
 use Rattle.rubis_keep.proofs.EachFacts.{on_err}
-use Rattle.rubis_keep.proofs.FileFacts.{appends-kept}
-use Rattle.rubis_keep.proofs.HistoryFacts.{kept-log, kept-out, told-after, told-failed, told-log, tells-after, tells-none, torn-log, torn-out}
-use Rattle.rubis_keep.proofs.SafeFacts.{lives-err, lives-known, lives-none, lives-torn, piece-lines, piece-safe, piece-unanswered}
-use Rattle.rubis_keep.proofs.SoundFacts.{begun-no-end}
-use Rattle.rubis_keep.proofs.StandFacts.{each-kept, each-more, each-torn, each-unanswered, each-unkept, took-kept, took-whole, torn-front, unanswered-kept, unread-front}
+use Rattle.rubis_keep.proofs.AskFacts.{on_fault}
+use Rattle.rubis_keep.proofs.HistoryFacts.{told-failed}
+use Rattle.rubis_keep.proofs.ReplyFacts.{each-replied, each-unreplied, lives-any, lives-join, not-asked, replied-still, reply-lives, still-log, told-on, told-same}
+use Rattle.rubis_keep.proofs.SafeFacts.{lives-err, lives-known, lives-more}
+use Rattle.rubis_keep.proofs.StandFacts.{each-late, each-still}
+use Rattle.rubis_keep.proofs.TellingFacts.{none-told-at-end}
 use Rattle.rubis_keep.proofs.pieces.next_piece.Goals as goal
 
-pub returns-in_err-more-clause-err : goal.returns-in_err-more-clause-err
-returns-in_err-more-clause-err g c = on_err _ (each-unkept _ _ _ _ _ _ _ _ _ _ (λ line e. unread-front line _ _ _ (c.in_err-more.ensures.err line e)))
+-- ---- what comes next could not be kept or answered
 
-pub returns-in_err-keep_chunk-clause-err : goal.returns-in_err-keep_chunk-clause-err
-returns-in_err-keep_chunk-clause-err g c =
-    let torn = rw c.deref.ensures.value at c.in_err-keep_chunk.ensures in
-    on_err _ (each-torn _ _ _ _ _ _ _ _ _ _ _ (torn-out _ _ _ _ torn.3)
-    (λ line e. torn-front line _ _ _ _ _ _ _ (c.in_ok-more.ensures.ok line e) (torn-log _ _ _ _ torn.0 torn.1 torn.2 torn.3)))
+pub returns-in_err-came-clause-err : goal.returns-in_err-came-clause-err
+returns-in_err-came-clause-err g c = on_err _ c.in_err-came.ensures.err
 
-pub returns-in_default-clause-err : goal.returns-in_default-clause-err
-returns-in_default-clause-err g c =
-    let begun = c.requires.begun in
-    let kept = rw c.deref.ensures.value at c.in_ok-keep_chunk.ensures in
-    each-unanswered _ _ _ _ _ _ _ _ _ _ c.read_next.new.chunk.items _ _ _
-    (λ line e. took-kept line _ _ _ _ _ _ _ (c.in_ok-more.ensures.ok line e) (kept-log _ _ _ _ kept))
-    (unanswered-kept _ _ _ _ _ _ (kept-out _ _ _ _ kept) (took-whole begun.0 [] _ _ _ _ _ _ _ (c.in_ok-more.ensures.ok begun.0 begun.2)))
+pub returns-in_err-came-clause-told : goal.returns-in_err-came-clause-told
+returns-in_err-came-clause-told g c off =
+    told-failed _ _ _ _ c.from_residual.result c.from_residual.ensures.0 (c.in_err-came.ensures.told off)
 
-pub feed_chunk-requires-clause-whole : goal.feed_chunk-requires-clause-whole
-feed_chunk-requires-clause-whole g c κs within =
-    let begun = c.requires.begun in
-    rw c.deref-2.ensures.value (took-whole begun.0 [] _ _ _ _ _ _ _ (c.in_ok-more.ensures.ok begun.0 begun.2))
+pub returns-in_err-came-clause-safe : goal.returns-in_err-came-clause-safe
+returns-in_err-came-clause-safe g c keeps live =
+    lives-err _ _ _ _ _ _ _ _ c.next_lines.result c.from_residual.result c.from_residual.ensures.0 (c.next_lines.ensures.safe keeps live)
 
-pub returns-in_err-feed_chunk-clause-err : goal.returns-in_err-feed_chunk-clause-err
-returns-in_err-feed_chunk-clause-err g c =
-    let kept = rw c.deref.ensures.value at c.in_ok-keep_chunk.ensures in
-    on_err _ (each-unanswered _ _ _ _ _ _ _ _ _ _ c.read_next.new.chunk.items _ _ _
-    (λ line e. took-kept line _ _ _ _ _ _ _ (c.in_ok-more.ensures.ok line e)
-    (appends-kept _ _ _ _ (kept-log _ _ _ _ kept) (told-log _ _ _ _ _ c.feed_chunk.result c.feed_chunk.ensures.told)))
-    (each-kept _ _ _ _ _ _ (kept-out _ _ _ _ kept) (rw c.deref-2.ensures.value at c.in_err-feed_chunk.ensures.err)))
+pub returns-in_err-came-clause-asked : goal.returns-in_err-came-clause-asked
+returns-in_err-came-clause-asked g c = on_fault _ c.from_residual.result c.from_residual.ensures.0 c.in_err-came.ensures.asked
+
+-- ---- the question could not be answered
+
+pub returns-in_err-reply_if-clause-err : goal.returns-in_err-reply_if-clause-err
+returns-in_err-reply_if-clause-err g c =
+    let still = replied-still _ _ _ c.reply_if.result _ _ c.reply_if.ensures.replied in
+    on_err _ (each-late _ _ _ _ _ _ _ _ _ _ _ _ _ _ _ _ _ _ _ c.in_ok-came.ensures.ok (still-log _ _ _ still) still.1)
+
+pub returns-in_err-reply_if-clause-told : goal.returns-in_err-reply_if-clause-told
+returns-in_err-reply_if-clause-told g c off = absurd (cc (off, c.in_ok-came.ensures.question c.in_err-reply_if.ensures.replied.0))
+
+pub returns-in_err-reply_if-clause-safe : goal.returns-in_err-reply_if-clause-safe
+returns-in_err-reply_if-clause-safe g c keeps live =
+    let same = c.reply_if.ensures.same in
+    let mid = c.next_lines.new.clerk.desk in
+    lives-more _ _ _ _ _ _ _ _ _ _ _ _ c.from_residual-in_err-reply_if.result
+    (lives-known _ _ _ _ _ _ _ _ c.next_lines.result _ c.in_ok-came.was (c.next_lines.ensures.safe keeps live))
+    (lives-any _ _ _ _ _ _ _ _ c.from_residual-in_err-reply_if.result
+    (reply-lives _ _ _ _ _ _ _ _ _ c.reply_if.result _ _ c.reply_if.ensures.replied
+    (told-same mid.site c.reply_if.new.clerk.desk.site mid.answered c.reply_if.new.clerk.desk.answered same.place same.state same.answered)
+    (ap g.O.Read.remaining c.reply_if.ensures.before.0) (ap (λ n. n + 1) same.answered) (none-told-at-end mid.site (mid.answered + 1))))
+
+pub returns-in_err-reply_if-clause-asked : goal.returns-in_err-reply_if-clause-asked
+returns-in_err-reply_if-clause-asked g c =
+    on_fault _ c.from_residual-in_err-reply_if.result c.from_residual-in_err-reply_if.ensures.0
+    (each-unreplied _ _ _ _ _ _ _ _ _ _ _ _ _ _ c.in_ok-came.ensures.asked (rw c.deref.ensures.value at c.in_err-reply_if.ensures.replied))
+
+-- ---- it was
 
 pub returns-clause-ok : goal.returns-clause-ok
 returns-clause-ok g c =
-    let kept = rw c.deref.ensures.value at c.in_ok-keep_chunk.ensures in
-    each-more _ _ _ _ _ _ _ _ _ _ _ _ c.read_next.new.chunk.items _ _ _ _ _
-    (λ line e. took-kept line _ _ _ _ _ _ _ (c.in_ok-more.ensures.ok line e)
-    (appends-kept _ _ _ _ (kept-log _ _ _ _ kept) (told-log _ _ _ _ _ c.feed_chunk.result c.feed_chunk.ensures.told)))
-    (each-kept _ _ _ _ _ _ (kept-out _ _ _ _ kept) (rw c.deref-2.ensures.value at c.in_ok-feed_chunk.ensures.ok))
-    (search rules)
+    let same = c.reply_if.ensures.same in
+    let mid = c.next_lines.new.clerk.desk in
+    let still = replied-still _ _ _ c.reply_if.result _ _ c.reply_if.ensures.replied in
+    rw (
+      told-same mid.site c.reply_if.new.clerk.desk.site mid.answered c.reply_if.new.clerk.desk.answered same.place same.state same.answered,
+      same.answered,
+      c.reply_if.ensures.before.0,
+    )
+    (each-still _ _ _ _ _ _ _ _ _ _ _ _ _ _ _ _ _ _ _ c.in_ok-came.ensures.ok (still-log _ _ _ still) still.1)
 
-pub returns-clause-end : goal.returns-clause-end
-returns-clause-end g c e =
-    let begun = c.requires.begun in
-    ((c.in_ok-more.ensures.ok begun.0 begun.2).end e).0
+pub returns-clause-window : goal.returns-clause-window
+returns-clause-window g c = c.reply_if.ensures.same.window ∙ c.in_ok-came.ensures.window
 
-pub returns-clause-begun : goal.returns-clause-begun
-returns-clause-begun g c =
-    let begun = c.requires.begun in
-    let t = c.in_ok-more.ensures.ok begun.0 begun.2 in
-    (begun_after begun.0 t.bytes, begun-no-end begun.0 t.bytes begun.1, t.begun)
-
--- ---- a run that keeps nothing
-
-pub returns-in_err-keep_chunk-clause-told : goal.returns-in_err-keep_chunk-clause-told
-returns-in_err-keep_chunk-clause-told g c off = absurd (cc (off, c.in_err-keep_chunk.ensures.0))
-
-pub returns-in_default-clause-told : goal.returns-in_default-clause-told
-returns-in_default-clause-told g c off =
-    (refl, ([], [], tells-after _ _ _ _ [] [] (rw off at c.in_ok-keep_chunk.ensures) (tells-none _ _)))
-
-pub returns-in_err-feed_chunk-clause-told : goal.returns-in_err-feed_chunk-clause-told
-returns-in_err-feed_chunk-clause-told g c off =
-    told-after _ _ _ _ _ c.from_residual-in_err-feed_chunk.result (rw off at c.in_ok-keep_chunk.ensures)
-    (told-failed _ _ _ _ c.from_residual-in_err-feed_chunk.result c.from_residual-in_err-feed_chunk.ensures.0 c.in_err-feed_chunk.ensures.told)
+pub returns-clause-empty : goal.returns-clause-empty
+returns-clause-empty g c = c.reply_if.ensures.same.sink ∙ c.in_ok-came.ensures.empty
 
 pub returns-clause-told : goal.returns-clause-told
 returns-clause-told g c off =
-    let told = c.in_ok-feed_chunk.ensures.told in
-    (told.0, (told.1.0, tells-after _ _ _ _ told.1.0 [] (rw off at c.in_ok-keep_chunk.ensures) told.1.1))
-
--- ---- a run that keeps what it reads
-
-pub returns-in_err-more-clause-safe : goal.returns-in_err-more-clause-safe
-returns-in_err-more-clause-safe g c keeps live = lives-none _ _ _ _ _ _ _ c.from_residual.result c.from_residual.ensures.0
-
-pub returns-in_err-keep_chunk-clause-safe : goal.returns-in_err-keep_chunk-clause-safe
-returns-in_err-keep_chunk-clause-safe g c keeps live =
-    let begun = c.requires.begun in
-    let t = c.in_ok-more.ensures.ok begun.0 begun.2 in
-    let torn = rw c.deref.ensures.value at c.in_err-keep_chunk.ensures in
-    lives-torn _ _ _ _ _ _ _ _ c.read_next.new.chunk.items torn.1 c.from_residual-in_err-keep_chunk.result c.from_residual-in_err-keep_chunk.ensures.0
-    (piece-lines begun.0 t.bytes _ begun.1 t.holds) torn.3
-
-pub returns-in_default-clause-safe : goal.returns-in_default-clause-safe
-returns-in_default-clause-safe g c keeps live all h is rested =
-    let begun = c.requires.begun in
-    let t = c.in_ok-more.ensures.ok begun.0 begun.2 in
-    let kept = rw c.deref.ensures.value at c.in_ok-keep_chunk.ensures in
-    (piece-unanswered all _ _ _ h _ c.read_next.new.chunk.items rested (piece-lines begun.0 t.bytes _ begun.1 t.holds) (rw is at (rw keeps at kept)), tt)
-
-pub returns-in_err-feed_chunk-clause-safe : goal.returns-in_err-feed_chunk-clause-safe
-returns-in_err-feed_chunk-clause-safe g c keeps live =
-    let begun = c.requires.begun in
-    let t = c.in_ok-more.ensures.ok begun.0 begun.2 in
-    let kept = rw c.deref.ensures.value at c.in_ok-keep_chunk.ensures in
-    lives-err _ _ _ _ _ _ _ _ c.feed_chunk.result c.from_residual-in_err-feed_chunk.result c.from_residual-in_err-feed_chunk.ensures.0
-    (piece-safe _ _ _ _ _ _ _ _ _ c.read_next.new.chunk.items _ _ c.feed_chunk.result live (piece-lines begun.0 t.bytes _ begun.1 t.holds) (rw keeps at kept)
-    c.feed_chunk.ensures.told (rw c.deref-2.ensures.value at c.feed_chunk.ensures.ok) (rw c.deref-2.ensures.value at c.feed_chunk.ensures.err))
+    told-on _ _ _ _ _ _ c.in_ok-came.came.is_asked _ _ (not-asked _ _ c.in_ok-came.ensures.question off) (c.in_ok-came.ensures.told off)
+    c.reply_if.ensures.before.1 c.in_ok-reply_if.ensures.replied
 
 pub returns-clause-safe : goal.returns-clause-safe
 returns-clause-safe g c keeps live =
-    let begun = c.requires.begun in
-    let t = c.in_ok-more.ensures.ok begun.0 begun.2 in
-    let kept = rw c.deref.ensures.value at c.in_ok-keep_chunk.ensures in
-    lives-known _ _ _ _ _ _ _ _ c.feed_chunk.result _ c.in_ok-feed_chunk.was
-    (piece-safe _ _ _ _ _ _ _ _ _ c.read_next.new.chunk.items _ _ c.feed_chunk.result live (piece-lines begun.0 t.bytes _ begun.1 t.holds) (rw keeps at kept)
-    c.feed_chunk.ensures.told (rw c.deref-2.ensures.value at c.feed_chunk.ensures.ok) (rw c.deref-2.ensures.value at c.feed_chunk.ensures.err))
+    let same = c.reply_if.ensures.same in
+    let mid = c.next_lines.new.clerk.desk in
+    lives-join _ _ _ _ _ _ _ _ _ _ _ _
+    (lives-known _ _ _ _ _ _ _ _ c.next_lines.result _ c.in_ok-came.was (c.next_lines.ensures.safe keeps live))
+    (reply-lives _ _ _ _ _ _ _ _ _ c.reply_if.result _ _ c.reply_if.ensures.replied
+    (told-same mid.site c.reply_if.new.clerk.desk.site mid.answered c.reply_if.new.clerk.desk.answered same.place same.state same.answered)
+    (ap g.O.Read.remaining c.reply_if.ensures.before.0) (ap (λ n. n + 1) same.answered) (none-told-at-end mid.site (mid.answered + 1)))
+
+pub returns-clause-asked : goal.returns-clause-asked
+returns-clause-asked g c =
+    let same = c.reply_if.ensures.same in
+    each-replied _ _ _ _ _ _ _ _ _ _ _ _ _ _ _ _ c.in_ok-came.ensures.asked (rw c.deref.ensures.value at c.in_ok-reply_if.ensures.replied) same.place same.state
+    same.answered

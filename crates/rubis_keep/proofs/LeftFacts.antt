@@ -1,0 +1,47 @@
+-- What of an input was read and isn't looked at yet.
+use Rattle.std.proofs.Common.{◌≡◌, ◌≤◌, ◌+◌, ◌-◌, zero, suc, ◌∙◌, ◌++◌, [], ℕ, List, arith, length, Option, Some, None, drop, take, refl, sym, ap, append_assoc}
+use Rattle.std.proofs.lemmas.List.{drop-drop, drop-take, length-take, take-append-drop}
+use Rattle.std.specs.Io.KnownBytes.{Consumes, IsAtEnd, Keeps}
+use Rattle.rubis_keep.specs.Kept.{left_of}
+
+-- more was read
+pub left-filled : (unread : List ℕ) (input input2 : Option (List ℕ)) → Consumes input input2 unread → Consumes (left_of [] input) (left_of unread input2) []
+left-filled unread None input2 c = tt
+left-filled unread (Some xs) None c = absurd c
+left-filled unread (Some xs) (Some ys) c = c
+
+pub left-kept : (unread : List ℕ) (input input2 : Option (List ℕ)) → Keeps input input2 → Consumes (left_of unread input) (left_of unread input2) []
+left-kept unread None input2 c = tt
+left-kept unread (Some xs) None c = absurd c
+left-kept unread (Some xs) (Some ys) c = ap (λ t. unread ++ t) (sym c)
+
+-- some of it was looked at
+pub left-taken : (unread : List ℕ) (n : ℕ) (input0 input : Option (List ℕ)) → Consumes input0 (left_of unread input) []
+    → Consumes input0 (left_of (drop n unread) input) (take n unread)
+left-taken unread n None input c = tt
+left-taken unread n (Some xs) None c = absurd c
+left-taken unread n (Some xs) (Some ys) c =
+    c ∙ ap (λ t. t ++ ys) (sym (take-append-drop n unread)) ∙ append_assoc (take n unread) (drop n unread) ys
+
+-- what is left of bytes between two places, after some of them
+pub left-passed : (piece : List ℕ) (at end n : ℕ) → at ≤ end → n ≤ length (take (end - at) (drop at piece))
+    → take (end - (at + n)) (drop (at + n) piece) ≡ drop n (take (end - at) (drop at piece))
+left-passed piece at end n h l =
+    let size = length-take (end - at) (drop at piece) in
+    let parts : end - at ≡ n + (end - (at + n)) = omega (arith, h, l, size) in
+    ap (take (end - (at + n))) (sym (drop-drop n at piece)) ∙ sym (drop-take n (end - (at + n)) (drop at piece)) ∙ ap (λ m. drop n (take m (drop at piece))) (sym parts)
+
+abbrev pub none-of : List ℕ
+none-of = []
+
+pub drop-none : (n : ℕ) → drop n none-of ≡ []
+drop-none zero = refl
+drop-none (suc n) = refl
+
+pub take-none : (n : ℕ) → take n none-of ≡ []
+take-none zero = refl
+take-none (suc n) = refl
+
+pub left-end : (unread : List ℕ) (input : Option (List ℕ)) → unread ≡ [] → IsAtEnd input → IsAtEnd (left_of unread input)
+left-end unread None e end = tt
+left-end unread (Some xs) e end = ap (λ t. t ++ xs) e ∙ end

@@ -1,0 +1,207 @@
+//! Questions, and what a site answers to them.
+
+ghost use Rattle.std.specs.Prelude.{◌≡◌, ◌≤◌, ◌++◌, ◌∷◌, [], IfOk, ℕ, List, Some, codes, drop, length, true};
+ghost use Rattle.rubis_schema.specs.FieldList.{is_plain};
+ghost use Rattle.rubis_model.specs.Settle.{counted};
+ghost use Rattle.rubis_engine.specs.Text.{input_records, rows_text};
+ghost use Rattle.rubis_keep.specs.Asking.{IsUnmoved};
+ghost use Rattle.rubis_keep.specs.declared.questions.Question.TheVariants as Question;
+ghost use Rattle.rubis_keep.specs.Questions.{counted_rows, question_in, question_of, refused_as, reply_rows, says_state, shown_to, state_row};
+
+use crate::clerk::Clerk;
+use crate::counts::push_counts;
+use crate::fault::KeepFault;
+use crate::lines::{LINE_MAX, closes};
+use rubis_engine::{InputRecord, OutOfMemory, Records, Sink};
+use rubis_message::{ReadFault, Request, read_request};
+use rubis_schema::{Counted, Fields, Listing, Record, RowSink};
+use rubis_script::{Fault, Gate};
+use std::alloc::{AllocError, Global};
+use std::sync::Wait;
+use std::thread::Threads;
+
+/// What a question asks.
+#[derive(Clone, Copy)]
+pub enum Question {
+    /// The rows of a listing.
+    List(Listing),
+    /// How far the site has come.
+    State,
+}
+
+// A line without its first byte.
+fn behind_mark(line: &[u8]) -> &[u8]
+    ensures { result.now ≡ drop 1 line.now }
+{
+    if line.is_empty() { line } else { &line[1..] }
+}
+
+// Whether the fields are the word `state` alone.
+fn says_state(fields: &InputRecord) -> bool
+    ensures { result ≡ says_state fields.now }
+{
+    match (fields.len(), fields.field(0)) {
+        (1, Some(word)) => word == b"state".as_slice(),
+        _ => false,
+    }
+}
+
+// What a record asks, if it is a question.
+fn read_question(
+    alloc: Global,
+    fields: &InputRecord,
+    sites: u8,
+) -> Result<Option<Question>, OutOfMemory>
+    ensures { IfOk result (λ asked. asked ≡ question_of sites fields.now) }
+{
+    if says_state(fields) {
+        return Ok(Some(Question::State));
+    }
+    match read_request(alloc, fields, sites) {
+        Ok(Request::List(listing)) => Ok(Some(Question::List(listing))),
+        Ok(_) => Ok(None),
+        Err(ReadFault::BadRecord) => Ok(None),
+        Err(ReadFault::Memory) => Err(OutOfMemory),
+    }
+}
+
+// What a text asks, if it is one record that is a question.
+fn question_in(alloc: Global, text: &[u8], sites: u8) -> Result<Option<Question>, KeepFault>
+    ensures { IfOk result (λ asked. asked ≡ question_in sites (input_records text.now)) }
+{
+    let mut records = Records::new(alloc, text);
+    if !records.advance()? {
+        return Ok(None);
+    }
+    let asked = read_question(alloc, records.fields(), sites)?;
+    if records.advance()? {
+        return Ok(None);
+    }
+    Ok(asked)
+}
+
+// A line with its end.
+fn with_end(alloc: Global, line: &[u8]) -> Result<Vec<u8>, AllocError>
+    ensures { IfOk result (λ text. text.items ≡ line.now ++ 10 ∷ []) }
+{
+    let mut text = Vec::from_slice(alloc, line)?;
+    text.push(b'\n')?;
+    Ok(text)
+}
+
+// What a line asks: the text after its '?'.
+fn read_line(alloc: Global, rest: &[u8], sites: u8) -> Result<Option<Question>, KeepFault>
+    ensures { IfOk result (λ asked. asked ≡ question_in sites (input_records (rest.now ++ 10 ∷ []))) }
+{
+    let text = with_end(alloc, rest)?;
+    question_in(alloc, &text, sites)
+}
+
+// One row.
+fn row(alloc: Global, fields: &Fields) -> Result<Sink, AllocError>
+    ensures { IfOk result (λ sink. sink ≡ rows_text (fields.now ∷ [])) }
+{
+    let mut sink = Sink::new(alloc);
+    sink.put(fields)?;
+    Ok(sink)
+}
+
+// Refuses a question.
+fn refuse(alloc: Global, reason: &[u8]) -> Result<Sink, AllocError>
+    requires { is_plain reason.now ≡ true }
+    ensures { IfOk result (λ sink. sink ≡ rows_text (refused_as reason.now)) }
+{
+    let mut fields = Fields::new(alloc);
+    fields.push_plain(b"refused")?;
+    fields.push_plain(reason)?;
+    row(alloc, &fields)
+}
+
+// How many messages a site released of its own.
+fn own_count<G: Gate>(clerk: &Clerk<G>) -> u32
+    ensures { result ≡ counted clerk.now.desk.site.place.site clerk.now.desk.site.state.log }
+{
+    let intake = clerk.desk.site.intake();
+    intake.clock().count(intake.site())
+}
+
+// How far a site has come.
+fn state_of<G: Gate>(clerk: &Clerk<G>) -> Result<Fields, AllocError>
+    ensures { IfOk result (λ fields. fields ≡ state_row clerk.now.desk.site.place clerk.now.desk.site.state clerk.now.desk.answered) }
+{
+    let intake = clerk.desk.site.intake();
+    let mut fields = Fields::new(clerk.alloc);
+    fields.push_plain(b"state")?;
+    fields.push_number(clerk.desk.answered)?;
+    fields.push_number(u64::from(own_count(clerk)))?;
+    push_counts(&mut fields, intake.clock().deps().as_slice())?;
+    match intake.token() {
+        Some(held) => fields.push_number(u64::from(held.turn))?,
+        None => fields.push_plain(b"none")?,
+    }
+    fields.push_number(u64::from(intake.last_turn()))?;
+    fields.push_number(intake.waiting() as u64)?;
+    Ok(fields)
+}
+
+// Shows how far a site has come.
+fn show_state<G: Gate>(clerk: &Clerk<G>) -> Result<Sink, AllocError>
+    ensures { IfOk result (λ sink. sink ≡ rows_text (state_row clerk.now.desk.site.place clerk.now.desk.site.state clerk.now.desk.answered ∷ [])) }
+{
+    let fields = state_of(clerk)?;
+    row(clerk.alloc, &fields)
+}
+
+// Shows how many rows there are, and the rows.
+fn show_counted(alloc: Global, listing: Counted<Sink>) -> Result<Sink, AllocError>
+    ensures { IfOk result (λ sink. (rows : List (List (List ℕ))) → listing.rows ≡ rows_text rows → listing.count ≡ length rows
+        → sink ≡ rows_text (counted_rows rows)) }
+{
+    let mut fields = Fields::new(alloc);
+    fields.push_plain(b"rows")?;
+    fields.push_number(listing.count)?;
+    let mut sink = row(alloc, &fields)?;
+    sink.add_text(listing.rows)?;
+    Ok(sink)
+}
+
+// Shows the rows of a listing.
+fn show_listing<G: Gate, T: Threads + Wait + Sync>(
+    rt: &T,
+    clerk: &mut Clerk<G>,
+    listing: &Listing,
+) -> Result<Sink, KeepFault>
+    ensures same { IsUnmoved clerk.old clerk.new }
+    ensures rows { IfOk result (λ sink. sink ≡ rows_text (shown_to clerk.old.desk.site.place clerk.old.desk.site.state clerk.old.desk.answered
+        (Some (Question.List listing.now)))) }
+{
+    let mut rows = Counted::new(Sink::new(clerk.alloc));
+    match clerk.desk.site.list_into(rt, listing, &mut rows) {
+        Ok(()) => Ok(show_counted(clerk.alloc, rows)?),
+        Err(_) => Err(KeepFault::Memory),
+    }
+}
+
+/// Answers a line that is a question, or the first bytes of it: with '?' before them, these rows are its answer. What is pending may be
+/// applied; nothing else changes.
+pub(crate) fn answer<G: Gate, T: Threads + Wait + Sync>(
+    rt: &T,
+    clerk: &mut Clerk<G>,
+    line: &[u8],
+) -> Result<Sink, KeepFault>
+    ensures same { IsUnmoved clerk.old clerk.new }
+    ensures rows { IfOk result (λ sink. sink ≡ rows_text (reply_rows clerk.old.desk.site.place clerk.old.desk.site.state clerk.old.desk.answered line.now)) }
+{
+    if line.len() > LINE_MAX {
+        return Ok(refuse(clerk.alloc, b"TooLong")?);
+    }
+    let rest = behind_mark(line);
+    if !closes(rest) {
+        return Ok(refuse(clerk.alloc, b"OpenQuote")?);
+    }
+    match read_line(clerk.alloc, rest, clerk.desk.sites())? {
+        Some(Question::List(listing)) => show_listing(rt, clerk, &listing),
+        Some(Question::State) => Ok(show_state(clerk)?),
+        None => Ok(refuse(clerk.alloc, b"BadQuestion")?),
+    }
+}

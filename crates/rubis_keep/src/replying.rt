@@ -1,0 +1,78 @@
+//! A question is answered on standard output.
+
+ghost use Rattle.std.specs.Prelude.{◌≡◌, ◌∷◌, ◌⊎◌, [], IfOk, OnErr, OnOk};
+ghost use Rattle.rubis_engine.specs.Text.{rows_text};
+ghost use Rattle.rubis_keep.specs.Asking.{IsUnmoved, RepliesIf, RepliesOnce};
+ghost use Rattle.rubis_keep.specs.Questions.{reply_rows, reply_text};
+
+use crate::answers::Answers;
+use crate::clerk::Clerk;
+use crate::fault::KeepFault;
+use crate::questions::answer;
+use crate::site_files::SiteFiles;
+use rubis_engine::Sink;
+use rubis_script::Gate;
+use std::alloc::{AllocError, Global};
+use std::io::Read;
+use std::sync::Wait;
+use std::thread::Threads;
+
+// The first byte of an answer.
+fn mark(alloc: Global) -> Result<Vec<u8>, AllocError>
+    ensures { IfOk result (λ text. text.items ≡ 63 ∷ []) }
+{
+    let mut text = Vec::new(alloc);
+    text.push(b'?')?;
+    Ok(text)
+}
+
+// The text of an answer.
+fn text_of(alloc: Global, mut rows: Sink) -> Result<Vec<u8>, KeepFault>
+    ensures { IfOk result (λ text. text.items ≡ 63 ∷ rows) }
+{
+    let mut text = mark(alloc)?;
+    match rows.drain(&mut text) {
+        Ok(()) => Ok(text),
+        Err(_) => Err(KeepFault::Memory),
+    }
+}
+
+// Answers a line that is a question on standard output alone.
+fn reply<G: Gate, T: Threads + Wait + Sync, O: Read, F: SiteFiles>(
+    rt: &T,
+    question: &[u8],
+    clerk: &mut Clerk<G>,
+    answers: &mut Answers<O, F>,
+) -> Result<(), KeepFault>
+    ensures same { IsUnmoved clerk.old clerk.new }
+    ensures before { (answers.new.before ≡ answers.old.before) × (answers.new.is_live ≡ answers.old.is_live) }
+    ensures replied { RepliesOnce (F.history answers.old.files) (F.history answers.new.files) result question.now
+        (reply_text (reply_rows clerk.old.desk.site.place clerk.old.desk.site.state clerk.old.desk.answered question.now)) }
+{
+    let rows = answer(rt, clerk, question)?;
+    let text = text_of(answers.alloc(), rows)?;
+    match answers.files.reply(question, &text) {
+        Ok(()) => Ok(()),
+        Err(e) => Err(KeepFault::Show(e)),
+    }
+}
+
+/// Answers a line on standard output alone, if it is a question that was asked. What is pending at the site may be applied; nothing
+/// else changes.
+pub(crate) fn reply_if<G: Gate, T: Threads + Wait + Sync, O: Read, F: SiteFiles>(
+    rt: &T,
+    is_asked: bool,
+    question: &[u8],
+    clerk: &mut Clerk<G>,
+    answers: &mut Answers<O, F>,
+) -> Result<(), KeepFault>
+    ensures same { IsUnmoved clerk.old clerk.new }
+    ensures before { (answers.new.before ≡ answers.old.before) × (answers.new.is_live ≡ answers.old.is_live) }
+    ensures replied { RepliesIf is_asked (F.history answers.old.files) (F.history answers.new.files) result question.now
+        (reply_text (reply_rows clerk.old.desk.site.place clerk.old.desk.site.state clerk.old.desk.answered question.now)) }
+{
+    if is_asked {
+        return reply(rt, question, clerk, answers);
+    }
+    Ok(())
+}

@@ -1,0 +1,96 @@
+//! What of an input was read and isn't looked at yet.
+
+ghost use Rattle.std.specs.Prelude.{◌≡◌, ◌≤◌, [], IfOk, drop, false, length};
+ghost use Rattle.std.specs.Io.KnownBytes.{Consumes, IsAtEnd};
+ghost use Rattle.rubis_keep.specs.Kept.{left_of};
+
+use crate::fault::KeepFault;
+use std::alloc::{AllocError, Global};
+use std::io::{ErrorKind, Read};
+use std::marker::Model;
+
+// How many bytes are read at once.
+const PIECE: usize = 65_536;
+
+/// Bytes of an input that were read at once, of which some first ones were looked at. Contracts see the others.
+#[derive(Drop)]
+pub struct Unread {
+    piece: Vec<u8>,
+    at: usize,
+    end: usize,
+}
+
+impl Model for Unread {
+    ghost use Rattle.std.specs.Prelude.{◌<◌, ◌≤◌, ◌-◌, ℕ, List, drop, take};
+    ghost use Rattle.std.specs.Vec.{vec_len};
+
+    ghost Value = { List ℕ };
+
+    ghost view = { λ u. take (u.end - u.at) (drop u.at u.piece.items) };
+
+    ghost invariant = { λ u. (u.at ≤ u.end) × (u.end ≤ vec_len u.piece) × (0 < vec_len u.piece) };
+}
+
+impl Unread {
+    /// Nothing was read.
+    pub(crate) fn new(alloc: Global) -> Result<Unread, AllocError>
+        ensures { IfOk result (λ unread. unread ≡ []) }
+    {
+        let mut piece = Vec::new(alloc);
+        piece.resize(PIECE, 0)?;
+        Ok(Unread {
+            piece,
+            at: 0,
+            end: 0,
+        })
+    }
+
+    /// Lets the bytes go.
+    pub(crate) fn clear(&mut self)
+        ensures { self.new ≡ [] }
+    {
+        self.at = 0;
+        self.end = 0;
+    }
+
+    /// Reads the next bytes of an input, if all are looked at. Whether the input goes on.
+    pub(crate) fn fill<R: Read>(&mut self, live: &mut R) -> Result<bool, KeepFault>
+        ensures same { Consumes (left_of self.old (R.remaining live.old)) (left_of self.new (R.remaining live.new)) [] }
+        ensures end { IfOk result (λ more. more ≡ false → (self.new ≡ []) × IsAtEnd (R.remaining live.new)) }
+    {
+        if self.at < self.end {
+            return Ok(true);
+        }
+        self.clear();
+        match live.read(&mut self.piece) {
+            Ok(0) => Ok(false),
+            Ok(given) => {
+                self.at = 0;
+                self.end = given;
+                Ok(true)
+            }
+            Err(e) => {
+                if e.kind() == ErrorKind::Interrupted {
+                    Ok(true)
+                } else {
+                    Err(KeepFault::ReadInput(e))
+                }
+            }
+        }
+    }
+
+    /// The bytes.
+    pub(crate) fn bytes(&self) -> &[u8]
+        ensures { result.now ≡ self.now }
+    {
+        &self.piece[self.at..self.end]
+    }
+
+    /// Passes over some of them.
+    pub(crate) fn pass(&mut self, count: usize)
+        requires { count ≤ length self.old }
+        ensures { self.new ≡ drop count self.old }
+    {
+        self.at += count;
+    }
+}
