@@ -25,14 +25,15 @@ pub fn refused_memory_changes_no_answer()
     ensures again { AnswersTheSameAgain }
 {}
 
-/// A request is a try of its ask.
+/// A request is a try of its ask. As with every call, the site stays the same one.
 pub fn try_request<G: Gate, R: Threads + Wait + Sync>(
     site: &mut Site<G>,
     rt: &R,
     ask: Ask,
 ) -> Result<Message, Fault>
     requires { IsAsk site.old.place.sites ask }
-    ensures { Leads site.old.place site.old.state (Decide ask) (answer_by Made result) site.new.state }
+    ensures place { site.new.place ≡ site.old.place }
+    ensures tried { Leads site.old.place site.old.state (Decide ask) (answer_by Made result) site.new.state }
 {
     site.request(rt, ask)
 }
@@ -44,7 +45,8 @@ pub fn try_arrive<G: Gate, R: Threads + Wait + Sync>(
     message: Message,
 ) -> Result<Arrival, Fault>
     requires { sites_of message ≡ site.old.place.sites }
-    ensures { Leads site.old.place site.old.state (Arrive message) (answer_by Came result) site.new.state }
+    ensures place { site.new.place ≡ site.old.place }
+    ensures tried { Leads site.old.place site.old.state (Arrive message) (answer_by Came result) site.new.state }
 {
     site.arrive(rt, message)
 }
@@ -56,21 +58,24 @@ pub fn try_arrive_all<G: Gate, R: Threads + Wait + Sync>(
     messages: Vec<Message>,
 ) -> Arrived
     requires { All (λ m. sites_of m ≡ site.old.place.sites) messages.items }
-    ensures { ComeTogether site.old.place site.old.state messages.items result.answers result.rest site.new.state }
+    ensures place { site.new.place ≡ site.old.place }
+    ensures tried { ComeTogether site.old.place site.old.state messages.items result.answers result.rest site.new.state }
 {
     site.arrive_all(rt, messages)
 }
 
 /// A token that arrives is a try.
 pub fn try_token<G: Gate>(site: &mut Site<G>, token: Token) -> Result<Taken, Fault>
-    ensures { Leads site.old.place site.old.state (Take token) (answer_by Took result) site.new.state }
+    ensures place { site.new.place ≡ site.old.place }
+    ensures tried { Leads site.old.place site.old.state (Take token) (answer_by Took result) site.new.state }
 {
     site.token(token)
 }
 
 /// To pass the token on is a try.
 pub fn try_pass<G: Gate>(site: &mut Site<G>, to: u8) -> Result<Token, Fault>
-    ensures { Leads site.old.place site.old.state (Pass to) (answer_by Handed result) site.new.state }
+    ensures place { site.new.place ≡ site.old.place }
+    ensures tried { Leads site.old.place site.old.state (Pass to) (answer_by Handed result) site.new.state }
 {
     site.pass(to)
 }
@@ -81,7 +86,8 @@ pub fn try_list<G: Gate, R: Threads + Wait + Sync>(
     rt: &R,
     listing: &Listing,
 ) -> Result<Items<Fields>, Fault>
-    ensures { Leads site.old.place site.old.state (Show listing.now) (answer_by Rows result) site.new.state }
+    ensures place { site.new.place ≡ site.old.place }
+    ensures tried { Leads site.old.place site.old.state (Show listing.now) (answer_by Rows result) site.new.state }
 {
     site.list(rt, listing)
 }
@@ -93,7 +99,8 @@ pub fn try_list_into<S: SharedSink, G: Gate, R: Threads + Wait + Sync>(
     listing: &Listing,
     sink: &mut S,
 ) -> Result<(), Fault>
-    ensures { (rows : List (List (List ℕ))) × OnOk result (S.adds rows sink.old sink.new)
+    ensures place { site.new.place ≡ site.old.place }
+    ensures tried { (rows : List (List (List ℕ))) × OnOk result (S.adds rows sink.old sink.new)
         × Leads site.old.place site.old.state (Show listing.now) (answer_by (λ _. Rows rows) result) site.new.state }
 {
     site.list_into(rt, listing, sink)
@@ -105,21 +112,24 @@ pub fn try_prepare<G: Gate, R: Threads + Wait + Sync>(
     rt: &R,
     listing: &Listing,
 ) -> Result<(), Fault>
-    ensures { Leads site.old.place site.old.state Apply (answer_by (λ _. Applied) result) site.new.state }
+    ensures place { site.new.place ≡ site.old.place }
+    ensures tried { Leads site.old.place site.old.state Apply (answer_by (λ _. Applied) result) site.new.state }
 {
     site.prepare(rt, listing)
 }
 
 /// A cut only applies something.
 pub fn try_cut<G: Gate, R: Threads + Wait + Sync>(site: &mut Site<G>, rt: &R) -> Result<u32, Fault>
-    ensures { Leads site.old.place site.old.state Apply (answer_by (λ _. Applied) result) site.new.state }
+    ensures place { site.new.place ≡ site.old.place }
+    ensures tried { Leads site.old.place site.old.state Apply (answer_by (λ _. Applied) result) site.new.state }
 {
     site.cut(rt)
 }
 
 /// So does a site that catches up.
 pub fn try_catch_up<G: Gate>(site: &mut Site<G>) -> Result<u32, Fault>
-    ensures { Leads site.old.place site.old.state Apply (answer_by (λ _. Applied) result) site.new.state }
+    ensures place { site.new.place ≡ site.old.place }
+    ensures tried { Leads site.old.place site.old.state Apply (answer_by (λ _. Applied) result) site.new.state }
 {
     site.catch_up()
 }

@@ -1,5 +1,5 @@
 use Rattle.rubis_replica.proofs.Trying.{come_together}
 use Rattle.rubis_replica.proofs.tries.try_arrive_all.Goals as goal
 
-pub returns : goal.returns
-returns g c = come_together _ _ _ _ _ _ c.arrive_all.ensures.first
+pub returns-clause-tried : goal.returns-clause-tried
+returns-clause-tried g c = come_together _ _ _ _ _ _ c.arrive_all.ensures.first
