@@ -126,8 +126,11 @@ class KeptSite(Site):
             self.process.stdin.write(data)
 
     def write_keys(self, lines: bytes) -> None:
+        path = f"{self.folder}/{KEYS}"
+        if self._keys is not None and not is_at(path, self._keys):
+            self.put_keys(self.keys.text(self.shop.unix_time()))        # somebody has removed it
         if self._keys is None:
-            self._keys = os.open(f"{self.folder}/{KEYS}", os.O_WRONLY | os.O_CREAT | os.O_APPEND, 0o600)
+            self._keys = os.open(path, os.O_WRONLY | os.O_CREAT | os.O_APPEND, 0o600)
             synced(self.folder)
         size = os.fstat(self._keys).st_size
         try:
@@ -169,6 +172,12 @@ def file_at(path: str) -> File | None:
     except OSError:
         return None
     return File(found.st_dev, found.st_ino, found.st_size)
+
+
+def is_at(path: str, file: int) -> bool:
+    """Whether an open file is the one of this path."""
+    found, is_open = file_at(path), os.fstat(file)
+    return found is not None and found[:2] == (is_open.st_dev, is_open.st_ino)
 
 
 def read_pieces(path: str, pieces: Sequence[tuple[int, int]]) -> list[bytes]:

@@ -80,7 +80,7 @@ class Server:
 
     def _check_access(self, request: web.Request, route: Route) -> None:
         # A page of another origin that had its name resolved to this machine would be served like one of this one.
-        if self.hosts is not None and request.url.host not in self.hosts:
+        if self.hosts is not None and host_of(request.host) not in self.hosts:
             raise Problem("OtherHost", f"{request.host} isn't this server")
         if route.may is not None:
             may = self.keys.of(request.headers.get("Authorization", ""))
@@ -167,14 +167,14 @@ class Server:
     @staticmethod
     async def _asks_of(request: web.Request) -> tuple[list[One], bool, str]:
         """The asks of a request, whether they are several, and the type of their content."""
-        readers = {JSON: of_json, CSV: of_csv}
-        if request.content_type not in readers:
-            raise Problem("OtherContent", f"asks are {JSON} or {CSV}, and not {request.content_type}")
+        readers, content = {JSON: of_json, CSV: of_csv}, content_of(request)
+        if content not in readers:
+            raise Problem("OtherContent", f"asks are {JSON} or {CSV}, and not {content}")
         key = request.headers.get(KEY)
         if key is not None and len(key) > 1 and key[0] == key[-1] == '"':
             key = key[1:-1]         # as structured fields have a text
-        asks, is_many = readers[request.content_type](await request.read(), key)
-        return asks, is_many, request.content_type
+        asks, is_many = readers[content](await request.read(), key)
+        return asks, is_many, content
 
     async def _asked(self, site: int, asks: list[One], options: Options) -> AsyncIterator[Told]:
         async for one in asked(self.line, site, asks, options):
@@ -235,8 +235,8 @@ class Server:
 
     async def post_pass(self, request: web.Request) -> web.StreamResponse:
         site = self._site(request)
-        if request.content_type != JSON:
-            raise Problem("OtherContent", f"it is {JSON}, and not {request.content_type}")
+        if content_of(request) != JSON:
+            raise Problem("OtherContent", f"it is {JSON}, and not {content_of(request)}")
         try:
             said = json.loads(await request.read())
         except (ValueError, RecursionError) as fault:
@@ -326,6 +326,16 @@ class Server:
         if name not in KINDS:
             raise Problem("NotFound", f"there is no problem {name}")
         return json_response({"type": f"/problems/{name}", "title": KINDS[name].title, "status": KINDS[name].status})
+
+
+def content_of(request: web.Request) -> str:
+    """The type of what a request brings. (The library's own way takes a fifth of the time of an ask.)"""
+    return request.headers.get("Content-Type", "nothing").partition(";")[0].strip().lower()
+
+
+def host_of(header: str) -> str:
+    """The host of a header `Host`, without its port."""
+    return header[1:].partition("]")[0] if header.startswith("[") else header.partition(":")[0]
 
 
 def json_line(said: Any) -> bytes:
