@@ -1,9 +1,9 @@
 //! What one site sends to others, read from its record.
 
-ghost use Rattle.std.specs.Prelude.{◌≡◌, ◌≢◌, ◌<◌, ◌≤◌, None, Some, IfOk, IsErrOf};
+ghost use Rattle.std.specs.Prelude.{◌≡◌, ◌≢◌, ◌<◌, ◌≤◌, ◌∷◌, None, Some, IfOk, IsErrOf, codes};
 ghost use Rattle.rubis_message.specs.Forms.{Takes, take_site};
 ghost use Rattle.rubis_message.specs.Grammar.{IsPacket, packet_record};
-ghost use Rattle.rubis_message.specs.Readings.{agrees, packet_of, take_message, take_packet, take_stamp, take_token};
+ghost use Rattle.rubis_message.specs.Readings.{agrees, packet_of, take_message, take_stamp, take_token};
 
 use crate::faults::ReadFault;
 use crate::messages::Message;
@@ -97,22 +97,30 @@ impl<'a, F: Record> Reader<'a, F> {
         })
     }
 
-    /// A packet.
-    #[tactic(auto, unfolding(crate::specs::Readings::take_packet))]
+    /// A message that follows the word `msg`, and nothing after it.
+    #[tactic(auto, unfolding(crate::specs::Readings::packet_of, crate::specs::Readings::take_packet))]
     #[inline(always)]
-    fn packet(&mut self, alloc: Global, sites: u8) -> Result<Packet, ReadFault>
+    pub fn message_left(&mut self, alloc: Global, sites: u8) -> Result<Message, ReadFault>
         requires { sites ≤ COUNTED_MAX }
-        ensures { Takes (take_packet sites) self.old self.new result }
+        ensures some { IfOk result (λ m. packet_of sites (codes "msg" ∷ self.old) ≡ Some (Packet.Msg m)) }
+        ensures none { IsErrOf result ReadFault.BadRecord → packet_of sites (codes "msg" ∷ self.old) ≡ None }
     {
-        let word = self.field()?;
         let version = self.field()?;
-        if says(word, b"msg") {
-            Ok(Packet::Msg(self.message(alloc, sites, version)?))
-        } else if says(word, b"token") {
-            Ok(Packet::Token(self.token(sites, version)?))
-        } else {
-            Err(ReadFault::BadRecord)
-        }
+        let message = self.message(alloc, sites, version)?;
+        self.end()?;
+        Ok(message)
+    }
+
+    /// A token that follows the word `token`, and nothing after it.
+    #[tactic(auto, unfolding(crate::specs::Readings::packet_of, crate::specs::Readings::take_packet))]
+    pub fn token_left(&mut self, sites: u8) -> Result<Token, ReadFault>
+        ensures some { IfOk result (λ t. packet_of sites (codes "token" ∷ self.old) ≡ Some (Packet.Token t)) }
+        ensures none { IsErrOf result ReadFault.BadRecord → packet_of sites (codes "token" ∷ self.old) ≡ None }
+    {
+        let version = self.field()?;
+        let token = self.token(sites, version)?;
+        self.end()?;
+        Ok(token)
     }
 }
 
@@ -130,7 +138,12 @@ pub fn read_packet<F: Record>(alloc: Global, fields: &F, sites: u8) -> Result<Pa
     ensures none { IsErrOf result ReadFault.BadRecord → packet_of sites (F.fields fields.now) ≡ None }
 {
     let mut reader = Reader::new(fields);
-    let packet = reader.packet(alloc, sites)?;
-    reader.end()?;
-    Ok(packet)
+    let word = reader.field()?;
+    if says(word, b"msg") {
+        Ok(Packet::Msg(reader.message_left(alloc, sites)?))
+    } else if says(word, b"token") {
+        Ok(Packet::Token(reader.token_left(sites)?))
+    } else {
+        Err(ReadFault::BadRecord)
+    }
 }

@@ -1,7 +1,8 @@
 -- How what waits at a site goes on with its records.
 use Rattle.std.proofs.Common.{◌≡◌, ◌+◌, ◌++◌, ◌∷◌, ℕ, List, sym}
 use Rattle.rubis_model.specs.Processes.{site_after}
-use Rattle.rubis_model.specs.Runs.{input_of, input_step}
+use Rattle.rubis_message.specs.Inputs.{input_of}
+use Rattle.rubis_model.specs.Runs.{input_step}
 use Rattle.rubis_engine.specs.Accounts.{Ending}
 use Rattle.rubis_script.specs.Replica.{SiteState}
 use Rattle.rubis_world.specs.Waiting.{waiting_at, waiting_text}

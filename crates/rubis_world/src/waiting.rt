@@ -3,7 +3,8 @@
 ghost use Rattle.std.proofs.Common.{rules};
 ghost use Rattle.std.specs.Prelude.{◌≡◌, ◌<◌, ◌+◌, ◌^◌, ◌⊎◌, ⊤, IfErr, IfNone, IfOk, IsErrOf, OnOk, refl};
 ghost use Rattle.rubis_schema.specs.declared.limits.TheConstants.{RECORDS_MAX};
-ghost use Rattle.rubis_model.specs.Runs.{input_of, input_step};
+ghost use Rattle.rubis_message.specs.Inputs.{input_of};
+ghost use Rattle.rubis_model.specs.Runs.{input_step};
 ghost use Rattle.rubis_model.specs.Site.{opening_at};
 ghost use Rattle.rubis_engine.specs.Accounts.Ending.{AtEnd};
 ghost use Rattle.rubis_engine.specs.Progress.{EndsCut, EndsInPrefix, FromStart, HasMoved, IsCut, IsDone, IsRun, IsTooLong, WrotePrefix};
