@@ -1,16 +1,18 @@
 //! What one site sends to others, read from its record.
 
-ghost use Rattle.std.specs.Prelude.{◌≡◌, ◌≢◌, ◌<◌, ◌≤◌, ◌∷◌, None, Some, IfOk, IsErrOf, codes};
+ghost use Rattle.std.specs.Prelude.{◌≡◌, ◌≢◌, ◌<◌, ◌≤◌, ◌∷◌, [], None, Some, IfOk, IsErrOf, codes};
 ghost use Rattle.rubis_message.specs.Forms.{Takes, take_site};
 ghost use Rattle.rubis_message.specs.Grammar.{IsPacket, packet_record};
+ghost use Rattle.rubis_message.specs.Packed.{stamp_of};
 ghost use Rattle.rubis_message.specs.Readings.{agrees, packet_of, take_message, take_stamp, take_token};
 
 use crate::faults::ReadFault;
 use crate::messages::Message;
 use crate::readers::Reader;
-use crate::stamps::{PackedStamp, read_deps};
+use crate::stamps::read_deps;
 use crate::tokens::{Packet, TOKEN_VERSION, Token};
 use crate::words::says;
+use rubis_clock::PackedDeps;
 use rubis_schema::{COUNT_MAX, COUNTED_MAX, Record, SEQ_MAX, TURN_MAX};
 use rubis_shadow::{Colour, Shadow};
 use std::alloc::Global;
@@ -40,25 +42,23 @@ impl<'a, F: Record> Reader<'a, F> {
         Ok(site as u8)
     }
 
-    /// A stamp.
+    /// A stamp: its site and its red number; its counts are put into `deps`, which has none.
     #[tactic(auto, unfolding(crate::specs::Readings::take_stamp))]
     #[inline(always)]
-    fn stamp(&mut self, sites: u8) -> Result<PackedStamp, ReadFault>
-        requires { sites ≤ COUNTED_MAX }
-        ensures { Takes (take_stamp sites) self.old self.new result }
+    fn stamp(&mut self, sites: u8, deps: &mut PackedDeps) -> Result<(u8, u32), ReadFault>
+        requires few { sites ≤ COUNTED_MAX }
+        requires none { deps.old ≡ [] }
+        ensures ok { IfOk result (λ read. take_stamp sites self.old ≡ Some (stamp_of read.1 deps.new read.0, self.new)) }
+        ensures bad { IsErrOf result ReadFault.BadRecord → take_stamp sites self.old ≡ None }
     {
         let site = self.site(sites)?;
         let seq = self.positive(u64::from(SEQ_MAX))?;
         let red = self.number(COUNT_MAX)?;
-        let deps = read_deps(self.field()?, sites).ok_or(ReadFault::BadRecord)?;
+        read_deps(self.field()?, sites, deps).ok_or(ReadFault::BadRecord)?;
         if u64::from(deps.count(site)) + 1 != seq {
             return Err(ReadFault::BadRecord);
         }
-        Ok(PackedStamp {
-            site,
-            red: red as u32,
-            deps,
-        })
+        Ok((site, red as u32))
     }
 
     /// A message, in that version.
@@ -68,15 +68,16 @@ impl<'a, F: Record> Reader<'a, F> {
         requires { sites ≤ COUNTED_MAX }
         ensures { Takes (take_message sites version.now) self.old self.new result }
     {
-        let stamp = self.stamp(sites)?;
+        let mut deps = PackedDeps::new();
+        let (site, red) = self.stamp(sites, &mut deps)?;
         let shadow = self.shadow(alloc, sites)?;
         if !says(version, shadow.version()) {
             return Err(ReadFault::BadRecord);
         }
-        if !agree(&shadow, stamp.red()) {
+        if !agree(&shadow, red) {
             return Err(ReadFault::BadRecord);
         }
-        Ok(Message::of(stamp, shadow))
+        Ok(Message::of(site, red, deps, shadow))
     }
 
     /// A token, in that version.
