@@ -16,8 +16,10 @@ use Rattle.rubis_message.specs.declared.requests.Request.TheVariants as request
 use Rattle.rubis_message.specs.declared.tokens.Packet.TheVariants as packet
 use Rattle.rubis_message.specs.declared.tokens.Token.{Token}
 use Rattle.rubis_model.specs.Processes.{site_after}
-use Rattle.rubis_model.specs.Runs.{Input, input_of, input_step}
-use Rattle.rubis_model.specs.Runs.Input.{Asked, Came, Neither}
+use Rattle.rubis_message.specs.Inputs.{input_of}
+use Rattle.rubis_message.specs.declared.inputs.Input.{Input}
+use Rattle.rubis_model.specs.Runs.{input_step}
+use Rattle.rubis_message.specs.declared.inputs.Input.TheVariants.{Asked, Came, Neither}
 use Rattle.rubis_model.specs.Settle.{Has, counted, settle}
 use Rattle.rubis_model.specs.Site.{Place, Replica, after_came, after_made, arrival_of, arrived, generating, is_full, is_repeat, issued_after, made, not_ours}
 use Rattle.rubis_model.specs.Site.{opening_at, passing, rows_at, standing_of, token_for, took}

@@ -5,7 +5,9 @@ use Rattle.rubis_engine.specs.Text.{input_records}
 use Rattle.rubis_engine.specs.Reading.{Advances, Gives, fields_now}
 use Rattle.rubis_engine.specs.declared.record_list.Records.{Records}
 use Rattle.rubis_model.specs.Restarts.{IsShortened}
-use Rattle.rubis_model.specs.Runs.{Input, input_of, input_step}
+use Rattle.rubis_message.specs.Inputs.{input_of}
+use Rattle.rubis_message.specs.declared.inputs.Input.{Input}
+use Rattle.rubis_model.specs.Runs.{input_step}
 use Rattle.rubis_model.specs.Site.{Place, Replica}
 use Rattle.rubis_script.specs.Replica.{SiteState}
 use Rattle.rubis_laws.proofs.Processes.Restarts.{nothing_left_out}

@@ -1,7 +1,8 @@
 -- What a site answers stays when more records come.
 use Rattle.std.proofs.Common.{◌≡◌, ◌∙◌, ◌+◌, ◌++◌, ◌∷◌, [], ℕ, List, refl, sym, ap, append_assoc}
 use Rattle.std.proofs.lemmas.List.Concat.{flat_map-append}
-use Rattle.rubis_model.specs.Runs.{answers, input_of, input_step}
+use Rattle.rubis_message.specs.Inputs.{input_of}
+use Rattle.rubis_model.specs.Runs.{answers, input_step}
 use Rattle.rubis_model.specs.Site.{Place, Replica}
 use Rattle.rubis_engine.specs.Text.{plain_writer, row_text, rows_text}
 use Rattle.rubis_keep.specs.Moments.{SiteTextsExtend}

@@ -6,9 +6,8 @@ ghost use Rattle.rubis_message.specs.Message.{sites_of};
 ghost use Rattle.rubis_schema.specs.declared.refusals.Refusal.{Refusal};
 ghost use Rattle.rubis_script.specs.Replica.fault_variants as Fault;
 ghost use Rattle.rubis_message.specs.declared.tokens.Packet.TheVariants as Packet;
-ghost use Rattle.rubis_message.specs.Readings.{packet_of};
-ghost use Rattle.rubis_model.specs.Runs.{input_of};
-ghost use Rattle.rubis_model.specs.Runs.Input.{Asked, Came};
+ghost use Rattle.rubis_message.specs.Inputs.{input_of};
+ghost use Rattle.rubis_message.specs.declared.inputs.Input.TheVariants.{Asked, Came};
 ghost use Rattle.rubis_engine.specs.Text.{input_records};
 ghost use Rattle.rubis_model.specs.Site.{Replica, opening_at};
 ghost use Rattle.rubis_script.specs.Replica.{setup_place};
@@ -18,9 +17,7 @@ ghost use Rattle.rubis_keep.specs.Shortened.{IsShort, Shortens, TakesRecord, Tak
 use crate::fault::KeepFault;
 use crate::writing::write_front;
 use rubis_engine::{InputRecord, OutOfMemory, Records};
-use rubis_message::{
-    Arrival, Message, Packet, ReadFault, Request, Taken, Token, read_packet, read_request,
-};
+use rubis_message::{Arrival, Input, Message, Packet, Request, Taken, Token};
 use rubis_script::{Config, Desk, Fault, Free, Gate, Site};
 use std::alloc::{AllocError, Global};
 use std::io::{ErrorKind, Read, Write};
@@ -111,38 +108,19 @@ fn take_request<G: Gate, T: Threads + Wait + Sync>(
     }
 }
 
-// Takes a record that is no packet. Whether it changed the site.
-fn take_other<G: Gate, T: Threads + Wait + Sync>(
-    rt: &T,
-    alloc: Global,
-    desk: &mut Desk<G>,
-    fields: &InputRecord,
-) -> Result<bool, OutOfMemory>
-    requires { packet_of desk.old.site.place.sites fields.now ≡ None }
-    ensures place { desk.new.site.place ≡ desk.old.site.place }
-    ensures takes { IfOk result (TakesRecord desk.old.site desk.new.site (input_of desk.old.site.place.sites fields.now)) }
-{
-    match read_request(alloc, fields, desk.sites()) {
-        Ok(request) => take_request(rt, &mut desk.site, request),
-        Err(ReadFault::BadRecord) => Ok(false),
-        Err(ReadFault::Memory) => Err(OutOfMemory),
-    }
-}
-
 // Takes a record. Whether it changed the site.
 fn take_record<G: Gate, T: Threads + Wait + Sync>(
     rt: &T,
-    alloc: Global,
     desk: &mut Desk<G>,
     fields: &InputRecord,
 ) -> Result<bool, OutOfMemory>
     ensures place { desk.new.site.place ≡ desk.old.site.place }
     ensures takes { IfOk result (TakesRecord desk.old.site desk.new.site (input_of desk.old.site.place.sites fields.now)) }
 {
-    match read_packet(alloc, fields, desk.sites()) {
-        Ok(packet) => take_packet(rt, &mut desk.site, packet),
-        Err(ReadFault::BadRecord) => take_other(rt, alloc, desk, fields),
-        Err(ReadFault::Memory) => Err(OutOfMemory),
+    match desk.read(fields)? {
+        Input::Came(packet) => take_packet(rt, &mut desk.site, packet),
+        Input::Asked(request) => take_request(rt, &mut desk.site, request),
+        Input::Neither => Ok(false),
     }
 }
 
@@ -162,7 +140,7 @@ fn take_line<G: Gate, T: Threads + Wait + Sync>(
         if !records.advance()? {
             return Ok(changed);
         }
-        if take_record(rt, alloc, desk, records.fields())? {
+        if take_record(rt, desk, records.fields())? {
             changed = true;
         }
     }

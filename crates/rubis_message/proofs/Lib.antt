@@ -3,6 +3,7 @@ pub mod Counts
 pub mod Fields
 pub mod Forms
 pub mod Records
+pub mod FirstWords
 pub mod Packed
 pub mod Versions
 pub mod Widening

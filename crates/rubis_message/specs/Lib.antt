@@ -6,5 +6,6 @@ pub mod Grammar
 pub mod Counts
 pub mod Forms
 pub mod Readings
+pub mod Inputs
 pub mod WorldReadings
 pub mod Widening

@@ -3,6 +3,7 @@
 
 mod answers;
 mod faults;
+mod inputs;
 mod kinds;
 mod laws;
 mod messages;
@@ -18,6 +19,7 @@ mod writers;
 
 pub use answers::{Arrival, Happened, Kind, Taken, Verdict};
 pub use faults::ReadFault;
+pub use inputs::{Input, read_input};
 pub use kinds::RecordKind;
 pub use laws::{records_are_read_as_written, records_have_one_reading};
 pub use messages::Message;

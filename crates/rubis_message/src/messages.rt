@@ -4,9 +4,9 @@ ghost use Rattle.std.specs.Prelude.{◌≡◌, ◌↔◌, ◌<◌, IfOk, IsTrue,
 ghost use Rattle.rubis_clock.specs.Clocks.{IsReady, advanced};
 ghost use Rattle.rubis_message.specs.Message as model;
 ghost use Rattle.rubis_message.specs.Message.{IsMessage, sites_of};
+ghost use Rattle.rubis_message.specs.Packed.{message_of};
 ghost use Rattle.rubis_message.specs.Widening.{widening};
 
-use crate::stamps::PackedStamp;
 use rubis_clock::{Clock, PackedDeps, Stamp};
 use rubis_schema::Id;
 use rubis_shadow::Shadow;
@@ -65,13 +65,12 @@ impl Message {
         }
     }
 
-    /// The shadow with a stamp that is kept as a message keeps it.
+    /// The shadow with a stamp of these parts.
     #[inline(always)]
-    pub(crate) fn of(stamp: PackedStamp, shadow: Shadow) -> Message
-        requires { IsMessage (record { stamp = stamp; shadow = shadow }) }
-        ensures { result ≡ record { stamp = stamp; shadow = shadow } }
+    pub(crate) fn of(site: u8, red: u32, deps: PackedDeps, shadow: Shadow) -> Message
+        requires { IsMessage (message_of red deps site shadow) }
+        ensures { result ≡ message_of red deps site shadow }
     {
-        let PackedStamp { site, red, deps } = stamp;
         Message {
             red,
             deps,

@@ -1,16 +1,18 @@
 //! What one site sends to others, read from its record.
 
-ghost use Rattle.std.specs.Prelude.{◌≡◌, ◌≢◌, ◌<◌, ◌≤◌, None, Some, IfOk, IsErrOf};
+ghost use Rattle.std.specs.Prelude.{◌≡◌, ◌≢◌, ◌<◌, ◌≤◌, ◌∷◌, [], None, Some, IfOk, IsErrOf, codes};
 ghost use Rattle.rubis_message.specs.Forms.{Takes, take_site};
 ghost use Rattle.rubis_message.specs.Grammar.{IsPacket, packet_record};
-ghost use Rattle.rubis_message.specs.Readings.{agrees, packet_of, take_message, take_packet, take_stamp, take_token};
+ghost use Rattle.rubis_message.specs.Packed.{stamp_of};
+ghost use Rattle.rubis_message.specs.Readings.{agrees, packet_of, take_message, take_stamp, take_token};
 
 use crate::faults::ReadFault;
 use crate::messages::Message;
 use crate::readers::Reader;
-use crate::stamps::{PackedStamp, read_deps};
+use crate::stamps::read_deps;
 use crate::tokens::{Packet, TOKEN_VERSION, Token};
 use crate::words::says;
+use rubis_clock::PackedDeps;
 use rubis_schema::{COUNT_MAX, COUNTED_MAX, Record, SEQ_MAX, TURN_MAX};
 use rubis_shadow::{Colour, Shadow};
 use std::alloc::Global;
@@ -40,25 +42,23 @@ impl<'a, F: Record> Reader<'a, F> {
         Ok(site as u8)
     }
 
-    /// A stamp.
+    /// A stamp: its site and its red number; its counts are put into `deps`, which has none.
     #[tactic(auto, unfolding(crate::specs::Readings::take_stamp))]
     #[inline(always)]
-    fn stamp(&mut self, sites: u8) -> Result<PackedStamp, ReadFault>
-        requires { sites ≤ COUNTED_MAX }
-        ensures { Takes (take_stamp sites) self.old self.new result }
+    fn stamp(&mut self, sites: u8, deps: &mut PackedDeps) -> Result<(u8, u32), ReadFault>
+        requires few { sites ≤ COUNTED_MAX }
+        requires none { deps.old ≡ [] }
+        ensures ok { IfOk result (λ read. take_stamp sites self.old ≡ Some (stamp_of read.1 deps.new read.0, self.new)) }
+        ensures bad { IsErrOf result ReadFault.BadRecord → take_stamp sites self.old ≡ None }
     {
         let site = self.site(sites)?;
         let seq = self.positive(u64::from(SEQ_MAX))?;
         let red = self.number(COUNT_MAX)?;
-        let deps = read_deps(self.field()?, sites).ok_or(ReadFault::BadRecord)?;
+        read_deps(self.field()?, sites, deps).ok_or(ReadFault::BadRecord)?;
         if u64::from(deps.count(site)) + 1 != seq {
             return Err(ReadFault::BadRecord);
         }
-        Ok(PackedStamp {
-            site,
-            red: red as u32,
-            deps,
-        })
+        Ok((site, red as u32))
     }
 
     /// A message, in that version.
@@ -68,15 +68,16 @@ impl<'a, F: Record> Reader<'a, F> {
         requires { sites ≤ COUNTED_MAX }
         ensures { Takes (take_message sites version.now) self.old self.new result }
     {
-        let stamp = self.stamp(sites)?;
+        let mut deps = PackedDeps::new();
+        let (site, red) = self.stamp(sites, &mut deps)?;
         let shadow = self.shadow(alloc, sites)?;
         if !says(version, shadow.version()) {
             return Err(ReadFault::BadRecord);
         }
-        if !agree(&shadow, stamp.red()) {
+        if !agree(&shadow, red) {
             return Err(ReadFault::BadRecord);
         }
-        Ok(Message::of(stamp, shadow))
+        Ok(Message::of(site, red, deps, shadow))
     }
 
     /// A token, in that version.
@@ -97,22 +98,30 @@ impl<'a, F: Record> Reader<'a, F> {
         })
     }
 
-    /// A packet.
-    #[tactic(auto, unfolding(crate::specs::Readings::take_packet))]
+    /// A message that follows the word `msg`, and nothing after it.
+    #[tactic(auto, unfolding(crate::specs::Readings::packet_of, crate::specs::Readings::take_packet))]
     #[inline(always)]
-    fn packet(&mut self, alloc: Global, sites: u8) -> Result<Packet, ReadFault>
+    pub fn message_left(&mut self, alloc: Global, sites: u8) -> Result<Message, ReadFault>
         requires { sites ≤ COUNTED_MAX }
-        ensures { Takes (take_packet sites) self.old self.new result }
+        ensures some { IfOk result (λ m. packet_of sites (codes "msg" ∷ self.old) ≡ Some (Packet.Msg m)) }
+        ensures none { IsErrOf result ReadFault.BadRecord → packet_of sites (codes "msg" ∷ self.old) ≡ None }
     {
-        let word = self.field()?;
         let version = self.field()?;
-        if says(word, b"msg") {
-            Ok(Packet::Msg(self.message(alloc, sites, version)?))
-        } else if says(word, b"token") {
-            Ok(Packet::Token(self.token(sites, version)?))
-        } else {
-            Err(ReadFault::BadRecord)
-        }
+        let message = self.message(alloc, sites, version)?;
+        self.end()?;
+        Ok(message)
+    }
+
+    /// A token that follows the word `token`, and nothing after it.
+    #[tactic(auto, unfolding(crate::specs::Readings::packet_of, crate::specs::Readings::take_packet))]
+    pub fn token_left(&mut self, sites: u8) -> Result<Token, ReadFault>
+        ensures some { IfOk result (λ t. packet_of sites (codes "token" ∷ self.old) ≡ Some (Packet.Token t)) }
+        ensures none { IsErrOf result ReadFault.BadRecord → packet_of sites (codes "token" ∷ self.old) ≡ None }
+    {
+        let version = self.field()?;
+        let token = self.token(sites, version)?;
+        self.end()?;
+        Ok(token)
     }
 }
 
@@ -130,7 +139,12 @@ pub fn read_packet<F: Record>(alloc: Global, fields: &F, sites: u8) -> Result<Pa
     ensures none { IsErrOf result ReadFault.BadRecord → packet_of sites (F.fields fields.now) ≡ None }
 {
     let mut reader = Reader::new(fields);
-    let packet = reader.packet(alloc, sites)?;
-    reader.end()?;
-    Ok(packet)
+    let word = reader.field()?;
+    if says(word, b"msg") {
+        Ok(Packet::Msg(reader.message_left(alloc, sites)?))
+    } else if says(word, b"token") {
+        Ok(Packet::Token(reader.token_left(sites)?))
+    } else {
+        Err(ReadFault::BadRecord)
+    }
 }

@@ -14,7 +14,8 @@ use Rattle.rubis_model.specs.Convergence.{HasExactly}
 use Rattle.rubis_model.specs.Laws.{InRun}
 use Rattle.rubis_model.specs.Log.{cores, fold_of}
 use Rattle.rubis_model.specs.Logs.{Log, shown_rows}
-use Rattle.rubis_model.specs.Runs.{input_of, input_step, output_of}
+use Rattle.rubis_message.specs.Inputs.{input_of}
+use Rattle.rubis_model.specs.Runs.{input_step, output_of}
 use Rattle.rubis_model.specs.Settle.{Has}
 use Rattle.rubis_model.specs.Site.{Place, Replica, opening_at}
 use Rattle.rubis_model.specs.System.{AreEvents, Event, World, run, site, start}

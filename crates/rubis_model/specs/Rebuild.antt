@@ -24,8 +24,9 @@ use Rattle.rubis_model.specs.Laws.{Sent}
 use Rattle.rubis_model.specs.Log.{cores}
 use Rattle.rubis_model.specs.Meaning.{item_at}
 use Rattle.rubis_model.specs.Order.{Precedes}
-use Rattle.rubis_model.specs.Runs.{Input, input_step}
-use Rattle.rubis_model.specs.Runs.Input.{Asked, Came, Neither}
+use Rattle.rubis_message.specs.declared.inputs.Input.{Input}
+use Rattle.rubis_model.specs.Runs.{input_step}
+use Rattle.rubis_message.specs.declared.inputs.Input.TheVariants.{Asked, Came, Neither}
 use Rattle.rubis_model.specs.Settle.{Has, counted}
 use Rattle.rubis_model.specs.Site.{Place, Replica, opening_at, asked, took, passed}
 use Rattle.rubis_model.specs.System.{World, Event, AreEvents, site, place, sending, happens, run, start}

@@ -10,8 +10,10 @@ use Rattle.rubis_model.specs.Answers.{send_row}
 use Rattle.rubis_model.specs.Laws.{Sent}
 use Rattle.rubis_model.specs.Processes.{site_after}
 use Rattle.rubis_model.specs.Rebuild.{Concerns, inputs_to_rebuild, rebuilt, sent_by}
-use Rattle.rubis_model.specs.Runs.{Input, input_of, output_of}
-use Rattle.rubis_model.specs.Runs.Input.{Asked, Came, Neither}
+use Rattle.rubis_message.specs.Inputs.{input_of}
+use Rattle.rubis_message.specs.declared.inputs.Input.{Input}
+use Rattle.rubis_model.specs.Runs.{output_of}
+use Rattle.rubis_message.specs.declared.inputs.Input.TheVariants.{Asked, Came, Neither}
 use Rattle.rubis_model.specs.Settle.{Has}
 use Rattle.rubis_model.specs.Site.{Place, opening_at}
 use Rattle.rubis_model.specs.System.{Event, run, start}

@@ -8,7 +8,8 @@ use Rattle.rubis_model.specs.Answers.{send_row}
 use Rattle.rubis_model.specs.Log.{cores, fold_of}
 use Rattle.rubis_model.specs.Logs.{Log, shown_rows}
 use Rattle.rubis_model.specs.Processes.{Carried, HasExactlySent, HasReadAll, KeepsAll, Reading, WasSent, process, read_by, site_after, state_of}
-use Rattle.rubis_model.specs.Runs.{answers, input_of, input_step, output_of}
+use Rattle.rubis_message.specs.Inputs.{input_of}
+use Rattle.rubis_model.specs.Runs.{answers, input_step, output_of}
 use Rattle.rubis_model.specs.Settle.{Has}
 use Rattle.rubis_model.specs.Site.{Place, Replica, opening_at}
 use Rattle.rubis_model.specs.Verdict.{verdict}

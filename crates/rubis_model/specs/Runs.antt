@@ -5,29 +5,15 @@ use Rattle.rubis_schema.specs.declared.listings.Listing.TheVariants.{Log, Misfit
 use Rattle.rubis_schema.specs.declared.refusals.Refusal.{Refusal}
 use Rattle.rubis_schema.specs.declared.refusals.Refusal.TheVariants.{BadRecord}
 use Rattle.rubis_message.specs.Message.{Message}
-use Rattle.rubis_message.specs.Readings.{packet_of, request_of}
-use Rattle.rubis_message.specs.declared.requests.Request.{Request}
+use Rattle.rubis_message.specs.Inputs.{input_of}
+use Rattle.rubis_message.specs.declared.inputs.Input.{Input}
+use Rattle.rubis_message.specs.declared.inputs.Input.TheVariants.{Asked, Came, Neither}
 use Rattle.rubis_message.specs.declared.requests.Request.TheVariants as request
-use Rattle.rubis_message.specs.declared.tokens.Packet.{Packet}
 use Rattle.rubis_message.specs.declared.tokens.Packet.TheVariants as packet
 use Rattle.rubis_model.specs.Answers.{arrived_rows, asked_rows, passed_rows, listed_rows, refused_row, took_rows}
 use Rattle.rubis_model.specs.Listings.{log_rows, misfit_rows, table_rows}
 use Rattle.rubis_model.specs.Log.{Folded, cores, fold_of}
 use Rattle.rubis_model.specs.Site.{Place, Replica, arrived, asked, opening_at, passed, took}
-
--- what a record is: a request, a packet, or neither
-pub data Input : Type 0 where
-  Asked : Request → Input
-  Came : Packet → Input
-  Neither : Input
-
-abbrev pub input_by : Option Request → Option Packet → Input
-input_by (Some r) p = Asked r
-input_by None (Some p) = Came p
-input_by None None = Neither
-
-abbrev pub input_of : ℕ → List (List ℕ) → Input
-input_of sites fields = input_by (request_of sites fields) (packet_of sites fields)
 
 -- the rows of a listing: of the log, or of what is folded of it
 abbrev pub listing_rows : List Message → Folded → Listing → List (List (List ℕ))

@@ -9,42 +9,42 @@ use Rattle.rubis_engine.specs.Accounts.{Account, AnswersRecord, Keeps}
 use Rattle.rubis_engine.specs.Accounts.Ending.{AtEnd, Cut}
 use Rattle.rubis_engine.specs.Progress.{IsCut, IsDone, IsTooLong, WrotePrefix}
 use Rattle.rubis_engine.specs.declared.service.Course.TheVariants.{GoesOn}
-use Rattle.rubis_model.specs.Runs.{input_of}
-use Rattle.rubis_reading.specs.Parsed.{AreParsed, FitsIn, IsParsed, meant}
-use Rattle.rubis_reading.specs.declared.parsed.Parsed.{Parsed}
+use Rattle.rubis_message.specs.Inputs.{FitsIn, IsInput, input_of}
+use Rattle.rubis_reading.specs.Inputs.{AreInputs}
+use Rattle.rubis_message.specs.declared.inputs.Input.{Input}
 use Rattle.rubis_reading.specs.Steps.{HasAhead}
 
 -- the first of what was read
-record IsFirstOf (sites : ℕ) (rows : List (List (List ℕ))) (p : Parsed) (left : List Parsed) : Type 0 where
+record IsFirstOf (sites : ℕ) (rows : List (List (List ℕ))) (p : Input) (left : List Input) : Type 0 where
   fields : List (List ℕ)
   more : List (List (List ℕ))
   parts : rows ≡ fields ∷ more
-  one : IsParsed sites fields p
-  others : AreParsed sites more left
+  one : IsInput sites fields p
+  others : AreInputs sites more left
 
-first-of : (sites : ℕ) (rows : List (List (List ℕ))) (p : Parsed) (left : List Parsed) → AreParsed sites rows (p ∷ left) → IsFirstOf sites rows p left
-unfolding AreParsed
+first-of : (sites : ℕ) (rows : List (List (List ℕ))) (p : Input) (left : List Input) → AreInputs sites rows (p ∷ left) → IsFirstOf sites rows p left
+unfolding AreInputs
 first-of sites [] p left h = absurd h
 first-of sites (fields ∷ more) p left h = record { fields = fields; more = more; parts = refl; one = h.0; others = h.1 }
 
-none-of : (sites : ℕ) (rows : List (List (List ℕ))) → AreParsed sites rows [] → rows ≡ []
-unfolding AreParsed
+none-of : (sites : ℕ) (rows : List (List (List ℕ))) → AreInputs sites rows [] → rows ≡ []
+unfolding AreInputs
 none-of sites [] h = refl
 none-of sites (fields ∷ rows) h = absurd h
 
-none-parsed : (sites : ℕ) (list : List Parsed) → list ≡ [] → AreParsed sites [] list
-unfolding AreParsed
-none-parsed sites list none = rw none tt
+none-inputs : (sites : ℕ) (list : List Input) → list ≡ [] → AreInputs sites [] list
+unfolding AreInputs
+none-inputs sites list none = rw none tt
 
-parsed-length : (sites : ℕ) (rows : List (List (List ℕ))) (ps : List Parsed) → AreParsed sites rows ps → length rows ≡ length ps
-unfolding AreParsed
-parsed-length sites [] [] h = refl
-parsed-length sites [] (p ∷ ps) h = absurd h
-parsed-length sites (r ∷ rows) [] h = absurd h
-parsed-length sites (r ∷ rows) (p ∷ ps) h = ap suc (parsed-length sites rows ps h.1)
+inputs-length : (sites : ℕ) (rows : List (List (List ℕ))) (ps : List Input) → AreInputs sites rows ps → length rows ≡ length ps
+unfolding AreInputs
+inputs-length sites [] [] h = refl
+inputs-length sites [] (p ∷ ps) h = absurd h
+inputs-length sites (r ∷ rows) [] h = absurd h
+inputs-length sites (r ∷ rows) (p ∷ ps) h = ap suc (inputs-length sites rows ps h.1)
 
-pub all-fit : (sites : ℕ) (rows : List (List (List ℕ))) (ps : List Parsed) → AreParsed sites rows ps → All (λ p. FitsIn sites p) ps
-unfolding AreParsed
+pub all-fit : (sites : ℕ) (rows : List (List (List ℕ))) (ps : List Input) → AreInputs sites rows ps → All (λ p. FitsIn sites p) ps
+unfolding AreInputs
 all-fit sites [] [] h k d lt = absurd (omega arith)
 all-fit sites [] (p ∷ ps) h k d lt = absurd h
 all-fit sites (r ∷ rows) [] h k d lt = absurd h
@@ -52,31 +52,31 @@ all-fit sites (r ∷ rows) (p ∷ ps) h zero d lt = h.0.fits
 all-fit sites (r ∷ rows) (p ∷ ps) h (suc k) d lt = all-fit sites rows ps h.1 k d (omega (arith, lt))
 
 -- what was read of a front, and of the rest
-pub parsed-both : (sites : ℕ) (rows more : List (List (List ℕ))) (ps qs : List Parsed) → AreParsed sites rows ps → AreParsed sites more qs →
-    AreParsed sites (rows ++ more) (ps ++ qs)
-unfolding AreParsed
-parsed-both sites [] more [] qs h k = k
-parsed-both sites [] more (p ∷ ps) qs h k = absurd h
-parsed-both sites (r ∷ rows) more [] qs h k = absurd h
-parsed-both sites (r ∷ rows) more (p ∷ ps) qs h k = (h.0, parsed-both sites rows more ps qs h.1 k)
+pub inputs-both : (sites : ℕ) (rows more : List (List (List ℕ))) (ps qs : List Input) → AreInputs sites rows ps → AreInputs sites more qs →
+    AreInputs sites (rows ++ more) (ps ++ qs)
+unfolding AreInputs
+inputs-both sites [] more [] qs h k = k
+inputs-both sites [] more (p ∷ ps) qs h k = absurd h
+inputs-both sites (r ∷ rows) more [] qs h k = absurd h
+inputs-both sites (r ∷ rows) more (p ∷ ps) qs h k = (h.0, inputs-both sites rows more ps qs h.1 k)
 
 -- ---- a run at a place
 
 -- one more is answered
-pub ahead-answered : (sites sites2 : ℕ) (ps left : List Parsed) (p : Parsed) (all more more2 : Account) (old now : Option (List ℕ)) (sink sink2 : List ℕ)
+pub ahead-answered : (sites sites2 : ℕ) (ps left : List Input) (p : Input) (all more more2 : Account) (old now : Option (List ℕ)) (sink sink2 : List ℕ)
     (n : ℕ)
     (records later : List (List (List ℕ))) → sites2 ≡ sites → ps ≡ p ∷ left
-    → ((fields : List (List ℕ)) → input_of sites fields ≡ meant p → AnswersRecord GoesOn more more2 sink sink2 fields)
+    → ((fields : List (List ℕ)) → input_of sites fields ≡ p → AnswersRecord GoesOn more more2 sink sink2 fields)
     → HasAhead sites ps all more old now sink n records later → HasAhead sites2 left all more2 old now sink2 (n + 1) records later
 ahead-answered sites sites2 ps left p all more more2 old now sink sink2 n records later same e answers h =
-    let f = first-of sites h.next p left (subst (λ l. AreParsed sites h.next l) e h.parsed) in
+    let f = first-of sites h.next p left (subst (λ l. AreInputs sites h.next l) e h.parsed) in
     let one = length-append h.done (f.fields ∷ []) in
     record {
       done = h.done ++ (f.fields ∷ []);
       next = f.more;
       written = h.written;
       parts = h.parts ∙ ap (λ r. h.done ++ (r ++ later)) f.parts ∙ sym (append_assoc h.done (f.fields ∷ []) (f.more ++ later));
-      parsed = subst (λ s. AreParsed s f.more left) (sym same) f.others;
+      parsed = subst (λ s. AreInputs s f.more left) (sym same) f.others;
       count = omega (arith, h.count, one);
       appended = h.appended;
       told = λ ending to_come. ap (all.text ending) (append_assoc h.done (f.fields ∷ []) to_come) ∙ h.told ending (f.fields ∷ to_come)
@@ -88,7 +88,7 @@ ahead-answered sites sites2 ps left p all more more2 old now sink sink2 n record
     }
 
 -- the text stays what it was
-pub ahead-kept : (sites sites2 : ℕ) (ps : List Parsed) (all more more2 : Account) (old now : Option (List ℕ)) (sink sink2 : List ℕ) (n : ℕ)
+pub ahead-kept : (sites sites2 : ℕ) (ps : List Input) (all more more2 : Account) (old now : Option (List ℕ)) (sink sink2 : List ℕ) (n : ℕ)
     (records later : List (List (List ℕ))) → sites2 ≡ sites → Keeps more more2 sink sink2
     → HasAhead sites ps all more old now sink n records later → HasAhead sites2 ps all more2 old now sink2 n records later
 ahead-kept sites sites2 ps all more more2 old now sink sink2 n records later same keeps h = record {
@@ -96,7 +96,7 @@ ahead-kept sites sites2 ps all more more2 old now sink sink2 n records later sam
   next = h.next;
   written = h.written;
   parts = h.parts;
-  parsed = subst (λ s. AreParsed s h.next ps) (sym same) h.parsed;
+  parsed = subst (λ s. AreInputs s h.next ps) (sym same) h.parsed;
   count = h.count;
   appended = h.appended;
   told = λ ending to_come. h.told ending to_come ∙ ap (λ t. h.written ++ t) ((keeps to_come).0 ending);
@@ -104,7 +104,7 @@ ahead-kept sites sites2 ps all more more2 old now sink sink2 n records later sam
 }
 
 -- what waited was written out
-pub ahead-written : (sites : ℕ) (ps : List Parsed) (all more : Account) (old now now2 : Option (List ℕ)) (sink sink2 : List ℕ) (n : ℕ)
+pub ahead-written : (sites : ℕ) (ps : List Input) (all more : Account) (old now now2 : Option (List ℕ)) (sink sink2 : List ℕ) (n : ℕ)
     (records later : List (List (List ℕ))) → Appends now now2 sink → sink2 ≡ []
     → HasAhead sites ps all more old now sink n records later → HasAhead sites ps all more old now2 sink2 n records later
 ahead-written sites ps all more old now now2 sink sink2 n records later out none h = rw none (record {
@@ -120,17 +120,17 @@ ahead-written sites ps all more old now now2 sink sink2 n records later out none
 })
 
 -- all that was read ahead was answered, and more was read
-pub ahead-read : (sites sites2 : ℕ) (ps list : List Parsed) (all more : Account) (old now : Option (List ℕ)) (sink : List ℕ) (n : ℕ)
-    (records later rows rest : List (List (List ℕ))) → sites2 ≡ sites → ps ≡ [] → later ≡ rows ++ rest → AreParsed sites2 rows list
+pub ahead-read : (sites sites2 : ℕ) (ps list : List Input) (all more : Account) (old now : Option (List ℕ)) (sink : List ℕ) (n : ℕ)
+    (records later rows rest : List (List (List ℕ))) → sites2 ≡ sites → ps ≡ [] → later ≡ rows ++ rest → AreInputs sites2 rows list
     → HasAhead sites ps all more old now sink n records later → HasAhead sites list all more old now sink n records rest
 ahead-read sites sites2 ps list all more old now sink n records later rows rest same none split parsed h =
-    let empty : h.next ≡ [] = none-of sites h.next (subst (λ l. AreParsed sites h.next l) none h.parsed) in
+    let empty : h.next ≡ [] = none-of sites h.next (subst (λ l. AreInputs sites h.next l) none h.parsed) in
     record {
       done = h.done;
       next = rows;
       written = h.written;
       parts = h.parts ∙ ap (λ r. h.done ++ (r ++ later)) empty ∙ ap (λ r. h.done ++ r) split;
-      parsed = subst (λ s. AreParsed s rows list) same parsed;
+      parsed = subst (λ s. AreInputs s rows list) same parsed;
       count = h.count;
       appended = h.appended;
       told = h.told;
@@ -138,7 +138,7 @@ ahead-read sites sites2 ps list all more old now sink n records later rows rest 
     }
 
 -- nothing was read or answered yet
-pub ahead-starts : (sites : ℕ) (ps : List Parsed) (all more : Account) (old : Option (List ℕ)) (sink : List ℕ) (n : ℕ) (records : List (List (List ℕ)))
+pub ahead-starts : (sites : ℕ) (ps : List Input) (all more : Account) (old : Option (List ℕ)) (sink : List ℕ) (n : ℕ) (records : List (List (List ℕ)))
     → ps ≡ [] → sink ≡ [] → n ≡ 1 → more ≡ all → HasAhead sites ps all more old old sink n records records
 ahead-starts sites ps all more old sink n records none empty one same =
     let told : (ending : _) (to_come : List (List (List ℕ))) → all.text ending to_come ≡ sink
@@ -148,7 +148,7 @@ ahead-starts sites ps all more old sink n records none empty one same =
       next = [];
       written = [];
       parts = refl;
-      parsed = none-parsed sites ps none;
+      parsed = none-inputs sites ps none;
       count = sym one;
       appended = appends-none old;
       told = told;
@@ -158,7 +158,7 @@ ahead-starts sites ps all more old sink n records none empty one same =
 -- ---- how it ends
 
 -- whatever happens next, a prefix of the text was written
-pub ahead-prefix : (sites : ℕ) (ps : List Parsed) (all more : Account) (old now now2 : Option (List ℕ)) (sink : List ℕ) (n : ℕ)
+pub ahead-prefix : (sites : ℕ) (ps : List Input) (all more : Account) (old now now2 : Option (List ℕ)) (sink : List ℕ) (n : ℕ)
     (records later : List (List (List ℕ)))
     → now2 ≡ now → HasAhead sites ps all more old now sink n records later → WrotePrefix (all.text AtEnd) old now2 records
 ahead-prefix sites ps all more old now now2 sink n records later same h = (
@@ -169,7 +169,7 @@ ahead-prefix sites ps all more old now now2 sink n records later same h = (
 )
 
 -- the text of what was answered was written, where nothing waits
-cut-text : (sites : ℕ) (ps : List Parsed) (all more : Account) (old now : Option (List ℕ)) (sink : List ℕ) (n : ℕ) (records later : List (List (List ℕ)))
+cut-text : (sites : ℕ) (ps : List Input) (all more : Account) (old now : Option (List ℕ)) (sink : List ℕ) (n : ℕ) (records later : List (List (List ℕ)))
     → sink ≡ [] → more.text Cut [] ≡ [] → (h : HasAhead sites ps all more old now sink n records later)
     → Appends old now (all.text Cut (take (length h.done) records))
 cut-text sites ps all more old now sink n records later empty none h =
@@ -185,12 +185,12 @@ some-read account some [] l = absurd (omega (arith, l))
 some-read account some (fields ∷ rest) l = some fields rest
 
 -- as many as are taken were answered, and there are more
-pub ahead-too_long : (sites : ℕ) (ps : List Parsed) (all more : Account) (old now : Option (List ℕ)) (sink : List ℕ) (n limit : ℕ)
+pub ahead-too_long : (sites : ℕ) (ps : List Input) (all more : Account) (old now : Option (List ℕ)) (sink : List ℕ) (n limit : ℕ)
     (records later : List (List (List ℕ)))
     → sink ≡ [] → more.text Cut [] ≡ [] → ((fields : List (List ℕ)) (rest : List (List (List ℕ))) → 0 < more.read (fields ∷ rest))
     → 0 < length ps → n ≡ limit + 1 → HasAhead sites ps all more old now sink n records later → IsTooLong all limit old now records
 ahead-too_long sites ps all more old now sink n limit records later empty none reads some last h =
-    let long = parsed-length sites h.next ps h.parsed in
+    let long = inputs-length sites h.next ps h.parsed in
     let count : length h.done ≡ limit = omega (arith, h.count, last) in
     let rest = h.next ++ later in
     let left : 0 < length rest = omega (arith, length-append h.next later, long, some) in
@@ -203,12 +203,12 @@ ahead-too_long sites ps all more old now sink n limit records later empty none r
     )
 
 -- all is answered
-pub ahead-done : (sites : ℕ) (ps : List Parsed) (all more : Account) (old now : Option (List ℕ)) (sink : List ℕ) (n k limit : ℕ)
+pub ahead-done : (sites : ℕ) (ps : List Input) (all more : Account) (old now : Option (List ℕ)) (sink : List ℕ) (n k limit : ℕ)
     (records later : List (List (List ℕ)))
     → sink ≡ [] → more.text AtEnd [] ≡ [] → more.read [] ≡ 0 → ps ≡ [] → later ≡ [] → n ≡ k + 1 → k ≤ limit
     → HasAhead sites ps all more old now sink n records later → IsDone all limit old now records k
 ahead-done sites ps all more old now sink n k limit records later empty none reads answered last e within h =
-    let next : h.next ≡ [] = none-of sites h.next (subst (λ l. AreParsed sites h.next l) answered h.parsed) in
+    let next : h.next ≡ [] = none-of sites h.next (subst (λ l. AreInputs sites h.next l) answered h.parsed) in
     let whole : records ≡ h.done ++ [] = h.parts ∙ ap (λ r. h.done ++ (r ++ later)) next ∙ ap (λ r. h.done ++ r) last in
     let text : all.text AtEnd records ≡ h.written =
     ap (all.text AtEnd) whole ∙ h.told AtEnd [] ∙ ap (λ t. h.written ++ (t ++ more.text AtEnd [])) empty ∙ ap (λ t. h.written ++ t) none

@@ -2,7 +2,7 @@ pub mod StreamFacts
 pub mod CutFacts
 pub mod QuoteFacts
 pub mod ChunkFacts
-pub mod ParsedFacts
+pub mod InputFacts
 pub mod AheadFacts
 pub mod PartFacts
 pub mod RunFacts

@@ -5,9 +5,9 @@ use Rattle.std.proofs.lemmas.List.{at_drop_more, nil_from_length}
 use Rattle.rubis_message.specs.Message.{Message}
 use Rattle.rubis_message.specs.declared.tokens.Packet.TheVariants.{Msg}
 use Rattle.rubis_reading.specs.Runs.{AreSingle, FitWindow, FitsWindow, IsSingle, all_came, flat, of_stretch}
-use Rattle.rubis_reading.specs.declared.parsed.Parsed.TheVariants.{Came}
-use Rattle.rubis_reading.specs.declared.parsed.Stretch.{Stretch}
-use Rattle.rubis_reading.specs.declared.parsed.Stretch.TheVariants.{Messages, One}
+use Rattle.rubis_message.specs.declared.inputs.Input.TheVariants.{Came}
+use Rattle.rubis_reading.specs.declared.stretches.Stretch.{Stretch}
+use Rattle.rubis_reading.specs.declared.stretches.Stretch.TheVariants.{Messages, One}
 
 pub flat-both : (a b : List Stretch) → flat (a ++ b) ≡ flat a ++ flat b
 flat-both [] b = refl

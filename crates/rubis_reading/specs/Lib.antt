@@ -2,6 +2,6 @@ pub mod Streams
 pub mod Chunked
 pub mod Standings
 pub mod Looks
-pub mod Parsed
+pub mod Inputs
 pub mod Steps
 pub mod Runs

@@ -2,23 +2,23 @@
 use Rattle.std.specs.Prelude.{◌++◌, ◌∷◌, ◌≤◌, ◌<◌, [], ⊤, ℕ, List, None, Option, Some, length}
 use Rattle.rubis_message.specs.Message.{Message}
 use Rattle.rubis_message.specs.declared.tokens.Packet.TheVariants.{Msg}
-use Rattle.rubis_reading.specs.declared.parsed.Parsed.{Parsed}
-use Rattle.rubis_reading.specs.declared.parsed.Parsed.TheVariants.{Came}
-use Rattle.rubis_reading.specs.declared.parsed.Stretch.{Stretch}
-use Rattle.rubis_reading.specs.declared.parsed.Stretch.TheVariants.{Messages, One}
+use Rattle.rubis_message.specs.declared.inputs.Input.{Input}
+use Rattle.rubis_message.specs.declared.inputs.Input.TheVariants.{Came}
+use Rattle.rubis_reading.specs.declared.stretches.Stretch.{Stretch}
+use Rattle.rubis_reading.specs.declared.stretches.Stretch.TheVariants.{Messages, One}
 
 -- messages, each as what a record is
-abbrev pub all_came : List Message → List Parsed
+abbrev pub all_came : List Message → List Input
 all_came [] = []
 all_came (m ∷ ms) = Came (Msg m) ∷ all_came ms
 
 -- what one run has
-abbrev pub of_stretch : Stretch → List Parsed
+abbrev pub of_stretch : Stretch → List Input
 of_stretch (Messages list) = all_came list.items
 of_stretch (One p) = p ∷ []
 
 -- what several have, one after the other
-abbrev pub flat : List Stretch → List Parsed
+abbrev pub flat : List Stretch → List Input
 flat [] = []
 flat (r ∷ rest) = of_stretch r ++ flat rest
 

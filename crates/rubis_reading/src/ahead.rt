@@ -4,9 +4,9 @@ ghost use Rattle.std.specs.Prelude.{◌≡◌, ◌++◌, ◌∷◌, [], length, 
 ghost use Rattle.std.specs.Vec.Iter.{into_iter_items};
 ghost use Rattle.rubis_reading.specs.Runs.{AreSingle, all_came, flat, of_next, of_stretch};
 
-use crate::parsed::{Parsed, Stretch, push_stretch};
+use crate::stretches::{Stretch, push_stretch};
 use rubis_engine::OutOfMemory;
-use rubis_message::Packet;
+use rubis_message::{Input, Packet};
 use std::alloc::Global;
 use std::marker::Model;
 use std::vec::IntoIter;
@@ -51,7 +51,7 @@ fn add_singles(list: &mut Vec<Stretch>, run: Stretch) -> Result<(), OutOfMemory>
         let Some(message) = rest.next() else {
             return Ok(());
         };
-        push_stretch(list, Stretch::One(Parsed::Came(Packet::Msg(message))))?;
+        push_stretch(list, Stretch::One(Input::Came(Packet::Msg(message))))?;
     }
     Err(OutOfMemory)
 }
@@ -83,7 +83,7 @@ pub struct Ahead {
 impl Model for Ahead {
     ghost use Rattle.std.specs.Prelude.{List};
     ghost use Rattle.std.specs.Vec.Iter.{into_iter_items};
-    ghost use Rattle.rubis_reading.specs.declared.parsed.Stretch.{Stretch};
+    ghost use Rattle.rubis_reading.specs.declared.stretches.Stretch.{Stretch};
 
     ghost Value = { List Stretch };
 

@@ -5,13 +5,13 @@ mod ahead;
 mod chunks;
 mod cuts;
 mod held;
-mod parsed;
 mod parts;
 mod standing;
+mod stretches;
 
 pub use ahead::Ahead;
 pub use chunks::Chunks;
 pub use cuts::whole_end;
 pub use held::ChunkFault;
-pub use parsed::{Parsed, Stretch, read_piece, read_record};
 pub use parts::read_parts;
+pub use stretches::{Stretch, read_piece};

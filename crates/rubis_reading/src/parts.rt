@@ -3,11 +3,11 @@
 ghost use Rattle.std.specs.Prelude.{◌≡◌, ◌≤◌, IfOk};
 ghost use Rattle.std.specs.Thread.{IsSync};
 ghost use Rattle.rubis_engine.specs.Text.{input_records};
-ghost use Rattle.rubis_reading.specs.Parsed.{AreParsed};
+ghost use Rattle.rubis_reading.specs.Inputs.{AreInputs};
 ghost use Rattle.rubis_reading.specs.Runs.{FitWindow, flat};
 
 use crate::cuts::whole_end;
-use crate::parsed::{Stretch, read_piece};
+use crate::stretches::{Stretch, read_piece};
 use rubis_engine::OutOfMemory;
 use std::alloc::Global;
 use std::thread;
@@ -25,7 +25,7 @@ pub fn read_parts<T: Threads + Sync>(
     window: usize,
 ) -> Result<Vec<Stretch>, OutOfMemory>
     requires { sites ≤ 16 }
-    ensures parsed { IfOk result (λ list. AreParsed sites (input_records piece.now) (flat list.items)) }
+    ensures parsed { IfOk result (λ list. AreInputs sites (input_records piece.now) (flat list.items)) }
     ensures window { IfOk result (λ list. FitWindow window list.items) }
 {
     if readers < 2 {
@@ -43,11 +43,11 @@ pub fn read_parts<T: Threads + Sync>(
         rt,
         move || -> Result<Vec<Stretch>, OutOfMemory>
             requires { sites ≤ 16 }
-            ensures { IfOk result (λ list. AreParsed sites (input_records front.entry.now) (flat list.items) × FitWindow window list.items) }
+            ensures { IfOk result (λ list. AreInputs sites (input_records front.entry.now) (flat list.items) × FitWindow window list.items) }
         { read_piece(alloc, front, sites, window) },
         move || -> Result<Vec<Stretch>, OutOfMemory>
             requires { IsSync T.row × (sites ≤ 16) }
-            ensures { IfOk result (λ list. AreParsed sites (input_records rest.entry.now) (flat list.items) × FitWindow window list.items) }
+            ensures { IfOk result (λ list. AreInputs sites (input_records rest.entry.now) (flat list.items) × FitWindow window list.items) }
         { read_parts(rt, alloc, rest, sites, fewer, window) },
     );
     let mut list = first?;

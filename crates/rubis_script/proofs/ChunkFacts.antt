@@ -6,11 +6,11 @@ use Rattle.rubis_engine.specs.Progress.{IsWrittenOrWaits}
 use Rattle.rubis_engine.specs.Text.{input_records}
 use Rattle.rubis_engine.specs.declared.fault.Count.{Count}
 use Rattle.rubis_reading.specs.Chunked.{FailsShort, IsLast, KeepsCome, KeepsPending, TakesOff, held_text}
-use Rattle.rubis_reading.specs.Parsed.{AreParsed}
+use Rattle.rubis_reading.specs.Inputs.{AreInputs}
 use Rattle.rubis_reading.specs.Runs.{FitWindow, flat}
 use Rattle.rubis_reading.specs.declared.chunks.Chunks.{Chunks}
-use Rattle.rubis_reading.specs.declared.parsed.Parsed.{Parsed}
-use Rattle.rubis_reading.specs.declared.parsed.Stretch.{Stretch}
+use Rattle.rubis_message.specs.declared.inputs.Input.{Input}
+use Rattle.rubis_reading.specs.declared.stretches.Stretch.{Stretch}
 use Rattle.rubis_reading.specs.Streams.{EndsNoRecord}
 use Rattle.rubis_reading.proofs.AheadFacts.{all-fit}
 use Rattle.rubis_reading.proofs.ChunkFacts.{come-rest}
@@ -25,9 +25,9 @@ use Rattle.rubis_script.proofs.StepFacts.{sound-kept, sound-none, takes-whole}
 
 -- what was read is of this desk's system
 pub sound-read : {G : Type 0} (d d2 : Desk G) (ahead list : List Stretch) (rows : List (List (List ℕ))) → KeepsSetup d d2 → ahead ≡ list
-    → AreParsed d.site.place.sites rows (flat list) → FitWindow d.plan.window list → IsSound d2 ahead × AreParsed d2.site.place.sites rows (flat ahead)
+    → AreInputs d.site.place.sites rows (flat list) → FitWindow d.plan.window list → IsSound d2 ahead × AreInputs d2.site.place.sites rows (flat ahead)
 sound-read d d2 ahead list rows (place, plan) is parsed fits =
-    let read = subst (λ l. AreParsed d2.site.place.sites rows (flat l)) (sym is) (subst (λ p. AreParsed p.sites rows (flat list)) (sym place) parsed) in (
+    let read = subst (λ l. AreInputs d2.site.place.sites rows (flat l)) (sym is) (subst (λ p. AreInputs p.sites rows (flat list)) (sym place) parsed) in (
       record {
         fits = all-fit d2.site.place.sites rows (flat ahead) read;
         windows = subst (λ l. FitWindow d2.plan.window l) (sym is) (subst (λ p. FitWindow p.window list) (sym plan) fits);
@@ -49,7 +49,7 @@ caught rem chunks d d2 ahead before after takes first old input h = record {
 -- and a chunk was read meanwhile
 pub reads-chunk : {R G : Type 0} (rem : R → Option (List ℕ)) (chunks chunks2 : Chunks R) (d d2 : Desk G) (ahead ahead2 : List Stretch) (text : List ℕ)
     (before after : Option (List ℕ)) → Takes (flat ahead) d d2 before after → TakesOff rem chunks chunks2 text → KeepsCome rem chunks chunks2
-    → AreParsed d2.site.place.sites (input_records text) (flat ahead2)
+    → AreInputs d2.site.place.sites (input_records text) (flat ahead2)
     → OfEachAhead rem chunks d ahead before (λ first old input. HasReadAhead rem chunks2 d2 ahead2 first old after input)
 reads-chunk rem chunks chunks2 d d2 ahead ahead2 text before after takes off came parsed first old input h =
     let (more, split, pending) = off h.later h.pending in record {
@@ -113,7 +113,7 @@ chunk-taken rem chunks chunks2 text chunk d d2 before after is off came each fir
 
 -- what is held is the rest, and was read
 pub stands-last : {R G : Type 0} (rem : R → Option (List ℕ)) (chunks : Chunks R) (d : Desk G) (ahead : List Stretch) (first : SiteState)
-    (old now : Option (List ℕ)) (input : List ℕ) → IsLast rem chunks → AreParsed d.site.place.sites (input_records (held_text chunks)) (flat ahead)
+    (old now : Option (List ℕ)) (input : List ℕ) → IsLast rem chunks → AreInputs d.site.place.sites (input_records (held_text chunks)) (flat ahead)
     → HasReadAhead rem chunks d [] first old now input → StandsAt d (flat ahead) first old now (input_records input) []
 stands-last rem chunks d ahead first old now input last parsed h =
     stands-read d.site [] (flat ahead) d.window.items first old now d.reply.sink d.answered (input_records input) h.later
@@ -121,7 +121,7 @@ stands-last rem chunks d ahead first old now input last parsed h =
 
 -- all was taken
 pub done-last : {R G : Type 0} (rem : R → Option (List ℕ)) (chunks : Chunks R) (limit : ℕ) (d d2 : Desk G) (ahead : List Stretch)
-    (before after : Option (List ℕ)) → IsLast rem chunks → AreParsed d.site.place.sites (input_records (held_text chunks)) (flat ahead)
+    (before after : Option (List ℕ)) → IsLast rem chunks → AreInputs d.site.place.sites (input_records (held_text chunks)) (flat ahead)
     → Takes (flat ahead) d d2 before after → IsSettled d2 → d2.answered ≤ limit
     → AnswersAllAhead limit rem chunks d [] before d2 after (record { records = d2.answered })
 done-last rem chunks limit d d2 ahead before after last parsed takes settled within first old input h =
@@ -130,7 +130,7 @@ done-last rem chunks limit d d2 ahead before after last parsed takes settled wit
     (stands-last rem chunks d ahead first old before input last parsed h))
 
 -- the first of them were taken, as many as were to be
-pub first-taken : {G : Type 0} (n : ℕ) (d mid d2 : Desk G) (ahead : List Stretch) (left : List Parsed) (before after : Option (List ℕ))
+pub first-taken : {G : Type 0} (n : ℕ) (d mid d2 : Desk G) (ahead : List Stretch) (left : List Input) (before after : Option (List ℕ))
     → HasTaken (flat ahead) d mid left before before → mid.answered ≡ d.answered + n → n < length (flat ahead) → Takes [] mid d2 before after
     → IsSettled d2 → AnswersFirstOf n d ahead d2 before after
 first-taken n d mid d2 ahead left before after h count more settles settled first start records later stands =
@@ -148,7 +148,7 @@ first-upto limit left d d2 ahead before after first start records later most ans
     subst (λ k. AnswersFirst k first d2.site start after records) most (answers first start records later stands)
 
 pub prefix-last : {R G : Type 0} (rem : R → Option (List ℕ)) (chunks : Chunks R) (d : Desk G) (ahead : List Stretch) (before after : Option (List ℕ))
-    → IsLast rem chunks → AreParsed d.site.place.sites (input_records (held_text chunks)) (flat ahead) → LeavesPrefix (flat ahead) d before after
+    → IsLast rem chunks → AreInputs d.site.place.sites (input_records (held_text chunks)) (flat ahead) → LeavesPrefix (flat ahead) d before after
     → WritesPrefixAhead rem chunks d [] before after
 prefix-last rem chunks d ahead before after last parsed front first old input h =
     front [] first old (input_records input) []
@@ -157,16 +157,16 @@ prefix-last rem chunks d ahead before after last parsed front first old input h 
 
 -- what was read of it
 pub read-last : {G : Type 0} (d : Desk G) (ahead list : List Stretch) (sites : ℕ) (text held : List ℕ) → sites ≡ d.site.place.sites → text ≡ held
-    → ahead ≡ list → AreParsed sites (input_records text) (flat list) → FitWindow d.plan.window list
-    → IsSound d ahead × AreParsed d.site.place.sites (input_records held) (flat ahead)
+    → ahead ≡ list → AreInputs sites (input_records text) (flat list) → FitWindow d.plan.window list
+    → IsSound d ahead × AreInputs d.site.place.sites (input_records held) (flat ahead)
 read-last d ahead list sites text held same shown is parsed fits =
     sound-read d d ahead list (input_records held) (refl, refl) is
-    (subst (λ t. AreParsed d.site.place.sites (input_records t) (flat list)) shown (subst (λ k. AreParsed k (input_records text) (flat list)) same parsed)) fits
+    (subst (λ t. AreInputs d.site.place.sites (input_records t) (flat list)) shown (subst (λ k. AreInputs k (input_records text) (flat list)) same parsed)) fits
 
 -- ---- a turn
 
-nothing-parsed : (sites : ℕ) (rows : List (List (List ℕ))) → AreParsed sites rows [] → rows ≡ []
-unfolding AreParsed
+nothing-parsed : (sites : ℕ) (rows : List (List (List ℕ))) → AreInputs sites rows [] → rows ≡ []
+unfolding AreInputs
 nothing-parsed sites [] h = refl
 nothing-parsed sites (fields ∷ rows) h = absurd h
 

@@ -2,8 +2,9 @@
 use Rattle.std.proofs.Common.{◌≡◌, ◌∙◌, ◌+◌, ◌++◌, ◌∷◌, [], ℕ, List, Option, ap, arith, refl, subst, sym}
 use Rattle.rubis_schema.specs.declared.listings.Listing.{Listing}
 use Rattle.rubis_message.specs.declared.requests.Request.TheVariants as request
-use Rattle.rubis_model.specs.Runs.{Input, input_of}
-use Rattle.rubis_model.specs.Runs.Input.{Asked}
+use Rattle.rubis_message.specs.Inputs.{input_of}
+use Rattle.rubis_message.specs.declared.inputs.Input.{Input}
+use Rattle.rubis_message.specs.declared.inputs.Input.TheVariants.{Asked}
 use Rattle.rubis_engine.specs.Accounts.{AnswersRecord, Keeps}
 use Rattle.rubis_engine.specs.Accounts.Ending.{AtEnd}
 use Rattle.rubis_engine.specs.declared.service.Course.TheVariants.{GoesOn}

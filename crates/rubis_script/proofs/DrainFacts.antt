@@ -4,8 +4,8 @@ use Rattle.std.specs.Io.KnownBytes.{Appends}
 use Rattle.rubis_schema.specs.declared.listings.Listing.{Listing}
 use Rattle.rubis_message.specs.Message.{Message}
 use Rattle.rubis_message.specs.declared.requests.Request.TheVariants as request
-use Rattle.rubis_model.specs.Runs.{input_of}
-use Rattle.rubis_model.specs.Runs.Input.{Asked}
+use Rattle.rubis_message.specs.Inputs.{input_of}
+use Rattle.rubis_message.specs.declared.inputs.Input.TheVariants.{Asked}
 use Rattle.rubis_replica.specs.State.{SiteState}
 use Rattle.rubis_engine.specs.Accounts.{Account, AnswersRecord, Keeps}
 use Rattle.rubis_engine.specs.Accounts.Ending.{AtEnd}
@@ -14,8 +14,8 @@ use Rattle.rubis_engine.specs.Adding.{more_written}
 use Rattle.rubis_engine.specs.Text.{rows_text}
 use Rattle.rubis_engine.specs.declared.service.Course.TheVariants.{GoesOn}
 use Rattle.rubis_reading.specs.Steps.{HasAhead}
-use Rattle.rubis_reading.specs.declared.parsed.Parsed.{Parsed}
-use Rattle.rubis_reading.specs.declared.parsed.Parsed.TheVariants as parsed
+use Rattle.rubis_message.specs.declared.inputs.Input.{Input}
+use Rattle.rubis_message.specs.declared.inputs.Input.TheVariants as input
 use Rattle.rubis_script.specs.Drains.{AnswersAnyOut, WritesFront, WritesFrontFrom, WritesFrontFromAny, WritesOff, listed_behind}
 use Rattle.rubis_script.specs.Headline.{StepsOn}
 use Rattle.rubis_script.specs.Inputs.{IsAnswered}
@@ -122,7 +122,7 @@ rows_end text sink rows now now2 none off =
 
 -- ---- a run that reads ahead
 
-ahead_part : (sites : ℕ) (ps : List Parsed) (all more : Account) (old now now2 : Option (List ℕ)) (sink left : List ℕ) (n : ℕ)
+ahead_part : (sites : ℕ) (ps : List Input) (all more : Account) (old now now2 : Option (List ℕ)) (sink left : List ℕ) (n : ℕ)
     (records later : List (List (List ℕ))) → WritesOff sink left now now2
     → HasAhead sites ps all more old now sink n records later → HasAhead sites ps all more old now2 left n records later
 ahead_part sites ps all more old now now2 sink left n records later off h = record {
@@ -139,7 +139,7 @@ ahead_part sites ps all more old now now2 sink left n records later off h = reco
   counted = h.counted;
 }
 
-pub stands_part : (s : SiteState) (ps : List Parsed) (w : List Message) (first : SiteState) (old now now2 : Option (List ℕ)) (sink left : List ℕ)
+pub stands_part : (s : SiteState) (ps : List Input) (w : List Message) (first : SiteState) (old now now2 : Option (List ℕ)) (sink left : List ℕ)
     (answered : ℕ) (records later : List (List (List ℕ))) → WritesOff sink left now now2
     → Stands s ps w sink answered first old now records later → Stands s ps w left answered first old now2 records later
 stands_part s ps w first old now now2 sink left answered records later off stands = record {
@@ -148,7 +148,7 @@ stands_part s ps w first old now now2 sink left answered records later off stand
 }
 
 -- the writer failed while what waited was written out
-pub stands_broken : (s : SiteState) (ps : List Parsed) (w : List Message) (first : SiteState) (old now now2 : Option (List ℕ)) (sink : List ℕ)
+pub stands_broken : (s : SiteState) (ps : List Input) (w : List Message) (first : SiteState) (old now now2 : Option (List ℕ)) (sink : List ℕ)
     (answered : ℕ) (records later : List (List (List ℕ))) → AppendsFront now now2 sink
     → Stands s ps w sink answered first old now records later → WrotePrefix ((told_by first 1).text AtEnd) old now2 records
 stands_broken s ps w first old now now2 sink answered records later front stands =
@@ -156,23 +156,23 @@ stands_broken s ps w first old now now2 sink answered records later front stands
     (stands_part s ps w first old now now2 sink front.1 answered records later (off_front sink now now2 front) stands)
 
 -- the listing that was asked for is answered
-pub stands_listed : (s s2 : SiteState) (rest : List Parsed) (l : Listing) (w w2 : List Message) (first : SiteState) (old now now2 : Option (List ℕ))
+pub stands_listed : (s s2 : SiteState) (rest : List Input) (l : Listing) (w w2 : List Message) (first : SiteState) (old now now2 : Option (List ℕ))
     (sink sink2 : List ℕ) (answered : ℕ) (records later : List (List (List ℕ)))
     → AnswersAnyOut (Asked (request.List l)) s w s2 w2 (answered + 1) sink sink2 now now2 → StepsOn (answered + 1) (Asked (request.List l)) s w s2 w2
     → Stands s (stopped_at (Some l) ++ rest) w sink answered first old now records later → Stands s2 rest w2 sink2 (answered + 1) first old now2 records later
 stands_listed s s2 rest l w w2 first old now now2 sink sink2 answered records later (text, answers, off) steps stands =
     stands_part s2 rest w2 first old now now2 text sink2 (answered + 1) records later off
-    (stands-answered s s2 (stopped_at (Some l) ++ rest) rest (parsed.Asked (request.List l)) w w2 first old now sink text answered records later refl answers
+    (stands-answered s s2 (stopped_at (Some l) ++ rest) rest (input.Asked (request.List l)) w w2 first old now sink text answered records later refl answers
     steps stands)
 
 -- memory ran out in the middle of it
-pub stands_front : (s : SiteState) (rest : List Parsed) (l : Listing) (w : List Message) (first : SiteState) (old now now2 : Option (List ℕ))
+pub stands_front : (s : SiteState) (rest : List Input) (l : Listing) (w : List Message) (first : SiteState) (old now now2 : Option (List ℕ))
     (sink : List ℕ) (answered : ℕ) (records later : List (List (List ℕ))) → WritesFrontFromAny (Asked (request.List l)) s w (answered + 1) sink now now2
     → Stands s (stopped_at (Some l) ++ rest) w sink answered first old now records later → WrotePrefix ((told_by first 1).text AtEnd) old now2 records
 stands_front s rest l w first old now now2 sink answered records later front stands =
     let h = stands.text in
     let all = told_by first 1 in
-    let (fields, more, rows, means) = first_read s.place.sites h.next (parsed.Asked (request.List l)) rest h.parsed in
+    let (fields, more, rows, means) = first_read s.place.sites h.next (input.Asked (request.List l)) rest h.parsed in
     let (after, off) = front fields means (more ++ later) in (
       h.written ++ off.out,
       after,

@@ -1,6 +1,6 @@
 -- What a run of one site says of it, worked out on two records: the token comes to site 1 of two sites, which then passes it back.
 use Rattle.std.proofs.Common.{◌≡◌, ◌∙◌, ◌++◌, ◌∷◌, [], ℕ, List, Option, Some, None, ap, arith, inl, inr, length, refl, sym, take}
-use Rattle.std.specs.Prelude.{is_some, Ok, Err, ⊤}
+use Rattle.std.specs.Prelude.{is_some, Ok, Err, codes, ⊤}
 use mathlib.Core.Bool.{true≢false}
 use Rattle.rubis_message.specs.Grammar.{IsPacket, packet_record, request_record}
 use Rattle.rubis_message.specs.declared.answers.Taken.TheVariants as taken
@@ -10,8 +10,9 @@ use Rattle.rubis_message.specs.declared.tokens.Packet.TheVariants as packet
 use Rattle.rubis_message.proofs.Records.{packet_is, request_is}
 use Rattle.rubis_model.specs.Answers.{passed_rows, took_rows}
 use Rattle.rubis_model.specs.Processes.{IsLogOfProcess, Reading, answers_of, site_after, state_of}
-use Rattle.rubis_model.specs.Runs.{answers, input_of, input_step}
-use Rattle.rubis_model.specs.Runs.Input.{Asked, Came}
+use Rattle.rubis_message.specs.Inputs.{input_of}
+use Rattle.rubis_model.specs.Runs.{answers, input_step}
+use Rattle.rubis_message.specs.declared.inputs.Input.TheVariants.{Asked, Came}
 use Rattle.rubis_model.specs.Site.{Place, Replica, opening_at}
 use Rattle.rubis_replica.specs.Progress.{resting_at}
 use Rattle.rubis_replica.specs.State.{SiteState}
@@ -20,8 +21,8 @@ use Rattle.rubis_engine.specs.declared.fault.Count.{Count}
 use Rattle.rubis_engine.specs.declared.fault.RunFault.TheVariants as fault
 use Rattle.rubis_engine.proofs.ReadBack.{HaveFields, HasNoMark, no_mark, rows_back}
 use Rattle.rubis_script.specs.Headline.{AnswersJust, HasAnswered, HasReadJust, OfRead, StandsAsProcess, WritesAsProcess}
+use Rattle.rubis_message.proofs.FirstWords.{asked_is, token_is as token_read}
 use Rattle.rubis_script.proofs.LeadFacts.{stands_as, writes_as}
-use Rattle.rubis_script.proofs.OneReading.{asked, came}
 
 abbrev token_to_one : Packet
 token_to_one = packet.Token (record { turn = 1; to = 1; issued = 0 })
@@ -62,11 +63,12 @@ token_is : input_of 2 token_comes ≡ Came token_to_one
 unfolding token_comes
 token_is =
     let within : IsPacket 2 token_to_one = record { turn = omega arith; to = omega arith; issued = omega arith } in
-    came 2 token_comes token_to_one (omega arith) refl ((packet_is 2 (omega arith) (omega arith) token_comes token_to_one).1 (within, refl))
+    let read = (packet_is 2 (omega arith) (omega arith) token_comes token_to_one).1 (within, refl) in
+    (token_read 2 (codes "token") _ token_comes (Some token_to_one) (omega arith) refl refl read).means
 
 pass_is : input_of 2 passes_back ≡ Asked (request.Pass 0)
 unfolding passes_back
-pass_is = asked 2 passes_back (request.Pass 0) ((request_is 2 (omega arith) passes_back (request.Pass 0)).1 (omega arith, refl))
+pass_is = (asked_is 2 passes_back (request.Pass 0) (omega arith) ((request_is 2 (omega arith) passes_back (request.Pass 0)).1 (omega arith, refl))).means
 
 first_led : site_after there (opening_at 1) 1 (token_comes ∷ []) ≡ holding.state
 first_led = λ i. (input_step there (opening_at 1) 1 (token_is i)).0

@@ -7,8 +7,10 @@ use Rattle.std.specs.Io.KnownBytes.{Appends}
 use Rattle.rubis_message.specs.Message.{Message}
 use Rattle.rubis_message.specs.declared.tokens.Packet.TheVariants.{Msg}
 use Rattle.rubis_model.specs.Processes.{process, site_after}
-use Rattle.rubis_model.specs.Runs.{Input, answers, input_of, input_step}
-use Rattle.rubis_model.specs.Runs.Input.{Came}
+use Rattle.rubis_message.specs.Inputs.{input_of}
+use Rattle.rubis_message.specs.declared.inputs.Input.{Input}
+use Rattle.rubis_model.specs.Runs.{answers, input_step}
+use Rattle.rubis_message.specs.declared.inputs.Input.TheVariants.{Came}
 use Rattle.rubis_model.specs.Site.{Place, Replica, arrived, opening_at}
 use Rattle.rubis_replica.specs.Arrivals.{TakesFirst, after_all}
 use Rattle.rubis_replica.specs.State.{SiteState}

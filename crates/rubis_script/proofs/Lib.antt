@@ -1,6 +1,5 @@
 pub mod LoopFacts
 pub mod SiteAnswers
-pub mod OneReading
 pub mod WindowFacts
 pub mod ReplayFacts
 pub mod HeadlineExamples

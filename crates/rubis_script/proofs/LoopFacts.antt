@@ -13,16 +13,17 @@ use Rattle.rubis_engine.specs.declared.service.Course.TheVariants.{GoesOn}
 use Rattle.rubis_message.specs.Message.{Message, sites_of}
 use Rattle.rubis_message.specs.declared.tokens.Packet.TheVariants.{Msg}
 use Rattle.rubis_reading.specs.Runs.{all_came, flat}
-use Rattle.rubis_reading.specs.declared.parsed.Stretch.{Stretch}
-use Rattle.rubis_reading.specs.declared.parsed.Parsed.TheVariants.{Came}
-use Rattle.rubis_model.specs.Runs.{answers, input_of}
+use Rattle.rubis_reading.specs.declared.stretches.Stretch.{Stretch}
+use Rattle.rubis_message.specs.declared.inputs.Input.TheVariants.{Came}
+use Rattle.rubis_message.specs.Inputs.{FitsIn, IsInput, input_of}
+use Rattle.rubis_model.specs.Runs.{answers}
 use Rattle.rubis_engine.specs.Text.{input_records}
 use Rattle.rubis_reading.specs.Chunked.{HasCome, HasPending}
 use Rattle.rubis_reading.specs.declared.chunks.Chunks.{Chunks}
-use Rattle.rubis_reading.specs.Parsed.{AreParsed, FitsIn, IsParsed, meant}
+use Rattle.rubis_reading.specs.Inputs.{AreInputs}
 use Rattle.rubis_reading.proofs.AheadFacts.{ahead-answered, ahead-done, ahead-kept, ahead-prefix, ahead-read, ahead-starts, ahead-too_long, ahead-written}
 use Rattle.rubis_reading.proofs.AheadFacts.{all-fit}
-use Rattle.rubis_reading.specs.declared.parsed.Parsed.{Parsed}
+use Rattle.rubis_message.specs.declared.inputs.Input.{Input}
 use Rattle.rubis_replica.specs.State.{SiteState}
 use Rattle.rubis_engine.specs.Accounts.Ending.{AtEnd, Cut}
 use Rattle.rubis_engine.specs.Progress.{WrotePrefix}
@@ -44,16 +45,16 @@ pub held-told : (s : SiteState) (window : List Message) (n : ℕ) → window ≡
 held-told s window n none one = rw (none, one) refl
 
 -- what a list was read from, as its reader and its owner name them
-pub fits-read : (sites s : ℕ) (rows : List (List (List ℕ))) (items list : List Parsed) → s ≡ sites → list ≡ items → AreParsed s rows items →
+pub fits-read : (sites s : ℕ) (rows : List (List (List ℕ))) (items list : List Input) → s ≡ sites → list ≡ items → AreInputs s rows items →
     All (λ p. FitsIn sites p) list
 fits-read sites s rows items list same is h =
-    subst (λ l. All (λ p. FitsIn sites p) l) (sym is) (all-fit sites rows items (subst (λ k. AreParsed k rows items) same h))
+    subst (λ l. All (λ p. FitsIn sites p) l) (sym is) (all-fit sites rows items (subst (λ k. AreInputs k rows items) same h))
 
-pub parsed-read : (sites s : ℕ) (text text2 : List ℕ) (items list : List Parsed) → s ≡ sites → text ≡ text2 → list ≡ items
-    → AreParsed s (input_records text) items → AreParsed sites (input_records text2) list
-parsed-read sites s text text2 items list same shown is h =
-    subst (λ l. AreParsed sites (input_records text2) l) (sym is)
-    (subst (λ t. AreParsed sites (input_records t) items) shown (subst (λ k. AreParsed k (input_records text) items) same h))
+pub inputs-read : (sites s : ℕ) (text text2 : List ℕ) (items list : List Input) → s ≡ sites → text ≡ text2 → list ≡ items
+    → AreInputs s (input_records text) items → AreInputs sites (input_records text2) list
+inputs-read sites s text text2 items list same shown is h =
+    subst (λ l. AreInputs sites (input_records text2) l) (sym is)
+    (subst (λ t. AreInputs sites (input_records t) items) shown (subst (λ k. AreInputs k (input_records text) items) same h))
 
 pub at_if_ok : {T E : Type 0} (P : T → Type 0) (r : Result T E) (v : T) → IfOk r P → r ≡ Ok v → P v
 at_if_ok P (Ok x) v h e = subst (λ o. IfOk o P) e h
@@ -76,27 +77,27 @@ starts rem chunks d ahead old input none fresh (pending, come) = record {
 
 -- ---- a step
 
-pub parsed-one : (sites : ℕ) (fields : List (List ℕ)) (p : Parsed) → IsParsed sites fields p → AreParsed sites (fields ∷ []) (p ∷ [])
-unfolding AreParsed
-parsed-one sites fields p read = (read, tt)
+pub inputs-one : (sites : ℕ) (fields : List (List ℕ)) (p : Input) → IsInput sites fields p → AreInputs sites (fields ∷ []) (p ∷ [])
+unfolding AreInputs
+inputs-one sites fields p read = (read, tt)
 
-pub first_read : (sites : ℕ) (rows : List (List (List ℕ))) (p : Parsed) (left : List Parsed) → AreParsed sites rows (p ∷ left)
-    → (fields : List (List ℕ)) × (more : List (List (List ℕ))) × (rows ≡ fields ∷ more) × (input_of sites fields ≡ meant p)
-unfolding AreParsed
+pub first_read : (sites : ℕ) (rows : List (List (List ℕ))) (p : Input) (left : List Input) → AreInputs sites rows (p ∷ left)
+    → (fields : List (List ℕ)) × (more : List (List (List ℕ))) × (rows ≡ fields ∷ more) × (input_of sites fields ≡ p)
+unfolding AreInputs
 first_read sites [] p left h = absurd h
 first_read sites (fields ∷ more) p left h = (fields, more, refl, h.0.means)
 
 -- one more is answered or held
-pub stands-answered : (s s2 : SiteState) (ps left : List Parsed) (p : Parsed) (w w2 : List Message) (first : SiteState) (old now : Option (List ℕ))
+pub stands-answered : (s s2 : SiteState) (ps left : List Input) (p : Input) (w w2 : List Message) (first : SiteState) (old now : Option (List ℕ))
     (sink sink2 : List ℕ)
     (answered : ℕ) (records later : List (List (List ℕ))) → ps ≡ p ∷ left
-    → ((fields : List (List ℕ)) → input_of s.place.sites fields ≡ meant p
+    → ((fields : List (List ℕ)) → input_of s.place.sites fields ≡ p
     → AnswersRecord GoesOn (held_by s w (answered + 1)) (held_by s2 w2 (answered + 1 + 1)) sink sink2 fields)
-    → StepsOn (answered + 1) (meant p) s w s2 w2
+    → StepsOn (answered + 1) p s w s2 w2
     → Stands s ps w sink answered first old now records later → Stands s2 left w2 sink2 (answered + 1) first old now records later
 stands-answered s s2 ps left p w w2 first old now sink sink2 answered records later e answers steps stands =
     let h = stands.text in
-    let (fields, more, rows, means) = first_read s.place.sites h.next p left (subst (λ l. AreParsed s.place.sites h.next l) e h.parsed) in
+    let (fields, more, rows, means) = first_read s.place.sites h.next p left (subst (λ l. AreInputs s.place.sites h.next l) e h.parsed) in
     let on : StepsOn (answered + 1) (input_of s.place.sites fields) s w s2 w2 = subst (λ i. StepsOn (answered + 1) i s w s2 w2) (sym means) steps in record {
       text = ahead-answered s.place.sites s2.place.sites ps left p (told_by first 1) (held_by s w (answered + 1))
           (held_by s2 w2 (answered + 1 + 1)) old now sink sink2 (answered + 1) records later
@@ -106,7 +107,7 @@ stands-answered s s2 ps left p w w2 first old now sink sink2 answered records la
     }
 
 -- messages that were held are taken in
-pub stands-kept : (s s2 : SiteState) (ps : List Parsed) (w w2 : List Message) (first : SiteState) (old now : Option (List ℕ)) (sink sink2 : List ℕ)
+pub stands-kept : (s s2 : SiteState) (ps : List Input) (w w2 : List Message) (first : SiteState) (old now : Option (List ℕ)) (sink sink2 : List ℕ)
     (answered : ℕ) (records later : List (List (List ℕ))) → Keeps (held_by s w (answered + 1)) (held_by s2 w2 (answered + 1)) sink sink2 → Settles s w s2 w2
     → Stands s ps w sink answered first old now records later → Stands s2 ps w2 sink2 answered first old now records later
 stands-kept s s2 ps w w2 first old now sink sink2 answered records later keeps settles stands = record {
@@ -117,7 +118,7 @@ stands-kept s s2 ps w w2 first old now sink sink2 answered records later keeps s
 }
 
 -- what waited was written out
-pub stands-written : (s : SiteState) (ps : List Parsed) (w : List Message) (first : SiteState) (old now now2 : Option (List ℕ)) (sink sink2 : List ℕ)
+pub stands-written : (s : SiteState) (ps : List Input) (w : List Message) (first : SiteState) (old now now2 : Option (List ℕ)) (sink sink2 : List ℕ)
     (answered : ℕ) (records later : List (List (List ℕ))) → Appends now now2 sink → sink2 ≡ []
     → Stands s ps w sink answered first old now records later → Stands s ps w sink2 answered first old now2 records later
 stands-written s ps w first old now now2 sink sink2 answered records later out none stands = record {
@@ -127,7 +128,7 @@ stands-written s ps w first old now now2 sink sink2 answered records later out n
 }
 
 -- what waited was written out, or waits on
-pub stands-waited : (s : SiteState) (ps : List Parsed) (w : List Message) (first : SiteState) (old now now2 : Option (List ℕ)) (sink sink2 : List ℕ)
+pub stands-waited : (s : SiteState) (ps : List Input) (w : List Message) (first : SiteState) (old now now2 : Option (List ℕ)) (sink sink2 : List ℕ)
     (answered : ℕ) (records later : List (List (List ℕ))) → IsWrittenOrWaits sink sink2 now now2
     → Stands s ps w sink answered first old now records later → Stands s ps w sink2 answered first old now2 records later
 stands-waited s ps w first old now now2 sink sink2 answered records later (inl (out, none)) stands =
@@ -135,8 +136,8 @@ stands-waited s ps w first old now now2 sink sink2 answered records later (inl (
 stands-waited s ps w first old now now2 sink sink2 answered records later (inr (same, waits)) stands = rw (same, waits) stands
 
 -- all that was read ahead was answered, and more was read
-pub stands-read : (s : SiteState) (ps list : List Parsed) (w : List Message) (first : SiteState) (old now : Option (List ℕ)) (sink : List ℕ)
-    (answered : ℕ) (records later rows rest : List (List (List ℕ))) → ps ≡ [] → later ≡ rows ++ rest → AreParsed s.place.sites rows list
+pub stands-read : (s : SiteState) (ps list : List Input) (w : List Message) (first : SiteState) (old now : Option (List ℕ)) (sink : List ℕ)
+    (answered : ℕ) (records later rows rest : List (List (List ℕ))) → ps ≡ [] → later ≡ rows ++ rest → AreInputs s.place.sites rows list
     → Stands s ps w sink answered first old now records later → Stands s list w sink answered first old now records rest
 stands-read s ps list w first old now sink answered records later rows rest none split parsed stands = record {
   text = ahead-read s.place.sites s.place.sites ps list (told_by first 1) (held_by s w (answered + 1)) old now sink
@@ -147,14 +148,14 @@ stands-read s ps list w first old now sink answered records later rows rest none
 -- ---- how it ends
 
 -- whatever happens next, a prefix of the text was written
-pub stands-prefix : (s : SiteState) (ps : List Parsed) (w : List Message) (first : SiteState) (old now now2 : Option (List ℕ)) (sink : List ℕ)
+pub stands-prefix : (s : SiteState) (ps : List Input) (w : List Message) (first : SiteState) (old now now2 : Option (List ℕ)) (sink : List ℕ)
     (answered : ℕ) (records later : List (List (List ℕ))) → now2 ≡ now → Stands s ps w sink answered first old now records later
     → WrotePrefix ((told_by first 1).text AtEnd) old now2 records
 stands-prefix s ps w first old now now2 sink answered records later same stands =
     ahead-prefix s.place.sites ps (told_by first 1) (held_by s w (answered + 1)) old now now2 sink (answered + 1) records later same stands.text
 
 -- all is answered
-pub stands-done : (s : SiteState) (ps : List Parsed) (w : List Message) (first : SiteState) (old now : Option (List ℕ)) (sink : List ℕ)
+pub stands-done : (s : SiteState) (ps : List Input) (w : List Message) (first : SiteState) (old now : Option (List ℕ)) (sink : List ℕ)
     (answered limit : ℕ) (records later : List (List (List ℕ))) → sink ≡ [] → w ≡ [] → ps ≡ [] → later ≡ [] → answered ≤ limit
     → Stands s ps w sink answered first old now records later → AnswersAll limit first s old now records answered
 stands-done s ps w first old now sink answered limit records later empty none ahead last within stands =
@@ -163,7 +164,7 @@ stands-done s ps w first old now sink answered limit records later empty none ah
     ((done.0, led_all first s w answered records records none (take_all records answered done.1) stands.led), done.1, done.2)
 
 -- as many as are taken were answered, and there are more
-pub stands-too_long : (s : SiteState) (ps : List Parsed) (w : List Message) (first : SiteState) (old now : Option (List ℕ)) (sink : List ℕ)
+pub stands-too_long : (s : SiteState) (ps : List Input) (w : List Message) (first : SiteState) (old now : Option (List ℕ)) (sink : List ℕ)
     (answered limit : ℕ) (records later : List (List (List ℕ))) → sink ≡ [] → w ≡ [] → 0 < length ps → answered ≡ limit
     → Stands s ps w sink answered first old now records later → AnswersFirst limit first s old now records
 stands-too_long s ps w first old now sink answered limit records later empty none some last stands =
@@ -172,7 +173,7 @@ stands-too_long s ps w first old now sink answered limit records later empty non
     ((long.0, led_all first s w answered records (take limit records) none (ap (λ k. take k records) last) stands.led), long.1)
 
 -- the run is cut short where nothing is held
-pub stands-cut : (s : SiteState) (ps : List Parsed) (w : List Message) (first : SiteState) (old now : Option (List ℕ)) (sink : List ℕ)
+pub stands-cut : (s : SiteState) (ps : List Input) (w : List Message) (first : SiteState) (old now : Option (List ℕ)) (sink : List ℕ)
     (answered : ℕ) (records later : List (List (List ℕ))) → sink ≡ [] → w ≡ []
     → Stands s ps w sink answered first old now records later → AnswersJust answered first s old now records
 stands-cut s ps w first old now sink answered records later empty none stands =
@@ -195,17 +196,17 @@ all-sites sites [] h k d lt = absurd (omega (arith, lt))
 all-sites sites (m ∷ ms) h zero d lt = (h zero (Came (Msg d)) (omega arith)).1
 all-sites sites (m ∷ ms) h (suc k) d lt = all-sites sites ms (λ j e l. h (suc j) e (omega (arith, l))) k d (omega (arith, lt))
 
-pub all-front : (sites : ℕ) (xs ys : List Parsed) → All (λ p. FitsIn sites p) (xs ++ ys) → All (λ p. FitsIn sites p) xs
+pub all-front : (sites : ℕ) (xs ys : List Input) → All (λ p. FitsIn sites p) (xs ++ ys) → All (λ p. FitsIn sites p) xs
 all-front sites [] ys h k d lt = absurd (omega (arith, lt))
 all-front sites (x ∷ xs) ys h zero d lt = h zero d (omega arith)
 all-front sites (x ∷ xs) ys h (suc k) d lt = all-front sites xs ys (λ j e l. h (suc j) e (omega (arith, l))) k d (omega (arith, lt))
 
-pub all-back : (sites : ℕ) (xs ys : List Parsed) → All (λ p. FitsIn sites p) (xs ++ ys) → All (λ p. FitsIn sites p) ys
+pub all-back : (sites : ℕ) (xs ys : List Input) → All (λ p. FitsIn sites p) (xs ++ ys) → All (λ p. FitsIn sites p) ys
 all-back sites [] ys h = h
 all-back sites (x ∷ xs) ys h = all-back sites xs ys (λ j e l. h (suc j) e (omega (arith, l)))
 
 -- they are held, after those that are
-holds-run : (s : SiteState) (ms w : List Message) (left : List Parsed) (first : SiteState) (old now : Option (List ℕ)) (sink : List ℕ) (answered : ℕ)
+holds-run : (s : SiteState) (ms w : List Message) (left : List Input) (first : SiteState) (old now : Option (List ℕ)) (sink : List ℕ) (answered : ℕ)
     (records later : List (List (List ℕ)))
     → length w ≤ answered + 1 → Stands s (all_came ms ++ left) w sink answered first old now records later
     → Stands s left (w ++ ms) sink (answered + length ms) first old now records later
@@ -216,14 +217,14 @@ holds-run s [] w left first old now sink answered records later few h =
 holds-run s (m ∷ ms) w left first old now sink answered records later few h =
     let rest = all_came ms ++ left in
     let one = stands-answered s s (Came (Msg m) ∷ rest) rest (Came (Msg m)) w (w ++ m ∷ []) first old now sink sink answered records later refl
-    (λ fields is. holds_more s (answered + 1) w m fields sink few is) (held_steps s (answered + 1) w m (meant (Came (Msg m))) refl) h in
+    (λ fields is. holds_more s (answered + 1) w m fields sink few is) (held_steps s (answered + 1) w m (Came (Msg m)) refl) h in
     let more = holds-run s ms (w ++ m ∷ []) left first old now sink (answered + 1) records later (omega (arith, few, length-append w (m ∷ []))) one in
     let number : answered + 1 + length ms ≡ answered + length (m ∷ ms) = omega arith in
     subst (λ k. Stands s left (w ++ (m ∷ ms)) sink k first old now records later) number
     (subst (λ v. Stands s left v sink (answered + 1 + length ms) first old now records later) (append_assoc w (m ∷ []) ms) more)
 
 -- those that were held were taken in, and these are held
-pub run-held : (old_site site : SiteState) (w w2 ms : List Message) (left : List Parsed) (first : SiteState) (old now : Option (List ℕ)) (sink sink2 : List ℕ)
+pub run-held : (old_site site : SiteState) (w w2 ms : List Message) (left : List Input) (first : SiteState) (old now : Option (List ℕ)) (sink sink2 : List ℕ)
     (answered many : ℕ)
     (records later : List (List (List ℕ))) → many ≡ length ms → Settles old_site w site w2 → w2 ≡ []
     → Keeps (held_by old_site w (answered + 1)) (told_by site (answered + 1)) sink sink2

@@ -1,6 +1,7 @@
 -- A site goes on where a replay left it.
 use Rattle.std.proofs.Common.{◌∙◌, ◌+◌, ◌++◌, ◌∷◌, [], ap, append_assoc, arith, length, sym}
-use Rattle.rubis_model.specs.Runs.{answers, input_of, input_step}
+use Rattle.rubis_message.specs.Inputs.{input_of}
+use Rattle.rubis_model.specs.Runs.{answers, input_step}
 use Rattle.rubis_script.specs.Replays.{ReplaysGoOn, after_records}
 
 pub replays_go_on : ReplaysGoOn

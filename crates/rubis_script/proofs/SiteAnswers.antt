@@ -8,8 +8,9 @@ use Rattle.rubis_message.specs.declared.answers.Arrival.{Arrival}
 use Rattle.rubis_message.specs.declared.answers.Arrival.TheVariants as arrival
 use Rattle.rubis_message.specs.declared.tokens.Packet.TheVariants.{Msg}
 use Rattle.rubis_model.specs.Answers.{arrived_rows}
-use Rattle.rubis_model.specs.Runs.{answers, input_of, input_step}
-use Rattle.rubis_model.specs.Runs.Input.{Came}
+use Rattle.rubis_message.specs.Inputs.{input_of}
+use Rattle.rubis_model.specs.Runs.{answers, input_step}
+use Rattle.rubis_message.specs.declared.inputs.Input.TheVariants.{Came}
 use Rattle.rubis_model.specs.Site.{Place, Replica, after_came, arrival_of, arrived, is_full, is_repeat, not_ours}
 use Rattle.rubis_replica.specs.State.{AnswersAsTheStep, SiteState}
 use Rattle.rubis_replica.specs.declared.faults.Fault.{Fault}

@@ -6,22 +6,22 @@ use Rattle.std.specs.Io.KnownBytes.{Appends}
 use Rattle.rubis_schema.specs.declared.listings.Listing.{Listing}
 use Rattle.rubis_message.specs.Message.{Message}
 use Rattle.rubis_message.specs.declared.requests.Request.TheVariants as request
-use Rattle.rubis_model.specs.Runs.Input.{Asked}
+use Rattle.rubis_message.specs.declared.inputs.Input.TheVariants.{Asked}
 use Rattle.rubis_replica.specs.State.{SiteState}
 use Rattle.rubis_engine.specs.Accounts.{AnswersRecord, Keeps}
 use Rattle.rubis_engine.specs.Progress.{AppendsFront}
 use Rattle.rubis_engine.specs.declared.service.Course.TheVariants.{GoesOn}
-use Rattle.rubis_reading.specs.Parsed.{FitsIn, IsParsed, meant}
+use Rattle.rubis_message.specs.Inputs.{FitsIn, IsInput}
 use Rattle.rubis_reading.proofs.RunFacts.{came-length}
 use Rattle.rubis_reading.specs.Runs.{FitWindow, FitsWindow, all_came, flat, of_stretch}
-use Rattle.rubis_reading.specs.declared.parsed.Parsed.{Parsed}
-use Rattle.rubis_reading.specs.declared.parsed.Stretch.{Stretch}
+use Rattle.rubis_message.specs.declared.inputs.Input.{Input}
+use Rattle.rubis_reading.specs.declared.stretches.Stretch.{Stretch}
 use Rattle.rubis_script.specs.Desks.{KeepsSetup, TakesHeld, TakesNext, WritesNext, WritesPrefixFrom, left_at}
 use Rattle.rubis_script.specs.Runs.{HasTaken, IsSound, LeavesPrefix, LeavesRecord, Stands, StandsAt, Takes, TakesAll, TakesRecord, stopped_at}
 use Rattle.rubis_script.specs.Windows.{held_by}
 use Rattle.rubis_script.specs.declared.desk.Desk.{Desk}
 use Rattle.rubis_script.proofs.DrainFacts.{stands_broken, stands_front, stands_listed}
-use Rattle.rubis_script.proofs.LoopFacts.{all-back, all-front, parsed-one, run-held, stands-answered, stands-kept, stands-prefix, stands-read, stands-written}
+use Rattle.rubis_script.proofs.LoopFacts.{all-back, all-front, inputs-one, run-held, stands-answered, stands-kept, stands-prefix, stands-read, stands-written}
 use Rattle.rubis_script.proofs.WindowFacts.{told-held}
 
 -- ---- it is set up as it was
@@ -55,7 +55,7 @@ sound-front d ahead left stretch parts h =
 pub takes-none : {G : Type 0} (d : Desk G) → TakesAll [] d d
 takes-none d now = record { setup = (refl, refl); count = omega arith; goes = λ left first start records later h. h }
 
-pub takes-more : {G : Type 0} (ps qs : List Parsed) (a b c : Desk G) (before mid after : Option (List ℕ)) → Takes ps a b before mid → Takes qs b c mid after
+pub takes-more : {G : Type 0} (ps qs : List Input) (a b c : Desk G) (before mid after : Option (List ℕ)) → Takes ps a b before mid → Takes qs b c mid after
     → Takes (ps ++ qs) a c before after
 takes-more ps qs a b c before mid after one two = record {
   setup = setup-on a b c one.setup two.setup;
@@ -66,41 +66,41 @@ takes-more ps qs a b c before mid after one two = record {
 }
 
 -- as they are named otherwise
-pub takes-same : {G : Type 0} (ps qs : List Parsed) (a b : Desk G) (before after : Option (List ℕ)) → ps ≡ qs → Takes ps a b before after
+pub takes-same : {G : Type 0} (ps qs : List Input) (a b : Desk G) (before after : Option (List ℕ)) → ps ≡ qs → Takes ps a b before after
     → Takes qs a b before after
 takes-same ps qs a b before after same h = subst (λ l. Takes l a b before after) same h
 
 -- some were taken, and then a prefix was written
-pub prefix-more : {G : Type 0} (ps qs : List Parsed) (a b : Desk G) (before mid after : Option (List ℕ)) → Takes ps a b before mid
+pub prefix-more : {G : Type 0} (ps qs : List Input) (a b : Desk G) (before mid after : Option (List ℕ)) → Takes ps a b before mid
     → LeavesPrefix qs b mid after → LeavesPrefix (ps ++ qs) a before after
 prefix-more ps qs a b before mid after one two left first start records later h =
     two left first start records later (one.goes (qs ++ left) first start records later
     (subst (λ l. StandsAt a l first start before records later) (append_assoc ps qs left) h))
 
-pub prefix-same : {G : Type 0} (ps qs : List Parsed) (d : Desk G) (before after : Option (List ℕ)) → ps ≡ qs → LeavesPrefix ps d before after
+pub prefix-same : {G : Type 0} (ps qs : List Input) (d : Desk G) (before after : Option (List ℕ)) → ps ≡ qs → LeavesPrefix ps d before after
     → LeavesPrefix qs d before after
 prefix-same ps qs d before after same h = subst (λ l. LeavesPrefix l d before after) same h
 
 -- nothing was written
-pub prefix-none : {G : Type 0} (ps : List Parsed) (d : Desk G) (before after : Option (List ℕ)) → after ≡ before → LeavesPrefix ps d before after
+pub prefix-none : {G : Type 0} (ps : List Input) (d : Desk G) (before after : Option (List ℕ)) → after ≡ before → LeavesPrefix ps d before after
 prefix-none ps d before after same left first start records later h =
     stands-prefix d.site (ps ++ left) d.window.items first start before after d.reply.sink d.answered records later same h
 
 -- all were taken, and nothing more was written
-pub prefix-after : {G : Type 0} (ps : List Parsed) (a b : Desk G) (before mid after : Option (List ℕ)) → Takes ps a b before mid → after ≡ mid
+pub prefix-after : {G : Type 0} (ps : List Input) (a b : Desk G) (before mid after : Option (List ℕ)) → Takes ps a b before mid → after ≡ mid
     → LeavesPrefix ps a before after
 prefix-after ps a b before mid after one same left first start records later h =
     stands-prefix b.site left b.window.items first start mid after b.reply.sink b.answered records later same (one.goes left first start records later h)
 
 -- all were taken, and then the writer failed while what waited was written out
-pub prefix-front : {G : Type 0} (ps : List Parsed) (a b : Desk G) (before mid after : Option (List ℕ)) → Takes ps a b before mid
+pub prefix-front : {G : Type 0} (ps : List Input) (a b : Desk G) (before mid after : Option (List ℕ)) → Takes ps a b before mid
     → AppendsFront mid after b.reply.sink → LeavesPrefix ps a before after
 prefix-front ps a b before mid after one front left first start records later h =
     stands_broken b.site left b.window.items first start mid after b.reply.sink b.answered records later front
     (one.goes left first start records later h)
 
 -- nothing else was read ahead
-pub takes-whole : {G : Type 0} (ps : List Parsed) (a b : Desk G) (before after : Option (List ℕ)) (first : SiteState) (start : Option (List ℕ))
+pub takes-whole : {G : Type 0} (ps : List Input) (a b : Desk G) (before after : Option (List ℕ)) (first : SiteState) (start : Option (List ℕ))
     (records later : List (List (List ℕ))) → Takes ps a b before after → StandsAt a ps first start before records later
     → StandsAt b [] first start after records later
 takes-whole ps a b before after first start records later one h =
@@ -108,10 +108,10 @@ takes-whole ps a b before after first start records later one h =
 
 -- ---- what was read ahead is taken stretch by stretch
 
-pub taken-none : {G : Type 0} (ps : List Parsed) (d : Desk G) (now : Option (List ℕ)) → HasTaken ps d d ps now now
+pub taken-none : {G : Type 0} (ps : List Input) (d : Desk G) (now : Option (List ℕ)) → HasTaken ps d d ps now now
 taken-none ps d now = record { took = []; parts = refl; takes = takes-none d now }
 
-pub taken-more : {G : Type 0} (ps left more : List Parsed) (qs : List Parsed) (a b c : Desk G) (before mid after : Option (List ℕ))
+pub taken-more : {G : Type 0} (ps left more : List Input) (qs : List Input) (a b c : Desk G) (before mid after : Option (List ℕ))
     → HasTaken ps a b left before mid → left ≡ qs ++ more → Takes qs b c mid after → HasTaken ps a c more before after
 taken-more ps left more qs a b c before mid after h split takes = record {
   took = h.took ++ qs;
@@ -120,25 +120,25 @@ taken-more ps left more qs a b c before mid after h split takes = record {
 }
 
 -- no more are left than there were
-pub taken-few : {G : Type 0} (ps left : List Parsed) (a b : Desk G) (before after : Option (List ℕ)) → HasTaken ps a b left before after
+pub taken-few : {G : Type 0} (ps left : List Input) (a b : Desk G) (before after : Option (List ℕ)) → HasTaken ps a b left before after
     → b.answered + length left ≡ a.answered + length ps
 taken-few ps left a b before after h =
     let long = ap length h.parts in
     omega (arith, h.takes.count, long, length-append h.took left)
 
 -- what is left, as it is named otherwise
-pub taken-same : {G : Type 0} (ps left more : List Parsed) (b a : Desk G) (before after : Option (List ℕ)) → left ≡ more → HasTaken ps a b left before after
+pub taken-same : {G : Type 0} (ps left more : List Input) (b a : Desk G) (before after : Option (List ℕ)) → left ≡ more → HasTaken ps a b left before after
     → HasTaken ps a b more before after
 taken-same ps left more b a before after same h = subst (λ l. HasTaken ps a b l before after) same h
 
 -- all were taken
-pub taken-all : {G : Type 0} (ps left : List Parsed) (a b : Desk G) (before after : Option (List ℕ)) → left ≡ [] → HasTaken ps a b left before after
+pub taken-all : {G : Type 0} (ps left : List Input) (a b : Desk G) (before after : Option (List ℕ)) → left ≡ [] → HasTaken ps a b left before after
     → Takes ps a b before after
 taken-all ps left a b before after none h =
     takes-same h.took ps a b before after (sym (append-nil h.took) ∙ ap (λ l. h.took ++ l) (sym none) ∙ sym h.parts) h.takes
 
 -- memory ran out then
-pub taken-prefix : {G : Type 0} (ps left qs more : List Parsed) (a b : Desk G) (before mid after : Option (List ℕ)) → HasTaken ps a b left before mid
+pub taken-prefix : {G : Type 0} (ps left qs more : List Input) (a b : Desk G) (before mid after : Option (List ℕ)) → HasTaken ps a b left before mid
     → left ≡ qs ++ more → LeavesPrefix qs b mid after → LeavesPrefix ps a before after
 taken-prefix ps left qs more a b before mid after h split front rest first start records later stands =
     front (more ++ rest) first start records later
@@ -148,7 +148,7 @@ taken-prefix ps left qs more a b before mid after h split front rest first start
 
 -- ---- what a call takes
 
-pub takes-next : {G : Type 0} (d d2 : Desk G) (p : Parsed) → KeepsSetup d d2 → TakesNext (meant p) d d2 → TakesAll (p ∷ []) d d2
+pub takes-next : {G : Type 0} (d d2 : Desk G) (p : Input) → KeepsSetup d d2 → TakesNext p d d2 → TakesAll (p ∷ []) d d2
 takes-next d d2 p setup h now = record {
   setup = setup;
   count = omega (arith, h.count);
@@ -222,14 +222,14 @@ takes-written d d2 before after site plan held count out empty = record {
 -- ---- a record that is answered where it was read
 
 -- it is as if it had been read ahead
-stands-one : {G : Type 0} (d : Desk G) (p : Parsed) (fields : List (List ℕ)) (first : SiteState) (start now : Option (List ℕ))
-    (records later : List (List (List ℕ))) → IsParsed d.site.place.sites fields p
+stands-one : {G : Type 0} (d : Desk G) (p : Input) (fields : List (List ℕ)) (first : SiteState) (start now : Option (List ℕ))
+    (records later : List (List (List ℕ))) → IsInput d.site.place.sites fields p
     → StandsAt d [] first start now records (fields ∷ later) → StandsAt d (p ∷ []) first start now records later
 stands-one d p fields first start now records later read stands =
     stands-read d.site [] (p ∷ []) d.window.items first start now d.reply.sink d.answered records (fields ∷ later) (fields ∷ []) later refl refl
-    (parsed-one d.site.place.sites fields p read) stands
+    (inputs-one d.site.place.sites fields p read) stands
 
-pub takes-record : {G : Type 0} (d d2 : Desk G) (p : Parsed) (fields : List (List ℕ)) (before after : Option (List ℕ)) → IsParsed d.site.place.sites fields p
+pub takes-record : {G : Type 0} (d d2 : Desk G) (p : Input) (fields : List (List ℕ)) (before after : Option (List ℕ)) → IsInput d.site.place.sites fields p
     → Takes (p ∷ []) d d2 before after → TakesRecord fields d d2 before after
 takes-record d d2 p fields before after read h = record {
   setup = h.setup;
@@ -238,7 +238,7 @@ takes-record d d2 p fields before after read h = record {
       h.goes [] first start records later (stands-one d p fields first start before records later read stands);
 }
 
-pub prefix-record : {G : Type 0} (d : Desk G) (p : Parsed) (fields : List (List ℕ)) (before after : Option (List ℕ)) → IsParsed d.site.place.sites fields p
+pub prefix-record : {G : Type 0} (d : Desk G) (p : Input) (fields : List (List ℕ)) (before after : Option (List ℕ)) → IsInput d.site.place.sites fields p
     → LeavesPrefix (p ∷ []) d before after → LeavesRecord fields d before after
 prefix-record d p fields before after read h first start records later stands =
     h [] first start records later (stands-one d p fields first start before records later read stands)

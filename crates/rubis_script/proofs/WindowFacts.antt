@@ -4,8 +4,9 @@ use Rattle.std.proofs.lemmas.List.{append-nil}
 use Rattle.rubis_message.specs.Message.{Message}
 use Rattle.rubis_message.specs.declared.tokens.Packet.TheVariants.{Msg}
 use Rattle.rubis_model.specs.Answers.{arrived_rows}
-use Rattle.rubis_model.specs.Runs.{answers, input_of, input_step}
-use Rattle.rubis_model.specs.Runs.Input.{Came}
+use Rattle.rubis_message.specs.Inputs.{input_of}
+use Rattle.rubis_model.specs.Runs.{answers, input_step}
+use Rattle.rubis_message.specs.declared.inputs.Input.TheVariants.{Came}
 use Rattle.rubis_model.specs.Site.{Place, Replica, arrived}
 use Rattle.rubis_replica.specs.Arrivals.{TakesFirst, after_all, answers_to}
 use Rattle.rubis_replica.specs.State.{SiteState}

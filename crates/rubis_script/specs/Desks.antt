@@ -1,6 +1,7 @@
 -- What a call does at the desk of a site.
 use Rattle.std.specs.Prelude.{◌≡◌, ◌+◌, [], ℕ, List, Option}
-use Rattle.rubis_model.specs.Runs.{Input, input_of}
+use Rattle.rubis_message.specs.Inputs.{input_of}
+use Rattle.rubis_message.specs.declared.inputs.Input.{Input}
 use Rattle.rubis_engine.specs.Accounts.{Account, AnswersRecord, Keeps}
 use Rattle.rubis_engine.specs.declared.service.Course.TheVariants.{GoesOn}
 use Rattle.rubis_script.specs.Drains.{AnswersAnyOut, WritesFrontFromAny}

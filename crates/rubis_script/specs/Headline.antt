@@ -3,7 +3,8 @@ use Rattle.std.specs.Prelude.{◌≡◌, ◌≤◌, ◌<◌, ℕ, ⊤, IfSome, L
 use Rattle.std.specs.Io.KnownBytes.{Appends}
 use Rattle.rubis_message.specs.Message.{Message}
 use Rattle.rubis_model.specs.Processes.{IsLogOfProcess, Reading, answers_of, read_by, site_after, state_of}
-use Rattle.rubis_model.specs.Runs.{Input, answers, input_step}
+use Rattle.rubis_message.specs.declared.inputs.Input.{Input}
+use Rattle.rubis_model.specs.Runs.{answers, input_step}
 use Rattle.rubis_model.specs.Site.{Place, Replica}
 use Rattle.rubis_replica.specs.Arrivals.{after_all}
 use Rattle.rubis_replica.specs.State.{SiteState}

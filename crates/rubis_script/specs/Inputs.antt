@@ -4,12 +4,13 @@ use Rattle.rubis_schema.specs.declared.refusals.Refusal.{Refusal}
 use Rattle.rubis_model.specs.Answers.{refused_row}
 use Rattle.rubis_replica.specs.declared.faults.Fault.{Fault}
 use Rattle.rubis_replica.specs.declared.faults.Fault.TheVariants.{Refused}
-use Rattle.rubis_model.specs.Runs.{Input as Meant, input_step}
+use Rattle.rubis_message.specs.declared.inputs.Input.{Input}
+use Rattle.rubis_model.specs.Runs.{input_step}
 use Rattle.rubis_replica.specs.State.{SiteState}
 use Rattle.rubis_engine.specs.Text.{rows_text}
 
 -- the site has come to what record n makes of it, and the text of its answers follows what stood before
-abbrev pub IsAnswered : ℕ → Meant → SiteState → SiteState → List ℕ → List ℕ → Type 0
+abbrev pub IsAnswered : ℕ → Input → SiteState → SiteState → List ℕ → List ℕ → Type 0
 IsAnswered n input old new before after =
     (new.state ≡ (input_step old.place old.state n input).0) × (after ≡ before ++ rows_text (input_step old.place old.state n input).1)
 

@@ -1,6 +1,7 @@
 -- A site that is built again by replaying its input.
 use Rattle.std.specs.Prelude.{◌≡◌, ◌+◌, ◌++◌, ◌∷◌, [], ℕ, List, length}
-use Rattle.rubis_model.specs.Runs.{answers, input_of, input_step}
+use Rattle.rubis_message.specs.Inputs.{input_of}
+use Rattle.rubis_model.specs.Runs.{answers, input_step}
 use Rattle.rubis_model.specs.Site.{Place, Replica}
 
 -- the site after these records, the first of which has number n

@@ -17,12 +17,12 @@ use Rattle.rubis_engine.specs.declared.fault.RunFault.{RunFault}
 use Rattle.rubis_engine.specs.declared.fault.RunFault.TheVariants.{Memory, Read, TooLong, Write}
 use Rattle.rubis_engine.specs.declared.record_list.Records.{Records}
 use Rattle.rubis_reading.specs.Chunked.{HasCome, HasPending, held_text}
-use Rattle.rubis_reading.specs.Parsed.{FitsIn}
+use Rattle.rubis_message.specs.Inputs.{FitsIn}
 use Rattle.rubis_reading.specs.Runs.{FitWindow, flat}
 use Rattle.rubis_reading.specs.Streams.{EndsNoRecord, IsWhole}
-use Rattle.rubis_reading.specs.declared.parsed.Parsed.{Parsed}
-use Rattle.rubis_reading.specs.declared.parsed.Parsed.TheVariants.{Asked}
-use Rattle.rubis_reading.specs.declared.parsed.Stretch.{Stretch}
+use Rattle.rubis_message.specs.declared.inputs.Input.{Input}
+use Rattle.rubis_message.specs.declared.inputs.Input.TheVariants.{Asked}
+use Rattle.rubis_reading.specs.declared.stretches.Stretch.{Stretch}
 use Rattle.rubis_reading.specs.declared.chunks.Chunks.{Chunks}
 use Rattle.rubis_replica.specs.State.{SiteState}
 use Rattle.rubis_reading.specs.Steps.{HasAhead}
@@ -34,52 +34,52 @@ pub record IsSound {G : Type 0} (d : Desk G) (ahead : List Stretch) : Type 0 whe
   pub windows : FitWindow d.plan.window ahead
 
 -- the run stands there, with these records to come later than those that were read ahead; `first` is the state in which it began
-pub record Stands (s : SiteState) (ahead : List Parsed) (held : List Message) (sink : List ℕ) (answered : ℕ) (first : SiteState) (old now : Option (List ℕ))
+pub record Stands (s : SiteState) (ahead : List Input) (held : List Message) (sink : List ℕ) (answered : ℕ) (first : SiteState) (old now : Option (List ℕ))
     (records later : List (List (List ℕ))) : Type 0 where
   pub text : HasAhead s.place.sites ahead (told_by first 1) (held_by s held (answered + 1)) old now sink (answered + 1) records later
   pub led : HasLed first s held answered records
 
-abbrev pub StandsAt : {G : Type 0} → Desk G → List Parsed → SiteState → Option (List ℕ) → Option (List ℕ) → List (List (List ℕ)) → List (List (List ℕ))
+abbrev pub StandsAt : {G : Type 0} → Desk G → List Input → SiteState → Option (List ℕ) → Option (List ℕ) → List (List (List ℕ)) → List (List (List ℕ))
     → Type 0
 StandsAt d ahead first old now records later = Stands d.site ahead d.window.items d.reply.sink d.answered first old now records later
 
 -- ---- records that were read ahead are taken
 
 -- these records, the next ones, were answered or are held, wherever the run stood: `before` was written then, and `after` is now
-pub record Takes {G : Type 0} (ps : List Parsed) (old new : Desk G) (before after : Option (List ℕ)) : Type 0 where
+pub record Takes {G : Type 0} (ps : List Input) (old new : Desk G) (before after : Option (List ℕ)) : Type 0 where
   pub setup : KeepsSetup old new
   pub count : new.answered ≡ old.answered + length ps
-  pub goes : (left : List Parsed) (first : SiteState) (start : Option (List ℕ)) (records later : List (List (List ℕ)))
+  pub goes : (left : List Input) (first : SiteState) (start : Option (List ℕ)) (records later : List (List (List ℕ)))
       → StandsAt old (ps ++ left) first start before records later → StandsAt new left first start after records later
 
 -- the same, with nothing written
-abbrev pub TakesAll : {G : Type 0} → List Parsed → Desk G → Desk G → Type 0
+abbrev pub TakesAll : {G : Type 0} → List Input → Desk G → Desk G → Type 0
 TakesAll ps old new = (now : Option (List ℕ)) → Takes ps old new now now
 
 -- of these records the first were taken, and those are left
-pub record HasTaken {G : Type 0} (ps : List Parsed) (old new : Desk G) (left : List Parsed) (before after : Option (List ℕ)) : Type 0 where
-  pub took : List Parsed
+pub record HasTaken {G : Type 0} (ps : List Input) (old new : Desk G) (left : List Input) (before after : Option (List ℕ)) : Type 0 where
+  pub took : List Input
   pub parts : ps ≡ took ++ left
   pub takes : Takes took old new before after
 
 -- the same, with nothing written
-abbrev pub TakesSome : {G : Type 0} → List Parsed → Desk G → Desk G → List Parsed → Type 0
+abbrev pub TakesSome : {G : Type 0} → List Input → Desk G → Desk G → List Input → Type 0
 TakesSome ps old new left = (now : Option (List ℕ)) → HasTaken ps old new left now now
 
 -- from before these records on, a prefix of the text was written
-abbrev pub LeavesPrefix : {G : Type 0} → List Parsed → Desk G → Option (List ℕ) → Option (List ℕ) → Type 0
-LeavesPrefix ps d before after = (left : List Parsed) (first : SiteState) (start : Option (List ℕ)) (records later : List (List (List ℕ)))
+abbrev pub LeavesPrefix : {G : Type 0} → List Input → Desk G → Option (List ℕ) → Option (List ℕ) → Type 0
+LeavesPrefix ps d before after = (left : List Input) (first : SiteState) (start : Option (List ℕ)) (records later : List (List (List ℕ)))
     → StandsAt d (ps ++ left) first start before records later → WrotePrefix ((told_by first 1).text AtEnd) start after records
 
 -- ---- a listing that is written out while it is made, at which reading and answering at once stops
 
 -- the request for that listing, if one was taken off the front of what was read ahead, and isn't answered
-abbrev pub stopped_at : Option Listing → List Parsed
+abbrev pub stopped_at : Option Listing → List Input
 stopped_at None = []
 stopped_at (Some l) = Asked (request.List l) ∷ []
 
 -- what is left of what was read ahead
-abbrev pub left_ahead : Option Listing → List Stretch → List Parsed
+abbrev pub left_ahead : Option Listing → List Stretch → List Input
 left_ahead l ahead = stopped_at l ++ flat ahead
 
 -- what was read ahead was taken, all of it or what is before that request

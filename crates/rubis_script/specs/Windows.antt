@@ -6,7 +6,7 @@ use Rattle.rubis_message.specs.declared.answers.Arrival.{Arrival}
 use Rattle.rubis_message.specs.declared.tokens.Packet.TheVariants.{Msg}
 use Rattle.rubis_model.specs.Answers.{arrived_rows}
 use Rattle.rubis_model.specs.Runs.{answers, input_step}
-use Rattle.rubis_model.specs.Runs.Input.{Came}
+use Rattle.rubis_message.specs.declared.inputs.Input.TheVariants.{Came}
 use Rattle.rubis_model.specs.Site.{Place, Replica, arrived}
 use Rattle.rubis_replica.specs.Arrivals.{after_all}
 use Rattle.rubis_replica.specs.State.{SiteState}

@@ -7,8 +7,7 @@ ghost use Rattle.rubis_script.specs.Runs.{LeavesRecord, OfEachPiece, OfEachYet, 
 use crate::answering::settle;
 use crate::desk::Desk;
 use rubis_engine::{InputRecord, Records, RunFault};
-use rubis_message::Request;
-use rubis_reading::Parsed;
+use rubis_message::{Input, Request};
 use rubis_replica::Gate;
 use std::alloc::Global;
 use std::io::{Read, Write};
@@ -29,7 +28,7 @@ fn answer_record<G: Gate, T: Threads + Wait + Sync, W: Write>(
 {
     let read = desk.read(fields)?;
     match read {
-        Parsed::Asked(Request::List(listing)) => desk.list_out(rt, &listing, writer),
+        Input::Asked(Request::List(listing)) => desk.list_out(rt, &listing, writer),
         other => Ok(desk.take_read(rt, other)?),
     }
 }

@@ -1,7 +1,7 @@
 //! The desk answers records that were read ahead.
 
 ghost use Rattle.std.specs.Prelude.{◌≡◌, ◌≤◌, ◌<◌, ◌+◌, ◌^◌, [], All, IfNone, IfOk, IfSome, OnOk, Some, length};
-ghost use Rattle.rubis_reading.specs.Parsed.{FitsIn};
+ghost use Rattle.rubis_message.specs.Inputs.{FitsIn};
 ghost use Rattle.rubis_reading.specs.Runs.{AreSingle, FitsWindow, flat, of_stretch};
 ghost use Rattle.rubis_script.specs.Desks.{IsSettled};
 ghost use Rattle.rubis_script.specs.Endings.{ByEnd};
@@ -9,8 +9,8 @@ ghost use Rattle.rubis_script.specs.Runs.{IsSound, LeavesPrefix, Takes, TakesAll
 
 use crate::desk::Desk;
 use rubis_engine::{OutOfMemory, RunFault};
-use rubis_message::Request;
-use rubis_reading::{Ahead, Parsed, Stretch};
+use rubis_message::{Input, Request};
+use rubis_reading::{Ahead, Stretch};
 use rubis_replica::Gate;
 use rubis_schema::Listing;
 use std::io::Write;
@@ -70,7 +70,7 @@ fn long_listing<G: Gate>(desk: &Desk<G>, stretch: &Stretch) -> Option<Listing>
     ensures { IfSome result (λ listing. of_stretch stretch.now ≡ stopped_at (Some listing)) }
 {
     match stretch {
-        Stretch::One(Parsed::Asked(Request::List(listing))) if desk.site.is_long(listing) => {
+        Stretch::One(Input::Asked(Request::List(listing))) if desk.site.is_long(listing) => {
             Some(*listing)
         }
         _ => None,

@@ -7,11 +7,10 @@ ghost use Rattle.rubis_message.specs.Message.{sites_of};
 ghost use Rattle.rubis_message.specs.declared.requests.Request.TheVariants as Request;
 ghost use Rattle.rubis_message.specs.declared.tokens.Packet.TheVariants as Packet;
 ghost use Rattle.rubis_model.specs.Answers.{refused_row};
-ghost use Rattle.rubis_model.specs.Runs.{input_of};
-ghost use Rattle.rubis_model.specs.Runs.Input.{Asked, Came};
+ghost use Rattle.rubis_message.specs.Inputs.{FitsIn, IsInput, input_of};
+ghost use Rattle.rubis_message.specs.declared.inputs.Input.TheVariants.{Asked, Came};
 ghost use Rattle.rubis_model.specs.Site.{opening_at};
 ghost use Rattle.rubis_replica.specs.Setup.{setup_place};
-ghost use Rattle.rubis_reading.specs.Parsed.{FitsIn, IsParsed, meant};
 ghost use Rattle.rubis_script.specs.Drains.{WritesFront, WritesOff, listed_behind};
 ghost use Rattle.rubis_script.specs.Inputs.{IsAnswered, IsRefusedBy};
 ghost use Rattle.rubis_script.specs.Endings.{ByEnd};
@@ -25,8 +24,7 @@ use crate::replies::{
 use crate::rows_out::write_rows;
 use crate::windows::{window_of, write_arrivals};
 use rubis_engine::{InputRecord, OutOfMemory, Reply, RunFault};
-use rubis_message::{Message, Packet, Request, Token};
-use rubis_reading::{Parsed, read_record};
+use rubis_message::{Input, Message, Packet, Request, Token, read_input};
 use rubis_replica::{Config, Fault, Free, Gate, Site};
 use rubis_schema::{Counted, Listing, Record, Refusal};
 use rubis_shadow::Ask;
@@ -148,16 +146,16 @@ fn answer<G: Gate, R: Threads + Wait + Sync>(
     rt: &R,
     site: &mut Site<G>,
     reply: &mut Reply,
-    read: Parsed,
+    read: Input,
 ) -> Result<(), OutOfMemory>
     requires { FitsIn site.old.place.sites read }
     ensures place { site.new.place ≡ site.old.place }
-    ensures answered { OnOk result (IsAnswered reply.old.number (meant read) site.old site.new reply.old.sink reply.new.sink) }
+    ensures answered { OnOk result (IsAnswered reply.old.number read site.old site.new reply.old.sink reply.new.sink) }
 {
     match read {
-        Parsed::Came(packet) => answer_packet(rt, site, reply, packet),
-        Parsed::Asked(request) => answer_request(rt, site, reply, request),
-        Parsed::Neither => refuse(reply, Refusal::BadRecord),
+        Input::Came(packet) => answer_packet(rt, site, reply, packet),
+        Input::Asked(request) => answer_request(rt, site, reply, request),
+        Input::Neither => refuse(reply, Refusal::BadRecord),
     }
 }
 
@@ -261,10 +259,10 @@ impl<G: Gate> Desk<G> {
 
     /// What a record is.
     #[inline(always)]
-    pub fn read(&self, fields: &InputRecord) -> Result<Parsed, OutOfMemory>
-        ensures { IfOk result (λ read. IsParsed self.now.site.place.sites fields.now read) }
+    pub fn read(&self, fields: &InputRecord) -> Result<Input, OutOfMemory>
+        ensures { IfOk result (λ read. IsInput self.now.site.place.sites fields.now read) }
     {
-        read_record(self.alloc, fields, self.sites)
+        Ok(read_input(self.alloc, fields, self.sites)?)
     }
 
     /// Answers a record.
@@ -355,15 +353,15 @@ impl<G: Gate> Desk<G> {
     pub fn take_read<R: Threads + Wait + Sync>(
         &mut self,
         rt: &R,
-        read: Parsed,
+        read: Input,
     ) -> Result<(), OutOfMemory>
         requires room { self.old.answered + 1 < 2 ^ 64 }
         requires fits { FitsIn self.old.site.place.sites read }
         ensures same { KeepsSetup self.old self.new }
-        ensures takes { OnOk result (TakesNext (meant read) self.old self.new) }
+        ensures takes { OnOk result (TakesNext read self.old self.new) }
     {
         match read {
-            Parsed::Came(Packet::Msg(message)) if self.together > 1 => self.hold_next(rt, message),
+            Input::Came(Packet::Msg(message)) if self.together > 1 => self.hold_next(rt, message),
             other => {
                 self.flush(rt)?;
                 self.reply.number = self.answered + 1;

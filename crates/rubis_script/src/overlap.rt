@@ -5,7 +5,7 @@ ghost use Rattle.std.specs.Thread.{IsSync};
 ghost use Rattle.rubis_schema.specs.declared.limits.TheConstants.{COUNTED_MAX};
 ghost use Rattle.rubis_script.specs.Runs.{IsSound, TakesUpTo};
 ghost use Rattle.rubis_engine.specs.Text.{input_records};
-ghost use Rattle.rubis_reading.specs.Parsed.{AreParsed};
+ghost use Rattle.rubis_reading.specs.Inputs.{AreInputs};
 ghost use Rattle.rubis_reading.specs.Runs.{FitWindow, flat};
 
 use crate::answering::answer_ready;
@@ -39,7 +39,7 @@ pub fn read_next<G: Gate, T: Threads + Wait + Sync>(
     requires sound { IsSound desk.old ahead.old }
     requires room { desk.old.answered + length (flat ahead.old) < 2 ^ 64 }
     ensures takes { IfOk result (λ overlapped. TakesUpTo overlapped.stopped desk.old ahead.old desk.new ahead.new) }
-    ensures read { IfOk result (λ overlapped. AreParsed desk.old.site.place.sites (input_records piece.now) (flat overlapped.read.items)
+    ensures read { IfOk result (λ overlapped. AreInputs desk.old.site.place.sites (input_records piece.now) (flat overlapped.read.items)
         × FitWindow desk.old.plan.window overlapped.read.items) }
 {
     let alloc = *desk.window.allocator();
@@ -54,7 +54,7 @@ pub fn read_next<G: Gate, T: Threads + Wait + Sync>(
         rt,
         &mut || -> Result<Vec<Stretch>, OutOfMemory>
             requires { IsSync T.row × (sites ≤ COUNTED_MAX) }
-            ensures { IfOk result (λ list. AreParsed sites (input_records piece.entry.now) (flat list.items) × FitWindow window list.items) }
+            ensures { IfOk result (λ list. AreInputs sites (input_records piece.entry.now) (flat list.items) × FitWindow window list.items) }
         { read_parts(rt, alloc, piece, sites, readers, window) },
         &mut || -> Result<Option<Listing>, OutOfMemory>
             requires { IsSync T.row × IsSound desk.now ahead.now × (desk.now.answered + length (flat ahead.now) < 2 ^ 64) }

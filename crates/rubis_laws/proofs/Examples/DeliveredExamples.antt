@@ -24,7 +24,8 @@ use Rattle.rubis_model.specs.Processes.{Carried, HasExactlySent, HasReadAll, IsS
 use Rattle.rubis_model.specs.Processes.{site_after, state_of}
 use Rattle.rubis_model.specs.Restarts.{AreReplayed, CarriedWithRestarts, Moment, recorded, state_since_start}
 use Rattle.rubis_model.specs.Restarts.Moment.{Reads, Replays, Restarts}
-use Rattle.rubis_model.specs.Runs.{answers, input_of, input_step, output_of, told}
+use Rattle.rubis_message.specs.Inputs.{input_of}
+use Rattle.rubis_model.specs.Runs.{answers, input_step, output_of, told}
 use Rattle.rubis_model.specs.Settle.{Has}
 use Rattle.rubis_model.specs.Site.{Replica, generating, opening_at, rows_at, standing_of}
 use Rattle.rubis_laws.proofs.Rows.FoldIsMeaning.{fold_is_meaning}

@@ -22,7 +22,8 @@ use Rattle.rubis_model.specs.Answers.{asked_rows, send_row}
 use Rattle.rubis_model.specs.Log.{cores, fold_of}
 use Rattle.rubis_model.specs.Meaning.{meaning_row}
 use Rattle.rubis_model.specs.Processes.{Carried, HasReadAll, KeepsAll, Reading, WasSent, answers_of, process, read_by, site_after, state_of}
-use Rattle.rubis_model.specs.Runs.{answers, input_of, input_step, output_of, told}
+use Rattle.rubis_message.specs.Inputs.{input_of}
+use Rattle.rubis_model.specs.Runs.{answers, input_step, output_of, told}
 use Rattle.rubis_model.specs.Settle.{Has}
 use Rattle.rubis_model.specs.Site.{Replica, generating, opening_at, rows_at, standing_of}
 use Rattle.rubis_laws.proofs.Examples.DeliveredExamples.{ann, carried_next, none_carried, rows_of_ann}

@@ -48,8 +48,10 @@ use Rattle.rubis_model.specs.Log.{Folded, cores, fold_of}
 use Rattle.rubis_model.specs.Processes.{AreProcesses, Carried, IsSent, ProcessesAreARun, Reading, WasSent, answers_of, process, read_by, site_after, state_of}
 use Rattle.rubis_model.specs.RebuildRecords.{IsWritten}
 use Rattle.rubis_model.specs.Restarts.{AnswersStay}
-use Rattle.rubis_model.specs.Runs.{Input, answers, input_by, input_of, input_step, listing_rows, output_of, told}
-use Rattle.rubis_model.specs.Runs.Input.{Asked, Came, Neither}
+use Rattle.rubis_message.specs.Inputs.{input_by, input_of}
+use Rattle.rubis_message.specs.declared.inputs.Input.{Input}
+use Rattle.rubis_model.specs.Runs.{answers, input_step, listing_rows, output_of, told}
+use Rattle.rubis_message.specs.declared.inputs.Input.TheVariants.{Asked, Came, Neither}
 use Rattle.rubis_model.specs.Settle.{Has}
 use Rattle.rubis_model.specs.Site.{Place, Replica, after_came, arrival_of, arrived, asked, generating, is_full, is_repeat, not_ours, opening_at, passed}
 use Rattle.rubis_model.specs.Site.{rows_at, standing_of, took}

@@ -8,7 +8,8 @@ use Rattle.rubis_model.specs.Processes.{process, read_by}
 use Rattle.rubis_model.specs.Restarts.{AreReplayed, CarriedWithRestarts, IsLevel, IsShortened, Moment, NewRecordsAreRead, Replayed, WasEverSent, has_read}
 use Rattle.rubis_model.specs.Restarts.{recorded}
 use Rattle.rubis_model.specs.Restarts.Moment.{Reads, Restarts, Replays}
-use Rattle.rubis_model.specs.Runs.{input_of, input_step}
+use Rattle.rubis_message.specs.Inputs.{input_of}
+use Rattle.rubis_model.specs.Runs.{input_step}
 use Rattle.rubis_model.specs.Site.{Place, Replica, opening_at}
 use Rattle.rubis_laws.proofs.Processes.AreARun.{is_itself, is_other, read_more}
 use Rattle.rubis_laws.proofs.Processes.Restarts.{read_on_more, recorded_more, split_append}

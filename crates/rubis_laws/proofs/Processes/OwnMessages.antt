@@ -27,7 +27,8 @@ use Rattle.rubis_model.specs.Answers.{arrived_rows, asked_rows, listed_rows, pas
 use Rattle.rubis_model.specs.Laws.{InOrder}
 use Rattle.rubis_model.specs.Log.{cores, fold_of}
 use Rattle.rubis_model.specs.Processes.{AreProcesses, Carried, ProcessesKnowTheirOwn, Reading, WasSent, answers_of, process, state_of}
-use Rattle.rubis_model.specs.Runs.{answers, input_by, input_step, listing_rows}
+use Rattle.rubis_message.specs.Inputs.{input_by}
+use Rattle.rubis_model.specs.Runs.{answers, input_step, listing_rows}
 use Rattle.rubis_model.specs.Settle.{Has}
 use Rattle.rubis_model.specs.Site.{Place, Replica, arrived, generating, passing, rows_at, standing_of, took, token_for}
 use Rattle.rubis_model.specs.System.{World, run, start}

@@ -23,8 +23,10 @@ use Rattle.rubis_model.specs.Logs.{Log}
 use Rattle.rubis_model.specs.Laws.{InRun, IsLogOf, Sent, WasLogOf}
 use Rattle.rubis_model.specs.Processes.{AreProcesses, IsLogOfProcess, IsSentMessage, ProcessesAgree, ProcessesAgreeOnTables, ProcessesAreInRun}
 use Rattle.rubis_model.specs.Processes.{ProcessesKeepInvariants, Reading, WasLogOfProcess, process, read_by, site_after, state_of}
-use Rattle.rubis_model.specs.Runs.{Input, input_of, input_step}
-use Rattle.rubis_model.specs.Runs.Input.{Asked, Came, Neither}
+use Rattle.rubis_message.specs.Inputs.{input_of}
+use Rattle.rubis_message.specs.declared.inputs.Input.{Input}
+use Rattle.rubis_model.specs.Runs.{input_step}
+use Rattle.rubis_message.specs.declared.inputs.Input.TheVariants.{Asked, Came, Neither}
 use Rattle.rubis_model.specs.Settle.{Has, first_ready, settle}
 use Rattle.rubis_model.specs.Site.{Place, Replica, arrived, generating, is_full, is_repeat, made, not_ours, opening_at, passing, rows_at, settled, standing_of}
 use Rattle.rubis_model.specs.Site.{took}

@@ -24,8 +24,10 @@ use Rattle.rubis_model.specs.Log.{cores, fold_of}
 use Rattle.rubis_model.specs.Processes.{Carried, HasExactlySent, HasReadAll, KeepsAll, ProcessesConverge, Reading, WasSent, answers_of, process, read_by}
 use Rattle.rubis_model.specs.Processes.{state_of}
 use Rattle.rubis_model.specs.Restarts.{IsLevel, Moment, RestartedConverge, has_read, recorded, state_since_start}
-use Rattle.rubis_model.specs.Runs.{Input, input_by, input_of, input_step, output_of}
-use Rattle.rubis_model.specs.Runs.Input.{Asked, Came, Neither}
+use Rattle.rubis_message.specs.Inputs.{input_by, input_of}
+use Rattle.rubis_message.specs.declared.inputs.Input.{Input}
+use Rattle.rubis_model.specs.Runs.{input_step, output_of}
+use Rattle.rubis_message.specs.declared.inputs.Input.TheVariants.{Asked, Came, Neither}
 use Rattle.rubis_model.specs.Settle.{Has}
 use Rattle.rubis_model.specs.Site.{Place, Replica, arrived, generating, issued_after, made, opening_at, passing, rows_at, standing_of}
 use Rattle.rubis_model.specs.Sound.{Sound}

@@ -15,8 +15,10 @@ use Rattle.rubis_model.specs.Restarts.{AreReplayed, CarriedWithRestarts, IsShort
 use Rattle.rubis_model.specs.Restarts.{RecordingsReplay, Replayed, RestartedAgree, RestartsChangeNothing, WasEverSent, has_read, read_on, recorded}
 use Rattle.rubis_model.specs.Restarts.{restarted_on, without_restarts}
 use Rattle.rubis_model.specs.Restarts.Moment.{Reads, Replays, Restarts}
-use Rattle.rubis_model.specs.Runs.{Input, answers, input_of, input_step, output_of}
-use Rattle.rubis_model.specs.Runs.Input.{Asked, Came, Neither}
+use Rattle.rubis_message.specs.Inputs.{input_of}
+use Rattle.rubis_message.specs.declared.inputs.Input.{Input}
+use Rattle.rubis_model.specs.Runs.{answers, input_step, output_of}
+use Rattle.rubis_message.specs.declared.inputs.Input.TheVariants.{Asked, Came, Neither}
 use Rattle.rubis_model.specs.Settle.{Has}
 use Rattle.rubis_model.specs.Site.{Place, Replica, arrived, asked, opening_at, passed, took}
 use Rattle.rubis_model.proofs.Lists.{has_append, has_left, has_right}

@@ -12,8 +12,9 @@ use Rattle.rubis_message.specs.declared.tokens.Token.{Token}
 use Rattle.rubis_model.specs.Arrivals.{after_all}
 use Rattle.rubis_model.specs.Rebuild.{InputsRebuild, after_inputs, ask_of, holding, inputs_before, inputs_for, inputs_to_rebuild, is_lacking, lacking}
 use Rattle.rubis_model.specs.Rebuild.{next_token, prepared, sent_again, sent_on, sent_on_inputs, token_as, token_before, with_token}
-use Rattle.rubis_model.specs.Runs.{Input, input_step}
-use Rattle.rubis_model.specs.Runs.Input.{Asked, Came}
+use Rattle.rubis_message.specs.declared.inputs.Input.{Input}
+use Rattle.rubis_model.specs.Runs.{input_step}
+use Rattle.rubis_message.specs.declared.inputs.Input.TheVariants.{Asked, Came}
 use Rattle.rubis_model.specs.Settle.{Has}
 use Rattle.rubis_model.specs.Site.{Place, Replica, arrived}
 use Rattle.rubis_model.proofs.Lists.{has_append}

@@ -39,8 +39,10 @@ use Rattle.rubis_model.specs.Rebuild.{Concerns, after_inputs, ask_of, inputs_bef
 use Rattle.rubis_model.specs.Rebuild.{sent_again, sent_by, sent_here, sent_on, sent_on_inputs, token_as, token_before}
 use Rattle.rubis_model.specs.RebuildRecords.{AreWritten, RecordsRebuild, input_record, is_send}
 use Rattle.rubis_model.specs.References.{IsMadeBy, Preceded}
-use Rattle.rubis_model.specs.Runs.{Input, answers, input_by, input_of, input_step}
-use Rattle.rubis_model.specs.Runs.Input.{Asked, Came, Neither}
+use Rattle.rubis_message.specs.Inputs.{input_by, input_of}
+use Rattle.rubis_message.specs.declared.inputs.Input.{Input}
+use Rattle.rubis_model.specs.Runs.{answers, input_step}
+use Rattle.rubis_message.specs.declared.inputs.Input.TheVariants.{Asked, Came, Neither}
 use Rattle.rubis_model.specs.Settle.{Has}
 use Rattle.rubis_model.specs.Site.{Place, Replica, arrived, asked, generating, opening_at, passed, rows_at, standing_of, took}
 use Rattle.rubis_model.specs.Arrivals.{after_all}

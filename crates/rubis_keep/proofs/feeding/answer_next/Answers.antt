@@ -1,7 +1,7 @@
 use Rattle.std.proofs.Common.{◌≡◌, ◌∙◌, ◌+◌, ap, false, refl, subst, sym, true}
 use Rattle.rubis_engine.proofs.RunFacts.{takes-at}
 use Rattle.rubis_engine.specs.Reading.{fields_now}
-use Rattle.rubis_model.specs.Runs.{input_of}
+use Rattle.rubis_message.specs.Inputs.{input_of}
 use Rattle.rubis_script.specs.Desks.{left_at}
 use Rattle.rubis_script.specs.Headline.{StepsOn}
 use Rattle.rubis_keep.proofs.AskFacts.{steps-settle}

@@ -1,4 +1,4 @@
-use Rattle.std.proofs.Common.{◌-◌, ◌∷◌, ◌++◌, length, arith, ap, ◌∙◌, decimal, get_or}
+use Rattle.std.proofs.Common.{◌-◌, ◌++◌, length, arith, ap, ◌∙◌, decimal}
 use Rattle.rubis_message.proofs.Counts.{plain_both, text_more}
 use Rattle.rubis_message.proofs.stamps.push_deps.Goals as goal
 use Rattle.rubis_message.proofs.stamps.push_deps.Goals.{then-site-sites, else-site-sites}

@@ -3,8 +3,8 @@ use Rattle.std.proofs.lemmas.Result.{on_ok_weaker}
 use Rattle.std.specs.Vec.Iter.{into_iter_items}
 use Rattle.rubis_message.specs.declared.tokens.Packet.TheVariants.{Msg}
 use Rattle.rubis_reading.specs.Runs.{AreSingle, all_came, flat}
-use Rattle.rubis_reading.specs.declared.parsed.Parsed.TheVariants.{Came}
-use Rattle.rubis_reading.specs.declared.parsed.Stretch.TheVariants.{One}
+use Rattle.rubis_message.specs.declared.inputs.Input.TheVariants.{Came}
+use Rattle.rubis_reading.specs.declared.stretches.Stretch.TheVariants.{One}
 use Rattle.rubis_reading.proofs.RunFacts.{singles-more}
 use Rattle.rubis_reading.proofs.ahead.add_singles.Goals as goal
 

@@ -3,7 +3,7 @@ use Rattle.rubis_reading.proofs.RunFacts.{flat-both, window-both}
 use Rattle.std.proofs.Common.{◌∙◌, ap, ◌<◌, arith, subst, sym, length, ◌/◌}
 use Rattle.std.specs.Prelude.{IfOk}
 use Rattle.rubis_engine.specs.Text.{input_records}
-use Rattle.rubis_reading.specs.Parsed.{AreParsed}
+use Rattle.rubis_reading.specs.Inputs.{AreInputs}
 use Rattle.rubis_reading.proofs.PartFacts.{parts-read}
 use Rattle.rubis_reading.proofs.parts.+fn-read_parts-join+arg3+read_parts.Goals as goal
 
@@ -12,10 +12,10 @@ returns-clause-parsed g t c =
     let cut = c.whole_end-cut.result in
     let some : 0 < cut = omega (arith, c.if-cut-lt2.false) in
     let first = subst (λ r. IfOk r
-    (λ list. AreParsed c.args.sites (input_records c.split_at.result.0.now) (flat list.items) × FitWindow c.args.window list.items)) c.in_ok-list.was
+    (λ list. AreInputs c.args.sites (input_records c.split_at.result.0.now) (flat list.items) × FitWindow c.args.window list.items)) c.in_ok-list.was
     c.join-first.ensures.first in
     let others = subst (λ r. IfOk r
-    (λ list. AreParsed c.args.sites (input_records c.split_at-2.result.1.now) (flat list.items) × FitWindow c.args.window list.items)) c.in_ok-others.was
+    (λ list. AreInputs c.args.sites (input_records c.split_at-2.result.1.now) (flat list.items) × FitWindow c.args.window list.items)) c.in_ok-others.was
     c.join-first.ensures.second in
     let is = c.in_ok-append.ensures.items in
     parts-read c.args.sites cut (length c.args.piece.now / c.args.readers) c.args.piece.now c.split_at.result.0.now c.split_at-2.result.1.now
@@ -26,10 +26,10 @@ returns-clause-parsed g t c =
 pub returns-clause-window : goal.returns-clause-window
 returns-clause-window g t c =
     let first = subst (λ r. IfOk r
-    (λ list. AreParsed c.args.sites (input_records c.split_at.result.0.now) (flat list.items) × FitWindow c.args.window list.items)) c.in_ok-list.was
+    (λ list. AreInputs c.args.sites (input_records c.split_at.result.0.now) (flat list.items) × FitWindow c.args.window list.items)) c.in_ok-list.was
     c.join-first.ensures.first in
     let others = subst (λ r. IfOk r
-    (λ list. AreParsed c.args.sites (input_records c.split_at-2.result.1.now) (flat list.items) × FitWindow c.args.window list.items)) c.in_ok-others.was
+    (λ list. AreInputs c.args.sites (input_records c.split_at-2.result.1.now) (flat list.items) × FitWindow c.args.window list.items)) c.in_ok-others.was
     c.join-first.ensures.second in
     let is = c.in_ok-append.ensures.items in
     subst (λ l. FitWindow c.args.window l) (sym is)

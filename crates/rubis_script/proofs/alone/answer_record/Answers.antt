@@ -1,7 +1,7 @@
 use Rattle.std.proofs.Common.{◌≡◌, refl, rules, subst}
 use Rattle.rubis_message.specs.declared.requests.Request.TheVariants as request
-use Rattle.rubis_reading.specs.Parsed.{IsParsed}
-use Rattle.rubis_reading.specs.declared.parsed.Parsed.TheVariants as parsed
+use Rattle.rubis_message.specs.Inputs.{IsInput}
+use Rattle.rubis_message.specs.declared.inputs.Input.TheVariants as input
 use Rattle.rubis_script.proofs.EndFacts.{ends_memory, ends_so}
 use Rattle.rubis_script.proofs.StepFacts.{prefix-listed, prefix-record, record-none, takes-listed, takes-next, takes-record}
 use Rattle.rubis_script.proofs.alone.answer_record.Goals as goal
@@ -25,9 +25,9 @@ pub returns-in-Asked-List : goal.returns-in-Asked-List
 returns-in-Asked-List g c =
     let d = c.args.desk.now in
     let d2 = c.list_out.new.self in
-    let whole : c.in_ok-read.read ≡ parsed.Asked (request.List c.in-Asked-List.listing) = search rules in
-    let read = subst (λ p. IsParsed d.site.place.sites c.args.fields.now p) whole c.in_ok-read.ensures in
-    let p = parsed.Asked (request.List c.in-Asked-List.listing) in
+    let whole : c.in_ok-read.read ≡ input.Asked (request.List c.in-Asked-List.listing) = search rules in
+    let read = subst (λ p. IsInput d.site.place.sites c.args.fields.now p) whole c.in_ok-read.ensures in
+    let p = input.Asked (request.List c.in-Asked-List.listing) in
     ends_so c.list_out.result
     (λ v next. takes-record d d2 p c.args.fields.now _ _ read (takes-listed d d2 c.in-Asked-List.listing _ _ c.list_out.ensures.same next)) absurd absurd
     (λ front. prefix-record d p c.args.fields.now _ _ read (prefix-listed d c.in-Asked-List.listing _ _ front)) c.list_out.ensures.listed

@@ -1,5 +1,5 @@
 use Rattle.std.proofs.Common.{◌≡◌, ◌∙◌, ◌+◌, ◌++◌, ◌∷◌, [], None, All, ap, arith, subst, zero}
-use Rattle.rubis_reading.specs.Parsed.{FitsIn}
+use Rattle.rubis_message.specs.Inputs.{FitsIn}
 use Rattle.rubis_reading.specs.Runs.{AreSingle, flat, of_stretch}
 use Rattle.rubis_script.proofs.StepFacts.{sound-front, sound-kept, taken-more, taken-none, takes-next}
 use Rattle.rubis_script.proofs.answering.answer_first.Goals as goal

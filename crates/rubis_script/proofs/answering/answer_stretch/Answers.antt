@@ -1,6 +1,6 @@
 use Rattle.std.proofs.Common.{◌≡◌, ◌∙◌, ◌≤◌, All, ap, arith, length, refl, subst, sym}
 use Rattle.rubis_message.specs.Message.{sites_of}
-use Rattle.rubis_reading.specs.Parsed.{FitsIn}
+use Rattle.rubis_message.specs.Inputs.{FitsIn}
 use Rattle.rubis_script.proofs.LoopFacts.{all-sites}
 use Rattle.std.proofs.lemmas.Result.{on_ok_weaker}
 use Rattle.rubis_reading.specs.Runs.{FitsWindow, of_stretch}

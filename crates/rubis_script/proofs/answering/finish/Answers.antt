@@ -1,6 +1,6 @@
 use Rattle.std.proofs.Common.{◌≡◌, ◌∙◌, ◌+◌, ◌++◌, [], None, Some, ap, arith, length, length-append, refl, rules}
 use Rattle.rubis_reading.specs.Runs.{flat}
-use Rattle.rubis_reading.specs.declared.parsed.Parsed.{Parsed}
+use Rattle.rubis_message.specs.declared.inputs.Input.{Input}
 use Rattle.rubis_script.specs.Runs.{left_ahead, stopped_at}
 use Rattle.rubis_engine.proofs.RunFacts.{if_none}
 use Rattle.rubis_script.proofs.EndFacts.{ends_memory, ends_on}
@@ -55,7 +55,7 @@ listings-smaller g c =
     let one : length (left_ahead c.listings.next c.listings.ahead) ≡ length (flat c.listings.ahead) + 1 =
     ap (λ n. length (left_ahead n c.listings.ahead)) c.in-Some.is ∙ omega arith in
     let long = ap length rest.parts in
-    omega (arith, one, long, length-append {A = Parsed})
+    omega (arith, one, long, length-append {A = Input})
 
 pub returns : goal.returns
 returns g c =

@@ -1,6 +1,6 @@
 use Rattle.std.proofs.Common.{subst, sym}
 use Rattle.std.proofs.lemmas.Result.{on_ok_weaker}
-use Rattle.rubis_model.specs.Runs.Input.{Came}
+use Rattle.rubis_message.specs.declared.inputs.Input.TheVariants.{Came}
 use Rattle.rubis_script.specs.Inputs.{IsAnswered}
 use Rattle.rubis_script.proofs.SiteAnswers.{arrived_refused}
 use Rattle.rubis_script.proofs.desk.answer_packet.Goals as goal

@@ -1,7 +1,7 @@
 use Rattle.std.proofs.Common.{◌≡◌, ◌∙◌, [], append-nil, ap, arith, refl, subst, sym, take}
 use Rattle.rubis_engine.specs.Text.{input_records}
 use Rattle.rubis_reading.specs.Chunked.{held_text}
-use Rattle.rubis_reading.specs.Parsed.{AreParsed}
+use Rattle.rubis_reading.specs.Inputs.{AreInputs}
 use Rattle.rubis_reading.specs.Runs.{flat}
 use Rattle.rubis_script.proofs.ChunkFacts.{prefix-ahead, prefix-stays, reads-chunk, sound-read}
 use Rattle.rubis_script.proofs.EndFacts.{ends_memory, ends_on}
@@ -47,7 +47,7 @@ returns g c =
     (taken-more _ _ [] _ d c.read_next.new.desk d2 now now _ (c.in_ok-overlapped.ensures.takes.taken now) (sym (append-nil _)) c.in_ok-finish.ensures.0) in
     let (read, fits) = c.in_ok-overlapped.ensures.read in
     let (sound, parsed) = sound-read d d2 c.in_ok-ahead.field-0 c.in_ok-overlapped.overlapped.read.items (input_records chunk) all.setup c.in_ok-ahead.ensures
-    (subst (λ t. AreParsed d.site.place.sites (input_records t) (flat c.in_ok-overlapped.overlapped.read.items)) piece read) fits in (
+    (subst (λ t. AreInputs d.site.place.sites (input_records t) (flat c.in_ok-overlapped.overlapped.read.items)) piece read) fits in (
       record {
         sound = sound;
         goes = reads-chunk g.R.Read.remaining c.args.chunks.now c.pass.new.self d d2 c.args.ahead.now c.in_ok-ahead.field-0 chunk _ _ all c.pass.ensures.takes c.pass.ensures.come parsed;

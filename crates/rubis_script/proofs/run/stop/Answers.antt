@@ -1,5 +1,5 @@
 use Rattle.std.proofs.Common.{◌≡◌, ◌∙◌, [], All, ap, arith, length, refl, subst, sym}
-use Rattle.rubis_reading.specs.Parsed.{FitsIn}
+use Rattle.rubis_message.specs.Inputs.{FitsIn}
 use Rattle.rubis_reading.specs.Runs.{flat}
 use Rattle.rubis_reading.proofs.RunFacts.{window-singles}
 use Rattle.rubis_script.specs.Runs.{HasTaken}

@@ -2,7 +2,7 @@ use Rattle.std.proofs.Common.{◌≡◌, ◌∙◌, ◌++◌, ◌+◌, ◌∷◌
 use Rattle.std.proofs.lemmas.List.Elements.{All-push}
 use Rattle.rubis_message.specs.Message.{sites_of}
 use Rattle.rubis_message.specs.declared.tokens.Packet.TheVariants.{Msg}
-use Rattle.rubis_model.specs.Runs.Input.{Came}
+use Rattle.rubis_message.specs.declared.inputs.Input.TheVariants.{Came}
 use Rattle.rubis_script.specs.Desks.{left_at}
 use Rattle.rubis_script.specs.Headline.{StepsOn}
 use Rattle.rubis_script.specs.Windows.{held_by}

@@ -1,8 +1,7 @@
 use Rattle.std.proofs.Common.{◌≡◌, ◌∙◌, ◌+◌, ap, refl, rules, subst, sym}
 use Rattle.std.proofs.lemmas.Result.{on_ok_weaker}
 use Rattle.rubis_message.specs.declared.tokens.Packet.TheVariants as Packet
-use Rattle.rubis_reading.specs.Parsed.{meant}
-use Rattle.rubis_reading.specs.declared.parsed.Parsed.TheVariants as parsed
+use Rattle.rubis_message.specs.declared.inputs.Input.TheVariants as input
 use Rattle.rubis_script.specs.Desks.{TakesNext}
 use Rattle.rubis_script.specs.Inputs.{IsAnswered}
 use Rattle.rubis_script.proofs.DeskFacts.{next-flushed}
@@ -10,8 +9,8 @@ use Rattle.rubis_script.proofs.desk.Desk.take_read.Goals as goal
 
 pub returns-in-Came-Msg-clause-takes : goal.returns-in-Came-Msg-clause-takes
 returns-in-Came-Msg-clause-takes g c =
-    let whole : c.args.read ≡ parsed.Came (Packet.Msg c.in-Came-Msg.message) = c.in-Came-Msg.is ∙ ap parsed.Came c.in-Came-Msg.field-0-is in
-    on_ok_weaker c.hold_next.result (λ takes. subst (λ i. TakesNext i c.args.self.now c.hold_next.new.self) (sym (ap meant whole)) takes)
+    let whole : c.args.read ≡ input.Came (Packet.Msg c.in-Came-Msg.message) = c.in-Came-Msg.is ∙ ap input.Came c.in-Came-Msg.field-0-is in
+    on_ok_weaker c.hold_next.result (λ takes. subst (λ i. TakesNext i c.args.self.now c.hold_next.new.self) (sym whole) takes)
     c.hold_next.ensures.takes
 
 pub returns-in_ok-answer-in_default-clause-takes : goal.returns-in_ok-answer-in_default-clause-takes
@@ -19,6 +18,6 @@ returns-in_ok-answer-in_default-clause-takes g c =
     let flushed = c.in_ok-flush-in_default.ensures in
     let mid = c.flush.new.self in
     let same : c.in_default-1.read ≡ c.args.read = search rules in
-    next-flushed c.args.self.now mid _ (meant c.args.read) flushed.same flushed.flushed flushed.empty c.in_ok-answer-in_default.ensures.place
-    (subst (λ r. IsAnswered (mid.answered + 1) (meant r) mid.site c.answer.new.site mid.reply.sink c.answer.new.reply.sink) same
+    next-flushed c.args.self.now mid _ c.args.read flushed.same flushed.flushed flushed.empty c.in_ok-answer-in_default.ensures.place
+    (subst (λ r. IsAnswered (mid.answered + 1) r mid.site c.answer.new.site mid.reply.sink c.answer.new.reply.sink) same
     c.in_ok-answer-in_default.ensures.answered) flushed.empty refl

@@ -3,28 +3,16 @@
 ghost use Rattle.std.specs.Prelude.{◌≡◌, ◌≤◌, ◌<◌, ◌++◌, ◌∷◌, [], None, List, ℕ, IfOk, OnOk, length};
 ghost use Rattle.rubis_engine.specs.Reading.{Gives};
 ghost use Rattle.rubis_engine.specs.Text.{input_records};
-ghost use Rattle.rubis_message.specs.Readings.{packet_of};
-ghost use Rattle.rubis_reading.specs.Parsed.{AreParsed, IsParsed};
+ghost use Rattle.rubis_reading.specs.Inputs.{AreInputs};
 ghost use Rattle.rubis_reading.specs.Runs.{FitWindow, HaveWindow, all_came, flat, of_stretch};
 ghost use Rattle.rubis_message.specs.declared.tokens.Packet.TheVariants.{Msg};
-ghost use Rattle.rubis_reading.specs.declared.parsed.Parsed.TheVariants.{Came};
+ghost use Rattle.rubis_message.specs.declared.inputs.Input.TheVariants.{Came};
 
-use rubis_engine::{InputRecord, OutOfMemory, Records};
-use rubis_message::{Message, Packet, ReadFault, Request, read_packet, read_request};
+use rubis_engine::{OutOfMemory, Records};
+use rubis_message::{Input, Message, Packet, read_input};
 use std::alloc::Global;
 use std::io::Read;
 use std::mem;
-
-/// What a record is.
-#[derive(Drop)]
-pub enum Parsed {
-    /// What another site sends.
-    Came(Packet),
-    /// What a user asks.
-    Asked(Request),
-    /// Neither.
-    Neither,
-}
 
 /// What records are, one after the other: messages, which come in great numbers, in a list of their own.
 #[derive(Drop)]
@@ -32,25 +20,7 @@ pub enum Stretch {
     /// Messages of other sites.
     Messages(Vec<Message>),
     /// One record.
-    One(Parsed),
-}
-
-/// What a record is.
-#[tactic(auto, using(crate::proofs::ParsedFacts::came, crate::proofs::ParsedFacts::asked, crate::proofs::ParsedFacts::neither))]
-#[inline(always)]
-pub fn read_record(alloc: Global, fields: &InputRecord, sites: u8) -> Result<Parsed, OutOfMemory>
-    requires { sites ≤ 16 }
-    ensures { IfOk result (λ parsed. IsParsed sites fields.now parsed) }
-{
-    match read_packet(alloc, fields, sites) {
-        Ok(packet) => Ok(Parsed::Came(packet)),
-        Err(ReadFault::BadRecord) => match read_request(alloc, fields, sites) {
-            Ok(request) => Ok(Parsed::Asked(request)),
-            Err(ReadFault::BadRecord) => Ok(Parsed::Neither),
-            Err(ReadFault::Memory) => Err(OutOfMemory),
-        },
-        Err(ReadFault::Memory) => Err(OutOfMemory),
-    }
+    One(Input),
 }
 
 /// Puts a run behind.
@@ -85,14 +55,14 @@ fn keep(
     list: &mut Vec<Stretch>,
     messages: &mut Vec<Message>,
     window: usize,
-    parsed: Parsed,
+    input: Input,
 ) -> Result<(), OutOfMemory>
     requires window { HaveWindow window list.old.items messages.old.items }
-    ensures records { OnOk result (flat list.new.items ++ all_came messages.new.items ≡ (flat list.old.items ++ all_came messages.old.items) ++ parsed ∷ []) }
+    ensures records { OnOk result (flat list.new.items ++ all_came messages.new.items ≡ (flat list.old.items ++ all_came messages.old.items) ++ input ∷ []) }
     ensures window { OnOk result (HaveWindow window list.new.items messages.new.items) }
 {
-    match parsed {
-        Parsed::Came(Packet::Msg(message)) => {
+    match input {
+        Input::Came(Packet::Msg(message)) => {
             if messages.len() >= window {
                 let full = mem::replace(messages, Vec::new(alloc));
                 keep_messages(list, full)?;
@@ -129,7 +99,7 @@ fn read_all<R: Read>(
     requires none { list.old.items ≡ [] }
     requires no_messages { messages.old.items ≡ [] }
     ensures parsed { OnOk result ((rows : List (List (List ℕ))) → Gives R.remaining records.old rows
-        → AreParsed sites rows (flat list.new.items ++ all_came messages.new.items)) }
+        → AreInputs sites rows (flat list.new.items ++ all_came messages.new.items)) }
     ensures window { OnOk result (HaveWindow window list.new.items messages.new.items) }
 {
     'steps: for _ in 0..u64::MAX {
@@ -139,8 +109,8 @@ fn read_all<R: Read>(
         if !found {
             return Ok(());
         }
-        let parsed = read_record(alloc, records.fields(), sites)?;
-        keep(alloc, list, messages, window, parsed)?;
+        let input = read_input(alloc, records.fields(), sites)?;
+        keep(alloc, list, messages, window, input)?;
     }
     Err(OutOfMemory)
 }
@@ -154,7 +124,7 @@ pub fn read_piece(
     window: usize,
 ) -> Result<Vec<Stretch>, OutOfMemory>
     requires { sites ≤ 16 }
-    ensures parsed { IfOk result (λ list. AreParsed sites (input_records piece.now) (flat list.items)) }
+    ensures parsed { IfOk result (λ list. AreInputs sites (input_records piece.now) (flat list.items)) }
     ensures window { IfOk result (λ list. FitWindow window list.items) }
 {
     let mut list = Vec::new(alloc);

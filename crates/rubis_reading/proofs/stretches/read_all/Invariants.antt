@@ -2,12 +2,12 @@ use Rattle.std.proofs.Common.{List, ℕ}
 use Rattle.std.proofs.Common.{◌++◌}
 use Rattle.rubis_reading.specs.Runs.{HaveWindow, all_came, flat}
 use Rattle.rubis_engine.specs.Reading.{Gives}
-use Rattle.rubis_reading.proofs.ParsedFacts.{HasParsed}
-use Rattle.rubis_reading.proofs.parsed.read_all.Given as goal
+use Rattle.rubis_reading.proofs.InputFacts.{HasInputs}
+use Rattle.rubis_reading.proofs.stretches.read_all.Given as goal
 
 abbrev pub invariant-steps : goal.invariant-steps
 invariant-steps g l = record {
   parsed : (rows : List (List (List ℕ))) → Gives g.R.Read.remaining l.fn.records rows →
-      HasParsed g.R.Read.remaining l.records l.sites rows (flat l.list.items ++ all_came l.messages.items);
+      HasInputs g.R.Read.remaining l.records l.sites rows (flat l.list.items ++ all_came l.messages.items);
   window : HaveWindow l.window l.list.items l.messages.items;
 }

@@ -2,8 +2,8 @@ use Rattle.std.proofs.Common.{subst, sym}
 use Rattle.std.proofs.lemmas.Result.{on_ok_weaker}
 use Rattle.rubis_reading.proofs.RunFacts.{window-more}
 use Rattle.rubis_reading.specs.Runs.{FitWindow}
-use Rattle.rubis_reading.specs.declared.parsed.Stretch.TheVariants.{Messages}
-use Rattle.rubis_reading.proofs.parsed.keep_messages.Goals as goal
+use Rattle.rubis_reading.specs.declared.stretches.Stretch.TheVariants.{Messages}
+use Rattle.rubis_reading.proofs.stretches.keep_messages.Goals as goal
 
 pub returns-then-is_empty-clause-window : goal.returns-then-is_empty-clause-window
 returns-then-is_empty-clause-window c window have = have.0

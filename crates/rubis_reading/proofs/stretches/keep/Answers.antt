@@ -2,11 +2,11 @@ use Rattle.std.proofs.Common.{◌≡◌, ◌++◌, ◌∷◌, ◌∙◌, [], ap,
 use Rattle.std.proofs.lemmas.Result.{on_ok_weaker}
 use Rattle.rubis_message.specs.declared.tokens.Packet.TheVariants.{Msg}
 use Rattle.rubis_reading.specs.Runs.{FitWindow, HaveWindow, all_came, flat}
-use Rattle.rubis_reading.specs.declared.parsed.Parsed.TheVariants.{Came}
-use Rattle.rubis_reading.specs.declared.parsed.Stretch.TheVariants.{One}
+use Rattle.rubis_message.specs.declared.inputs.Input.TheVariants.{Came}
+use Rattle.rubis_reading.specs.declared.stretches.Stretch.TheVariants.{One}
 use Rattle.rubis_reading.proofs.RunFacts.{came-more, window-more}
-use Rattle.rubis_reading.proofs.parsed.keep.Goals.{then-len-window+in_ok-keep_messages-in-Came-Msg, else-len-window}
-use Rattle.rubis_reading.proofs.parsed.keep.Goals as goal
+use Rattle.rubis_reading.proofs.stretches.keep.Goals.{then-len-window+in_ok-keep_messages-in-Came-Msg, else-len-window}
+use Rattle.rubis_reading.proofs.stretches.keep.Goals as goal
 
 pub returns-else-is_err-clause-records : goal.returns-else-is_err-clause-records
 returns-else-is_err-clause-records c =
@@ -14,7 +14,7 @@ returns-else-is_err-clause-records c =
     let left = c.if-len-window.list in
     let messages = c.if-len-window.messages in
     let one = Came (Msg c.in-Came-Msg.message) ∷ [] in
-    let whole : c.args.parsed ≡ Came (Msg c.in-Came-Msg.message) = c.in-Came-Msg.is ∙ ap Came c.in-Came-Msg.field-0-is in
+    let whole : c.args.input ≡ Came (Msg c.in-Came-Msg.message) = c.in-Came-Msg.is ∙ ap Came c.in-Came-Msg.field-0-is in
     let items : c.push.new.self.items ≡ messages.items ++ c.in-Came-Msg.message ∷ [] = rw c.if-is_err.ensures.negation at c.push.ensures.items in
     let held : flat left.items ++ all_came messages.items ≡ flat list.items ++ all_came c.args.messages.now.items =
     elim c.if-len-window.branch [
