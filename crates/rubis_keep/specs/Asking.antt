@@ -3,7 +3,7 @@ use Rattle.std.specs.Prelude.{◌≡◌, ◌⊎◌, ◌+◌, ◌++◌, ◌∷◌
 use Rattle.std.specs.Io.KnownBytes.{Consumes}
 use Rattle.rubis_message.specs.Message.{Message}
 use Rattle.rubis_model.specs.Site.{Place, Replica}
-use Rattle.rubis_model.specs.Runs.{input_of}
+use Rattle.rubis_message.specs.Inputs.{input_of}
 use Rattle.rubis_replica.specs.Arrivals.{after_all}
 use Rattle.rubis_replica.specs.State.{SiteState}
 use Rattle.rubis_script.specs.Headline.{StepsOn}
