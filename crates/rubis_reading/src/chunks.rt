@@ -1,6 +1,6 @@
 //! A source of chunks of text, each of whole records, over a reader.
 
-ghost use Rattle.std.specs.Prelude.{◌≡◌, ◌≤◌, ◌<◌, ◌-◌, drop, false, length, take, List, ℕ, IfSome, IfOk, OnOk};
+ghost use Rattle.std.specs.Prelude.{◌≡◌, ◌≤◌, ◌<◌, ◌-◌, drop, false, length, take, true, List, ℕ, IfSome, IfOk, OnOk};
 ghost use Rattle.rubis_reading.specs.Streams.{IsWhole, NoWholeAfter};
 ghost use Rattle.rubis_engine.specs.Text.{input_records};
 ghost use Rattle.rubis_reading.specs.Chunked.{HasPending, IsLast, KeepsPending, TakesOff, held_text, pending_text};
@@ -49,10 +49,11 @@ impl<R: Read> Chunks<R> {
     /// are held are the rest. No byte is looked at again when more come, however long a record is.
     pub fn fill(&mut self) -> Result<bool, ChunkFault>
         ensures keeps { OnOk result (KeepsPending R.remaining self.old self.new) }
+        ensures more { IfOk result (λ more. more ≡ true → length (held_text self.old) < length (held_text self.new)) }
         ensures last { IfOk result (λ more. more ≡ false → IsLast R.remaining self.new) }
     {
         let mut looked = Looked::none();
-        'asks: for _ in 0..u64::MAX {
+        'asks: for _asked in 0..u64::MAX {
             if !self.held.fill(&mut self.reader, self.size)? {
                 return Ok(false);
             }

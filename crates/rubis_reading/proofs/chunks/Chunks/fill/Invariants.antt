@@ -1,4 +1,4 @@
-use Rattle.std.proofs.Common.{◌++◌, ℕ, List}
+use Rattle.std.proofs.Common.{◌++◌, ◌≤◌, ◌<◌, ℕ, List, length}
 use Rattle.csv.specs.Reading.{strip_bom}
 use Rattle.rubis_reading.specs.Chunked.{KeepsPending, held_text}
 use Rattle.rubis_reading.specs.Looks.{HasLooked}
@@ -7,5 +7,7 @@ use Rattle.rubis_reading.proofs.chunks.Chunks.fill.Given as goal
 abbrev pub invariant-asks : goal.invariant-asks
 invariant-asks g l = record {
   keeps : KeepsPending g.R.Read.remaining l.fn.self l.self;
+  grown : length (held_text l.fn.self) ≤ length (held_text l.self);
+  some : 0 < l._asked → length (held_text l.fn.self) < length (held_text l.self);
   looked : (more : List ℕ) → HasLooked (strip_bom (held_text l.self ++ more)) l.looked;
 }
