@@ -29,4 +29,4 @@ pub use row_writers::{MESSAGE_ROOM, TOKEN_ROOM, put_message, put_token};
 pub use tokens::{Packet, Token};
 pub use words::Shown;
 pub use world_inputs::{WorldInput, read_world_input};
-pub use writers::{append_message, append_token, write_message, write_token};
+pub use writers::{append_message, write_message, write_token};

@@ -129,34 +129,16 @@ fn push_token(fields: &mut Fields, token: &Token) -> Result<(), AllocError>
     push_number(fields, u64::from(token.issued))
 }
 
-// Leaves no fields where they weren't all written.
-fn or_cleared(fields: &mut Fields, written: Result<(), AllocError>) -> Result<(), AllocError>
-    ensures same { result ≡ written }
-    ensures ok { OnOk written (fields.new ≡ fields.old) }
-    ensures err { OnErr written (fields.new ≡ []) }
-{
-    if written.is_err() {
-        fields.clear();
-    }
-    written
-}
-
 /// Adds the fields of a message. Without memory for them the record is left with no fields.
 pub fn append_message(fields: &mut Fields, message: &Message) -> Result<(), AllocError>
     ensures ok { OnOk result (fields.new ≡ fields.old ++ message_record message.now) }
     ensures err { OnErr result (fields.new ≡ []) }
 {
     let written = push_message(fields, message);
-    or_cleared(fields, written)
-}
-
-/// Adds the fields of a token. Without memory for them the record is left with no fields.
-pub fn append_token(fields: &mut Fields, token: &Token) -> Result<(), AllocError>
-    ensures ok { OnOk result (fields.new ≡ fields.old ++ token_record token.now) }
-    ensures err { OnErr result (fields.new ≡ []) }
-{
-    let written = push_token(fields, token);
-    or_cleared(fields, written)
+    if written.is_err() {
+        fields.clear();
+    }
+    written
 }
 
 /// The record of a message.

@@ -1,7 +1,7 @@
 -- Bytes that are left of a buffer, as it is closed up, grows and is filled.
-use Rattle.std.proofs.Common.{◌≡◌, ◌≤◌, ◌+◌, ◌-◌, ◌++◌, ◌∙◌, ℕ, List, length, take, drop, append-nil, sym, ap, arith, length-append, length-drop, length-take}
+use Rattle.std.proofs.Common.{◌≡◌, ◌≤◌, ◌<◌, ◌+◌, ◌-◌, ◌++◌, ◌∙◌, ℕ, List, length, take, drop, append-nil, sym, ap, arith, length-append, length-drop, length-take}
 use Rattle.std.proofs.Common.{length-take-le}
-use Rattle.std.specs.Prelude.{Bool, Option, false, slice_range}
+use Rattle.std.specs.Prelude.{Bool, Option, false, slice_range, true}
 use Rattle.std.specs.Io.KnownBytes.{Consumes, IsAtEnd}
 use Rattle.std.proofs.lemmas.List.{drop-append-le, drop-drop, drop-take}
 use Rattle.std.proofs.Math.Seq.{take-append-add}
@@ -52,11 +52,12 @@ written-length xs block end within same =
 -- what the reader gave was put behind
 pub filled : (before after : Option (List ℕ)) (xs block : List ℕ) (start end given : ℕ) (old new : List ℕ) (more : Bool)
     → start ≤ end → end ≤ length xs → old ≡ slice_range xs start end → new ≡ slice_range (take end xs ++ block) start (end + given)
-    → Consumes before after (take given block) → (given ≡ 0 → IsAtEnd after) → (more ≡ false → given ≡ 0)
-    → IsFilled before after old new more
-filled before after xs block start end given old new more on within was is consumed last none = record {
+    → Consumes before after (take given block) → (given ≡ 0 → IsAtEnd after) → (more ≡ false → given ≡ 0) → (more ≡ true → 0 < given)
+    → given ≤ length block → IsFilled before after old new more
+filled before after xs block start end given old new more on within was is consumed last none some few = record {
   bytes = take given block;
   behind = is ∙ range-filled xs block start end given on within ∙ ap (λ t. t ++ take given block) (sym was);
   consumed = consumed;
+  some = λ e. omega (arith, some e, length-take-le given block few);
   last = λ e. last (none e);
 }

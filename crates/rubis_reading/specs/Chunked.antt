@@ -1,5 +1,5 @@
 -- What a source of chunks has still to give.
-use Rattle.std.specs.Prelude.{◌≡◌, ◌≤◌, ◌++◌, ℕ, Bool, List, Option, Some, false, length}
+use Rattle.std.specs.Prelude.{◌≡◌, ◌≤◌, ◌<◌, ◌++◌, ℕ, Bool, List, Option, Some, false, length, true}
 use Rattle.std.specs.Io.KnownBytes.{Consumes, IsAtEnd, prepend_known}
 use Rattle.rubis_engine.specs.Text.{input_records}
 use Rattle.rubis_reading.specs.Streams.{EndsNoRecord}
@@ -24,11 +24,12 @@ abbrev pub TakesOff : {R : Type 0} → (R → Option (List ℕ)) → Chunks R �
 TakesOff rem old new chunk = (rows : List (List (List ℕ))) → HasPending rem old rows
     → (more : List (List (List ℕ))) × (rows ≡ input_records chunk ++ more) × HasPending rem new more
 
--- the reader put bytes behind those that are held, `more` if there were any; where there were none it is at its end
+-- the reader put bytes behind those that are held, `more` if and only if there were any; where there were none it is at its end
 pub record IsFilled (before after : Option (List ℕ)) (old new : List ℕ) (more : Bool) : Type 0 where
   pub bytes : List ℕ
   pub behind : new ≡ old ++ bytes
   pub consumed : Consumes before after bytes
+  pub some : more ≡ true → 0 < length bytes
   pub last : more ≡ false → IsAtEnd after
 
 -- nothing was taken off

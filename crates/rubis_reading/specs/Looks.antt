@@ -5,6 +5,10 @@ use Rattle.rubis_reading.specs.Standings.{state_of}
 use Rattle.rubis_reading.specs.Streams.{EndsFrom, IsLike, stands}
 use Rattle.rubis_reading.specs.declared.cuts.Looked.{Looked}
 
+-- a record ends in the bytes that were looked at, behind the line end at their start, if there is one
+abbrev pub HasEnd : Looked → Type 0
+HasEnd l = 1 < l.end
+
 -- the machine stands so after the bytes that were looked at, and of the ends of records among them that is the last
 pub record HasLooked (text : List ℕ) (l : Looked) : Type 0 where
   pub within : l.place ≤ length text

@@ -47,13 +47,10 @@ fn add_singles(list: &mut Vec<Stretch>, run: Stretch) -> Result<(), OutOfMemory>
         Stretch::Messages(messages) => messages,
     };
     let mut rest = messages.into_iter();
-    'messages: for _ in 0..u64::MAX {
-        let Some(message) = rest.next() else {
-            return Ok(());
-        };
+    'messages: while let Some(message) = rest.next() {
         push_stretch(list, Stretch::One(Input::Came(Packet::Msg(message))))?;
     }
-    Err(OutOfMemory)
+    Ok(())
 }
 
 // Puts the records of several runs behind, one by one.
@@ -62,13 +59,10 @@ fn add_all_singles(list: &mut Vec<Stretch>, mut rest: IntoIter<Stretch>) -> Resu
     ensures same { OnOk result (flat list.new.items ≡ flat list.old.items ++ flat (into_iter_items rest)) }
     ensures single { OnOk result (AreSingle list.new.items) }
 {
-    'runs: for _ in 0..u64::MAX {
-        let Some(run) = rest.next() else {
-            return Ok(());
-        };
+    'runs: while let Some(run) = rest.next() {
         add_singles(list, run)?;
     }
-    Err(OutOfMemory)
+    Ok(())
 }
 
 /// Records that were read, in order, messages that came together in one run. Contracts see the runs that are left.

@@ -1,6 +1,6 @@
 //! A source of chunks of text, each of whole records, over a reader.
 
-ghost use Rattle.std.specs.Prelude.{◌≡◌, ◌≤◌, ◌<◌, ◌-◌, drop, false, length, take, List, ℕ, IfSome, IfOk, IsErrOf, OnOk};
+ghost use Rattle.std.specs.Prelude.{◌≡◌, ◌≤◌, ◌<◌, ◌-◌, drop, false, length, take, true, List, ℕ, IfSome, IfOk, IsErrOf, OnOk};
 ghost use Rattle.rubis_reading.specs.Streams.{EndsNoRecord, IsWhole, NoWholeAfter};
 ghost use Rattle.rubis_engine.specs.Text.{input_records};
 ghost use Rattle.rubis_reading.specs.Chunked.{FailsShort, HasCome, HasPending, IsLast, KeepsCome, KeepsPending, TakesOff, held_text, pending_text};
@@ -54,12 +54,13 @@ impl<R: Read> Chunks<R> {
     /// `Read` if the reader failed: what came is held. `Memory` if there is no room for more.
     pub fn fill(&mut self) -> Result<bool, ChunkFault>
         ensures keeps { OnOk result (KeepsPending R.remaining self.old self.new) }
+        ensures more { IfOk result (λ more. more ≡ true → length (held_text self.old) < length (held_text self.new)) }
         ensures last { IfOk result (λ more. more ≡ false → IsLast R.remaining self.new) }
         ensures come { OnOk result (KeepsCome R.remaining self.old self.new) }
         ensures failed { IsErrOf result ChunkFault.Read → FailsShort R.remaining self.old self.new }
     {
         let mut looked = Looked::none();
-        'asks: for _ in 0..u64::MAX {
+        'asks: for _asked in 0..u64::MAX {
             if !self.held.fill(&mut self.reader, self.size)? {
                 return Ok(false);
             }

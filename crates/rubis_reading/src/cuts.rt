@@ -1,11 +1,11 @@
 //! Where a text may be cut.
 
 ghost use Rattle.std.specs.Bool.{MatchBool};
-ghost use Rattle.std.specs.Prelude.{◌≡◌, ◌≤◌, ◌<◌, ℕ, IfNone, IfSome, List, drop, get_or, length, nat_lt, take};
+ghost use Rattle.std.specs.Prelude.{◌≡◌, ◌≤◌, ◌<◌, ◌↔◌, ◌⊎◌, ℕ, IfNone, IfSome, IsTrue, List, drop, get_or, length, nat_lt, take};
 ghost use Rattle.csv.specs.Reading.{strip_bom};
 ghost use Rattle.csv.specs.declared.parser.State.TheVariants as st;
 ghost use Rattle.rubis_reading.specs.Standings.{state_of};
-ghost use Rattle.rubis_reading.specs.Looks.{HasLooked};
+ghost use Rattle.rubis_reading.specs.Looks.{HasEnd, HasLooked};
 ghost use Rattle.rubis_reading.specs.Streams.{EndsFrom, EndsNoRecord, HasNoQuote, IsLike, IsOutside, IsWhole, NoEndAfter, NoWholeAfter, stands};
 
 use crate::standing::{Standing, after, in_field};
@@ -75,7 +75,8 @@ impl Looked {
 
     /// Whether a record ends in them, behind the line end at their start, if there is one.
     pub fn ends(self) -> bool
-        ensures { result ≡ nat_lt 1 self.end }
+        ensures value { result ≡ nat_lt 1 self.end }
+        ensures ends { IsTrue result ↔ HasEnd self }
     {
         self.end > 1
     }
@@ -86,13 +87,14 @@ fn look_on(from: Looked, text: &[u8]) -> Looked
     requires { HasLooked text.now from }
     ensures looked { HasLooked text.now result }
     ensures all { NoEndAfter st.StartRecord text.now result.end }
+    ensures whole { result.place ≡ length text.now }
 {
     let Looked {
         mut at,
         mut place,
         mut end,
     } = from;
-    'quotes: for _passed in 0..u64::MAX {
+    'quotes: loop {
         let (_, rest) = text.split_at(place);
         let Some(quote) = memchr(b'"', rest) else {
             let line = last_line(at, rest);
@@ -110,7 +112,6 @@ fn look_on(from: Looked, text: &[u8]) -> Looked
         at = after(over(at, run), b'"');
         place += quote + 1;
     }
-    Looked { at, place, end }
 }
 
 // How many bytes a byte order mark at the start has.
@@ -147,16 +148,11 @@ pub fn look_for_end(from: Looked, text: &[u8]) -> Looked
     requires { HasLooked (strip_bom text.now) from }
     ensures looked { HasLooked (strip_bom text.now) result }
     ensures none { result.end ≤ 1 → EndsNoRecord text.now }
+    ensures upto { HasEnd result ⊎ (result.place ≡ length (strip_bom text.now)) }
 {
     let (_, rest) = text.split_at(mark_len(text));
     let mut looked = from;
-    'looks: for _ in 0..u64::MAX {
-        if looked.ends() {
-            return looked;
-        }
-        if looked.place >= rest.len() {
-            return looked;
-        }
+    'looks: while !looked.ends() && looked.place < rest.len() {
         let front = rest.len().min(looked.place.saturating_add(LOOK));
         looked = look_on(looked, &rest[..front]);
     }

@@ -10,7 +10,7 @@ look_on-looked-requires c =
     let front = c.min-front.result in
     let looked = c.looks.looked in
     let within : front ≤ length rest = omega (arith, c.min-front.ensures) in
-    let far : looked.place ≤ front = omega (arith, c.min-front.ensures, c.saturating_add.ensures, c.if-looked-rest.false, c.min-front.type_inv) in
+    let far : looked.place ≤ front = omega (arith, c.min-front.ensures, c.saturating_add.ensures, c.if-looked-rest.true, c.min-front.type_inv) in
     let size = length-take-le front rest within in
     let here : HasLooked rest looked = subst (λ t. HasLooked t looked) (c.mark_len.ensures.rest ∙ sym c.split_at.ensures.back) c.looks.invariant.looked in
     looked-front (take front rest) (drop front rest) looked (omega (arith, size, far))

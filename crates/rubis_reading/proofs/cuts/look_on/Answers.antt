@@ -14,7 +14,6 @@ pub quotes-init : goal.quotes-init
 quotes-init c = record {
   like = c.requires.like;
   within = c.requires.within;
-  passed = omega arith;
   upto = c.requires.upto;
   found = c.requires.found;
   none = c.requires.none;
@@ -49,7 +48,6 @@ quotes-preserved c =
     record {
       like = after-quote s (state_of c.over-in-quotes.result) (state_of c.after-at.result) text place quote c.quotes.invariant.like lt is over c.after-at.ensures;
       within = omega (arith, lt, length-drop place text, c.quotes.invariant.within);
-      passed = omega (arith, c.quotes.invariant.passed);
       upto = elim c.if-line-gt0-2.branch [
         | then-line-gt0-2 w ↦ subst (λ e. e ≤ place + (quote + 1)) (sym w.end-is) (omega (
           arith,

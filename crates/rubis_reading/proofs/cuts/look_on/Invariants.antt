@@ -1,4 +1,4 @@
-use Rattle.std.proofs.Common.{◌≤◌, ◌<◌, ℕ, length, take}
+use Rattle.std.proofs.Common.{◌≤◌, ◌<◌, ◌-◌, ℕ, length, take}
 use Rattle.csv.specs.declared.parser.State.TheVariants as st
 use Rattle.rubis_reading.specs.Standings.{state_of}
 use Rattle.rubis_reading.specs.Streams.{EndsFrom, IsLike, stands}
@@ -8,8 +8,10 @@ abbrev pub invariant-quotes : goal.invariant-quotes
 invariant-quotes l = record {
   like : IsLike (state_of l.at) (stands st.StartRecord (take l.place l.text));
   within : l.place ≤ length l.text;
-  passed : l._passed ≤ l.place;
   upto : l.end ≤ l.place;
   found : 0 < l.end → EndsFrom st.StartRecord l.text l.end;
   none : (k : ℕ) → l.end < k → k ≤ l.place → EndsFrom st.StartRecord l.text k → ⊥;
 }
+
+abbrev pub decreases-quotes : goal.decreases-quotes
+decreases-quotes l = length l.text - l.place

@@ -1,4 +1,4 @@
-use Rattle.std.proofs.Common.{rules, ◌≡◌, ◌<◌, ◌≤◌, ◌++◌, ◌∙◌, ◌+◌, ◌-◌, ℕ, List, ap, arith, drop, length, slice_range, subst, sym, take, false}
+use Rattle.std.proofs.Common.{rules, ◌≡◌, ◌<◌, ◌≤◌, ◌++◌, ◌∙◌, ◌+◌, ◌-◌, ℕ, List, ap, arith, drop, length, length-append, slice_range, subst, sym, take, false, true}
 use Rattle.std.specs.Prelude.{nat_lt}
 use Rattle.std.specs.Io.KnownBytes.{Consumes}
 use Rattle.std.proofs.lemmas.Bool.Decides.{nat_tests}
@@ -18,6 +18,7 @@ returns-in-Ok-clause-given g c =
     let some : 0 < length c.read_through_signals.new.buf = search rules in
     let was : c.args.self.now ≡ slice_range xs c.self.inside.start end = search rules in
     let none : nat_lt 0 given ≡ false → given ≡ 0 = λ e. grind (arith, nat_tests) in
+    let given_some : nat_lt 0 given ≡ true → 0 < given = λ e. grind (arith, nat_tests) in
     let past : List ℕ = drop (length xs - end) (drop end xs) in
     let written : List ℕ = take end xs ++ (c.read_through_signals.new.buf ++ past) in
     let back = with_items_is c.self.inside.buffer written
@@ -26,7 +27,7 @@ returns-in-Ok-clause-given g c =
     filled before after xs (c.read_through_signals.new.buf ++ past) c.self.inside.start end given c.args.self.now _ (nat_lt 0 given) c.self.inside.on within was
     (ap (λ ys. slice_range ys c.self.inside.start (end + given)) back)
     (subst (Consumes before after) (sym (take-append-le given c.read_through_signals.new.buf past few)) c.in-Ok.ensures.bytes.0)
-    (λ e. c.in-Ok.ensures.bytes.1 e some) none
+    (λ e. c.in-Ok.ensures.bytes.1 e some) none given_some (omega (arith, few, length-append c.read_through_signals.new.buf past))
 
 pub returns-in-Err-clause-failed : goal.returns-in-Err-clause-failed
 returns-in-Err-clause-failed g c e =
