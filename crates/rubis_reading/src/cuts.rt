@@ -156,5 +156,5 @@ pub fn look_for_end(from: Looked, text: &[u8]) -> Looked
         let front = rest.len().min(looked.place.saturating_add(LOOK));
         looked = look_on(looked, &rest[..front]);
     }
-    look_on(looked, rest)
+    looked
 }
