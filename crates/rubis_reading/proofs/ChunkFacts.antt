@@ -26,10 +26,19 @@ feed-left held many within some whole =
     sym (take-append-drop many held) ∙ ap (λ t. t ++ drop many held) whole.is ∙ append_assoc whole.front (whole.last ∷ []) (drop many held) in
     rw (← front) (drop-appended whole.front held (whole.last ∷ drop many held) split)
 
+-- bytes that came, or none, are held behind those that were
+pub record HoldsMore (before after : Option (List ℕ)) (old new : List ℕ) : Type 0 where
+  pub bytes : List ℕ
+  pub behind : new ≡ old ++ bytes
+  pub consumed : Consumes before after bytes
+
+more-held : (before after : Option (List ℕ)) (old new : List ℕ) (more : Bool) → IsFilled before after old new more → HoldsMore before after old new
+more-held before after old new more f = record { bytes = f.bytes; behind = f.behind; consumed = f.consumed }
+
 -- bytes that come are behind those that are held
-pub filled-keeps : {R : Type 0} (rem : R → Option (List ℕ)) (old new : Chunks R) (more : Bool)
-    → IsFilled (rem old.reader) (rem new.reader) old.held new.held more → KeepsPending rem old new
-filled-keeps rem old new more f rows h = record {
+pub held-keeps : {R : Type 0} (rem : R → Option (List ℕ)) (old new : Chunks R)
+    → HoldsMore (rem old.reader) (rem new.reader) old.held new.held → KeepsPending rem old new
+held-keeps rem old new f rows h = record {
   bytes = h.bytes;
   source = same (rem old.reader) (rem new.reader) f.consumed h.source;
   reads = h.reads;
@@ -58,10 +67,14 @@ taken held bytes (Some xs) many some within whole e =
 
 -- ---- what came of an input
 
+pub filled-keeps : {R : Type 0} (rem : R → Option (List ℕ)) (old new : Chunks R) (more : Bool)
+    → IsFilled (rem old.reader) (rem new.reader) old.held new.held more → KeepsPending rem old new
+filled-keeps rem old new more f = held-keeps rem old new (more-held (rem old.reader) (rem new.reader) old.held new.held more f)
+
 -- bytes that come are behind those that are held
-pub filled-come : {R : Type 0} (rem : R → Option (List ℕ)) (old new : Chunks R) (more : Bool)
-    → IsFilled (rem old.reader) (rem new.reader) old.held new.held more → KeepsCome rem old new
-filled-come rem old new more f input h =
+pub held-come : {R : Type 0} (rem : R → Option (List ℕ)) (old new : Chunks R)
+    → HoldsMore (rem old.reader) (rem new.reader) old.held new.held → KeepsCome rem old new
+held-come rem old new f input h =
     let (left, source, split) = rest (rem old.reader) (rem new.reader) f.consumed h.source in record {
       front = h.front;
       mark = h.mark;
@@ -79,6 +92,10 @@ filled-come rem old new more f input h =
     rest None after taken e = absurd cc
     rest (Some xs) None taken e = absurd taken
     rest (Some xs) (Some ys) taken e = (ys, refl, sym (some-is e) ∙ taken)
+
+pub filled-come : {R : Type 0} (rem : R → Option (List ℕ)) (old new : Chunks R) (more : Bool)
+    → IsFilled (rem old.reader) (rem new.reader) old.held new.held more → KeepsCome rem old new
+filled-come rem old new more f = held-come rem old new (more-held (rem old.reader) (rem new.reader) old.held new.held more f)
 
 -- the first bytes of what is held are those of the mark, and then of what came since
 front-split : (mark begun : List ℕ) (many : ℕ) → length mark ≤ 1 → 0 < many
@@ -116,12 +133,11 @@ handed-come rem old new many input same handed some within whole h =
     }
 
 -- where the reader failed, nothing came
-pub still-filled : (before after : Option (List ℕ)) (old new : List ℕ) → new ≡ old → Keeps before after → IsFilled before after old new true
-still-filled before after old new same keeps = record {
+pub still-held : (before after : Option (List ℕ)) (old new : List ℕ) → new ≡ old → Keeps before after → HoldsMore before after old new
+still-held before after old new same keeps = record {
   bytes = [];
   behind = same ∙ sym (append-nil old);
   consumed = none before after keeps;
-  last = λ e. absurd cc;
 }
   where
     none : (a b : Option (List ℕ)) → Keeps a b → Consumes a b []

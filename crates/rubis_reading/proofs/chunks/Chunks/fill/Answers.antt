@@ -1,11 +1,11 @@
-use Rattle.std.proofs.Common.{◌++◌, ap, arith, length, length-append, refl, rules, subst, sym, true}
+use Rattle.std.proofs.Common.{◌++◌, ap, arith, length, length-append, refl, rules, subst, sym}
 use Rattle.rubis_engine.proofs.RunFacts.{handed_on}
 use Rattle.rubis_reading.specs.declared.held.ChunkFault.TheVariants.{Read}
 use Rattle.csv.specs.Reading.{strip_bom}
 use Rattle.std.proofs.lemmas.Bool.Decides.{nat_tests}
 use Rattle.rubis_reading.specs.Looks.{HasLooked}
 use Rattle.rubis_reading.specs.Streams.{EndsNoRecord}
-use Rattle.rubis_reading.proofs.ChunkFacts.{filled-come, filled-keeps, still-filled}
+use Rattle.rubis_reading.proofs.ChunkFacts.{filled-come, filled-keeps, held-come, held-keeps, still-held}
 use Rattle.rubis_reading.proofs.LookFacts.{marked-more}
 use Rattle.rubis_reading.proofs.chunks.Chunks.fill.Goals as goal
 
@@ -57,11 +57,11 @@ pub returns-in_err-fill-clause-failed : goal.returns-in_err-fill-clause-failed
 returns-in_err-fill-clause-failed g c e =
     let read = handed_on c.from_residual.result c.in_err-fill.field-0.0 Read c.from_residual.ensures e in
     let still = c.in_err-fill.ensures.failed (rw read refl) in
-    let filled = still-filled (g.R.Read.remaining c.asks.self.reader) (g.R.Read.remaining c.fill.new.reader) c.asks.self.held c.fill.new.self still.0 still.1 in
+    let still_held = still-held (g.R.Read.remaining c.asks.self.reader) (g.R.Read.remaining c.fill.new.reader) c.asks.self.held c.fill.new.self still.0 still.1 in
     record {
-      pending = λ rows h. filled-keeps g.R.Read.remaining c.asks.self
-          (record { reader = c.fill.new.reader; held = c.fill.new.self; size = c.asks.self.size }) true filled rows (c.asks.invariant.keeps rows h);
-      come = λ input h. filled-come g.R.Read.remaining c.asks.self
-          (record { reader = c.fill.new.reader; held = c.fill.new.self; size = c.asks.self.size }) true filled input (c.asks.invariant.come input h);
+      pending = λ rows h. held-keeps g.R.Read.remaining c.asks.self
+          (record { reader = c.fill.new.reader; held = c.fill.new.self; size = c.asks.self.size }) still_held rows (c.asks.invariant.keeps rows h);
+      come = λ input h. held-come g.R.Read.remaining c.asks.self
+          (record { reader = c.fill.new.reader; held = c.fill.new.self; size = c.asks.self.size }) still_held input (c.asks.invariant.come input h);
       none = λ h. subst EndsNoRecord (sym still.0) (c.asks.invariant.none h);
     }
