@@ -1,5 +1,5 @@
 -- Why a line is refused that is a question.
-use Rattle.std.proofs.Common.{◌≡◌, ◌≤◌, ◌∙◌, ◌++◌, ◌∷◌, [], ℕ, List, None, Option, drop, false, length, sym, true}
+use Rattle.std.proofs.Common.{◌≡◌, ◌≤◌, ◌++◌, ◌∷◌, [], ℕ, List, None, Option, drop, false, length, sym, true}
 use Rattle.std.proofs.lemmas.Bool.{le-leb}
 use Rattle.std.specs.Prelude.{codes}
 use Rattle.rubis_model.specs.Site.{Place, Replica}

@@ -1,7 +1,6 @@
 -- What a site answers to a question.
 use Rattle.std.specs.Prelude.{ℕ, ◌++◌, ◌∷◌, [], Bool, List, Option, None, Some, bytes_eq, codes, cond, decimal, drop, false, length, nat_le, not}
 use Rattle.std.specs.Option.{option_map_or}
-use Rattle.rubis_schema.specs.declared.listings.Listing.{Listing}
 use Rattle.rubis_message.specs.Grammar.{deps_text}
 use Rattle.rubis_message.specs.Readings.{request_of}
 use Rattle.rubis_message.specs.declared.requests.Request.{Request}
