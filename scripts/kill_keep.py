@@ -134,7 +134,7 @@ class Site:
         check(self.read("out") == self.answers(self.kept()), f"{when}: out isn't the answers to kept")
 
 
-QUESTIONS = (b"?state\n", b"?list,users\n", b"?list,log\n", b"?list,tables\n", b'?list,"users\n', b"?\n", b"?users\n", b"?" + b"x" * 5000 + b"\n")
+QUESTIONS = (b"?state\n", b"?list,users\n", b"?list,log\n", b"?row,user,0.1\n", b"?row,nickname,u2\n", b"?row,user\n", b"?list,tables\n", b'?list,"users\n', b"?\n", b"?users\n", b"?" + b"x" * 5000 + b"\n")
 
 
 def requests(dice: random.Random, made: list[int]) -> bytes:

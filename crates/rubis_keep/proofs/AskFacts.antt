@@ -1,5 +1,5 @@
 -- How a run answers the questions of its input.
-use Rattle.std.proofs.Common.{◌≡◌, ◌∙◌, ◌+◌, ◌≤◌, ◌⊎◌, inl, inr, ◌++◌, ◌∷◌, [], ℕ, Bool, true, false, List, Option, Some, None, Result, Ok, Err, cond, drop, length, map, take}
+use Rattle.std.proofs.Common.{◌≡◌, ◌∙◌, ◌+◌, ◌⊎◌, inl, inr, ◌++◌, ◌∷◌, [], ℕ, Bool, true, false, List, Option, Some, None, Result, Ok, Err, cond, length, map, take}
 use Rattle.std.proofs.Common.{arith, refl, sym, ap, subst, append_assoc, length-append}
 use Rattle.std.proofs.lemmas.List.{append-nil}
 use Rattle.std.specs.Prelude.{IsErr, MatchResult, OnOk}
@@ -36,7 +36,7 @@ use Rattle.rubis_keep.proofs.LifeFacts.{at-end, none-read, read-all, read-too}
 use Rattle.rubis_keep.proofs.LineFacts.{begun-append, kept-append}
 use Rattle.rubis_keep.proofs.RecordFacts.{records-append}
 use Rattle.rubis_keep.proofs.ShortenFacts.{after-append, after-more}
-use Rattle.rubis_keep.proofs.SoundFacts.{sound-kept, whole-sound}
+use Rattle.rubis_keep.proofs.SoundFacts.{sound-kept}
 use Rattle.rubis_keep.proofs.WholeFacts.{kept-whole, whole-append}
 
 -- ---- where records lead

@@ -4,7 +4,7 @@ use Rattle.std.proofs.Common.{append_assoc}
 use Rattle.std.proofs.lemmas.List.{append-nil, take_more}
 use Rattle.rubis_keep.specs.Cuts.{CutsLines, asked_by}
 use Rattle.rubis_keep.specs.Places.{begun_bytes}
-use Rattle.rubis_keep.specs.Lines.{Asked, HasNoEnd, asked_after, asked_line, begun_after, is_question, kept_after, kept_line, kept_of, kept_record, without_after}
+use Rattle.rubis_keep.specs.Lines.{HasNoEnd, asked_after, asked_line, begun_after, is_question, kept_after, kept_line, kept_of, kept_record, without_after}
 use Rattle.rubis_keep.proofs.LineFacts.{begun-append, begun-pushed, begun-stays, kept-append, kept_begun, question_begun}
 use Rattle.rubis_keep.proofs.SoundFacts.{no-end-more}
 

@@ -1,5 +1,5 @@
 -- What is kept grows record by record.
-use Rattle.std.proofs.Common.{◌≡◌, ◌∙◌, ◌++◌, [], false, List, ℕ, refl, sym, ap, subst, append_assoc}
+use Rattle.std.proofs.Common.{◌≡◌, ◌∙◌, ◌++◌, [], false, List, ℕ, sym, ap, subst, append_assoc}
 use Rattle.rubis_engine.specs.Text.{input_records}
 use Rattle.rubis_keep.specs.Kept.{IsFrontOf}
 use Rattle.rubis_keep.specs.Lines.{AreSound, begun_after, is_marked, whole_after, whole_lines}

@@ -1,23 +1,23 @@
 -- Shops whose sites' histories are interleaved in any way.
-use Rattle.std.proofs.Common.{◌≡◌, ◌∙◌, ◌≤◌, ◌<◌, ◌+◌, ◌++◌, ◌∷◌, [], ℕ, zero, suc, Bool, true, false, List, cond, drop, eqb, length, take, refl, sym, ap, subst, arith}
-use Rattle.std.proofs.Common.{append_assoc, length-append, take-append-drop}
-use Rattle.std.proofs.lemmas.List.{append-nil, length-take}
+use Rattle.std.proofs.Common.{◌≡◌, ◌∙◌, ◌≤◌, ◌<◌, ◌++◌, ◌∷◌, [], ℕ, zero, suc, true, false, List, cond, eqb, length, take, refl, sym, ap, subst, arith}
+use Rattle.std.proofs.Common.{append_assoc, length-append}
+use Rattle.std.proofs.lemmas.List.{length-take}
 use Rattle.std.specs.Prelude.{MatchBool, ⊤}
 use Rattle.rubis_model.specs.Processes.{read_by}
 use Rattle.rubis_model.specs.Restarts.{Moment, has_read, recorded}
 use Rattle.rubis_model.specs.Restarts.Moment.{Reads, Replays, Restarts}
-use Rattle.rubis_keep.specs.Crashes.{Files, IsLeft}
+use Rattle.rubis_keep.specs.Crashes.{IsLeft}
 use Rattle.rubis_keep.specs.Histories.{AreHistories, HistoriesAreKept, HistoriesAreRuns, IsHistory, MayHappen, Step, files_at, moments_in, stand_after, stands, up_to}
 use Rattle.rubis_keep.specs.Histories.Step.{Does, Fails, Happens}
 use Rattle.rubis_keep.specs.History.{Event, FileState, Follows, IsSafe, after, records_in}
 use Rattle.rubis_keep.specs.History.Event.{Began, CutTo, Flushed, Kept, Replied, Settled, Shown, Told}
 use Rattle.rubis_keep.specs.Kept.{IsFrontOf}
-use Rattle.rubis_keep.specs.Lines.{AreSound, begun_after, whole_lines}
+use Rattle.rubis_keep.specs.Lines.{AreSound, whole_lines}
 use Rattle.rubis_keep.specs.Moments.{SurvivesIn, from_disk}
 use Rattle.rubis_keep.specs.Shops.{AreKept, IsPrefix, text_at}
 use Rattle.rubis_keep.proofs.GrowFacts.{front-more, whole-front, whole-grow, whole-more}
 use Rattle.rubis_keep.proofs.ShopFacts.{kept-shops}
-use Rattle.rubis_keep.proofs.SoundFacts.{sound-front, whole-rest}
+use Rattle.rubis_keep.proofs.SoundFacts.{sound-front}
 
 -- ---- what was flushed stays
 

@@ -4,12 +4,12 @@ use Rattle.std.proofs.Common.{Result, Ok, Err, append_assoc, take-append-drop, â
 use Rattle.std.proofs.lemmas.List.{append-nil, take_all}
 use Rattle.std.specs.Prelude.{IsErr, MatchBool, MatchResult}
 use Rattle.std.specs.Io.KnownBytes.{Appends, Keeps}
-use Rattle.rubis_keep.specs.History.{Answers, AreSafe, Event, FileState, Follows, Grows, History, IsAnswered, IsSafe, StaysSafe, Tells, after, after_all, kept_in}
+use Rattle.rubis_keep.specs.History.{Answers, AreSafe, Event, FileState, Grows, History, IsSafe, StaysSafe, Tells, after, after_all, kept_in}
 use Rattle.rubis_keep.specs.Files.{AppendsFront}
 use Rattle.rubis_keep.specs.History.{HasDone, HasKept, HasTold, TellsFront, KeepsLines, log_of, now, out_in, records_in, told_of}
 use Rattle.rubis_keep.specs.History.Event.{Began, CutTo, Flushed, Kept, Replied, Settled, Shown, Told}
 use Rattle.rubis_keep.specs.Kept.{CutsTo, IsFrontOf}
-use Rattle.rubis_keep.specs.Lines.{AreSound, whole_lines}
+use Rattle.rubis_keep.specs.Lines.{AreSound}
 use Rattle.rubis_keep.proofs.FileFacts.{more-bound, take-more}
 use Rattle.rubis_keep.proofs.SoundFacts.{sound-front}
 

@@ -1,4 +1,5 @@
 pub mod LineFacts
+pub mod QuoteFacts
 pub mod FileFacts
 pub mod RecordFacts
 pub mod WholeFacts

@@ -1,20 +1,20 @@
 -- A site that is killed at any moment, or loses its power.
 use Rattle.std.proofs.Common.{◌≡◌, ◌∙◌, ◌⊎◌, inl, inr, ◌++◌, ◌∷◌, [], ℕ, List, Option, Some, None, refl, sym, ap, subst, append_assoc}
 use Rattle.std.proofs.lemmas.List.{append-nil}
-use Rattle.std.specs.Io.KnownBytes.{Consumes, IsAtEnd}
+use Rattle.std.specs.Io.KnownBytes.{Consumes}
 use Rattle.rubis_engine.specs.Accounts.{Account}
 use Rattle.rubis_engine.specs.Accounts.Ending.{AtEnd, Cut}
 use Rattle.rubis_engine.specs.Text.{input_records}
-use Rattle.rubis_keep.specs.Crashes.{Files, IsLeft}
+use Rattle.rubis_keep.specs.Crashes.{Files}
 use Rattle.rubis_keep.specs.History.{AreSafe, Event, FileState, Follows, IsSafe, after, after_all, records_in}
 use Rattle.rubis_keep.specs.History.Event.{Began, CutTo, Flushed, Kept, Replied, Settled, Shown, Told}
 use Rattle.rubis_keep.specs.Kept.{Ended, IsFrontOf, Lived}
 use Rattle.rubis_keep.specs.Lines.{AreSound, begun_after, kept_of, whole_lines}
 use Rattle.rubis_keep.specs.Lives.{IsOpened}
-use Rattle.rubis_keep.specs.Moments.{AtEachMoment, Extends, KillsLeaveFiles, PowerFailuresLeaveFiles, RaisedKeepsTellTheSame, SurvivesIn, from_disk, opened_again}
+use Rattle.rubis_keep.specs.Moments.{Extends, KillsLeaveFiles, PowerFailuresLeaveFiles, RaisedKeepsTellTheSame, SurvivesIn, from_disk, opened_again}
 use Rattle.rubis_keep.proofs.GrowFacts.{front-more, records-grow, whole-front, whole-more}
 use Rattle.rubis_keep.proofs.HistoryFacts.{safe-first}
-use Rattle.rubis_keep.proofs.SoundFacts.{sound-front, whole-rest, whole-whole}
+use Rattle.rubis_keep.proofs.SoundFacts.{sound-front, whole-rest}
 
 safe-at : (text : List (List (List ℕ)) → List ℕ) (s : FileState) (first later : List Event) → AreSafe text s (first ++ later) → IsSafe text (after_all s first)
 safe-at text s [] later h = safe-first text s later h

@@ -1,7 +1,7 @@
 -- Histories that are refused.
-use Rattle.std.proofs.Common.{◌≡◌, ◌∙◌, ◌⊎◌, inl, inr, ◌+◌, ◌++◌, ◌∷◌, [], ℕ, Bool, true, false, List, length, map, refl, sym, ap, arith, length-append}
+use Rattle.std.proofs.Common.{◌≡◌, ◌∙◌, ◌⊎◌, inl, inr, ◌++◌, ◌∷◌, [], ℕ, Bool, true, false, List, length, ap, arith, length-append}
 use Rattle.std.specs.Prelude.{MatchBool}
-use Rattle.rubis_keep.specs.History.{AreSafe, Event, FileState, IsSafe, after, records_in}
+use Rattle.rubis_keep.specs.History.{after, records_in}
 use Rattle.rubis_keep.specs.History.Event.{Kept, Shown, Told}
 use Rattle.rubis_keep.specs.Kept.{IsFrontOf}
 use Rattle.rubis_keep.specs.Moments.{ShownTooEarlyIsUnsafe, ToldTooEarlyIsUnsafe}

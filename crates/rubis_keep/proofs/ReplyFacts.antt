@@ -1,8 +1,7 @@
 -- A question that is answered between two pieces of an input.
 use Rattle.std.proofs.Common.{◌≡◌, ◌∙◌, ◌+◌, ◌⊎◌, inl, inr, ◌++◌, ◌∷◌, [], ℕ, Bool, true, false, List, Option, Some, None, Result, Ok, Err, cond, map, take, refl, sym, ap, subst}
 use Rattle.std.proofs.Common.{append-nil}
-use Rattle.std.specs.Prelude.{IsErr, MatchResult, OnOk}
-use Rattle.std.specs.Io.KnownBytes.{Consumes, Keeps}
+use Rattle.std.specs.Io.KnownBytes.{Keeps}
 use Rattle.rubis_model.specs.Site.{Place, Replica}
 use Rattle.rubis_script.specs.Replica.{SiteState}
 use Rattle.rubis_script.specs.SiteRuns.{told_by}
@@ -10,14 +9,14 @@ use Rattle.rubis_engine.specs.Accounts.{Account}
 use Rattle.rubis_engine.specs.Accounts.Ending.{AtEnd}
 use Rattle.rubis_engine.specs.Text.{input_records}
 use Rattle.rubis_keep.specs.Asking.{Asks, AsksFirst, OfEachAsking, RepliesIf, owed, replied_in, reply_to}
-use Rattle.rubis_keep.specs.History.{AreSafe, Event, FileState, Grows, HasTold, History, IsAnswered, StaysSafe, Tells, after_all, log_of, now, out_in, kept_in, records_in}
+use Rattle.rubis_keep.specs.History.{FileState, Grows, History, IsAnswered, StaysSafe, Tells, log_of, now}
 use Rattle.rubis_keep.specs.History.Event.{Replied}
-use Rattle.rubis_keep.specs.Lines.{asked_after, whole_lines}
+use Rattle.rubis_keep.specs.Lines.{asked_after}
 use Rattle.rubis_keep.specs.Lives.{Lives, LivesSafe, Rested}
 use Rattle.rubis_keep.specs.Questions.{reply_rows, reply_text}
 use Rattle.rubis_keep.proofs.AskFacts.{asks-cut, asks-fails, asks-replied, silent-none}
 use Rattle.rubis_keep.proofs.FileFacts.{consumes-none}
-use Rattle.rubis_keep.proofs.HistoryFacts.{IsStill, grows-more, grows-none, now-more, stays-more, still-by, still-none, tells-later}
+use Rattle.rubis_keep.proofs.HistoryFacts.{IsStill, grows-more, now-more, stays-more, still-by, still-none, tells-later}
 use Rattle.rubis_keep.proofs.SafeFacts.{all-whole, rested-safe, some-same, stays-known}
 
 -- ---- what it does to the files

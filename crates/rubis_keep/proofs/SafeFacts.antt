@@ -1,20 +1,19 @@
 -- The files of a run stay safe.
-use Rattle.std.proofs.Common.{◌≡◌, ◌∙◌, ◌+◌, ◌⊎◌, inl, inr, ◌++◌, ◌∷◌, [], ℕ, Bool, true, false, List, Option, Some, None, Result, Ok, Err, cond, drop, length, map, take}
+use Rattle.std.proofs.Common.{◌≡◌, ◌∙◌, ◌⊎◌, inl, inr, ◌++◌, ◌∷◌, [], ℕ, Bool, true, false, List, Option, Some, None, Result, Ok, Err, drop, map, take}
 use Rattle.std.proofs.Common.{refl, sym, ap, subst, append_assoc, take-append-drop}
 use Rattle.std.proofs.lemmas.List.{append-nil}
 use Rattle.std.specs.Prelude.{IsErr, OnErr, OnOk}
-use Rattle.std.specs.Io.KnownBytes.{Appends}
 use Rattle.rubis_engine.specs.Accounts.{Account}
 use Rattle.rubis_engine.specs.Accounts.Ending.{AtEnd}
 use Rattle.rubis_engine.specs.Text.{input_records}
-use Rattle.rubis_keep.specs.History.{Answers, AreSafe, Event, FileState, Grows, HasKept, HasTold, History, IsSafe, KeepsLines, StaysSafe, Tells, after, after_all}
+use Rattle.rubis_keep.specs.History.{Answers, AreSafe, Event, FileState, Grows, HasTold, History, IsSafe, KeepsLines, StaysSafe, Tells, after_all}
 use Rattle.rubis_keep.specs.History.{now, out_in, records_in, told_of}
-use Rattle.rubis_keep.specs.History.Event.{Began, CutTo, Flushed, Kept, Settled, Shown, Told}
+use Rattle.rubis_keep.specs.History.Event.{Flushed, Kept}
 use Rattle.rubis_keep.specs.Kept.{HasAnswered, InEachRest, IsFrontOf, OutEnds, Rests}
 use Rattle.rubis_keep.specs.Lines.{AreSound, HasNoEnd, begun_after, is_marked, kept_after, whole_lines}
 use Rattle.rubis_keep.specs.Lives.{Lives, LivesSafe, Rested}
 use Rattle.rubis_keep.specs.Whole.{IsWhole}
-use Rattle.rubis_keep.proofs.HistoryFacts.{IsDue, OnlyTells, after-append, due-after, grows-more, now-more, only-keeps, only-tells, safe-answers, safe-append, safe-keeps, safe-last, stays-more, stays-none}
+use Rattle.rubis_keep.proofs.HistoryFacts.{after-append, due-after, now-more, only-keeps, only-tells, safe-answers, safe-append, safe-keeps, safe-last, stays-more, stays-none}
 use Rattle.rubis_keep.proofs.LineFacts.{begun-append}
 use Rattle.rubis_keep.proofs.RecordFacts.{records-append}
 use Rattle.rubis_keep.proofs.RestFacts.{keeps-same, rests-ends}

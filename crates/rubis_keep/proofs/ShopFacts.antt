@@ -10,7 +10,6 @@ use Rattle.rubis_laws.proofs.Processes.Restarts.{nothing_left_out, restarted_agr
 use Rattle.rubis_model.specs.Processes.{process}
 use Rattle.rubis_model.specs.Site.{opening_at}
 use Rattle.rubis_keep.specs.Crashes.{Files}
-use Rattle.rubis_keep.specs.Lines.{whole_lines}
 use Rattle.rubis_keep.specs.Shops.{AreKept, IsPrefix, KeptShopsAreRuns, records_of}
 use Rattle.rubis_keep.proofs.GrowFacts.{records-grow}
 

@@ -1,5 +1,5 @@
 -- The files of a run stay safe from its start on.
-use Rattle.std.proofs.Common.{◌≡◌, ◌∙◌, ◌+◌, ◌⊎◌, inl, inr, ◌++◌, ◌∷◌, [], ℕ, Bool, true, false, List, Option, Some, None, Result, Ok, Err, drop, length, map, take}
+use Rattle.std.proofs.Common.{◌≡◌, ◌∙◌, ◌+◌, ◌⊎◌, inl, inr, ◌++◌, ◌∷◌, [], ℕ, Bool, false, List, Option, Some, None, Result, Ok, Err, drop, length, take}
 use Rattle.std.proofs.Common.{arith, refl, sym, ap, subst, append_assoc, take-append-drop}
 use Rattle.std.proofs.lemmas.List.{append-nil}
 use Rattle.std.proofs.Math.Seq.{take-append_seam}
@@ -7,14 +7,14 @@ use Rattle.std.specs.Prelude.{IfSome}
 use Rattle.rubis_engine.specs.Accounts.{Account}
 use Rattle.rubis_engine.specs.Accounts.Ending.{AtEnd}
 use Rattle.rubis_engine.specs.Text.{input_records}
-use Rattle.rubis_keep.specs.History.{Answers, AreSafe, Event, FileState, Grows, HasDone, HasTold, History, IsAnswered, IsSafe, StaysSafe, Tells, after, after_all}
+use Rattle.rubis_keep.specs.History.{Answers, AreSafe, Event, FileState, Grows, HasTold, History, IsSafe, StaysSafe, Tells, after, after_all}
 use Rattle.rubis_keep.specs.History.{kept_in, now, out_in, records_in, told_of}
 use Rattle.rubis_keep.specs.History.Event.{Began, CutTo, Flushed, Kept, Replied, Settled, Shown, Told}
 use Rattle.rubis_keep.specs.Kept.{Begins, Ended, HasAnswered, IsFrontOf, Opens, Replayed}
 use Rattle.rubis_keep.specs.Lines.{AreSound, begun_after, whole_lines}
 use Rattle.rubis_keep.specs.Lives.{Found, IsOpened, LivesSafe, Rested}
 use Rattle.rubis_keep.proofs.HistoryFacts.{IsCut, cut-by, cut-flushed, cut-still, still-begun, still-none, still-unbegun}
-use Rattle.rubis_keep.proofs.HistoryFacts.{grows-none, now-more, only-tells, safe-answers, safe-first, safe-last, stays-more, stays-none}
+use Rattle.rubis_keep.proofs.HistoryFacts.{now-more, only-tells, safe-answers, safe-first, stays-more}
 use Rattle.rubis_keep.proofs.LifeFacts.{begins, go-uncut, go-untold}
 use Rattle.rubis_keep.proofs.SoundFacts.{whole-ends, whole-rest, whole-sound, whole-whole}
 

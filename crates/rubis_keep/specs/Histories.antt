@@ -1,5 +1,5 @@
 -- Shops whose sites' histories are interleaved in any way.
-use Rattle.std.specs.Prelude.{◌≡◌, ◌≤◌, ◌<◌, ◌==◌, ◌++◌, ◌∷◌, [], ℕ, Bool, List, MatchBool, cond, length, ⊤, suc, zero}
+use Rattle.std.specs.Prelude.{◌≡◌, ◌≤◌, ◌<◌, ◌==◌, ◌++◌, ◌∷◌, [], ℕ, List, MatchBool, cond, length, ⊤, suc, zero}
 use Rattle.rubis_schema.specs.declared.limits.TheConstants.{COUNTED_MAX, KEEP_MAX}
 use Rattle.rubis_model.specs.Processes.{read_by}
 use Rattle.rubis_model.specs.Restarts.{CarriedWithRestarts, Moment, NeverStopped, has_read, recorded}

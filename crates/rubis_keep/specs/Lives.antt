@@ -1,8 +1,8 @@
 -- A run that keeps lines and answers them, between two pieces of its input.
-use Rattle.std.specs.Prelude.{◌≡◌, ◌+◌, [], ℕ, List, Option, OnOk, Result, Some, false, true}
+use Rattle.std.specs.Prelude.{◌≡◌, [], ℕ, List, Option, OnOk, Result, Some, false, true}
 use Rattle.rubis_engine.specs.Accounts.{Account}
 use Rattle.rubis_engine.specs.Accounts.Ending.{AtEnd}
-use Rattle.rubis_keep.specs.Crashes.{Files, IsLeft}
+use Rattle.rubis_keep.specs.Crashes.{IsLeft}
 use Rattle.rubis_keep.specs.History.{FileState, History, IsSafe, StaysSafe, now}
 use Rattle.rubis_keep.specs.Kept.{HasAnswered}
 use Rattle.rubis_keep.specs.Lines.{AreSound, begun_after}

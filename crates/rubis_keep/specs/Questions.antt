@@ -1,7 +1,6 @@
 -- What a site answers to a question.
-use Rattle.std.specs.Prelude.{ℕ, ◌++◌, ◌∷◌, [], Bool, List, Option, None, Some, bytes_eq, codes, cond, decimal, drop, false, length, nat_le, not}
+use Rattle.std.specs.Prelude.{ℕ, ◌++◌, ◌∷◌, [], Bool, List, Option, None, Some, bytes_eq, codes, cond, decimal, drop, false, length, nat_le, not, option_map}
 use Rattle.std.specs.Option.{option_map_or}
-use Rattle.rubis_schema.specs.declared.listings.Listing.{Listing}
 use Rattle.rubis_message.specs.Grammar.{deps_text}
 use Rattle.rubis_message.specs.Readings.{request_of}
 use Rattle.rubis_message.specs.declared.requests.Request.{Request}
@@ -9,7 +8,16 @@ use Rattle.rubis_message.specs.declared.requests.Request.TheVariants as request
 use Rattle.rubis_model.specs.Log.{cores, fold_of}
 use Rattle.rubis_model.specs.Runs.{listing_rows}
 use Rattle.rubis_model.specs.Settle.{counted}
-use Rattle.rubis_model.specs.Site.{Place, Replica, counts}
+use Rattle.rubis_model.specs.Listings.{row_record}
+use Rattle.rubis_model.specs.Site.{Place, Replica, counts, rows_at}
+use Rattle.rubis_schema.specs.FieldForms.{id_of, nick_of}
+use Rattle.rubis_schema.specs.Ids.{id_text}
+use Rattle.rubis_schema.specs.NumberForms.{number_of}
+use Rattle.rubis_schema.specs.declared.limits.TheConstants.{CAT_MAX}
+use Rattle.rubis_schema.specs.declared.row_keys.RowKey.{RowKey}
+use Rattle.rubis_schema.specs.declared.row_keys.RowKey.TheVariants as key
+use Rattle.rubis_schema.specs.declared.rows.Row.{Row}
+use Rattle.rubis_schema.specs.declared.rows.Row.TheVariants as row
 use Rattle.rubis_engine.specs.Text.{input_records, rows_text}
 use Rattle.rubis_keep.specs.Lines.{closes, line_max}
 use Rattle.rubis_keep.specs.declared.questions.Question.{Question}
@@ -22,6 +30,27 @@ abbrev pub says_state : List (List ℕ) → Bool
 says_state (word ∷ []) = bytes_eq word (codes "state")
 says_state fields = false
 
+-- the key that two words say: a table, and what names a row of it
+abbrev pub key_in : ℕ → List ℕ → List ℕ → Option RowKey
+key_in sites table name =
+    cond (bytes_eq table (codes "user")) (option_map key.User (id_of sites name))
+    (cond (bytes_eq table (codes "item")) (option_map key.Item (id_of sites name))
+    (cond (bytes_eq table (codes "bid")) (option_map key.Bid (id_of sites name))
+    (cond (bytes_eq table (codes "purchase")) (option_map key.Purchase (id_of sites name))
+    (cond (bytes_eq table (codes "comment")) (option_map key.Comment (id_of sites name))
+    (cond (bytes_eq table (codes "category")) (option_map key.Cat (number_of CAT_MAX name))
+    (cond (bytes_eq table (codes "nickname")) (option_map key.Nick (nick_of name)) None))))))
+
+-- the row that these fields ask for
+abbrev pub row_asked : ℕ → List (List ℕ) → Option RowKey
+row_asked sites (word ∷ table ∷ name ∷ []) = cond (bytes_eq word (codes "row")) (key_in sites table name) None
+row_asked sites fields = None
+
+-- the first that is there
+abbrev pub asked_or : Option RowKey → Option Question → Option Question
+asked_or (Some k) other = Some (question.Row k)
+asked_or None other = other
+
 -- a question has the form of a request for a listing
 abbrev pub listed_by : Option Request → Option Question
 listed_by (Some (request.List l)) = Some (question.List l)
@@ -30,7 +59,7 @@ listed_by (Some (request.Pass to)) = None
 listed_by None = None
 
 abbrev pub question_of : ℕ → List (List ℕ) → Option Question
-question_of sites fields = cond (says_state fields) (Some question.State) (listed_by (request_of sites fields))
+question_of sites fields = cond (says_state fields) (Some question.State) (asked_or (row_asked sites fields) (listed_by (request_of sites fields)))
 
 -- a question is one record
 abbrev pub question_in : ℕ → List (List (List ℕ)) → Option Question
@@ -58,9 +87,20 @@ state_row p s answered =
     codes "state" ∷ decimal answered ∷ decimal (counted p.site s.log) ∷ deps_text (counts p.sites s.log) ∷ token_text s ∷ decimal s.last
     ∷ decimal (length s.waiting) ∷ []
 
+-- the record of the row at a key, as listings show it, or of the user who has a nickname
+abbrev pub row_shown : RowKey → Option Row → List (List (List ℕ))
+row_shown (key.Nick nick) (Some (row.Nick id)) = (codes "row" ∷ codes "nickname" ∷ nick ∷ id_text id ∷ []) ∷ []
+row_shown k (Some r) = row_record k r
+row_shown k None = []
+
+abbrev pub or_none : List (List (List ℕ)) → List (List (List ℕ))
+or_none [] = (codes "none" ∷ []) ∷ []
+or_none (r ∷ rs) = r ∷ rs
+
 -- what a site shows that answered so many records; a question changes nothing of it
 abbrev pub shown_to : Place → Replica → ℕ → Option Question → List (List (List ℕ))
 shown_to p s answered (Some (question.List l)) = counted_rows (listing_rows s.log (fold_of (cores s.log)) l)
+shown_to p s answered (Some (question.Row k)) = or_none (row_shown k (rows_at s.log k))
 shown_to p s answered (Some question.State) = state_row p s answered ∷ []
 shown_to p s answered None = refused_as (codes "BadQuestion")
 

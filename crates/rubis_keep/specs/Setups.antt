@@ -1,5 +1,5 @@
 -- How a site in a folder is set up, by what is asked for and what the folder has.
-use Rattle.std.specs.Prelude.{◌≡◌, ◌≤◌, ℕ, Option, unwrap_or}
+use Rattle.std.specs.Prelude.{◌≡◌, ◌≤◌, unwrap_or}
 use Rattle.rubis_schema.specs.declared.limits.TheConstants.{KEEP_MAX}
 use Rattle.rubis_model.specs.Site.{Place}
 use Rattle.rubis_keep.specs.declared.keep.Wanted.{Wanted}

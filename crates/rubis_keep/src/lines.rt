@@ -6,7 +6,7 @@ ghost use Rattle.csv.specs.Machine.{step};
 ghost use Rattle.csv.specs.declared.parser.State.{State};
 ghost use Rattle.rubis_keep.specs.Lines.{begun_after, closes, is_question, is_sound, kept_line, kept_record};
 ghost use Rattle.rubis_keep.specs.Cuts.{CutsLines};
-ghost use Rattle.rubis_keep.specs.Places.{StandsIn, begun_bytes, plain_place};
+ghost use Rattle.rubis_keep.specs.Places.{StandsIn, begun_bytes, has_quote, plain_place};
 
 use std::alloc::{AllocError, Global};
 use std::marker::Model;
@@ -68,11 +68,26 @@ fn place_after(place: Place, byte: u8) -> Place
     }
 }
 
+// Whether a quote is among these bytes.
+fn has_quote(line: &[u8]) -> bool
+    ensures { result ≡ has_quote line.now }
+{
+    for byte in line {
+        if *byte == b'"' {
+            return true;
+        }
+    }
+    false
+}
+
 // Whether the quotes of a line close.
-#[tactic(auto, using(crate::proofs::LineFacts::state_take_more))]
+#[tactic(auto, using(crate::proofs::LineFacts::state_take_more, crate::proofs::QuoteFacts::plain_closes))]
 pub(crate) fn closes(line: &[u8]) -> bool
     ensures { result ≡ closes line.now }
 {
+    if !has_quote(line) {
+        return true;
+    }
     let mut place = Place::FieldStart;
     for byte in line {
         place = place_after(place, *byte);

@@ -1,12 +1,14 @@
 //! Questions, and what a site answers to them.
 
-ghost use Rattle.std.specs.Prelude.{◌≡◌, ◌≤◌, ◌++◌, ◌∷◌, [], IfOk, ℕ, List, Some, codes, drop, length, true};
+ghost use Rattle.std.specs.Prelude.{◌≡◌, ◌≤◌, ◌++◌, ◌∷◌, [], IfOk, MatchBool, ℕ, List, Some, codes, drop, length, true};
 ghost use Rattle.rubis_schema.specs.FieldList.{is_plain};
 ghost use Rattle.rubis_model.specs.Settle.{counted};
+ghost use Rattle.rubis_model.specs.Site.{rows_at};
+ghost use Rattle.rubis_replica.specs.Progress.{resting_at};
 ghost use Rattle.rubis_engine.specs.Text.{input_records, rows_text};
 ghost use Rattle.rubis_keep.specs.Asking.{IsUnmoved};
 ghost use Rattle.rubis_keep.specs.declared.questions.Question.TheVariants as Question;
-ghost use Rattle.rubis_keep.specs.Questions.{counted_rows, question_in, question_of, refused_as, reply_rows, says_state, shown_to, state_row};
+ghost use Rattle.rubis_keep.specs.Questions.{counted_rows, key_in, or_none, question_in, question_of, refused_as, reply_rows, row_asked, row_shown, says_state, shown_to, state_row};
 
 use crate::clerk::Clerk;
 use crate::counts::push_counts;
@@ -14,7 +16,10 @@ use crate::fault::KeepFault;
 use crate::lines::{LINE_MAX, closes};
 use rubis_engine::{InputRecord, OutOfMemory, Records, Sink};
 use rubis_message::{ReadFault, Request, read_request};
-use rubis_schema::{Counted, Fields, Listing, Record, RowSink};
+use rubis_replica::put_record;
+use rubis_schema::{
+    CAT_MAX, Counted, Fields, Id, Listing, Nick, Record, Row, RowKey, RowSink, read_number,
+};
 use rubis_script::{Fault, Gate};
 use std::alloc::{AllocError, Global};
 use std::sync::Wait;
@@ -25,6 +30,8 @@ use std::thread::Threads;
 pub enum Question {
     /// The rows of a listing.
     List(Listing),
+    /// The row at a key, or the user who has a nickname.
+    Row(RowKey),
     /// How far the site has come.
     State,
 }
@@ -46,6 +53,49 @@ fn says_state(fields: &InputRecord) -> bool
     }
 }
 
+// The key that two words say: a table, and what names a row of it.
+fn read_key(table: &[u8], name: &[u8], sites: u8) -> Option<RowKey>
+    ensures { result ≡ key_in sites table.now name.now }
+{
+    if table == b"user".as_slice() {
+        Some(RowKey::User(Id::read(name, sites)?))
+    } else if table == b"item".as_slice() {
+        Some(RowKey::Item(Id::read(name, sites)?))
+    } else if table == b"bid".as_slice() {
+        Some(RowKey::Bid(Id::read(name, sites)?))
+    } else if table == b"purchase".as_slice() {
+        Some(RowKey::Purchase(Id::read(name, sites)?))
+    } else if table == b"comment".as_slice() {
+        Some(RowKey::Comment(Id::read(name, sites)?))
+    } else if table == b"category".as_slice() {
+        Some(RowKey::Cat(read_number(name, CAT_MAX)? as u16))
+    } else if table == b"nickname".as_slice() {
+        Some(RowKey::Nick(Nick::read(name)?))
+    } else {
+        None
+    }
+}
+
+// The row that a record asks for, if it does.
+fn read_row(fields: &InputRecord, sites: u8) -> Option<RowKey>
+    ensures { result ≡ row_asked sites fields.now }
+{
+    match (
+        fields.len(),
+        fields.field(0),
+        fields.field(1),
+        fields.field(2),
+    ) {
+        (3, Some(word), Some(table), Some(name)) => {
+            if word != b"row".as_slice() {
+                return None;
+            }
+            read_key(table, name, sites)
+        }
+        _ => None,
+    }
+}
+
 // What a record asks, if it is a question.
 fn read_question(
     alloc: Global,
@@ -56,6 +106,9 @@ fn read_question(
 {
     if says_state(fields) {
         return Ok(Some(Question::State));
+    }
+    if let Some(key) = read_row(fields, sites) {
+        return Ok(Some(Question::Row(key)));
     }
     match read_request(alloc, fields, sites) {
         Ok(Request::List(listing)) => Ok(Some(Question::List(listing))),
@@ -182,6 +235,54 @@ fn show_listing<G: Gate, T: Threads + Wait + Sync>(
     }
 }
 
+// The record of the row at a key, as listings show it, or of the user who has a nickname. Whether there is one.
+fn put_shown(fields: &mut Fields, key: &RowKey, row: &Row) -> Result<bool, AllocError>
+    ensures { IfOk result (λ has. MatchBool has (row_shown key.now (Some row.now) ≡ fields.new ∷ []) (row_shown key.now (Some row.now) ≡ [])) }
+{
+    let (RowKey::Nick(nick), Row::Nick(id)) = (key, row) else {
+        return put_record(fields, key, row);
+    };
+    fields.clear();
+    fields.push_plain(b"row")?;
+    fields.push_plain(b"nickname")?;
+    fields.push(nick.as_bytes())?;
+    id.push_to(fields)?;
+    Ok(true)
+}
+
+// Shows the row at a key, or that there is none.
+fn show_row<G: Gate>(clerk: &Clerk<G>, key: &RowKey) -> Result<Sink, AllocError>
+    requires { clerk.now.desk.site.progress ≡ resting_at (length clerk.now.desk.site.state.log) }
+    ensures { IfOk result (λ sink. sink ≡ rows_text (or_none (row_shown key.now (rows_at clerk.now.desk.site.state.log key.now)))) }
+{
+    let mut fields = Fields::new(clerk.alloc);
+    let has = match clerk.desk.site.row(key) {
+        Some(found) => put_shown(&mut fields, key, found)?,
+        None => false,
+    };
+    if !has {
+        fields.clear();
+        fields.push_plain(b"none")?;
+    }
+    row(clerk.alloc, &fields)
+}
+
+// Applies all that is pending, and shows the row at a key.
+fn look_up<G: Gate, T: Threads + Wait + Sync>(
+    rt: &T,
+    clerk: &mut Clerk<G>,
+    key: &RowKey,
+) -> Result<Sink, KeepFault>
+    ensures same { IsUnmoved clerk.old clerk.new }
+    ensures rows { IfOk result (λ sink. sink ≡ rows_text (shown_to clerk.old.desk.site.place clerk.old.desk.site.state clerk.old.desk.answered
+        (Some (Question.Row key.now)))) }
+{
+    if clerk.desk.site.cut(rt).is_err() {
+        return Err(KeepFault::Memory);
+    }
+    Ok(show_row(clerk, key)?)
+}
+
 /// Answers a line that is a question, or the first bytes of it: with '?' before them, these rows are its answer. What is pending may be
 /// applied; nothing else changes.
 pub(crate) fn answer<G: Gate, T: Threads + Wait + Sync>(
@@ -201,6 +302,7 @@ pub(crate) fn answer<G: Gate, T: Threads + Wait + Sync>(
     }
     match read_line(clerk.alloc, rest, clerk.desk.sites())? {
         Some(Question::List(listing)) => show_listing(rt, clerk, &listing),
+        Some(Question::Row(key)) => look_up(rt, clerk, &key),
         Some(Question::State) => Ok(show_state(clerk)?),
         None => Ok(refuse(clerk.alloc, b"BadQuestion")?),
     }

@@ -12,4 +12,5 @@ mod sources;
 pub use listing_rows::ListingRows;
 pub use listings::{bids, categories, comments, items, list_tables, purchases, tables, users};
 pub use logs::{log, misfit_rows};
+pub use records::put_record;
 pub use shared::SHARED_MIN;

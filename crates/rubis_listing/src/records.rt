@@ -130,7 +130,8 @@ fn put_category(fields: &mut Fields, cat: u16, row: &CatRow) -> Result<(), Alloc
     push_int(fields, row.live)
 }
 
-// The record of the row at a key, if it has one.
+/// The record of the row at a key, as listings show it, in place of what `fields` had. Whether there is one: there is none for a
+/// nickname, nor for a category that shows nothing.
 pub fn put_record(fields: &mut Fields, key: &RowKey, row: &Row) -> Result<bool, AllocError>
     ensures { IfOk result (λ has. MatchBool has (row_record key.now row.now ≡ fields.new ∷ []) (row_record key.now row.now ≡ [])) }
 {

@@ -15,7 +15,7 @@ pub use config::Config;
 pub use faults::Fault;
 pub use follower::Follower;
 pub use progress::{Progress, Stage};
-pub use rubis_listing::ListingRows;
+pub use rubis_listing::{ListingRows, put_record};
 pub use rubis_workers::{Free, Gate};
 pub use site::Site;
 pub use tries::{

@@ -1,6 +1,6 @@
 //! One site, and its calls.
 
-ghost use Rattle.std.specs.Prelude.{◌≡◌, ◌≤◌, ◌<◌, ◌⊎◌, [], All, IfOk, IfErr, IfNone, IfSome, IsErrOf, Ok, OnOk, Some, length, take};
+ghost use Rattle.std.specs.Prelude.{◌≡◌, ◌≤◌, ◌<◌, ◌⊎◌, [], All, IfOk, IfErr, IfNone, IfSome, IsErrOf, Ok, OnOk, Some, length, option_copied, take};
 ghost use Rattle.rubis_shadow.specs.Shadows.{InLimits, IsAsk};
 ghost use Rattle.rubis_message.specs.Message.{sites_of};
 ghost use Rattle.rubis_model.specs.Log.{cores, fold_of};
@@ -23,7 +23,7 @@ use rubis_generate::decide;
 use rubis_listing::ListingRows;
 use rubis_message::{Arrival, Message, Taken, Token};
 use rubis_release::Intake;
-use rubis_schema::{Fields, Items, Listing, SharedSink};
+use rubis_schema::{Fields, Items, Listing, Row, RowKey, SharedSink, View};
 use rubis_shadow::{Ask, Shadow};
 use rubis_workers::{Free, Gate, misfits};
 use std::alloc::{AllocError, Global};
@@ -269,6 +269,14 @@ impl<G: Gate> Site<G> {
             }
             _ => self.follower.rows(listing),
         }
+    }
+
+    /// The row at a key in the tables of the log, all of which is applied, as `cut` leaves it: one look-up.
+    pub fn row(&self, key: &RowKey) -> Option<&Row>
+        requires { self.now.progress ≡ resting_at (length self.now.state.log) }
+        ensures { option_copied result ≡ rows_at self.now.state.log key.now }
+    {
+        self.follower.tables().row(key)
     }
 
     /// Adds the rows of a listing to what takes them, one after the other. The listing of the log reads no tables and applies

@@ -1,4 +1,4 @@
-use Rattle.std.proofs.Common.{◌≡◌, ◌∙◌, ◌+◌, ap, false, refl, subst, sym, true}
+use Rattle.std.proofs.Common.{◌∙◌, ◌+◌, ap, false, refl, subst, sym, true}
 use Rattle.rubis_engine.proofs.RunFacts.{takes-at}
 use Rattle.rubis_engine.specs.Reading.{fields_now}
 use Rattle.rubis_message.specs.Inputs.{input_of}

@@ -1,4 +1,4 @@
-use Rattle.std.proofs.Common.{◌≡◌, ◌∙◌, ◌++◌, [], List, ℕ, ap, drop, sym, take}
+use Rattle.std.proofs.Common.{◌≡◌, ◌∙◌, ◌++◌, ap, drop, sym, take}
 use Rattle.rubis_keep.specs.Cuts.{asked_by}
 use Rattle.rubis_keep.specs.Lines.{kept_after}
 use Rattle.rubis_keep.proofs.LeftFacts.{drop-none, left-end, left-taken, take-none}

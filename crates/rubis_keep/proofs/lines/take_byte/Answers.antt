@@ -1,4 +1,4 @@
-use Rattle.std.proofs.Common.{◌∙◌, refl, rules}
+use Rattle.std.proofs.Common.{◌∙◌, rules}
 use Rattle.std.proofs.lemmas.Bool.{ne_eqb}
 use Rattle.rubis_keep.proofs.CutFacts.{cut-ended, cut-pushed, cut-stays}
 use Rattle.rubis_keep.proofs.lines.take_byte.Goals as goal

@@ -1,4 +1,4 @@
-use Rattle.std.proofs.Common.{◌∙◌, ap, arith, drop, sym}
+use Rattle.std.proofs.Common.{◌∙◌, ap, arith, sym}
 use Rattle.rubis_keep.specs.Lines.{closes}
 use Rattle.rubis_keep.proofs.QuestionFacts.{refused-bad, refused-open}
 use Rattle.rubis_keep.proofs.questions.answer.Goals as goal

@@ -1,4 +1,4 @@
-use Rattle.std.proofs.Common.{◌∙◌, refl}
+use Rattle.std.proofs.Common.{refl}
 use Rattle.rubis_release.proofs.Counting.{counts_at, length_counts}
 use Rattle.rubis_keep.proofs.questions.own_count.Goals as goal
 

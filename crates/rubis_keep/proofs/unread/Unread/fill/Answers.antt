@@ -1,4 +1,4 @@
-use Rattle.std.proofs.Common.{◌≡◌, ◌∙◌, ◌-◌, [], List, ℕ, ap, arith, drop, length, rules, subst, sym, take}
+use Rattle.std.proofs.Common.{◌≡◌, ◌∙◌, ◌-◌, [], ap, arith, drop, length, rules, subst, sym, take}
 use Rattle.std.proofs.lemmas.List.{with_items_is}
 use Rattle.std.specs.Io.KnownBytes.{Consumes}
 use Rattle.rubis_keep.specs.Kept.{left_of}

@@ -1,4 +1,4 @@
-use Rattle.std.proofs.Common.{refl, sym, subst}
+use Rattle.std.proofs.Common.{sym}
 use Rattle.rubis_keep.proofs.LeftFacts.{left-passed}
 use Rattle.rubis_keep.proofs.unread.Unread.pass.Goals as goal
 
