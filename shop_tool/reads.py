@@ -1,6 +1,7 @@
 """Reads of a site here, by questions, which leave nothing: rows, pages and listings. An older program keeps a listing as a record."""
 
 import asyncio
+import contextlib
 from typing import TYPE_CHECKING
 
 from .carrier.answers import Answer
@@ -15,6 +16,10 @@ if TYPE_CHECKING:
 
 AT_ONCE = 4                 # how many long answers are made at once, since each is in memory whole
 STATE = b"?state"
+
+
+class NoForm(Exception):
+    """The row can't be had by a question: the program knows no such one, or the key is none, or what it is of has changed just then."""
 
 
 class Reads:
@@ -37,14 +42,26 @@ class Reads:
     async def row(self, site: KeptSite, table: str, key: str, seconds: float) -> str | None:
         """One row of a table by its key; of `nickname` a user's."""
         if self.shop.asks_questions:
-            question = bytes_of(line_of(["?row", table, key]))
-            answer, = await self._answers(site, [question], seconds)
-            if answer.refusal is None:
-                return None if answer.lines[0] == b"?none" else text_of(answer.lines[0][1:])
+            with contextlib.suppress(NoForm):
+                return await self._row_asked(site, table, key, seconds)
         listing = await self._listing_with(table, key)
         rows, = await self.listings(site, [listing], seconds) if listing else [[]]
         column = "nickname" if table == "nickname" else COLUMNS[table][0]
         return next((line for line in rows if str(row_of(line)[column]) == key), None)
+
+    async def _row_asked(self, site: KeptSite, table: str, key: str, seconds: float) -> str | None:
+        """One row by a question."""
+        answer, = await self._answers(site, [bytes_of(line_of(["?row", table, key]))], seconds)
+        if answer.refusal:
+            raise NoForm
+        line = None if answer.lines[0] == b"?none" else text_of(answer.lines[0][1:])
+        if line is None or not line.startswith("row,nickname,"):
+            return line
+        # It has the user with that nickname, who may have another one by the time of the second question.
+        user = await self._row_asked(site, "user", fields_of(line)[3], seconds)
+        if user is None or row_of(user)["nickname"] != key:
+            raise NoForm
+        return user
 
     async def page(self, site: KeptSite, listing: bytes, after: str | None, most: int, seconds: float) -> tuple[list[str], str | None]:
         """The rows of a listing behind the one of this name, so many at most; and the name of the last of them, if more come."""
