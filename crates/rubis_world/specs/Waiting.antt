@@ -6,7 +6,6 @@ use Rattle.rubis_model.specs.Site.{Place, Replica, opening_at}
 use Rattle.rubis_engine.specs.Accounts.{Account, Ending}
 use Rattle.rubis_engine.specs.Accounts.Ending.{AtEnd, Cut}
 use Rattle.rubis_engine.specs.Text.{rows_text}
-use Rattle.rubis_script.specs.Replica.{SiteState}
 
 -- at the end of the input, the rows of what waits at the site; where the run is cut short, nothing
 abbrev pub waiting_text : Ending → Replica → List ℕ
@@ -20,6 +19,3 @@ waiting_from p s n = record { text = λ ending records. waiting_text ending (sit
 -- of all records of an input, at a site with nothing done
 abbrev pub waiting_account : Place → Account
 waiting_account p = waiting_from p (opening_at p.site) 1
-
-abbrev pub waiting_at : SiteState → ℕ → Account
-waiting_at s n = waiting_from s.place s.state n
