@@ -2,10 +2,12 @@
 
 import asyncio
 import contextlib
+import time
 from typing import TYPE_CHECKING
 
 from .carrier.answers import Answer
 from .carrier.records import COLUMNS, REFUSALS, Purpose, bytes_of, fields_of, line_of, row_of, text_of
+from .carrier.site import Pending
 from .ends import Fault, Status
 from .requests import message_of
 from .signals import waited
@@ -31,13 +33,30 @@ class Reads:
         """The rows of listings, which are taken at one moment."""
         is_asked = self.shop.asks_questions
         records = [b"?" + listing if is_asked else listing for listing in listings]
-        found = []
-        async with asyncio.timeout(seconds + 1), self._long:
-            for listing, answer in zip(listings, await self._answers(site, records, seconds)):
+        found, until = [], time.monotonic() + seconds
+        try:
+            async with asyncio.timeout(seconds):
+                await self._long.acquire()
+        except TimeoutError:
+            raise Fault(Status.AWAY, f"site {site.number}: {AT_ONCE} long listings are being made, and none had ended "
+                        f"within {round(seconds, 2):g} s") from None
+        pending: list[Pending] = []
+        try:
+            for listing, answer in zip(listings, await self._answers(site, records, max(until - time.monotonic(), 0.001), pending)):
                 if answer.refusal:
                     raise Fault(Status.REFUSED, f"{text_of(listing)}: {REFUSALS['BadRecord']}")
                 found.append([text_of(line) for line in answer.lines[1:]])
+        finally:
+            self.shop.task(self._made(site, pending), is_needed=False)
         return found
+
+    async def _made(self, site: KeptSite, pending: list[Pending]) -> None:
+        """Lets the next long listing begin once these are made: the site makes them too where nobody waits any more."""
+        try:
+            while any(not each.done.is_set and each in site.line for each in pending):
+                await waited(pending[-1].done, 1.0)
+        finally:
+            self._long.release()
 
     async def row(self, site: KeptSite, table: str, key: str, seconds: float) -> str | None:
         """One row of a table by its key; of `nickname` a user's."""
@@ -77,9 +96,11 @@ class Reads:
         """Returns once whatever was given to the site before is answered."""
         await self._answers(site, [STATE if self.shop.asks_questions else b"list,misfits"], seconds)
 
-    async def _answers(self, site: KeptSite, records: list[bytes], seconds: float) -> list[Answer]:
-        """The answers to questions that are asked at one moment."""
+    async def _answers(self, site: KeptSite, records: list[bytes], seconds: float, given: list[Pending] | None = None) -> list[Answer]:
+        """The answers to questions that are asked at one moment; what was `given` for that is told, if a list is there for it."""
         pending = site.give(records, Purpose.QUESTION if self.shop.asks_questions else Purpose.LISTING)
+        if given is not None:
+            given.extend(pending)
         try:
             if not await waited(pending[-1].done, seconds):
                 raise Fault(Status.AWAY, f"site {site.number} is {site.state}, and gave no answer within {round(seconds, 2):g} s")

@@ -127,8 +127,8 @@ class KeptSite(Site):
 
     def write_keys(self, lines: bytes) -> None:
         path = f"{self.folder}/{KEYS}"
-        if self._keys is not None and not is_at(path, self._keys):
-            self.put_keys(self.keys.text(self.shop.unix_time()))        # somebody has removed it
+        if not (os.path.exists(path) if self._keys is None else is_at(path, self._keys)):
+            self.put_keys(self.keys.text(self.shop.unix_time()))        # somebody has removed it, or it is the first time
         if self._keys is None:
             self._keys = os.open(path, os.O_WRONLY | os.O_CREAT | os.O_APPEND, 0o600)
             synced(self.folder)

@@ -52,7 +52,7 @@ def from_file(path: str | None) -> Access:
     if path is None:
         return Access(None)
     keys: dict[bytes, May] = {}
-    with open(path) as file:
+    with open(path, encoding="utf-8-sig", errors="surrogateescape") as file:
         if os.fstat(file.fileno()).st_mode & 0o077:
             raise Fault(Status.MISUSE, f"{path} has keys, and others may read it (chmod 600)")
         for number, line in enumerate(file, 1):

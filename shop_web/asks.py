@@ -13,6 +13,7 @@ from .line import Line
 from .problems import Problem, of_fault, refused
 
 PIECE = 1000        # how many of the asks of one request go to the supervisor at once
+MOST_ASKS = 100_000     # of one request: they are read and checked while everybody else waits
 # The fields of each kind of ask, in the order of its record.
 FIELDS: dict[str, tuple[str, ...]] = {
     "user": ("nickname",), "item": ("seller", "name", "category", "stock", "start", "price"), "bid": ("item", "bidder", "amount"),
@@ -72,12 +73,14 @@ def of_json(body: bytes, key: str | None) -> tuple[list[One], bool]:
     except (ValueError, RecursionError) as fault:
         raise Problem("BadRequest", f"the body is no JSON: {fault}") from fault
     if isinstance(found, list):
+        _check_count(len(found))
         return with_key([_of_object(one) for one in found], key), True
     return with_key([_of_object(found)], key), False
 
 
 def of_csv(body: bytes, key: str | None) -> tuple[list[One], bool]:
     """The asks of a body in CSV, a record a line."""
+    _check_count(body.count(b"\n"))
     try:
         lines = body.decode().split("\n")
     except UnicodeDecodeError as fault:
@@ -85,6 +88,11 @@ def of_csv(body: bytes, key: str | None) -> tuple[list[One], bool]:
     if lines[-1] == "":
         lines.pop()
     return with_key([One(line.removesuffix("\r"), None) for line in lines], key), len(lines) != 1
+
+
+def _check_count(asks: int) -> None:
+    if asks > MOST_ASKS:
+        raise Problem("TooLong", f"a request has at most {MOST_ASKS} asks; nothing was asked")
 
 
 def with_key(asks: list[One], key: str | None) -> list[One]:

@@ -14,6 +14,7 @@ from shop_tool.requests import Request
 from shop_tool.signals import Together
 
 ANSWER_BYTES = 1 << 30      # a listing is one line
+MOST_UNREAD = 10_000        # how many answers of one request may wait here to be taken in; only one that follows has so many
 Answer = dict[str, Any]
 
 
@@ -49,7 +50,7 @@ class Line:
             raise Fault(Status.AWAY, f"the supervisor of {self.folder} gave no answer within {round(seconds or 0, 2):g} s"
                         f"{unanswered(request)}") from None
         finally:
-            del self._waiting[name]
+            self._waiting.pop(name, None)
             if not is_over:
                 writer.write(json.dumps({"leave": name}).encode() + b"\n")
 
@@ -96,8 +97,13 @@ class Line:
         try:
             while (text := await reader.readline()).endswith(b"\n"):
                 answer = json.loads(text)
-                if answers := self._waiting.get(answer.pop("call", None)):
+                name = answer.pop("call", None)
+                if answers := self._waiting.get(name):
                     answers.put_nowait(answer)
+                    if answers.qsize() > MOST_UNREAD:       # its reader is too slow, and has to begin again
+                        del self._waiting[name]
+                        answers.put_nowait(None)
+                        writer.write(json.dumps({"leave": name}).encode() + b"\n")
         except (OSError, ValueError):
             pass
         writer.close()

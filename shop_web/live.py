@@ -16,6 +16,7 @@ from .line import Line
 STATUS_SECONDS = 1.0        # how often it is looked how the shop is, while somebody reads that
 QUIET_SECONDS = 15.0        # after which a line is sent that says nothing, so that a connection that is cut is seen
 ANSWER_SECONDS = 10.0
+READER_SECONDS = 60.0       # a reader that takes in nothing for so long is cut off
 END = b""
 
 
@@ -102,13 +103,18 @@ async def told(request: web.Request, stopping: asyncio.Event, sources: dict[str,
     try:
         text = b": it begins\n\n"
         while text != END:
-            await response.write(text)
+            async with asyncio.timeout(READER_SECONDS):
+                await response.write(text)
             text = b": nothing new\n\n"
             with contextlib.suppress(TimeoutError):
                 async with asyncio.timeout(QUIET_SECONDS):
                     text = await news.get()
         return response
     except ConnectionError:
+        return response
+    except TimeoutError:
+        if request.transport:
+            request.transport.abort()       # else its end would wait for what isn't read
         return response
     finally:
         for reader in readers:

@@ -68,5 +68,5 @@ def of_fault(fault: Fault, is_ask: bool = False) -> Problem:
         return Problem("BadRequest", fault.text)
     if fault.status == Status.REFUSED:
         return Problem("Refused", fault.text)
-    is_unknown = is_ask and ("may still be accepted" in fault.text or "isn't known" in fault.text or "accepted here" in fault.text)
+    is_unknown = is_ask and ("may still be accepted" in fault.text or "accepted isn't known" in fault.text or "accepted here" in fault.text)
     return Problem("Unknown" if is_unknown else "Away", fault.text)

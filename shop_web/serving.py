@@ -6,6 +6,7 @@ import csv
 import io
 import ipaddress
 import json
+import logging
 import pathlib
 import signal
 import ssl
@@ -106,6 +107,8 @@ class Server:
             response = Problem(name, f"{request.method} {request.path}: {refusal.reason}").response()
         except ConnectionError:
             raise
+        except web.RequestPayloadError as fault:       # its body isn't what its headers say
+            response = Problem("BadRequest", f"{request.method} {request.path}: {fault}").response()
         except Exception as fault:
             print(f"shop serve: {request.method} {shown(request.path)}: {fault!r}", file=sys.stderr, flush=True)
             response = Problem("Broken", repr(fault)).response()
@@ -142,7 +145,7 @@ class Server:
     @staticmethod
     def _limit(request: web.Request) -> int:
         text = request.query.get("limit", str(FEW_ROWS))
-        if not text.isdecimal() or not 1 <= int(text[:9]) <= MOST_ROWS:
+        if not text.isdecimal() or len(text) > 9 or not 1 <= int(text) <= MOST_ROWS:
             raise Problem("BadRequest", f"`limit` is a number from 1 to {MOST_ROWS}")
         return int(text)
 
@@ -381,6 +384,8 @@ def tls_of(args: argparse.Namespace) -> ssl.SSLContext | None:
     if args.certificate is None:
         return None
     context = ssl.create_default_context(ssl.Purpose.CLIENT_AUTH)
+    for path in (args.certificate, args.private_key):
+        open(path).close()      # the fault of `load_cert_chain` doesn't say which isn't there
     try:
         context.load_cert_chain(args.certificate, args.private_key)
     except ssl.SSLError as fault:
@@ -402,6 +407,7 @@ def serve(args: argparse.Namespace) -> int:
 
 
 async def _serve(server: Server, host: str, port: int, tls: ssl.SSLContext | None) -> None:
+    logging.getLogger("aiohttp.server").setLevel(logging.CRITICAL)     # no traceback for each request that is malformed or left
     runner = web.AppRunner(server.app, access_log=None, handle_signals=False)
     await runner.setup()
     try:

@@ -82,9 +82,9 @@ def key_of(line: bytes) -> Key | None:
             key.lines = [bytes_of(text) for text in said["answer"]]
         else:
             key.number = int(said["number"])
-    except (ValueError, TypeError, KeyError, AttributeError):
+    except (ValueError, TypeError, KeyError, AttributeError, OverflowError, RecursionError):
         return None
-    return key if line.endswith(b"\n") else None
+    return key if line.endswith(b"\n") and (key.lines or key.number > 0) else None
 
 
 class Keys:
@@ -102,11 +102,14 @@ class Keys:
         for line in lines:
             self._lines += 1
             if key := key_of(line):
+                self._keys.pop(key.name, None)      # they stand in the order of their last lines
                 self._keys[key.name] = key
         for key in list(self._keys.values()):
             if self._is_old(key, now):
                 del self._keys[key.name]
             elif key.number:
+                if other := self._given.get(key.number):
+                    del self._keys[other.name]      # what it was given was never kept, or the number were not free again
                 self._given[key.number] = key
         self.is_stale = self._lines > len(self._keys)
 
@@ -171,7 +174,6 @@ class Keys:
         known = [key for key in self._keys.values() if key.is_answered or key.number]
         self._lines = len(known)
         self._most_lines = max(LEAST_LINES, 2 * len(known))
-        self.is_stale = False
         return b"".join(key.line() for key in known)
 
     def is_long(self, now: float) -> bool:

@@ -165,6 +165,7 @@ class Site(abc.ABC):
         """All that it kept is known: it gets what it was given and didn't keep."""
         if self.keys.is_stale:
             self.put_keys(self.keys.text(self.shop.unix_time()))
+            self.keys.is_stale = False      # and not before: on a full disk the old lines stay, and the site isn't up
         self.known.set()
         self.silent_since = None
         self.become(State.UP)

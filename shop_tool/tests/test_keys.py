@@ -57,6 +57,25 @@ class File(unittest.TestCase):
         self.assertTrue(keys.is_stale)
         self.assertEqual(keys.text(0), b"")
 
+    def test_of_two_keys_with_one_number_the_later_line_counts(self) -> None:
+        for first, second in ((b"a", b"b"), (b"b", b"a")):
+            keys = self.keys(self.line(3, second), self.line(3, first), self.line(3, second))
+            keys.note(3, BOB, said([NO % 3]), 0)
+            keys.kept(3)
+            self.assertIsNone(keys.find(first, 0))
+            self.assertIsNotNone(keys.find(second, 0))
+
+    def test_a_file_is_stale_until_it_is_written(self) -> None:
+        keys = self.keys(self.line(3))
+        keys.kept(2)
+        keys.text(0)            # and the disk is full
+        self.assertTrue(keys.is_stale)
+
+    def test_a_line_that_no_supervisor_writes_is_left_out(self) -> None:
+        for text in (b'{"key":"k","at":Infinity,"sum":"x","number":1}\n', b'{"key":"k","at":0,"sum":"x","number":0}\n',
+                     b'{"key":"k","at":0,"sum":"x","number":-3}\n', b'{"key":"k","at":0,"sum":"x","answer":[]}\n', b"[" * 200_000 + b"\n"):
+            self.assertIsNone(self.keys(text).find(b"k", 0), text[:60])
+
     def test_the_last_line_of_a_key_counts(self) -> None:
         keys = self.keys(self.line(3), self.line(7))
         keys.note(3, BOB, said([b"reply,3,refused,3,NoToken"]), 0)
