@@ -140,6 +140,8 @@ def test_asked_again(at: Folder) -> None:
     """Under a key an ask is accepted once, whichever part is killed in between, and however many ask at once."""
     at.run("./shop start auction --sites 2")
     web = Web(at)
+    twice = web.post("/sites/0/asks", {"record": "user,ann"}, "-H", "Idempotency-Key: a", "-H", "Idempotency-Key: b")
+    expect((twice.status, web.get("/sites/0/users/0.1").status) == (400, 404), f"two keys: {twice}")
     first = web.ask(0, "user,ann", "a")
     expect((first.status, first.headers["location"]) == (201, "/sites/0/users/0.1"), f"the first: {first}")
     for part in ("keeper", "supervisor", "shop"):
@@ -295,7 +297,9 @@ def test_description(at: Folder) -> None:
     kinds = set(re.findall(r"(\w+): ", " ".join(answer["description"] for operation in operations for answer in operation["responses"].values())))
     for name in ("LowBid", "KeyTaken", "Unknown"):
         expect(name in kinds and web.get(f"/problems/{name}").status == 200, f"the problem {name}")
-    expect(web.get("/problems/nothing").status == 404 and web.post("/sites/0/users", {}).status == 405, "what isn't there")
+    expect(web.get("/problems/nothing").status == 404, "a problem that isn't there")
+    refused = web.post("/sites/0/users", {})
+    expect((refused.status, refused.headers["allow"]) == (405, "GET"), f"what can't be done there: {refused}")
 
 
 def test_browser(at: Folder) -> None:

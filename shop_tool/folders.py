@@ -20,8 +20,8 @@ def boot() -> str:
 
 
 def put(path: str, text: str) -> None:
-    """Puts a file in the place of another one; it is on the disk when this returns, and a crash leaves the old or the new one."""
-    with open(f"{path}.new", "w") as file:
+    """Puts a file of its owner's alone in the place of another one; it is on the disk when this returns, and a crash leaves the old or the new one."""
+    with open(f"{path}.new", "w", opener=lambda new, flags: os.open(new, flags, 0o600)) as file:
         file.write(text)
         file.flush()
         os.fsync(file.fileno())

@@ -1,6 +1,7 @@
 """What went wrong, as RFC 9457 has it: problem details with a type, a title, the status, a detail, and the refusal's name and number."""
 
 import json
+from collections.abc import Iterable
 from typing import Any, NamedTuple
 
 from aiohttp import web
@@ -38,9 +39,9 @@ KINDS = {name: Kind(_STATUSES.get(name, 409), meaning) for name, meaning in REFU
 
 
 class Problem(Exception):
-    def __init__(self, name: str, detail: str, number: int | None = None) -> None:
+    def __init__(self, name: str, detail: str, number: int | None = None, allowed: Iterable[str] = ()) -> None:
         super().__init__(detail)
-        self.name, self.detail, self.number = name, detail, number
+        self.name, self.detail, self.number, self.allowed = name, detail, number, sorted(allowed)
 
     @property
     def status(self) -> int:
@@ -52,7 +53,7 @@ class Problem(Exception):
         return said if self.number is None else said | {"number": self.number}
 
     def response(self) -> web.Response:
-        headers = {"Retry-After": RETRY_SECONDS} if self.status == 503 else {"WWW-Authenticate": "Bearer"} if self.status == 401 else {}
+        headers = {503: {"Retry-After": RETRY_SECONDS}, 401: {"WWW-Authenticate": "Bearer"}, 405: {"Allow": ", ".join(self.allowed)}}.get(self.status, {})
         return web.Response(status=self.status, body=json.dumps(self.said()).encode() + b"\n", content_type=CONTENT, headers=headers)
 
 

@@ -104,7 +104,8 @@ class Server:
             response = of_fault(fault).response()
         except web.HTTPException as refusal:
             name = {404: "NotFound", 405: "NoMethod", 413: "TooLong"}.get(refusal.status, "BadRequest")
-            response = Problem(name, f"{request.method} {request.path}: {refusal.reason}").response()
+            allowed = refusal.allowed_methods if isinstance(refusal, web.HTTPMethodNotAllowed) else ()
+            response = Problem(name, f"{request.method} {request.path}: {refusal.reason}", allowed=allowed).response()
         except ConnectionError:
             raise
         except web.RequestPayloadError as fault:       # its body isn't what its headers say
@@ -173,7 +174,10 @@ class Server:
         readers, content = {JSON: of_json, CSV: of_csv}, content_of(request)
         if content not in readers:
             raise Problem("OtherContent", f"asks are {JSON} or {CSV}, and not {content}")
-        key = request.headers.get(KEY)
+        keys: list[str] = request.headers.getall(KEY, [])
+        if len(keys) > 1:
+            raise Problem("BadRequest", f"{KEY} is given {len(keys)} times; nothing was asked")
+        key = keys[0] if keys else None
         if key is not None and len(key) > 1 and key[0] == key[-1] == '"':
             key = key[1:-1]         # as structured fields have a text
         asks, is_many = readers[content](await request.read(), key)
