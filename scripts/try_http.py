@@ -15,8 +15,6 @@ import shutil
 import signal
 import subprocess
 import sys
-import tempfile
-from collections.abc import Callable
 from typing import Any, NamedTuple
 
 TOP = pathlib.Path(__file__).resolve().parent.parent
@@ -25,7 +23,7 @@ sys.path.insert(0, str(TOP))
 from picture_tool.tests.browser import Browser, found                                           # noqa: E402
 from play import play_examples                                                                  # noqa: E402
 from trials import PYTHON, Skipped, expect, expect_types, expect_units, run_trials, trials_in   # noqa: E402
-from try_shop import SALE, SECONDS, Folder                                                      # noqa: E402
+from try_shop import SALE, SECONDS, Folder, tried                                               # noqa: E402
 
 MANY = 3000
 JSON, CSV = "application/json", "text/csv"
@@ -344,19 +342,6 @@ def why_skipped() -> str | None:
     if subprocess.run([PYTHON, "-c", "import aiohttp, prometheus_client"], capture_output=True).returncode:
         return "no python3-aiohttp or python3-prometheus-client on this machine"
     return None if shutil.which("curl") else "no curl on this machine"
-
-
-def tried(test: Callable[[Folder], None], program: pathlib.Path) -> Exception | None:
-    """Why a trial failed or was skipped, or None."""
-    with tempfile.TemporaryDirectory() as path:
-        at = Folder(path, program)
-        try:
-            test(at)
-            return None
-        except Exception as fault:
-            return fault
-        finally:
-            at.close()
 
 
 def main() -> int:

@@ -83,7 +83,7 @@ class Reads:
         return user
 
     async def page(self, site: KeptSite, listing: bytes, after: str | None, most: int, seconds: float) -> tuple[list[str], str | None]:
-        """The rows of a listing behind the one of this name, so many at most; and the name of the last of them, if more come."""
+        """The rows of a listing behind the one of this name, at most `most` of them; and the name of the last of them, if more come."""
         rows, = await self.listings(site, [listing], seconds)
         names = [name_of(line) for line in rows]
         if after is not None and after not in names:

@@ -8,7 +8,7 @@ from .ends import Fault
 
 
 def meaning_of(refusal: str, record: str, sites: int | None) -> str:
-    """What a refusal of a record says; of one that is outside the grammar of a shop of so many sites, why."""
+    """What a refusal of a record says; of one that is outside the grammar of a shop of `sites` sites, why."""
     meaning = REFUSALS.get(refusal, refusal)
     why = why_bad(record, sites) if refusal == "BadRecord" and sites else None
     return f"{meaning}: {why}" if why else meaning

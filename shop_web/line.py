@@ -14,7 +14,7 @@ from shop_tool.requests import Request
 from shop_tool.signals import Together
 
 ANSWER_BYTES = 1 << 30      # a listing is one line
-MOST_UNREAD = 10_000        # how many answers of one request may wait here to be taken in; only one that follows has so many
+MOST_UNREAD = 10_000        # how many answers of one request may wait here to be taken in; only one that follows has that many
 Answer = dict[str, Any]
 
 

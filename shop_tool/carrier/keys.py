@@ -157,7 +157,7 @@ class Keys:
         key.changed.tell()
 
     def kept(self, count: int) -> None:
-        """The site is started again with so many records: what it was given beyond these it never kept."""
+        """The site is started again with `count` records: what it was given beyond these it never kept."""
         for number in [number for number in self._given if number > count]:
             self.is_stale = True            # the number will be that of another record
             self._is_not_kept(self._given.pop(number))

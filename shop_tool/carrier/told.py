@@ -21,7 +21,7 @@ def not_known(site: int, records: int) -> str:
 
 
 def under_key(answered: int) -> str:
-    """Of records that no site was given by this request, in which so many were answered before: an earlier one has asked the first of them
+    """Of records that no site was given by this request, of which `answered` were answered before: an earlier one has asked the first of them
     under its key, or another one does now."""
     return f"{not_given(answered)} by this request, and whether what was asked under its key is accepted isn't known yet"
 

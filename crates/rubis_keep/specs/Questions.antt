@@ -97,7 +97,7 @@ abbrev pub or_none : List (List (List ℕ)) → List (List (List ℕ))
 or_none [] = (codes "none" ∷ []) ∷ []
 or_none (r ∷ rs) = r ∷ rs
 
--- what a site shows that answered so many records; a question changes nothing of it
+-- what a site shows that answered this number of records; a question changes nothing of it
 abbrev pub shown_to : Place → Replica → ℕ → Option Question → List (List (List ℕ))
 shown_to p s answered (Some (question.List l)) = counted_rows (listing_rows s.log (fold_of (cores s.log)) l)
 shown_to p s answered (Some (question.Row k)) = or_none (row_shown k (rows_at s.log k))
