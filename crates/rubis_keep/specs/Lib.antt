@@ -13,5 +13,7 @@ pub mod Lives
 pub mod Moments
 pub mod Histories
 pub mod SiteLives
+pub mod Showing
+pub mod Pages
 pub mod Questions
 pub mod Asking

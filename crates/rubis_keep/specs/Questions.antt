@@ -5,8 +5,6 @@ use Rattle.rubis_message.specs.Grammar.{deps_text}
 use Rattle.rubis_message.specs.Readings.{request_of}
 use Rattle.rubis_message.specs.declared.requests.Request.{Request}
 use Rattle.rubis_message.specs.declared.requests.Request.TheVariants as request
-use Rattle.rubis_model.specs.Log.{cores, fold_of}
-use Rattle.rubis_model.specs.Runs.{listing_rows}
 use Rattle.rubis_model.specs.Settle.{counted}
 use Rattle.rubis_model.specs.Listings.{row_record}
 use Rattle.rubis_model.specs.Site.{Place, Replica, counts, rows_at}
@@ -20,6 +18,9 @@ use Rattle.rubis_schema.specs.declared.rows.Row.{Row}
 use Rattle.rubis_schema.specs.declared.rows.Row.TheVariants as row
 use Rattle.rubis_engine.specs.Text.{input_records, rows_text}
 use Rattle.rubis_keep.specs.Lines.{closes, line_max}
+use Rattle.rubis_keep.specs.Pages.{page_asked, page_rows, rows_in}
+use Rattle.rubis_keep.specs.Showing.{counted_rows, refused_as}
+use Rattle.rubis_keep.specs.declared.pages.Page.{Page}
 use Rattle.rubis_keep.specs.declared.questions.Question.{Question}
 use Rattle.rubis_keep.specs.declared.questions.Question.TheVariants as question
 
@@ -51,6 +52,10 @@ abbrev pub asked_or : Option RowKey → Option Question → Option Question
 asked_or (Some k) other = Some (question.Row k)
 asked_or None other = other
 
+abbrev pub paged_or : Option Page → Option Question → Option Question
+paged_or (Some p) other = Some (question.Page p)
+paged_or None other = other
+
 -- a question has the form of a request for a listing
 abbrev pub listed_by : Option Request → Option Question
 listed_by (Some (request.List l)) = Some (question.List l)
@@ -59,7 +64,9 @@ listed_by (Some (request.Pass to)) = None
 listed_by None = None
 
 abbrev pub question_of : ℕ → List (List ℕ) → Option Question
-question_of sites fields = cond (says_state fields) (Some question.State) (asked_or (row_asked sites fields) (listed_by (request_of sites fields)))
+question_of sites fields =
+    cond (says_state fields) (Some question.State)
+    (asked_or (row_asked sites fields) (paged_or (page_asked sites fields) (listed_by (request_of sites fields))))
 
 -- a question is one record
 abbrev pub question_in : ℕ → List (List (List ℕ)) → Option Question
@@ -67,14 +74,6 @@ question_in sites (fields ∷ []) = question_of sites fields
 question_in sites records = None
 
 -- ---- its answer
-
--- a question is refused, for this reason
-abbrev pub refused_as : List ℕ → List (List (List ℕ))
-refused_as reason = (codes "refused" ∷ reason ∷ []) ∷ []
-
--- how many rows there are, and the rows
-abbrev pub counted_rows : List (List (List ℕ)) → List (List (List ℕ))
-counted_rows rows = (codes "rows" ∷ decimal (length rows) ∷ []) ∷ rows
 
 -- the turn of the token, if the site holds it
 abbrev pub token_text : Replica → List ℕ
@@ -99,7 +98,8 @@ or_none (r ∷ rs) = r ∷ rs
 
 -- what a site shows that answered this number of records; a question changes nothing of it
 abbrev pub shown_to : Place → Replica → ℕ → Option Question → List (List (List ℕ))
-shown_to p s answered (Some (question.List l)) = counted_rows (listing_rows s.log (fold_of (cores s.log)) l)
+shown_to p s answered (Some (question.List l)) = counted_rows (rows_in s l)
+shown_to p s answered (Some (question.Page page)) = page_rows page (rows_in s page.listing)
 shown_to p s answered (Some (question.Row k)) = or_none (row_shown k (rows_at s.log k))
 shown_to p s answered (Some question.State) = state_row p s answered ∷ []
 shown_to p s answered None = refused_as (codes "BadQuestion")

@@ -7,6 +7,7 @@ ghost use Rattle.rubis_keep.specs.Places.{begun_bytes};
 
 use crate::fault::KeepFault;
 use crate::lines::LineCutter;
+use crate::pages::Listed;
 use crate::site_files::SiteFiles;
 use crate::unread::Unread;
 use std::alloc::{AllocError, Global};
@@ -23,6 +24,8 @@ pub struct KeptLines {
     pub chunk: Vec<u8>,
     /// The question that came last.
     pub question: Vec<u8>,
+    /// The listing of which a page was asked last, until a record is answered.
+    pub listed: Option<Listed>,
     /// How many bytes were kept and answered.
     pub kept: u64,
 }
@@ -37,6 +40,7 @@ impl KeptLines {
             unread: Unread::new(alloc)?,
             chunk: Vec::new(alloc),
             question: Vec::new(alloc),
+            listed: None,
             kept: 0,
         })
     }
@@ -101,13 +105,14 @@ pub(crate) fn read_next<R: Read>(
         lines.new.cutter came.more came.is_asked lines.new.question.items) }
     ensures err { OnErr result ((line : List ℕ) → lines.old.cutter ≡ begun_bytes line
         → KeptFront asks line (left_of lines.old.unread (R.remaining live.old)) (left_of lines.new.unread (R.remaining live.new)) None None) }
-    ensures kept { lines.new.kept ≡ lines.old.kept }
+    ensures others { (lines.new.kept ≡ lines.old.kept) × (lines.new.listed ≡ lines.old.listed) }
 {
     let KeptLines {
         cutter,
         unread,
         chunk,
         question,
+        listed: _,
         kept: _,
     } = lines;
     chunk.clear();

@@ -15,12 +15,14 @@ mod keep;
 mod keeping;
 mod laws;
 mod lines;
+mod pages;
 mod pieces;
 mod questions;
 mod replying;
 mod run;
 mod setup;
 mod shortening;
+mod showing;
 mod site;
 mod site_files;
 mod unread;
@@ -37,6 +39,7 @@ pub use laws::{
     moments_leave_files, raised_keeps_tell_the_same, shop_lives_are_runs,
 };
 pub use lines::{Cut, LINE_MAX, LineCutter};
+pub use pages::{Listed, PAGE_MAX, Page};
 pub use questions::Question;
 pub use run::{Recording, run_kept};
 pub use setup::Setup;

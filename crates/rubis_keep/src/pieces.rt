@@ -7,12 +7,14 @@ ghost use Rattle.rubis_keep.specs.Asking.{GoesOnAsking, owed};
 ghost use Rattle.rubis_keep.specs.History.{HasTold, log_of, out_in};
 ghost use Rattle.rubis_keep.specs.Kept.{Fails, InEachStand, IsBegun, Stands, left_of};
 ghost use Rattle.rubis_keep.specs.Lives.{LivesSafe};
+ghost use Rattle.rubis_keep.specs.Pages.{AreListed};
 
 use crate::answers::Answers;
 use crate::clerk::Clerk;
 use crate::fault::KeepFault;
 use crate::feeding::feed_chunk;
 use crate::keeping::{Came, KeptLines, keep_chunk, read_next};
+use crate::pages::let_go;
 use crate::replying::reply_if;
 use crate::site_files::SiteFiles;
 use rubis_script::Gate;
@@ -33,6 +35,7 @@ fn next_lines<G: Gate, T: Threads + Wait + Sync, R: Read, O: Read, F: SiteFiles>
     requires window { clerk.old.desk.window.items ≡ [] }
     requires empty { clerk.old.desk.reply.sink ≡ [] }
     requires begun { IsBegun lines.old.cutter }
+    requires listed { AreListed clerk.old.desk.site.state lines.old.listed }
     ensures ok { OnOk result (InEachStand keeps (told_by clerk.old.desk.site (clerk.old.desk.answered + 1)) (left_of lines.old.unread (R.remaining live.old)) (log_of keeps (F.history answers.old.files))
         (O.remaining answers.old.before) (out_in (F.history answers.old.files)) lines.old.cutter (clerk.old.desk.answered + 1) lines.old.kept
         (λ all told old base line input0 log0 out0 len0. Stands keeps all (told_by clerk.new.desk.site (clerk.new.desk.answered + 1)) told old base line input0
@@ -42,6 +45,7 @@ fn next_lines<G: Gate, T: Threads + Wait + Sync, R: Read, O: Read, F: SiteFiles>
     ensures window { OnOk result (clerk.new.desk.window.items ≡ []) }
     ensures empty { OnOk result (clerk.new.desk.reply.sink ≡ []) }
     ensures begun { OnOk result (IsBegun lines.new.cutter) }
+    ensures listed { OnOk result (AreListed clerk.new.desk.site.state lines.new.listed) }
     ensures err { OnErr result (InEachStand keeps (told_by clerk.old.desk.site (clerk.old.desk.answered + 1)) (left_of lines.old.unread (R.remaining live.old)) (log_of keeps (F.history answers.old.files))
         (O.remaining answers.old.before) (out_in (F.history answers.old.files)) lines.old.cutter (clerk.old.desk.answered + 1) lines.old.kept
         (λ all told old base line input0 log0 out0 len0. Fails keeps all told old base line input0 (left_of lines.new.unread (R.remaining live.new)) log0
@@ -61,6 +65,7 @@ fn next_lines<G: Gate, T: Threads + Wait + Sync, R: Read, O: Read, F: SiteFiles>
     let Some(len) = lines.kept.checked_add(lines.chunk.len() as u64) else {
         return Err(KeepFault::TooLong);
     };
+    let_go(&mut lines.listed, &lines.chunk);
     feed_chunk(rt, &lines.chunk, clerk, answers)?;
     lines.kept = len;
     Ok(came)
@@ -80,6 +85,7 @@ fn next_piece<G: Gate, T: Threads + Wait + Sync, R: Read, O: Read, F: SiteFiles>
     requires window { clerk.old.desk.window.items ≡ [] }
     requires empty { clerk.old.desk.reply.sink ≡ [] }
     requires begun { IsBegun lines.old.cutter }
+    requires listed { AreListed clerk.old.desk.site.state lines.old.listed }
     ensures ok { OnOk result (InEachStand keeps (told_by clerk.old.desk.site (clerk.old.desk.answered + 1)) (left_of lines.old.unread (R.remaining live.old)) (log_of keeps (F.history answers.old.files))
         (O.remaining answers.old.before) (out_in (F.history answers.old.files)) lines.old.cutter (clerk.old.desk.answered + 1) lines.old.kept
         (λ all told old base line input0 log0 out0 len0. Stands keeps all (told_by clerk.new.desk.site (clerk.new.desk.answered + 1)) told old base line input0
@@ -89,6 +95,7 @@ fn next_piece<G: Gate, T: Threads + Wait + Sync, R: Read, O: Read, F: SiteFiles>
     ensures window { OnOk result (clerk.new.desk.window.items ≡ []) }
     ensures empty { OnOk result (clerk.new.desk.reply.sink ≡ []) }
     ensures begun { OnOk result (IsBegun lines.new.cutter) }
+    ensures listed { OnOk result (AreListed clerk.new.desk.site.state lines.new.listed) }
     ensures err { OnErr result (InEachStand keeps (told_by clerk.old.desk.site (clerk.old.desk.answered + 1)) (left_of lines.old.unread (R.remaining live.old)) (log_of keeps (F.history answers.old.files))
         (O.remaining answers.old.before) (out_in (F.history answers.old.files)) lines.old.cutter (clerk.old.desk.answered + 1) lines.old.kept
         (λ all told old base line input0 log0 out0 len0. Fails keeps all told old base line input0 (left_of lines.new.unread (R.remaining live.new)) log0
@@ -103,7 +110,14 @@ fn next_piece<G: Gate, T: Threads + Wait + Sync, R: Read, O: Read, F: SiteFiles>
         clerk.new.desk.answered (λ more. []) result }
 {
     let came = next_lines(rt, live, keeps, lines, clerk, answers)?;
-    reply_if(rt, came.is_asked, &lines.question, clerk, answers)?;
+    reply_if(
+        rt,
+        came.is_asked,
+        &lines.question,
+        &mut lines.listed,
+        clerk,
+        answers,
+    )?;
     Ok(came.more)
 }
 
@@ -142,6 +156,7 @@ pub(crate) fn answer_pieces<G: Gate, T: Threads + Wait + Sync, R: Read, O: Read,
         clerk.old.desk.answered (left_of lines.new.unread (R.remaining live.new)) (F.history answers.new.files) lines.new.cutter clerk.new.desk.site
         clerk.new.desk.answered (λ over. []) result }
 {
+    lines.listed = None;
     for _turn in 0..u64::MAX {
         if !next_piece(rt, live, keeps, lines, clerk, answers)? {
             return Ok(());

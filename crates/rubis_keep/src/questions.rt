@@ -1,35 +1,37 @@
 //! Questions, and what a site answers to them.
 
-ghost use Rattle.std.specs.Prelude.{◌≡◌, ◌≤◌, ◌++◌, ◌∷◌, [], IfOk, MatchBool, ℕ, List, Some, codes, drop, length, true};
-ghost use Rattle.rubis_schema.specs.FieldList.{is_plain};
+ghost use Rattle.std.specs.Prelude.{◌≡◌, ◌≤◌, ◌++◌, ◌∷◌, [], IfOk, MatchBool, Some, drop, length};
 ghost use Rattle.rubis_model.specs.Settle.{counted};
 ghost use Rattle.rubis_model.specs.Site.{rows_at};
 ghost use Rattle.rubis_replica.specs.Progress.{resting_at};
 ghost use Rattle.rubis_engine.specs.Text.{input_records, rows_text};
 ghost use Rattle.rubis_keep.specs.Asking.{IsUnmoved};
 ghost use Rattle.rubis_keep.specs.declared.questions.Question.TheVariants as Question;
-ghost use Rattle.rubis_keep.specs.Questions.{counted_rows, key_in, or_none, question_in, question_of, refused_as, reply_rows, row_asked, row_shown, says_state, shown_to, state_row};
+ghost use Rattle.rubis_keep.specs.Pages.{AreListed};
+ghost use Rattle.rubis_keep.specs.Questions.{key_in, or_none, question_in, question_of, reply_rows, row_asked, row_shown, says_state, shown_to, state_row};
 
 use crate::clerk::Clerk;
 use crate::counts::push_counts;
 use crate::fault::KeepFault;
 use crate::lines::{LINE_MAX, closes};
+use crate::pages::{Listed, Page, read_page, turn_page};
+use crate::showing::{refuse, row, show_counted};
 use rubis_engine::{InputRecord, OutOfMemory, Records, Sink};
 use rubis_message::{ReadFault, Request, read_request};
 use rubis_replica::put_record;
-use rubis_schema::{
-    CAT_MAX, Counted, Fields, Id, Listing, Nick, Record, Row, RowKey, RowSink, read_number,
-};
+use rubis_schema::{CAT_MAX, Counted, Fields, Id, Listing, Nick, Record, Row, RowKey, read_number};
 use rubis_script::{Fault, Gate};
 use std::alloc::{AllocError, Global};
 use std::sync::Wait;
 use std::thread::Threads;
 
 /// What a question asks.
-#[derive(Clone, Copy)]
+#[derive(Drop)]
 pub enum Question {
     /// The rows of a listing.
     List(Listing),
+    /// A page of a listing.
+    Page(Page),
     /// The row at a key, or the user who has a nickname.
     Row(RowKey),
     /// How far the site has come.
@@ -110,6 +112,9 @@ fn read_question(
     if let Some(key) = read_row(fields, sites) {
         return Ok(Some(Question::Row(key)));
     }
+    if let Some(page) = read_page(alloc, fields, sites)? {
+        return Ok(Some(Question::Page(page)));
+    }
     match read_request(alloc, fields, sites) {
         Ok(Request::List(listing)) => Ok(Some(Question::List(listing))),
         Ok(_) => Ok(None),
@@ -150,26 +155,6 @@ fn read_line(alloc: Global, rest: &[u8], sites: u8) -> Result<Option<Question>, 
     question_in(alloc, &text, sites)
 }
 
-// One row.
-fn row(alloc: Global, fields: &Fields) -> Result<Sink, AllocError>
-    ensures { IfOk result (λ sink. sink ≡ rows_text (fields.now ∷ [])) }
-{
-    let mut sink = Sink::new(alloc);
-    sink.put(fields)?;
-    Ok(sink)
-}
-
-// Refuses a question.
-fn refuse(alloc: Global, reason: &[u8]) -> Result<Sink, AllocError>
-    requires { is_plain reason.now ≡ true }
-    ensures { IfOk result (λ sink. sink ≡ rows_text (refused_as reason.now)) }
-{
-    let mut fields = Fields::new(alloc);
-    fields.push_plain(b"refused")?;
-    fields.push_plain(reason)?;
-    row(alloc, &fields)
-}
-
 // How many messages a site released of its own.
 fn own_count<G: Gate>(clerk: &Clerk<G>) -> u32
     ensures { result ≡ counted clerk.now.desk.site.place.site clerk.now.desk.site.state.log }
@@ -203,19 +188,6 @@ fn show_state<G: Gate>(clerk: &Clerk<G>) -> Result<Sink, AllocError>
 {
     let fields = state_of(clerk)?;
     row(clerk.alloc, &fields)
-}
-
-// Shows how many rows there are, and the rows.
-fn show_counted(alloc: Global, listing: Counted<Sink>) -> Result<Sink, AllocError>
-    ensures { IfOk result (λ sink. (rows : List (List (List ℕ))) → listing.rows ≡ rows_text rows → listing.count ≡ length rows
-        → sink ≡ rows_text (counted_rows rows)) }
-{
-    let mut fields = Fields::new(alloc);
-    fields.push_plain(b"rows")?;
-    fields.push_number(listing.count)?;
-    let mut sink = row(alloc, &fields)?;
-    sink.add_text(listing.rows)?;
-    Ok(sink)
 }
 
 // Shows the rows of a listing.
@@ -284,13 +256,16 @@ fn look_up<G: Gate, T: Threads + Wait + Sync>(
 }
 
 /// Answers a line that is a question, or the first bytes of it: with '?' before them, these rows are its answer. What is pending may be
-/// applied; nothing else changes.
+/// applied; nothing else changes of the site. What is held of a listing is that of this moment, before and afterwards.
 pub(crate) fn answer<G: Gate, T: Threads + Wait + Sync>(
     rt: &T,
     clerk: &mut Clerk<G>,
+    listed: &mut Option<Listed>,
     line: &[u8],
 ) -> Result<Sink, KeepFault>
+    requires listed { AreListed clerk.old.desk.site.state listed.old }
     ensures same { IsUnmoved clerk.old clerk.new }
+    ensures listed { AreListed clerk.old.desk.site.state listed.new }
     ensures rows { IfOk result (λ sink. sink ≡ rows_text (reply_rows clerk.old.desk.site.place clerk.old.desk.site.state clerk.old.desk.answered line.now)) }
 {
     if line.len() > LINE_MAX {
@@ -302,6 +277,7 @@ pub(crate) fn answer<G: Gate, T: Threads + Wait + Sync>(
     }
     match read_line(clerk.alloc, rest, clerk.desk.sites())? {
         Some(Question::List(listing)) => show_listing(rt, clerk, &listing),
+        Some(Question::Page(page)) => turn_page(rt, clerk, listed, &page),
         Some(Question::Row(key)) => look_up(rt, clerk, &key),
         Some(Question::State) => Ok(show_state(clerk)?),
         None => Ok(refuse(clerk.alloc, b"BadQuestion")?),

@@ -46,6 +46,7 @@ loop-turn-init g c = record {
   window = c.requires.window;
   empty = c.requires.empty;
   begun = c.requires.begun;
+  listed = tt;
   stands = λ all told old base line input0 log0 out0 len0 s. s;
   live = refl;
   told = λ off. (refl, ([], tells-none _ _));
@@ -72,6 +73,7 @@ loop-turn-preserved g c =
       window = c.in_ok-next_piece.ensures.window;
       empty = c.in_ok-next_piece.ensures.empty;
       begun = c.in_ok-next_piece.ensures.begun;
+      listed = c.in_ok-next_piece.ensures.listed;
       stands = λ all told old base line input0 log0 out0 len0 s.
           c.in_ok-next_piece.ensures.ok all told old base line input0 log0 out0 len0 (before.stands all told old base line input0 log0 out0 len0 s);
       live = c.next_piece.ensures.live ∙ before.live;
