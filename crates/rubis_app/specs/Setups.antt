@@ -4,7 +4,7 @@ use Rattle.rubis_schema.specs.declared.limits.TheConstants.{KEEP_MAX}
 use Rattle.rubis_world.specs.Script.{Setup}
 use Rattle.rubis_cli.specs.declared.options.LackOptions.{LackOptions}
 use Rattle.rubis_cli.specs.declared.options.Options.{Options}
-use Rattle.rubis_cli.specs.declared.options.Setup.{Setup as Numbers}
+use Rattle.rubis_cli.specs.declared.options.SetupOptions.{SetupOptions}
 use Rattle.rubis_world.specs.Setup.{WorldSetup}
 
 -- the configuration of one site
@@ -23,5 +23,5 @@ abbrev pub names_a_site : LackOptions → Bool
 names_a_site l = not l.waiting && (is_some l.site || is_some l.keep)
 
 -- the configuration of several sites
-abbrev pub world_setup_of : Numbers → WorldSetup
+abbrev pub world_setup_of : SetupOptions → WorldSetup
 world_setup_of s = record { sites = s.sites; shards = s.shards; workers = s.workers; batch = s.batch; keep = s.keep }

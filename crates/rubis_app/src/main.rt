@@ -13,10 +13,10 @@ ghost use Rattle.rubis_world.specs.Setup.{IsWorldSetup};
 ghost use Rattle.rubis_app.specs.Statuses.{IsRunStatus, IsStatus, IsStatusOf, status_by, status_of};
 
 use clap::Error;
-use rubis_audit::{Auditor, Grammar, Question, Tally, run_auditor, run_check, run_widen};
+use rubis_audit::{Auditor, Grammar, LogQuestion, Tally, run_auditor, run_check, run_widen};
 use rubis_cli::{
     AuditOptions, CheckOptions, Invocation, KeepOptions, LackOptions, OptionFault, Options,
-    Reading, Setup, Widening, read_options,
+    Reading, SetupOptions, Widening, read_options,
 };
 use rubis_keep::{FolderFault, Setup as Place, Wanted, keep_folder};
 use rubis_schema::{Hashes, KEEP_MAX, RECORDS_MAX, SITES_MAX};
@@ -142,7 +142,7 @@ fn run<R: Print + Eprint + Input + AllocGlobal + RandomSource + Threads + Wait +
 }
 
 // The configuration of several sites, if each number is within its limits.
-fn world_config_of(setup: &Setup) -> Option<WorldConfig>
+fn world_config_of(setup: &SetupOptions) -> Option<WorldConfig>
     ensures { SomeIff result (IsWorldSetup (world_setup_of setup.now)) (world_setup_of setup.now) }
 {
     WorldConfig::new(
@@ -176,7 +176,7 @@ fn answer_world<R: Print + Input + AllocGlobal + Threads + Wait + Sync>(
 // Runs several sites over standard input and output.
 fn run_sites<R: Print + Eprint + Input + AllocGlobal + RandomSource + Threads + Wait + Sync>(
     rt: &R,
-    setup: &Setup,
+    setup: &SetupOptions,
 ) -> ExitCode
     ensures misuse { ¬ IsWorldSetup (world_setup_of setup.now) → exit_status result ≡ 2 }
     ensures runs { IsWorldSetup (world_setup_of setup.now) → IsRunStatus (exit_status result) }
@@ -194,7 +194,7 @@ fn run_sites<R: Print + Eprint + Input + AllocGlobal + RandomSource + Threads + 
 fn audit_logs<R: Print + Eprint + Input + AllocGlobal + RandomSource>(
     rt: &R,
     sites: u8,
-    asked: Question,
+    asked: LogQuestion,
     by_status: bool,
 ) -> ExitCode
     ensures misuse { SITES_MAX < sites → exit_status result ≡ 2 }
@@ -219,7 +219,7 @@ fn waiting_options(options: &LackOptions) -> Options
 {
     Options {
         site: options.site.unwrap_or(0),
-        setup: Setup {
+        setup: SetupOptions {
             sites: options.sites,
             shards: 4,
             workers: 1,
@@ -263,7 +263,7 @@ fn run_lack<R: Print + Eprint + Input + AllocGlobal + RandomSource + Threads + W
     if options.site.is_some() || options.keep.is_some() {
         return misuse(rt, "--site and --keep are of the site that --waiting reads");
     }
-    audit_logs(rt, options.sites, Question::Lacks, true)
+    audit_logs(rt, options.sites, LogQuestion::Lacks, true)
 }
 
 // The command whose records are checked.
@@ -463,7 +463,7 @@ fn obey<
         Invocation::Audit(options) => audit_logs(
             rt,
             options.sites,
-            Question::Agreement,
+            LogQuestion::Agreement,
             options.status,
         ),
         Invocation::Lack(options) => run_lack(rt, options),

@@ -11,8 +11,8 @@ use Rattle.rubis_engine.specs.Accounts.Ending.{AtEnd}
 use Rattle.rubis_engine.specs.Text.{rows_text}
 use Rattle.rubis_engine.specs.declared.service.Course.TheVariants.{GoesOn, Ends}
 use Rattle.rubis_audit.specs.Walks.{HaveMessagesAmong}
-use Rattle.rubis_audit.specs.declared.questions.Question.{Question}
-use Rattle.rubis_audit.specs.declared.questions.Question.TheVariants.{Agreement, Lacks}
+use Rattle.rubis_audit.specs.declared.questions.LogQuestion.{LogQuestion}
+use Rattle.rubis_audit.specs.declared.questions.LogQuestion.TheVariants.{Agreement, Lacks}
 use Rattle.rubis_audit.specs.Running.{AreRead, HasMessagesAmong, IsCurrentAmong, account_from, answer_text, logs_so_far, read_behind, rows_for}
 
 some_same : {X : Type 0} (a b : X) → Some a ≡ Some b → a ≡ b
@@ -80,7 +80,7 @@ after_ends : (sites n : ℕ) (logs : List Log) (fields : List (List ℕ)) (rest 
     → logs_after sites n logs (fields ∷ rest) ≡ Err n
 after_ends sites n logs fields rest e = ap (λ o. elim o as (λ _. Result (List Log) ℕ) [ None ↦ Err n | Some x ↦ logs_after sites (n + 1) x rest ]) e
 
-pub goes : (asked : Question) (sites n : ℕ) (logs more : List Log) (line : Line) (fields : List (List ℕ)) (sink sink2 : List ℕ) → line_of sites fields
+pub goes : (asked : LogQuestion) (sites n : ℕ) (logs more : List Log) (line : Line) (fields : List (List ℕ)) (sink sink2 : List ℕ) → line_of sites fields
     ≡ Some line → with_line logs line ≡ Some more
     → sink2 ≡ sink → AnswersRecord GoesOn (account_from asked sites n logs) (account_from asked sites (n + 1) more) sink sink2 fields
 goes asked sites n logs more line fields sink sink2 l w s rest = (
@@ -90,11 +90,11 @@ goes asked sites n logs more line fields sink sink2 l w s rest = (
 )
 
 -- a malformed record is answered alike, whatever is asked
-malformed : (asked : Question) (n : ℕ) → rows_for asked (Err n) ≡ audit_record (Err n) ∷ []
+malformed : (asked : LogQuestion) (n : ℕ) → rows_for asked (Err n) ≡ audit_record (Err n) ∷ []
 malformed Agreement n = refl
 malformed Lacks n = refl
 
-pub ends : (asked : Question) (sites n : ℕ) (logs more : List Log) (fields : List (List ℕ)) (sink sink2 : List ℕ) →
+pub ends : (asked : LogQuestion) (sites n : ℕ) (logs more : List Log) (fields : List (List ℕ)) (sink sink2 : List ℕ) →
     option_and_then (with_line logs) (line_of sites fields) ≡ None
     → sink2 ≡ sink ++ rows_text (audit_record (Err n) ∷ []) →
     AnswersRecord Ends (account_from asked sites n logs) (account_from asked sites (n + 1) more) sink sink2 fields

@@ -13,7 +13,7 @@ use Rattle.rubis_audit.specs.declared.checker.Grammar.TheVariants.{Site, World, 
 use Rattle.rubis_audit.specs.declared.checker.Tally.{Tally}
 use Rattle.rubis_audit.specs.declared.line_reader.Recent.{Recent}
 use Rattle.rubis_audit.specs.declared.reasons.Lines.{Lines}
-use Rattle.rubis_audit.specs.declared.record_faults.Fault.{Fault}
+use Rattle.rubis_audit.specs.declared.record_faults.RecordFault.{RecordFault}
 use Rattle.rubis_audit.specs.declared.widener.LinePlace.{LinePlace}
 use Rattle.rubis_audit.specs.declared.widener.LinePlace.TheVariants.{BeforeLogs}
 use Rattle.rubis_audit.specs.declared.record_faults.Reason.TheVariants.{Other}
@@ -23,23 +23,23 @@ abbrev pub recent : {R : Type 0} → (R → Option (List ℕ)) → Recent R → 
 recent rem r = rem r.inner
 
 -- nothing is wrong with what is read, and something with all else
-abbrev pub fault_unless : Bool → Option Fault → Option Fault
+abbrev pub fault_unless : Bool → Option RecordFault → Option RecordFault
 fault_unless true found = None
 fault_unless false found = Some (unwrap_or found (fault 0 Other))
 
 -- what is wrong with a record that is read so
-abbrev pub fault_for : Grammar → ℕ → LinePlace → List (List ℕ) → Option Fault
+abbrev pub fault_for : Grammar → ℕ → LinePlace → List (List ℕ) → Option RecordFault
 fault_for Site sites place fields = fault_unless (is_site_record sites fields) (site_fault sites fields)
 fault_for World sites place fields = fault_unless (is_event sites fields) (world_fault sites fields)
 fault_for Audit sites place fields = audit_fault sites place fields
 
 -- where the next one stands, after one with that fault or none
-abbrev pub place_for : Grammar → LinePlace → List (List ℕ) → Option Fault → LinePlace
+abbrev pub place_for : Grammar → LinePlace → List (List ℕ) → Option RecordFault → LinePlace
 place_for Audit place fields None = place_after place fields
 place_for grammar place fields fault = place
 
 -- the row of a record that is outside the grammar, and the last row
-abbrev pub bad_row : ℕ → ℕ → Lines → Fault → List (List ℕ) → List (List ℕ)
+abbrev pub bad_row : ℕ → ℕ → Lines → RecordFault → List (List ℕ) → List (List ℕ)
 bad_row sites number lines fault fields =
     codes "bad" ∷ decimal number ∷ decimal lines.first ∷ decimal fault.field ∷ reason_text sites lines fault fields ∷ []
 
@@ -50,11 +50,11 @@ abbrev pub no_lines : Lines
 no_lines = record { first = 0; opened = 0; closed = 0 }
 
 -- the count after one record more, with a fault or without
-abbrev pub tally_for : Tally → Option Fault → Tally
+abbrev pub tally_for : Tally → Option RecordFault → Tally
 tally_for t None = record { records = t.records + 1; bad = t.bad }
 tally_for t (Some fault) = record { records = t.records + 1; bad = t.bad + 1 }
 
-abbrev pub row_for : ℕ → ℕ → Lines → List (List ℕ) → Option Fault → List (List (List ℕ))
+abbrev pub row_for : ℕ → ℕ → Lines → List (List ℕ) → Option RecordFault → List (List (List ℕ))
 row_for sites number lines fields None = []
 row_for sites number lines fields (Some fault) = bad_row sites number lines fault fields ∷ []
 

@@ -10,7 +10,7 @@ use Rattle.rubis_audit.specs.declared.field_rules.FieldRule.{FieldRule}
 use Rattle.rubis_audit.specs.declared.field_rules.FieldRule.TheVariants.{Nick, Name, Text, Rating, Id, Winner, Site, Counts, Number}
 use Rattle.rubis_audit.specs.declared.field_rules.FieldRule.TheVariants.{Positive, Red, Blue, First, Second, Version, Effect, Shown}
 use Rattle.rubis_audit.specs.declared.reasons.Lines.{Lines}
-use Rattle.rubis_audit.specs.declared.record_faults.Fault.{Fault}
+use Rattle.rubis_audit.specs.declared.record_faults.RecordFault.{RecordFault}
 use Rattle.rubis_audit.specs.declared.record_faults.Reason.{Reason}
 use Rattle.rubis_audit.specs.declared.record_faults.Reason.TheVariants.{NoRecord, NoRequest, Answer, Count, Rule, NotNext, SameNick, NoLog}
 use Rattle.rubis_audit.specs.declared.record_faults.Reason.TheVariants.{BehindRows, LineEnd, Other}
@@ -101,5 +101,5 @@ text_by sites lines fields field BehindRows = codes "no message follows the rows
 text_by sites lines fields field LineEnd = quote_text lines
 text_by sites lines fields field Other = codes "not in the grammar"
 
-abbrev pub reason_text : ℕ → Lines → Fault → List (List ℕ) → List ℕ
+abbrev pub reason_text : ℕ → Lines → RecordFault → List (List ℕ) → List ℕ
 reason_text sites lines fault fields = text_by sites lines fields (field_at fields fault.field) fault.reason

@@ -13,14 +13,14 @@ use Rattle.rubis_model.specs.Verdict.{verdict}
 use Rattle.rubis_engine.specs.Accounts.{Account, Ending}
 use Rattle.rubis_engine.specs.Accounts.Ending.{AtEnd, Cut}
 use Rattle.rubis_engine.specs.Text.{rows_text}
-use Rattle.rubis_audit.specs.declared.questions.Question.{Question}
-use Rattle.rubis_audit.specs.declared.questions.Question.TheVariants.{Agreement, Lacks}
+use Rattle.rubis_audit.specs.declared.questions.LogQuestion.{LogQuestion}
+use Rattle.rubis_audit.specs.declared.questions.LogQuestion.TheVariants.{Agreement, Lacks}
 
 -- among how many sites, what is asked of the logs, the logs so far, newest first, and whether that was answered and nothing wrong was
 -- found
 pub record AuditorState : Type 0 where
   pub sites : ℕ
-  pub asked : Question
+  pub asked : LogQuestion
   pub logs : List Log
   pub well : Bool
 
@@ -45,7 +45,7 @@ pub record AreRead (sites : ℕ) (ended : List Log) (current : Option Log) : Typ
 -- ---- what is made of records
 
 -- the records that answer what is asked of logs that were read, or of the number of the first record that is malformed
-abbrev pub rows_for : Question → Result (List Log) ℕ → List (List (List ℕ))
+abbrev pub rows_for : LogQuestion → Result (List Log) ℕ → List (List (List ℕ))
 rows_for Agreement logs = audit_record logs ∷ []
 rows_for Lacks logs = lack_rows_read logs
 
@@ -55,7 +55,7 @@ none_lost all [] = true
 none_lost all (log ∷ logs) = (length (made_at log.site (lacked all log.messages)) == 0) && none_lost all logs
 
 -- what was asked of logs with that verdict finds nothing wrong: they agree, and, if it is what they lack, none has lost a message
-abbrev pub is_well : Question → List Log → Verdict → Bool
+abbrev pub is_well : LogQuestion → List Log → Verdict → Bool
 is_well Agreement logs Agree = true
 is_well Lacks logs Agree = none_lost logs logs
 is_well asked logs (Found kind log entry) = false
@@ -65,7 +65,7 @@ abbrev pub HasFound : AuditorState → AuditorState → Type 0
 HasFound old new = new.well ≡ is_well old.asked (reverse old.logs) (verdict (reverse old.logs))
 
 -- at the end these; where the run is cut short, nothing
-abbrev pub answer_text : Question → Ending → Result (List Log) ℕ → List ℕ
+abbrev pub answer_text : LogQuestion → Ending → Result (List Log) ℕ → List ℕ
 answer_text asked AtEnd logs = rows_text (rows_for asked logs)
 answer_text asked Cut logs = []
 
@@ -78,7 +78,7 @@ read_behind sites logs (fields ∷ rest) = suc (elim (option_and_then (with_line
 ])
 
 -- of the records after these logs, newest first
-abbrev pub account_from : Question → ℕ → ℕ → List Log → Account
+abbrev pub account_from : LogQuestion → ℕ → ℕ → List Log → Account
 account_from asked sites n logs = record {
   text = λ ending records. answer_text asked ending (logs_after sites n logs records);
   read = λ records. read_behind sites logs records;

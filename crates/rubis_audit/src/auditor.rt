@@ -20,8 +20,8 @@ use crate::audits::audit_hashed;
 use crate::lacks::write_lacks;
 use crate::lines::{Line, read_line};
 use crate::logs::Log;
-use crate::pools::Pool;
-use crate::questions::Question;
+use crate::pools::MessagePool;
+use crate::questions::LogQuestion;
 use crate::verdicts::{write_bad_record, write_verdict};
 use rubis_engine::{Answering, Course, InputRecord, OutOfMemory, Reply, Service, Sink};
 use rubis_message::{Message, Verdict};
@@ -33,11 +33,11 @@ use std::marker::Model;
 /// whether nothing wrong was found in them.
 #[derive(Drop)]
 pub struct Auditor {
-    asked: Question,
+    asked: LogQuestion,
     // The logs before the one that is read, in order.
     ended: Vec<Log>,
     current: Option<Log>,
-    pool: Pool,
+    pool: MessagePool,
     // Whether the end was reached, and nothing wrong was found.
     well: bool,
     sites: u8,
@@ -114,7 +114,7 @@ fn claim_row(
 fn write_answer(
     alloc: Global,
     sink: &mut Sink,
-    asked: Question,
+    asked: LogQuestion,
     sites: u8,
     logs: &[Log],
     verdict: Verdict,
@@ -126,7 +126,7 @@ fn write_answer(
     ensures rows { OnOk result (sink.new ≡ sink.old ++ rows_text (rows_for asked (Ok (reverse logs.now)))) }
     ensures well { IfOk result (λ well. well ≡ is_well asked logs.now verdict) }
 {
-    if let (Question::Lacks, Verdict::Agree) = (asked, verdict) {
+    if let (LogQuestion::Lacks, Verdict::Agree) = (asked, verdict) {
         return write_lacks(alloc, sink, sites, logs);
     }
     let mut fields = Fields::new(alloc);
@@ -136,7 +136,7 @@ fn write_answer(
 
 impl Auditor {
     /// An auditor of the logs of `sites` sites that has read no log. It hashes by keys that are the same in each run.
-    pub fn new(alloc: Global, sites: u8, asked: Question) -> Auditor
+    pub fn new(alloc: Global, sites: u8, asked: LogQuestion) -> Auditor
         requires { sites ≤ COUNTED_MAX }
         ensures { result ≡ record { sites = sites; asked = asked; logs = []; well = false } }
     {
@@ -144,7 +144,7 @@ impl Auditor {
     }
 
     /// The same, hashing by these keys.
-    pub fn hashed(alloc: Global, sites: u8, asked: Question, hashes: Hashes) -> Auditor
+    pub fn hashed(alloc: Global, sites: u8, asked: LogQuestion, hashes: Hashes) -> Auditor
         requires { sites ≤ COUNTED_MAX }
         ensures { result ≡ record { sites = sites; asked = asked; logs = []; well = false } }
     {
@@ -152,7 +152,7 @@ impl Auditor {
             asked,
             ended: Vec::new(alloc),
             current: None,
-            pool: Pool::new(alloc),
+            pool: MessagePool::new(alloc),
             well: false,
             sites,
             hashes,

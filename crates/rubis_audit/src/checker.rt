@@ -13,7 +13,9 @@ ghost use Rattle.rubis_audit.specs.declared.record_faults.Reason.TheVariants.{Ot
 use crate::line_reader::LineReader;
 use crate::readings::{is_event, is_site_record};
 use crate::reasons::{Lines, reason_text};
-use crate::record_faults::{Fault, Reason, audit_fault, place_after, site_fault, world_fault};
+use crate::record_faults::{
+    Reason, RecordFault, audit_fault, place_after, site_fault, world_fault,
+};
 use crate::widener::LinePlace;
 use rubis_engine::{RunFault, Sink};
 use rubis_schema::{Fields, RECORDS_MAX, Record, push_number};
@@ -48,12 +50,12 @@ struct Checker {
 }
 
 // The fault that was found in a record that couldn't be read.
-fn known(found: Option<Fault>) -> Fault
+fn known(found: Option<RecordFault>) -> RecordFault
     ensures { result ≡ unwrap_or found (fault 0 Other) }
 {
     match found {
         Some(fault) => fault,
-        None => Fault {
+        None => RecordFault {
             field: 0,
             reason: Reason::Other,
         },
@@ -62,7 +64,7 @@ fn known(found: Option<Fault>) -> Fault
 
 impl Checker {
     // What is wrong with the next record, if anything.
-    fn fault<F: Record>(&self, alloc: Global, fields: &F) -> Result<Option<Fault>, AllocError>
+    fn fault<F: Record>(&self, alloc: Global, fields: &F) -> Result<Option<RecordFault>, AllocError>
         requires { self.now.sites ≤ COUNTED_MAX }
         ensures { IfOk result (λ fault. fault ≡ fault_for self.now.grammar self.now.sites self.now.place (F.fields fields.now)) }
     {
@@ -84,7 +86,11 @@ impl Checker {
     }
 
     // Counts the next record, and says what is wrong with it, if anything.
-    fn check<F: Record>(&mut self, alloc: Global, fields: &F) -> Result<Option<Fault>, AllocError>
+    fn check<F: Record>(
+        &mut self,
+        alloc: Global,
+        fields: &F,
+    ) -> Result<Option<RecordFault>, AllocError>
         requires few { self.old.sites ≤ COUNTED_MAX }
         requires room { self.old.tally.records < RECORDS_MAX }
         requires fewer { self.old.tally.bad ≤ self.old.tally.records }
@@ -112,7 +118,7 @@ fn write_bad<F: Record>(
     sink: &mut Sink,
     checker: &Checker,
     row: &F,
-    fault: Fault,
+    fault: RecordFault,
     lines: Lines,
 ) -> Result<(), AllocError>
     ensures { OnOk result (sink.new ≡ sink.old ++ rows_text (bad_row checker.now.sites checker.now.tally.records lines fault (F.fields row.now) ∷ [])) }

@@ -11,13 +11,13 @@ use std::ops::Deref;
 /// The messages of some logs, each kept once for all of them: of each site those that came in the order of their numbers, from 1.
 /// Another one is kept again for each log that has it. Contracts see the messages of each site.
 #[derive(Drop)]
-pub struct Pool {
+pub struct MessagePool {
     // Of each site, in site order.
     sites: Vec<Vec<Shared<Message>>>,
     alloc: Global,
 }
 
-impl Model for Pool {
+impl Model for MessagePool {
     ghost use Rattle.std.specs.Prelude.{List, map};
     ghost use Rattle.rubis_message.specs.Message.{Message};
 
@@ -26,12 +26,12 @@ impl Model for Pool {
     ghost view = { λ p. map (λ messages. messages.items) p.sites.items };
 }
 
-impl Pool {
+impl MessagePool {
     /// No messages. It takes no memory yet.
-    pub fn new(alloc: Global) -> Pool
+    pub fn new(alloc: Global) -> MessagePool
         ensures { result ≡ [] }
     {
-        Pool {
+        MessagePool {
             sites: Vec::new(alloc),
             alloc,
         }

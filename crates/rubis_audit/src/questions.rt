@@ -2,7 +2,7 @@
 
 /// What is answered once all logs are read.
 #[derive(Clone, Copy, PartialEq, Eq)]
-pub enum Question {
+pub enum LogQuestion {
     /// Whether they agree.
     Agreement,
     /// What each log lacks of the others.

@@ -8,7 +8,7 @@ ghost use Rattle.rubis_audit.specs.Shapes.{kind_name, name_of, shown_name};
 ghost use Rattle.rubis_audit.specs.Reasons.{named_text, number_text, quote_text, reason_text, rule_text, shown_byte, site_text, words_of};
 
 use crate::field_rules::FieldRule;
-use crate::record_faults::{Fault, Reason, field_at};
+use crate::record_faults::{Reason, RecordFault, field_at};
 use crate::shapes::{Shape, says};
 use rubis_message::{RecordKind, Shown};
 use rubis_schema::{COUNT_MAX, NUMBER_TEXT_MAX, Record, push_digits};
@@ -309,7 +309,7 @@ fn quote_reason(alloc: Global, lines: Lines) -> Result<Vec<u8>, AllocError>
 pub fn reason_text<F: Record>(
     alloc: Global,
     fields: &F,
-    fault: Fault,
+    fault: RecordFault,
     lines: Lines,
     sites: u8,
 ) -> Result<Vec<u8>, AllocError>

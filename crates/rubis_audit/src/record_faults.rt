@@ -43,13 +43,13 @@ pub enum Reason {
 
 /// What is wrong with a record: the number of the field, from 1, or 0 for the whole record; and why.
 #[derive(Clone, Copy)]
-pub struct Fault {
+pub struct RecordFault {
     pub field: usize,
     pub reason: Reason,
 }
 
 // The first of the fields from the place `from` on that isn't as its rule says.
-fn misfit<F: Record>(fields: &F, from: usize, rules: &[FieldRule], sites: u8) -> Option<Fault>
+fn misfit<F: Record>(fields: &F, from: usize, rules: &[FieldRule], sites: u8) -> Option<RecordFault>
     requires few { sites ≤ COUNTED_MAX }
     requires near { from ≤ 9 }
     ensures { result ≡ misfit sites (from + 1) rules.now (drop from (F.fields fields.now)) }
@@ -57,7 +57,7 @@ fn misfit<F: Record>(fields: &F, from: usize, rules: &[FieldRule], sites: u8) ->
     for (place, rule) in rules.iter().enumerate() {
         let field = fields.field(from + place)?;
         if !rule.fits(field, sites) {
-            return Some(Fault {
+            return Some(RecordFault {
                 field: from + place + 1,
                 reason: Reason::Rule(*rule),
             });
@@ -67,7 +67,7 @@ fn misfit<F: Record>(fields: &F, from: usize, rules: &[FieldRule], sites: u8) ->
 }
 
 // The first of the fields after the first word, which stands at the place `from`, that isn't as its rule says.
-fn shape_misfit<F: Record>(fields: &F, from: usize, shape: Shape, sites: u8) -> Option<Fault>
+fn shape_misfit<F: Record>(fields: &F, from: usize, shape: Shape, sites: u8) -> Option<RecordFault>
     requires few { sites ≤ COUNTED_MAX }
     requires near { from ≤ 2 }
     ensures { result ≡ shape_misfit sites from shape (F.fields fields.now) }
@@ -120,7 +120,7 @@ fn changes_nothing<F: Record>(fields: &F, shape: Shape) -> bool
 }
 
 // What is wrong with fields each of which is as its rule says.
-fn discord<F: Record>(fields: &F, shape: Shape, sites: u8) -> Option<Fault>
+fn discord<F: Record>(fields: &F, shape: Shape, sites: u8) -> Option<RecordFault>
     requires { sites ≤ COUNTED_MAX }
     ensures { result ≡ discord sites shape (F.fields fields.now) }
 {
@@ -128,13 +128,13 @@ fn discord<F: Record>(fields: &F, shape: Shape, sites: u8) -> Option<Fault>
         return None;
     }
     if !is_next(fields, sites) {
-        return Some(Fault {
+        return Some(RecordFault {
             field: 6,
             reason: Reason::NotNext,
         });
     }
     if changes_nothing(fields, shape) {
-        return Some(Fault {
+        return Some(RecordFault {
             field: 10,
             reason: Reason::SameNick,
         });
@@ -154,14 +154,14 @@ fn has_room(shape: Shape, wanted: usize, given: usize) -> bool
 }
 
 // What is wrong with a record of this shape whose first word stands at the place `from`.
-fn fault_in<F: Record>(fields: &F, from: usize, shape: Shape, sites: u8) -> Option<Fault>
+fn fault_in<F: Record>(fields: &F, from: usize, shape: Shape, sites: u8) -> Option<RecordFault>
     requires few { sites ≤ COUNTED_MAX }
     requires near { from ≤ 2 }
     ensures { result ≡ fault_in sites from shape (F.fields fields.now) }
 {
     let wanted = from + 1 + shape.head().len() + shape.tail().len();
     if !has_room(shape, wanted, fields.len()) {
-        return Some(Fault {
+        return Some(RecordFault {
             field: 0,
             reason: Reason::Count(shape, wanted),
         });
@@ -173,12 +173,12 @@ fn fault_in<F: Record>(fields: &F, from: usize, shape: Shape, sites: u8) -> Opti
 }
 
 // What is wrong with a request at a site of a world.
-fn at_fault<F: Record>(fields: &F, sites: u8) -> Option<Fault>
+fn at_fault<F: Record>(fields: &F, sites: u8) -> Option<RecordFault>
     requires { sites ≤ COUNTED_MAX }
     ensures { result ≡ at_fault sites (F.fields fields.now) }
 {
     if fields.len() < 3 {
-        return Some(Fault {
+        return Some(RecordFault {
             field: 0,
             reason: Reason::Count(Shape::At, 3),
         });
@@ -188,7 +188,7 @@ fn at_fault<F: Record>(fields: &F, sites: u8) -> Option<Fault>
     }
     match request_shape(fields, 2) {
         Some(shape) => fault_in(fields, 2, shape, sites),
-        None => Some(Fault {
+        None => Some(RecordFault {
             field: 3,
             reason: Reason::NoRequest,
         }),
@@ -196,23 +196,23 @@ fn at_fault<F: Record>(fields: &F, sites: u8) -> Option<Fault>
 }
 
 // What is wrong with a record that begins with no word that a record begins with.
-fn unknown<F: Record>(fields: &F) -> Fault
+fn unknown<F: Record>(fields: &F) -> RecordFault
     ensures { result ≡ unknown (F.fields fields.now) }
 {
     if says(field_at(fields, 1), b"send") {
-        return Fault {
+        return RecordFault {
             field: 1,
             reason: Reason::Answer,
         };
     }
-    Fault {
+    RecordFault {
         field: 1,
         reason: Reason::NoRecord,
     }
 }
 
 // What is wrong with where a record of an audit stands that is well otherwise.
-fn misplaced(place: LinePlace, shape: Shape) -> Option<Fault>
+fn misplaced(place: LinePlace, shape: Shape) -> Option<RecordFault>
     ensures { result ≡ misplaced place shape }
 {
     let reason = match (place, shape) {
@@ -222,7 +222,7 @@ fn misplaced(place: LinePlace, shape: Shape) -> Option<Fault>
         (LinePlace::BeforeLogs, _) => Reason::NoLog,
         (LinePlace::InRows, _) => Reason::BehindRows,
     };
-    Some(Fault { field: 1, reason })
+    Some(RecordFault { field: 1, reason })
 }
 
 // Whether a field has a line end, as only one in quotes has.
@@ -259,11 +259,11 @@ fn line_end_at<F: Record>(fields: &F, number: usize) -> Option<usize>
 }
 
 // The fault, or that its field has a line end: a quote that wasn't closed swallowed what follows.
-fn in_quotes<F: Record>(fields: &F, fault: Fault) -> Fault
+fn in_quotes<F: Record>(fields: &F, fault: RecordFault) -> RecordFault
     ensures { result ≡ in_quotes (F.fields fields.now) fault }
 {
     match line_end_at(fields, fault.field) {
-        Some(field) => Fault {
+        Some(field) => RecordFault {
             field,
             reason: Reason::LineEnd,
         },
@@ -272,7 +272,7 @@ fn in_quotes<F: Record>(fields: &F, fault: Fault) -> Fault
 }
 
 /// What is wrong with a record of one of `sites` sites, if anything.
-pub fn site_fault<F: Record>(fields: &F, sites: u8) -> Option<Fault>
+pub fn site_fault<F: Record>(fields: &F, sites: u8) -> Option<RecordFault>
     requires { sites ≤ COUNTED_MAX }
     ensures { result ≡ site_fault sites (F.fields fields.now) }
 {
@@ -284,7 +284,7 @@ pub fn site_fault<F: Record>(fields: &F, sites: u8) -> Option<Fault>
 }
 
 /// What is wrong with a record of a world of `sites` sites, if anything.
-pub fn world_fault<F: Record>(fields: &F, sites: u8) -> Option<Fault>
+pub fn world_fault<F: Record>(fields: &F, sites: u8) -> Option<RecordFault>
     requires { sites ≤ COUNTED_MAX }
     ensures { result ≡ world_fault sites (F.fields fields.now) }
 {
@@ -300,7 +300,7 @@ pub fn world_fault<F: Record>(fields: &F, sites: u8) -> Option<Fault>
 }
 
 /// What is wrong with a record of an audit of `sites` sites that stands there, if anything.
-pub fn audit_fault<F: Record>(fields: &F, place: LinePlace, sites: u8) -> Option<Fault>
+pub fn audit_fault<F: Record>(fields: &F, place: LinePlace, sites: u8) -> Option<RecordFault>
     requires { sites ≤ COUNTED_MAX }
     ensures { result ≡ audit_fault sites place (F.fields fields.now) }
 {

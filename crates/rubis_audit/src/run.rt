@@ -4,12 +4,12 @@ ghost use Rattle.std.specs.Prelude.{◌≡◌, ◌≤◌, [], ℕ, IfOk, IfSome}
 ghost use Rattle.rubis_engine.specs.Progress.{IsRun};
 ghost use Rattle.rubis_engine.specs.Text.{input_records};
 ghost use Rattle.rubis_schema.specs.declared.limits.TheConstants.{COUNTED_MAX, RECORDS_MAX};
-ghost use Rattle.rubis_audit.specs.declared.questions.Question.TheVariants as Question;
+ghost use Rattle.rubis_audit.specs.declared.questions.LogQuestion.TheVariants as LogQuestion;
 ghost use Rattle.rubis_audit.specs.Running.{account_from, audit_account, lack_account};
 ghost use Rattle.rubis_audit.specs.Soundness.{AgreesOnSoundLogs};
 
 use crate::auditor::Auditor;
-use crate::questions::Question;
+use crate::questions::LogQuestion;
 use rubis_engine::{Count, RunFault, run_upto};
 use rubis_schema::RECORDS_MAX;
 use std::alloc::Global;
@@ -33,7 +33,7 @@ pub fn run_auditor<R: Read + Drop, W: Write>(
 ) -> Result<Count, RunFault>
     ensures run { IsRun (account_from auditor.old.asked auditor.old.sites 1 auditor.old.logs) RECORDS_MAX
         (R.remaining reader) (W.contents writer.old) (W.contents writer.new) result }
-    ensures sound { auditor.old.asked ≡ Question.Agreement → auditor.old.logs ≡ [] → auditor.old.sites ≤ COUNTED_MAX
+    ensures sound { auditor.old.asked ≡ LogQuestion.Agreement → auditor.old.logs ≡ [] → auditor.old.sites ≤ COUNTED_MAX
         → IfOk result (λ _. IfSome (R.remaining reader) (λ input.
         AgreesOnSoundLogs auditor.old.sites (W.contents writer.old) (W.contents writer.new) (input_records input))) }
 {
@@ -56,7 +56,7 @@ pub fn run_audit<R: Read + Drop, W: Write>(
     ensures sound { IfOk result (λ _. IfSome (R.remaining reader) (λ input.
         AgreesOnSoundLogs sites (W.contents writer.old) (W.contents writer.new) (input_records input))) }
 {
-    let mut auditor = Auditor::new(alloc, sites, Question::Agreement);
+    let mut auditor = Auditor::new(alloc, sites, LogQuestion::Agreement);
     run_auditor(alloc, reader, writer, &mut auditor)
 }
 
@@ -75,6 +75,6 @@ pub fn run_lack<R: Read + Drop, W: Write>(
     requires { sites ≤ COUNTED_MAX }
     ensures { IsRun (lack_account sites) RECORDS_MAX (R.remaining reader) (W.contents writer.old) (W.contents writer.new) result }
 {
-    let mut auditor = Auditor::new(alloc, sites, Question::Lacks);
+    let mut auditor = Auditor::new(alloc, sites, LogQuestion::Lacks);
     run_auditor(alloc, reader, writer, &mut auditor)
 }

@@ -21,7 +21,7 @@ use Rattle.rubis_cli.specs.declared.options.OptionFault.TheVariants.{Memory, Wor
 use Rattle.rubis_cli.specs.declared.options.Options.{Options}
 use Rattle.rubis_cli.specs.declared.options.Invocation.{Invocation}
 use Rattle.rubis_cli.specs.declared.options.Invocation.TheVariants.{Audit, Check, Keep, Lack, Site, Widen, World}
-use Rattle.rubis_cli.specs.declared.options.Setup.{Setup}
+use Rattle.rubis_cli.specs.declared.options.SetupOptions.{SetupOptions}
 use Rattle.rubis_cli.specs.declared.options.Widening.{Widening}
 
 -- an option of this name
@@ -125,7 +125,7 @@ abbrev pub IsFlag : Option Text → Bool → Type 0
 IsFlag text given = (text ≡ None → given ≡ false) × (text ≡ Some (codes "true") → given ≡ true) × (text ≡ Some (codes "false") → given ≡ false)
 
 -- the numbers are what stands in these rows
-pub record IsSetupIn (rows : List Row) (s : Setup) : Type 0 where
+pub record IsSetupIn (rows : List Row) (s : SetupOptions) : Type 0 where
   pub sites : IsNumberOf 8 (one_of (codes "sites") rows) s.sites
   pub shards : IsNumberOf 8 (one_of (codes "shards") rows) s.shards
   pub workers : IsNumberOf 8 (one_of (codes "workers") rows) s.workers

@@ -7,6 +7,6 @@ mod options;
 
 pub use keep_options::KeepOptions;
 pub use options::{
-    AuditOptions, CheckOptions, Invocation, LackOptions, OptionFault, Options, Reading, Setup,
-    Widening, read_options,
+    AuditOptions, CheckOptions, Invocation, LackOptions, OptionFault, Options, Reading,
+    SetupOptions, Widening, read_options,
 };

@@ -25,7 +25,7 @@ pub enum Invocation {
     /// One site.
     Site(Options),
     /// Several sites in one run.
-    World(Setup),
+    World(SetupOptions),
     /// An audit of logs.
     Audit(AuditOptions),
     /// What each of several logs lacks of the others, or what waits at a site.
@@ -72,7 +72,7 @@ impl From<AllocError> for OptionFault {
 
 /// The numbers that say how sites are set up.
 #[derive(Clone, Copy)]
-pub struct Setup {
+pub struct SetupOptions {
     pub sites: u8,
     pub shards: u8,
     pub workers: u8,
@@ -125,7 +125,7 @@ pub struct CheckOptions {
 #[derive(Clone, Copy)]
 pub struct Options {
     pub site: u8,
-    pub setup: Setup,
+    pub setup: SetupOptions,
 }
 
 /// An option of this name.
@@ -415,10 +415,10 @@ pub(crate) fn word(matches: &ArgMatches<'_>, name: &str) -> u32
     matches.get_one::<u32>(name).unwrap_or(0)
 }
 
-fn read_setup(matches: &ArgMatches<'_>) -> Setup
+fn read_setup(matches: &ArgMatches<'_>) -> SetupOptions
     ensures { IsSetupIn (rows_of (found_of matches.now)) result }
 {
-    Setup {
+    SetupOptions {
         sites: byte(matches, "sites"),
         shards: byte(matches, "shards"),
         workers: byte(matches, "workers"),

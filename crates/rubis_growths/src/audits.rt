@@ -5,7 +5,7 @@ ghost use Rattle.rubis_message.specs.Message.{sites_of};
 
 use crate::records::Window;
 use crate::tries::{Stop, again};
-use rubis_audit::{Log, Pool, Verdict, audit};
+use rubis_audit::{Log, MessagePool, Verdict, audit};
 use rubis_message::{Message, ReadFault};
 use rubis_schema::Items;
 use std::alloc::{AllocError, Global};
@@ -15,7 +15,7 @@ use std::io::Print;
 fn verdict_on(alloc: Global, messages: Items<Message>) -> Result<Verdict, AllocError>
     requires { All (λ m. sites_of m ≡ 2) messages }
 {
-    let mut pool = Pool::new(alloc);
+    let mut pool = MessagePool::new(alloc);
     let shared = pool.share_all(messages.as_slice())?;
     let log = Log::new(0, shared, None);
     audit(alloc, &[log], 2)

@@ -50,12 +50,12 @@ pub struct Listed {
 
 // The fields of a record without the first ones.
 #[derive(Drop)]
-struct Later<'a> {
+struct LaterFields<'a> {
     fields: &'a InputRecord,
     first: usize,
 }
 
-impl<'a> Record for Later<'a> {
+impl<'a> Record for LaterFields<'a> {
     ghost use Rattle.std.specs.Prelude.{drop};
 
     ghost fields = { λ r. drop r.first r.fields.now };
@@ -87,7 +87,7 @@ fn read_listing(
 ) -> Result<Option<Listing>, OutOfMemory>
     ensures { IfOk result (λ listing. listing ≡ paged_by (request_of sites (drop 4 fields.now))) }
 {
-    match read_request(alloc, &Later { fields, first: 4 }, sites) {
+    match read_request(alloc, &LaterFields { fields, first: 4 }, sites) {
         Ok(Request::List(listing)) => {
             if has_pages(&listing) {
                 Ok(Some(listing))

@@ -5,8 +5,8 @@ ghost use Rattle.rubis_reading.specs.Streams.{EndsNoRecord, IsWhole, NoWholeAfte
 ghost use Rattle.rubis_engine.specs.Text.{input_records};
 ghost use Rattle.rubis_reading.specs.Chunked.{FailsShort, HasCome, HasPending, IsLast, KeepsCome, KeepsPending, TakesOff, held_text, pending_text};
 
+use crate::buffer::{Buffer, ChunkFault};
 use crate::cuts::{Looked, look_for_end, whole_end};
-use crate::held::{ChunkFault, Held};
 use std::alloc::Global;
 use std::io::Read;
 
@@ -19,7 +19,7 @@ pub struct Chunks<R> {
     reader: R,
     // What came from the reader and was not handed on. The byte that ends what was handed on stays as its first one, so no byte
     // order mark can stand there.
-    held: Held,
+    held: Buffer,
     // How many bytes are asked for at a time.
     size: usize,
 }
@@ -32,7 +32,7 @@ impl<R: Read + Drop> Chunks<R> {
     {
         Chunks {
             reader,
-            held: Held::new(alloc),
+            held: Buffer::new(alloc),
             size,
         }
     }

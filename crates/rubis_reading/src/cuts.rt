@@ -8,19 +8,19 @@ ghost use Rattle.rubis_reading.specs.Standings.{state_of};
 ghost use Rattle.rubis_reading.specs.Looks.{HasEnd, HasLooked};
 ghost use Rattle.rubis_reading.specs.Streams.{EndsFrom, EndsNoRecord, HasNoQuote, IsLike, IsOutside, IsWhole, NoEndAfter, NoWholeAfter, stands};
 
-use crate::standing::{Standing, after, in_field};
+use crate::csv_state::{CsvState, after, in_field};
 use memchr::{memchr, memrchr2};
 
 // Whether the machine stands between quotes.
-fn is_quoted(at: Standing) -> bool
+fn is_quoted(at: CsvState) -> bool
     ensures { MatchBool result (state_of at ≡ st.InQuoted) (IsOutside (state_of at)) }
 {
-    matches!(at, Standing::Quoted)
+    matches!(at, CsvState::Quoted)
 }
 
 // How many bytes of a text with no quote there are up to the end of its last line, where the machine stands so before it: none
 // in the midst of a field with quotes.
-fn last_line(at: Standing, run: &[u8]) -> usize
+fn last_line(at: CsvState, run: &[u8]) -> usize
     requires { HasNoQuote run.now }
     ensures within { result ≤ length run.now }
     ensures ends { 0 < result → EndsFrom (state_of at) run.now result }
@@ -36,7 +36,7 @@ fn last_line(at: Standing, run: &[u8]) -> usize
 }
 
 // Where the machine stands after a text with no quote, as far as what follows goes.
-fn over(at: Standing, run: &[u8]) -> Standing
+fn over(at: CsvState, run: &[u8]) -> CsvState
     requires { HasNoQuote run.now }
     ensures { IsLike (state_of result) (stands (state_of at) run.now) }
 {
@@ -53,7 +53,7 @@ fn over(at: Standing, run: &[u8]) -> Standing
 #[derive(Clone, Copy)]
 pub struct Looked {
     // Where the machine stands there.
-    at: Standing,
+    at: CsvState,
     // How many bytes were looked at.
     place: usize,
     // The end of the last line among them after which no record is begun, quoted or not: between two quotes only lines and fields
@@ -67,7 +67,7 @@ impl Looked {
         ensures { (text : List ℕ) → HasLooked text result }
     {
         Looked {
-            at: Standing::Start,
+            at: CsvState::Start,
             place: 0,
             end: 0,
         }

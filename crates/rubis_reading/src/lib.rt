@@ -2,16 +2,16 @@
 #![tactic(auto)]
 
 mod ahead;
+mod buffer;
 mod chunks;
+mod csv_state;
 mod cuts;
-mod held;
 mod parts;
-mod standing;
 mod stretches;
 
 pub use ahead::Ahead;
+pub use buffer::ChunkFault;
 pub use chunks::Chunks;
 pub use cuts::whole_end;
-pub use held::ChunkFault;
 pub use parts::read_parts;
 pub use stretches::{Stretch, read_piece};

@@ -12,7 +12,7 @@ ghost use Rattle.rubis_world.specs.Worlds.{IsCheckFault, SomeBehind};
 
 use crate::faults::WorldFault;
 use crate::sites::Sites;
-use rubis_audit::{Log, Pool, audit_hashed};
+use rubis_audit::{Log, MessagePool, audit_hashed};
 use rubis_message::{Happened, Verdict};
 use rubis_schema::{Fields, Hashes, Items, Listing};
 use rubis_script::Fault;
@@ -56,7 +56,7 @@ fn tables<R: Threads + Wait + Sync>(
 // The log of a site, with its tables.
 fn log<R: Threads + Wait + Sync>(
     rt: &R,
-    pool: &mut Pool,
+    pool: &mut MessagePool,
     sites: &mut Sites,
     site: usize,
 ) -> Result<Log, WorldFault>
@@ -82,7 +82,7 @@ fn logs<R: Threads + Wait + Sync>(
     ensures logs { IfOk result (λ logs. logs.items ≡ logs_of sites.old.world) }
     ensures faults { IfErr result (IsCheckFault sites.new) }
 {
-    let mut pool = Pool::new(alloc);
+    let mut pool = MessagePool::new(alloc);
     let mut logs = Vec::new(alloc);
     'places: for site in 0..sites.len() {
         logs.push(log(rt, &mut pool, sites, site)?)?;

@@ -1,6 +1,6 @@
 use Rattle.std.proofs.Common.{◌++◌, ap, arith, length, length-append, refl, rules, subst, sym}
 use Rattle.rubis_engine.proofs.RunFacts.{handed_on}
-use Rattle.rubis_reading.specs.declared.held.ChunkFault.TheVariants.{Read}
+use Rattle.rubis_reading.specs.declared.buffer.ChunkFault.TheVariants.{Read}
 use Rattle.csv.specs.Reading.{strip_bom}
 use Rattle.std.proofs.lemmas.Bool.Decides.{nat_tests}
 use Rattle.rubis_reading.specs.Looks.{HasLooked}

@@ -4,7 +4,7 @@ use Rattle.std.specs.Io.KnownBytes.{Consumes}
 use Rattle.std.proofs.lemmas.Bool.Decides.{nat_tests}
 use Rattle.std.proofs.lemmas.List.{take-append-le, with_items_is}
 use Rattle.rubis_reading.proofs.HeldFacts.{filled, unfilled, written-length}
-use Rattle.rubis_reading.proofs.held.Held.fill.Goals as goal
+use Rattle.rubis_reading.proofs.buffer.Buffer.fill.Goals as goal
 
 pub returns-in-Ok-clause-given : goal.returns-in-Ok-clause-given
 returns-in-Ok-clause-given g c =

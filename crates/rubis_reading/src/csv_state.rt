@@ -8,7 +8,7 @@ ghost use Rattle.rubis_reading.specs.Standings.{state_of};
 
 /// Where the machine stands.
 #[derive(Clone, Copy)]
-pub enum Standing {
+pub enum CsvState {
     /// Before a record.
     Start,
     /// Before a field that is not the first of its record.
@@ -24,59 +24,59 @@ pub enum Standing {
 }
 
 /// After a byte in a field without quotes, or after one with quotes.
-pub fn in_field(byte: u8) -> Standing
+pub fn in_field(byte: u8) -> CsvState
     ensures { state_of result ≡ (Spec.in_field default_config byte).0 }
 {
     match byte {
-        b',' => Standing::FieldStart,
-        b'\r' => Standing::CrEnd,
-        b'\n' => Standing::Start,
-        _ => Standing::Field,
+        b',' => CsvState::FieldStart,
+        b'\r' => CsvState::CrEnd,
+        b'\n' => CsvState::Start,
+        _ => CsvState::Field,
     }
 }
 
 // After a byte at the start of a record.
-fn at_start(byte: u8) -> Standing
+fn at_start(byte: u8) -> CsvState
     ensures { state_of result ≡ (Spec.start_record default_config byte).0 }
 {
     match byte {
-        b'\r' | b'\n' => Standing::Start,
-        b'"' => Standing::Quoted,
+        b'\r' | b'\n' => CsvState::Start,
+        b'"' => CsvState::Quoted,
         _ => in_field(byte),
     }
 }
 
 /// Where the machine stands after one more byte.
-pub fn after(at: Standing, byte: u8) -> Standing
+pub fn after(at: CsvState, byte: u8) -> CsvState
     ensures { state_of result ≡ (step default_config (state_of at) byte).0 }
 {
     match at {
-        Standing::Start => at_start(byte),
-        Standing::FieldStart => {
+        CsvState::Start => at_start(byte),
+        CsvState::FieldStart => {
             if byte == b'"' {
-                Standing::Quoted
+                CsvState::Quoted
             } else {
                 in_field(byte)
             }
         }
-        Standing::Field => in_field(byte),
-        Standing::Quoted => {
+        CsvState::Field => in_field(byte),
+        CsvState::Quoted => {
             if byte == b'"' {
-                Standing::QuoteEnd
+                CsvState::QuoteEnd
             } else {
-                Standing::Quoted
+                CsvState::Quoted
             }
         }
-        Standing::QuoteEnd => {
+        CsvState::QuoteEnd => {
             if byte == b'"' {
-                Standing::Quoted
+                CsvState::Quoted
             } else {
                 in_field(byte)
             }
         }
-        Standing::CrEnd => {
+        CsvState::CrEnd => {
             if byte == b'\n' {
-                Standing::Start
+                CsvState::Start
             } else {
                 at_start(byte)
             }

@@ -1,6 +1,6 @@
 use Rattle.std.proofs.Common.{◌≤◌, ◌∙◌, ℕ, List, ap, drop, length, subst, sym}
 use Rattle.rubis_reading.proofs.HeldFacts.{range-passed}
-use Rattle.rubis_reading.proofs.held.Held.pass.Goals as goal
+use Rattle.rubis_reading.proofs.buffer.Buffer.pass.Goals as goal
 
 pub returns : goal.returns
 returns c =
