@@ -10,17 +10,17 @@ pub trait Gate: Sync {
 
 /// The word of a worker that the gate was told of its shard. What is done with a shard wants it, so that the gate comes first.
 #[derive(Drop)]
-pub struct Told {
+pub struct Taken {
     shard: usize,
 }
 
-impl Told {
+impl Taken {
     /// Tells the gate of a shard.
-    pub fn tell<G: Gate>(gate: &G, shard: usize) -> Told
+    pub fn told<G: Gate>(gate: &G, shard: usize) -> Taken
         ensures { result.shard ≡ shard }
     {
         gate.taken(shard);
-        Told { shard }
+        Taken { shard }
     }
 }
 
