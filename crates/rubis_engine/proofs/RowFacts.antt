@@ -30,11 +30,6 @@ capped-none : (n : ℕ) → (capped n == 0) ≡ (n == 0)
 capped-none zero = refl
 capped-none (suc n) = rw (ne_eqb (capped (suc n)) 0 (λ e. absurd (omega (arith, e))), ne_eqb (suc n) 0 (λ e. cc e)) refl
 
-capped-one : (n : ℕ) → (capped n == 1) ≡ (n == 1)
-capped-one zero = refl
-capped-one (suc zero) = refl
-capped-one (suc (suc n)) = rw (ne_eqb (capped (suc (suc n))) 1 (λ e. absurd (omega (arith, e))), ne_eqb (suc (suc n)) 1 (λ e. cc e)) refl
-
 -- a row at its start
 pub begun-start : (w : Writer (Vec ℕ Global)) → writer_setup w ≡ plain_writer → fields_written w ≡ 0 → has_written w ≡ false → HasBegunRow (held w) w []
 unfolding is_blank
@@ -63,14 +58,6 @@ begun-more start a b done field h text setup count wrote stays =
       count = count ∙ ap (λ n. min (n + 1) (2 ^ 64 - 1)) h.count ∙ capped-more (length done) ∙ ap capped (sym one);
       blank = rw one (blank-more plain_writer done field (has_written a) (has_written b) h.blank (rw h.setup at wrote) stays);
     }
-
--- a row at its end
-pub begun-end : (start : List ℕ) (a b : Writer (Vec ℕ Global)) (done : List (List ℕ)) → HasBegunRow start a done
-    → held b ≡ held a ++ tail_text (writer_setup a) (has_written a) (fields_written a)
-    → held b ≡ start ++ row_text plain_writer done
-begun-end start a b done h text =
-    let tail = rw (h.setup, h.count, capped-none (length done), capped-one (length done), ← h.blank, h.text) at text in
-    tail ∙ append_assoc start (row_body plain_writer done) _
 
 -- both hold where both together do
 both : (a b : Bool) → (a && b) ≡ true → (a ≡ true) × (b ≡ true)

@@ -92,14 +92,6 @@ StandsAt rem run account all old now input = HasComeSoFar rem run.records all (a
 abbrev pub OfEachRun : {R : Type 0} → (R → Option (List ℕ)) → Run R → (ℕ → Account) → Option (List ℕ) → (Account → Option (List ℕ) → List ℕ → Type 0) → Type 0
 OfEachRun rem run account now holds = InEachRun rem run.records (account (run.answered + 1)) now run.reply.sink (run.answered + 1) holds
 
--- after where it stood the run is done
-abbrev pub EndsDone : {R : Type 0} → (R → Option (List ℕ)) → Run R → (ℕ → Account) → Option (List ℕ) → Option (List ℕ) → ℕ → ℕ → Type 0
-EndsDone rem run account before after limit count = OfEachRun rem run account before (λ all old input. IsDone all limit old after (input_records input) count)
-
--- it is too long
-abbrev pub EndsTooLong : {R : Type 0} → (R → Option (List ℕ)) → Run R → (ℕ → Account) → Option (List ℕ) → Option (List ℕ) → ℕ → Type 0
-EndsTooLong rem run account before after limit = OfEachRun rem run account before (λ all old input. IsTooLong all limit old after (input_records input))
-
 -- it is cut short
 abbrev pub EndsCut : {R : Type 0} → (R → Option (List ℕ)) → Run R → (ℕ → Account) → Option (List ℕ) → Option (List ℕ) → Type 0
 EndsCut rem run account before after = OfEachRun rem run account before (λ all old input. IsCut all old after (input_records input))

@@ -399,9 +399,6 @@ still-more (Some x) None c f g = absurd f
 still-more (Some x) (Some y) None f g = absurd g
 still-more (Some x) (Some y) (Some z) f g = g ∙ f
 
-pub is-still-more : (a b c : Option History) → IsStill a b → IsStill b c → IsStill a c
-is-still-more a b c f g = (still-more (kept_in a) (kept_in b) (kept_in c) f.0 g.0, still-more (out_in a) (out_in b) (out_in c) f.1 g.1)
-
 pub still-by : (a b : Option History) (es : List Event) → Grows a b es → ((s : FileState) → ((after_all s es).kept ≡ s.kept) × ((after_all s es).out ≡ s.out)) → IsStill a b
 still-by None b es g h = (tt, tt)
 still-by (Some x) None es g h = absurd g

@@ -10,11 +10,6 @@ left-filled unread None input2 c = tt
 left-filled unread (Some xs) None c = absurd c
 left-filled unread (Some xs) (Some ys) c = c
 
-pub left-kept : (unread : List ℕ) (input input2 : Option (List ℕ)) → Keeps input input2 → Consumes (left_of unread input) (left_of unread input2) []
-left-kept unread None input2 c = tt
-left-kept unread (Some xs) None c = absurd c
-left-kept unread (Some xs) (Some ys) c = ap (λ t. unread ++ t) (sym c)
-
 -- some of it was looked at
 pub left-taken : (unread : List ℕ) (n : ℕ) (input0 input : Option (List ℕ)) → Consumes input0 (left_of unread input) []
     → Consumes input0 (left_of (drop n unread) input) (take n unread)

@@ -42,10 +42,6 @@ pub begun_take_more : (line xs : List ℕ) (i : ℕ) → i < length xs
     → begun_after line (take (i + 1) xs) ≡ begun_after (begun_after line (take i xs)) (get_or xs i 0 ∷ [])
 begun_take_more line xs i h = ap (begun_after line) (take_more xs i 0 h) ∙ begun-append line (take i xs) (get_or xs i 0 ∷ [])
 
-pub kept_take_more : (asks : Bool) (line xs : List ℕ) (i : ℕ) → i < length xs
-    → kept_after asks line (take (i + 1) xs) ≡ kept_after asks line (take i xs) ++ kept_after asks (begun_after line (take i xs)) (get_or xs i 0 ∷ [])
-kept_take_more asks line xs i h = ap (kept_after asks line) (take_more xs i 0 h) ∙ kept-append asks line (take i xs) (get_or xs i 0 ∷ [])
-
 -- ---- the first bytes of a line say what is kept of it
 
 begun-short : (line : List ℕ) → length line ≤ 4096 → begun_bytes line ≡ line

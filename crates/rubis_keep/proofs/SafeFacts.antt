@@ -284,12 +284,6 @@ pub lives-torn : {T E : Type 0} (more more2 : Account) (before before2 : Option 
 lives-torn more more2 before before2 number number2 old new chunk n r bad l g all h is rested =
     (piece-unkept all more number before h new chunk n rested l (rw is at g), ok-of-err _ r bad)
 
--- they were kept, and not answered
-pub lives-unanswered : {T E : Type 0} (more more2 : Account) (before before2 : Option (List ℕ)) (number number2 : ℕ) (old new : Option History) (chunk : List ℕ)
-    (r : Result T E) → IsErr r → Lines chunk → KeepsLines true old new chunk → LivesSafe more before number old more2 before2 number2 new r
-lives-unanswered more more2 before before2 number number2 old new chunk r bad l k all h is rested =
-    (piece-unanswered all more number before h new chunk rested l (rw is at k), ok-of-err _ r bad)
-
 pub stays-known : (text : List (List (List ℕ)) → List ℕ) (h : History) (b : Option History) → StaysSafe text (Some h) b → (h2 : History) × (b ≡ Some h2)
 stays-known text h None f = absurd f.1
 stays-known text h (Some h2) f = (h2, refl)
@@ -303,21 +297,11 @@ lives-more more more2 more3 before before2 before3 number number2 number3 a b c 
     let last = g all mid.0 mid.1 (first.1 mid.0 mid.1) in
     (stays-more (all.text AtEnd) (Some h) b c first.0 (rw mid.1 last.0), last.1)
 
-pub lives-on : {T : Type 0} (E : Type 0) (more more2 more3 : Account) (before before2 before3 : Option (List ℕ)) (number number2 number3 : ℕ) (a b c : Option History) (x : T)
-    → Lives more before number a more2 before2 number2 b → LivesSafe {T = T} {E = E} more2 before2 number2 b more3 before3 number3 c (Ok x)
-    → Lives more before number a more3 before3 number3 c
-lives-on {T} E more more2 more3 before before2 before3 number number2 number3 a b c x f g =
-    lives-more {T = T} {E = E} more more2 more3 before before2 before3 number number2 number3 a b c (Ok x) f g
-
 pub lives-start : (more : Account) (before : Option (List ℕ)) (number : ℕ) (a : Option History) → Lives more before number a more before number a
 lives-start more before number a all h is rested = (
   rw is (stays-none (all.text AtEnd) h (rested-safe all more number before (now h) rested)),
   λ h2 e. subst (λ t. Rested all more number before (now t)) (some-same h h2 (sym is ∙ e)) rested,
 )
-
-pub lives-end : {T E : Type 0} (more more2 : Account) (before before2 : Option (List ℕ)) (number number2 : ℕ) (a b : Option History) (r : Result T E) → IsErr r
-    → Lives more before number a more2 before2 number2 b → LivesSafe more before number a more2 before2 number2 b r
-lives-end more more2 before before2 number number2 a b r bad f all h is rested = ((f all h is rested).0, ok-of-err _ r bad)
 
 -- the same where there was no fault
 pub lives-known : {T E : Type 0} (more more2 : Account) (before before2 : Option (List ℕ)) (number number2 : ℕ) (old new : Option History) (r : Result T E)

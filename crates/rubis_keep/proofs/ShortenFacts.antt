@@ -25,13 +25,6 @@ use Rattle.std.specs.Io.KnownBytes.{Appends, Consumes, IsAtEnd}
 use Rattle.std.specs.Prelude.{IfOk, IsTrue, None, Result, Some}
 use Rattle.std.proofs.lemmas.List.{take-append-drop, take_more}
 
-pub took-changed : (old new : SiteState) (input : Input) → new.state ≡ (input_step old.place old.state 1 input).0 → TakesRecord old new input true
-took-changed old new input e = (e, λ no. absurd (cc no))
-
-pub took-nothing : (old new : SiteState) (input : Input) (changed : Bool) → new.state ≡ old.state → (input_step old.place old.state 1 input).0 ≡ old.state →
-    TakesRecord old new input changed
-took-nothing old new input changed e f = (e ∙ sym f, λ no. f)
-
 -- ---- record after record
 
 pub after-more : (p : Place) (s : Replica) (done : List (List (List ℕ))) (fields : List (List ℕ))
@@ -231,9 +224,6 @@ short-ends p s state past mid past2 fresh fresh2 bytes last line told c d none e
         let rest : y ≡ [] = d ∙ ap (λ t. t ++ z) none ∙ end in
         let same : kept ≡ x = cc is in
         same ∙ c ∙ ap (λ t. bytes ++ t) rest ∙ append-nil bytes
-
-pub takes-as : {E : Type 0} (old new : SiteState) (x y : Input) (r : Result Bool E) → x ≡ y → IfOk r (TakesRecord old new y) → IfOk r (TakesRecord old new x)
-takes-as old new x y r e h = subst (λ i. IfOk r (TakesRecord old new i)) (sym e) h
 
 pub done_more : (done piece : List ℕ) (i : ℕ) → i < length piece → done ++ take (i + 1) piece ≡ (done ++ take i piece) ++ get_or piece i 0 ∷ []
 done_more done piece i h = ap (λ t. done ++ t) (take_more piece i 0 h) ∙ sym (append_assoc done (take i piece) (get_or piece i 0 ∷ []))

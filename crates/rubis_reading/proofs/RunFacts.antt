@@ -51,10 +51,6 @@ pub counted-flat : (runs : List Stretch) → counted runs ≡ length (flat runs)
 counted-flat [] = refl
 counted-flat (r ∷ rest) = let more = counted-flat rest in let both = length-append (of_stretch r) (flat rest) in omega (arith, more, both)
 
-pub counted-drop : (runs : List Stretch) (i : ℕ) (r : Stretch) → i < length runs → counted (drop i runs)
-    ≡ length (of_stretch (get_or runs i r)) + counted (drop (i + 1) runs)
-counted-drop runs i r lt = at_drop_more counted runs i r lt
-
 pub ruleset run_facts = (flat-more)
 
 pub ruleset came_facts = (came-more)

@@ -44,18 +44,6 @@ held-end s window n ending none = rw none refl
 pub held-told : (s : SiteState) (window : List Message) (n : ℕ) → window ≡ [] → n ≡ 1 → held_by s window n ≡ told_by s 1
 held-told s window n none one = rw (none, one) refl
 
--- what a list was read from, as its reader and its owner name them
-pub fits-read : (sites s : ℕ) (rows : List (List (List ℕ))) (items list : List Input) → s ≡ sites → list ≡ items → AreInputs s rows items →
-    All (λ p. FitsIn sites p) list
-fits-read sites s rows items list same is h =
-    subst (λ l. All (λ p. FitsIn sites p) l) (sym is) (all-fit sites rows items (subst (λ k. AreInputs k rows items) same h))
-
-pub inputs-read : (sites s : ℕ) (text text2 : List ℕ) (items list : List Input) → s ≡ sites → text ≡ text2 → list ≡ items
-    → AreInputs s (input_records text) items → AreInputs sites (input_records text2) list
-inputs-read sites s text text2 items list same shown is h =
-    subst (λ l. AreInputs sites (input_records text2) l) (sym is)
-    (subst (λ t. AreInputs sites (input_records t) items) shown (subst (λ k. AreInputs k (input_records text) items) same h))
-
 pub at_if_ok : {T E : Type 0} (P : T → Type 0) (r : Result T E) (v : T) → IfOk r P → r ≡ Ok v → P v
 at_if_ok P (Ok x) v h e = subst (λ o. IfOk o P) e h
 at_if_ok P (Err x) v h e = absurd cc

@@ -102,10 +102,6 @@ flush_keeps old new window rest n first told sink sink2 start place t none wrote
       refl,
     )
 
--- nothing is held, so there is nothing to take in
-pub none_keeps : (s : SiteState) (window : List Message) (n : ℕ) (sink : List ℕ) → window ≡ [] → Keeps (held_by s window n) (told_by s n) sink sink
-none_keeps s window n sink none = rw none (λ more. (λ ending. refl, refl))
-
 -- those that are held are taken in, and then the record is answered
 pub flush_goes : (old mid new : SiteState) (w w2 : List Message) (n : ℕ) (fields : List (List ℕ)) (sink sink2 sink3 : List ℕ)
     → Keeps (held_by old w n) (told_by mid n) sink sink2 → new.place ≡ mid.place → IsAnswered n (input_of mid.place.sites fields) mid new sink2 sink3
