@@ -53,8 +53,6 @@ counted-flat (r ∷ rest) = let more = counted-flat rest in let both = length-ap
 
 pub ruleset run_facts = (flat-more)
 
-pub ruleset came_facts = (came-more)
-
 pub ruleset count_facts = (counted-flat)
 
 pub counted-end : (runs : List Stretch) (i : ℕ) → length runs ≤ i → counted (drop i runs) ≡ 0
