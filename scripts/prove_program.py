@@ -1,5 +1,9 @@
 #!/usr/bin/env python3
-"""Proves the crates that the program is made of and builds it, on all processors: this is what `./rubis` calls where a source is newer.
+"""Proves the crates that a program is made of and builds it, on all processors: this is what `./rubis` calls where a source is newer.
+
+    prove_program.py [PROGRAM]
+
+The program is `rubis_app`, which has all commands, or `rubis_site`, which has the one that runs a site and is proved in less time.
 
 Each crate is built by `rattle build`, as its help says, once those below it are, the longest chain first. What is proved stays in the
 crate's folder `out`, function by function, where `rt check` keeps the same: a run that was interrupted goes on where it was, and after an
@@ -314,9 +318,11 @@ def lock(crates: list[Crate]) -> list[int]:
 
 
 def main() -> int:
-    sys.stderr.write("rubis: proving the program, once: later runs start at once. For a look without proofs: ./rubis --try\n")
+    app = sys.argv[1] if len(sys.argv) > 1 else APP
+    what = "the program" if app == APP else "the program of one site, and the others when they are first asked for"
+    sys.stderr.write(f"rubis: proving {what}, once: later runs start at once. For a look without proofs: ./rubis --try\n")
     signal.signal(signal.SIGTERM, lambda *_: sys.exit(1))
-    crates = program_crates()
+    crates = program_crates(app)
     try:
         kit, _held = Kit(), lock(crates)
         with tempfile.TemporaryDirectory(prefix="rubis-proving-") as room:

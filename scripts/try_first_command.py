@@ -2,8 +2,8 @@
 """Tries `./rubis` where the program has still to be proved, over a stand-in for the toolchain: scripts/try_first_command.py
 
 The stand-in builds nothing: it writes down which crates it was asked to prove, and fails if it gets one before those that it stands on.
-Tried are a program that is proved, one with a crate that isn't, one of which a crate changed, a toolchain that isn't there, a run that is
-interrupted, and that a later run starts the program without proofs.
+Tried are a program that is proved, one with a crate that isn't, one of which a crate changed, the program of one site, a toolchain that isn't
+there, a run that is interrupted, and that a later run starts the program without proofs.
 
     try_first_command.py --measure [PROCESSORS ..]
 
@@ -22,7 +22,10 @@ import tempfile
 import time
 
 TOP = pathlib.Path(__file__).resolve().parent.parent
-CRATES = {"rubis_numbers": "itoa", "rubis_board": "rubis_numbers", "rubis_clock": "rubis_numbers", "rubis_app": "rubis_board rubis_clock clap", "rubis_tests": "rubis_app"}
+CRATES = {
+    "rubis_numbers": "itoa", "rubis_board": "rubis_numbers", "rubis_clock": "rubis_numbers", "rubis_site": "rubis_board clap",
+    "rubis_app": "rubis_board rubis_clock clap", "rubis_tests": "rubis_app",
+}
 
 RT = """#!/bin/sh
 case "$1" in
@@ -88,15 +91,15 @@ class Copy:
         for name in CRATES:
             for part in ("src", "specs", "proofs", "must-fail"):
                 (self.top / "crates" / name / part).mkdir(parents=True)
-            root = "main.rt" if name == "rubis_app" else "lib.rt"
+            root = "main.rt" if name in ("rubis_app", "rubis_site") else "lib.rt"
             (self.top / "crates" / name / "src" / root).write_text("//! A crate.\n\nfn a() {}\n\npub fn b() {}\n")
 
-    def start(self) -> "subprocess.Popen[str]":
+    def start(self, *asked: str) -> "subprocess.Popen[str]":
         words = {**os.environ, "PATH": f"{self.kit}/bin:{os.environ['PATH']}", "KIT": str(self.kit), "TMPDIR": str(self.temporary)}
-        return subprocess.Popen([self.top / "rubis", "site", "--site", "0"], env=words, text=True, stdin=subprocess.PIPE, stdout=subprocess.PIPE, stderr=subprocess.PIPE, start_new_session=True)
+        return subprocess.Popen([self.top / "rubis", *asked], env=words, text=True, stdin=subprocess.PIPE, stdout=subprocess.PIPE, stderr=subprocess.PIPE, start_new_session=True)
 
-    def run(self) -> tuple[int, str, str]:
-        run = self.start()
+    def run(self, *asked: str) -> tuple[int, str, str]:
+        run = self.start(*(asked or ASKED))
         out, said = run.communicate("user,ann\n")
         return run.returncode, out, said
 
@@ -111,7 +114,9 @@ class Copy:
         return words
 
 
-RAN = "ran site --site 0\nuser,ann\n"
+ASKED = ("world", "--sites", "2")
+RAN = "ran world --sites 2\nuser,ann\n"
+RAN_SITE = "ran site --site 0\nuser,ann\n"
 
 
 def try_fault(copy: Copy) -> None:
@@ -152,7 +157,7 @@ def try_program(copy: Copy) -> None:
 def try_interruption(copy: Copy) -> None:
     """Ctrl-C ends the toolchain too, and leaves nothing among the temporary files; the next run goes on where that one was."""
     copy.name("slow", "rubis_clock")
-    run = copy.start()
+    run = copy.start(*ASKED)
     pid = copy.top / "pid"
     for _ in range(300):
         if pid.exists() and pid.read_text().strip() and (copy.top / "crates/rubis_board/out/rlib/sum").exists():
@@ -167,6 +172,26 @@ def try_interruption(copy: Copy) -> None:
     status, out, said = copy.run()
     made = copy.made()
     expect(status == 0 and out == RAN and made == ["rubis_clock", "rubis_app"], f"the next run proves {made}, and says {said}")
+
+
+def try_site(copy: Copy) -> None:
+    """A site's program is proved without the crates of the other commands, and isn't where the one with all commands is there."""
+    status, out, said = copy.run("site", "--site", "0")
+    made = copy.made()
+    expect(status == 0 and out == RAN_SITE and made == ["rubis_numbers", "rubis_board", "rubis_site"], f"for a site it proves {made}, and says {said}")
+    status, out, said = copy.run("site", "--site", "0")
+    expect(status == 0 and out == RAN_SITE and said == "" and copy.made() == [], f"a later run of a site says {said!r}")
+    status, out, said = copy.run()
+    made = copy.made()
+    expect(status == 0 and out == RAN and made == ["rubis_clock", "rubis_app"], f"for another command it proves {made}, and says {said}")
+    (copy.top / "crates/rubis_site/out/rubis_site").unlink()
+    status, out, said = copy.run("site", "--site", "0")
+    expect(status == 0 and out == RAN_SITE and said == "" and copy.made() == [], f"where all commands are there, a run of a site says {said!r}")
+    time.sleep(1.1)
+    (copy.top / "crates/rubis_board/src/lib.rt").write_text("//! A crate that changed.\n")
+    status, out, said = copy.run("site", "--site", "0")
+    made = copy.made()
+    expect(status == 0 and out == RAN_SITE and made == ["rubis_board", "rubis_site"], f"after an edit it proves {made} for a site")
 
 
 def try_toolchain(copy: Copy) -> None:
@@ -199,14 +224,14 @@ def main() -> int:
         for processors in map(int, sys.argv[2:] or [str(os.cpu_count() or 1)]):
             measure(processors)
         return 0
-    for tries in ((try_fault, try_program), (try_interruption,), (try_toolchain,)):
+    for tries in ((try_fault, try_program), (try_interruption,), (try_site,), (try_toolchain,)):
         with tempfile.TemporaryDirectory(prefix="rubis-first-") as room:
             copy = Copy(pathlib.Path(room))
             for it in tries:
                 it(copy)
             left = list(copy.temporary.iterdir())
             expect(not left, f"it leaves {left}")
-    print("the first command: 4 passed, 0 failed")
+    print("the first command: 5 passed, 0 failed")
     return 0
 
 

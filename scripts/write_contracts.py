@@ -143,7 +143,7 @@ def page() -> str:
     """The whole page."""
     lists = [line.split("#")[0] for line in (TOP / "crates.txt").read_text().splitlines()]
     crates = [line.split(":")[0].split()[0] for line in lists if ":" in line]
-    tests = ("rubis_tests", "rubis_growths", "rubis_app")
+    tests = ("rubis_tests", "rubis_growths", "rubis_app", "rubis_site")
     return OPENING + "".join(section_of(crate) for crate in crates if crate not in tests)
 
 

@@ -1,15 +1,10 @@
--- The configurations that a command line asks for.
+-- The configurations that a command line asks for, but for that of one site.
 use Rattle.std.specs.Prelude.{Bool, not, is_some, unwrap_or, ◌&&◌, ◌||◌}
 use Rattle.rubis_schema.specs.declared.limits.TheConstants.{KEEP_MAX}
-use Rattle.rubis_world.specs.Script.{Setup}
 use Rattle.rubis_cli.specs.declared.options.LackOptions.{LackOptions}
 use Rattle.rubis_cli.specs.declared.options.Options.{Options}
 use Rattle.rubis_cli.specs.declared.options.SetupOptions.{SetupOptions}
 use Rattle.rubis_world.specs.Setup.{WorldSetup}
-
--- the configuration of one site
-abbrev pub setup_of : Options → Setup
-setup_of o = record { site = o.site; sites = o.setup.sites; shards = o.setup.shards; workers = o.setup.workers; batch = o.setup.batch; keep = o.setup.keep }
 
 -- the options of a site whose input is read for what waits: site 0, which keeps as many messages as a site can, where nothing else is said
 abbrev pub waiting_options : LackOptions → Options

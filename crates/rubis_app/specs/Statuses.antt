@@ -1,18 +1,7 @@
--- The program's exit status: 0 if all went well, 1 if a fault ended the run, 2 if the command line is
--- invalid.
-use Rattle.std.specs.Prelude.{◌≡◌, ◌⊎◌, ℕ, List, [], ◌∷◌}
-use Rattle.clap.specs.Words.{Kinds, Text, fault_of}
-use Rattle.clap.specs.declared.error.kind.ErrorKind.{ErrorKind}
-use Rattle.clap.specs.declared.error.kind.ErrorKind.TheVariants.{DisplayHelp, DisplayVersion}
-use Rattle.rubis_cli.specs.CommandLine.{command_line}
+-- The program's exit status for a site in a folder.
+use Rattle.std.specs.Prelude.{ℕ}
 use Rattle.rubis_keep.specs.declared.folder_fault.FolderFault.{FolderFault}
 use Rattle.rubis_keep.specs.declared.folder_fault.FolderFault.TheVariants as folder
-
--- help and the version are shown, and all else that `clap` says is a mistake
-abbrev pub status_by : ErrorKind → ℕ
-status_by DisplayHelp = 0
-status_by DisplayVersion = 0
-status_by k = 2
 
 -- the status of a site in a folder that isn't run, or ended early: a folder without a name, without a site to shorten, or of another
 -- site than was asked for is a mistake, and all else a fault of the run
@@ -23,22 +12,3 @@ status_of folder.NotBelow = 2
 status_of (folder.IsOther setup) = 2
 status_of (folder.IsOld version) = 2
 status_of other = 1
-
--- the status of a run: 0 if it went well, 1 if a fault ended it or what it looked for isn't so
-abbrev pub IsRunStatus : ℕ → Type 0
-IsRunStatus s = (s ≡ 0) ⊎ (s ≡ 1)
-
--- the same, or 2 where what is asked for isn't run
-abbrev pub IsStatus : ℕ → Type 0
-IsStatus s = IsRunStatus s ⊎ (s ≡ 2)
-
--- the status of words that are refused for one of these reasons
-abbrev pub IsStatusAmong : Kinds → ℕ → Type 0
-IsStatusAmong [] s = ⊥
-IsStatusAmong (k ∷ ks) s = (s ≡ status_by k) ⊎ IsStatusAmong ks s
-
--- the status for these words: 1, since a fault may end any run; that of one of the reasons to refuse them; or, if there is
--- none, 0 for a run that went well, or 2 for a site that isn't below `sites`, a `to` that is, an option without its flag, or a folder that
--- isn't the one that is asked for
-abbrev pub IsStatusOf : List Text → ℕ → Type 0
-IsStatusOf words s = (s ≡ 1) ⊎ IsStatusAmong (fault_of command_line words) s ⊎ ((fault_of command_line words ≡ []) × ((s ≡ 0) ⊎ (s ≡ 2)))

@@ -6,80 +6,28 @@ ghost use Rattle.std.specs.Prelude.{◌≡◌, ◌⊎◌, ◌<◌, ◌≤◌, �
 ghost use Rattle.rubis_schema.specs.declared.limits.TheConstants.{SITES_MAX};
 ghost use Rattle.std.specs.Option.{SomeIff};
 ghost use Rattle.std.specs.Process.{exit_status};
-ghost use Rattle.clap.specs.Words.{kind_of};
 ghost use Rattle.rubis_world.specs.Script.{IsSetup};
-ghost use Rattle.rubis_app.specs.Setups.{names_a_site, setup_of, waiting_options, world_setup_of};
+ghost use Rattle.rubis_command.specs.Setups.{setup_of};
+ghost use Rattle.rubis_command.specs.Statuses.{IsRunStatus, IsStatus};
+ghost use Rattle.rubis_app.specs.Setups.{names_a_site, waiting_options, world_setup_of};
 ghost use Rattle.rubis_world.specs.Setup.{IsWorldSetup};
-ghost use Rattle.rubis_app.specs.Statuses.{IsRunStatus, IsStatus, IsStatusOf, status_by, status_of};
+ghost use Rattle.rubis_app.specs.Statuses.{status_of};
 
-use clap::Error;
 use rubis_audit::{Auditor, Grammar, LogQuestion, Tally, run_auditor, run_check, run_widen};
-use rubis_cli::{
-    AuditOptions, CheckOptions, Invocation, KeepOptions, LackOptions, OptionFault, Options,
-    Reading, SetupOptions, Widening, read_options,
+use rubis_command::{
+    CheckOptions, Commands, FAULT, Invocation, KeepOptions, LackOptions, MISUSE, NOT_WELL, Options,
+    Reading, SetupOptions, Widening, config_of, end, fail, misuse, run_site_command, start,
 };
 use rubis_keep::{FolderFault, Setup as Place, Wanted, keep_folder};
 use rubis_schema::{Hashes, KEEP_MAX, RECORDS_MAX, SITES_MAX};
-use rubis_world::{
-    Config, Count, Desk, Free, RunFault, WorldConfig, WorldDesk, run_desk, run_waiting,
-    run_world_desk,
-};
+use rubis_world::{Count, RunFault, WorldConfig, WorldDesk, run_waiting, run_world_desk};
 use std::fs::{File, Files};
-use std::io::ErrorKind;
 use std::process::ExitCode;
 use std::random::RandomSource;
 use std::rt::Clock;
 use std::sync::Wait;
 use std::thread::Threads;
-use std::{env, io, mem};
-
-/// The status of a run that a fault ended.
-const FAULT: u8 = 1;
-
-/// The status of logs that don't agree, or of which one has lost messages.
-const NOT_WELL: u8 = 1;
-
-/// The status of an invalid command line.
-const MISUSE: u8 = 2;
-
-// Says why the run ended.
-fn fail<R: Eprint>(rt: &R, fault: RunFault) -> ExitCode
-    ensures { exit_status result ≡ 1 }
-{
-    let _ = eprintln!(rt; "run fault: {fault}");
-    ExitCode::from(FAULT)
-}
-
-// Says what is wrong with the command line.
-fn misuse<R: Eprint>(rt: &R, text: &str) -> ExitCode
-    ensures { exit_status result ≡ 2 }
-{
-    let _ = eprintln!(rt; "fault: {text}");
-    ExitCode::from(MISUSE)
-}
-
-// Says what `clap` says: the help or the version that was asked for, or what is wrong with the command line.
-fn tell<R: Print + Eprint>(rt: &R, error: &Error) -> ExitCode
-    ensures { exit_status result ≡ status_by (kind_of error.now) }
-{
-    let _ = error.print(rt);
-    if error.exit_code() == 0 {
-        ExitCode::SUCCESS
-    } else {
-        ExitCode::from(MISUSE)
-    }
-}
-
-// Says how a run ended, if a fault ended it.
-fn end<R: Eprint>(rt: &R, ended: Result<Count, RunFault>) -> ExitCode
-    ensures value { exit_status result ≡ cond (is_ok ended) 0 1 }
-    ensures either { IsRunStatus (exit_status result) }
-{
-    match ended {
-        Ok(_) => ExitCode::SUCCESS,
-        Err(fault) => fail(rt, fault),
-    }
-}
+use std::{io, mem};
 
 // Says how what was asked of logs ended: the status is 0 only if they are well, where it is by that.
 fn end_audit<R: Eprint>(rt: &R, ended: Result<Count, RunFault>, is_well: bool) -> ExitCode
@@ -90,55 +38,6 @@ fn end_audit<R: Eprint>(rt: &R, ended: Result<Count, RunFault>, is_well: bool) -
         Ok(_) if !is_well => ExitCode::from(NOT_WELL),
         ended => end(rt, ended),
     }
-}
-
-// The site's configuration, if each number is within its limits and the site is below `sites`.
-fn config_of(options: &Options) -> Option<Config>
-    ensures { SomeIff result (IsSetup (setup_of options.now)) (setup_of options.now) }
-{
-    Config::new(
-        options.site,
-        options.setup.sites,
-        options.setup.shards,
-        options.setup.workers,
-        options.setup.batch,
-        options.setup.keep,
-    )
-}
-
-// Answers the records of a site. The site isn't taken apart afterwards: the process ends, and its memory goes back at once.
-fn answer_site<R: Print + Input + AllocGlobal + Threads + Wait + Sync>(
-    rt: &R,
-    config: &Config,
-) -> Result<Count, RunFault> {
-    let mut desk = Desk::new(rt.alloc(), config, Free)?;
-    let mut writer = io::writer(rt);
-    let ended = run_desk(
-        rt,
-        rt.alloc(),
-        rt.reader(),
-        &mut writer,
-        &mut desk,
-        RECORDS_MAX,
-    );
-    mem::forget(desk);
-    ended
-}
-
-// Runs a site over standard input and output.
-fn run<R: Print + Eprint + Input + AllocGlobal + RandomSource + Threads + Wait + Sync>(
-    rt: &R,
-    options: &Options,
-) -> ExitCode
-    ensures misuse { ¬ IsSetup (setup_of options.now) → exit_status result ≡ 2 }
-    ensures runs { IsSetup (setup_of options.now) → IsRunStatus (exit_status result) }
-    ensures status { IsStatus (exit_status result) }
-{
-    let Some(config) = config_of(options) else {
-        return misuse(rt, "site must be below sites");
-    };
-    let config = config.with_hashes(Hashes::random(rt));
-    end(rt, answer_site(rt, &config))
 }
 
 // The configuration of several sites, if each number is within its limits.
@@ -442,40 +341,10 @@ fn run_keep<
     }
 }
 
-// Runs what is asked for.
-fn obey<
-    R: Files<File = File>
-        + Clock
-        + Print
-        + Eprint
-        + Input
-        + AllocGlobal
-        + RandomSource
-        + Threads
-        + Wait
-        + Sync,
->(rt: &R, asked: &Invocation) -> ExitCode
-    ensures { IsStatus (exit_status result) }
-{
-    match asked {
-        Invocation::Site(options) => run(rt, options),
-        Invocation::World(setup) => run_sites(rt, setup),
-        Invocation::Audit(options) => audit_logs(
-            rt,
-            options.sites,
-            LogQuestion::Agreement,
-            options.status,
-        ),
-        Invocation::Lack(options) => run_lack(rt, options),
-        Invocation::Check(options) => run_checker(rt, options),
-        Invocation::Widen(counts) => run_widener(rt, counts),
-        Invocation::Keep(options) => run_keep(rt, options),
-    }
-}
+/// All commands.
+struct All;
 
-// Does what the words of the command line ask for.
-#[tactic(auto, using(crate::proofs::Reasons::status_of_run))]
-fn start<
+impl<
     R: Files<File = File>
         + Clock
         + Print
@@ -486,30 +355,25 @@ fn start<
         + Threads
         + Wait
         + Sync,
->(rt: &R, words: &[String]) -> ExitCode
-    ensures { IsStatusOf (map string_bytes words.now) (exit_status result) }
-{
-    match read_options(rt.alloc(), words) {
-        Ok(asked) => obey(rt, &asked),
-        Err(OptionFault::Memory) => fail(rt, RunFault::Memory),
-        Err(OptionFault::Words(error)) => tell(rt, &error),
+> Commands<R> for All {
+    fn obey(&self, rt: &R, asked: &Invocation) -> ExitCode {
+        match asked {
+            Invocation::Site(options) => run_site_command(rt, options),
+            Invocation::World(setup) => run_sites(rt, setup),
+            Invocation::Audit(options) => audit_logs(
+                rt,
+                options.sites,
+                LogQuestion::Agreement,
+                options.status,
+            ),
+            Invocation::Lack(options) => run_lack(rt, options),
+            Invocation::Check(options) => run_checker(rt, options),
+            Invocation::Widen(counts) => run_widener(rt, counts),
+            Invocation::Keep(options) => run_keep(rt, options),
+        }
     }
 }
 
 fn main(rt: HostRuntime) -> ExitCode {
-    let args = match env::args(&rt) {
-        Ok(args) => args,
-        Err(error) => {
-            return if error.kind() == ErrorKind::OutOfMemory {
-                fail(&rt, RunFault::Memory)
-            } else {
-                misuse(&rt, "the command line isn't text")
-            };
-        }
-    };
-    let words: Result<Vec<String>, _> = args.collect(rt.alloc());
-    match words {
-        Ok(words) => start(&rt, words.as_slice()),
-        Err(_) => fail(&rt, RunFault::Memory),
-    }
+    start(&rt, &All)
 }

@@ -3,7 +3,7 @@ use Rattle.std.proofs.Common.{◌≡◌, ℕ, List, inl, inr, ap, ◌∙◌, [],
 use Rattle.clap.specs.Words.{IsAmong, Kinds, Text, fault_of}
 use Rattle.clap.specs.declared.error.kind.ErrorKind.{ErrorKind}
 use Rattle.rubis_cli.specs.CommandLine.{command_line}
-use Rattle.rubis_app.specs.Statuses.{IsStatus, IsStatusAmong, IsStatusOf, status_by}
+use Rattle.rubis_command.specs.Statuses.{IsStatus, IsStatusAmong, IsStatusOf, status_by}
 
 -- the status of one of the reasons
 pub status_among : (kinds : Kinds) (k : ErrorKind) (s : ℕ) → s ≡ status_by k → IsAmong k kinds → IsStatusAmong kinds s

@@ -1,0 +1,7 @@
+-- The configuration that a command line asks for.
+use Rattle.rubis_script.specs.Replica.{Setup}
+use Rattle.rubis_cli.specs.declared.options.Options.{Options}
+
+-- the configuration of one site
+abbrev pub setup_of : Options → Setup
+setup_of o = record { site = o.site; sites = o.setup.sites; shards = o.setup.shards; workers = o.setup.workers; batch = o.setup.batch; keep = o.setup.keep }
