@@ -637,6 +637,63 @@ def test_removed_files(at: Folder) -> None:
     at.shop("audit")
 
 
+def changed(at: Folder, path: str, old: str, new: str) -> None:
+    """Changes a word in a file."""
+    text = at.text(path)
+    expect(old in text, f"{path} has {old}")
+    (at.path / path).write_text(text.replace(old, new))
+
+
+def test_changed_word(at: Folder) -> None:
+    """A word of a packet that was changed in `kept` of a stopped site is seen by its start, which names the line; the site goes on once
+    the line is put back, or once it is made again. Sums that lag behind, were torn or are gone are written by the next start."""
+    at.run("./shop start auction --sites 2")
+    at.shop(f"ask 0 {SALE} --published")
+    at.shop("stop")
+    was = at.text("auction/1/sums")
+    expect(len(was.splitlines()) == 3, f"a sum for each line: {was}")
+    changed(at, "auction/1/kept", "user,bob", "user,bub")
+    why = "line 2 of its file `kept` was changed (put it back as it was, or say shop rebuild 1)"
+    at.run("./shop start auction", 1, f"site 1: {why}")
+    expect(at.site(1)["state"] == "fenced" and why in at.site(1)["fault"] and not at.status()["well"], "the status")
+    at.shop("list 1 users", 3, "line 2 of its file `kept` was changed")
+    expect(at.shop("ask 0 item,0.1,vase,7,3,100,80") == "ok,0.4\n", "the other one goes on")
+    at.shop("stop")
+    at.shop("shorten 1", 1, why)
+    changed(at, "auction/1/kept", "user,bub", "user,bob")
+    at.run("./shop start auction")
+    at.shop("wait 1; ./shop -C auction stop")
+    expect(at.text("auction/1/sums").startswith(was) and len(at.text("auction/1/sums").splitlines()) == 4, "the sums go on")
+    was = at.text("auction/1/sums")
+    for left in ("", was[:17], was[:30], was[:34] + "\0" * 17):
+        (at.path / "auction/1/sums").write_text(left)
+        at.run("./shop start auction && ./shop stop auction")
+        expect(at.text("auction/1/sums") == was, f"sums of which {left!r} was left")
+    # What another site has is taken only up to a line that was changed.
+    changed(at, "auction/1/kept", "user,ann", "user,eve")
+    at.run("rm -r auction/0; ./shop start auction", 1, "line 1 of its file `kept` was changed")
+    at.shop("stop")
+    changed(at, "auction/1/kept", "user,eve", "user,ann")
+    changed(at, "auction/1/kept", "vase", "vaze")
+    at.shop("rebuild 0; ./shop -C auction rebuild 1; ./shop start auction")
+    expect("bob" in at.shop("list 1 users") and "vase" not in at.shop("list 0 items 7"), "what was in front of the line")
+    expect(at.shop("audit") == "audit,Agree\n", "the audit")
+
+
+def test_changed_word_over_a_server(at: Folder) -> None:
+    """The same over a server, where a shop that was killed has sums that lag behind; what was asked is answered as it was kept."""
+    server = Server(at).start_shop()
+    at.shop(f"ask 0 {SALE}", folder="a")
+    at.shop("wait 2", folder="b")
+    at.kill(at.status("b")["pid"])
+    changed(at, "b/2/kept", "user,bob", "user,bub")
+    at.run("./shop start b", 1, "site 2: line 2 of its file `kept` was changed (put it back as it was, or say shop rebuild 2)")
+    at.run("./shop stop b; ./shop -C b rebuild 2; ./shop start b")
+    at.shop("wait 2", folder="b")
+    expect(at.shop("ask 0 list,tables", folder="a") == at.shop("ask 2 list,tables", folder="b"), "the tables")
+    server.kill()
+
+
 def free_port() -> int:
     with socket.socket() as free:
         free.bind(("127.0.0.1", 0))

@@ -12,7 +12,7 @@ from .carrier.steps import CallAll, IsRunning, Kept, KeptOf, SayLeave, SayWant, 
 from .lives import Seen
 from .requests import Request
 from .signals import done
-from .site import lines_of
+from .site import unchanged
 
 if TYPE_CHECKING:
     from .supervisor import Supervisor
@@ -50,10 +50,10 @@ class Carrying(Link):
 
 async def kept_of(folder: str, step: KeptOf) -> Kept | None:
     """What stands in the file `kept` of a site in this folder."""
-    path = f"{folder}/{step.keeper}/kept"
+    its = f"{folder}/{step.keeper}"
 
     def read() -> Kept | None:
-        return (list(packets_of(lines_of(path), step.origin, step.after)), tokens_of(lines_of(path))) if os.path.exists(path) else None
+        return (list(packets_of(unchanged(its), step.origin, step.after)), tokens_of(unchanged(its))) if os.path.exists(f"{its}/kept") else None
     return await asyncio.to_thread(read)
 
 

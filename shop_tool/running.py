@@ -45,14 +45,14 @@ def start(args: argparse.Namespace) -> int:
         print(f"shop: {args.folder} is running", file=sys.stderr)
         return Status.WELL
     found = _checked(args.folder, now)
-    said = _started(args.folder, now, found, args.timeout, ["--alone"] if args.alone else [])
-    if said == "ready":
+    status, _, said = _started(args.folder, now, found, args.timeout, ["--alone"] if args.alone else []).partition(" ")
+    if status == str(int(Status.WELL)):
         return Status.WELL
     if said and _has_failed(args.folder):
         _stopped(args.folder)
         settings.put_back(args.folder, before)
         raise Fault(Status.AWAY, f"{said}; it is stopped again (shop log)")
-    raise Fault(Status.AWAY, f"{said or 'the supervisor is starting still, or has ended'} (shop log)")
+    raise Fault(Status(int(status or Status.AWAY)), f"{said or 'the supervisor is starting still, or has ended'} (shop log)")
 
 
 def _has_failed(folder: str) -> bool:
@@ -71,7 +71,7 @@ def _checked(folder: str, now: settings.Settings) -> str:
 
 def _started(folder: str, now: settings.Settings, found: str, seconds: float, options: list[str]) -> str:
     """Runs `shop run` in a session of its own, with these settings on its standard input, since a password on a command line would be
-    seen. What it says once each site is up, or isn't."""
+    seen. What it says once each site is up, or isn't: the status, and what is said."""
     get, put = os.pipe()
     settings_in, handed = os.pipe()
     os.write(handed, settings.to_text(now).encode())

@@ -13,6 +13,7 @@ from .carrier.records import RECORDS_OF_A_RUN, Purpose, text_of
 from .carrier.shop import HAND_OVER_SECONDS, Shop
 from .carrier.site import Site, State
 from .carrier.steps import Steps
+from .carrier.sums import why_changed
 from .ends import Fault, Status
 from .grid import waits_of
 from .lives import begin_life, lives_of
@@ -200,6 +201,12 @@ class Supervisor(Shop):
             site.lives = begin_life(site.folder)
         except OSError as fault:
             return site.fence(f"{site.folder}/life: {fault.strerror}")
+        try:
+            if line := site.open_sums():
+                site.is_changed = True
+                site.fence(why_changed(site.number, line))
+        except OSError as fault:
+            site.fence(f"{fault.filename}: {fault.strerror}")
         site.keys.read(lines_of(f"{site.folder}/{KEYS}"), self.unix_time())
         if why := next(lines_of(f"{site.folder}/{FENCED}"), b""):
             site.fence(text_of(why.rstrip()))
@@ -262,15 +269,16 @@ class Supervisor(Shop):
         return task
 
     def _say_ready(self) -> None:
-        """Tells `shop start`, or systemd, that the sites are up, or why they aren't."""
+        """Tells `shop start`, or systemd, that the sites are up, or why they aren't; `shop start` ends with the status that it is told."""
         not_up = [site for site in self.sites.values() if site.fenced_by or not site.up.is_set]
         down = [f"site {site.number}: {site.fault[1] if site.fault else site.state}" for site in not_up]
         down += [f"site {site.number}: takes no asks until it is known what the others have of it (or --alone)"
                  for site in self.sites.values() if site.up.is_set and not site.opened.is_set]
         down += [f"link: {self.link.state}"] if self.link.state.startswith("down") else []
         if (ready := os.environ.pop("SHOP_READY", None)) is not None:
+            status = Status.REFUSED if any(site.is_changed for site in not_up) else Status.AWAY if down else Status.WELL
             try:
-                os.write(int(ready), ("; ".join(down) or "ready").encode() + b"\n")
+                os.write(int(ready), f"{int(status)} {'; '.join(down)}\n".encode())
             except OSError:
                 pass        # `shop start` had no time to wait for it
             os.close(int(ready))

@@ -18,12 +18,13 @@ from shop_tool.carrier.shop import HAND_OVER_SECONDS, Shop
 from shop_tool.carrier.site import FIRST_WAIT, LAST_WAIT, Disagreement, Site, State
 from shop_tool.carrier.steps import (Append, Broken, CallAll, Connect, Flag, Hear, IsRunning, Kept, KeptOf, Read, Replay, Rewrite, Say,
                                      SayLeave, SayWant, SeeHere, SeenHere, SentHere, Signal, Statuses, Steps, Swap, UpElsewhere, Wait)
+from shop_tool.carrier.sums import LINE_BYTES, why_changed
 from shop_tool.carrier.told import unanswered
 from shop_tool.ends import Fault, Status
 from shop_tool.requests import Request, asks_of
 
 from .clock import Clock, Task
-from .disk import File, Folder, Keeper, Machine, sum_of
+from .disk import File, Folder, Keeper, Machine
 from .server import WRITES, Server
 from .stand_in import StandIn
 
@@ -39,12 +40,6 @@ class Rules:
 
     swallowed_cancel_ends = True    # a supervisor that is stopped ends, whatever a connection swallows
     hands_over = True               # a stop passes the token on first
-    has_sums = True                 # a keeper compares the lines of `kept` with their sums when it starts
-
-    def why_changed(self, sums: list[int], lines: list[bytes]) -> str | None:
-        """Why a keeper doesn't start on these lines of `kept`, whose sums were written down before."""
-        wrong = next((at for at, (sum, line) in enumerate(zip(sums, lines), 1) if self.has_sums and sum != sum_of(line)), None)
-        return f"kept was changed: line {wrong}" if wrong else None
 
 
 class World:
@@ -208,6 +203,18 @@ class SimulatedSite(Site):
     def put_keys(self, lines: bytes) -> None:
         self.folder.files["keys"] = File(self.shop.world.new_number(), lines)
 
+    def open_sums(self) -> None:
+        """As the shell's: takes in the sums of `kept`; stops the site for good if a line isn't as its sum says."""
+        self.sums.count, changed = self.folder.checked()
+        if changed:
+            return self.fence(why_changed(self.number, changed))
+        self._sums = self.folder.file("sums")
+        del self._sums.data[self.sums.count * LINE_BYTES:]
+        self._sums.synced = min(self._sums.synced, len(self._sums.data))
+
+    def write_sums(self, lines: bytes) -> None:
+        self._sums.data += lines
+
     def write_fence(self, text: str) -> None:
         self.folder.fenced = text
 
@@ -329,7 +336,7 @@ class Process:
         folder = self.machine.folders[keeper]
         if not folder.is_there or "kept" not in folder.files:
             return None
-        return list(packets_of(folder.lines("kept"), origin, after)), tokens_of(folder.lines("kept"))
+        return list(packets_of(folder.unchanged(), origin, after)), tokens_of(folder.unchanged())
 
     def reaches(self) -> bool:
         return self.world.server.is_up and not self.machine.is_cut_off
@@ -517,10 +524,11 @@ class Supervisor(Process, Shop):
         if before and (found := self.machine.memory.get(before[0])) and (found[0], found[2]) == (before[-1], folder.inode):
             answered = found[1]
         if not folder.is_there:
-            folder.is_there, folder.files, folder.lives, folder.sums = True, {}, [], []
+            folder.is_there, folder.files, folder.lives = True, {}, []
         folder.lives.append(f"{self.world.new_number():016x}")
         site.lives = list(folder.lives)
         self.world.note("Starts", folder.number, site.number)
+        site.open_sums()
         site.keys.read(folder.lines("keys"), self.unix_time())
         has_all = answered is not None and "kept" in folder.files and len(folder.files["kept"].data) >= answered
         if folder.fenced:
@@ -790,6 +798,5 @@ class Command(Process):
             kept.data += given.record + b"\n"
             made.noted += 1
             out.data += said
-            made.sums.append(sum_of(given.record))
         kept.synced, out.synced = len(kept.data), len(out.data)
         self.made = made

@@ -15,6 +15,7 @@ from .keys import Key, Keys
 from .ledger import Ledger, ReadOut
 from .records import Purpose, Token, text_of, why_not_one_record
 from .steps import Flag, Signal, Steps, Wait
+from .sums import Sums
 from .told import not_given, not_known
 from .turns import Hold
 
@@ -76,7 +77,7 @@ class Site(abc.ABC):
     def __init__(self, shop: "Shop", number: int, read_out: ReadOut, look: Look) -> None:
         self.shop, self.number = shop, number
         self.ledger = Ledger(number, shop.count, read_out)
-        self.keys, self.read_out = Keys(), read_out
+        self.keys, self.read_out, self.sums = Keys(), read_out, Sums()
         self.files = Files(number, look)
         self.state = State.STARTING
         self.starts = 0
@@ -117,6 +118,10 @@ class Site(abc.ABC):
         """Puts these lines in the place of all lines of keys."""
 
     @abc.abstractmethod
+    def write_sums(self, lines: bytes) -> None:
+        """Writes these lines behind the sums of `kept`, or an OSError."""
+
+    @abc.abstractmethod
     def write_fence(self, text: str) -> None:
         """Writes into its folder why it is stopped."""
 
@@ -143,7 +148,7 @@ class Site(abc.ABC):
         answered there."""
         given: Iterator[Pending] = iter([pending for pending in self.line if pending.is_given and not pending.is_question])
         self.reader = AnswerReader()
-        records = KeptReader(next_line)
+        records = KeptReader(next_line, self.sums.add)
         while data := next_piece():
             for answer in self.reader.feed(data):
                 record, size = records.next()
@@ -153,6 +158,7 @@ class Site(abc.ABC):
                 self._note(record, answer, size)
                 if pending:
                     self._answer(pending, answer)
+            self._write_sums()
             yield Wait(None, 0)
         if self.ledger.records != count:
             raise ValueError(f"{count} records are kept, and {self.ledger.records} are answered")
@@ -187,10 +193,20 @@ class Site(abc.ABC):
             pending = self.line.popleft()
             if not pending.is_question:
                 self._note(pending.record, answer)
+                self.sums.add(pending.record)
             self._answer(pending, answer)
+        self._write_sums()
         self.silent_since = self.shop.now() if self.line and self.line[0].is_given else None
         self.shop.pass_on(self)
         return True
+
+    def _write_sums(self) -> None:
+        if lines := self.sums.take():
+            try:
+                self.write_sums(lines)
+            except OSError as fault:
+                self.sums.is_behind = True
+                self.shop.event(f"site {self.number}: its sums can't be written ({fault.strerror}); the next start writes them")
 
     def note_fault(self, text: str) -> None:
         self.faults += 1

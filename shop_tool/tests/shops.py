@@ -18,7 +18,8 @@ class Known(Site):
         self.lives = ["a"]
         self.written: str | None = None     # why it is stopped for good, as its folder says
         self.given = b""                    # what its keeper was given
-        self.key_lines, self.is_full = b"", False       # the file of keys; and whether the disk has no room
+        self.key_lines, self.sum_lines = b"", b""       # the files of keys and of sums
+        self.is_full = False                # whether the disk has no room
         self.known.set()
 
     def start(self) -> None:
@@ -39,6 +40,11 @@ class Known(Site):
 
     def put_keys(self, lines: bytes) -> None:
         self.key_lines = lines
+
+    def write_sums(self, lines: bytes) -> None:
+        if self.is_full:
+            raise OSError(errno.ENOSPC, "No space left on device")
+        self.sum_lines += lines
 
     def write_fence(self, text: str) -> None:
         self.written = text
