@@ -1084,6 +1084,143 @@ def test_backup_of_yesterday(at: Folder) -> None:
     at.shop("audit", folder="a")
 
 
+class Line:
+    """A line between a machine and the server, which can be cut."""
+
+    CARRY = """
+import asyncio, sys
+async def carried(reader, writer):
+    while data := await reader.read(65536):
+        writer.write(data)
+    writer.close()
+async def connected(reader, writer):
+    there, back = await asyncio.open_connection("127.0.0.1", int(sys.argv[2]))
+    await asyncio.gather(carried(reader, back), carried(there, writer))
+async def main():
+    async with await asyncio.start_server(connected, "127.0.0.1", int(sys.argv[1])) as server:
+        await server.serve_forever()
+asyncio.run(main())
+"""
+
+    def __init__(self, at: Folder, server: Server) -> None:
+        self.at, self.to, self.port = at, server.port, free_port()
+        (at.path / "line.py").write_text(self.CARRY)
+        self.over = server.over.replace(str(server.port), str(self.port))
+        self.join()
+
+    def join(self) -> None:
+        self.process = self.at.start(f"{PYTHON} line.py {self.port} {self.to}")
+
+    def cut(self) -> None:
+        self.process.kill()
+        self.process.wait()
+
+
+def yields(at: Folder, server: Server) -> None:
+    """Waits until site 2 yields to its standby."""
+    at.wait("that site 2 yields", lambda: len(set(server.say("mget auction:life:2 auction:yields:2").split("\n")[:2])) == 1)
+
+
+def start_with_standby(at: Folder, over_of_b: str, server: Server) -> None:
+    """Sites 0 and 1 in a, 2 in b, and c stands by for 2."""
+    at.run(f"./shop start a --sites 3 --here 0,1 --over {server.over}")
+    at.wait("site 2", lambda: at.run(f"./shop start b --sites 3 --here 2 --over {over_of_b} && echo up; true") == "up\n")
+    at.run(f"./shop start c --sites 3 --standby 2 --after 1 --over {server.over}")
+    at.shop(f"ask 0 {SALE}", folder="a")
+    expect(at.shop("ask 2 bid,0.3,0.2,500", folder="b") == "ok,2.1\n", "a bid at site 2")
+    yields(at, server)
+    expect(at.site(2, "b")["yields"], "what the status of b says")
+
+
+def is_fenced_and_equal(at: Folder) -> None:
+    """The machine that came back is fenced, and all that run have the same tables."""
+    at.wait("the fence", lambda: at.site(2, "b")["state"] == "fenced")
+    expect("c/2 has it" in at.site(2, "b")["fault"], at.site(2, "b")["fault"])
+    at.shop("ask 2 comment,0.3,0.2,0.1,1,bad --timeout 1", 3, "c/2 has it", folder="b")
+    for folder, site in (("a", 0), ("a", 1), ("c", 2)):
+        at.shop(f"wait {site}", folder=folder)
+    rows = [at.shop(f"ask {site} list,tables", folder=folder) for folder, site in (("a", 0), ("a", 1), ("c", 2))]
+    expect(rows[0] == rows[1] == rows[2], "the tables")
+    expect(at.shop("audit", folder="c") == "audit,Agree\n", "the audit")
+
+
+def test_standby_of_one_that_stood_still(at: Folder) -> None:
+    """A supervisor stands still for longer than --after, with an ask under way: the standby takes its site over, and what was told ok is
+    there. When it goes on, its ask isn't told ok, and it is fenced."""
+    server = Server(at)
+    start_with_standby(at, server.over, server)
+    supervisor = at.status("b")["pid"]
+    os.kill(supervisor, signal.SIGSTOP)
+    asker = at.start("sh -c './shop -C b ask 2 comment,0.3,0.2,0.1,2,late --timeout 30 > said 2>&1'")
+    at.wait("the standby", lambda: json.loads(at.text("c/shop.json"))["here"] == [2])
+    expect(at.shop("ask 2 bid,0.3,0.2,600 comment,0.3,0.2,0.1,5,good", folder="c") == "ok,2.2\nok,2.3\n", "it goes on, with the token")
+    expect(at.shop("ask 2 comment,0.3,0.2,0.1,4,well", folder="a") == "ok,2.4\n", "asked from elsewhere")
+    os.kill(supervisor, signal.SIGCONT)
+    asker.wait(SECONDS)
+    told = at.text("said")
+    expect("ok," not in told and ("isn't known" in told or "nothing was" in told), f"what the late asker is told: {told}")
+    is_fenced_and_equal(at)
+    at.run("./shop stop c; ./shop start c")
+    expect(at.site(2, "c")["state"] == "up" and json.loads(at.text("c/shop.json"))["here"] == [2], "it is a site of c from now on")
+    # The old machine stands by in its turn.
+    at.run("./shop stop b; ./shop start b --here '' --standby 2 --after 1")
+    expect("standby for site 2, once it has been gone for 1 s" in at.run("./shop -C b status; true"), "what the status says")
+    yields(at, server)
+    at.shop("ask 2 comment,0.3,0.2,0.1,3,fair", folder="c")
+    at.kill(at.status("c")["pid"])
+    at.wait("the standby", lambda: json.loads(at.text("b/shop.json"))["here"] == [2])
+    expect(at.shop("ask 2 bid,0.3,0.2,900", folder="b") == "ok,2.6\n", "it goes on, with the token")
+    expect("fair" in at.shop("list 2 comments 0.1", folder="b") and (at.path / "b/2.lost.1").exists(), "all that was told, and the old folder")
+    at.run("./shop start c", 3, "b/2 has it")
+
+
+def test_standby_of_one_that_was_cut_off(at: Folder) -> None:
+    """A machine is cut off from the server, and not dead: what is accepted there isn't told ok, and doesn't count; when it is reached
+    again it is fenced."""
+    server = Server(at)
+    line = Line(at, server)
+    start_with_standby(at, line.over, server)
+    line.cut()
+    said = at.run("./shop -C b ask 2 comment,0.3,0.2,0.1,2,late --timeout 1 2>&1", 3)
+    expect("whether it was accepted isn't known (shop log 2)" in said and "ok," not in said, f"what is told where the server is away: {said}")
+    expect(",ok,2.2\n" in at.shop("log 2", folder="b"), "it is accepted there")
+    at.wait("the standby", lambda: json.loads(at.text("c/shop.json"))["here"] == [2])
+    expect(at.shop("ask 2 bid,0.3,0.2,600", folder="c") == "ok,2.2\n", "the number that nobody was told")
+    line.join()
+    is_fenced_and_equal(at)
+    expect("late" not in at.shop("list 2 comments 0.1", folder="c"), "what was accepted while it was cut off doesn't count")
+
+
+def test_standby_that_comes_and_goes(at: Folder) -> None:
+    """Without a standby a site goes on while the server is away; with one it waits, also once it was killed and started again; and where
+    the standby is gone it goes on as before. A standby takes nothing over that runs, nor what never said that it yields."""
+    server = Server(at)
+    at.run(f"./shop start b --sites 3 --here 2 --over {server.over}")
+    at.run(f"./shop start a --sites 3 --here 0,1 --over {server.over}; ./shop stop b")
+    at.run(f"./shop start c --sites 3 --standby 2 --after 1 --over {server.over}")
+    at.wait("why not", lambda: "site 2: it isn't taken over: it hasn't said that it yields to a standby" in at.shop("log", folder="c"))
+    at.run("./shop start b")
+    at.wait("that site 2 yields", lambda: at.site(2, "b")["yields"])
+    time.sleep(3)
+    expect(at.status("c")["site"][2]["state"] == "up" and not (at.path / "c/2").exists(), "one that runs isn't taken over")
+    server.kill()
+    at.shop("ask 2 item,2.1,vase,7,1,1,0 --timeout 1", 1, folder="b")
+    server.start()
+    at.shop(f"ask 0 {SALE}", folder="a")
+    at.shop("wait 2", folder="b")
+    server.kill()
+    at.shop("ask 2 comment,0.3,0.2,0.1,2,one --timeout 1", 3, "whether it was accepted isn't known", folder="b")
+    at.kill(at.status("b")["pid"])
+    at.run("./shop start b", 3, "link: down")
+    at.shop("ask 2 comment,0.3,0.2,0.1,2,two --timeout 1", 3, "whether it was accepted isn't known", folder="b")
+    server.start()
+    at.wait("what was accepted", lambda: int(server.say("xlen auction:2")) == 2)
+    at.run("./shop stop c")
+    at.wait("that it has no standby", lambda: not at.site(2, "b")["yields"])
+    server.kill()
+    expect(at.shop("ask 2 comment,0.3,0.2,0.1,2,three", folder="b") == "ok,2.3\n", "it goes on as before")
+
+
 def test_older_copy_and_an_empty_server(at: Folder) -> None:
     """The server has lost all, and a folder is put back to an older copy: a site beside it has more of it."""
     server = Server(at)

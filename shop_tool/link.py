@@ -15,6 +15,7 @@ from .signals import done
 from .site import unchanged
 
 if TYPE_CHECKING:
+    from .site import KeptSite
     from .supervisor import Supervisor
 
 
@@ -32,6 +33,9 @@ class Carrying(Link):
     @abc.abstractmethod
     async def message(self, origin: int, number: int) -> bytes | None:
         """A message by its id, if it was sent."""
+
+    async def run_site(self, site: "KeptSite") -> None:
+        """Carries packets of a site that came here later, until it is cancelled."""
 
     async def finish(self) -> None:
         """What is to be done when the sites here have stopped. Nothing is carried after that."""

@@ -18,7 +18,7 @@ from .grid import grid_of_status, grid_text
 from .carrier.records import text_of
 from .render import GREEN, RED, YELLOW, coloured, print_columns, shown
 
-STARTED_BY_OPTIONS = ("sites", "here", "over", "sync", "keep", "batch", "shards", "workers")
+STARTED_BY_OPTIONS = ("sites", "here", "over", "sync", "keep", "batch", "shards", "workers", "standby", "after")
 STOP_SECONDS = 60.0
 
 
@@ -58,7 +58,8 @@ def start(args: argparse.Namespace) -> int:
 def _has_failed(folder: str) -> bool:
     """Whether none of the sites here can be started. Where some run, or are only stopped for good, the others go on."""
     sites = client.one(folder, {"op": "status"}, STOP_SECONDS)["shop"]["site"]
-    return all(site["state"] in ("down", "starting") for site in sites if "starts" in site)
+    here = [site["state"] for site in sites if "starts" in site]
+    return bool(here) and all(state in ("down", "starting") for state in here)
 
 
 def _checked(folder: str, now: settings.Settings) -> str:
@@ -156,6 +157,8 @@ def _print_status(shop: dict[str, Any]) -> None:
     token = f"site {shop['token']} holds it" if shop["token"] is not None else f"was passed to site {shop['token_sent_to']}"
     wanted = shop["token_wanted_by"]
     print(f"token: {token} (turn {shop['token_turn']})" + (f", wanted by {', '.join(map(str, wanted))}" if wanted else ""))
+    if shop["standby"]:
+        print(f"standby for site {', '.join(map(str, shop['standby']))}, once it has been gone for {shop['after']:g} s")
     rows = [["site", "state", "since", "records", "messages", "behind", "sent", "waiting", "starts", "last fault"]]
     for site in shop["site"]:
         if "since" not in site:

@@ -24,6 +24,7 @@ if TYPE_CHECKING:
 PIECE = 1 << 16
 KEYS = "keys"           # the file in a site's folder that has the keys of asks
 SUMS = "sums"           # the file in a site's folder that has the sums of the lines of `kept`
+YIELDS = "yields"       # the file in a site's folder that says that the site has a standby
 FENCED = "fenced"       # the file in a site's folder that says why it is never started again
 
 
@@ -171,6 +172,13 @@ class KeptSite(Site):
             put(f"{self.folder}/{FENCED}", f"{text}\n")
         except OSError as fault:
             self.shop.event(f"{self.folder}/{FENCED}: {fault.strerror}")
+
+    def write_yields(self, yields: bool) -> None:
+        path = f"{self.folder}/{YIELDS}"
+        if yields:
+            put(path, "a standby may take its place\n")
+        elif os.path.exists(path):
+            os.unlink(path)
 
     def stop(self) -> None:
         """Ends the keeper once what it was given is answered."""

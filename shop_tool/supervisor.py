@@ -21,9 +21,9 @@ from .lock import take_lock
 from .program import answers_questions
 from .reads import STATE
 from .render import shown
-from .settings import FILES, Settings, write
+from .settings import FILES, Settings, moved_here, write
 from .signals import done, is_over_within, waited
-from .site import FENCED, KEYS, KeptSite, lines_of
+from .site import FENCED, KEYS, YIELDS, KeptSite, lines_of
 from .times import changed, stamp
 from .witness import Witness, has_all, witnessed
 
@@ -68,6 +68,9 @@ class Supervisor(Shop):
         self.followers: dict[int | None, set[Follower]] = {}
         self.events = self._open_events()
         self.sites = {number: KeptSite(self, number) for number in settings.here}
+        self.standby, self.after = settings.standby, settings.after
+        self.site_tasks: list[asyncio.Task[None]] = []
+        self.others: list[asyncio.Task[None]] = []
         self.link = self._new_link()
         from .server import Server
         self.server = Server(self)
@@ -148,7 +151,7 @@ class Supervisor(Shop):
             "behind": {str(origin): count for origin, count in self.behind(site).items()},
             "released": list(ledger.release.counts), "held": len(ledger.release.waiting),
             "waits": [waits.record for waits in waits_of(ledger.release, SHOWN_WAITS)], "answered": changed(f"{kept.folder}/out"),
-            "sent": len(ledger.sends), "published": self.link.published(site), "waiting": len(site.line) + site.token_askers,
+            "yields": site.yields, "sent": len(ledger.sends), "published": self.link.published(site), "waiting": len(site.line) + site.token_askers,
             "starts": site.starts, "pid": kept.process.pid if kept.process and kept.process.returncode is None else None,
             "full": ledger.messages >= self.settings.keep, "silent": silent if (silent := round(site.silent_seconds, 1)) > SILENT_SECONDS else None,
             "fault": " ".join(site.fault) if site.fault else None, "faults": site.faults, "answers": dict(kept.answers),
@@ -167,7 +170,7 @@ class Supervisor(Shop):
         return well, {
             "folder": self.folder, "sites": self.settings.sites, "over": self.settings.shown_over, "sync": self.settings.sync,
             "keep": self.settings.keep, "pid": os.getpid(), "since": self.since, "stopping": self.is_leaving,
-            "link": self.link.state, "token": holder,
+            "link": self.link.state, "token": holder, "standby": list(self.standby), "after": self.after,
             "token_turn": self.wants.turn, "token_sent_to": self.wants.holder, "token_wanted_by": self.wants.waiting(), "site": sites,
         }
 
@@ -207,6 +210,7 @@ class Supervisor(Shop):
                 site.fence(why_changed(site.number, line))
         except OSError as fault:
             site.fence(f"{fault.filename}: {fault.strerror}")
+        site.yields = os.path.exists(f"{site.folder}/{YIELDS}")
         site.keys.read(lines_of(f"{site.folder}/{KEYS}"), self.unix_time())
         if why := next(lines_of(f"{site.folder}/{FENCED}"), b""):
             site.fence(text_of(why.rstrip()))
@@ -230,19 +234,38 @@ class Supervisor(Shop):
         for site in self.sites.values():
             self._begin(site)
         await self.server.listen()
-        sites = [self.task(site.run()) for site in self.sites.values()]
-        others = [self.task(work) for work in (self.link.run(), self._look_after_folder(), self._get_ready())]
+        self.site_tasks += [self.task(site.run()) for site in self.sites.values()]
+        self.others += [self.task(work) for work in (self.link.run(), self._look_after_folder(), self._get_ready())]
         await waited(self.stopping)
-        await asyncio.wait(sites, timeout=STOP_SECONDS)
+        await self._ended(STOP_SECONDS)
         for site in self.sites.values():
             site.kill()         # what it was given and hasn't answered is answered after the next start
-        await asyncio.wait(sites, timeout=END_SECONDS)
+        await self._ended(END_SECONDS)
         await is_over_within(END_SECONDS, self.link.finish())
         await is_over_within(END_SECONDS, self.server.close())
-        for task in others:
+        for task in self.others:
             task.cancel()
-        await asyncio.wait(others, timeout=END_SECONDS)
+        await asyncio.wait(self.others, timeout=END_SECONDS)
         self.event("supervisor: ended")
+
+    async def _ended(self, seconds: float) -> None:
+        """Waits for the ends of all sites, so long at most."""
+        if self.site_tasks:
+            await asyncio.wait(self.site_tasks, timeout=seconds)
+
+    def took_over(self, site: int) -> None:
+        self.event(f"standby for site {site}: it runs here from now on")
+        self.settings = moved_here(self.settings, site)
+        self.standby = self.settings.standby
+        try:
+            write(self.folder, self.settings)
+        except OSError as fault:
+            self.event(f"{self.folder}/shop.json: {fault.strerror}; say --here {','.join(map(str, self.settings.here))} to the next start")
+        taken = KeptSite(self, site)
+        self.sites = self.sites | {site: taken}     # not into the one that others are going through
+        self._begin(taken)
+        self.site_tasks.append(self.task(taken.run()))
+        self.others.append(self.task(self.link.run_site(taken)))
 
     async def _get_ready(self) -> None:
         for site in self.sites.values():

@@ -49,6 +49,7 @@ class Folder:
         self.files: dict[str, File] = {}
         self.lives: list[str] = []
         self.fenced: str | None = None      # why it is never started again
+        self.yields = False                 # its site has a standby
         self.noted = 0                      # how many of its records the run has taken down
         self.keeper: "Keeper | None" = None  # who holds its lock
         self.is_there = True

@@ -80,6 +80,7 @@ def put_back(run: "Run", dice: random.Random) -> None:
     machine, number, older = dice.choice(backups)
     if dice.random() < 0.6:
         run.switch_off(machine)
+    run.world.note_brought_back(older)
     folder = machine.folders[number]
     if dice.random() < 0.5:
         folder.put_back(older)

@@ -114,6 +114,11 @@ class World:
                    for machine in self.machines for folder in machine.folders.values()) or \
             any(text == its for stream in self.server.streams for _, its in stream.entries)
 
+    def note_brought_back(self, older: Folder) -> None:
+        """A folder is put back to a copy: notes whether that has packets that nothing else has any more, and that no site could see."""
+        packets = [line[:-1] for line in older.lines("kept") if line.startswith((b"msg,", b"token,"))] + older.sent()
+        self.is_unreached = self.is_unreached or not all(map(self._is_anywhere, packets))
+
     def note_unreached(self, number: int, opened: Folder, opens: StandIn) -> None:
         """A site is opened: notes whether a folder has more of it that can't be reached, or has had the token since."""
         own, held = opens.release.counts[number], opens.turn if opens.issued is not None else None
@@ -214,6 +219,9 @@ class SimulatedSite(Site):
 
     def write_sums(self, lines: bytes) -> None:
         self._sums.data += lines
+
+    def write_yields(self, yields: bool) -> None:
+        self.folder.yields = yields
 
     def write_fence(self, text: str) -> None:
         self.folder.fenced = text
@@ -404,7 +412,7 @@ class Process:
                 folder = self.machine.folders.get(site) or next(iter(self.machine.folders.values()))
                 for place, _ in packets:
                     self.world.note("Appends", folder.number, site, "%d-%d" % place)
-            case Rewrite(site, packets):
+            case Rewrite(site, packets, _):
                 self.world.note("WritesAnew", self.machine.folders[site].number, *("%d-%d" % place for place, _ in packets))
 
     def call(self, request: Request, site: int, seconds: float) -> Steps[list[dict[str, Any]] | None]:
@@ -553,7 +561,7 @@ class Supervisor(Process, Shop):
 
     def look_at_open(self, site: Site) -> None:
         """A site is up and open for the first time only if nothing that it reaches has more of it, or another past."""
-        if site.number in self.looked_at or self.world.excused or site.fenced_by or not (site.up.is_set and site.opened.is_set):
+        if site.number in self.looked_at or self.world.excused or self.world.is_unreached or site.fenced_by or not (site.up.is_set and site.opened.is_set):
             return
         self.looked_at.add(site.number)
         self.world.note("Opens", self.machine.folders[site.number].number)

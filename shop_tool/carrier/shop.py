@@ -44,6 +44,8 @@ class Shop(abc.ABC):
     def __init__(self, count: int, is_alone: bool) -> None:
         self.count = count                          # how many sites the shop has, here and elsewhere
         self.is_alone = is_alone
+        self.standby: tuple[int, ...] = ()          # the sites elsewhere whose place it takes once they have been gone for some time
+        self.after = 0.0                            # how long, in seconds
         self.wants = Wants()
         self.news = Signal()                        # a site has sent something, or came up
         self.progress = Signal()                    # that, or a site took something in, or something was published
@@ -83,6 +85,9 @@ class Shop(abc.ABC):
     @abc.abstractmethod
     def witness_of(self, site: Site, answered: int) -> Callable[[int], None]:
         """What is told from now on how many bytes of a site's `kept` are answered, after so many."""
+
+    def took_over(self, site: int) -> None:
+        """A folder here has taken the place of a site elsewhere, which runs here from now on."""
 
     def is_followed(self, site: int) -> bool:
         """Whether somebody reads a site's records and answers along."""

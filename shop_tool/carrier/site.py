@@ -16,7 +16,7 @@ from .ledger import Ledger, ReadOut
 from .records import Purpose, Token, text_of, why_not_one_record
 from .steps import Flag, Signal, Steps, Wait
 from .sums import Sums
-from .told import not_given, not_known
+from .told import counts_unknown, not_given, not_known
 from .turns import Hold
 
 if TYPE_CHECKING:
@@ -94,6 +94,7 @@ class Site(abc.ABC):
         self.opened = Flag()                        # asks and packets may be given to it
         self.compared = Flag()                      # it has been compared with what the others have of it
         self.tried = Flag()                         # its first start has succeeded or failed
+        self.yields = False                         # a standby may take its place, so ok is told only once a message stands in its stream
         self.hold = Hold()
         self.is_passing = False
         self.gives_soon = False
@@ -124,6 +125,10 @@ class Site(abc.ABC):
     @abc.abstractmethod
     def write_fence(self, text: str) -> None:
         """Writes into its folder why it is stopped."""
+
+    @abc.abstractmethod
+    def write_yields(self, yields: bool) -> None:
+        """Writes into its folder whether it yields to a standby, or an OSError."""
 
     @abc.abstractmethod
     def kill(self) -> None:
@@ -260,7 +265,11 @@ class Site(abc.ABC):
     def gone(self, pending: Pending | None = None) -> Gone:
         """That no answer comes to a record, or to one that it isn't given, since the site has ended."""
         why = f"site {self.number}: {self.fenced_by or 'the shop is being stopped'}"
-        return Gone(why, not_known(self.number, pending.behind) if pending and pending.is_given and not pending.is_question else None)
+        return Gone(why, self.not_known(pending.behind) if pending and pending.is_given and not pending.is_question else None)
+
+    def not_known(self, records: int) -> str:
+        """What is said of a record that it was given when it had answered so many, and hasn't answered."""
+        return counts_unknown(self.number) if self.yields else not_known(self.number, records)
 
     # Records.
 
