@@ -1237,6 +1237,33 @@ def test_older_copy_and_an_empty_server(at: Folder) -> None:
     at.shop("audit", folder="a")
 
 
+def test_lost_folder_and_an_empty_server(at: Folder) -> None:
+    """A folder is lost, and the server has lost all: its site waits for the others, since any of them may have more of it, and is fenced
+    then. Sites that lost nothing but the memory of their machines wait for each other, and go on; a new shop waits for nobody."""
+    server = Server(at).start_shop()
+    at.shop(f"ask 0 {SALE}", folder="a")
+    at.shop("ask 2 bid,0.3,0.2,500", folder="b")
+    at.shop("wait 0", folder="a")
+    at.run("./shop stop b; ./shop stop a; rm -r b/2")
+    server.say("flushall")
+    at.run("./shop start b", 3, "site 2: takes no asks until it is known what sites 0, 1 have of it (or --alone)")
+    at.shop("ask 2 user,eve --timeout 1", 3, "nothing was given to it", folder="b")
+    expect(at.site(2, "b")["state"] == "waiting" and " waiting " in at.run("./shop -C b status; true"), "what the status says")
+    at.run("./shop start a; true")
+    at.wait("the fence", lambda: at.site(2, "b")["state"] == "fenced")
+    expect("site 0 has 1 messages of it, and its folder has 0 (shop rebuild 2)" in at.site(2, "b")["fault"], at.site(2, "b")["fault"])
+    at.run("./shop stop b; ./shop -C b rebuild 2; ./shop start b")
+    expect(at.shop("ask 2 bid,0.3,0.2,600", folder="b") == "ok,2.2\n", "no number is given twice, and the token is there")
+    at.run("./shop stop b; ./shop stop a; rm -f /dev/shm/rubis-shop.$(id -u)/$(head -n 1 a/0/life) /dev/shm/rubis-shop.$(id -u)/$(head -n 1 b/2/life)")
+    server.say("flushall")
+    for folder in "ab":
+        at.start(f"./shop start {folder}")
+    at.wait("both", lambda: all((at.path / folder / "sock").exists() for folder in "ab"))
+    at.wait("both", lambda: all(one["state"] == "up" for folder in "ab" for one in at.status(folder)["site"]))
+    expect(at.shop("ask 0 user,dan", folder="a") == "ok,0.4\n", "they go on")
+    at.shop("audit", folder="b")
+
+
 def test_other_past(at: Folder) -> None:
     """A folder that went on at its operator's risk is compared packet by packet with what the others have, though its last one is equal."""
     server = Server(at).start_shop()

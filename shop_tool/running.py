@@ -168,7 +168,7 @@ def _print_status(shop: dict[str, Any]) -> None:
         rows.append([
             str(site["site"]), state_text(site), site["since"], str(site["records"]), str(site["messages"]), behind or "-",
             f"{site['published']}/{site['sent']}", str(site["waiting"]), str(site["starts"]), site["fault"] or "-"])
-    print_columns(rows, {"up": GREEN, "starting": YELLOW, "away": YELLOW} | dict.fromkeys(["down", "fenced", "ended", "full", "silent"], RED))
+    print_columns(rows, {"up": GREEN, "starting": YELLOW, "waiting": YELLOW, "away": YELLOW} | dict.fromkeys(["down", "fenced", "ended", "full", "silent"], RED))
     grid = grid_of_status(shop)
     if shop["sites"] > 1 and grid.columns:
         print(f"\n{grid_text(grid)}", end="")

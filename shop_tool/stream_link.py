@@ -10,8 +10,10 @@ from .carrier.lives import life_text
 from .carrier.over_files import UP
 from .carrier.over_server import ServerLink
 from .carrier.site import Site
-from .carrier.steps import (Broken, CallAll, Connect, IsRunning, KeptOf, Replay, SayLeave, SayWant, SentHere, TakeOver, UpElsewhere)
+from .carrier.steps import (Broken, CallAll, Connect, IsRunning, KeptOf, Replay, SayLeave, SayWant, SeeHere, SeenHere, SentHere, TakeOver,
+                            UpElsewhere)
 from .link import Carrying, kept_of
+from .lives import Seen
 from .rebuild import done_here, took_over
 from .requests import Request, request_of
 from .signals import done
@@ -29,7 +31,7 @@ class StreamLink(ServerLink, Carrying):
 
     def __init__(self, shop: "Supervisor") -> None:
         super().__init__(shop, shop.settings.shown_over)
-        self.main = Streams(shop.settings, shop.folder)
+        self.main, self.seen = Streams(shop.settings, shop.folder), Seen(shop.folder)
 
     def named(self, site: Site) -> str:
         return run_by(cast(KeptSite, site).folder)
@@ -141,6 +143,11 @@ class Connection:
             return await asyncio.to_thread(done_here, step, folder, settings)
         if isinstance(step, CallAll):
             return await self.link.do(step)
+        if isinstance(step, SeenHere):
+            return self.link.seen[step.site]
+        if isinstance(step, SeeHere):
+            self.link.seen[step.site] = step.life
+            return None
         try:
             if isinstance(step, Connect):
                 await self.close()

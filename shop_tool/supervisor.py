@@ -295,7 +295,7 @@ class Supervisor(Shop):
         """Tells `shop start`, or systemd, that the sites are up, or why they aren't; `shop start` ends with the status that it is told."""
         not_up = [site for site in self.sites.values() if site.fenced_by or not site.up.is_set]
         down = [f"site {site.number}: {site.fault[1] if site.fault else site.state}" for site in not_up]
-        down += [f"site {site.number}: takes no asks until it is known what the others have of it (or --alone)"
+        down += [f"site {site.number}: takes no asks until it is known what {they_have(site.silent)} of it (or --alone)"
                  for site in self.sites.values() if site.up.is_set and not site.opened.is_set]
         down += [f"link: {self.link.state}"] if self.link.state.startswith("down") else []
         if (ready := os.environ.pop("SHOP_READY", None)) is not None:
@@ -325,6 +325,11 @@ class Supervisor(Shop):
             for site in self.sites.values():
                 if not site.has_lost_files() and self.asks_questions and self.may_give(site) and not site.line:
                     site.give([STATE], Purpose.QUESTION)        # a keeper that hangs is seen
+
+
+def they_have(silent: list[int]) -> str:
+    """These sites have, or all others."""
+    return f"site{'s' * (len(silent) > 1)} {', '.join(map(str, silent))} ha{'ve' if len(silent) > 1 else 's'}" if silent else "the others have"
 
 
 def run(folder: str, settings: Settings, program: str, is_alone: bool) -> None:

@@ -111,7 +111,7 @@ class ServerLink(Link):
 
     def own_sites(self) -> list[Site]:
         """The sites that are this folder's: how another one is may another supervisor tell."""
-        return [site for site in self.shop.sites.values() if site.compared.is_set and not site.fenced_by]
+        return [site for site in self.shop.sites.values() if (site.compared.is_set or site.silent) and not site.fenced_by]
 
     def is_published(self) -> bool:
         return all(site.fenced_by or self.published(site) >= len(site.ledger.sends) for site in self.shop.sites.values())

@@ -5,11 +5,11 @@ from typing import TYPE_CHECKING
 
 from .ledger import NOWHERE, Place
 from .lives import Standing, life_text, standing, takes_place, why_other
-from .opening import must_compare_all, runs_elsewhere, strange_packet
+from .opening import must_compare_all, must_hear_all, runs_elsewhere, strange_packet
 from .over_files import BATCH
 from .site import Site
-from .steps import (Adopt, Append, Entries, Owner, Packets, Page, PageOf, Rewrite, SayYields, SeeLife, State, Statuses, Steps, StreamState,
-                    Wait)
+from .steps import (Adopt, Append, Entries, Owner, Packets, Page, PageOf, Rewrite, SayYields, SeeHere, SeeLife, SeenHere, State, Statuses, Steps,
+                    StreamState, Wait)
 
 if TYPE_CHECKING:
     from .over_server import ServerLink
@@ -70,7 +70,7 @@ class Publisher:
             state: StreamState = yield State(site.number)
             if not (yield from self._has_site(state)):
                 continue
-            if not site.compared.is_set and (yield from self._waited_for_another()):
+            if not site.compared.is_set and ((yield from self._waited_for_others()) or (yield from self._waited_for_another())):
                 continue
             if state.life == life_text(site.lives) or (yield from self._is_seen(state)):
                 break
@@ -88,6 +88,8 @@ class Publisher:
             site.shop.event(f"site {site.number}: the server lost {lost} of its packets, which are published again")
         self.link.counts[site.number] = at
         self.link.works(self.name)
+        if not site.compared.is_set:
+            yield from self._see_here()
         site.shop.open(site)
         if self.told is not None or site.yields:
             yield from self._say_yields(state, at)
@@ -104,7 +106,7 @@ class Publisher:
         if where and (where != here or not why):
             raise Elsewhere(f"{where} has it (shop adopt {site.number}, if that is gone for good)")
         if not why and not site.compared.is_set:
-            why = yield from self._why_behind()
+            why = yield from self._why_behind(state)
         if why:
             raise Fenced(why)
         if its == own:
@@ -165,13 +167,31 @@ class Publisher:
         return (f"{self.link.over} has another packet %d-%d of it: two processes were this site " % place
                 + f"(shop rebuild {self.site.number})")
 
-    def _why_behind(self) -> Steps[str | None]:
-        """Why its folder can't be the one that the other sites know: one of them has more of it."""
-        site = self.site
-        statuses = {other: status for other, status in (yield Statuses()).items() if other not in site.shop.sites}
+    def _why_behind(self, state: StreamState) -> Steps[str | None]:
+        """Why its folder can't be the one that the other sites know: one of them has more of it. Notes which of them have to say first what
+        they have."""
+        site, shop = self.site, self.site.shop
+        statuses = {other: status for other, status in (yield Statuses()).items() if other not in shop.sites}
+        is_forgotten = (state.greatest, state.life) == (NOWHERE, "")
+        must_hear = must_hear_all(is_forgotten, bool((yield SeenHere(site.number))), site.answered is not None, shop.is_alone)
+        site.silent = [other for other in range(shop.count) if other not in shop.sites and other not in statuses] if must_hear else []
         has = {other: status["has"].get(str(site.number), 0) for other, status in statuses.items()}
         turns = {other: status["turn"] for other, status in statuses.items()}
-        return (yield from site.shop.why_behind(site, has, turns))
+        return (yield from shop.why_behind(site, has, turns))
+
+    def _waited_for_others(self) -> Steps[bool]:
+        """Whether a site elsewhere had to say first what it has. Until then this one says what it has itself, since they may wait for it."""
+        if self.site.silent:
+            self.site.shop.changes.tell()
+            yield Wait(None, LOOK_SECONDS)
+        return bool(self.site.silent)
+
+    def _see_here(self) -> Steps[None]:
+        """Notes beside the folder that its site was here."""
+        try:
+            yield SeeHere(self.site.number, life_text(self.site.lives))
+        except OSError as fault:
+            self.site.shop.event(f"lives: {fault.strerror}; if the folder and all on the server are lost, site {self.site.number} looks new")
 
     def _is_seen(self, state: StreamState) -> Steps[bool]:
         """Compares as much of its stream as the life asks for that was seen last, and has its own seen. False if another one was

@@ -8,7 +8,7 @@ from ..ends import Fault, Status
 from .ledger import Prefix
 from .opening import may_open_unseen, why_behind, why_passed_on
 from .records import Message, Purpose, Token, packet_of, why_not_one_record
-from .site import Pending, Site
+from .site import Pending, Site, State
 from .steps import CallAll, Flag, IsRunning, KeptOf, SayLeave, SayWant, Signal, Steps, UpElsewhere, Wait
 from .turns import SAY_AGAIN, Wants, taker
 
@@ -180,7 +180,8 @@ class Shop(abc.ABC):
     def status_of(self, site: Site) -> dict[str, Any]:
         """How a site is, as the others need to know it."""
         ledger = site.ledger
-        return {"site": site.number, "state": site.state, "own": ledger.sends.messages, "turn": ledger.turn,
+        state = State.WAITING if site.state is State.UP and site.silent and not site.opened.is_set else site.state
+        return {"site": site.number, "state": state, "own": ledger.sends.messages, "turn": ledger.turn,
                 "has": {str(origin): have.upto for origin, have in enumerate(ledger.have) if origin != site.number},
                 "holds_token": ledger.holds_token and site.known.is_set}
 

@@ -30,6 +30,7 @@ READ_AGAIN = 1.0                    # seconds until packets that couldn't be rea
 class State(enum.StrEnum):
     STARTING = "starting"
     UP = "up"
+    WAITING = "waiting"     # it is up, and takes no asks until others have said what they have of it
     DOWN = "down"           # it ended, and is started again
     FENCED = "fenced"       # it would give numbers a second time, so it isn't started
     ENDED = "ended"
@@ -93,6 +94,7 @@ class Site(abc.ABC):
         self.known = Flag()                         # what it kept before this supervisor has been read
         self.opened = Flag()                        # asks and packets may be given to it
         self.compared = Flag()                      # it has been compared with what the others have of it
+        self.silent: list[int] = []                 # sites that have to say first what they have of it
         self.tried = Flag()                         # its first start has succeeded or failed
         self.yields = False                         # a standby may take its place, so ok is told only once a message stands in its stream
         self.hold = Hold()

@@ -7,8 +7,8 @@ from shop_tool.carrier.asking import Ask
 from shop_tool.carrier.ledger import Place
 from shop_tool.carrier.publisher import Publisher
 from shop_tool.carrier.standby import LOOK_SECONDS, Standby
-from shop_tool.carrier.steps import (Entries, Owner, Page, PageOf, Replay, Rewrite, Say, SayYields, SeeLife, SentHere, StandBy, State, Statuses,
-                                     StreamState, TakeOver, Wait)
+from shop_tool.carrier.steps import (Entries, Owner, Page, PageOf, Replay, Rewrite, Say, SayYields, SeeHere, SeeLife, SeenHere, SentHere, StandBy,
+                                     State, Statuses, StreamState, TakeOver, Wait)
 from shop_tool.ends import Fault
 from shop_tool.tests.shops import Known, OverServer, Supervisor, done
 
@@ -39,7 +39,8 @@ class Yielding(unittest.TestCase):
         self.site.take(b"reply,1,ok,1.1\nsend,%b\n" % ANN)
 
     def compare(self, state: StreamState) -> list[tuple[Any, ...]]:
-        answers = {State: state, Owner: "me:1 here:0", Statuses: {}, SeeLife: True, PageOf: Page(0, (0, 0), b"", []), SayYields: True, Rewrite: True}
+        answers = {State: state, Owner: "me:1 here:0", Statuses: {}, SeeLife: True, PageOf: Page(0, (0, 0), b"", []), SayYields: True, Rewrite: True,
+                   SeenHere: None, SeeHere: None}
         return done(self.publisher._compare(), answers)
 
     def test_without_a_standby_nothing_is_said(self) -> None:
