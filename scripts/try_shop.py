@@ -637,6 +637,63 @@ def test_removed_files(at: Folder) -> None:
     at.shop("audit")
 
 
+def changed(at: Folder, path: str, old: str, new: str) -> None:
+    """Changes a word in a file."""
+    text = at.text(path)
+    expect(old in text, f"{path} has {old}")
+    (at.path / path).write_text(text.replace(old, new))
+
+
+def test_changed_word(at: Folder) -> None:
+    """A word of a packet that was changed in `kept` of a stopped site is seen by its start, which names the line; the site goes on once
+    the line is put back, or once it is made again. Sums that lag behind, were torn or are gone are written by the next start."""
+    at.run("./shop start auction --sites 2")
+    at.shop(f"ask 0 {SALE} --published")
+    at.shop("stop")
+    was = at.text("auction/1/sums")
+    expect(len(was.splitlines()) == 3, f"a sum for each line: {was}")
+    changed(at, "auction/1/kept", "user,bob", "user,bub")
+    why = "line 2 of its file `kept` was changed (put it back as it was, or say shop rebuild 1)"
+    at.run("./shop start auction", 1, f"site 1: {why}")
+    expect(at.site(1)["state"] == "fenced" and why in at.site(1)["fault"] and not at.status()["well"], "the status")
+    at.shop("list 1 users", 3, "line 2 of its file `kept` was changed")
+    expect(at.shop("ask 0 item,0.1,vase,7,3,100,80") == "ok,0.4\n", "the other one goes on")
+    at.shop("stop")
+    at.shop("shorten 1", 1, why)
+    changed(at, "auction/1/kept", "user,bub", "user,bob")
+    at.run("./shop start auction")
+    at.shop("wait 1; ./shop -C auction stop")
+    expect(at.text("auction/1/sums").startswith(was) and len(at.text("auction/1/sums").splitlines()) == 4, "the sums go on")
+    was = at.text("auction/1/sums")
+    for left in ("", was[:17], was[:30], was[:34] + "\0" * 17):
+        (at.path / "auction/1/sums").write_text(left)
+        at.run("./shop start auction && ./shop stop auction")
+        expect(at.text("auction/1/sums") == was, f"sums of which {left!r} was left")
+    # What another site has is taken only up to a line that was changed.
+    changed(at, "auction/1/kept", "user,ann", "user,eve")
+    at.run("rm -r auction/0; ./shop start auction", 1, "line 1 of its file `kept` was changed")
+    at.shop("stop")
+    changed(at, "auction/1/kept", "user,eve", "user,ann")
+    changed(at, "auction/1/kept", "vase", "vaze")
+    at.shop("rebuild 0; ./shop -C auction rebuild 1; ./shop start auction")
+    expect("bob" in at.shop("list 1 users") and "vase" not in at.shop("list 0 items 7"), "what was in front of the line")
+    expect(at.shop("audit") == "audit,Agree\n", "the audit")
+
+
+def test_changed_word_over_a_server(at: Folder) -> None:
+    """The same over a server, where a shop that was killed has sums that lag behind; what was asked is answered as it was kept."""
+    server = Server(at).start_shop()
+    at.shop(f"ask 0 {SALE}", folder="a")
+    at.shop("wait 2", folder="b")
+    at.kill(at.status("b")["pid"])
+    changed(at, "b/2/kept", "user,bob", "user,bub")
+    at.run("./shop start b", 1, "site 2: line 2 of its file `kept` was changed (put it back as it was, or say shop rebuild 2)")
+    at.run("./shop stop b; ./shop -C b rebuild 2; ./shop start b")
+    at.shop("wait 2", folder="b")
+    expect(at.shop("ask 0 list,tables", folder="a") == at.shop("ask 2 list,tables", folder="b"), "the tables")
+    server.kill()
+
+
 def free_port() -> int:
     with socket.socket() as free:
         free.bind(("127.0.0.1", 0))
@@ -1027,6 +1084,143 @@ def test_backup_of_yesterday(at: Folder) -> None:
     at.shop("audit", folder="a")
 
 
+class Line:
+    """A line between a machine and the server, which can be cut."""
+
+    CARRY = """
+import asyncio, sys
+async def carried(reader, writer):
+    while data := await reader.read(65536):
+        writer.write(data)
+    writer.close()
+async def connected(reader, writer):
+    there, back = await asyncio.open_connection("127.0.0.1", int(sys.argv[2]))
+    await asyncio.gather(carried(reader, back), carried(there, writer))
+async def main():
+    async with await asyncio.start_server(connected, "127.0.0.1", int(sys.argv[1])) as server:
+        await server.serve_forever()
+asyncio.run(main())
+"""
+
+    def __init__(self, at: Folder, server: Server) -> None:
+        self.at, self.to, self.port = at, server.port, free_port()
+        (at.path / "line.py").write_text(self.CARRY)
+        self.over = server.over.replace(str(server.port), str(self.port))
+        self.join()
+
+    def join(self) -> None:
+        self.process = self.at.start(f"{PYTHON} line.py {self.port} {self.to}")
+
+    def cut(self) -> None:
+        self.process.kill()
+        self.process.wait()
+
+
+def yields(at: Folder, server: Server) -> None:
+    """Waits until site 2 yields to its standby."""
+    at.wait("that site 2 yields", lambda: len(set(server.say("mget auction:life:2 auction:yields:2").split("\n")[:2])) == 1)
+
+
+def start_with_standby(at: Folder, over_of_b: str, server: Server) -> None:
+    """Sites 0 and 1 in a, 2 in b, and c stands by for 2."""
+    at.run(f"./shop start a --sites 3 --here 0,1 --over {server.over}")
+    at.wait("site 2", lambda: at.run(f"./shop start b --sites 3 --here 2 --over {over_of_b} && echo up; true") == "up\n")
+    at.run(f"./shop start c --sites 3 --standby 2 --after 1 --over {server.over}")
+    at.shop(f"ask 0 {SALE}", folder="a")
+    expect(at.shop("ask 2 bid,0.3,0.2,500", folder="b") == "ok,2.1\n", "a bid at site 2")
+    yields(at, server)
+    expect(at.site(2, "b")["yields"], "what the status of b says")
+
+
+def is_fenced_and_equal(at: Folder) -> None:
+    """The machine that came back is fenced, and all that run have the same tables."""
+    at.wait("the fence", lambda: at.site(2, "b")["state"] == "fenced")
+    expect("c/2 has it" in at.site(2, "b")["fault"], at.site(2, "b")["fault"])
+    at.shop("ask 2 comment,0.3,0.2,0.1,1,bad --timeout 1", 3, "c/2 has it", folder="b")
+    for folder, site in (("a", 0), ("a", 1), ("c", 2)):
+        at.shop(f"wait {site}", folder=folder)
+    rows = [at.shop(f"ask {site} list,tables", folder=folder) for folder, site in (("a", 0), ("a", 1), ("c", 2))]
+    expect(rows[0] == rows[1] == rows[2], "the tables")
+    expect(at.shop("audit", folder="c") == "audit,Agree\n", "the audit")
+
+
+def test_standby_of_one_that_stood_still(at: Folder) -> None:
+    """A supervisor stands still for longer than --after, with an ask under way: the standby takes its site over, and what was told ok is
+    there. When it goes on, its ask isn't told ok, and it is fenced."""
+    server = Server(at)
+    start_with_standby(at, server.over, server)
+    supervisor = at.status("b")["pid"]
+    os.kill(supervisor, signal.SIGSTOP)
+    asker = at.start("sh -c './shop -C b ask 2 comment,0.3,0.2,0.1,2,late --timeout 30 > said 2>&1'")
+    at.wait("the standby", lambda: json.loads(at.text("c/shop.json"))["here"] == [2])
+    expect(at.shop("ask 2 bid,0.3,0.2,600 comment,0.3,0.2,0.1,5,good", folder="c") == "ok,2.2\nok,2.3\n", "it goes on, with the token")
+    expect(at.shop("ask 2 comment,0.3,0.2,0.1,4,well", folder="a") == "ok,2.4\n", "asked from elsewhere")
+    os.kill(supervisor, signal.SIGCONT)
+    asker.wait(SECONDS)
+    told = at.text("said")
+    expect("ok," not in told and ("isn't known" in told or "nothing was" in told), f"what the late asker is told: {told}")
+    is_fenced_and_equal(at)
+    at.run("./shop stop c; ./shop start c")
+    expect(at.site(2, "c")["state"] == "up" and json.loads(at.text("c/shop.json"))["here"] == [2], "it is a site of c from now on")
+    # The old machine stands by in its turn.
+    at.run("./shop stop b; ./shop start b --here '' --standby 2 --after 1")
+    expect("standby for site 2, once it has been gone for 1 s" in at.run("./shop -C b status; true"), "what the status says")
+    yields(at, server)
+    at.shop("ask 2 comment,0.3,0.2,0.1,3,fair", folder="c")
+    at.kill(at.status("c")["pid"])
+    at.wait("the standby", lambda: json.loads(at.text("b/shop.json"))["here"] == [2])
+    expect(at.shop("ask 2 bid,0.3,0.2,900", folder="b") == "ok,2.6\n", "it goes on, with the token")
+    expect("fair" in at.shop("list 2 comments 0.1", folder="b") and (at.path / "b/2.lost.1").exists(), "all that was told, and the old folder")
+    at.run("./shop start c", 3, "b/2 has it")
+
+
+def test_standby_of_one_that_was_cut_off(at: Folder) -> None:
+    """A machine is cut off from the server, and not dead: what is accepted there isn't told ok, and doesn't count; when it is reached
+    again it is fenced."""
+    server = Server(at)
+    line = Line(at, server)
+    start_with_standby(at, line.over, server)
+    line.cut()
+    said = at.run("./shop -C b ask 2 comment,0.3,0.2,0.1,2,late --timeout 1 2>&1", 3)
+    expect("whether it was accepted isn't known (shop log 2)" in said and "ok," not in said, f"what is told where the server is away: {said}")
+    expect(",ok,2.2\n" in at.shop("log 2", folder="b"), "it is accepted there")
+    at.wait("the standby", lambda: json.loads(at.text("c/shop.json"))["here"] == [2])
+    expect(at.shop("ask 2 bid,0.3,0.2,600", folder="c") == "ok,2.2\n", "the number that nobody was told")
+    line.join()
+    is_fenced_and_equal(at)
+    expect("late" not in at.shop("list 2 comments 0.1", folder="c"), "what was accepted while it was cut off doesn't count")
+
+
+def test_standby_that_comes_and_goes(at: Folder) -> None:
+    """Without a standby a site goes on while the server is away; with one it waits, also once it was killed and started again; and where
+    the standby is gone it goes on as before. A standby takes nothing over that runs, nor what never said that it yields."""
+    server = Server(at)
+    at.run(f"./shop start b --sites 3 --here 2 --over {server.over}")
+    at.run(f"./shop start a --sites 3 --here 0,1 --over {server.over}; ./shop stop b")
+    at.run(f"./shop start c --sites 3 --standby 2 --after 1 --over {server.over}")
+    at.wait("why not", lambda: "site 2: it isn't taken over: it hasn't said that it yields to a standby" in at.shop("log", folder="c"))
+    at.run("./shop start b")
+    at.wait("that site 2 yields", lambda: at.site(2, "b")["yields"])
+    time.sleep(3)
+    expect(at.status("c")["site"][2]["state"] == "up" and not (at.path / "c/2").exists(), "one that runs isn't taken over")
+    server.kill()
+    at.shop("ask 2 item,2.1,vase,7,1,1,0 --timeout 1", 1, folder="b")
+    server.start()
+    at.shop(f"ask 0 {SALE}", folder="a")
+    at.shop("wait 2", folder="b")
+    server.kill()
+    at.shop("ask 2 comment,0.3,0.2,0.1,2,one --timeout 1", 3, "whether it was accepted isn't known", folder="b")
+    at.kill(at.status("b")["pid"])
+    at.run("./shop start b", 3, "link: down")
+    at.shop("ask 2 comment,0.3,0.2,0.1,2,two --timeout 1", 3, "whether it was accepted isn't known", folder="b")
+    server.start()
+    at.wait("what was accepted", lambda: int(server.say("xlen auction:2")) == 2)
+    at.run("./shop stop c")
+    at.wait("that it has no standby", lambda: not at.site(2, "b")["yields"])
+    server.kill()
+    expect(at.shop("ask 2 comment,0.3,0.2,0.1,2,three", folder="b") == "ok,2.3\n", "it goes on as before")
+
+
 def test_older_copy_and_an_empty_server(at: Folder) -> None:
     """The server has lost all, and a folder is put back to an older copy: a site beside it has more of it."""
     server = Server(at)
@@ -1041,6 +1235,33 @@ def test_older_copy_and_an_empty_server(at: Folder) -> None:
     at.run("./shop stop a; ./shop -C a rebuild 0; ./shop start a")
     expect(at.shop("ask 0 user,dan", folder="a") == "ok,0.5\n", "no number is given twice")
     at.shop("audit", folder="a")
+
+
+def test_lost_folder_and_an_empty_server(at: Folder) -> None:
+    """A folder is lost, and the server has lost all: its site waits for the others, since any of them may have more of it, and is fenced
+    then. Sites that lost nothing but the memory of their machines wait for each other, and go on; a new shop waits for nobody."""
+    server = Server(at).start_shop()
+    at.shop(f"ask 0 {SALE}", folder="a")
+    at.shop("ask 2 bid,0.3,0.2,500", folder="b")
+    at.shop("wait 0", folder="a")
+    at.run("./shop stop b; ./shop stop a; rm -r b/2")
+    server.say("flushall")
+    at.run("./shop start b", 3, "site 2: takes no asks until it is known what sites 0, 1 have of it (or --alone)")
+    at.shop("ask 2 user,eve --timeout 1", 3, "nothing was given to it", folder="b")
+    expect(at.site(2, "b")["state"] == "waiting" and " waiting " in at.run("./shop -C b status; true"), "what the status says")
+    at.run("./shop start a; true")
+    at.wait("the fence", lambda: at.site(2, "b")["state"] == "fenced")
+    expect("site 0 has 1 messages of it, and its folder has 0 (shop rebuild 2)" in at.site(2, "b")["fault"], at.site(2, "b")["fault"])
+    at.run("./shop stop b; ./shop -C b rebuild 2; ./shop start b")
+    expect(at.shop("ask 2 bid,0.3,0.2,600", folder="b") == "ok,2.2\n", "no number is given twice, and the token is there")
+    at.run("./shop stop b; ./shop stop a; rm -f /dev/shm/rubis-shop.$(id -u)/$(head -n 1 a/0/life) /dev/shm/rubis-shop.$(id -u)/$(head -n 1 b/2/life)")
+    server.say("flushall")
+    for folder in "ab":
+        at.start(f"./shop start {folder}")
+    at.wait("both", lambda: all((at.path / folder / "sock").exists() for folder in "ab"))
+    at.wait("both", lambda: all(one["state"] == "up" for folder in "ab" for one in at.status(folder)["site"]))
+    expect(at.shop("ask 0 user,dan", folder="a") == "ok,0.4\n", "they go on")
+    at.shop("audit", folder="b")
 
 
 def test_other_past(at: Folder) -> None:

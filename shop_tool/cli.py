@@ -34,7 +34,7 @@ class Words(argparse.ArgumentParser):
 
 
 def sites_of(text: str) -> tuple[int, ...]:
-    return tuple(int(part) for part in text.split(","))
+    return tuple(int(part) for part in text.split(",") if part)
 
 
 def count_of(text: str) -> int:
@@ -95,6 +95,7 @@ class CommandLine:
   shop start auction                              the same again: its settings are kept in auction/shop.json
   shop start auction --sites 3 --here 0,1 --over redis://10.0.0.5/auction
                                                   sites 0 and 1; another machine says --here 2
+  shop start auction --standby 2 --after 60       and site 2, once it has been gone for a minute
 """
         where = {"start": "start the sites of a shop in the background", "run": "run the sites of a shop in the foreground, for systemd"}
         for name, about in where.items():
@@ -102,6 +103,9 @@ class CommandLine:
             parser.add_argument("named", metavar="FOLDER", nargs="?", help="the folder of the shop")
             parser.add_argument("--sites", metavar="N", type=count_of, help="how many sites the shop has, 1 to 16; 1 by default. It stays")
             parser.add_argument("--here", metavar="I,..", type=sites_of, help="which of them run here; all by default")
+            parser.add_argument("--standby", metavar="I,..", type=sites_of, help="sites of another machine that are to run here once they have "
+                                "been gone for some time. They then tell ok only once the server has the message; '' ends it")
+            parser.add_argument("--after", metavar="S", type=seconds_of, help="how long, in seconds; 30 by default")
             parser.add_argument("--over", metavar="WHAT", help="what carries their packets: files, or redis://HOST:PORT/NAME")
             parser.add_argument("--sync", action=argparse.BooleanOptionalAction, help="have each record on the disk before it is answered")
             parser.add_argument("--alone", action="store_true", help="take asks before it is known what the others have of the sites here. "

@@ -12,9 +12,10 @@ from .carrier.steps import CallAll, IsRunning, Kept, KeptOf, SayLeave, SayWant, 
 from .lives import Seen
 from .requests import Request
 from .signals import done
-from .site import lines_of
+from .site import unchanged
 
 if TYPE_CHECKING:
+    from .site import KeptSite
     from .supervisor import Supervisor
 
 
@@ -33,6 +34,9 @@ class Carrying(Link):
     async def message(self, origin: int, number: int) -> bytes | None:
         """A message by its id, if it was sent."""
 
+    async def run_site(self, site: "KeptSite") -> None:
+        """Carries packets of a site that came here later, until it is cancelled."""
+
     async def finish(self) -> None:
         """What is to be done when the sites here have stopped. Nothing is carried after that."""
 
@@ -50,10 +54,10 @@ class Carrying(Link):
 
 async def kept_of(folder: str, step: KeptOf) -> Kept | None:
     """What stands in the file `kept` of a site in this folder."""
-    path = f"{folder}/{step.keeper}/kept"
+    its = f"{folder}/{step.keeper}"
 
     def read() -> Kept | None:
-        return (list(packets_of(lines_of(path), step.origin, step.after)), tokens_of(lines_of(path))) if os.path.exists(path) else None
+        return (list(packets_of(unchanged(its), step.origin, step.after)), tokens_of(unchanged(its))) if os.path.exists(f"{its}/kept") else None
     return await asyncio.to_thread(read)
 
 

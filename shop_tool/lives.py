@@ -32,7 +32,8 @@ def take_place(folder: str, count: int) -> None:
 
 
 class Seen:
-    """Over files: the life of each site that the others saw last. A site that has none there is compared with all that they have."""
+    """The life of each site here that was compared last. Over files that is the one that the others saw, and a site that has none is compared
+    with all that they have; over a server one that has none is new."""
 
     def __init__(self, folder: str) -> None:
         self._path = f"{folder}/{LIVES}"

@@ -12,8 +12,9 @@ from typing import Any
 from . import program, settings
 from .carrier.answers import AnswerReader
 from .carrier.ledger import sends_of
+from .carrier.lives import count_of, life_text
 from .carrier.rebuilding import UNCHANGED, Given, Rebuild, adopted
-from .carrier.steps import CallAll, KeptOf, Replay, Result, SeenHere, SentHere, Steps, Swap, TakePlace
+from .carrier.steps import CallAll, KeptOf, Replay, Result, SeenHere, SentHere, Steps, Swap, TakeOver, TakePlace
 from .ends import Fault, Status
 from .folders import synced
 from .kept_keys import has_keys, put_fixed_keys
@@ -68,14 +69,12 @@ class Stopped:
         if isinstance(step, KeptOf):
             return await kept_of(self.folder, step)
         match step:
-            case SentHere(site):
-                return sends_of(lines_of(f"{self.folder}/{site}/out"))
+            case SentHere() | Replay():
+                return done_here(step, self.folder, self.now)
             case SeenHere(site):
                 return Seen(self.folder)[site]
             case CallAll(request, sites, seconds):
                 return {site: await self.server.call(request, site, seconds) for site in sites}
-            case Replay(site, records):
-                return replayed(site, records, self.folder, self.now)
             case Swap(site, starts):
                 take_place(f"{self.folder}/{site}.new", max(starts, len(lives_of(f"{self.folder}/{site}"))))
                 keep_keys(f"{self.folder}/{site}")
@@ -86,6 +85,25 @@ class Stopped:
                     os.unlink(f"{self.folder}/{site}/{FENCED}")
                 return take_place(f"{self.folder}/{site}", starts)
         return await self.server.do(step)
+
+
+def done_here(step: tuple[Any, ...], folder: str, now: settings.Settings) -> Any:
+    """Does a step that needs no server."""
+    match step:
+        case SentHere(site):
+            return sends_of(lines_of(f"{folder}/{site}/out"))
+        case Replay(site, records):
+            return replayed(site, records, folder, now)
+
+
+async def took_over(step: TakeOver, folder: str, server: Streams) -> bool:
+    """Has the folder SITE.new take the place of a site that runs nowhere; False if the server doesn't give it that."""
+    new = f"{folder}/{step.site}.new"
+    take_place(new, count_of(step.life))
+    if not await server.take_over(step.site, step.life, step.last, life_text(lives_of(new))):
+        return False
+    swapped(folder, step.site)
+    return True
 
 
 def replayed(site: int, steps: list[Given], folder: str, now: settings.Settings) -> None:

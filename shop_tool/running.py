@@ -18,7 +18,7 @@ from .grid import grid_of_status, grid_text
 from .carrier.records import text_of
 from .render import GREEN, RED, YELLOW, coloured, print_columns, shown
 
-STARTED_BY_OPTIONS = ("sites", "here", "over", "sync", "keep", "batch", "shards", "workers")
+STARTED_BY_OPTIONS = ("sites", "here", "over", "sync", "keep", "batch", "shards", "workers", "standby", "after")
 STOP_SECONDS = 60.0
 
 
@@ -45,20 +45,21 @@ def start(args: argparse.Namespace) -> int:
         print(f"shop: {args.folder} is running", file=sys.stderr)
         return Status.WELL
     found = _checked(args.folder, now)
-    said = _started(args.folder, now, found, args.timeout, ["--alone"] if args.alone else [])
-    if said == "ready":
+    status, _, said = _started(args.folder, now, found, args.timeout, ["--alone"] if args.alone else []).partition(" ")
+    if status == str(int(Status.WELL)):
         return Status.WELL
     if said and _has_failed(args.folder):
         _stopped(args.folder)
         settings.put_back(args.folder, before)
         raise Fault(Status.AWAY, f"{said}; it is stopped again (shop log)")
-    raise Fault(Status.AWAY, f"{said or 'the supervisor is starting still, or has ended'} (shop log)")
+    raise Fault(Status(int(status or Status.AWAY)), f"{said or 'the supervisor is starting still, or has ended'} (shop log)")
 
 
 def _has_failed(folder: str) -> bool:
     """Whether none of the sites here can be started. Where some run, or are only stopped for good, the others go on."""
     sites = client.one(folder, {"op": "status"}, STOP_SECONDS)["shop"]["site"]
-    return all(site["state"] in ("down", "starting") for site in sites if "starts" in site)
+    here = [site["state"] for site in sites if "starts" in site]
+    return bool(here) and all(state in ("down", "starting") for state in here)
 
 
 def _checked(folder: str, now: settings.Settings) -> str:
@@ -71,7 +72,7 @@ def _checked(folder: str, now: settings.Settings) -> str:
 
 def _started(folder: str, now: settings.Settings, found: str, seconds: float, options: list[str]) -> str:
     """Runs `shop run` in a session of its own, with these settings on its standard input, since a password on a command line would be
-    seen. What it says once each site is up, or isn't."""
+    seen. What it says once each site is up, or isn't: the status, and what is said."""
     get, put = os.pipe()
     settings_in, handed = os.pipe()
     os.write(handed, settings.to_text(now).encode())
@@ -156,6 +157,8 @@ def _print_status(shop: dict[str, Any]) -> None:
     token = f"site {shop['token']} holds it" if shop["token"] is not None else f"was passed to site {shop['token_sent_to']}"
     wanted = shop["token_wanted_by"]
     print(f"token: {token} (turn {shop['token_turn']})" + (f", wanted by {', '.join(map(str, wanted))}" if wanted else ""))
+    if shop["standby"]:
+        print(f"standby for site {', '.join(map(str, shop['standby']))}, once it has been gone for {shop['after']:g} s")
     rows = [["site", "state", "since", "records", "messages", "behind", "sent", "waiting", "starts", "last fault"]]
     for site in shop["site"]:
         if "since" not in site:
@@ -165,7 +168,7 @@ def _print_status(shop: dict[str, Any]) -> None:
         rows.append([
             str(site["site"]), state_text(site), site["since"], str(site["records"]), str(site["messages"]), behind or "-",
             f"{site['published']}/{site['sent']}", str(site["waiting"]), str(site["starts"]), site["fault"] or "-"])
-    print_columns(rows, {"up": GREEN, "starting": YELLOW, "away": YELLOW} | dict.fromkeys(["down", "fenced", "ended", "full", "silent"], RED))
+    print_columns(rows, {"up": GREEN, "starting": YELLOW, "waiting": YELLOW, "away": YELLOW} | dict.fromkeys(["down", "fenced", "ended", "full", "silent"], RED))
     grid = grid_of_status(shop)
     if shop["sites"] > 1 and grid.columns:
         print(f"\n{grid_text(grid)}", end="")

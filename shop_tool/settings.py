@@ -23,6 +23,8 @@ class Settings:
     batch: int | None = None
     shards: int | None = None
     workers: int | None = None
+    standby: tuple[int, ...] = ()       # the sites elsewhere whose place it takes once they have been gone
+    after: float = 30.0                 # for so many seconds
 
     @property
     def shown_over(self) -> str:
@@ -47,11 +49,20 @@ def path_of(folder: str) -> str:
 
 def from_text(text: str) -> Settings:
     has = json.loads(text)
-    return Settings(**(has | {"here": tuple(has["here"])}))
+    return Settings(**(has | {name: tuple(has[name]) for name in ("here", "standby") if name in has}))
 
 
 def to_text(settings: Settings) -> str:
-    return json.dumps(dataclasses.asdict(settings), indent=1) + "\n"
+    has = dataclasses.asdict(settings)
+    if not settings.standby:
+        del has["standby"], has["after"]        # as before there were standbys
+    return json.dumps(has, indent=1) + "\n"
+
+
+def moved_here(settings: Settings, site: int) -> Settings:
+    """The settings once a folder here has taken the place of a site elsewhere."""
+    standby = tuple(number for number in settings.standby if number != site)
+    return dataclasses.replace(settings, here=tuple(sorted({*settings.here, site})), standby=standby)
 
 
 def read(folder: str) -> Settings | None:
@@ -81,7 +92,8 @@ def changed(folder: str, said: dict[str, Any]) -> Settings:
     if has and said.get("keep", has.keep) < has.keep:
         raise Fault(Status.MISUSE, f"{folder} has --keep {has.keep}, and that can only become greater")
     sites = said.get("sites", 1)
-    settings = dataclasses.replace(has or Settings(sites=sites, here=tuple(range(sites))), **said)
+    here = () if said.get("standby") else tuple(range(sites))
+    settings = dataclasses.replace(has or Settings(sites=sites, here=here), **said)
     check(settings)
     return settings
 
@@ -91,8 +103,10 @@ def check(settings: Settings) -> None:
         raise Fault(Status.MISUSE, f"--sites is 1 to {SITES_OF_A_SHOP}")
     if not 1 <= settings.keep <= MESSAGES_OF_A_SITE:
         raise Fault(Status.MISUSE, f"--keep is 1 to {MESSAGES_OF_A_SITE}")
-    if not settings.here or len(set(settings.here)) < len(settings.here) or not set(settings.here) <= set(range(settings.sites)):
+    if not settings.here + settings.standby or len(set(settings.here)) < len(settings.here) or not set(settings.here) <= set(range(settings.sites)):
         raise Fault(Status.MISUSE, "--here names some of the shop's sites, each once, as --here 0,1; they are below --sites")
+    if not set(settings.standby) <= set(range(settings.sites)) - set(settings.here):
+        raise Fault(Status.MISUSE, "--standby names sites of the shop that run elsewhere, as --standby 2")
     if settings.over == FILES:
         if len(settings.here) < settings.sites:
             raise Fault(Status.MISUSE, "sites on other machines need --over redis://HOST:PORT/NAME")

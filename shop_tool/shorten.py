@@ -1,12 +1,15 @@
 """shorten: takes out of a site's recording what changed nothing, so that a start replays less and the limit of records is further away."""
 
 import argparse
+import contextlib
+import os
 import subprocess
 
 from . import program
+from .carrier.sums import why_changed
 from .ends import Fault, Status
 from .kept_keys import has_keys, put_fixed_keys
-from .site import keep_command
+from .site import SUMS, checked, keep_command
 from .stopped import stopped_shop
 
 
@@ -14,11 +17,15 @@ def shorten(args: argparse.Namespace) -> int:
     """Shortens the recording of a site of a stopped shop. Killed at any moment, it is the old one or the new one."""
     now = stopped_shop(args)
     kept = f"{args.folder}/{args.site}/kept"
-    before = count_lines(kept)
-    command = keep_command(f"{args.folder}/{args.site}", args.site, now, program.path())
-    if has_keys(f"{args.folder}/{args.site}"):
+    before, folder = count_lines(kept), f"{args.folder}/{args.site}"
+    if line := checked(folder)[1]:
+        raise Fault(Status.REFUSED, f"site {args.site}: {why_changed(args.site, line)}")
+    command = keep_command(folder, args.site, now, program.path())
+    if has_keys(folder):
         _run(args.site, command)        # completes `out`, where their answers are found by numbers that change now
-        put_fixed_keys(f"{args.folder}/{args.site}", f"{args.folder}/{args.site}")
+        put_fixed_keys(folder, folder)
+    with contextlib.suppress(FileNotFoundError):
+        os.unlink(f"{folder}/{SUMS}")   # other lines stand in their places now; the next start writes them
     _run(args.site, [*command, "--shorten"])
     print(f"site {args.site}: {count_lines(kept)} of {before} records are left")
     return Status.WELL

@@ -3,6 +3,7 @@
 import asyncio
 import collections
 import errno
+import itertools
 import os
 import time
 from collections.abc import Iterator, Sequence
@@ -11,6 +12,7 @@ from typing import TYPE_CHECKING, Any
 
 from .carrier.files import File
 from .carrier.site import FIRST_WAIT, LAST_WAIT, Disagreement, Site, State
+from .carrier.sums import LINE_BYTES, compared
 from .folders import put, synced
 from .settings import Settings
 from .signals import done, waited
@@ -21,6 +23,8 @@ if TYPE_CHECKING:
 
 PIECE = 1 << 16
 KEYS = "keys"           # the file in a site's folder that has the keys of asks
+SUMS = "sums"           # the file in a site's folder that has the sums of the lines of `kept`
+YIELDS = "yields"       # the file in a site's folder that says that the site has a standby
 FENCED = "fenced"       # the file in a site's folder that says why it is never started again
 
 
@@ -40,6 +44,8 @@ class KeptSite(Site):
         self.process: asyncio.subprocess.Process | None = None
         self.answers: collections.Counter[str] = collections.Counter()     # that askers were told, by what they are
         self._keys: int | None = None       # the file of keys, once there was one to write
+        self._sums = -1                     # the file of sums, once it is open
+        self.is_changed = False             # a line of `kept` isn't as its sum says
 
     def _read_out(self, pieces: Sequence[tuple[int, int]]) -> list[bytes]:
         return read_pieces(f"{self.folder}/out", pieces)
@@ -148,11 +154,31 @@ class KeptSite(Site):
             os.close(self._keys)
             self._keys = None
 
+    def open_sums(self) -> int | None:
+        """Opens the file of sums, before the keeper is started; the number of a line of `kept` that was changed."""
+        self.sums.count, changed = checked(self.folder)
+        if changed is None:
+            self._sums = os.open(f"{self.folder}/{SUMS}", os.O_WRONLY | os.O_CREAT, 0o600)
+            os.ftruncate(self._sums, self.sums.count * LINE_BYTES)
+            os.lseek(self._sums, 0, os.SEEK_END)
+        return changed
+
+    def write_sums(self, lines: bytes) -> None:
+        if os.write(self._sums, lines) < len(lines):
+            raise OSError(errno.ENOSPC, os.strerror(errno.ENOSPC))
+
     def write_fence(self, text: str) -> None:
         try:
             put(f"{self.folder}/{FENCED}", f"{text}\n")
         except OSError as fault:
             self.shop.event(f"{self.folder}/{FENCED}: {fault.strerror}")
+
+    def write_yields(self, yields: bool) -> None:
+        path = f"{self.folder}/{YIELDS}"
+        if yields:
+            put(path, "a standby may take its place\n")
+        elif os.path.exists(path):
+            os.unlink(path)
 
     def stop(self) -> None:
         """Ends the keeper once what it was given is answered."""
@@ -190,6 +216,17 @@ def read_pieces(path: str, pieces: Sequence[tuple[int, int]]) -> list[bytes]:
     if len(found[-1]) < pieces[-1][1]:
         raise OSError(errno.EIO, "it has lost its end", path)
     return found
+
+
+def checked(folder: str) -> tuple[int, int | None]:
+    """How many lines of a site's file `kept` are as their sums say, and the number of the first that was changed."""
+    return compared(lines_of(f"{folder}/kept"), b"".join(lines_of(f"{folder}/{SUMS}")))
+
+
+def unchanged(folder: str) -> Iterator[bytes]:
+    """The lines of a site's file `kept` that stand in front of the first that was changed."""
+    count, changed = checked(folder)
+    return itertools.islice(lines_of(f"{folder}/kept"), None if changed is None else count)
 
 
 def lines_of(path: str) -> Iterator[bytes]:

@@ -10,8 +10,11 @@ from .carrier.lives import life_text
 from .carrier.over_files import UP
 from .carrier.over_server import ServerLink
 from .carrier.site import Site
-from .carrier.steps import Broken, CallAll, Connect, IsRunning, KeptOf, SayLeave, SayWant, Tell, UpElsewhere
+from .carrier.steps import (Broken, CallAll, Connect, IsRunning, KeptOf, Replay, SayLeave, SayWant, SeeHere, SeenHere, SentHere, TakeOver,
+                            UpElsewhere)
 from .link import Carrying, kept_of
+from .lives import Seen
+from .rebuild import done_here, took_over
 from .requests import Request, request_of
 from .signals import done
 from .site import KeptSite
@@ -28,13 +31,16 @@ class StreamLink(ServerLink, Carrying):
 
     def __init__(self, shop: "Supervisor") -> None:
         super().__init__(shop, shop.settings.shown_over)
-        self.main = Streams(shop.settings, shop.folder)
+        self.main, self.seen = Streams(shop.settings, shop.folder), Seen(shop.folder)
 
     def named(self, site: Site) -> str:
         return run_by(cast(KeptSite, site).folder)
 
     async def run(self) -> None:
         await asyncio.gather(*(self._work(name, work) for name, work in self.works_of().items()))
+
+    async def run_site(self, site: KeptSite) -> None:
+        await asyncio.gather(*(self._work(name, work) for name, work in self.works_of_site(site).items()))
 
     async def _work(self, name: str, work: Callable[[], Any]) -> None:
         connection = Connection(self)
@@ -78,6 +84,8 @@ class StreamLink(ServerLink, Carrying):
         self.is_over = True
         with contextlib.suppress(*faults()):        # they expire
             await self.main.forget([site.number for site in self.own_sites()])
+            for number in self.shop.standby:
+                await self.main.leave(number)
 
     async def refresh(self) -> None:
         try:
@@ -128,15 +136,25 @@ class Connection:
         self.server: Streams | None = None
 
     async def do(self, step: tuple[Any, ...]) -> Any:
+        folder, settings = self.link.shop.folder, self.link.shop.settings
         if isinstance(step, KeptOf):
-            return await kept_of(self.link.shop.folder, step)
+            return await kept_of(folder, step)
+        if isinstance(step, (SentHere, Replay)):
+            return await asyncio.to_thread(done_here, step, folder, settings)
+        if isinstance(step, CallAll):
+            return await self.link.do(step)
+        if isinstance(step, SeenHere):
+            return self.link.seen[step.site]
+        if isinstance(step, SeeHere):
+            self.link.seen[step.site] = step.life
+            return None
         try:
             if isinstance(step, Connect):
                 await self.close()
-                self.server = Streams(self.link.shop.settings, self.link.shop.folder)
+                self.server = Streams(settings, folder)
                 return None
             assert self.server
-            return await self.server.do(step)
+            return await (took_over(step, folder, self.server) if isinstance(step, TakeOver) else self.server.do(step))
         except faults() as fault:
             raise Broken(reason_of(fault)) from fault
 

@@ -6,6 +6,8 @@
 | NAME:mark:SITE | a random number that is drawn whenever the site's stream is begun or written anew |
 | NAME:life:SITE | the life of the site's folder that was compared with its stream last |
 | NAME:owner:SITE | which folder on which machine runs the site |
+| NAME:standby:SITE | who stands by for the site; it expires when that is gone for an hour |
+| NAME:yields:SITE | the life of the site's folder that yields to a standby, or a word that none does |
 | NAME:status:SITE | how the site is; it expires when its supervisor has gone |
 | NAME:wants | a stream: wants of the token, and requests to other supervisors |
 | NAME:answer:ID | the answers to one such request; it expires |
@@ -25,12 +27,13 @@ from .carrier.ledger import Place
 from .carrier.over_server import WANTS
 from .carrier.rebuilding import STATUS_SECONDS
 from .carrier.records import bytes_of
-from .carrier.steps import (Adopt, Append, Entries, Hear, Mark, Marks, Owner, Packets, Page, PageOf, Read, Rewrite, SeeLife, State, Statuses,
-                            StreamState, Tell)
+from .carrier.steps import (Adopt, Append, Entries, Hear, Mark, Marks, Owner, Packets, Page, PageOf, Read, Rewrite, SayYields, SeeLife, StandBy,
+                            State, Statuses, StreamState, Tell)
 from .folders import boot, identity
 from .settings import Settings
 
 ANSWER_SECONDS = 60
+STANDBY_SECONDS = 3600
 PAGE = 5000
 
 # Appends packets, if the last entry is the one that the caller knows, and so is the life that was seen last, if it names one; else returns
@@ -54,14 +57,24 @@ end
 return {#found, #found > 0 and found[#found][1] or '0-0', redis.sha1hex(table.concat(text)), tokens}
 """
 
-# How many entries a stream has, its last one, and the greatest id that it ever had; and the life of its site.
+# Puts a new stream in place of another one, if the life that was seen last is the one that the caller names, if it names one.
+REWRITE = b"""
+if ARGV[2] ~= '' and (redis.call('GET', KEYS[4]) or '') ~= ARGV[2] then return 0 end
+redis.call('RENAME', KEYS[1], KEYS[2])
+redis.call('SET', KEYS[3], ARGV[1])
+redis.call('SET', KEYS[5], ARGV[3])
+return 1
+"""
+
+# How many entries a stream has, its last one, and the greatest id that it ever had; the life of its site, who stands by for it, and which
+# life yields.
 STATE = b"""
-local life = redis.call('GET', KEYS[2]) or ''
-if redis.call('EXISTS', KEYS[1]) == 0 then return {0, '0-0', '', '0-0', life} end
+local life, standby, yields = redis.call('GET', KEYS[2]) or '', redis.call('GET', KEYS[3]) or '', redis.call('GET', KEYS[4]) or ''
+if redis.call('EXISTS', KEYS[1]) == 0 then return {0, '0-0', '', '0-0', life, standby, yields} end
 local last = redis.call('XREVRANGE', KEYS[1], '+', '-', 'COUNT', 1)
 local info, greatest = redis.call('XINFO', 'STREAM', KEYS[1]), '0-0'
 for at = 1, #info, 2 do if info[at] == 'last-generated-id' then greatest = info[at + 1] end end
-return {redis.call('XLEN', KEYS[1]), last[1] and last[1][1] or '0-0', last[1] and last[1][2][2] or '', greatest, life}
+return {redis.call('XLEN', KEYS[1]), last[1] and last[1][1] or '0-0', last[1] and last[1][2][2] or '', greatest, life, standby, yields}
 """
 
 # Sets the life of a site, if it is still the one that the caller knows, and so is the last entry of its stream.
@@ -69,6 +82,16 @@ SEE_LIFE = b"""
 local last = redis.call('XREVRANGE', KEYS[2], '+', '-', 'COUNT', 1)
 if (last[1] and last[1][1] or '0-0') ~= ARGV[3] or (redis.call('GET', KEYS[1]) or '') ~= ARGV[1] then return 0 end
 redis.call('SET', KEYS[1], ARGV[2])
+return 1
+"""
+
+# Gives a site that runs nowhere, and whose last life yields, to another folder, if its stream still ends as the caller knows.
+TAKE_OVER = b"""
+local last = redis.call('XREVRANGE', KEYS[1], '+', '-', 'COUNT', 1)
+if (last[1] and last[1][1] or '0-0') ~= ARGV[2] or redis.call('EXISTS', KEYS[2]) == 1 then return 0 end
+if (redis.call('GET', KEYS[3]) or '') ~= ARGV[1] or (redis.call('GET', KEYS[4]) or '') ~= ARGV[1] then return 0 end
+redis.call('MSET', KEYS[3], ARGV[3], KEYS[4], ARGV[3], KEYS[5], ARGV[4])
+if (redis.call('GET', KEYS[6]) or '') == ARGV[5] then redis.call('DEL', KEYS[6]) end
 return 1
 """
 
@@ -121,6 +144,8 @@ class Streams:
         self._mark_keys = [self.key(f"mark:{site}") for site in range(self.sites)]
         self._append = self.redis.register_script(APPEND)
         self._state = self.redis.register_script(STATE)
+        self._rewrite = self.redis.register_script(REWRITE)
+        self._take_over = self.redis.register_script(TAKE_OVER)
         self._see_life = self.redis.register_script(SEE_LIFE)
         self._change = self.redis.register_script(CHANGE)
         self._page = self.redis.register_script(PAGE_OF)
@@ -145,8 +170,9 @@ class Streams:
     # A site's stream.
 
     async def state(self, site: int) -> StreamState:
-        entries, last, packet, greatest, life = await self._state(keys=[self.key(site), self.key(f"life:{site}")])
-        return StreamState(entries, place_of(last), packet, place_of(greatest), life.decode("utf-8", "replace"))
+        keys = [self.key(site), *(self.key(f"{what}:{site}") for what in ("life", "standby", "yields"))]
+        entries, last, packet, greatest, *said = await self._state(keys=keys)
+        return StreamState(entries, place_of(last), packet, place_of(greatest), *(text.decode("utf-8", "replace") for text in said))
 
     async def see_life(self, site: int, before: str, life: str, last: Place) -> bool:
         return bool(await self._see_life(keys=[self.key(f"life:{site}"), self.key(site)], args=[before, life, id_of(last)]))
@@ -156,7 +182,7 @@ class Streams:
         keys = [self.key(site), self.key(f"mark:{site}"), self.key(f"life:{site}")]
         return bool(await self._append(keys=keys, args=words) == b"ok")
 
-    async def rewrite(self, site: int, packets: Packets) -> None:
+    async def rewrite(self, site: int, packets: Packets, life: str) -> bool:
         new = self.key(f"{site}:new")
         await self.redis.delete(new)
         pipe, count = self.redis.pipeline(transaction=False), 0
@@ -166,11 +192,10 @@ class Streams:
             if count % PAGE == 0:
                 await pipe.execute()
         await pipe.execute()
-        if count:
-            step = self.redis.pipeline()
-            step.rename(new, self.key(site))
-            step.set(self.key(f"mark:{site}"), new_mark())
-            await step.execute()
+        if not count:
+            return True
+        keys = [new, self.key(site), *(self.key(f"{what}:{site}") for what in ("mark", "life", "yields"))]
+        return bool(await self._rewrite(keys=keys, args=[new_mark(), life, no_life()]))
 
     async def marks(self) -> list[Mark]:
         found: list[Mark] = await self.redis.mget(self._mark_keys)
@@ -197,6 +222,26 @@ class Streams:
         found = await self.redis.xrange(self.key(site), id_of((number, 0)), id_of((number, 0)))
         text: bytes | None = found[0][1].get(b"p") if found else None
         return text
+
+    # Standbys.
+
+    async def stand_by(self, site: int) -> None:
+        await self.redis.set(self.key(f"standby:{site}"), self._standby(site), ex=STANDBY_SECONDS)
+
+    async def leave(self, site: int) -> None:
+        """Stands by no more."""
+        await self._change(keys=[self.key(f"standby:{site}")], args=[self._standby(site), b""])
+
+    def _standby(self, site: int) -> bytes:
+        return bytes_of(f"{identity(self.folder)} {socket.gethostname()}:{self.folder}")
+
+    async def say_yields(self, site: int, before: str, life: str) -> bool:
+        return bool(await self._change(keys=[self.key(f"yields:{site}")], args=[before, life or no_life()]))
+
+    async def take_over(self, site: int, before: str, last: Place, life: str) -> bool:
+        keys = [self.key(site), *(self.key(f"{what}:{site}") for what in ("status", "life", "yields", "owner", "standby"))]
+        owner = bytes_of(owner_text(f"{self.folder}/{site}", ".new"))
+        return bool(await self._take_over(keys=keys, args=[before, id_of(last), life, owner, self._standby(site)]))
 
     # Owners and statuses.
 
@@ -261,8 +306,13 @@ class Streams:
         await pipe.execute()
 
 
-STEPS = {State: "state", Owner: "owner", Adopt: "adopt", Statuses: "statuses", Tell: "tell", SeeLife: "see_life", Append: "append",
+STEPS = {StandBy: "stand_by", SayYields: "say_yields", State: "state", Owner: "owner", Adopt: "adopt", Statuses: "statuses", Tell: "tell", SeeLife: "see_life", Append: "append",
          Rewrite: "rewrite", PageOf: "page", Entries: "entries", Marks: "marks", Read: "read", Hear: "hear"}
+
+
+def no_life() -> str:
+    """A word that no life yields, and that was never said before: so what says that one does, and comes late, changes nothing."""
+    return f"none {os.urandom(8).hex()}"
 
 
 def new_mark() -> bytes:

@@ -13,6 +13,7 @@ from .carrier.records import RECORDS_OF_A_RUN, Purpose, text_of
 from .carrier.shop import HAND_OVER_SECONDS, Shop
 from .carrier.site import Site, State
 from .carrier.steps import Steps
+from .carrier.sums import why_changed
 from .ends import Fault, Status
 from .grid import waits_of
 from .lives import begin_life, lives_of
@@ -20,9 +21,9 @@ from .lock import take_lock
 from .program import answers_questions
 from .reads import STATE
 from .render import shown
-from .settings import FILES, Settings, write
+from .settings import FILES, Settings, moved_here, write
 from .signals import done, is_over_within, waited
-from .site import FENCED, KEYS, KeptSite, lines_of
+from .site import FENCED, KEYS, YIELDS, KeptSite, lines_of
 from .times import changed, stamp
 from .witness import Witness, has_all, witnessed
 
@@ -67,6 +68,9 @@ class Supervisor(Shop):
         self.followers: dict[int | None, set[Follower]] = {}
         self.events = self._open_events()
         self.sites = {number: KeptSite(self, number) for number in settings.here}
+        self.standby, self.after = settings.standby, settings.after
+        self.site_tasks: list[asyncio.Task[None]] = []
+        self.others: list[asyncio.Task[None]] = []
         self.link = self._new_link()
         from .server import Server
         self.server = Server(self)
@@ -147,7 +151,7 @@ class Supervisor(Shop):
             "behind": {str(origin): count for origin, count in self.behind(site).items()},
             "released": list(ledger.release.counts), "held": len(ledger.release.waiting),
             "waits": [waits.record for waits in waits_of(ledger.release, SHOWN_WAITS)], "answered": changed(f"{kept.folder}/out"),
-            "sent": len(ledger.sends), "published": self.link.published(site), "waiting": len(site.line) + site.token_askers,
+            "yields": site.yields, "sent": len(ledger.sends), "published": self.link.published(site), "waiting": len(site.line) + site.token_askers,
             "starts": site.starts, "pid": kept.process.pid if kept.process and kept.process.returncode is None else None,
             "full": ledger.messages >= self.settings.keep, "silent": silent if (silent := round(site.silent_seconds, 1)) > SILENT_SECONDS else None,
             "fault": " ".join(site.fault) if site.fault else None, "faults": site.faults, "answers": dict(kept.answers),
@@ -166,7 +170,7 @@ class Supervisor(Shop):
         return well, {
             "folder": self.folder, "sites": self.settings.sites, "over": self.settings.shown_over, "sync": self.settings.sync,
             "keep": self.settings.keep, "pid": os.getpid(), "since": self.since, "stopping": self.is_leaving,
-            "link": self.link.state, "token": holder,
+            "link": self.link.state, "token": holder, "standby": list(self.standby), "after": self.after,
             "token_turn": self.wants.turn, "token_sent_to": self.wants.holder, "token_wanted_by": self.wants.waiting(), "site": sites,
         }
 
@@ -200,6 +204,13 @@ class Supervisor(Shop):
             site.lives = begin_life(site.folder)
         except OSError as fault:
             return site.fence(f"{site.folder}/life: {fault.strerror}")
+        try:
+            if line := site.open_sums():
+                site.is_changed = True
+                site.fence(why_changed(site.number, line))
+        except OSError as fault:
+            site.fence(f"{fault.filename}: {fault.strerror}")
+        site.yields = os.path.exists(f"{site.folder}/{YIELDS}")
         site.keys.read(lines_of(f"{site.folder}/{KEYS}"), self.unix_time())
         if why := next(lines_of(f"{site.folder}/{FENCED}"), b""):
             site.fence(text_of(why.rstrip()))
@@ -223,19 +234,38 @@ class Supervisor(Shop):
         for site in self.sites.values():
             self._begin(site)
         await self.server.listen()
-        sites = [self.task(site.run()) for site in self.sites.values()]
-        others = [self.task(work) for work in (self.link.run(), self._look_after_folder(), self._get_ready())]
+        self.site_tasks += [self.task(site.run()) for site in self.sites.values()]
+        self.others += [self.task(work) for work in (self.link.run(), self._look_after_folder(), self._get_ready())]
         await waited(self.stopping)
-        await asyncio.wait(sites, timeout=STOP_SECONDS)
+        await self._ended(STOP_SECONDS)
         for site in self.sites.values():
             site.kill()         # what it was given and hasn't answered is answered after the next start
-        await asyncio.wait(sites, timeout=END_SECONDS)
+        await self._ended(END_SECONDS)
         await is_over_within(END_SECONDS, self.link.finish())
         await is_over_within(END_SECONDS, self.server.close())
-        for task in others:
+        for task in self.others:
             task.cancel()
-        await asyncio.wait(others, timeout=END_SECONDS)
+        await asyncio.wait(self.others, timeout=END_SECONDS)
         self.event("supervisor: ended")
+
+    async def _ended(self, seconds: float) -> None:
+        """Waits for the ends of all sites, so long at most."""
+        if self.site_tasks:
+            await asyncio.wait(self.site_tasks, timeout=seconds)
+
+    def took_over(self, site: int) -> None:
+        self.event(f"standby for site {site}: it runs here from now on")
+        self.settings = moved_here(self.settings, site)
+        self.standby = self.settings.standby
+        try:
+            write(self.folder, self.settings)
+        except OSError as fault:
+            self.event(f"{self.folder}/shop.json: {fault.strerror}; say --here {','.join(map(str, self.settings.here))} to the next start")
+        taken = KeptSite(self, site)
+        self.sites = self.sites | {site: taken}     # not into the one that others are going through
+        self._begin(taken)
+        self.site_tasks.append(self.task(taken.run()))
+        self.others.append(self.task(self.link.run_site(taken)))
 
     async def _get_ready(self) -> None:
         for site in self.sites.values():
@@ -262,15 +292,16 @@ class Supervisor(Shop):
         return task
 
     def _say_ready(self) -> None:
-        """Tells `shop start`, or systemd, that the sites are up, or why they aren't."""
+        """Tells `shop start`, or systemd, that the sites are up, or why they aren't; `shop start` ends with the status that it is told."""
         not_up = [site for site in self.sites.values() if site.fenced_by or not site.up.is_set]
         down = [f"site {site.number}: {site.fault[1] if site.fault else site.state}" for site in not_up]
-        down += [f"site {site.number}: takes no asks until it is known what the others have of it (or --alone)"
+        down += [f"site {site.number}: takes no asks until it is known what {they_have(site.silent)} of it (or --alone)"
                  for site in self.sites.values() if site.up.is_set and not site.opened.is_set]
         down += [f"link: {self.link.state}"] if self.link.state.startswith("down") else []
         if (ready := os.environ.pop("SHOP_READY", None)) is not None:
+            status = Status.REFUSED if any(site.is_changed for site in not_up) else Status.AWAY if down else Status.WELL
             try:
-                os.write(int(ready), ("; ".join(down) or "ready").encode() + b"\n")
+                os.write(int(ready), f"{int(status)} {'; '.join(down)}\n".encode())
             except OSError:
                 pass        # `shop start` had no time to wait for it
             os.close(int(ready))
@@ -294,6 +325,11 @@ class Supervisor(Shop):
             for site in self.sites.values():
                 if not site.has_lost_files() and self.asks_questions and self.may_give(site) and not site.line:
                     site.give([STATE], Purpose.QUESTION)        # a keeper that hangs is seen
+
+
+def they_have(silent: list[int]) -> str:
+    """These sites have, or all others."""
+    return f"site{'s' * (len(silent) > 1)} {', '.join(map(str, silent))} ha{'ve' if len(silent) > 1 else 's'}" if silent else "the others have"
 
 
 def run(folder: str, settings: Settings, program: str, is_alone: bool) -> None:

@@ -4,10 +4,10 @@ import copy
 import errno
 import functools
 import random
-import zlib
 from collections.abc import Callable, Sequence
 from typing import TYPE_CHECKING
 
+from shop_tool.carrier import sums
 from shop_tool.carrier.files import File as Seen
 
 from .clock import Clock
@@ -26,10 +26,6 @@ def is_question(line: bytes) -> bool:
     return line.startswith(b"?")
 
 
-def sum_of(line: bytes) -> int:
-    return zlib.crc32(line)
-
-
 class File:
     """A file: its bytes, and how many of them are on the disk."""
 
@@ -45,15 +41,15 @@ class File:
 
 
 class Folder:
-    """The folder of a site: `kept`, `out`, the sums of `kept`, and its lives."""
+    """The folder of a site: its files, and its lives."""
 
     def __init__(self, world: "World", machine: "Machine") -> None:
         self.world, self.machine = world, machine
         self.inode = self.number = world.new_number()       # a clone has the same inode, and another number
         self.files: dict[str, File] = {}
         self.lives: list[str] = []
-        self.sums: list[int] = []           # of the lines of `kept`; they may lag behind it
         self.fenced: str | None = None      # why it is never started again
+        self.yields = False                 # its site has a standby
         self.noted = 0                      # how many of its records the run has taken down
         self.keeper: "Keeper | None" = None  # who holds its lock
         self.is_there = True
@@ -64,13 +60,13 @@ class Folder:
         """A copy of it, with other files of the same bytes."""
         made = Folder(self.world, machine)
         made.files = {name: File(self.world.new_number(), bytes(file.data)) for name, file in self.files.items()}
-        made.lives, made.sums, made.noted, made.fenced = list(self.lives), list(self.sums), self.noted, self.fenced
+        made.lives, made.noted, made.fenced = list(self.lives), self.noted, self.fenced
         return made
 
     def put_back(self, older: "Folder") -> None:
         """Has what an older copy has, in the same folder."""
         again = older.copied(self.machine)
-        self.files, self.lives, self.sums, self.noted, self.fenced = again.files, again.lives, again.sums, again.noted, again.fenced
+        self.files, self.lives, self.noted, self.fenced = again.files, again.lives, again.noted, again.fenced
 
     def file(self, name: str) -> File:
         if name not in self.files:
@@ -97,6 +93,15 @@ class Folder:
     def lines(self, name: str) -> list[bytes]:
         return bytes(self.files[name].data).splitlines(keepends=True) if self.is_there and name in self.files else []
 
+    def checked(self) -> tuple[int, int | None]:
+        """How many lines of `kept` are as their sums say, and the number of the first that was changed."""
+        return sums.compared(self.lines("kept"), b"".join(self.lines("sums")))
+
+    def unchanged(self) -> list[bytes]:
+        """The lines of `kept` in front of the first that was changed."""
+        count, changed = self.checked()
+        return self.lines("kept")[:None if changed is None else count]
+
     def sent(self) -> list[bytes]:
         """The packets in its file `out`."""
         return [line[5:-1] for line in self.lines("out") if line.startswith(b"send,") and line.endswith(b"\n")]
@@ -121,6 +126,7 @@ class Machine:
             folder.has_lost = [folder.file(name).lose_end(dice) for name in ("kept", "out")][0]
             if "keys" in folder.files and folder.files["keys"].lose_end(dice):
                 self.world.lost_keys |= set(self.here)
+            folder.file("sums").lose_end(dice)
         return [folder for folder in self.folders.values() if folder.has_lost]
 
     def copied(self, name: str, is_clone: bool) -> "Machine":
@@ -200,8 +206,6 @@ class Keeper:
         del kept.data[kept.data.rfind(b"\n") + 1:]
         kept.synced = min(kept.synced, len(kept.data))
         lines = bytes(kept.data).split(b"\n")[:-1]
-        if why := self.world.rules.why_changed(self.folder.sums, lines):
-            return self._end(1, why)
         records = [record for line in lines for record in records_of(line)]
         said = [self.site.answer(record) for record in records]
         for record, its in list(zip(records, said))[self.folder.noted:]:
@@ -211,7 +215,6 @@ class Keeper:
         if not answers.startswith(bytes(out.data)):
             return self._end(1, "out differs")
         out.data[:] = answers
-        self.folder.sums = [sum_of(line) for line in lines]
         self.head = b"kept,%d" % self.site.records
         if self.is_heard:
             self.clock.soon(self._told)
@@ -237,17 +240,15 @@ class Keeper:
             # A kill may come in the middle of this write.
             cut = self.dice.randrange(len(text))
             self.kept.data += text[:cut]
-            return self.clock.soon(functools.partial(self._keep_rest, text[cut:], lines, records))
-        self._keep_rest(text, lines, records)
+            return self.clock.soon(functools.partial(self._keep_rest, text[cut:], records))
+        self._keep_rest(text, records)
 
-    def _keep_rest(self, text: bytes, lines: list[bytes], records: list[bytes]) -> None:
+    def _keep_rest(self, text: bytes, records: list[bytes]) -> None:
         if not self.is_alive:
             return
         self.kept.data += text
         if self.world.is_synced:
             self.kept.synced = len(self.kept.data)
-        if self.folder.files.get("kept") is self.kept:
-            self.folder.sums += [sum_of(line) for line in text_lines(lines)]
         self.clock.soon(functools.partial(self._answer, records))
 
     def _answer(self, records: list[bytes]) -> None:

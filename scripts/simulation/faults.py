@@ -80,6 +80,7 @@ def put_back(run: "Run", dice: random.Random) -> None:
     machine, number, older = dice.choice(backups)
     if dice.random() < 0.6:
         run.switch_off(machine)
+    run.world.note_brought_back(older)
     folder = machine.folders[number]
     if dice.random() < 0.5:
         folder.put_back(older)
@@ -109,11 +110,12 @@ def lost_file(run: "Run", dice: random.Random) -> None:
 
 
 def changed_word(run: "Run", dice: random.Random) -> None:
-    """A byte of `kept` changes while its site is stopped."""
+    """A byte of `kept` changes while its site is stopped, in a line that has its sum."""
     machine, folder = run.some_folder(dice)
     run.switch_off(machine)
     kept = folder.files.get("kept")
-    places = [at for at, byte in enumerate(kept.data) if byte in b"abcdefgu123"] if kept else []
+    size = sum(map(len, folder.lines("kept")[:folder.checked()[0]]))
+    places = [at for at, byte in enumerate(kept.data[:size]) if byte in b"abcdefgu123"] if kept else []
     if kept and places:
         at = dice.choice(places)
         kept.data[at] += 1

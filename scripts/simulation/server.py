@@ -110,9 +110,12 @@ class Server:
                     return False
                 self._write(functools.partial(self._append, site, packets, by.world.new_mark()))
                 return True
-            case Rewrite(site, packets):
+            case Rewrite(site, packets, life):
+                if life and self.lives[site] != life:
+                    return False
                 if packets:
                     self._write(functools.partial(self._rewrite, site, list(packets), by.world.new_mark()))
+                return True
             case PageOf(site, after, upto):
                 page = self._entries(site, after, upto)
                 tokens = [text for _, text in page if text.startswith(b"token,")]

@@ -1,5 +1,6 @@
 """Puts faults back, one at a time, so that it is known that they are found: each takes one rule out."""
 
+from collections.abc import Iterable
 from contextlib import ExitStack
 from typing import Any
 from unittest import mock
@@ -11,6 +12,7 @@ from shop_tool.carrier.over_server import ServerLink
 from shop_tool.carrier.records import Purpose, why_not_one_record
 from shop_tool.carrier.shop import Shop
 from shop_tool.carrier.site import Site
+from shop_tool.carrier.sums import compared
 
 from .world import Rules
 
@@ -31,6 +33,10 @@ def answered_only(keys: Keys, name: bytes, now: float) -> Key | None:
     return key if key and key.is_answered else None
 
 
+def no_line_was_changed(lines: Iterable[bytes], sums: bytes) -> tuple[int, int | None]:
+    return compared(lines, sums)[0], None
+
+
 def mark_passes(record: bytes, purpose: Purpose = Purpose.ASK) -> str | None:
     return None if record.startswith(b"\xef") else why_not_one_record(record, purpose)
 
@@ -47,7 +53,7 @@ def patches_of(rule: str) -> list[Any]:
         "5": [instead(f"{name}.why_not_one_record", lambda *_: None) for name in LOOKS],
         "6": [instead(f"{name}.why_not_one_record", mark_passes) for name in LOOKS],
         "7": [mock.patch.object(Site, "sent", sent_unguarded), mock.patch.object(Files, "why_lost", lambda *_: None)],
-        "9": [],
+        "9": [instead("shop_tool.carrier.sums.compared", no_line_was_changed)],
         "9-lives": [instead(f"shop_tool.carrier.{name}.standing", lambda *_: Standing.NEXT) for name in ("publisher", "over_files")],
         "11": [],
         "keys-read": [mock.patch.object(Keys, "read", lambda *_: None)],
@@ -67,7 +73,6 @@ def rules_without(rule: str | None) -> Rules:
         rules.swallowed_cancel_ends = False
     if rule == "11":
         rules.hands_over = False
-    rules.has_sums = rule != "9"
     return rules
 
 

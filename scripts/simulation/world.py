@@ -18,12 +18,13 @@ from shop_tool.carrier.shop import HAND_OVER_SECONDS, Shop
 from shop_tool.carrier.site import FIRST_WAIT, LAST_WAIT, Disagreement, Site, State
 from shop_tool.carrier.steps import (Append, Broken, CallAll, Connect, Flag, Hear, IsRunning, Kept, KeptOf, Read, Replay, Rewrite, Say,
                                      SayLeave, SayWant, SeeHere, SeenHere, SentHere, Signal, Statuses, Steps, Swap, UpElsewhere, Wait)
+from shop_tool.carrier.sums import LINE_BYTES, why_changed
 from shop_tool.carrier.told import unanswered
 from shop_tool.ends import Fault, Status
 from shop_tool.requests import Request, asks_of
 
 from .clock import Clock, Task
-from .disk import File, Folder, Keeper, Machine, sum_of
+from .disk import File, Folder, Keeper, Machine
 from .server import WRITES, Server
 from .stand_in import StandIn
 
@@ -39,12 +40,6 @@ class Rules:
 
     swallowed_cancel_ends = True    # a supervisor that is stopped ends, whatever a connection swallows
     hands_over = True               # a stop passes the token on first
-    has_sums = True                 # a keeper compares the lines of `kept` with their sums when it starts
-
-    def why_changed(self, sums: list[int], lines: list[bytes]) -> str | None:
-        """Why a keeper doesn't start on these lines of `kept`, whose sums were written down before."""
-        wrong = next((at for at, (sum, line) in enumerate(zip(sums, lines), 1) if self.has_sums and sum != sum_of(line)), None)
-        return f"kept was changed: line {wrong}" if wrong else None
 
 
 class World:
@@ -118,6 +113,11 @@ class World:
         return any(text in (line.rstrip(b"\n") for line in folder.lines("kept")) or text in folder.sent()
                    for machine in self.machines for folder in machine.folders.values()) or \
             any(text == its for stream in self.server.streams for _, its in stream.entries)
+
+    def note_brought_back(self, older: Folder) -> None:
+        """A folder is put back to a copy: notes whether that has packets that nothing else has any more, and that no site could see."""
+        packets = [line[:-1] for line in older.lines("kept") if line.startswith((b"msg,", b"token,"))] + older.sent()
+        self.is_unreached = self.is_unreached or not all(map(self._is_anywhere, packets))
 
     def note_unreached(self, number: int, opened: Folder, opens: StandIn) -> None:
         """A site is opened: notes whether a folder has more of it that can't be reached, or has had the token since."""
@@ -207,6 +207,21 @@ class SimulatedSite(Site):
 
     def put_keys(self, lines: bytes) -> None:
         self.folder.files["keys"] = File(self.shop.world.new_number(), lines)
+
+    def open_sums(self) -> None:
+        """As the shell's: takes in the sums of `kept`; stops the site for good if a line isn't as its sum says."""
+        self.sums.count, changed = self.folder.checked()
+        if changed:
+            return self.fence(why_changed(self.number, changed))
+        self._sums = self.folder.file("sums")
+        del self._sums.data[self.sums.count * LINE_BYTES:]
+        self._sums.synced = min(self._sums.synced, len(self._sums.data))
+
+    def write_sums(self, lines: bytes) -> None:
+        self._sums.data += lines
+
+    def write_yields(self, yields: bool) -> None:
+        self.folder.yields = yields
 
     def write_fence(self, text: str) -> None:
         self.folder.fenced = text
@@ -329,7 +344,7 @@ class Process:
         folder = self.machine.folders[keeper]
         if not folder.is_there or "kept" not in folder.files:
             return None
-        return list(packets_of(folder.lines("kept"), origin, after)), tokens_of(folder.lines("kept"))
+        return list(packets_of(folder.unchanged(), origin, after)), tokens_of(folder.unchanged())
 
     def reaches(self) -> bool:
         return self.world.server.is_up and not self.machine.is_cut_off
@@ -397,7 +412,7 @@ class Process:
                 folder = self.machine.folders.get(site) or next(iter(self.machine.folders.values()))
                 for place, _ in packets:
                     self.world.note("Appends", folder.number, site, "%d-%d" % place)
-            case Rewrite(site, packets):
+            case Rewrite(site, packets, _):
                 self.world.note("WritesAnew", self.machine.folders[site].number, *("%d-%d" % place for place, _ in packets))
 
     def call(self, request: Request, site: int, seconds: float) -> Steps[list[dict[str, Any]] | None]:
@@ -517,10 +532,11 @@ class Supervisor(Process, Shop):
         if before and (found := self.machine.memory.get(before[0])) and (found[0], found[2]) == (before[-1], folder.inode):
             answered = found[1]
         if not folder.is_there:
-            folder.is_there, folder.files, folder.lives, folder.sums = True, {}, [], []
+            folder.is_there, folder.files, folder.lives = True, {}, []
         folder.lives.append(f"{self.world.new_number():016x}")
         site.lives = list(folder.lives)
         self.world.note("Starts", folder.number, site.number)
+        site.open_sums()
         site.keys.read(folder.lines("keys"), self.unix_time())
         has_all = answered is not None and "kept" in folder.files and len(folder.files["kept"].data) >= answered
         if folder.fenced:
@@ -545,7 +561,7 @@ class Supervisor(Process, Shop):
 
     def look_at_open(self, site: Site) -> None:
         """A site is up and open for the first time only if nothing that it reaches has more of it, or another past."""
-        if site.number in self.looked_at or self.world.excused or site.fenced_by or not (site.up.is_set and site.opened.is_set):
+        if site.number in self.looked_at or self.world.excused or self.world.is_unreached or site.fenced_by or not (site.up.is_set and site.opened.is_set):
             return
         self.looked_at.add(site.number)
         self.world.note("Opens", self.machine.folders[site.number].number)
@@ -790,6 +806,5 @@ class Command(Process):
             kept.data += given.record + b"\n"
             made.noted += 1
             out.data += said
-            made.sums.append(sum_of(given.record))
         kept.synced, out.synced = len(kept.data), len(out.data)
         self.made = made

@@ -94,12 +94,13 @@ def records_in(line: bytes) -> list[tuple[bytes, int]]:
 
 
 class KeptReader:
-    """Reads the records of a file `kept`, whose next line a call gives; at the end that is empty."""
+    """Reads the records of a file `kept`, whose next line a call gives; at the end that is empty. Another one is told each line whose last
+    record was read, without its end."""
 
-    def __init__(self, next_line: Callable[[], bytes]) -> None:
-        self._next_line = next_line
+    def __init__(self, next_line: Callable[[], bytes], was_read: Callable[[bytes], None] = lambda line: None) -> None:
+        self._next_line, self._was_read = next_line, was_read
         self._records: list[tuple[bytes, int]] = []
-        self._size = 0          # of the line that they are of
+        self._line, self._size = b"", 0     # the line that they are of
         self._at = 0            # up to which byte of it records are read
 
     def next(self) -> tuple[bytes, int]:
@@ -108,10 +109,15 @@ class KeptReader:
         while not self._records:
             skipped += self._size - self._at
             line = self._next_line()
-            self._records, self._size, self._at = records_in(line.rstrip(b"\n")), len(line), 0
+            self._line, self._size, self._at = line.rstrip(b"\n"), len(line), 0
+            self._records = records_in(self._line)
             if not line:
                 return b"", skipped
+            if not self._records:
+                self._was_read(self._line)
         record, end = self._records.pop(0)
-        end = end if self._records else self._size
+        if not self._records:
+            end = self._size
+            self._was_read(self._line)
         taken, self._at = skipped + end - self._at, end
         return record, taken

@@ -5,10 +5,10 @@ from collections.abc import Sequence
 from ..ends import Fault, Status
 from .answers import Answer
 from .keys import TAKEN, Key
-from .records import RED, kind_of
+from .records import RED, Message, kind_of, packet_of
 from .site import Gone, Pending, Site, State
 from .steps import Say, Steps, Wait
-from .told import not_given, not_known, under_key
+from .told import counts_unknown, not_given, under_key
 
 WINDOW = 64         # how many records of one asker are with the site at once, where that changes no answer
 ASK_AGAIN = 1.0     # seconds
@@ -112,8 +112,19 @@ class Ask:
             site.shop.pass_on(site)
 
     def _say(self, record: bytes, answer: Answer, is_again: bool = False) -> Steps[None]:
+        if self.site.yields and answer.packet:
+            yield from self._stands(answer.packet)
         yield Say(record, answer, is_again)
         self.answered += 1
+
+    def _stands(self, text: bytes) -> Steps[None]:
+        """Returns once a packet that the site sent stands in its stream. Else it doesn't count where a standby takes the site's place."""
+        site, sends, packet = self.site, self.site.ledger.sends, packet_of(text)
+        count = sends.count_upto((packet.number, 0)) if isinstance(packet, Message) else len(sends)
+        while site.shop.link.published(site) < count:
+            if site.fenced_by or not (yield Wait(site.shop.progress, self.left)):
+                why = site.fenced_by or f"it has a standby, and its message isn't published within {self.seconds:g} s ({site.shop.link.state})"
+                raise Fault(Status.AWAY, f"site {site.number}: {why}; {counts_unknown(site.number)}")
 
     def _asked(self, window: list[bytes]) -> Steps[list[Pending]]:
         """Gives these records and waits for their answers, which come in their order."""
@@ -133,7 +144,7 @@ class Ask:
     def _no_answer(self, given: Pending | None) -> Fault:
         site = self.site
         why = f" ({site.fault[1]})" if site.state != State.UP and site.fault else ""
-        what = not_known(site.number, given.behind) if given else self._not_given()
+        what = site.not_known(given.behind) if given else self._not_given()
         return Fault(Status.AWAY, f"site {site.number} is {site.state}{why}: no answer within {self.seconds:g} s; {what}")
 
     def _not_given(self) -> str:

@@ -19,6 +19,12 @@ def must_compare_all(standing: Standing, is_alone: bool) -> bool:
     return standing is Standing.AHEAD or is_alone
 
 
+def must_hear_all(is_forgotten: bool, was_here: bool, has_all: bool, is_alone: bool) -> bool:
+    """Whether each site elsewhere has to say first what it has of a site of which the server knows nothing. If the site was here before, the
+    server has lost what it knew, and what the folder lacks may be anywhere."""
+    return is_forgotten and was_here and not has_all and not is_alone
+
+
 def why_behind(site: int, own: int, has: Mapping[int, int]) -> str | None:
     """Why a site can't go on whose folder has so many messages of its own: another site has more of them."""
     if not has:

@@ -11,6 +11,7 @@ from .publisher import COMPARE_SECONDS, Publisher
 from .reader import Reader
 from .shop import Link, Shop
 from .site import Site
+from .standby import Standby
 from .steps import Append, Broken, Connect, Hear, KeptOf, Mark, State, Statuses, Steps, StreamState, Tell, Wait
 from .told import Once, is_called
 
@@ -50,9 +51,12 @@ class ServerLink(Link):
         """What the link does, each over a connection of its own."""
         works: dict[str, Callable[[], Steps[None]]] = {"tell": self._tell, "hear": self._hear}
         for site in self.shop.sites.values():
-            publisher = Publisher(self, site)
-            works |= {publisher.name: publisher.run, f"read {site.number}": Reader(self, site).run}
-        return works
+            works |= self.works_of_site(site)
+        return works | {standby.name: standby.run for standby in (Standby(self, number) for number in self.shop.standby)}
+
+    def works_of_site(self, site: Site) -> dict[str, Callable[[], Steps[None]]]:
+        publisher, reader = Publisher(self, site), Reader(self, site)
+        return {publisher.name: publisher.run, reader.name: reader.run}
 
     def forever(self, name: str, work: Callable[[], Steps[None]]) -> Steps[None]:
         """Works over a connection, which is made again whenever it fails. Returns when the work is over, or the link is."""
@@ -107,13 +111,15 @@ class ServerLink(Link):
 
     def own_sites(self) -> list[Site]:
         """The sites that are this folder's: how another one is may another supervisor tell."""
-        return [site for site in self.shop.sites.values() if site.compared.is_set and not site.fenced_by]
+        return [site for site in self.shop.sites.values() if (site.compared.is_set or site.silent) and not site.fenced_by]
 
     def is_published(self) -> bool:
         return all(site.fenced_by or self.published(site) >= len(site.ledger.sends) for site in self.shop.sites.values())
 
     def _append_for(self, origin: int) -> Steps[None]:
         """Where the server has lost messages of a site that isn't running, a site here that has them appends them."""
+        if not self.shop.sites:
+            return
         site = max(self.shop.sites.values(), key=lambda site: site.ledger.have[origin].upto)
         if site.ledger.have[origin].upto <= self.tops[origin] or origin in (yield Statuses()):
             return

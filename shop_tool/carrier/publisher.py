@@ -5,10 +5,11 @@ from typing import TYPE_CHECKING
 
 from .ledger import NOWHERE, Place
 from .lives import Standing, life_text, standing, takes_place, why_other
-from .opening import must_compare_all, runs_elsewhere, strange_packet
+from .opening import must_compare_all, must_hear_all, runs_elsewhere, strange_packet
 from .over_files import BATCH
 from .site import Site
-from .steps import Adopt, Append, Entries, Owner, Packets, Page, PageOf, Rewrite, SeeLife, State, Statuses, Steps, StreamState, Wait
+from .steps import (Adopt, Append, Entries, Owner, Packets, Page, PageOf, Rewrite, SayYields, SeeHere, SeeLife, SeenHere, State, Statuses, Steps,
+                    StreamState, Wait)
 
 if TYPE_CHECKING:
     from .over_server import ServerLink
@@ -31,6 +32,7 @@ class Publisher:
     def __init__(self, link: "ServerLink", site: Site) -> None:
         self.link, self.site = link, site
         self.name = f"publish {site.number}"
+        self.told: int | None = None        # how many packets it had sent when it began to tell ok only of those in the stream
 
     def run(self) -> Steps[None]:
         yield Wait(self.site.known)
@@ -66,24 +68,78 @@ class Publisher:
         site, sends = self.site, self.site.ledger.sends
         while True:
             state: StreamState = yield State(site.number)
-            if why := self._why_other_stream(state) or (yield from self._why_other_site(state)):
-                raise Fenced(why)
-            if not site.compared.is_set and (yield from self._waited_for_another()):
+            if not (yield from self._has_site(state)):
+                continue
+            if not site.compared.is_set and ((yield from self._waited_for_others()) or (yield from self._waited_for_another())):
                 continue
             if state.life == life_text(site.lives) or (yield from self._is_seen(state)):
                 break
+        if state.standby:
+            self._yield()
         at, last = sends.count_upto(state.last), state.last
         if (state.entries, state.last) != (at, state.greatest):
             site.shop.event(f"site {site.number}: its stream lacks packets between others; all of it is published again")
             at, last = len(sends), sends.last
-            yield Rewrite(site.number, sends.read(0, at))
+            if not (yield Rewrite(site.number, sends.read(0, at), life_text(site.lives))):
+                return (yield from self._compare())
+            state = state._replace(yields="")
         if at < self.link.counts.get(site.number, 0):
             lost = self.link.counts[site.number] - at
             site.shop.event(f"site {site.number}: the server lost {lost} of its packets, which are published again")
         self.link.counts[site.number] = at
         self.link.works(self.name)
+        if not site.compared.is_set:
+            yield from self._see_here()
         site.shop.open(site)
+        if self.told is not None or site.yields:
+            yield from self._say_yields(state, at)
         return last
+
+    def _has_site(self, state: StreamState) -> Steps[bool]:
+        """Has the site given to its folder, unless that can't be the one that the others know; False if another one has taken it meanwhile."""
+        site = self.site
+        owner: str = yield Owner(site.number)
+        (its, _, where), (own, here) = owner.partition(" "), self.link.named(site).split(" ", 2)[1:]
+        if its in ("", own) or takes_place(site.lives, state.life):
+            where = ""              # no other folder has it
+        why = self._why_other_stream(state)
+        if where and (where != here or not why):
+            raise Elsewhere(f"{where} has it (shop adopt {site.number}, if that is gone for good)")
+        if not why and not site.compared.is_set:
+            why = yield from self._why_behind(state)
+        if why:
+            raise Fenced(why)
+        if its == own:
+            return True
+        is_taken: bool = yield Adopt(site.number, owner, False)
+        return is_taken
+
+    def _yield(self) -> None:
+        """The site has a standby: from now on it tells ok only once a message stands in its stream, also where it is started again."""
+        if not self.site.yields:
+            self._set_yields(True)
+        if self.site.yields and self.told is None:
+            self.told = len(self.site.ledger.sends)
+
+    def _set_yields(self, yields: bool) -> None:
+        site = self.site
+        try:
+            site.write_yields(yields)
+        except OSError as fault:
+            return site.shop.event(f"site {site.number}: it can't be written whether it has a standby ({fault.strerror})")
+        site.yields = yields
+        site.shop.event(f"site {site.number}: it has {'a standby' if yields else 'no standby any more'}")
+
+    def _say_yields(self, state: StreamState, published: int) -> Steps[None]:
+        """Says that its life yields to the standby, once all that it told before stands in the stream; or, where there is no standby any more,
+        that none does, and tells ok at once again when that is known."""
+        site, life = self.site, life_text(self.site.lives)
+        if state.standby:
+            if self.told is not None and state.yields != life and published >= self.told:
+                yield SayYields(site.number, state.yields, life)
+        elif (yield SayYields(site.number, state.yields, "")):
+            self._set_yields(False)
+            self.told = None
 
     def _waited_for_another(self) -> Steps[bool]:
         """Whether it was said that another supervisor runs the site, and isn't any more. What one said that was killed stays for some
@@ -111,19 +167,31 @@ class Publisher:
         return (f"{self.link.over} has another packet %d-%d of it: two processes were this site " % place
                 + f"(shop rebuild {self.site.number})")
 
-    def _why_other_site(self, state: StreamState) -> Steps[str | None]:
-        """Why its folder can't be the one that the others know: another one owns the site, or another site has more of it."""
-        site = self.site
-        while (owner := (yield Owner(site.number))).split(" ")[0] != self.link.named(site).split(" ")[1]:
-            if owner and not takes_place(site.lives, state.life):
-                raise Elsewhere(f"{owner.partition(' ')[2]} has it (shop adopt {site.number}, if that is gone for good)")
-            yield Adopt(site.number, owner, False)      # nobody has it, or the server had lost who
-        if site.compared.is_set:
-            return None
-        statuses = {other: status for other, status in (yield Statuses()).items() if other not in site.shop.sites}
+    def _why_behind(self, state: StreamState) -> Steps[str | None]:
+        """Why its folder can't be the one that the other sites know: one of them has more of it. Notes which of them have to say first what
+        they have."""
+        site, shop = self.site, self.site.shop
+        statuses = {other: status for other, status in (yield Statuses()).items() if other not in shop.sites}
+        is_forgotten = (state.greatest, state.life) == (NOWHERE, "")
+        must_hear = must_hear_all(is_forgotten, bool((yield SeenHere(site.number))), site.answered is not None, shop.is_alone)
+        site.silent = [other for other in range(shop.count) if other not in shop.sites and other not in statuses] if must_hear else []
         has = {other: status["has"].get(str(site.number), 0) for other, status in statuses.items()}
         turns = {other: status["turn"] for other, status in statuses.items()}
-        return (yield from site.shop.why_behind(site, has, turns))
+        return (yield from shop.why_behind(site, has, turns))
+
+    def _waited_for_others(self) -> Steps[bool]:
+        """Whether a site elsewhere had to say first what it has. Until then this one says what it has itself, since they may wait for it."""
+        if self.site.silent:
+            self.site.shop.changes.tell()
+            yield Wait(None, LOOK_SECONDS)
+        return bool(self.site.silent)
+
+    def _see_here(self) -> Steps[None]:
+        """Notes beside the folder that its site was here."""
+        try:
+            yield SeeHere(self.site.number, life_text(self.site.lives))
+        except OSError as fault:
+            self.site.shop.event(f"lives: {fault.strerror}; if the folder and all on the server are lost, site {self.site.number} looks new")
 
     def _is_seen(self, state: StreamState) -> Steps[bool]:
         """Compares as much of its stream as the life asks for that was seen last, and has its own seen. False if another one was

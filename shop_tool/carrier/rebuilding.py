@@ -14,7 +14,7 @@ from .ledger import NOWHERE
 from .lives import count_of
 from .records import Message, Token, ask_of, bytes_of, packet_of
 from .steps import (Adopt, CallAll, Entries, Kept, KeptOf, Owner, Packets, Replay, Rewrite, SeenHere, SentHere, State, Statuses, Steps, StreamState,
-                    Swap, TakePlace, Wait)
+                    Swap, TakeOver, TakePlace, Wait)
 
 STATUS_SECONDS = 3.5    # a status that isn't written again for so long expires
 CALL_SECONDS = 30.0
@@ -52,16 +52,33 @@ class Rebuild:
 
     def over_server(self) -> Steps[int]:
         """From the streams, with what its old folder and the other sites have beyond them."""
-        past = yield from self._past_on_server()
+        past, was = yield from self._past_on_server()
+        state: StreamState = yield State(self.site)
+        if past.packets() != was or state.last != state.greatest:
+            yield Rewrite(self.site, past.packets(), "")
         yield Replay(self.site, list(past.steps()))
         yield from statuses_without(self.site)
-        state: StreamState = yield State(self.site)
+        state = yield State(self.site)
         if not (yield Adopt(self.site, (yield Owner(self.site)), True)):
             raise Fault(Status.REFUSED, f"another folder has taken site {self.site}: {UNCHANGED}")
         yield Swap(self.site, count_of(state.life))
         return len(past.packets())
 
-    def _past_on_server(self) -> Steps["Past"]:
+    def for_standby(self) -> Steps[bool]:
+        """The same for a site that yields to a standby, which has all that counts in its stream; whether a folder here took its place."""
+        state: StreamState = yield State(self.site)
+        if state.yields != state.life or not state.life:
+            raise Fault(Status.REFUSED, "it hasn't said that it yields to a standby")
+        past, was = yield from self._past_on_server()
+        last = was[-1][0] if was else NOWHERE
+        if past.packets() != was or last != state.greatest:
+            raise Fault(Status.REFUSED, f"its stream lacks what others have of it (shop rebuild {self.site})")
+        yield Replay(self.site, list(past.steps()))
+        took_over: bool = yield TakeOver(self.site, state.life, last)
+        return took_over
+
+    def _past_on_server(self) -> Steps[tuple["Past", Packets]]:
+        """What is known of its past, and the packets in its stream."""
         statuses = yield from statuses_without(self.site)
         streams: list[Packets] = []
         for other in range(self.count):
@@ -76,10 +93,7 @@ class Rebuild:
         self._refuse_silent(silent, "isn't running")
         yield from self._add_kept(past, self.site)      # the tokens that came to it
         past.add_passed()
-        state: StreamState = yield State(self.site)
-        if past.packets() != was or state.last != state.greatest:
-            yield Rewrite(self.site, past.packets())
-        return past
+        return past, was
 
     def _add_kept(self, past: "Past", other: int) -> Steps[bool]:
         """Adds what another site of this machine has; False if it has no folder."""

@@ -8,7 +8,7 @@ from ..ends import Fault, Status
 from .ledger import Prefix
 from .opening import may_open_unseen, why_behind, why_passed_on
 from .records import Message, Purpose, Token, packet_of, why_not_one_record
-from .site import Pending, Site
+from .site import Pending, Site, State
 from .steps import CallAll, Flag, IsRunning, KeptOf, SayLeave, SayWant, Signal, Steps, UpElsewhere, Wait
 from .turns import SAY_AGAIN, Wants, taker
 
@@ -44,6 +44,8 @@ class Shop(abc.ABC):
     def __init__(self, count: int, is_alone: bool) -> None:
         self.count = count                          # how many sites the shop has, here and elsewhere
         self.is_alone = is_alone
+        self.standby: tuple[int, ...] = ()          # the sites elsewhere whose place it takes once they have been gone for some time
+        self.after = 0.0                            # how long, in seconds
         self.wants = Wants()
         self.news = Signal()                        # a site has sent something, or came up
         self.progress = Signal()                    # that, or a site took something in, or something was published
@@ -83,6 +85,9 @@ class Shop(abc.ABC):
     @abc.abstractmethod
     def witness_of(self, site: Site, answered: int) -> Callable[[int], None]:
         """What is told from now on how many bytes of a site's `kept` are answered, after so many."""
+
+    def took_over(self, site: int) -> None:
+        """A folder here has taken the place of a site elsewhere, which runs here from now on."""
 
     def is_followed(self, site: int) -> bool:
         """Whether somebody reads a site's records and answers along."""
@@ -175,7 +180,8 @@ class Shop(abc.ABC):
     def status_of(self, site: Site) -> dict[str, Any]:
         """How a site is, as the others need to know it."""
         ledger = site.ledger
-        return {"site": site.number, "state": site.state, "own": ledger.sends.messages, "turn": ledger.turn,
+        state = State.WAITING if site.state is State.UP and site.silent and not site.opened.is_set else site.state
+        return {"site": site.number, "state": state, "own": ledger.sends.messages, "turn": ledger.turn,
                 "has": {str(origin): have.upto for origin, have in enumerate(ledger.have) if origin != site.number},
                 "holds_token": ledger.holds_token and site.known.is_set}
 

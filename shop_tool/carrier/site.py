@@ -15,7 +15,8 @@ from .keys import Key, Keys
 from .ledger import Ledger, ReadOut
 from .records import Purpose, Token, text_of, why_not_one_record
 from .steps import Flag, Signal, Steps, Wait
-from .told import not_given, not_known
+from .sums import Sums
+from .told import counts_unknown, not_given, not_known
 from .turns import Hold
 
 if TYPE_CHECKING:
@@ -29,6 +30,7 @@ READ_AGAIN = 1.0                    # seconds until packets that couldn't be rea
 class State(enum.StrEnum):
     STARTING = "starting"
     UP = "up"
+    WAITING = "waiting"     # it is up, and takes no asks until others have said what they have of it
     DOWN = "down"           # it ended, and is started again
     FENCED = "fenced"       # it would give numbers a second time, so it isn't started
     ENDED = "ended"
@@ -76,7 +78,7 @@ class Site(abc.ABC):
     def __init__(self, shop: "Shop", number: int, read_out: ReadOut, look: Look) -> None:
         self.shop, self.number = shop, number
         self.ledger = Ledger(number, shop.count, read_out)
-        self.keys, self.read_out = Keys(), read_out
+        self.keys, self.read_out, self.sums = Keys(), read_out, Sums()
         self.files = Files(number, look)
         self.state = State.STARTING
         self.starts = 0
@@ -92,7 +94,9 @@ class Site(abc.ABC):
         self.known = Flag()                         # what it kept before this supervisor has been read
         self.opened = Flag()                        # asks and packets may be given to it
         self.compared = Flag()                      # it has been compared with what the others have of it
+        self.silent: list[int] = []                 # sites that have to say first what they have of it
         self.tried = Flag()                         # its first start has succeeded or failed
+        self.yields = False                         # a standby may take its place, so ok is told only once a message stands in its stream
         self.hold = Hold()
         self.is_passing = False
         self.gives_soon = False
@@ -117,8 +121,16 @@ class Site(abc.ABC):
         """Puts these lines in the place of all lines of keys."""
 
     @abc.abstractmethod
+    def write_sums(self, lines: bytes) -> None:
+        """Writes these lines behind the sums of `kept`, or an OSError."""
+
+    @abc.abstractmethod
     def write_fence(self, text: str) -> None:
         """Writes into its folder why it is stopped."""
+
+    @abc.abstractmethod
+    def write_yields(self, yields: bool) -> None:
+        """Writes into its folder whether it yields to a standby, or an OSError."""
 
     @abc.abstractmethod
     def kill(self) -> None:
@@ -143,7 +155,7 @@ class Site(abc.ABC):
         answered there."""
         given: Iterator[Pending] = iter([pending for pending in self.line if pending.is_given and not pending.is_question])
         self.reader = AnswerReader()
-        records = KeptReader(next_line)
+        records = KeptReader(next_line, self.sums.add)
         while data := next_piece():
             for answer in self.reader.feed(data):
                 record, size = records.next()
@@ -153,6 +165,7 @@ class Site(abc.ABC):
                 self._note(record, answer, size)
                 if pending:
                     self._answer(pending, answer)
+            self._write_sums()
             yield Wait(None, 0)
         if self.ledger.records != count:
             raise ValueError(f"{count} records are kept, and {self.ledger.records} are answered")
@@ -187,10 +200,20 @@ class Site(abc.ABC):
             pending = self.line.popleft()
             if not pending.is_question:
                 self._note(pending.record, answer)
+                self.sums.add(pending.record)
             self._answer(pending, answer)
+        self._write_sums()
         self.silent_since = self.shop.now() if self.line and self.line[0].is_given else None
         self.shop.pass_on(self)
         return True
+
+    def _write_sums(self) -> None:
+        if lines := self.sums.take():
+            try:
+                self.write_sums(lines)
+            except OSError as fault:
+                self.sums.is_behind = True
+                self.shop.event(f"site {self.number}: its sums can't be written ({fault.strerror}); the next start writes them")
 
     def note_fault(self, text: str) -> None:
         self.faults += 1
@@ -244,7 +267,11 @@ class Site(abc.ABC):
     def gone(self, pending: Pending | None = None) -> Gone:
         """That no answer comes to a record, or to one that it isn't given, since the site has ended."""
         why = f"site {self.number}: {self.fenced_by or 'the shop is being stopped'}"
-        return Gone(why, not_known(self.number, pending.behind) if pending and pending.is_given and not pending.is_question else None)
+        return Gone(why, self.not_known(pending.behind) if pending and pending.is_given and not pending.is_question else None)
+
+    def not_known(self, records: int) -> str:
+        """What is said of a record that it was given when it had answered so many, and hasn't answered."""
+        return counts_unknown(self.number) if self.yields else not_known(self.number, records)
 
     # Records.
 

@@ -54,6 +54,8 @@ class StreamState(NamedTuple):
     packet: bytes
     greatest: Place
     life: str
+    standby: str = ""       # who stands by for its site
+    yields: str = ""        # the life of its site that said last that it yields to a standby
 
 
 class Page(NamedTuple):
@@ -70,7 +72,6 @@ class Wait(NamedTuple):
 
     signal: Signal | None
     seconds: float | None = None
-
 
 
 class Say(NamedTuple):
@@ -145,8 +146,19 @@ SeeLife = NamedTuple("SeeLife", [("site", int), ("before", str), ("life", str), 
 # Appends packets behind the entry `last`; False if that isn't the last one, or the life that was seen last isn't this one, if one is named.
 Append = NamedTuple("Append", [("site", int), ("last", Place), ("packets", Packets), ("life", str)])
 
-# Puts a stream with these packets in place of the site's stream, at once.
-Rewrite = NamedTuple("Rewrite", [("site", int), ("packets", Packets)])
+# Puts a stream with these packets in place of the site's stream, at once; False if the life that was seen last isn't this one, if one is
+# named. Whoever said that it yields to a standby has to say so again.
+Rewrite = NamedTuple("Rewrite", [("site", int), ("packets", Packets), ("life", str)])
+
+# Says that this supervisor stands by for a site.
+StandBy = NamedTuple("StandBy", [("site", int)])
+
+# Says which life of a site yields to a standby, or with none that none does; False if it isn't `before` any more that was said last.
+SayYields = NamedTuple("SayYields", [("site", int), ("before", str), ("life", str)])
+
+# Has the fresh folder beside a site's folder here take the place of a site that runs nowhere; False if its stream has another last entry,
+# or the life that was seen last isn't this one, or doesn't yield.
+TakeOver = NamedTuple("TakeOver", [("site", int), ("life", str), ("last", Place)])
 
 
 class PageOf(NamedTuple):

@@ -20,6 +20,11 @@ def not_known(site: int, records: int) -> str:
         "or it never will be"
 
 
+def counts_unknown(site: int) -> str:
+    """Of a record that a site with a standby was given: if the standby takes its place, only what stands in its stream counts."""
+    return f"whether it was accepted isn't known (shop log {site})"
+
+
 def under_key(answered: int) -> str:
     """Of records that no site was given by this request, of which `answered` were answered before: an earlier one has asked the first of them
     under its key, or another one does now."""

@@ -18,7 +18,9 @@ class Known(Site):
         self.lives = ["a"]
         self.written: str | None = None     # why it is stopped for good, as its folder says
         self.given = b""                    # what its keeper was given
-        self.key_lines, self.is_full = b"", False       # the file of keys; and whether the disk has no room
+        self.key_lines, self.sum_lines = b"", b""       # the files of keys and of sums
+        self.is_full = False                # whether the disk has no room
+        self.is_written_as_yielding = False
         self.known.set()
 
     def start(self) -> None:
@@ -40,6 +42,16 @@ class Known(Site):
     def put_keys(self, lines: bytes) -> None:
         self.key_lines = lines
 
+    def write_sums(self, lines: bytes) -> None:
+        if self.is_full:
+            raise OSError(errno.ENOSPC, "No space left on device")
+        self.sum_lines += lines
+
+    def write_yields(self, yields: bool) -> None:
+        if self.is_full:
+            raise OSError(errno.ENOSPC, "No space left on device")
+        self.is_written_as_yielding = yields
+
     def write_fence(self, text: str) -> None:
         self.written = text
 
@@ -49,6 +61,7 @@ class Supervisor(Shop):
         super().__init__(2, is_alone)
         self.time, self.begun = 0.0, list[Steps[None]]()
         self.events: list[str] = []
+        self.taken: list[int] = []
         self.sites: dict[int, Known] = {number: Known(self, number) for number in range(sites)}
         self.link = link(self)
 
@@ -72,6 +85,9 @@ class Supervisor(Shop):
 
     def begin(self, steps: Steps[None]) -> None:
         self.begun.append(steps)
+
+    def took_over(self, site: int) -> None:
+        self.taken.append(site)
 
     def witness_of(self, site: Site, answered: int) -> Callable[[int], None]:
         return lambda upto: None

@@ -5,8 +5,8 @@ from typing import Any
 
 from shop_tool.carrier.over_files import FileLink
 from shop_tool.carrier.publisher import Publisher
-from shop_tool.carrier.site import Site
-from shop_tool.carrier.steps import Owner, Page, PageOf, SeeLife, State, Statuses, StreamState
+from shop_tool.carrier.site import Site, State as SiteState
+from shop_tool.carrier.steps import Owner, Page, PageOf, SeeHere, SeeLife, SeenHere, State, Statuses, StreamState
 from shop_tool.tests.shops import Known, OverServer, Supervisor, done
 
 
@@ -36,8 +36,9 @@ class Opening(unittest.TestCase):
         self.assertTrue(shop.sites[0].opened.is_set)
 
     def answers(self, **changed: Any) -> dict[type, Any]:
-        state = StreamState(0, (0, 0), b"", (0, 0), "")._replace(**{key: value for key, value in changed.items() if key != "statuses"})
-        return {State: state, PageOf: Page(0, (0, 0), b"", []), Owner: "me:1 here:0", Statuses: changed.get("statuses", {}), SeeLife: True}
+        state = StreamState(0, (0, 0), b"", (0, 0), "")._replace(**{key: value for key, value in changed.items() if key not in ("statuses", "here")})
+        return {State: state, PageOf: Page(0, (0, 0), b"", []), Owner: "me:1 here:0", Statuses: changed.get("statuses", {}), SeeLife: True,
+                SeenHere: changed.get("here"), SeeHere: None}
 
     def published(self, answers: dict[type, Any]) -> Site:
         shop = Supervisor(OverServer, 1)
@@ -68,3 +69,23 @@ class Opening(unittest.TestCase):
     def test_the_token_of_a_later_turn_is_elsewhere(self) -> None:
         site = self.published(self.answers(statuses={1: {"has": {"0": 0}, "turn": 2}}))
         self.assertEqual(site.fenced_by, "site 1 has had the token of turn 2, and its folder holds that of turn 0 (shop rebuild 0)")
+
+    def test_one_that_was_here_waits_for_the_others_where_the_server_knows_nothing(self) -> None:
+        """Its folder may be lost, and the server may have lost all: then it looks new."""
+        site = self.published(self.answers(here="1 b"))
+        self.assertFalse(site.opened.is_set or site.fenced_by)
+        self.assertEqual(site.silent, [1])
+        others: list[dict[str, Any]] = [{"statuses": {1: {"has": {"0": 0}, "turn": 0}}}, {"life": "1 a"}, {"here": None}]
+        for known in others:
+            site = self.published(self.answers(**({"here": "1 b"} | known)))
+            self.assertTrue(site.opened.is_set)
+        site = self.published(self.answers(here="1 b", statuses={1: {"has": {"0": 3}, "turn": 0}}))
+        self.assertEqual(site.fenced_by, "site 1 has 3 messages of it, and its folder has 0 (shop rebuild 0)")
+
+    def test_what_it_waits_for_others_are_told_too(self) -> None:
+        """Two machines of which each lost all that its memory had would wait for each other."""
+        site = self.published(self.answers(here="1 b"))
+        assert isinstance(site.shop.link, OverServer)
+        site.state = SiteState.UP
+        self.assertEqual(site.shop.link.own_sites(), [site])
+        self.assertEqual(site.shop.status_of(site)["state"], "waiting")
