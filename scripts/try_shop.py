@@ -797,6 +797,28 @@ def test_lost_over_files(at: Folder) -> None:
     at.shop("audit")
 
 
+def test_another_number_of_sites(at: Folder) -> None:
+    """A machine that joins with another number of sites is refused, and leaves nothing behind, also where the server comes later, or lost
+    all meanwhile."""
+    server = Server(at)
+    at.run(f"./shop start a --sites 3 --here 0,1 --over {server.over}")
+    said = f"redis://127.0.0.1:{server.port}/auction is a shop with --sites 3, and "
+    for command in ("start", "run"):
+        at.run(f"./shop {command} b --sites 4 --here 3 --over {server.over}", 2, f"{said}b would have --sites 4")
+        expect(not (at.path / "b").exists(), "nothing is left")
+    server.say("flushall")
+    at.wait("what is told again", lambda: server.say("get auction:sites") == "3\n")
+    server.kill()
+    at.run(f"./shop start b --sites 2 --here 1 --over {server.over}", 3, "takes no asks until it is known what the others have of it")
+    server.start()
+    at.wait("that it is stopped", lambda: at.site(1, "b")["state"] == "fenced")
+    expect(at.site(1, "b")["fault"].endswith(f"{said}this folder has --sites 2"), f"what is said: {at.site(1, 'b')}")
+    at.run("./shop stop b; rm -r b")
+    at.run(f"./shop start b --sites 3 --here 2 --over {server.over}")
+    at.shop("ask 0 user,ann", folder="a")
+    at.shop("wait 2", folder="b")
+
+
 def test_others_append(at: Folder) -> None:
     """Where the server has lost messages of a site that isn't running, another site appends them."""
     server = Server(at).start_shop()

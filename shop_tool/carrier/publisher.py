@@ -5,10 +5,11 @@ from typing import TYPE_CHECKING
 
 from .ledger import NOWHERE, Place
 from .lives import Standing, life_text, standing, takes_place, why_other
-from .opening import must_compare_all, runs_elsewhere, strange_packet
+from .opening import must_compare_all, runs_elsewhere, strange_packet, why_other_count
 from .over_files import BATCH
 from .site import Site
-from .steps import Adopt, Append, Entries, Owner, Packets, Page, PageOf, Rewrite, SeeLife, State, Statuses, Steps, StreamState, Wait
+from .steps import (Adopt, Append, Entries, Owner, Packets, Page, PageOf, Rewrite, SeeLife, Sites, State, Statuses, Steps, StreamState,
+                    Wait)
 
 if TYPE_CHECKING:
     from .over_server import ServerLink
@@ -64,6 +65,8 @@ class Publisher:
     def _compare(self) -> Steps[Place]:
         """Compares the site with its stream; its last place there. A server that has lost its end is given it again."""
         site, sends = self.site, self.site.ledger.sends
+        if not site.compared.is_set and (why := why_other_count(self.link.over, (yield Sites(site.shop.count)), site.shop.count)):
+            raise Elsewhere(why)
         while True:
             state: StreamState = yield State(site.number)
             if why := self._why_other_stream(state) or (yield from self._why_other_site(state)):
