@@ -1484,6 +1484,32 @@ def test_shorten(at: Folder) -> None:
     stands_where_it_stood(at, "short", rows)
 
 
+def processor_seconds(process: int) -> float:
+    """How much processor time a process has taken, without its children."""
+    fields = pathlib.Path(f"/proc/{process}/stat").read_text().rpartition(")")[2].split()
+    return (int(fields[11]) + int(fields[12])) / os.sysconf("SC_CLK_TCK")
+
+
+def test_start_of_many_records(at: Folder) -> None:
+    """A start over 105,000 records, half of them a site's own asks and half messages of another one, takes the supervisor at most 1.5 s of
+    processor time; the least of three counts, since what else runs makes one take longer."""
+    def keep(site: int, records: list[str]) -> list[str]:
+        """The messages that a site sends of these asks."""
+        (at.path / "records").write_text("".join(f"{record}\n" for record in records))
+        at.run(f"./rubis keep auction/{site} --site {site} --sites 2 < records > said")
+        return [line[5:] for line in sends(at, f"auction/{site}")]
+    own = keep(0, [*SALE.split(), *(f"restock,0.3,0.1,{number % 9 + 1}" for number in range(52_497))])
+    others = keep(1, [*own[:3], *(f"comment,0.3,0.2,0.1,{number % 5},good" for number in range(52_500))])
+    keep(0, others)
+    taken = []
+    for options in ("--sites 2", "", ""):
+        at.run(f"./shop start auction --here 0,1 {options}")
+        taken.append(processor_seconds(at.status()["pid"]))
+        expect(at.site(0)["records"] == 105_000, f"what it has read: {at.site(0)}")
+        at.run("./shop stop auction")
+    expect(min(taken) <= 1.5, f"three starts took {taken} s of processor time")
+
+
 def test_full(at: Folder) -> None:
     """A site that is full goes on with a greater --keep, once its recording is shortened; in whichever order that is done."""
     at.run("./shop start auction --keep 3")
