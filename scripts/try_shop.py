@@ -9,6 +9,7 @@ import itertools
 import json
 import os
 import pathlib
+import re
 import shutil
 import signal
 import socket
@@ -190,6 +191,49 @@ def test_refused_settings(at: Folder) -> None:
     at.run("./shop start auction --sites 2 --shards 9")
     expect(at.shop("ask 0 user,bob") == "ok,0.2\n", "it goes on")
     expect('"shards": 9' in at.text("auction/shop.json"), "the settings that were taken")
+
+
+def test_asks_that_are_quick(at: Folder) -> None:
+    """An ask by the quick way, which loads little, writes and says what it does by the long one, whatever comes of it."""
+    at.run("./shop start auction --sites 2")
+    at.shop(f"ask 0 {SALE}")
+    for words in ("0 bid,0.3,0.2,500 bid,0.3,0.2,500", "0 bid,0.3,0.2,5", "0 bid,0.3,0.2,600 bid,0.3,0.2,5 bid,0.3,0.2,600", "0 restock,0.3,0.1,1 list,users restock,0.3,0.1,1",
+                  "0 'user,\"'", "0 ''", "0 \"$(printf 'user,\\351\\377')\"", "5 user,eve", "1 bid,0.3,0.2,900 --no-wait", "0 restock,0.3,0.1,1 --key one",
+                  "0 restock,0.3,0.1,1 --key ''", "0 pass,9 pass,0", "0 bid,0.3,0.2,600 --timeout 0.4"):
+        said = []
+        for way in ("", "--time 10 " if "--timeout" not in words else "--raw "):
+            at.run(f"./shop -C auction ask {way}{words} > told 2> faults; echo $? >> told")
+            said.append((at.path / "told").read_bytes() + (at.path / "faults").read_bytes())
+        numbers = re.compile(rb"0\.\d+|reply,\d+,|send,.*\n")
+        expect(numbers.sub(b"", said[0]) == numbers.sub(b"", said[1]), f"ask {words}: {said}")
+    at.run("./shop -C auction ask 0 bid,0.3,0.2,5 > /dev/full", 3, "No space left on device")
+    supervisor = at.status()["pid"]
+    os.kill(supervisor, signal.SIGSTOP)
+    at.shop("ask 0 bid,0.3,0.2,700 --timeout 0.2", 3, "gave no answer within 0.2 s; whether it was accepted isn't known (shop log 0)")
+    os.kill(supervisor, signal.SIGCONT)
+
+
+def processor_ms(command: list[str], environment: dict[str, str]) -> float:
+    """The processor time of a command and of all that it waits for, in milliseconds."""
+    made = subprocess.Popen(command, stdout=subprocess.DEVNULL, env=environment)
+    _, status, used = os.wait4(made.pid, 0)
+    made.returncode = os.waitstatus_to_exitcode(status)
+    expect(made.returncode == 0, f"{command} ended with status {made.returncode}")
+    return 1000 * float(used.ru_utime + used.ru_stime)
+
+
+def test_time_of_an_ask(at: Folder) -> None:
+    """`shop ask` as a command takes at most twice the processor time of a Python that does nothing; the least of thirty of each, one after
+    the other, so that what else runs meets both."""
+    at.run("./shop start auction")
+    at.shop(f"ask 0 {SALE}")
+    commands = {"nothing": [PYTHON, "-I", "-S", "-c", "pass"], "ask": [str(at.path / "shop"), "-C", str(at.path / "auction"), "ask", "0", "bid,0.3,0.2,500"]}
+    taken: dict[str, list[float]] = {name: [] for name in commands}
+    for _ in range(30):
+        for name, command in commands.items():
+            taken[name].append(processor_ms(command, dict(os.environ)))
+    nothing, ask = (min(taken[name]) for name in commands)
+    expect(ask <= 2.0 * nothing, f"an ask takes {ask:.1f} ms where nothing takes {nothing:.1f}")
 
 
 def test_records_on_standard_input(at: Folder) -> None:
@@ -1717,13 +1761,14 @@ def test_help(at: Folder) -> None:
 
 
 def test_units(at: Folder) -> None:
-    """The unit tests of shop_tool."""
+    """The unit tests of shop_tool and shop_ask."""
     expect_units(PYTHON, "shop_tool")
+    expect_units(PYTHON, "shop_ask")
 
 
 def test_types(at: Folder) -> None:
     """The types of shop_tool, as mypy checks them."""
-    expect_types(at.path / "cache", "shop_tool", *map(str, TOP.glob("scripts/*shop*.py")))
+    expect_types(at.path / "cache", "shop_tool", "shop_ask", *map(str, TOP.glob("scripts/*shop*.py")))
 
 
 def tried(test: Callable[[Folder], None], program: pathlib.Path) -> Exception | None:

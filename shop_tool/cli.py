@@ -6,6 +6,8 @@ import sys
 from collections.abc import Callable
 from typing import NoReturn
 
+from shop_ask.quick import Begun
+
 from .ends import Fault, Status
 from .carrier.records import COLUMNS, LISTINGS
 from .render import shown
@@ -254,12 +256,14 @@ def command_of(name: str) -> Callable[[argparse.Namespace], int]:
     return command
 
 
-def main() -> NoReturn:
+def main(begun: Begun | None = None) -> NoReturn:
+    """Does what the command line says; of an ask, the rest of what was begun."""
     for stream in (sys.stdout, sys.stderr):
         # Records may have bytes that are no text.
         stream.reconfigure(encoding="utf-8", errors="surrogateescape")      # type: ignore[attr-defined]
     try:
         args = with_records(CommandLine().words, sys.argv[1:])
+        args.begun = begun
         status = command_of(args.does)(args)
         sys.stdout.flush()
     except Fault as fault:
