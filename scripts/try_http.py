@@ -3,7 +3,7 @@
 
 The trials: the examples of docs/HTTP.md, line by line; the unit tests and types of shop_web; where it listens, who may do what, and over
 TLS; asks that are asked again while parts of the shop are killed; the same answers by socket, HTTP and pipe; many asks in one request;
-events that go on; the description of the routes; and, in a headless Chromium, the page while a site is killed. With names, only the trials
+events that go on; the description of the routes, by its validator; the client in TypeScript, by tsc and node; and, in a headless Chromium, the page while a site is killed. With names, only the trials
 of these names are run. What isn't installed is skipped, aloud. The last line says how many passed; the status is 1 if one failed."""
 
 import concurrent.futures
@@ -300,6 +300,77 @@ def test_description(at: Folder) -> None:
     expect((refused.status, refused.headers["allow"]) == (405, "GET"), f"what can't be done there: {refused}")
 
 
+def test_description_is_valid(at: Folder) -> None:
+    """The description is one by the rules of OpenAPI 3.1, with keys and without, as their validator says."""
+    found = [PYTHON, *(path for folder in os.get_exec_path() if os.access(path := f"{folder}/python3", os.X_OK))]
+    python = next((each for each in found if not subprocess.run([each, "-c", "import openapi_spec_validator"], capture_output=True).returncode), None)
+    if not python:
+        raise Skipped("no Python here has openapi_spec_validator")
+    at.run("./shop start auction")
+    (at.path / "keys").write_text("".join(f"{may} {key} somebody\n" for may, key in KEYS.items()))
+    os.chmod(at.path / "keys", 0o600)
+    for words in ("", "--keys-file keys"):
+        said = Web(at, words).get("/openapi.json")
+        validate = "import json, sys, openapi_spec_validator as v; v.OpenAPIV31SpecValidator(json.load(sys.stdin)).validate()"
+        done = subprocess.run([python, "-c", validate], input=said.text, capture_output=True, text=True)
+        expect(done.returncode == 0, done.stderr[:1000])
+
+
+TYPESCRIPT = """
+import { ProblemError, ShopClient } from "./shop.js";
+
+declare const process: { argv: string[] };
+const [url, key] = process.argv.slice(2);
+const shop = new ShopClient(url!, key);
+const said: unknown[] = [];
+
+const ann = { ask: "user", nickname: "ann" } as const;
+said.push((await shop.postAsks(0, ann, { idempotencyKey: "order-17" })).id, (await shop.postAsks(0, ann, { idempotencyKey: "order-17" })).again);
+for await (const told of shop.postAsksInLines(0, [{ record: "user,bob" }, { ask: "item", seller: "0.1", name: "a/b, c", category: 7, stock: 3, start: 1, price: 80 },
+  { ask: "bid", item: "0.3", bidder: "0.2", amount: 500, key: "k" }, { record: "user,eve", key: "k" }], { timeout: 5 })) {
+  said.push("answer" in told ? told.problem?.name ?? told.id : told.problem.name);
+}
+said.push((await shop.getUser(0, "ann")).items, (await shop.getItem(0, "0.3")).name);
+const page = await shop.listUsers(0, { limit: 1 });
+said.push(page.rows[0]!.nickname, page.next, (await shop.listUsers(0, { limit: 1, after: page.next! })).rows[0]!.nickname);
+said.push((await shop.listBids(0, { item: "0.3" })).rows.map((bid) => bid.amount));
+for (const asked of [() => shop.postAsks(0, ann), () => shop.getUser(0, "no/body?"), () => new ShopClient(url!).getSites(), () => shop.getSite(9)]) {
+  try {
+    said.push(await asked());
+  } catch (fault) {
+    if (!(fault instanceof ProblemError)) throw fault;
+    said.push([fault.name, fault.problem.status, fault.problem.number ?? null]);
+  }
+}
+for await (const { event, data } of shop.getEvents()) {
+  said.push(event, (data as { well: boolean }).well);
+  break;
+}
+said.push((await shop.getAudit()).agrees, (await shop.getSites()).sites.length, (await shop.getMetrics()).includes("shop_up 1.0"));
+console.log(JSON.stringify(said));
+"""
+TOLD = ["0.1", True, "0.2", "0.3", "0.4", "KeyTaken", 1, "a/b, c", "ann", "0.1", "bob", [500], ["NickTaken", 409, 5], ["NotFound", 404, None],
+        ["Unauthorized", 401, None], ["NotFound", 404, None], "status", True, True, 1, True]
+
+
+def test_typescript(at: Folder) -> None:
+    """The client in TypeScript is what the description gives, its types hold, and node asks and reads a running shop by it."""
+    at.run(f"{PYTHON} {TOP}/scripts/write_client.py --check")
+    for name, package in (("tsc", "node-typescript"), ("node", "nodejs")):
+        if not shutil.which(name):
+            raise Skipped(f"no {name} on this machine (apt-get install {package})")
+    shutil.copy(TOP / "clients/shop.ts", at.path)
+    (at.path / "trial.ts").write_text(TYPESCRIPT)
+    (at.path / "package.json").write_text('{"type": "module"}')
+    options = "--strict --noUncheckedIndexedAccess --noUnusedLocals --target ES2022 --module ES2022 --moduleResolution node --lib ES2022,DOM,DOM.Iterable"
+    at.run(f"tsc {options} shop.ts trial.ts >&2")
+    at.run("./shop start auction")
+    (at.path / "keys").write_text(f"operate {KEYS['operate']} somebody\n")
+    os.chmod(at.path / "keys", 0o600)
+    said = json.loads(at.run(f"node trial.js {Web(at, '--keys-file keys').url} {KEYS['operate']}"))
+    expect(said == TOLD, f"what it says: {said}")
+
+
 def test_browser(at: Folder) -> None:
     """The page of the running shop: an ask, a site that is killed, and a shop that is stopped while it is open."""
     if not found():
@@ -334,7 +405,7 @@ def test_units(at: Folder) -> None:
 
 def test_types(at: Folder) -> None:
     """The types of shop_web, as mypy checks them."""
-    expect_types(at.path / "cache", "shop_web", str(TOP / "scripts/try_http.py"))
+    expect_types(at.path / "cache", "shop_web", *(str(TOP / "scripts" / name) for name in ("try_http.py", "write_client.py")))
 
 
 def why_skipped() -> str | None:
