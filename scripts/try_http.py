@@ -13,8 +13,10 @@ import pathlib
 import re
 import shutil
 import signal
+import socket
 import subprocess
 import sys
+import time
 from typing import Any, NamedTuple
 
 TOP = pathlib.Path(__file__).resolve().parent.parent
@@ -297,7 +299,61 @@ def test_description(at: Folder) -> None:
         expect(name in kinds and web.get(f"/problems/{name}").status == 200, f"the problem {name}")
     expect(web.get("/problems/nothing").status == 404, "a problem that isn't there")
     refused = web.post("/sites/0/users", {})
-    expect((refused.status, refused.headers["allow"]) == (405, "GET"), f"what can't be done there: {refused}")
+    expect((refused.status, refused.headers["allow"]) == (405, "GET, HEAD"), f"what can't be done there: {refused}")
+
+
+def raw(web: Web, *pieces: bytes, wait: float = 0.1) -> bytes:
+    """What comes over a connection that is sent these pieces, until it is closed."""
+    host, port = web.url.removeprefix("http://").split(":")
+    with socket.create_connection((host, int(port)), SECONDS) as line:
+        for piece in pieces:
+            line.sendall(piece)
+            time.sleep(wait)
+        return b"".join(iter(lambda: line.recv(1 << 16), b""))
+
+
+def test_what_is_no_request(at: Folder) -> None:
+    """What isn't HTTP is told as a problem, and the connection closed."""
+    at.run("./shop start auction")
+    web = Web(at)
+    for said in (b"nonsense\r\n\r\n", b"GET /sites HTTP/1.1\r\nHost: 127.0.0.1\r\nno header\r\n\r\n",
+                 b"GET /sites HTTP/1.1\r\nHost: 127.0.0.1\r\nContent-Length: -1\r\n\r\n", b"GET /" + b"x" * 9000 + b" HTTP/1.1\r\n\r\n",
+                 b"GET /sites HTTP/1.1\r\nHost: 127.0.0.1\r\nX: " + b"x" * 9000 + b"\r\n\r\n", b"\x16\x03\x01\x02\x00\x01\x00\r\n\r\n"):
+        head, _, body = raw(web, said).partition(b"\r\n\r\n")
+        expect(b" 400 Bad Request" in head.split(b"\r\n")[0] and b"Server: shop" in head and b"Content-Type: application/problem+json" in head, f"{said[:50]!r}: {head!r}")
+        expect(json.loads(body)["name"] == "BadRequest", f"{said[:50]!r}: {body!r}")
+
+
+def test_idle_connections(at: Folder) -> None:
+    """A connection on which no request comes, or none to its end, is closed; one that has a request under way isn't."""
+    at.run("./shop start auction")
+    web = Web(at, "--idle 1")
+    head = b"POST /sites/0/asks HTTP/1.1\r\nHost: 127.0.0.1\r\nContent-Type: application/json\r\nContent-Length: 22\r\n\r\n"
+    got = b"GET /problems/LowBid HTTP/1.1\r\nHost: 127.0.0.1\r\n\r\n"
+    with concurrent.futures.ThreadPoolExecutor() as pool:
+        events = pool.submit(lambda: subprocess.run(["curl", "-sSN", "--max-time", "4", f"{web.url}/events"], capture_output=True))
+        said = [*pool.map(lambda pieces: raw(web, *pieces), ([], [b"GET /sites HT"], [got], [head, b'{"record": '], [got, got[:30]]))]
+    expect(said[:2] == [b"", b""], f"nothing, and the beginning of a request: {said[:2]}")
+    expect(said[2].startswith(b"HTTP/1.1 200 ") and said[2].count(b"HTTP/1.1") == 1, f"one that isn't used any more: {said[2]!r}")
+    expect(said[3].startswith(b"HTTP/1.1 408 ") and b"within 1 s; nothing was asked" in said[3], f"half of a body: {said[3]!r}")
+    expect(said[4].count(b"HTTP/1.1 200 ") == 1, f"the beginning of a second request: {said[4]!r}")
+    expect(events.result().returncode == 28, "who reads events isn't cut off")
+    expect(web.get("/sites").status == 200, "it goes on")
+
+
+def test_head(at: Folder) -> None:
+    """HEAD is answered as GET is, without the body."""
+    at.run("./shop start auction")
+    at.shop(f"ask 0 {SALE}")
+    web = Web(at)
+    for path in ("/", "/sites", "/sites/0", "/sites/0/users", "/sites/0/users/0.1", "/sites/0/bids?item=0.3", "/sites/0/users/0.9", "/metrics",
+                 "/openapi.json", "/nothing", "/events", "/sites/0/follow", "/sites/0/users?limit=0"):
+        head = web.get(path, "--head")
+        got = web.get(path) if "event-stream" not in head.headers.get("content-type", "") else head
+        expect((head.status, head.text, head.headers.get("content-type")) == (got.status, "", got.headers.get("content-type")), f"{path}: {head}")
+        if got.status == 200 and path not in ("/metrics", "/sites", "/sites/0"):
+            expect(head.headers.get("content-length") == got.headers.get("content-length"), f"{path}: {head}, {got}")
+    expect(web.get("/sites/0/asks", "--head").status == 405, "where there is no GET")
 
 
 def test_description_is_valid(at: Folder) -> None:

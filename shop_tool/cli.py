@@ -206,6 +206,8 @@ class CommandLine:
                             help="where it listens; 127.0.0.1:8080 by default. Others reach it only with a certificate and keys")
         parser.add_argument("--certificate", metavar="FILE", help="its certificate and those above it, as PEM")
         parser.add_argument("--private-key", metavar="FILE", help="the key of the certificate, as PEM")
+        parser.add_argument("--idle", metavar="S", type=seconds_of, default=60.0,
+                            help="seconds until a connection is closed on which no request comes to its end; 60 by default")
         parser.add_argument("--keys-file", metavar="FILE", help="who may do what: lines of what a bearer key may (read, ask, operate), and the key")
 
     def _care(self) -> None:
