@@ -34,7 +34,7 @@ _shop() {
     tables,*) [[ $at -eq 0 && $word != -* ]] && words='0 1 2 3 4 5 6 7 8 9 10 11 12 13 14 15' ;;&
     tables,*) [[ $word == -* ]] && words='--help --timeout' ;;&
     audit,*) [[ $word == -* ]] && words='--help --save --with --timeout' ;;&
-    serve,*) [[ $word == -* ]] && words='--help --listen --certificate --private-key --keys-file' ;;&
+    serve,*) [[ $word == -* ]] && words='--help --listen --certificate --private-key --idle --keys-file' ;;&
     rebuild,*) [[ $at -eq 0 && $word != -* ]] && words='0 1 2 3 4 5 6 7 8 9 10 11 12 13 14 15' ;;&
     rebuild,*) [[ $word == -* ]] && words='--help --anyway' ;;&
     shorten,*) [[ $at -eq 0 && $word != -* ]] && words='0 1 2 3 4 5 6 7 8 9 10 11 12 13 14 15' ;;&

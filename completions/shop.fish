@@ -78,6 +78,7 @@ complete -c shop -n "__fish_seen_subcommand_from serve" -s C -x -d 'the folder o
 complete -c shop -n "__fish_seen_subcommand_from serve" -l listen -x -d 'where it listens; 127.0.0.1:8080 by default. Others reach it only with a certificate and keys'
 complete -c shop -n "__fish_seen_subcommand_from serve" -l certificate -x -d 'its certificate and those above it, as PEM'
 complete -c shop -n "__fish_seen_subcommand_from serve" -l private-key -x -d 'the key of the certificate, as PEM'
+complete -c shop -n "__fish_seen_subcommand_from serve" -l idle -x -d 'seconds until a connection is closed on which no request comes to its end; 60 by default'
 complete -c shop -n "__fish_seen_subcommand_from serve" -l keys-file -x -d 'who may do what: lines of what a bearer key may (read, ask, operate), and the key'
 complete -c shop -n "not __fish_seen_subcommand_from $commands" -a rebuild -d 'make the folder of a lost site again from what it sent; the shop here is stopped meanwhile'
 complete -c shop -n "__fish_seen_subcommand_from rebuild" -l anyway -d 'even where other sites are silent that may have more of it'

@@ -3,7 +3,7 @@
 
 The trials: the examples of docs/HTTP.md, line by line; the unit tests and types of shop_web; where it listens, who may do what, and over
 TLS; asks that are asked again while parts of the shop are killed; the same answers by socket, HTTP and pipe; many asks in one request;
-events that go on; the description of the routes; and, in a headless Chromium, the page while a site is killed. With names, only the trials
+events that go on; the description of the routes, by its validator; the client in TypeScript, by tsc and node; and, in a headless Chromium, the page while a site is killed. With names, only the trials
 of these names are run. What isn't installed is skipped, aloud. The last line says how many passed; the status is 1 if one failed."""
 
 import concurrent.futures
@@ -13,8 +13,10 @@ import pathlib
 import re
 import shutil
 import signal
+import socket
 import subprocess
 import sys
+import time
 from typing import Any, NamedTuple
 
 TOP = pathlib.Path(__file__).resolve().parent.parent
@@ -297,7 +299,132 @@ def test_description(at: Folder) -> None:
         expect(name in kinds and web.get(f"/problems/{name}").status == 200, f"the problem {name}")
     expect(web.get("/problems/nothing").status == 404, "a problem that isn't there")
     refused = web.post("/sites/0/users", {})
-    expect((refused.status, refused.headers["allow"]) == (405, "GET"), f"what can't be done there: {refused}")
+    expect((refused.status, refused.headers["allow"]) == (405, "GET, HEAD"), f"what can't be done there: {refused}")
+
+
+def raw(web: Web, *pieces: bytes, wait: float = 0.1) -> bytes:
+    """What comes over a connection that is sent these pieces, until it is closed."""
+    host, port = web.url.removeprefix("http://").split(":")
+    with socket.create_connection((host, int(port)), SECONDS) as line:
+        for piece in pieces:
+            line.sendall(piece)
+            time.sleep(wait)
+        return b"".join(iter(lambda: line.recv(1 << 16), b""))
+
+
+def test_what_is_no_request(at: Folder) -> None:
+    """What isn't HTTP is told as a problem, and the connection closed."""
+    at.run("./shop start auction")
+    web = Web(at)
+    for said in (b"nonsense\r\n\r\n", b"GET /sites HTTP/1.1\r\nHost: 127.0.0.1\r\nno header\r\n\r\n",
+                 b"GET /sites HTTP/1.1\r\nHost: 127.0.0.1\r\nContent-Length: -1\r\n\r\n", b"GET /" + b"x" * 9000 + b" HTTP/1.1\r\n\r\n",
+                 b"GET /sites HTTP/1.1\r\nHost: 127.0.0.1\r\nX: " + b"x" * 9000 + b"\r\n\r\n", b"\x16\x03\x01\x02\x00\x01\x00\r\n\r\n"):
+        head, _, body = raw(web, said).partition(b"\r\n\r\n")
+        expect(b" 400 Bad Request" in head.split(b"\r\n")[0] and b"Server: shop" in head and b"Content-Type: application/problem+json" in head, f"{said[:50]!r}: {head!r}")
+        expect(json.loads(body)["name"] == "BadRequest", f"{said[:50]!r}: {body!r}")
+
+
+def test_idle_connections(at: Folder) -> None:
+    """A connection on which no request comes, or none to its end, is closed; one that has a request under way isn't."""
+    at.run("./shop start auction")
+    web = Web(at, "--idle 1")
+    head = b"POST /sites/0/asks HTTP/1.1\r\nHost: 127.0.0.1\r\nContent-Type: application/json\r\nContent-Length: 22\r\n\r\n"
+    got = b"GET /problems/LowBid HTTP/1.1\r\nHost: 127.0.0.1\r\n\r\n"
+    with concurrent.futures.ThreadPoolExecutor() as pool:
+        events = pool.submit(lambda: subprocess.run(["curl", "-sSN", "--max-time", "4", f"{web.url}/events"], capture_output=True))
+        said = [*pool.map(lambda pieces: raw(web, *pieces), ([], [b"GET /sites HT"], [got], [head, b'{"record": '], [got, got[:30]]))]
+    expect(said[:2] == [b"", b""], f"nothing, and the beginning of a request: {said[:2]}")
+    expect(said[2].startswith(b"HTTP/1.1 200 ") and said[2].count(b"HTTP/1.1") == 1, f"one that isn't used any more: {said[2]!r}")
+    expect(said[3].startswith(b"HTTP/1.1 408 ") and b"within 1 s; nothing was asked" in said[3], f"half of a body: {said[3]!r}")
+    expect(said[4].count(b"HTTP/1.1 200 ") == 1, f"the beginning of a second request: {said[4]!r}")
+    expect(events.result().returncode == 28, "who reads events isn't cut off")
+    expect(web.get("/sites").status == 200, "it goes on")
+
+
+def test_head(at: Folder) -> None:
+    """HEAD is answered as GET is, without the body."""
+    at.run("./shop start auction")
+    at.shop(f"ask 0 {SALE}")
+    web = Web(at)
+    for path in ("/", "/sites", "/sites/0", "/sites/0/users", "/sites/0/users/0.1", "/sites/0/bids?item=0.3", "/sites/0/users/0.9", "/metrics",
+                 "/openapi.json", "/nothing", "/events", "/sites/0/follow", "/sites/0/users?limit=0"):
+        head = web.get(path, "--head")
+        got = web.get(path) if "event-stream" not in head.headers.get("content-type", "") else head
+        expect((head.status, head.text, head.headers.get("content-type")) == (got.status, "", got.headers.get("content-type")), f"{path}: {head}")
+        if got.status == 200 and path not in ("/metrics", "/sites", "/sites/0"):
+            expect(head.headers.get("content-length") == got.headers.get("content-length"), f"{path}: {head}, {got}")
+    expect(web.get("/sites/0/asks", "--head").status == 405, "where there is no GET")
+
+
+def test_description_is_valid(at: Folder) -> None:
+    """The description is one by the rules of OpenAPI 3.1, with keys and without, as their validator says."""
+    found = [PYTHON, *(path for folder in os.get_exec_path() if os.access(path := f"{folder}/python3", os.X_OK))]
+    python = next((each for each in found if not subprocess.run([each, "-c", "import openapi_spec_validator"], capture_output=True).returncode), None)
+    if not python:
+        raise Skipped("no Python here has openapi_spec_validator")
+    at.run("./shop start auction")
+    (at.path / "keys").write_text("".join(f"{may} {key} somebody\n" for may, key in KEYS.items()))
+    os.chmod(at.path / "keys", 0o600)
+    for words in ("", "--keys-file keys"):
+        said = Web(at, words).get("/openapi.json")
+        validate = "import json, sys, openapi_spec_validator as v; v.OpenAPIV31SpecValidator(json.load(sys.stdin)).validate()"
+        done = subprocess.run([python, "-c", validate], input=said.text, capture_output=True, text=True)
+        expect(done.returncode == 0, done.stderr[:1000])
+
+
+TYPESCRIPT = """
+import { ProblemError, ShopClient } from "./shop.js";
+
+declare const process: { argv: string[] };
+const [url, key] = process.argv.slice(2);
+const shop = new ShopClient(url!, key);
+const said: unknown[] = [];
+
+const ann = { ask: "user", nickname: "ann" } as const;
+said.push((await shop.postAsks(0, ann, { idempotencyKey: "order-17" })).id, (await shop.postAsks(0, ann, { idempotencyKey: "order-17" })).again);
+for await (const told of shop.postAsksInLines(0, [{ record: "user,bob" }, { ask: "item", seller: "0.1", name: "a/b, c", category: 7, stock: 3, start: 1, price: 80 },
+  { ask: "bid", item: "0.3", bidder: "0.2", amount: 500, key: "k" }, { record: "user,eve", key: "k" }], { timeout: 5 })) {
+  said.push("answer" in told ? told.problem?.name ?? told.id : told.problem.name);
+}
+said.push((await shop.getUser(0, "ann")).items, (await shop.getItem(0, "0.3")).name);
+const page = await shop.listUsers(0, { limit: 1 });
+said.push(page.rows[0]!.nickname, page.next, (await shop.listUsers(0, { limit: 1, after: page.next! })).rows[0]!.nickname);
+said.push((await shop.listBids(0, { item: "0.3" })).rows.map((bid) => bid.amount));
+for (const asked of [() => shop.postAsks(0, ann), () => shop.getUser(0, "no/body?"), () => new ShopClient(url!).getSites(), () => shop.getSite(9)]) {
+  try {
+    said.push(await asked());
+  } catch (fault) {
+    if (!(fault instanceof ProblemError)) throw fault;
+    said.push([fault.name, fault.problem.status, fault.problem.number ?? null]);
+  }
+}
+for await (const { event, data } of shop.getEvents()) {
+  said.push(event, (data as { well: boolean }).well);
+  break;
+}
+said.push((await shop.getAudit()).agrees, (await shop.getSites()).sites.length, (await shop.getMetrics()).includes("shop_up 1.0"));
+console.log(JSON.stringify(said));
+"""
+TOLD = ["0.1", True, "0.2", "0.3", "0.4", "KeyTaken", 1, "a/b, c", "ann", "0.1", "bob", [500], ["NickTaken", 409, 5], ["NotFound", 404, None],
+        ["Unauthorized", 401, None], ["NotFound", 404, None], "status", True, True, 1, True]
+
+
+def test_typescript(at: Folder) -> None:
+    """The client in TypeScript is what the description gives, its types hold, and node asks and reads a running shop by it."""
+    at.run(f"{PYTHON} {TOP}/scripts/write_client.py --check")
+    for name, package in (("tsc", "node-typescript"), ("node", "nodejs")):
+        if not shutil.which(name):
+            raise Skipped(f"no {name} on this machine (apt-get install {package})")
+    shutil.copy(TOP / "clients/shop.ts", at.path)
+    (at.path / "trial.ts").write_text(TYPESCRIPT)
+    (at.path / "package.json").write_text('{"type": "module"}')
+    options = "--strict --noUncheckedIndexedAccess --noUnusedLocals --target ES2022 --module ES2022 --moduleResolution node --lib ES2022,DOM,DOM.Iterable"
+    at.run(f"tsc {options} shop.ts trial.ts >&2")
+    at.run("./shop start auction")
+    (at.path / "keys").write_text(f"operate {KEYS['operate']} somebody\n")
+    os.chmod(at.path / "keys", 0o600)
+    said = json.loads(at.run(f"node trial.js {Web(at, '--keys-file keys').url} {KEYS['operate']}"))
+    expect(said == TOLD, f"what it says: {said}")
 
 
 def test_browser(at: Folder) -> None:
@@ -334,7 +461,7 @@ def test_units(at: Folder) -> None:
 
 def test_types(at: Folder) -> None:
     """The types of shop_web, as mypy checks them."""
-    expect_types(at.path / "cache", "shop_web", str(TOP / "scripts/try_http.py"))
+    expect_types(at.path / "cache", "shop_web", *(str(TOP / "scripts" / name) for name in ("try_http.py", "write_client.py")))
 
 
 def why_skipped() -> str | None:

@@ -16,7 +16,7 @@ TOP = pathlib.Path(__file__).resolve().parent.parent
 PLACES = """bin/rubis bin/shop lib/rubis/shop lib/rubis/shop_tool/cli.py share/man/man1/rubis.1 share/man/man1/shop.1
 share/bash-completion/completions/shop share/zsh/site-functions/_shop share/fish/vendor_completions.d/shop.fish
 lib/systemd/system/shop@.service lib/systemd/system/shop-http@.service lib/sysusers.d/shop.conf
-lib/rubis/shop_web/serving.py lib/rubis/shop_web/page.html""".split()
+lib/rubis/shop_ask/quick.py lib/rubis/shop_web/serving.py lib/rubis/shop_web/page.html""".split()
 
 
 def install(program: str, *words: str) -> "subprocess.CompletedProcess[str]":
@@ -67,6 +67,7 @@ def main() -> None:
         lacking = [place for place in PLACES if not (prefix / place).is_file()]
         assert not lacking, lacking
         assert not list(prefix.rglob("tests")), "tests were installed"
+        assert list((prefix / "lib/rubis/shop_ask/__pycache__").glob("quick.*.pyc")), "nothing is translated"
         try_commands(prefix, f"{room}/auction")
         more = try_unit(prefix)
         assert install(program, "usr").returncode == 2 and install(program, "/a", "/b").returncode == 2

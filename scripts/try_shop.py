@@ -9,6 +9,7 @@ import itertools
 import json
 import os
 import pathlib
+import re
 import shutil
 import signal
 import socket
@@ -190,6 +191,49 @@ def test_refused_settings(at: Folder) -> None:
     at.run("./shop start auction --sites 2 --shards 9")
     expect(at.shop("ask 0 user,bob") == "ok,0.2\n", "it goes on")
     expect('"shards": 9' in at.text("auction/shop.json"), "the settings that were taken")
+
+
+def test_asks_that_are_quick(at: Folder) -> None:
+    """An ask by the quick way, which loads little, writes and says what it does by the long one, whatever comes of it."""
+    at.run("./shop start auction --sites 2")
+    at.shop(f"ask 0 {SALE}")
+    for words in ("0 bid,0.3,0.2,500 bid,0.3,0.2,500", "0 bid,0.3,0.2,5", "0 bid,0.3,0.2,600 bid,0.3,0.2,5 bid,0.3,0.2,600", "0 restock,0.3,0.1,1 list,users restock,0.3,0.1,1",
+                  "0 'user,\"'", "0 ''", "0 \"$(printf 'user,\\351\\377')\"", "5 user,eve", "1 bid,0.3,0.2,900 --no-wait", "0 restock,0.3,0.1,1 --key one",
+                  "0 restock,0.3,0.1,1 --key ''", "0 pass,9 pass,0", "0 bid,0.3,0.2,600 --timeout 0.4"):
+        said = []
+        for way in ("", "--time 10 " if "--timeout" not in words else "--raw "):
+            at.run(f"./shop -C auction ask {way}{words} > told 2> faults; echo $? >> told")
+            said.append((at.path / "told").read_bytes() + (at.path / "faults").read_bytes())
+        numbers = re.compile(rb"0\.\d+|reply,\d+,|send,.*\n")
+        expect(numbers.sub(b"", said[0]) == numbers.sub(b"", said[1]), f"ask {words}: {said}")
+    at.run("./shop -C auction ask 0 bid,0.3,0.2,5 > /dev/full", 3, "No space left on device")
+    supervisor = at.status()["pid"]
+    os.kill(supervisor, signal.SIGSTOP)
+    at.shop("ask 0 bid,0.3,0.2,700 --timeout 0.2", 3, "gave no answer within 0.2 s; whether it was accepted isn't known (shop log 0)")
+    os.kill(supervisor, signal.SIGCONT)
+
+
+def processor_ms(command: list[str], environment: dict[str, str]) -> float:
+    """The processor time of a command and of all that it waits for, in milliseconds."""
+    made = subprocess.Popen(command, stdout=subprocess.DEVNULL, env=environment)
+    _, status, used = os.wait4(made.pid, 0)
+    made.returncode = os.waitstatus_to_exitcode(status)
+    expect(made.returncode == 0, f"{command} ended with status {made.returncode}")
+    return 1000 * float(used.ru_utime + used.ru_stime)
+
+
+def test_time_of_an_ask(at: Folder) -> None:
+    """`shop ask` as a command takes at most twice the processor time of a Python that does nothing; the least of thirty of each, one after
+    the other, so that what else runs meets both."""
+    at.run("./shop start auction")
+    at.shop(f"ask 0 {SALE}")
+    commands = {"nothing": [PYTHON, "-I", "-S", "-c", "pass"], "ask": [str(at.path / "shop"), "-C", str(at.path / "auction"), "ask", "0", "bid,0.3,0.2,500"]}
+    taken: dict[str, list[float]] = {name: [] for name in commands}
+    for _ in range(30):
+        for name, command in commands.items():
+            taken[name].append(processor_ms(command, dict(os.environ)))
+    nothing, ask = (min(taken[name]) for name in commands)
+    expect(ask <= 2.0 * nothing, f"an ask takes {ask:.1f} ms where nothing takes {nothing:.1f}")
 
 
 def test_records_on_standard_input(at: Folder) -> None:
@@ -852,6 +896,28 @@ def test_lost_over_files(at: Folder) -> None:
     at.run("./shop start auction")
     expect(at.shop("ask 0 user,dan") == "ok,0.6\n", "it goes on")
     at.shop("audit")
+
+
+def test_another_number_of_sites(at: Folder) -> None:
+    """A machine that joins with another number of sites is refused, and leaves nothing behind, also where the server comes later, or lost
+    all meanwhile."""
+    server = Server(at)
+    at.run(f"./shop start a --sites 3 --here 0,1 --over {server.over}")
+    said = f"redis://127.0.0.1:{server.port}/auction is a shop with --sites 3, and "
+    for command in ("start", "run"):
+        at.run(f"./shop {command} b --sites 4 --here 3 --over {server.over}", 2, f"{said}b would have --sites 4")
+        expect(not (at.path / "b").exists(), "nothing is left")
+    server.say("flushall")
+    at.wait("what is told again", lambda: server.say("get auction:sites") == "3\n")
+    server.kill()
+    at.run(f"./shop start b --sites 2 --here 1 --over {server.over}", 3, "takes no asks until it is known what the others have of it")
+    server.start()
+    at.wait("that it is stopped", lambda: at.site(1, "b")["state"] == "fenced")
+    expect(at.site(1, "b")["fault"].endswith(f"{said}this folder has --sites 2"), f"what is said: {at.site(1, 'b')}")
+    at.run("./shop stop b; rm -r b")
+    at.run(f"./shop start b --sites 3 --here 2 --over {server.over}")
+    at.shop("ask 0 user,ann", folder="a")
+    at.shop("wait 2", folder="b")
 
 
 def test_others_append(at: Folder) -> None:
@@ -1683,6 +1749,32 @@ def test_shorten(at: Folder) -> None:
     stands_where_it_stood(at, "short", rows)
 
 
+def processor_seconds(process: int) -> float:
+    """How much processor time a process has taken, without its children."""
+    fields = pathlib.Path(f"/proc/{process}/stat").read_text().rpartition(")")[2].split()
+    return (int(fields[11]) + int(fields[12])) / os.sysconf("SC_CLK_TCK")
+
+
+def test_start_of_many_records(at: Folder) -> None:
+    """A start over 105,000 records, half of them a site's own asks and half messages of another one, takes the supervisor at most 1.5 s of
+    processor time; the least of three counts, since what else runs makes one take longer."""
+    def keep(site: int, records: list[str]) -> list[str]:
+        """The messages that a site sends of these asks."""
+        (at.path / "records").write_text("".join(f"{record}\n" for record in records))
+        at.run(f"./rubis keep auction/{site} --site {site} --sites 2 < records > said")
+        return [line[5:] for line in sends(at, f"auction/{site}")]
+    own = keep(0, [*SALE.split(), *(f"restock,0.3,0.1,{number % 9 + 1}" for number in range(52_497))])
+    others = keep(1, [*own[:3], *(f"comment,0.3,0.2,0.1,{number % 5},good" for number in range(52_500))])
+    keep(0, others)
+    taken = []
+    for options in ("--sites 2", "", ""):
+        at.run(f"./shop start auction --here 0,1 {options}")
+        taken.append(processor_seconds(at.status()["pid"]))
+        expect(at.site(0)["records"] == 105_000, f"what it has read: {at.site(0)}")
+        at.run("./shop stop auction")
+    expect(min(taken) <= 1.5, f"three starts took {taken} s of processor time")
+
+
 def test_full(at: Folder) -> None:
     """A site that is full goes on with a greater --keep, once its recording is shortened; in whichever order that is done."""
     at.run("./shop start auction --keep 3")
@@ -1890,13 +1982,14 @@ def test_help(at: Folder) -> None:
 
 
 def test_units(at: Folder) -> None:
-    """The unit tests of shop_tool."""
+    """The unit tests of shop_tool and shop_ask."""
     expect_units(PYTHON, "shop_tool")
+    expect_units(PYTHON, "shop_ask")
 
 
 def test_types(at: Folder) -> None:
     """The types of shop_tool, as mypy checks them."""
-    expect_types(at.path / "cache", "shop_tool", *map(str, TOP.glob("scripts/*shop*.py")))
+    expect_types(at.path / "cache", "shop_tool", "shop_ask", *map(str, TOP.glob("scripts/*shop*.py")))
 
 
 def tried(test: Callable[[Folder], None], program: pathlib.Path) -> Exception | None:

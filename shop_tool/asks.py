@@ -7,6 +7,8 @@ import sys
 from collections.abc import Iterator
 from typing import Any
 
+from shop_ask.quick import Begun
+
 from . import client
 from .ends import Fault, Status
 from .carrier.records import BYTES_OF_A_RECORD, COLUMNS, REFUSALS, row_of, text_of, why_not_one_record
@@ -19,11 +21,13 @@ def ask(args: argparse.Namespace) -> int:
     """Asks a site, and prints each answer as it comes."""
     if not args.records:
         raise Fault(Status.MISUSE, "there is no record to ask")
-    printer = Printer(args)
+    begun: Begun | None = getattr(args, "begun", None)
+    printer = Printer(args, begun[2] if begun else 0)
     given = [[os.fsencode(record) for record in args.records]] if args.records != ["-"] else _pieces_of(sys.stdin.fileno())
     try:
         for records in given:
-            for answer in client.call(args.folder, _request(args, records, printer.count)):
+            request = _request(args, records, 0 if begun else printer.count)
+            for answer in client.begun(args.folder, request, begun) if begun else client.call(args.folder, request):
                 client.raise_fault(answer)
                 if not answer.get("end"):
                     printer.show(answer["record"], answer["lines"])
@@ -74,11 +78,11 @@ def _pieces_of(file: int) -> Iterator[list[bytes]]:
 class Printer:
     """Prints answers as the options want them: in words, as the site's own lines, or as JSON, an object a line."""
 
-    def __init__(self, args: argparse.Namespace) -> None:
+    def __init__(self, args: argparse.Namespace, printed: int) -> None:
         self.show = self._raw if args.raw else self._json if args.json else self._plain
         self.folder = args.folder
         self.status = Status.WELL
-        self.count = 0
+        self.count = printed
 
     def _noted(self, lines: list[str]) -> list[str]:
         head = lines[0].split(",")

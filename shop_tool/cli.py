@@ -6,6 +6,8 @@ import sys
 from collections.abc import Callable
 from typing import NoReturn
 
+from shop_ask.quick import Begun
+
 from .ends import Fault, Status
 from .carrier.records import COLUMNS, LISTINGS
 from .render import shown
@@ -208,6 +210,8 @@ class CommandLine:
                             help="where it listens; 127.0.0.1:8080 by default. Others reach it only with a certificate and keys")
         parser.add_argument("--certificate", metavar="FILE", help="its certificate and those above it, as PEM")
         parser.add_argument("--private-key", metavar="FILE", help="the key of the certificate, as PEM")
+        parser.add_argument("--idle", metavar="S", type=seconds_of, default=60.0,
+                            help="seconds until a connection is closed on which no request comes to its end; 60 by default")
         parser.add_argument("--keys-file", metavar="FILE", help="who may do what: lines of what a bearer key may (read, ask, operate), and the key")
 
     def _care(self) -> None:
@@ -258,12 +262,14 @@ def command_of(name: str) -> Callable[[argparse.Namespace], int]:
     return command
 
 
-def main() -> NoReturn:
+def main(begun: Begun | None = None) -> NoReturn:
+    """Does what the command line says; of an ask, the rest of what was begun."""
     for stream in (sys.stdout, sys.stderr):
         # Records may have bytes that are no text.
         stream.reconfigure(encoding="utf-8", errors="surrogateescape")      # type: ignore[attr-defined]
     try:
         args = with_records(CommandLine().words, sys.argv[1:])
+        args.begun = begun
         status = command_of(args.does)(args)
         sys.stdout.flush()
     except Fault as fault:

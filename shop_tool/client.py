@@ -5,15 +5,13 @@ import os
 import socket
 import time
 from collections.abc import Iterator
-from typing import Any
+from typing import IO, Any
+
+from shop_ask.quick import CONNECT_SECONDS, MARGIN, Begun
 
 from .ends import Fault, Status
 from .lock import holder_of
 from .carrier.told import unanswered
-
-CONNECT_SECONDS = 5.0
-MARGIN = 2.0        # seconds beyond its time-out that a request has, since the supervisor knows more of it when that is over
-
 
 def connect(folder: str, seconds: float = CONNECT_SECONDS) -> socket.socket | None:
     """A connection to the shop's supervisor, or None if it isn't running."""
@@ -51,11 +49,24 @@ def call(folder: str, request: dict[str, Any], seconds: float | None = None) -> 
     line = connect(folder, min(CONNECT_SECONDS, seconds + MARGIN) if seconds else CONNECT_SECONDS)
     if line is None:
         raise away(folder)
+    yield from _told(line, folder, request, seconds, until, json.dumps(request).encode() + b"\n", b"")
+
+
+def begun(folder: str, request: dict[str, Any], begun: Begun) -> Iterator[dict[str, Any]]:
+    """The rest of the answers to a request that was begun."""
+    file, come, _, until = begun
+    return _told(socket.socket(fileno=file), folder, request, request["timeout"], until, b"", come)
+
+
+def _told(line: socket.socket, folder: str, request: dict[str, Any], seconds: float | None, until: float | None, unsent: bytes,
+          come: bytes) -> Iterator[dict[str, Any]]:
+    """What a supervisor answers over a connection, of which something has come."""
     with line, line.makefile("rb") as answers:
         try:
             line.settimeout(left(until) if until else None)
-            line.sendall(json.dumps(request).encode() + b"\n")
-            while (text := answers.readline()).endswith(b"\n"):
+            if unsent:
+                line.sendall(unsent)
+            for text in _lines_of(answers, come):
                 answer = json.loads(text)
                 yield answer
                 if answer.get("end"):
@@ -66,6 +77,15 @@ def call(folder: str, request: dict[str, Any], seconds: float | None = None) -> 
         except OSError:
             pass
     raise Fault(Status.AWAY, f"the supervisor of {folder} ended before it answered{unanswered(request) or ' (shop log)'}")
+
+
+def _lines_of(file: IO[bytes], come: bytes) -> Iterator[bytes]:
+    """The lines behind what has come of them; not a torn one at their end."""
+    *lines, rest = come.split(b"\n")
+    yield from lines
+    while (line := rest + file.readline()).endswith(b"\n"):
+        yield line
+        rest = b""
 
 
 def away(folder: str) -> Fault:

@@ -66,6 +66,9 @@ def _checked(folder: str, now: settings.Settings) -> str:
     """The program, once it is known that the shop can have these settings; they are written when it runs."""
     found = program.checked_path()
     settings.check_new(folder, now, found)
+    if now.over != settings.FILES and now != settings.read(folder):
+        from .streams import check_count
+        check_count(now, folder)
     os.makedirs(folder, mode=0o700, exist_ok=True)
     return found
 

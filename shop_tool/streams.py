@@ -2,6 +2,7 @@
 
 | key | what it has |
 |---|---|
+| NAME:sites | how many sites the shop has |
 | NAME:SITE | a stream: the site's packets in the order in which it sent them; message n is n-0, and the t-th token after it n-t |
 | NAME:mark:SITE | a random number that is drawn whenever the site's stream is begun or written anew |
 | NAME:life:SITE | the life of the site's folder that was compared with its stream last |
@@ -27,8 +28,9 @@ from .carrier.ledger import Place
 from .carrier.over_server import WANTS
 from .carrier.rebuilding import STATUS_SECONDS
 from .carrier.records import bytes_of
-from .carrier.steps import (Adopt, Append, Entries, Hear, Mark, Marks, Owner, Packets, Page, PageOf, Read, Rewrite, SayYields, SeeLife, StandBy,
+from .carrier.steps import (Adopt, Append, Entries, Hear, Mark, Marks, Owner, Packets, Page, PageOf, Read, Rewrite, SayYields, SeeLife, Sites, StandBy,
                             State, Statuses, StreamState, Tell)
+from .ends import Fault, Status
 from .folders import boot, identity
 from .settings import Settings
 
@@ -249,6 +251,16 @@ class Streams:
         owner: bytes = await self.redis.get(self.key(f"owner:{site}")) or b""
         return owner.decode("utf-8", "surrogateescape")
 
+    async def count(self) -> int | None:
+        """How many sites the shop there has; None if nobody has said so yet."""
+        said: bytes = await self.redis.get(self.key("sites")) or b""
+        return int(said) if said.isdigit() else None
+
+    async def count_of_first(self, count: int) -> int:
+        """The same; it is `count` from now on, if nobody has said so yet."""
+        await self.redis.set(self.key("sites"), count, nx=True)
+        return await self.count() or count
+
     async def adopt(self, site: int, before: str, is_fresh: bool) -> bool:
         owner = owner_text(f"{self.folder}/{site}", ".new" if is_fresh else "")
         return bool(await self._change(keys=[self.key(f"owner:{site}")], args=[bytes_of(before), bytes_of(owner)]))
@@ -261,6 +273,7 @@ class Streams:
         for site, status in statuses.items():
             said = status | {"told": time.time_ns(), "by": run_by(f"{self.folder}/{site}")}
             pipe.set(self.key(f"status:{site}"), json.dumps(said), px=int(1000 * STATUS_SECONDS))
+            pipe.set(self.key("sites"), self.sites, nx=True)        # a server that has lost it
         found = await pipe.execute()
         return [place_of(last[0][0])[0] if last else 0 for last in found[:self.sites]], found[self.sites]
 
@@ -306,13 +319,27 @@ class Streams:
         await pipe.execute()
 
 
-STEPS = {StandBy: "stand_by", SayYields: "say_yields", State: "state", Owner: "owner", Adopt: "adopt", Statuses: "statuses", Tell: "tell", SeeLife: "see_life", Append: "append",
-         Rewrite: "rewrite", PageOf: "page", Entries: "entries", Marks: "marks", Read: "read", Hear: "hear"}
+STEPS = {StandBy: "stand_by", SayYields: "say_yields", State: "state", Owner: "owner", Sites: "count_of_first", Adopt: "adopt", Statuses: "statuses",
+         Tell: "tell", SeeLife: "see_life", Append: "append", Rewrite: "rewrite", PageOf: "page", Entries: "entries", Marks: "marks", Read: "read",
+         Hear: "hear"}
 
 
 def no_life() -> str:
     """A word that no life yields, and that was never said before: so what says that one does, and comes late, changes nothing."""
     return f"none {os.urandom(8).hex()}"
+
+
+def check_count(settings: Settings, folder: str) -> None:
+    """Refuses a folder of another number of sites than the shop on its server has. One that can't be reached may say so later."""
+    async def there() -> int | None:
+        async with Streams(settings, os.path.realpath(folder)) as server:
+            return await server.count()
+    try:
+        count = asyncio.run(there())
+    except faults():
+        return
+    if count and count != settings.sites:
+        raise Fault(Status.MISUSE, f"{settings.shown_over} is a shop with --sites {count}, and {folder} would have --sites {settings.sites}")
 
 
 def new_mark() -> bytes:

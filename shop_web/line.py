@@ -7,8 +7,9 @@ import os
 from collections.abc import AsyncIterator
 from typing import Any
 
+from shop_ask.quick import CONNECT_SECONDS, MARGIN
 from shop_tool.carrier.told import unanswered
-from shop_tool.client import CONNECT_SECONDS, MARGIN, away, raise_fault
+from shop_tool.client import away, raise_fault
 from shop_tool.ends import Fault, Status
 from shop_tool.requests import Request
 from shop_tool.signals import Together

@@ -89,6 +89,8 @@ async def told(request: web.Request, stopping: asyncio.Event, sources: dict[str,
     """Sends what comes of these sources, each under its name, until the reader goes or the server is stopped."""
     response = web.StreamResponse(headers={"Content-Type": "text/event-stream", "Cache-Control": "no-store", "X-Accel-Buffering": "no"})
     await response.prepare(request)
+    if request.method == "HEAD":
+        return response
     news = asyncio.Queue[bytes](1000)
 
     async def read(name: str, source: AsyncIterator[dict[str, Any]]) -> None:

@@ -27,6 +27,7 @@ _OWN = {
     "Forbidden": Kind(403, "the bearer key may not do this"),
     "NotFound": Kind(404, "there is no such thing"),
     "NoMethod": Kind(405, "this can't be done there"),
+    "TooSlow": Kind(408, "the request didn't come to its end in time"),
     "TooLong": Kind(413, "the request is too long"),
     "OtherHost": Kind(421, "the request is for another host"),
     "OtherContent": Kind(415, "the content is neither JSON nor CSV"),

@@ -24,6 +24,11 @@ class Route(NamedTuple):
     headers: tuple[str, ...] = ()
     body: dict[str, Schema] | None = None
     problems: tuple[str, ...] = ()
+    name: str = ""                      # of the operation, where several have one method of the server
+
+    @property
+    def operation(self) -> str:
+        return self.name or self.does
 
 
 def ref(name: str) -> Schema:
@@ -36,7 +41,7 @@ def json_of(name: str) -> dict[str, Schema]:
 
 TEXT: Schema = {"type": "string"}
 WHOLE: Schema = {"type": "integer"}
-NUMBER: Schema = {"type": "number"}
+YES: Schema = {"type": "boolean"}
 EVENTS = {"text/event-stream": TEXT}
 QUERY: dict[str, tuple[Schema, str]] = {
     "timeout": ({"type": "number", "exclusiveMinimum": 0, "maximum": 600, "default": 10}, "seconds until it gives up"),
@@ -65,10 +70,10 @@ def _listings() -> list[Route]:
         query = ("nickname",) if name == "users" else (field,) if field else ()
         made.append(Route("GET", f"/sites/{{site}}/{name}", "get_listing", May.READ, f"The {name} as a site has them, a page at a time",
                           {**json_of(f"{kind}_page"), "text/csv": TEXT}, (*query, "after", "limit", "timeout"),
-                          problems=("BadRequest", "NotFound", "Away")))
+                          problems=("BadRequest", "NotFound", "Away"), name=f"list_{name}"))
         if kind != "misfit":
             made.append(Route("GET", f"/sites/{{site}}/{name}/{{key}}", "get_row", May.READ, f"One of the {name}", json_of(kind), ("timeout",),
-                              problems=("NotFound", "Away")))
+                              problems=("NotFound", "Away"), name=f"get_{kind}"))
     return made
 
 
@@ -79,7 +84,7 @@ ROUTES = [
     Route("GET", "/sites", "get_sites", May.READ, "How the shop and each of its sites is", json_of("shop"), problems=("Away",)),
     Route("GET", "/sites/{site}", "get_site", May.READ, "How a site is", json_of("site"), problems=("NotFound", "Away")),
     Route("POST", "/sites/{site}/asks", "post_asks", May.ASK, "Asks a site: one ask, or several, one behind the other",
-          {**json_of("told"), "application/x-ndjson": ref("told"), "text/csv": TEXT}, ("timeout", "fetch", "published"), (KEY,),
+          {**json_of("told"), "application/x-ndjson": ref("told_or_end"), "text/csv": TEXT}, ("timeout", "fetch", "published"), (KEY,),
           {"application/json": {"oneOf": [ref("ask"), {"type": "array", "items": ref("ask")}]}, "text/csv": TEXT}, OF_ASKS),
     Route("POST", "/sites/{site}/pass", "post_pass", May.OPERATE, "Hands the token on from the site that holds it", json_of("told"), ("timeout",),
           body={"application/json": {"type": "object", "required": ["to"], "properties": {"to": WHOLE}}},
@@ -121,12 +126,15 @@ def _schemas() -> dict[str, Schema]:
     made["ask"] = {"oneOf": asks}
     made["told"] = object_of({"record": TEXT, "answer": {"enum": ["ok", "passed", "refused"]}, "id": TEXT, "again": {"const": True},
                               "problem": ref("problem")}, ["record", "answer"])
+    made["told_or_end"] = {"anyOf": [ref("told"), object_of({"problem": ref("problem")})]}
     made["problem"] = object_of({"type": TEXT, "title": TEXT, "status": WHOLE, "detail": TEXT, "name": TEXT, "number": WHOLE},
                                 ["type", "title", "status", "detail", "name"])
     made["kind"] = object_of({"type": TEXT, "title": TEXT, "status": WHOLE})
-    made["verdict"] = object_of({"verdict": TEXT, "agrees": {"type": "boolean"}})
-    made["site"] = object_of({"site": WHOLE, "state": TEXT}, ["site", "state"])
-    made["shop"] = object_of({"well": {"type": "boolean"}, "token": {"type": ["integer", "null"]}, "sites": {"type": "array", "items": ref("site")}},
+    made["verdict"] = object_of({"verdict": TEXT, "agrees": YES})
+    counts = dict.fromkeys(("own", "turn", "records", "records_left", "messages", "sent", "published", "waiting", "held", "starts", "faults"), WHOLE)
+    made["site"] = object_of({"site": WHOLE, "state": TEXT, "since": TEXT, **counts, "holds_token": YES, "full": YES,
+                              "silent": {"type": ["number", "null"]}, "fault": {"type": ["string", "null"]}}, ["site", "state"])
+    made["shop"] = object_of({"well": YES, "token": {"type": ["integer", "null"]}, "sites": {"type": "array", "items": ref("site")}},
                              ["well", "sites"])
     return made
 
@@ -156,9 +164,8 @@ def _operation(route: Route, is_open: bool) -> Schema:
     for status, names in sorted(problems.items()):
         about = "; ".join(f"{name}: {KINDS[name].title}" for name in names)
         said[status] = {"description": about, "content": {CONTENT: {"schema": ref("problem")}}}
-    last = re.sub(r"[{}]", "", route.path).strip("/").replace("/", "_")
-    operation: Schema = {"operationId": f"{route.method.lower()}_{last or 'page'}".replace(".", "_"), "summary": route.about,
-                         "parameters": _parameters(route), "responses": said}
+    said["default"] = {"description": "Another problem", "content": {CONTENT: {"schema": ref("problem")}}}
+    operation: Schema = {"operationId": route.operation, "summary": route.about, "parameters": _parameters(route), "responses": said}
     if route.body:
         operation["requestBody"] = {"required": True, "content": {kind: {"schema": schema} for kind, schema in route.body.items()}}
     if route.may is None:

@@ -26,6 +26,7 @@ from shop_tool.render import shown
 
 from . import access
 from .asks import One, Options, Told, asked, check, of_csv, of_json, place_of
+from .connections import HEADERS, Connections
 from .line import Line
 from .live import ANSWER_SECONDS, Watch, events, status_of, told
 from .metrics import Metrics
@@ -46,8 +47,9 @@ Handler = Callable[[web.Request], Awaitable[web.StreamResponse]]
 
 
 class Server:
-    def __init__(self, folder: str, keys: access.Access, hosts: frozenset[str] | None) -> None:
+    def __init__(self, folder: str, keys: access.Access, hosts: frozenset[str] | None, idle_seconds: float) -> None:
         self.folder, self.keys, self.hosts = folder, keys, hosts
+        self.connections = Connections(idle_seconds)
         self.sites = settings.existing(folder).sites
         self.line = Line(folder)
         self.rows, self.watch, self.metrics = Rows(self.line), Watch(self.line), Metrics()
@@ -57,11 +59,11 @@ class Server:
         self.app.on_shutdown.append(self._stop)
         self.app.on_cleanup.append(self._close)
         for route in ROUTES:
-            self.app.router.add_route(route.method, route.path, self._handler(route))
+            for method in (route.method, "HEAD") if route.method == "GET" else (route.method,):
+                self.app.router.add_route(method, route.path, self._handler(route))
 
     async def _prepare(self, request: web.Request, response: web.StreamResponse) -> None:
-        response.headers["Server"] = "shop"
-        response.headers["X-Content-Type-Options"] = "nosniff"
+        response.headers.update(HEADERS)
 
     async def _stop(self, app: web.Application) -> None:
         self.stopping.set()
@@ -93,6 +95,13 @@ class Server:
     @web.middleware
     async def _look_after(self, request: web.Request, handler: Handler) -> web.StreamResponse:
         """Says what goes wrong as a problem, and counts."""
+        self.connections.begin(request)
+        try:
+            return await self._looked_after(request, handler)
+        finally:
+            self.connections.end(request)
+
+    async def _looked_after(self, request: web.Request, handler: Handler) -> web.StreamResponse:
         began = time.monotonic()
         route = request.match_info.route.resource
         method, path = (request.method, route.canonical) if route else ("none", "none")
@@ -168,8 +177,7 @@ class Server:
             return await self._stream(request, site, asks, options, CSV if wants == CSV else LINES)
         return await self._one(site, asks[0], options, wants)
 
-    @staticmethod
-    async def _asks_of(request: web.Request) -> tuple[list[One], bool, str]:
+    async def _asks_of(self, request: web.Request) -> tuple[list[One], bool, str]:
         """The asks of a request, whether they are several, and the type of their content."""
         readers, content = {JSON: of_json, CSV: of_csv}, content_of(request)
         if content not in readers:
@@ -180,7 +188,7 @@ class Server:
         key = keys[0] if keys else None
         if key is not None and len(key) > 1 and key[0] == key[-1] == '"':
             key = key[1:-1]         # as structured fields have a text
-        asks, is_many = readers[content](await request.read(), key)
+        asks, is_many = readers[content](await self.connections.read(request), key)
         return asks, is_many, content
 
     async def _asked(self, site: int, asks: list[One], options: Options) -> AsyncIterator[Told]:
@@ -245,7 +253,7 @@ class Server:
         if content_of(request) != JSON:
             raise Problem("OtherContent", f"it is {JSON}, and not {content_of(request)}")
         try:
-            said = json.loads(await request.read())
+            said = json.loads(await self.connections.read(request))
         except (ValueError, RecursionError) as fault:
             raise Problem("BadRequest", f"the body is no JSON: {fault}") from fault
         to = said.get("to") if isinstance(said, dict) else None
@@ -406,14 +414,16 @@ def serve(args: argparse.Namespace) -> int:
     if not is_loopback(host) and keys.is_open:
         raise Fault(Status.MISUSE, "others reach it there, so it takes --keys-file: who may read, ask and operate")
     hosts = frozenset({"localhost", "127.0.0.1", "::1", host}) if keys.is_open else None
-    asyncio.run(_serve(Server(args.folder, keys, hosts), host, port, tls))
+    asyncio.run(_serve(Server(args.folder, keys, hosts, args.idle), host, port, tls))
     return Status.WELL
 
 
 async def _serve(server: Server, host: str, port: int, tls: ssl.SSLContext | None) -> None:
     logging.getLogger("aiohttp.server").setLevel(logging.CRITICAL)     # no traceback for each request that is malformed or left
-    runner = web.AppRunner(server.app, access_log=None, handle_signals=False)
+    runner = web.AppRunner(server.app, access_log=None, handle_signals=False, keepalive_timeout=server.connections.idle_seconds)
     await runner.setup()
+    assert runner.server
+    closing = asyncio.create_task(server.connections.close_idle(runner.server))
     try:
         site = web.TCPSite(runner, host, port, ssl_context=tls, shutdown_timeout=STOP_SECONDS)
         await site.start()
@@ -425,4 +435,5 @@ async def _serve(server: Server, host: str, port: int, tls: ssl.SSLContext | Non
             asyncio.get_running_loop().add_signal_handler(number, stopped.set)
         await stopped.wait()
     finally:
+        closing.cancel()
         await runner.cleanup()

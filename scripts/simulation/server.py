@@ -9,8 +9,8 @@ from shop_tool.carrier.ledger import NOWHERE, Place
 from shop_tool.carrier.over_server import WANTS
 from shop_tool.carrier.publisher import hash_of
 from shop_tool.carrier.rebuilding import STATUS_SECONDS
-from shop_tool.carrier.steps import (Adopt, Append, Entries, Hear, Marks, Owner, Packets, Page, PageOf, Read, Rewrite, SeeLife, Signal, State,
-                                     Statuses, StreamState, Tell)
+from shop_tool.carrier.steps import (Adopt, Append, Entries, Hear, Marks, Owner, Packets, Page, PageOf, Read, Rewrite, SeeLife, Signal, Sites,
+                                     State, Statuses, StreamState, Tell)
 
 if TYPE_CHECKING:
     from .clock import Clock
@@ -84,6 +84,8 @@ class Server:
                 stream = self.streams[site]
                 packet = stream.entries[-1][1] if stream.entries else b""
                 return StreamState(len(stream.entries), stream.last, packet, stream.greatest, self.lives[site])
+            case Sites(_):
+                return self.sites
             case Owner(site):
                 return self.owners[site]
             case Adopt(site, before, is_fresh):

@@ -42,12 +42,13 @@ class Answer:
 
 def lines_after(head: bytes) -> int:
     """How many lines belong to the answer that begins with this line."""
-    fields = head.split(b",")
-    if head.startswith(b"?"):
-        return int(fields[1]) if fields[0] == b"?rows" else 0
-    if fields[0] != b"reply" or len(fields) < 3:
+    fields = head.split(b",", 4)
+    if fields[0] == b"reply" and len(fields) > 2:
+        kind = fields[2]
+        return 1 if kind in (b"ok", b"passed") else int(fields[3]) if kind == b"rows" else 0
+    if not head.startswith(b"?"):
         raise ValueError(f"not an answer: {head[:80]!r}")
-    return int(fields[3]) if fields[2] == b"rows" else 1 if fields[2] in (b"ok", b"passed") else 0
+    return int(fields[1]) if fields[0] == b"?rows" else 0
 
 
 class AnswerReader:
@@ -61,18 +62,17 @@ class AnswerReader:
     def feed(self, data: bytes) -> list[Answer]:
         """The answers that end within this piece."""
         answers = []
-        data = self._rest + data
-        begin, size = 0, sum(map(len, self._lines)) + len(self._lines)
-        while (end := data.find(b"\n", begin)) >= 0:
-            line = data[begin:end]
-            self._due = self._due - 1 if self._lines else lines_after(line)
-            self._lines.append(line)
+        *lines, self._rest = (self._rest + data).split(b"\n")
+        some, due = self._lines, self._due
+        size = sum(map(len, some)) + len(some)
+        for line in lines:
+            due = due - 1 if some else lines_after(line)
+            some.append(line)
             size += len(line) + 1
-            begin = end + 1
-            if not self._due:
-                answers.append(Answer(self._lines, size))
-                self._lines, size = [], 0
-        self._rest = data[begin:]
+            if not due:
+                answers.append(Answer(some, size))
+                some, size = [], 0
+        self._lines, self._due = some, due
         return answers
 
 
@@ -105,6 +105,13 @@ class KeptReader:
 
     def next(self) -> tuple[bytes, int]:
         """The next record, and how many bytes of the file it takes, with what no record is before it. At the end it is empty."""
+        if not self._records and self._at == self._size:
+            line = self._next_line()
+            if b"\r" not in line and len(line) > 1:         # as most are
+                return line.rstrip(b"\n"), len(line)
+            self._records, self._size, self._at = records_in(line.rstrip(b"\n")), len(line), 0
+            if not line:
+                return b"", 0
         skipped = 0
         while not self._records:
             skipped += self._size - self._at

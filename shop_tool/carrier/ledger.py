@@ -134,6 +134,44 @@ class Ledger:
         self.out_bytes += answer.size
         return sent
 
+    def note_plain(self, record: bytes, answer: Answer, size: int) -> bool:
+        """The same, in a third of the time, of most records of a past: those that were refused, have become a message, or were one that was
+        released alone, while none waited. False, and nothing is taken in, for any other."""
+        head = answer.lines[0].split(b",", 4)
+        kind = head[2]
+        if kind == b"refused":
+            pass
+        elif self.release.waiting:
+            return False
+        elif kind == b"ok":
+            text = answer.lines[1]
+            _, word, _, _, _, red, _ = text.split(b",", 6)
+            if word != b"msg":
+                return False
+            self.sends.add(True, self.out_bytes + len(answer.lines[0]) + 6, len(text) - 5)
+            self.release.count_alone(self.site)
+            if red != b"0":
+                self._is_red(int(red))
+        elif kind == b"released" and head[3] == b"1":
+            _, _, origin, number, red, _ = record.split(b",", 5)
+            site = int(origin)
+            if site == self.site or self.release.counts[site] + 1 != int(number):
+                return False
+            self.have[site].add(int(number))
+            self.release.count_alone(site)
+            if red != b"0":
+                self._is_red(int(red))
+        else:
+            return False
+        self.records += 1
+        self.kept_bytes += size
+        self.out_bytes += answer.size
+        return True
+
+    def _is_red(self, red: int) -> None:
+        self.release.reds += 1
+        self.red.add(red)
+
     def _sent(self, answer: Answer) -> Message | Token | None:
         text = answer.lines[1][5:]
         start = self.out_bytes + len(answer.lines[0]) + 1 + len(b"send,")

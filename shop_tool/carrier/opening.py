@@ -42,6 +42,11 @@ def why_passed_on(site: int, held: int | None, turns: Mapping[int, int]) -> str 
             if turns[other] > held else None)
 
 
+def why_other_count(over: str, there: int, here: int) -> str | None:
+    """Why a folder can't be of the shop on a server: that has another number of sites, so neither would take the other's messages."""
+    return f"{over} is a shop with --sites {there}, and this folder has --sites {here}" if there != here else None
+
+
 def strange_packet(entries: Iterable[tuple[Place, bytes]], sent: Callable[[Place], bytes | None]) -> Place | None:
     """The first packet that others have of a site and that isn't the one that its folder sent at that place."""
     return next((place for place, text in entries if sent(place) != text), None)

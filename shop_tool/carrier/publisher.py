@@ -5,10 +5,10 @@ from typing import TYPE_CHECKING
 
 from .ledger import NOWHERE, Place
 from .lives import Standing, life_text, standing, takes_place, why_other
-from .opening import must_compare_all, must_hear_all, runs_elsewhere, strange_packet
+from .opening import must_compare_all, must_hear_all, runs_elsewhere, strange_packet, why_other_count
 from .over_files import BATCH
 from .site import Site
-from .steps import (Adopt, Append, Entries, Owner, Packets, Page, PageOf, Rewrite, SayYields, SeeHere, SeeLife, SeenHere, State, Statuses, Steps,
+from .steps import (Adopt, Append, Entries, Owner, Packets, Page, PageOf, Rewrite, SayYields, SeeHere, SeeLife, SeenHere, Sites, State, Statuses, Steps,
                     StreamState, Wait)
 
 if TYPE_CHECKING:
@@ -66,6 +66,8 @@ class Publisher:
     def _compare(self) -> Steps[Place]:
         """Compares the site with its stream; its last place there. A server that has lost its end is given it again."""
         site, sends = self.site, self.site.ledger.sends
+        if not site.compared.is_set and (why := why_other_count(self.link.over, (yield Sites(site.shop.count)), site.shop.count)):
+            raise Elsewhere(why)
         while True:
             state: StreamState = yield State(site.number)
             if not (yield from self._has_site(state)):

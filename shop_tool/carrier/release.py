@@ -70,6 +70,10 @@ class Release(Generic[M]):
         self._park(self._arrivals, message)
         return []
 
+    def count_alone(self, origin: int) -> None:
+        """The next message of a site is released, while none waits. Its red number is counted apart."""
+        self.counts[origin] += 1
+
     def _settle(self) -> list[M]:
         """Releases whatever is ready, the earliest to arrive first."""
         released = []

@@ -131,6 +131,9 @@ State = NamedTuple("State", [("site", int)])
 # Which folder has a site, and where that is; empty if none has it.
 Owner = NamedTuple("Owner", [("site", int)])
 
+# How many sites the shop on the server has, by whoever came first; that is this folder's number, if nobody came before.
+Sites = NamedTuple("Sites", [("count", int)])
+
 # Gives a site to its folder here, or to the fresh one beside it; False if another folder than `before` has it now.
 Adopt = NamedTuple("Adopt", [("site", int), ("before", str), ("is_fresh", bool)])
 

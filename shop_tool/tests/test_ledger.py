@@ -1,6 +1,7 @@
 """What a site has follows from its records and answers."""
 
 import unittest
+from array import array
 
 from shop_tool.carrier.answers import AnswerReader
 from shop_tool.carrier.ledger import Ledger, Prefix, packets_of, tokens_of
@@ -23,6 +24,13 @@ class Prefixes(unittest.TestCase):
         self.assertEqual((prefix.upto, prefix.greatest), (5, 9))
 
 
+def state_of(ledger: Ledger) -> dict[str, object]:
+    """All that a ledger knows, to be compared."""
+    parts = [vars(ledger), vars(ledger.red), vars(ledger.release), vars(ledger.sends), *map(vars, ledger.have)]
+    return {f"{number} {name}": value for number, part in enumerate(parts) for name, value in part.items()
+            if isinstance(value, (int, list, dict, set, array)) and name != "have"}
+
+
 class Notes(unittest.TestCase):
     def setUp(self) -> None:
         self.ledger = Ledger(0, 2, lambda pieces: [OUT[start:start + size] for start, size in pieces])
@@ -30,6 +38,21 @@ class Notes(unittest.TestCase):
         for record, answer in zip(KEPT, AnswerReader().feed(OUT), strict=True):
             self.ledger.note(record, answer)
             self.states.append((self.ledger.holds_token, self.ledger.turn))
+
+    def test_a_past_is_taken_in_as_its_records_are(self) -> None:
+        """Whichever of them are plain, and wherever a past begins; what isn't plain is left to `note`."""
+        kept = [*KEPT, b"msg,1,1,3,5,3:2,user,eve", b"msg,1,1,3,5,3:2,user,eve", b"msg,1,1,4,0,3:3,item,1.3,jar,7,1,5,0"]
+        answers = AnswerReader().feed(OUT + b"reply,10,released,1\nreply,11,repeat\nreply,12,released,1\n")
+        states = []
+        for begin in (*range(len(kept)), len(kept)):
+            past, plain = Ledger(0, 2, lambda pieces: []), []
+            for number, (record, answer) in enumerate(zip(kept, answers, strict=True)):
+                plain.append(number >= begin and past.note_plain(record, answer, len(record) + 1))
+                if not plain[-1]:
+                    past.note(record, answer)
+            self.assertEqual(plain, [number >= begin and number in (0, 2, 3, 7, 9, 11) for number in range(len(kept))])
+            states.append(state_of(past))
+        self.assertTrue(all(state == states[-1] for state in states))
 
     def test_the_token(self) -> None:
         self.assertEqual(self.states, [(True, 0)] + [(False, 1)] * 5 + [(True, 2)] * 2 + [(False, 3)])

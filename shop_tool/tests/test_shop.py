@@ -6,7 +6,7 @@ from typing import Any
 from shop_tool.carrier.over_files import FileLink
 from shop_tool.carrier.publisher import Publisher
 from shop_tool.carrier.site import Site, State as SiteState
-from shop_tool.carrier.steps import Owner, Page, PageOf, SeeHere, SeeLife, SeenHere, State, Statuses, StreamState
+from shop_tool.carrier.steps import Owner, Page, PageOf, SeeHere, SeeLife, SeenHere, Sites, State, Statuses, StreamState
 from shop_tool.tests.shops import Known, OverServer, Supervisor, done
 
 
@@ -38,7 +38,7 @@ class Opening(unittest.TestCase):
     def answers(self, **changed: Any) -> dict[type, Any]:
         state = StreamState(0, (0, 0), b"", (0, 0), "")._replace(**{key: value for key, value in changed.items() if key not in ("statuses", "here")})
         return {State: state, PageOf: Page(0, (0, 0), b"", []), Owner: "me:1 here:0", Statuses: changed.get("statuses", {}), SeeLife: True,
-                SeenHere: changed.get("here"), SeeHere: None}
+                SeenHere: changed.get("here"), SeeHere: None, Sites: 2}
 
     def published(self, answers: dict[type, Any]) -> Site:
         shop = Supervisor(OverServer, 1)
@@ -64,6 +64,12 @@ class Opening(unittest.TestCase):
         site = self.published(self.answers() | {Owner: "other:1 elsewhere:0"})
         assert isinstance(site, Known)
         self.assertIn("elsewhere:0 has it", site.fenced_by or "")
+        self.assertIsNone(site.written)
+
+    def test_a_shop_of_another_number_of_sites_may_go(self) -> None:
+        site = self.published(self.answers() | {Sites: 3})
+        assert isinstance(site, Known)
+        self.assertEqual(site.fenced_by, "the server is a shop with --sites 3, and this folder has --sites 2")
         self.assertIsNone(site.written)
 
     def test_the_token_of_a_later_turn_is_elsewhere(self) -> None:

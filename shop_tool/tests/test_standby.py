@@ -40,7 +40,7 @@ class Yielding(unittest.TestCase):
 
     def compare(self, state: StreamState) -> list[tuple[Any, ...]]:
         answers = {State: state, Owner: "me:1 here:0", Statuses: {}, SeeLife: True, PageOf: Page(0, (0, 0), b"", []), SayYields: True, Rewrite: True,
-                   SeenHere: None, SeeHere: None}
+                   SeenHere: None, SeeHere: None, Sites: 2}
         return done(self.publisher._compare(), answers)
 
     def test_without_a_standby_nothing_is_said(self) -> None:
@@ -62,7 +62,7 @@ class Yielding(unittest.TestCase):
 
     def test_without_its_standby_it_goes_on_once_the_server_knows(self) -> None:
         self.compare(stream(standby="c"))
-        answers = {State: stream(yields=LIFE), Owner: "me:1 here:0", SayYields: False}
+        answers = {State: stream(yields=LIFE), Owner: "me:1 here:0", SayYields: False, Sites: 2}
         self.assertIn(SayYields(1, LIFE, ""), done(self.publisher._compare(), answers | {Statuses: {}}))
         self.assertTrue(self.site.yields)
         self.compare(stream(yields=LIFE))

@@ -1,0 +1,1 @@
+"""`shop ask` in as little time as it takes."""

@@ -1,0 +1,59 @@
+"""Connections: one on which no request comes to its end is closed, and what is no request is told as a problem."""
+
+import asyncio
+
+from aiohttp import web
+
+from .problems import Problem
+
+IDLE_SECONDS = 60.0
+LOOK_SECONDS = 5.0
+HEADERS = {"Server": "shop", "X-Content-Type-Options": "nosniff"}      # of every response
+
+
+class Connections:
+    """The connections of a server, and those of them that have a request under way."""
+
+    def __init__(self, idle_seconds: float) -> None:
+        self.idle_seconds = idle_seconds
+        self._busy: set[asyncio.BaseProtocol] = set()
+
+    def begin(self, request: web.Request) -> None:
+        self._busy.add(request.protocol)
+
+    def end(self, request: web.Request) -> None:
+        self._busy.discard(request.protocol)
+
+    async def read(self, request: web.Request) -> bytes:
+        """The body of a request; a Problem if it doesn't come to its end in time."""
+        try:
+            async with asyncio.timeout(self.idle_seconds):
+                return await request.read()
+        except TimeoutError:
+            raise Problem("TooSlow", f"the body didn't come to its end within {self.idle_seconds:g} s; nothing was asked") from None
+
+    async def close_idle(self, server: web.Server) -> None:
+        """Closes connections that have had no request under way for some time, until it is cancelled."""
+        idle_since: dict[asyncio.BaseProtocol, float] = {}
+        while True:
+            await asyncio.sleep(min(LOOK_SECONDS, self.idle_seconds / 4))
+            now = asyncio.get_running_loop().time()
+            idle_since = {each: idle_since.get(each, now) for each in server.connections if each not in self._busy}
+            for each, since in idle_since.items():
+                if now - since > self.idle_seconds and isinstance(each, web.RequestHandler):
+                    each.force_close()
+
+
+def told_as_problem(handler: web.RequestHandler, request: web.BaseRequest, status: int = 500, exc: BaseException | None = None,
+                    message: str | None = None) -> web.StreamResponse:
+    """What the library answers where it can't read a request, or fails."""
+    if request.writer.output_size > 0:
+        raise ConnectionError("something is sent already")
+    name = {400: "BadRequest", 504: "Away"}.get(status, "Broken")
+    response = Problem(name, message or f"a fault of its own: {exc!r}").response()
+    response.headers.update(HEADERS)
+    response.force_close()
+    return response
+
+
+web.RequestHandler.handle_error = told_as_problem       # type: ignore[assignment]      # the library has no other place for it
