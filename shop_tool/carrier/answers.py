@@ -105,18 +105,16 @@ class KeptReader:
 
     def next(self) -> tuple[bytes, int]:
         """The next record, and how many bytes of the file it takes, with what no record is before it. At the end it is empty."""
-        if not self._records and self._at == self._size:
-            line = self._next_line()
-            if b"\r" not in line and len(line) > 1:         # as most are
-                return line.rstrip(b"\n"), len(line)
-            self._records, self._size, self._at = records_in(line.rstrip(b"\n")), len(line), 0
-            if not line:
-                return b"", 0
         skipped = 0
         while not self._records:
             skipped += self._size - self._at
             line = self._next_line()
-            self._line, self._size, self._at = line.rstrip(b"\n"), len(line), 0
+            self._line = line.rstrip(b"\n")
+            if b"\r" not in line and len(line) > 1:         # one record, as most lines are
+                self._size = self._at = 0
+                self._was_read(self._line)
+                return self._line, skipped + len(line)
+            self._size, self._at = len(line), 0
             self._records = records_in(self._line)
             if not line:
                 return b"", skipped

@@ -7,7 +7,7 @@ from shop_tool.carrier.asking import Ask
 from shop_tool.carrier.ledger import Place
 from shop_tool.carrier.publisher import Publisher
 from shop_tool.carrier.standby import LOOK_SECONDS, Standby
-from shop_tool.carrier.steps import , (Entries, Owner, Page, PageOf, Replay, Rewrite, Say, SayYields, SeeHere, SeeLife, SeenHere, SentHere, Sites, StandBy
+from shop_tool.carrier.steps import (Entries, Owner, Page, PageOf, Replay, Rewrite, Say, SayYields, SeeHere, SeeLife, SeenHere, SentHere, Sites, StandBy,
                                      State, Statuses, StreamState, TakeOver, Wait)
 from shop_tool.ends import Fault
 from shop_tool.tests.shops import Known, OverServer, Supervisor, done
