@@ -1,7 +1,9 @@
 """Reads of a site here, by questions, which leave nothing: rows, pages and listings. An older program keeps a listing as a record."""
 
 import asyncio
+import collections
 import contextlib
+import re
 import time
 from typing import TYPE_CHECKING
 
@@ -17,7 +19,9 @@ if TYPE_CHECKING:
     from .supervisor import Supervisor
 
 AT_ONCE = 4                 # how many long answers are made at once, since each is in memory whole
+TURNED = 1000               # of how many listings it is known where the last page ended
 STATE = b"?state"
+NAME = re.compile(r"[0-9.]{1,24}")      # of a row: an id or a number, or two numbers
 
 
 class NoForm(Exception):
@@ -28,6 +32,8 @@ class Reads:
     def __init__(self, shop: "Supervisor") -> None:
         self.shop = shop
         self._long = asyncio.Semaphore(AT_ONCE)
+        # Of the listings of which pages were read last: the name of the last page's last row, and its place.
+        self._turned: collections.OrderedDict[tuple[int, bytes], tuple[str, int]] = collections.OrderedDict()
 
     async def listings(self, site: KeptSite, listings: list[bytes], seconds: float) -> list[list[str]]:
         """The rows of listings, which are taken at one moment."""
@@ -84,13 +90,39 @@ class Reads:
 
     async def page(self, site: KeptSite, listing: bytes, after: str | None, most: int, seconds: float) -> tuple[list[str], str | None]:
         """The rows of a listing behind the one of this name, at most `most` of them; and the name of the last of them, if more come."""
+        if self.shop.asks_questions:
+            with contextlib.suppress(NoForm):
+                return await self._page_asked(site, listing, after, most, seconds)
         rows, = await self.listings(site, [listing], seconds)
         names = [name_of(line) for line in rows]
         if after is not None and after not in names:
-            raise Fault(Status.MISUSE, f"there is no row {after!r} in {text_of(listing)}")
+            raise no_row(after, listing)
         begin = 0 if after is None else names.index(after) + 1
         end = begin + most
         return rows[begin:end], names[end - 1] if end < len(rows) else None
+
+    async def _page_asked(self, site: KeptSite, listing: bytes, after: str | None, most: int, seconds: float) -> tuple[list[str], str | None]:
+        """A page by a question. The row that it begins behind is looked for from where it stood when the page before was read: a row's place
+        never falls."""
+        if after is not None and not NAME.fullmatch(after):
+            raise no_row(after, listing)
+        name, place = self._turned.get((site.number, listing), ("", 0))
+        place = place if after == name else 0
+        answer, = await self._answers(site, [b"?" + bytes_of(line_of(["page", str(most + 1), str(place), after or ""])) + b"," + listing], seconds)
+        if answer.refusal == "NoRow":
+            raise no_row(after or "", listing)
+        if answer.refusal:
+            raise NoForm
+        rows = [text_of(line) for line in answer.lines[1:most + 1]]
+        if len(answer.lines) - 1 <= most:
+            self._turned.pop((site.number, listing), None)
+            return rows, None
+        last = name_of(rows[-1])
+        self._turned[site.number, listing] = last, place + len(rows) - (after is None)
+        self._turned.move_to_end((site.number, listing))
+        if len(self._turned) > TURNED:
+            self._turned.popitem(last=False)
+        return rows, last
 
     async def settle(self, site: KeptSite, seconds: float) -> None:
         """Returns once whatever was given to the site before is answered."""
@@ -125,6 +157,10 @@ class Reads:
             case "comment", "comment":
                 return bytes_of(f"list,comments,{shadow[3]}")
         return None
+
+
+def no_row(name: str, listing: bytes) -> Fault:
+    return Fault(Status.MISUSE, f"there is no row {name!r} in {text_of(listing)}")
 
 
 def name_of(line: str) -> str:

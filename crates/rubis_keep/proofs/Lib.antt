@@ -1,4 +1,5 @@
 pub mod LineFacts
+pub mod PageFacts
 pub mod QuoteFacts
 pub mod FileFacts
 pub mod RecordFacts

@@ -6,7 +6,8 @@ use Rattle.rubis_schema.specs.declared.row_keys.RowKey.{RowKey}
 use Rattle.rubis_model.specs.Site.{Place, Replica}
 use Rattle.rubis_engine.specs.Text.{input_records, rows_text}
 use Rattle.rubis_keep.specs.Lines.{closes}
-use Rattle.rubis_keep.specs.Questions.{key_in, question_in, refused_as, reply_rows, row_asked}
+use Rattle.rubis_keep.specs.Questions.{key_in, question_in, reply_rows, row_asked}
+use Rattle.rubis_keep.specs.Showing.{refused_as}
 use Rattle.rubis_keep.specs.declared.questions.Question.{Question}
 
 pub refused-open : (p : Place) (s : Replica) (n : ℕ) (line text : List ℕ) → length line ≤ 4096 → closes (drop 1 line) ≡ false

@@ -1,5 +1,5 @@
 -- Pages of listings.
-use Rattle.std.specs.Prelude.{ℕ, ◌≡◌, ◌++◌, ◌∷◌, [], Bool, List, Option, None, Some, IfSome, bytes_eq, codes, cond, drop, false, take, true}
+use Rattle.std.specs.Prelude.{ℕ, ◌≡◌, ◌==◌, ◌++◌, ◌∷◌, [], Bool, List, Option, None, Some, IfSome, bytes_eq, codes, cond, drop, false, length, take, true}
 use Rattle.std.specs.Option.{option_map_or}
 use Rattle.rubis_message.specs.Readings.{request_of}
 use Rattle.rubis_message.specs.declared.requests.Request.{Request}
@@ -53,7 +53,7 @@ behind name (row ∷ rows) = cond (bytes_eq (row_name row) name) (Some rows) (be
 
 -- the rows of a listing from where a page begins: the named row is looked for from a place on, and without a name the page begins at that place
 abbrev pub rows_from : Page → List (List (List ℕ)) → Option (List (List (List ℕ)))
-rows_from p rows = cond (bytes_eq p.after []) (Some (drop p.from rows)) (behind p.after (drop p.from rows))
+rows_from p rows = cond (length p.after == 0) (Some (drop p.from rows)) (behind p.after (drop p.from rows))
 
 -- what answers that asks for a page of these rows
 abbrev pub page_rows : Page → List (List (List ℕ)) → List (List (List ℕ))

@@ -1,6 +1,6 @@
 //! Pages of listings.
 
-ghost use Rattle.std.specs.Prelude.{◌≡◌, ◌⊎◌, ◌++◌, ◌∷◌, [], List, ℕ, IfOk, IfSome, None, bytes_eq, drop, map, option_map, take};
+ghost use Rattle.std.specs.Prelude.{◌≡◌, ◌⊎◌, ◌++◌, ◌∷◌, [], List, ℕ, IfOk, IfSome, None, bytes_eq, drop, option_map, take, true};
 ghost use Rattle.rubis_engine.specs.Text.{rows_text};
 ghost use Rattle.rubis_message.specs.Readings.{request_of};
 ghost use Rattle.rubis_model.specs.Site.{Replica};
@@ -16,14 +16,14 @@ use crate::fault::KeepFault;
 use crate::showing::{refuse, show_count};
 use rubis_engine::{InputRecord, OutOfMemory, Sink};
 use rubis_message::{ReadFault, Request, read_request};
-use rubis_schema::{Fields, Items, Listing, Record, RowSink, Text, read_number};
-use rubis_script::Gate;
+use rubis_schema::{Fields, Items, Listing, Record, Text, read_number};
+use rubis_script::{Gate, write_rows};
 use std::alloc::{AllocError, Global};
 use std::sync::Wait;
 use std::thread::Threads;
 
 /// How many rows a page has at most.
-pub const PAGE_MAX: u64 = 10_000;
+pub const PAGE_MAX: u64 = 65_536;
 
 /// The greatest place of a listing from which a page can be asked for.
 pub const PLACE_MAX: u64 = 4_294_967_295;
@@ -65,7 +65,10 @@ impl<'a> Record for LaterFields<'a> {
     }
 
     fn field(&self, place: usize) -> Option<&[u8]> {
-        self.fields.field(self.first.checked_add(place)?)
+        if place >= self.fields.len().saturating_sub(self.first) {
+            return None;
+        }
+        self.fields.field(self.first + place)
     }
 }
 
@@ -214,19 +217,22 @@ fn show_rows(alloc: Global, rows: &[Fields]) -> Result<Sink, AllocError>
     ensures { IfOk result (λ sink. sink ≡ rows_text (counted_rows rows.now)) }
 {
     let mut sink = show_count(alloc, rows.len() as u64)?;
-    for row in rows {
-        sink.put(row)?;
-    }
+    write_rows(&mut sink, rows)?;
     Ok(sink)
 }
 
-// The rows from a place on, at most so many.
-fn stretch(rows: &[Fields], place: usize, most: u64) -> &[Fields]
-    ensures { result.now ≡ take most (drop place rows.now) }
+// The rows from a place on.
+fn rows_behind(rows: &[Fields], place: usize) -> &[Fields]
+    ensures { result.now ≡ drop place rows.now }
 {
-    let begin = place.min(rows.len());
-    let end = begin.saturating_add(most as usize).min(rows.len());
-    &rows[begin..end]
+    &rows[place.min(rows.len())..]
+}
+
+// The first rows, at most so many.
+fn first_rows(rows: &[Fields], most: u64) -> &[Fields]
+    ensures { result.now ≡ take most rows.now }
+{
+    &rows[..(most as usize).min(rows.len())]
 }
 
 // Shows a page of the rows of its listing.
@@ -234,7 +240,7 @@ fn show_page(alloc: Global, rows: &[Fields], page: &Page) -> Result<Sink, AllocE
     ensures { IfOk result (λ sink. sink ≡ rows_text (page_rows page.now rows.now)) }
 {
     match place_of(alloc, rows, page)? {
-        Some(place) => show_rows(alloc, stretch(rows, place, page.most)),
+        Some(place) => show_rows(alloc, first_rows(rows_behind(rows, place), page.most)),
         None => refuse(alloc, b"NoRow"),
     }
 }

@@ -17,8 +17,8 @@ mod windows;
 pub use desk::Desk;
 pub use laws::replays_go_on;
 pub use replies::{
-    write_arrival, write_listed, write_listed_text, write_passed, write_refusal, write_sent,
-    write_taken,
+    write_arrival, write_listed, write_listed_text, write_passed, write_refusal, write_rows,
+    write_sent, write_taken,
 };
 pub use rubis_engine::{Count, RunFault};
 pub use rubis_replica::{Arrived, Config, Fault, Free, Gate, Site};

@@ -167,8 +167,8 @@ pub fn write_taken<S: PlainSink>(
     }
 }
 
-// Writes rows as they are.
-fn write_rows<S: RowSink>(sink: &mut S, rows: &[Fields]) -> Result<(), AllocError>
+/// Writes rows as they are.
+pub fn write_rows<S: RowSink>(sink: &mut S, rows: &[Fields]) -> Result<(), AllocError>
     ensures { OnOk result (S.adds rows.now sink.old sink.new) }
 {
     for row in rows {

@@ -1,9 +1,11 @@
-use Rattle.std.proofs.Common.{[], refl, rules}
+use Rattle.std.proofs.Common.{[], refl, rules, subst, sym}
 use Rattle.rubis_keep.specs.Lines.{begun_after}
+use Rattle.rubis_keep.specs.Pages.{AreListed}
 use Rattle.rubis_keep.proofs.AskFacts.{each-asks, each-fails, each-fails-unread, front-silent, kept-silent, on_fault, silent-more, silent-none, told-silent}
 use Rattle.rubis_keep.proofs.EachFacts.{on_err}
 use Rattle.rubis_keep.proofs.FileFacts.{appends-kept}
 use Rattle.rubis_keep.proofs.HistoryFacts.{kept-log, kept-out, told-after, told-failed, told-log, tells-after, tells-none, torn-log, torn-out}
+use Rattle.rubis_keep.proofs.PageFacts.{listed-after}
 use Rattle.rubis_keep.proofs.SafeFacts.{lives-err, lives-known, lives-none, lives-torn, piece-lines, piece-safe, piece-unanswered}
 use Rattle.rubis_keep.proofs.SoundFacts.{begun-no-end}
 use Rattle.rubis_keep.proofs.StandFacts.{each-kept, each-more, each-torn, each-unanswered, each-unkept, took-kept, took-whole, torn-front, unanswered-kept, unread-front}
@@ -29,7 +31,7 @@ returns-in_default-clause-err g c =
 pub feed_chunk-requires-clause-whole : goal.feed_chunk-requires-clause-whole
 feed_chunk-requires-clause-whole g c κs within =
     let begun = c.requires.begun in
-    rw c.deref-2.ensures.value (took-whole _ begun.0 [] _ _ _ _ _ _ _ (c.in_ok-came.ensures.ok begun.0 begun.2).0)
+    rw c.deref-3.ensures.value (took-whole _ begun.0 [] _ _ _ _ _ _ _ (c.in_ok-came.ensures.ok begun.0 begun.2).0)
 
 pub returns-in_err-feed_chunk-clause-err : goal.returns-in_err-feed_chunk-clause-err
 returns-in_err-feed_chunk-clause-err g c =
@@ -37,7 +39,7 @@ returns-in_err-feed_chunk-clause-err g c =
     on_err _ (each-unanswered _ _ _ _ _ _ _ _ _ _ _ c.read_next.new.lines.chunk.items _ _ _
     (λ line e. took-kept _ line _ _ _ _ _ _ _ (c.in_ok-came.ensures.ok line e).0
     (appends-kept _ _ _ _ (kept-log _ _ _ _ kept) (told-log _ _ _ _ _ c.feed_chunk.result c.feed_chunk.ensures.told)))
-    (each-kept _ _ _ _ _ _ (kept-out _ _ _ _ kept) (rw c.deref-2.ensures.value at c.in_err-feed_chunk.ensures.err)))
+    (each-kept _ _ _ _ _ _ (kept-out _ _ _ _ kept) (rw c.deref-3.ensures.value at c.in_err-feed_chunk.ensures.err)))
 
 pub returns-clause-ok : goal.returns-clause-ok
 returns-clause-ok g c =
@@ -45,7 +47,7 @@ returns-clause-ok g c =
     each-more _ _ _ _ _ _ _ _ _ _ _ _ _ c.read_next.new.lines.chunk.items _ _ _ _ _
     (λ line e. took-kept _ line _ _ _ _ _ _ _ (c.in_ok-came.ensures.ok line e).0
     (appends-kept _ _ _ _ (kept-log _ _ _ _ kept) (told-log _ _ _ _ _ c.feed_chunk.result c.feed_chunk.ensures.told)))
-    (each-kept _ _ _ _ _ _ (kept-out _ _ _ _ kept) (rw c.deref-2.ensures.value at c.in_ok-feed_chunk.ensures.ok))
+    (each-kept _ _ _ _ _ _ (kept-out _ _ _ _ kept) (rw c.deref-3.ensures.value at c.in_ok-feed_chunk.ensures.ok))
     (search rules)
 
 pub returns-clause-end : goal.returns-clause-end
@@ -105,7 +107,7 @@ returns-in_err-feed_chunk-clause-safe g c keeps live =
     let kept = rw c.deref.ensures.value at c.in_ok-keep_chunk.ensures in
     lives-err _ _ _ _ _ _ _ _ c.feed_chunk.result c.from_residual-in_err-feed_chunk.result c.from_residual-in_err-feed_chunk.ensures.0
     (piece-safe _ _ _ _ _ _ _ _ _ c.read_next.new.lines.chunk.items _ _ c.feed_chunk.result live (piece-lines _ begun.0 t.bytes _ begun.1 t.holds) (rw keeps at kept)
-    c.feed_chunk.ensures.told (rw c.deref-2.ensures.value at c.feed_chunk.ensures.ok) (rw c.deref-2.ensures.value at c.feed_chunk.ensures.err))
+    c.feed_chunk.ensures.told (rw c.deref-3.ensures.value at c.feed_chunk.ensures.ok) (rw c.deref-3.ensures.value at c.feed_chunk.ensures.err))
 
 pub returns-clause-safe : goal.returns-clause-safe
 returns-clause-safe g c keeps live =
@@ -114,7 +116,7 @@ returns-clause-safe g c keeps live =
     let kept = rw c.deref.ensures.value at c.in_ok-keep_chunk.ensures in
     lives-known _ _ _ _ _ _ _ _ c.feed_chunk.result _ c.in_ok-feed_chunk.was
     (piece-safe _ _ _ _ _ _ _ _ _ c.read_next.new.lines.chunk.items _ _ c.feed_chunk.result live (piece-lines _ begun.0 t.bytes _ begun.1 t.holds) (rw keeps at kept)
-    c.feed_chunk.ensures.told (rw c.deref-2.ensures.value at c.feed_chunk.ensures.ok) (rw c.deref-2.ensures.value at c.feed_chunk.ensures.err))
+    c.feed_chunk.ensures.told (rw c.deref-3.ensures.value at c.feed_chunk.ensures.ok) (rw c.deref-3.ensures.value at c.feed_chunk.ensures.err))
 
 -- ---- questions
 
@@ -138,4 +140,13 @@ pub returns-clause-asked : goal.returns-clause-asked
 returns-clause-asked g c =
     each-asks _ _ _ _ _ _ _ _ _ _ _ _ _ _ _ c.in_ok-came.ensures.ok
     (silent-more _ _ _ (kept-silent _ _ _ _ c.in_ok-keep_chunk.ensures) (told-silent _ _ _ _ c.feed_chunk.result c.feed_chunk.ensures.told))
-    (rw c.deref-2.ensures.value at c.in_ok-feed_chunk.ensures.leads)
+    (rw c.deref-3.ensures.value at c.in_ok-feed_chunk.ensures.leads)
+
+-- ---- pages
+
+pub returns-clause-listed : goal.returns-clause-listed
+returns-clause-listed g c =
+    let led = rw c.deref-3.ensures.value at c.in_ok-feed_chunk.ensures.leads in
+    listed-after c.args.clerk.now.desk.site.place c.args.clerk.now.desk.site.state _ c.read_next.new.lines.chunk.items _ _
+    (subst (AreListed c.args.clerk.now.desk.site.state) (sym c.read_next.ensures.others.1) c.requires.listed)
+    (rw c.deref-2.ensures.value at c.let_go.ensures) led.state
