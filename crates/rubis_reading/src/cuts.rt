@@ -141,7 +141,7 @@ pub fn whole_end(text: &[u8]) -> usize
 }
 
 // How many bytes are looked through at once, where one end of a record is enough.
-const LOOK: usize = 65_536;
+const LOOK: usize = 4_096;
 
 /// Looks on through a text until a record ends in what was looked at, or to its end.
 pub fn look_for_end(from: Looked, text: &[u8]) -> Looked

@@ -1,5 +1,6 @@
 -- The keys of rows with ids.
 use Rattle.std.specs.Prelude.{ℕ, ◌+◌, ◌*◌, ◌^◌, Bool, ◌&&◌, nat_eq}
+use Rattle.std.specs.Int.{rotate_right, w64}
 use Rattle.rubis_schema.specs.declared.ids.Id.{Id}
 use Rattle.rubis_schema.specs.declared.id_keys.IdKey.{IdKey}
 use Rattle.rubis_schema.specs.declared.id_keys.IdTable.{IdTable}
@@ -28,7 +29,7 @@ row_key k = key_in k.table (record { site = k.site; seq = k.seq })
 
 -- what a key is hashed by
 abbrev pub key_word : IdKey → ℕ
-key_word k = table_place k.table * 2 ^ 40 + k.site * 2 ^ 32 + k.seq
+key_word k = rotate_right w64 (table_place k.table * 2 ^ 58 + (k.site * 2 ^ 32 + k.seq)) 2
 
 abbrev pub id_word : Id → ℕ
 id_word i = i.site * 2 ^ 32 + i.seq

@@ -106,9 +106,13 @@ impl Hash for IdKey {
 
     ghost respects_eq = { (same_Alike (λ k. fed.u64 (key_word k)) Decides-same_id_key).fed };
 
+    // The last two bits of the number and the table stand in the highest byte of the word. After the multiplication they are in the
+    // highest byte of the hash alone, which tells the keys of one group of a map's index from each other; the rest of the hash says
+    // which group it is. So four ids that follow each other have one group, whatever their tables, and rows that are entered one
+    // after the other are found in few lines of memory.
     #[inline(always)]
     fn hash<H: Hasher>(&self, state: &mut H) {
-        let table = self.table.place();
-        state.write_u64(table * (1 << 40) + u64::from(self.site) * (1 << 32) + u64::from(self.seq));
+        let id = u64::from(self.site) * (1 << 32) + u64::from(self.seq);
+        state.write_u64((self.table.place() * (1 << 58) + id).rotate_right(2));
     }
 }

@@ -29,7 +29,7 @@ use std::thread::Threads;
 const BLOCK: usize = 4_194_304;
 
 // The same where one thread reads and answers: few enough that they are still in its cache.
-const BLOCK_ALONE: usize = 262_144;
+const BLOCK_ALONE: usize = 98_304;
 
 // How long a chunk is at least and at most, where so much is at hand.
 const CHUNK_MIN: usize = 65_536;
