@@ -3,7 +3,7 @@ use Rattle.std.specs.Prelude.{◌≡◌, ℕ, ◌<◌, List, [], ◌∷◌, Some
 use Rattle.std.specs.List.Sorted.{IsPermutation}
 use Rattle.rubis_pieces.specs.declared.pieces.Done.{Done}
 use Rattle.rubis_pieces.specs.declared.pieces.Left.{Left}
-use Rattle.rubis_pieces.specs.declared.gathers.Counted.{Counted}
+use Rattle.rubis_pieces.specs.declared.gathers.CountedShards.{CountedShards}
 use Rattle.rubis_pieces.specs.declared.gathers.Gathered.{Gathered}
 use Rattle.rubis_pieces.specs.Faults.{numbers_of}
 
@@ -23,6 +23,6 @@ IsGathered shards list g =
     (ds : List Done) × IsInOrder shards list ds × (g.shards ≡ map (λ (d : Done). d.shard) ds) × (g.left ≡ flat_map left_of ds)
 
 -- the shards of the list in order of number, with how much is done of each
-abbrev pub IsCounted : ℕ → List Done → Counted → Type 0
+abbrev pub IsCounted : ℕ → List Done → CountedShards → Type 0
 IsCounted shards list c =
     (ds : List Done) × IsInOrder shards list ds × (c.shards ≡ map (λ (d : Done). d.shard) ds) × (c.dones ≡ map (λ (d : Done). d.done) ds)

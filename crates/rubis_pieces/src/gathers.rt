@@ -36,7 +36,7 @@ pub struct Gathered {
 
 /// The shards by number, and how much of each one's work is done.
 #[derive(Drop)]
-pub struct Counted {
+pub struct CountedShards {
     pub shards: Items<Shard>,
     pub dones: Items<usize>,
 }
@@ -152,7 +152,7 @@ pub fn gather_counted(
     list: Vec<Done>,
     places: Places,
     dones: Vec<usize>,
-) -> Result<Counted, GatherFault>
+) -> Result<CountedShards, GatherFault>
     requires none { dones.items ≡ [] }
     requires room { places ≤ vec_capacity dones }
     ensures counted { IfOk result (IsCounted places list.items) }
@@ -174,7 +174,7 @@ pub fn gather_counted(
         shards.push_reserved(shard);
         dones.push_reserved(done);
     }
-    Ok(Counted {
+    Ok(CountedShards {
         shards: shards.into(),
         dones: dones.into(),
     })

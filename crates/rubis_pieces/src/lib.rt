@@ -13,7 +13,9 @@ mod waiting;
 
 pub use batches::{apply_batch, fold_share};
 pub use following::{follow, follow_rest, homes_of};
-pub use gathers::{Counted, FaultKind, GatherFault, Gathered, Places, gather, gather_counted};
+pub use gathers::{
+    CountedShards, FaultKind, GatherFault, Gathered, Places, gather, gather_counted,
+};
 pub use ordering::misfits;
 pub use pieces::{Done, Left, Piece};
 pub use rests::finish;

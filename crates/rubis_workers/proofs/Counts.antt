@@ -13,7 +13,7 @@ use Rattle.rubis_shard.specs.States.{ShardState}
 use Rattle.rubis_shard.specs.Holdings.{AreInOrder}
 use Rattle.rubis_pieces.specs.Faults.{IsFault, numbers_of}
 use Rattle.rubis_pieces.specs.Gathered.{IsCounted, IsInOrder}
-use Rattle.rubis_pieces.specs.declared.gathers.Counted.{Counted}
+use Rattle.rubis_pieces.specs.declared.gathers.CountedShards.{CountedShards}
 use Rattle.rubis_pieces.specs.declared.gathers.FaultKind.{FaultKind}
 use Rattle.rubis_pieces.specs.declared.pieces.Piece.{Piece}
 use Rattle.rubis_pieces.specs.declared.pieces.Done.{Done}
@@ -88,7 +88,7 @@ module _ (first : ℕ) (batch : List Core) where
         (length-map placed (λ (d : Done). d.shard.number) ∙ many) numbers
         (IsPermutation-map (λ (d : Done). d.shard.number) placed list (IsPermutation-sym list placed in_place.2))
 
-    pub followed : (c : Counted) → IsCounted (length ss) list c → AreFollowed first batch ss c.shards c.dones
+    pub followed : (c : CountedShards) → IsCounted (length ss) list c → AreFollowed first batch ss c.shards c.dones
     followed c (ds, sorted, shards_are, dones_are) =
         let again : IsInOrder (length ss) placed ds =
         record {

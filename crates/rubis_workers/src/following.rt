@@ -15,7 +15,7 @@ use crate::task::FollowBatch;
 use crate::team::{Job, Teamwork, fan_out};
 use crate::workers::TeamSetup;
 use rubis_board::Poster;
-use rubis_pieces::{Counted, Piece, gather_counted};
+use rubis_pieces::{CountedShards, Piece, gather_counted};
 use rubis_schema::Items;
 use rubis_shard::{Shard, Share};
 use std::alloc::Global;

@@ -10,17 +10,17 @@ pub trait Gate: Sync {
 
 /// The word of a worker that the gate was told of its shard. What is done with a shard wants it, so that the gate comes first.
 #[derive(Drop)]
-pub struct Taken {
+pub struct Told {
     shard: usize,
 }
 
-impl Taken {
+impl Told {
     /// Tells the gate of a shard.
-    pub fn told<G: Gate>(gate: &G, shard: usize) -> Taken
+    pub fn tell<G: Gate>(gate: &G, shard: usize) -> Told
         ensures { result.shard ≡ shard }
     {
         gate.taken(shard);
-        Taken { shard }
+        Told { shard }
     }
 }
 

@@ -3,7 +3,7 @@
 ghost use Rattle.std.specs.Prelude.{◌+◌, ◌≡◌};
 ghost use Rattle.rubis_schema.specs.declared.limits.TheConstants.{KEEP_MAX};
 
-use crate::gate::Taken;
+use crate::gate::Told;
 use rubis_message::Message;
 use rubis_pieces::{Done, Piece, fold_share, follow};
 use rubis_shard::PartHomes;
@@ -18,7 +18,7 @@ pub trait Task: Sync {
     ghost Worked: { Self → Piece → Done → Type 0 };
 
     /// Does it with a piece that was taken, once the gate was told.
-    fn work_on(&self, piece: Piece, taken: Taken) -> Done
+    fn work_on(&self, piece: Piece, told: Told) -> Done
         requires { Fits self.now piece }
         ensures { Worked self.now piece result };
 }
@@ -34,7 +34,7 @@ impl Task for FoldShares {
 
     ghost Worked = { λ _ piece done. IsWorked piece done };
 
-    fn work_on(&self, piece: Piece, _taken: Taken) -> Done {
+    fn work_on(&self, piece: Piece, _told: Told) -> Done {
         fold_share(piece)
     }
 }
@@ -59,7 +59,7 @@ impl<'a> Task for FollowBatch<'a> {
 
     ghost Worked = { λ f piece done. IsFollowed f.first (cores f.batch.now) piece.shard done.done done.shard };
 
-    fn work_on(&self, piece: Piece, _taken: Taken) -> Done {
+    fn work_on(&self, piece: Piece, _told: Told) -> Done {
         let Piece { mut shard, share } = piece;
         let done = follow(&mut shard, self.batch, self.homes, self.first);
         Done { shard, share, done }

@@ -7,7 +7,7 @@ ghost use Rattle.std.specs.Thread.{IsSync};
 ghost use Rattle.rubis_board.specs.Passes.{joined_pass};
 ghost use Rattle.rubis_workers.specs.Work.{having, IsRoom};
 
-use crate::gate::{Gate, Taken};
+use crate::gate::{Gate, Told};
 use crate::task::Task;
 use rubis_board::{Board, Pass};
 use rubis_pieces::Done;
@@ -50,7 +50,7 @@ pub fn work<T: Task, G: Gate, R: Wait>(
         let Some(piece) = job.board.take(rt, &mut pass) else {
             break;
         };
-        let taken = Taken::told(job.gate, piece.shard.number());
+        let taken = Told::tell(job.gate, piece.shard.number());
         room.push_reserved(job.task.work_on(piece, taken));
     }
     (pass, room)
