@@ -1,10 +1,9 @@
 -- Pages of listings.
-use Rattle.std.proofs.Common.{◌≡◌, ◌≤◌, ◌<◌, Some, bytes_eq, false, get_or, true, ◌∙◌, ◌⊎◌, ◌+◌, ◌-◌, ◌∷◌, [], ℕ, zero, suc, List, None, Option, ap, arith, drop, inl, inr, length, refl, slice_get, subst, sym}
-use Rattle.std.proofs.lemmas.List.{at_drop_more}
+use Rattle.std.proofs.Common.{◌≡◌, ◌≤◌, ◌∙◌, ◌⊎◌, ◌+◌, ◌-◌, ◌∷◌, [], ℕ, zero, suc, List, None, Option, ap, arith, drop, inl, inr, length, refl, slice_get, subst, sym}
 use Rattle.std.proofs.lemmas.Option.{slice_get_past}
 use Rattle.rubis_engine.specs.Text.{input_records}
 use Rattle.rubis_model.specs.Site.{Place, Replica}
-use Rattle.rubis_keep.specs.Pages.{AreListed, behind, row_name}
+use Rattle.rubis_keep.specs.Pages.{AreListed}
 use Rattle.rubis_keep.specs.Shortened.{state_after}
 use Rattle.rubis_keep.specs.declared.pages.Listed.{Listed}
 use Rattle.rubis_keep.proofs.LifeFacts.{none-read}
@@ -26,12 +25,3 @@ get-later (x ∷ xs) (suc k) i = get-later xs k i ∙ ap (slice_get (x ∷ xs)) 
 
 pub none-later : {X : Type 0} (xs : List X) (k i : ℕ) → length xs - k ≤ i → slice_get (drop k xs) i ≡ None
 none-later xs k i h = get-later xs k i ∙ slice_get_past xs (i + k) (omega (arith, h))
-
--- the rows behind a name, from a place on where a row stands: it has that name, or it is looked for further on
-pub behind-here : (name : List ℕ) (rows : List (List (List ℕ))) (at : ℕ) → at < length rows → bytes_eq (row_name (get_or rows at [])) name ≡ true
-    → behind name (drop at rows) ≡ Some (drop (at + 1) rows)
-behind-here name rows at h named = at_drop_more (behind name) rows at [] h ∙ rw named refl
-
-pub behind-later : (name : List ℕ) (rows : List (List (List ℕ))) (at : ℕ) → at < length rows → bytes_eq (row_name (get_or rows at [])) name ≡ false
-    → behind name (drop at rows) ≡ behind name (drop (at + 1) rows)
-behind-later name rows at h named = at_drop_more (behind name) rows at [] h ∙ rw named refl

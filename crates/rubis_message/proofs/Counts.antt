@@ -40,13 +40,6 @@ text_more counts text marked more i at next lt e mark last is =
     (λ some. mark (omega (arith, rest, some))) (λ none. last (omega (arith, rest, none, lt))) is
     ∙ ap deps_text (sym (drop-cons counts i 0 lt))
 
--- the last count alone
-pub last_text : (counts : List ℕ) (i : ℕ) → i + 1 ≡ length counts → decimal (get_or counts i 0) ≡ deps_text (drop i counts)
-last_text counts i last =
-    let outside : length counts ≤ suc i = omega (arith, last) in
-    let behind : drop (suc i) counts ≡ [] = drop_of_length-le counts outside in
-    sym (ap deps_text (drop-cons counts i 0 (omega (arith, last)) ∙ ap (λ rest. get_or counts i 0 ∷ rest) behind))
-
 -- the counts that were read, and those that are left
 abbrev pub then_left : List ℕ → Option (List ℕ) → Option (List ℕ)
 then_left read left = option_map (λ more. read ++ more) left

@@ -16,9 +16,6 @@ pub get-with_row : (t : Tables) (k : RowKey) (o : Option Row) (q : RowKey) → m
 get-with_row t k None q = map.get-remove key_total t k q
 get-with_row t k (Some r) q = map.get-insert key_total t k r q
 
-pub get-after_here : (t : Tables) (e : Effect) → map.get (after_part t e) e.key ≡ (doing t e).row
-get-after_here t e = get-with_row t e.key _ e.key ∙ ap (λ b. cond b (doing t e).row (map.get t e.key)) (tied-refl e.key)
-
 pub get-after_else : (t : Tables) (e : Effect) (q : RowKey) → ¬ (q ≡ e.key) → map.get (after_part t e) q ≡ map.get t q
 get-after_else t e q n = get-with_row t e.key _ q ∙ ap (λ b. cond b (doing t e).row (map.get t q)) (other_key q e.key n)
 

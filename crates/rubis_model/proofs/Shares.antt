@@ -153,10 +153,3 @@ fold_batch log batch =
       misfits = all_noted (outcomes (fold_of log).tables (numbered_from (1 + length log) batch));
     }
     alone = fold_on_is (fold_of log).tables [] (numbered_from (1 + length log) batch)
-
--- a shard that holds its part of a log comes to hold its part of the log with the batch
-pub share_of_log : (shards k : ℕ) (log batch : List Core)
-    → (share_folded shards (1 + length log) (fold_of log).tables batch k).tables ≡ part_of shards k (fold_of (log ++ batch)).tables
-share_of_log shards k log batch =
-    share_is_part shards (1 + length log) k (fold_of log).tables batch
-    ∙ ap (part_of shards k) (sym (ap (λ f. f.tables) (fold_batch log batch)))

@@ -50,25 +50,12 @@ other_fails : (c : ℕ) → (c < 48) ⊎ (57 < c) → is_ascii_digit c ≡ false
 other_fails c (inl low) = search (rules, tests)
 other_fails c (inr high) = search (rules, tests)
 
-pub reading_starts : (bytes : List ℕ) → IsReading bytes 0 0
-reading_starts bytes = record { value = refl; digits = refl }
-
 at_front : (bytes : List ℕ) (at number : ℕ) → at < length bytes → IsReading bytes at number
     → (read_on number (get_or bytes at 0 ∷ drop (suc at) bytes) ≡ read_on 0 bytes)
     × (all_ascii_digits (get_or bytes at 0 ∷ drop (suc at) bytes) ≡ all_ascii_digits bytes)
 at_front bytes at number lt h =
     let cut = drop-cons bytes at 0 lt in
     (ap (read_on number) (sym cut) ∙ h.value, ap all_ascii_digits (sym cut) ∙ h.digits)
-
-pub reading_more : (bytes : List ℕ) (at next number : ℕ) → at < length bytes → IsReading bytes at number → 48 ≤ get_or bytes at 0 → get_or bytes at 0 ≤ 57
-    → next ≡ number * 10 + (get_or bytes at 0 - 48) → IsReading bytes (at + 1) next
-reading_more bytes at next number lt h low high is =
-    let front = at_front bytes at number lt h in
-    let passes = digit_passes (get_or bytes at 0) low high in
-    rw add-one (record {
-      value = ap (λ n. read_on n (drop (suc at) bytes)) is ∙ front.0;
-      digits = ap (λ t. t && all_ascii_digits (drop (suc at) bytes)) (sym passes) ∙ front.1;
-    })
 
 pub stops_at : (bytes : List ℕ) (at number n : ℕ) → n < 2 ^ 64 → at < length bytes → IsReading bytes at number → (get_or bytes at 0 < 48)
     ⊎ (57 < get_or bytes at 0) → bytes ≡ decimal n → ⊥

@@ -15,17 +15,6 @@ pub of_slots : (es : Slots) → messages_of (values_of es) ≡ somes es
 of_slots [] = refl
 of_slots (e ∷ es) = ap (put_some e.1) (of_slots es)
 
--- a slot with a message: it was listed
-pub one_listed : (old new : List (Bor Message)) (one : Bor Message) (v : Option Message) (rest vs : List (Option Message)) (all : List Message)
-    → map (λ m. m.now) old ++ messages_of vs ≡ all → vs ≡ v ∷ rest → v ≡ Some one.now → new ≡ old ++ one ∷ []
-    → map (λ m. m.now) new ++ messages_of rest ≡ all
-one_listed old new one v rest vs all listed next is pushed =
-    ap (λ xs. map (λ m. m.now) xs ++ messages_of rest) pushed
-    ∙ ap (λ xs. xs ++ messages_of rest) (map-append (λ (m : Bor Message). m.now) old (one ∷ []))
-    ∙ append_assoc (map (λ m. m.now) old) (one.now ∷ []) (messages_of rest)
-    ∙ sym (ap (λ w. map (λ m. m.now) old ++ put_some w (messages_of rest)) is)
-    ∙ sym (ap (λ ws. map (λ m. m.now) old ++ messages_of ws) next) ∙ listed
-
 -- a slot without one
 pub none_listed : (old : List (Bor Message)) (v : Option Message) (rest vs : List (Option Message)) (all : List Message)
     → map (λ m. m.now) old ++ messages_of vs ≡ all → vs ≡ v ∷ rest → v ≡ None → map (λ m. m.now) old ++ messages_of rest ≡ all

@@ -89,13 +89,6 @@ pub held_for_red : (s : Replica) (x : Shadow) (red : ℕ) → (is_red x ≡ true
     ≡ issued_after x s.held
 held_for_red s x red right e z = ⊎_elim (λ r. ap Some (e ∙ r.1) ∙ sym r.2) (λ b. absurd (z (e ∙ b.1))) (red_cases s x right)
 
--- ---- the message
--- where an intake may make a message of the shadow
-pub record MayMake (i : Intake) (x : Shadow) : Type 0 where
-  pub room : is_full i.place.keep i.state ≡ false
-  pub right : is_red x ≡ true → is_current i.state ≡ true
-  pub limits : InLimits i.place.sites x
-
 pub built : (p : Place) (s : Replica) (x : Shadow) (count red : ℕ) (deps : List ℕ) → count ≡ counted p.site s.log → deps ≡ counts p.sites s.log → red
     ≡ red_for x s.held
     → record { id = record { site = p.site; seq = count + 1 }; red = red; deps = deps } ≡ (made p s x).stamp

@@ -180,12 +180,6 @@ folds_sooner from next shards old new ns many low none h = record {
       (cases_lt k next);
 }
 
-pub folds_sooner_ok : {E : Type 0} (r : Result (Unit {0}) E) (from next shards : ℕ) (old new : List ShardState) (ns : List Numbered)
-    → shards ≡ length old → from ≤ next → ((k : ℕ) → from ≤ k → k < next → parts_at shards k ns ≡ [])
-    → OnOk r (FoldsFrom next old ns new) → OnOk r (FoldsFrom from old ns new)
-folds_sooner_ok (Ok u) from next shards old new ns many low none h = folds_sooner from next shards old new ns many low none h
-folds_sooner_ok (Err u) from next shards old new ns many low none h = tt
-
 -- ---- all shards
 pub folds_none : (next shards : ℕ) (ts : List ShardState) (ns : List Numbered) → shards ≡ length ts → length ts ≤ next
     → ((k : ℕ) → 0 ≤ k → k < next → parts_at shards k ns ≡ []) → FoldsFrom 0 ts ns ts
@@ -263,12 +257,6 @@ pub folds_last_ok : {E : Type 0} (r : Result (Unit {0}) E) (ts : List ShardState
     → OnOk r (FoldsFrom from ts ns (set ts at z))
 folds_last_ok (Ok u) ts at from ns x z there is low high after = folds_last ts at from ns x z there is low high after
 folds_last_ok (Err u) ts at from ns x z there is low high after = tt
-
-pub folds_last_err : {E : Type 0} (r : Result (Unit {0}) E) (ts : List ShardState) (at : ℕ) (x z : ShardState)
-    → slice_get ts at ≡ Some x → OnErr r (z ≡ x) → OnErr r (set ts at z ≡ ts)
-folds_last_err (Ok u) ts at x z there is = tt
-folds_last_err (Err u) ts at x z there is =
-    ap (set ts at) (is ∙ sym (get_or_from_slice_get ts at x x there)) ∙ set-get_or ts at x
 
 pub if_ok : {A E : Type 0} (P Q : Type 0) → (P → Q) → (r : Result A E) → OnOk r P → OnOk r Q
 if_ok P Q f (Ok x) h = f h

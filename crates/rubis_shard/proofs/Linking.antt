@@ -116,14 +116,6 @@ links_push cs chain last old new noted before more links =
           ∙ links_before cs old.before.items chain last links.many (noted ∙ noted_before chain cs old links) links.before i (omega (arith, size, within));
     }
 
-pub links_same : (cs : List (Option IdKey)) (old new : Chains) → new.before.items ≡ old.before.items → new.last.entries ≡ old.last.entries
-    → Links cs old → Links cs new
-links_same cs old new before last links = record {
-  many = ap length before ∙ links.many;
-  last = λ k. ap (last_noted (Some k)) last ∙ links.last k;
-  before = λ i inside. ap (λ xs. slice_index xs i) before ∙ links.before i inside;
-}
-
 pub links_none : (c : Chains) → c.before.items ≡ [] → c.last.entries ≡ [] → Links [] c
 unfolding last_among
 links_none c before last = record {

@@ -25,11 +25,6 @@ unfolding counted_all
 all_small zero most past h = omega arith
 all_small (suc n) most past h = let a = all_small n most past h in let b = h n in grind (arith, a, b)
 
-all_none : (n : ℕ) → counted_all n [] ≡ 0
-unfolding counted_all
-all_none zero = refl
-all_none (suc n) = let a = all_none n in omega (arith, a)
-
 one_more : (s n : ℕ) → cond {A = ℕ} (nat_lt s (suc n)) 1 0 ≡ cond (nat_lt s n) 1 0 + cond (s == n) 1 0
 one_more s n = grind (arith, nat_tests)
 

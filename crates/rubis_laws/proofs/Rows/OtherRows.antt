@@ -185,9 +185,6 @@ zero_more x = omega arith
 still : (t : Bool) (c e : ℕ) → when t (Some (cat_of c e)) ≡ when t (Some (cat_of (c + 0) (e + 0)))
 still t c e = λ j. when t (Some (cat_of (zero_more c j) (zero_more e j)))
 
-abs_diff : (c e : ℕ) → unsigned_abs (pos c -ℤ pos e) ≤ c + e
-abs_diff c e = grind (arith, ints)
-
 one_live : (c e : ℕ) → c < 2 ^ 61 → e < 2 ^ 61 → unsigned_abs (pos c -ℤ pos e +ℤ pos 1) < 2 ^ 63
 one_live c e p q = grind (arith, ints)
 

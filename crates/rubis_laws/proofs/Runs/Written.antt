@@ -70,11 +70,6 @@ nick_text a texts u n e = at (last_rename u a) (choose_is later_ranks (λ m. ren
 abbrev pub AllPackets : ℕ → List Packet → Type 0
 AllPackets sites sent = (p : Packet) → Has p sent → IsPacket sites p
 
--- so each of them can be taken in
-pub all_deliverable : (sites : ℕ) (sent : List Packet) → AllPackets sites sent → AllDeliverable sites sent
-all_deliverable sites sent all (packet.Msg m) h = let is = all (packet.Msg m) h in (is.0, is.1)
-all_deliverable sites sent all (packet.Token t) h = (all (packet.Token t) h).to
-
 pub written_event : (sites : ℕ) (e : Event) → IsWritten sites e → IsEvent sites e
 written_event sites (At i (request.Ask a)) h = h.0
 written_event sites (At i (request.Pass to)) h = tt
