@@ -28,3 +28,5 @@ pub mod SiteLivesFacts
 pub mod AskFacts
 pub mod ReplyFacts
 pub mod QuestionFacts
+pub mod RewritingFacts
+pub mod FolderFacts

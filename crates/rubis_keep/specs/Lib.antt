@@ -15,3 +15,5 @@ pub mod Histories
 pub mod SiteLives
 pub mod Questions
 pub mod Asking
+pub mod Rewriting
+pub mod Folders
