@@ -23,11 +23,11 @@ use Rattle.rubis_laws.proofs.Rebuilding.RebuildInputs.{inputs_rebuild}
 use Rattle.rubis_laws.proofs.Rebuilding.RebuiltSites.{sites_are_rebuilt}
 use Rattle.rubis_laws.proofs.Runs.EveryRun.{every_run}
 use Rattle.rubis_laws.proofs.Runs.Nicknames.{nicknames_are_unique}
-use Rattle.rubis_keep.specs.Folders.{AreFoldersOfARun, AreOfSite, FoldersAreARun, IsRebuiltFolder, KeepsItsPromises, whole_site}
-use Rattle.rubis_keep.specs.Histories.{AreHistories, IsHistory, Step, answered_by, moments_in, stands}
-use Rattle.rubis_keep.specs.History.{FileState, IsSafe, records_in}
-use Rattle.rubis_keep.specs.Shops.{text_of}
+use Rattle.rubis_keep.specs.Folders.{AreFoldersOfARun, AreOfSite, FoldersAreARun, IsRebuiltFolder, KeepsItsPromises}
+use Rattle.rubis_keep.specs.Histories.{keeps, moments_in, most, site_keeping, stands, takes}
+use Rattle.rubis_keep.specs.History.{records_in}
 use Rattle.rubis_keep.proofs.HistoriesFacts.{come, histories-are-replayed, history-at}
+use Rattle.rubis_keep.proofs.RoomFacts.{taken-state}
 use Rattle.rubis_keep.proofs.ShopFacts.{Records, prefix-same}
 use Rattle.rubis_keep.proofs.SiteLivesFacts.{shop-histories}
 
@@ -71,10 +71,10 @@ same-inputs p s n (fields ∷ records) =
 
 rebuilds : (sites : ℕ) (events : List Event) (i : ℕ) (all : List Message) (tokens : List Token) (bytes : List ℕ) → 1 ≤ sites → AreEvents sites events → i < sites
     → AreOfSite i (run KEEP_MAX events (start sites)) all tokens
-    → map (input_of sites) (records_in bytes) ≡ inputs_to_rebuild (whole_site sites i) tokens all (opening_at i) (sent_by i KEEP_MAX events (start sites))
+    → map (input_of sites) (records_in bytes) ≡ inputs_to_rebuild (site_keeping sites i KEEP_MAX) tokens all (opening_at i) (sent_by i KEEP_MAX events (start sites))
     → IsRebuiltFolder sites i events all tokens bytes
 rebuilds sites events i all tokens bytes some are within of read =
-    let p = whole_site sites i in
+    let p = site_keeping sites i KEEP_MAX in
     let packets = sent_by i KEEP_MAX events (start sites) in
     let r = sites_are_rebuilt sites KEEP_MAX i events all tokens (omega arith) within are of.sent of.whole of.tokens_sent of.tokens_whole in
     let inputs = inputs_rebuild p (run KEEP_MAX events (start sites)).sent all tokens (opening_at i) packets of.sent of.tokens_sent in
@@ -92,22 +92,23 @@ rebuilds sites events i all tokens bytes some are within of read =
 pub folders-are-a-run : FoldersAreARun
 folders-are-a-run sites keep first lives running steps some top small shop carried =
     let histories = shop-histories sites keep first lives running steps shop in
-    let again = histories-are-replayed sites keep first steps histories in
-    let never = restarts_change_nothing sites keep (moments_in steps) again carried in
-    let a_run = processes_run sites keep (recorded (moments_in steps)) some top small never.carried in
+    let again = histories-are-replayed sites keep first steps small histories in
+    let never = restarts_change_nothing sites most (moments_in steps) again carried in
+    let a_run = processes_run sites most (recorded (moments_in steps)) some top (λ i. omega arith) never.carried in
     record {
       events = a_run.0;
       are_events = a_run.1;
       processes = a_run.2;
       kept = λ i within answered.
-          let p = process sites keep i in
-          let flushed = records_in (stands i (first i) steps).flushed in
+          let room = keeps i (keep i) steps in
+          let taken = takes sites i (keep i) (first i) steps in
           let all = read_by i (recorded (moments_in steps)) in
-          let c = come sites keep first steps histories i steps [] (sym (append-nil steps)) in
-          let is : c.recording ≡ flushed = prefix-same c.recording flushed flushed c.kept ([], append-nil flushed) (c.count ∙ answered) in
-          short_state p all flushed (opening_at i) 1 1 (subst (λ t. IsShortened p (opening_at i) t all) is c.short)
+          let c = come sites keep first steps histories i (small i) steps [] (sym (append-nil steps)) in
+          let is : c.recording ≡ taken = prefix-same c.recording taken taken c.kept ([], append-nil taken) (c.count ∙ answered) in
+          taken-state (site_keeping sites i room) KEEP_MAX c.small (opening_at i) 1 1 (records_in (stands i (first i) steps).flushed)
+          ∙ short_state (process sites most i) all taken (opening_at i) 1 1 (subst (λ t. IsShortened (process sites most i) (opening_at i) t all) is c.short)
           ∙ sym (a_run.2.states i within);
-      told = λ i. (history-at sites keep first steps histories i).told;
+      told = λ i. (history-at sites keep first steps histories i (small i)).told;
       promises = promises-kept sites a_run.0 some a_run.1;
       rebuilt = λ i all tokens bytes within of read. rebuilds sites a_run.0 i all tokens bytes some a_run.1 within of read;
     }

@@ -18,13 +18,13 @@ use Rattle.rubis_model.specs.Laws.{Sent, tables_at}
 use Rattle.rubis_model.specs.Log.{cores}
 use Rattle.rubis_model.specs.Meaning.{closes, item_at, nick_at, sold_of, supply, total, winner_of}
 use Rattle.rubis_model.specs.Nicknames.{AreFirstReds}
-use Rattle.rubis_model.specs.Processes.{AreProcesses, process, site_after}
+use Rattle.rubis_model.specs.Processes.{AreProcesses, site_after}
 use Rattle.rubis_model.specs.Rebuild.{Concerns, InPlaceOf, inputs_to_rebuild, sent_by, sent_on_inputs}
 use Rattle.rubis_model.specs.Restarts.{CarriedWithRestarts, recorded}
 use Rattle.rubis_model.specs.Settle.{Has}
-use Rattle.rubis_model.specs.Site.{Place, opening_at, rows_at}
+use Rattle.rubis_model.specs.Site.{opening_at, rows_at}
 use Rattle.rubis_model.specs.System.{AreEvents, Event, World, run, site, start}
-use Rattle.rubis_keep.specs.Histories.{Step, answered_by, moments_in, stands}
+use Rattle.rubis_keep.specs.Histories.{Step, answered_by, keeps, moments_in, most, site_keeping, stands, takes}
 use Rattle.rubis_keep.specs.History.{Event as FileEvent, FileState, records_in}
 use Rattle.rubis_keep.specs.Kept.{IsFrontOf}
 use Rattle.rubis_keep.specs.Shops.{text_of}
@@ -50,10 +50,6 @@ pub record KeepsItsPromises (w : World) : Type 0 where
 
 -- ---- a folder that is rebuilt
 
--- a site that keeps as many messages as a site can
-abbrev pub whole_site : ℕ → ℕ → Place
-whole_site sites i = record { site = i; sites = sites; keep = KEEP_MAX }
-
 -- messages and tokens of a run, among them all that site i made or counted, and its tokens
 pub record AreOfSite (i : ℕ) (w : World) (all : List Message) (tokens : List Token) : Type 0 where
   pub sent : (m : Message) → Has m all → Sent w m
@@ -64,29 +60,31 @@ pub record AreOfSite (i : ℕ) (w : World) (all : List Message) (tokens : List T
 -- a new folder has kept records that are read as what a site is given to be rebuilt. What they lead to sends again what site i had sent, in its
 -- order; and with it in the place of site i the sites are a run that has sent the same, and keeps the promises
 pub record IsRebuiltFolder (sites i : ℕ) (events : List Event) (all : List Message) (tokens : List Token) (kept : List ℕ) : Type 0 where
-  pub again : sent_on_inputs (whole_site sites i) (opening_at i) (map (input_of sites) (records_in kept)) ≡ sent_by i KEEP_MAX events (start sites)
+  pub again : sent_on_inputs (site_keeping sites i KEEP_MAX) (opening_at i) (map (input_of sites) (records_in kept)) ≡ sent_by i KEEP_MAX events (start sites)
   pub later : List Event
   pub are_events : AreEvents sites later
   pub in_place : InPlaceOf i (run KEEP_MAX events (start sites)) (run KEEP_MAX later (start sites))
-  pub here : site (run KEEP_MAX later (start sites)) i ≡ site_after (whole_site sites i) (opening_at i) 1 (records_in kept)
+  pub here : site (run KEEP_MAX later (start sites)) i ≡ site_after (site_keeping sites i KEEP_MAX) (opening_at i) 1 (records_in kept)
   pub promises : KeepsItsPromises (run KEEP_MAX later (start sites))
 
 -- ---- folders with their lives
 
 -- the folders are those of a run of the model, which keeps its promises
-pub record AreFoldersOfARun (sites : ℕ) (keep : ℕ → ℕ) (files : ℕ → FileState) (steps : List Step) : Type 0 where
+pub record AreFoldersOfARun (sites : ℕ) (keep : ℕ → ℕ) (first : ℕ → FileState) (steps : List Step) : Type 0 where
   pub events : List Event
   pub are_events : AreEvents sites events
   -- its sites have the states of the processes, and its packets are what they sent
-  pub processes : AreProcesses sites keep (recorded (moments_in steps)) (run KEEP_MAX events (start sites))
+  pub processes : AreProcesses sites most (recorded (moments_in steps)) (run KEEP_MAX events (start sites))
   -- what a folder has kept leads to the state of its site, once all of it is answered; and `out` is the beginning of the answers to it
-  pub kept : (i : ℕ) → i < sites → answered_by i steps ≡ length (records_in (files i).flushed)
-      → site_after (process sites keep i) (opening_at i) 1 (records_in (files i).flushed) ≡ site (run KEEP_MAX events (start sites)) i
-  pub told : (i : ℕ) → IsFrontOf (files i).out (text_of (process sites keep i) (records_in (files i).flushed))
+  pub kept : (i : ℕ) → i < sites → answered_by sites i (keep i) steps ≡ length (takes sites i (keep i) (first i) steps)
+      → site_after (site_keeping sites i (keeps i (keep i) steps)) (opening_at i) 1 (records_in (stands i (first i) steps).flushed)
+      ≡ site (run KEEP_MAX events (start sites)) i
+  pub told : (i : ℕ) → IsFrontOf (stands i (first i) steps).out
+      (text_of (site_keeping sites i (keeps i (keep i) steps)) (records_in (stands i (first i) steps).flushed))
   pub promises : KeepsItsPromises (run KEEP_MAX events (start sites))
   -- a folder that is lost is rebuilt from what its site sent
   pub rebuilt : (i : ℕ) (all : List Message) (tokens : List Token) (bytes : List ℕ) → i < sites → AreOfSite i (run KEEP_MAX events (start sites)) all tokens
-      → map (input_of sites) (records_in bytes) ≡ inputs_to_rebuild (whole_site sites i) tokens all (opening_at i) (sent_by i KEEP_MAX events (start sites))
+      → map (input_of sites) (records_in bytes) ≡ inputs_to_rebuild (site_keeping sites i KEEP_MAX) tokens all (opening_at i) (sent_by i KEEP_MAX events (start sites))
       → IsRebuiltFolder sites i events all tokens bytes
 
 -- Folders whose sites have such lives are a run that keeps the promises, if packets are carried unchanged: each packet that a process reads was
@@ -95,5 +93,5 @@ abbrev pub FoldersAreARun : Type 0
 FoldersAreARun = (sites : ℕ) (keep : ℕ → ℕ) (first : ℕ → FileState) (lives : ℕ → List SiteLife) (running : ℕ → List FileEvent) (steps : List Step)
     → 1 ≤ sites → sites ≤ COUNTED_MAX → ((i : ℕ) → keep i ≤ KEEP_MAX)
     → AreShopLives sites keep first lives running steps
-    → CarriedWithRestarts sites keep (moments_in steps)
-    → AreFoldersOfARun sites keep (λ i. stands i (first i) steps) steps
+    → CarriedWithRestarts sites most (moments_in steps)
+    → AreFoldersOfARun sites keep first steps
