@@ -15,6 +15,7 @@ pub mod CrashFacts
 pub mod CountFacts
 pub mod TellingFacts
 pub mod ShopFacts
+pub mod RoomFacts
 pub mod ShortenFacts
 pub mod HistoryFacts
 pub mod SafeFacts
@@ -30,3 +31,4 @@ pub mod ReplyFacts
 pub mod QuestionFacts
 pub mod RewritingFacts
 pub mod FolderFacts
+pub mod Examples

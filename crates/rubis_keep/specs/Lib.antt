@@ -6,6 +6,7 @@ pub mod Kept
 pub mod Crashes
 pub mod Cuts
 pub mod Shops
+pub mod Room
 pub mod Shortened
 pub mod Setups
 pub mod History
