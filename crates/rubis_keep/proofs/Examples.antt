@@ -321,14 +321,23 @@ none-own i (Does (Replays j fields) ∷ a) b h = none-own i a b h.1
 first-elsewhere : (i : ℕ) → eqb 0 i ≡ false → Elsewhere i steps_of_0
 unfolding torn
 first-elsewhere i e =
-    kept-elsewhere i 0 asked once_asked e (e, told-elsewhere i 0 (take 20 told_to_ask) once_torn e
-    (e, (e, (e, told-elsewhere i 0 (drop 4 told_to_ask) [] e tt))))
+    kept-elsewhere i 0 asked once_asked e (
+      e,
+      told-elsewhere i 0 (take 20 told_to_ask) once_torn e
+          (e, (e, (e, told-elsewhere i 0 (drop 4 told_to_ask) [] e tt))),
+    )
 
 second-elsewhere : (i : ℕ) → eqb 1 i ≡ false → Elsewhere i steps_of_1
 second-elsewhere i e =
-    kept-elsewhere i 1 sent once_sent e (e, told-elsewhere i 1 told_to_message (kept 1 listed once_listed) e
-    (kept-elsewhere i 1 listed once_listed e (e, told-elsewhere i 1 told_to_listing once_shortened e
-    (e, (e, (e, told-elsewhere i 1 (take 5 told_to_message) [] e tt))))))
+    kept-elsewhere i 1 sent once_sent e (
+      e,
+      told-elsewhere i 1 told_to_message (kept 1 listed once_listed) e
+          (kept-elsewhere i 1 listed once_listed e (
+            e,
+            told-elsewhere i 1 told_to_listing once_shortened e
+                (e, (e, (e, told-elsewhere i 1 (take 5 told_to_message) [] e tt))),
+          )),
+    )
 
 not-0 : (i : ℕ) → eqb 0 (suc (suc i)) ≡ false
 not-0 i = is_other 0 (suc (suc i)) (λ e. absurd (omega (arith, e)))
@@ -510,7 +519,7 @@ reads-1 =
     (both-read-too, tt, (none-read 2 1 t, ap length (sym both-taken), (none-read 2 1 (shortened_to sent), subst (λ l. 0 < length l) (sym message-taken) (omega arith), last))) in
     let rows = reads-told 2 1 KEEP_MAX told_to_listing t (ann_is_sent ∷ listing ∷ []) 2 once_shortened refl both-read-too shorter in
     let more = reads-kept 2 1 KEEP_MAX listed answered (ann_is_sent ∷ []) 1 (Happens 1 Flushed ∷ once_listed) refl message-read
-        (message-read, tt, (message-read-first, refl, rows)) in
+    (message-read, tt, (message-read-first, refl, rows)) in
     let first = reads-told 2 1 KEEP_MAX told_to_message s (ann_is_sent ∷ []) 1 (kept 1 listed once_listed) refl message-read more in
     reads-elsewhere 2 1 KEEP_MAX nothing [] 0 steps_of_0 steps_of_1 (first-elsewhere 1 refl)
     (reads-kept 2 1 KEEP_MAX sent nothing [] 0 (Happens 1 Flushed ∷ once_sent) refl (none-read 2 1 nothing)
@@ -568,9 +577,14 @@ no-packet fields known p same none is = not_some (packet_of 2 known) p none (ap 
 
 -- the message that site 1 reads was sent by site 0, before the power failed and again
 sent-before : WasEverSent 2 most (Reads 0 ann_is_asked ∷ Restarts 0 ∷ Replays 0 ann_is_asked ∷ []) ann_is_sent
-sent-before =
-    (0, omega arith, Reads 0 ann_is_asked ∷ Restarts 0 ∷ Replays 0 ann_is_asked ∷ [], [], refl,
-    subst (Has (codes "send" ∷ ann_is_sent)) (sym ann_is_answered) (inr (inl refl)))
+sent-before = (
+  0,
+  omega arith,
+  Reads 0 ann_is_asked ∷ Restarts 0 ∷ Replays 0 ann_is_asked ∷ [],
+  [],
+  refl,
+  subst (Has (codes "send" ∷ ann_is_sent)) (sym ann_is_answered) (inr (inl refl)),
+)
 
 is-carried : CarriedWithRestarts 2 most moments
 is-carried [] later i fields p e is = absurd (no-packet fields ann_is_asked p (let same : ann_is_asked ≡ fields = cc e in same) no_packet_asked is)

@@ -234,9 +234,9 @@ module _ (sites : ℕ) (keep : ℕ → ℕ) (start : ℕ → FileState) (steps :
       let s2 = stand_after i (at done) x in
       let more : IsPrefix (records_in (at done).flushed) (records_in s2.flushed) =
       ⊎_elim
-          (λ f. records-grow (at done).flushed s2.flushed (flushed-sound (text_of (p done)) (at done) h.0)
-          (flushed-sound (text_of (site_keeping sites i (keep_after i (room done) x))) s2 (safe-here sites i (keep_after i (room done) x) s2 later h.2)) f)
-          (λ w. absurd (none w.0 w.1)) (step-flushed (p done) (at done) x h.0 h.1) in
+      (λ f. records-grow (at done).flushed s2.flushed (flushed-sound (text_of (p done)) (at done) h.0)
+      (flushed-sound (text_of (site_keeping sites i (keep_after i (room done) x))) s2 (safe-here sites i (keep_after i (room done) x) s2 later h.2)) f)
+      (λ w. absurd (none w.0 w.1)) (step-flushed (p done) (at done) x h.0 h.1) in
       subst (λ n. IsPrefix (taken done) (taken_in (site_keeping sites i n) (at (done ++ x ∷ [])).flushed)) (sym (room-now done x ∙ same))
       (subst (λ (t : FileState). IsPrefix (taken done) (taken_in (p done) t.flushed)) (sym (at-now done x))
       (taken-more (p done) (opening_at i) (records_in (at done).flushed) (records_in s2.flushed) more))
@@ -455,28 +455,28 @@ module _ (sites : ℕ) (keep : ℕ → ℕ) (start : ℕ → FileState) (steps :
       subst (λ n. length (has_read i before) ≤ n) (sym c.count) (subst (λ t. length (has_read i t) ≤ answered to.0) to.3 c.read) in
       let within = prefix-within (has_read i before) c.recording (taken to.0) ahead c.kept read in
       ⊎_elim
-          (λ (same : length (has_read i before) ≡ length c.recording).
-          let is = prefix-same (has_read i before) c.recording (taken to.0) ahead c.kept same in
-          record {
-            first = all;
-            rest = [];
-            parts = sym (append-nil all);
-            again = subst (λ t. IsShortened q (opening_at i) t all) (sym is) short;
-            whole = λ fields more f. refl;
-          })
-          (λ (fewer : length (has_read i before) ≡ length c.recording → ⊥).
-          let w = shortened-first q (opening_at i) all c.recording (has_read i before) short within in
-          record {
-            first = w.0;
-            rest = w.1;
-            parts = sym w.2;
-            again = w.3;
-            whole = λ fields more f.
-                let next = to.4 (Reads i fields) more f in
-                absurd (fewer (subst (λ t. length (has_read i t) ≡ answered to.0) to.3
-                (k.anew i fields to.0 next.0 (to.2 ∙ ap (λ t. to.0 ++ t) next.1)) ∙ sym c.count));
-          })
-          (cases_eq (length (has_read i before)) (length c.recording))
+      (λ (same : length (has_read i before) ≡ length c.recording).
+      let is = prefix-same (has_read i before) c.recording (taken to.0) ahead c.kept same in
+      record {
+        first = all;
+        rest = [];
+        parts = sym (append-nil all);
+        again = subst (λ t. IsShortened q (opening_at i) t all) (sym is) short;
+        whole = λ fields more f. refl;
+      })
+      (λ (fewer : length (has_read i before) ≡ length c.recording → ⊥).
+      let w = shortened-first q (opening_at i) all c.recording (has_read i before) short within in
+      record {
+        first = w.0;
+        rest = w.1;
+        parts = sym w.2;
+        again = w.3;
+        whole = λ fields more f.
+            let next = to.4 (Reads i fields) more f in
+            absurd (fewer (subst (λ t. length (has_read i t) ≡ answered to.0) to.3
+            (k.anew i fields to.0 next.0 (to.2 ∙ ap (λ t. to.0 ++ t) next.1)) ∙ sym c.count));
+      })
+      (cases_eq (length (has_read i before)) (length c.recording))
 
 pub histories-are-replayed : (sites : ℕ) (keep : ℕ → ℕ) (start : ℕ → FileState) (steps : List Step) → ((i : ℕ) → keep i ≤ KEEP_MAX)
     → AreHistories sites keep start steps → AreReplayed sites most (moments_in steps)
@@ -485,6 +485,8 @@ histories-are-replayed sites keep start steps small k i before later e = replaye
 pub histories-are-runs : HistoriesAreRuns
 histories-are-runs sites keep start steps some top small k carried =
     let again = histories-are-replayed sites keep start steps small k in
-    let never = restarts_change_nothing sites most (moments_in steps) again carried in
-    (never, processes_run sites most (recorded (moments_in steps)) some top (λ i. omega arith) never.carried,
-    restarted_agree sites most (moments_in steps) some top (λ i. omega arith) again carried)
+    let never = restarts_change_nothing sites most (moments_in steps) again carried in (
+      never,
+      processes_run sites most (recorded (moments_in steps)) some top (λ i. omega arith) never.carried,
+      restarted_agree sites most (moments_in steps) some top (λ i. omega arith) again carried,
+    )

@@ -115,7 +115,7 @@ module _ (p : Place) (keep : ℕ) (more : p.keep ≤ keep) where
   same-step s n (Asked (request.Ask a)) e =
       let less = roomier p.keep keep s more e in
       ap (λ (f : Bool). told (asked_rows n) (generating p s (decision (rows_at s.log) (record { full = f; holds = (standing_of keep s).holds; current = (standing_of keep s).current }) a)))
-          (e ∙ sym less)
+      (e ∙ sym less)
       ∙ ap (told (asked_rows n)) (generates-same s (decision (rows_at s.log) (standing_of keep s) a))
   same-step s n (Asked (request.Pass to)) e = ap (told (passed_rows n)) (passes-same s to s.held)
   same-step s n (Asked (request.List l)) e = refl
@@ -280,8 +280,11 @@ module _ (p : Place) (keep : ℕ) (more : p.keep ≤ keep) where
           subst (λ l. IsShortened wide s (taken_by p s l) (taken_by p s (x ∷ full))) (sym h.1)
           (subst (λ l. IsShortened wide s l (taken_by p s (x ∷ full))) (sym (taken-one p s x h.0 is))
           (subst (IsShortened wide s (x ∷ taken_by p (next s 1 x) h.0)) (sym (taken-one p s x full is))
-          (inr (taken_by p (next s 1 x) h.0, refl,
-          subst (λ t. IsShortened wide t (taken_by p (next s 1 x) h.0) (taken_by p (next s 1 x) full)) (next-same s 1 x is) short-too))))
+          (inr (
+            taken_by p (next s 1 x) h.0,
+            refl,
+            subst (λ t. IsShortened wide t (taken_by p (next s 1 x) h.0) (taken_by p (next s 1 x) full)) (next-same s 1 x is) short-too,
+          ))))
 
 pub refused-are-none : RefusedAsFullAreNoEvents
 refused-are-none p keep s records more = (taken-state p keep more s 1 1 records, taken-sent p keep more s records)
@@ -410,7 +413,7 @@ module _ (p : Place) (keep : ℕ) (more : p.keep ≤ keep) where
       let o = otherwise p keep s n (input_of p.sites x) is not in
       let first : step.1 ≡ refused_row n Full ∷ [] = ap (λ (t : Replica × Records). t.1) (full-step p s n (input_of p.sites x) is) in
       let a = sym (ap (λ t. rows_text (t ++ answers p step.0 (n + 1) records) ++ left) first) ∙ e
-          ∙ ap (λ t. rows_text (t ++ answers r wider.0 (n + 1) records)) o.3 in
+      ∙ ap (λ t. rows_text (t ++ answers r wider.0 (n + 1) records)) o.3 in
       o.4 (row-first (codes "reply") o.0 (decimal n ∷ codes "refused" ∷ decimal (code_of Full) ∷ refusal_name Full ∷ []) o.1
       (rows_text (answers p step.0 (n + 1) records) ++ left) (rows_text (o.2 ++ answers r wider.0 (n + 1) records))
       (sym (append_assoc (row_text plain_writer (refused_row n Full)) (rows_text (answers p step.0 (n + 1) records)) left) ∙ a))
