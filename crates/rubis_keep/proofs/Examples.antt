@@ -258,7 +258,6 @@ listing-left-out = inr ([], refl, inl (refl, refl))
 without-listing : ShortensKept (site_keeping 2 1 KEEP_MAX) (sent ++ listed) sent
 without-listing = record {
   sound = sent-sound;
-  ends = refl;
   without = subst (λ l. IsShortened (site_keeping 2 1 KEEP_MAX) (opening_at 1) l (records_in (sent ++ listed))) (sym sent-read)
       (subst (IsShortened (site_keeping 2 1 KEEP_MAX) (opening_at 1) (ann_is_sent ∷ [])) (sym both-read) listing-left-out);
 }

@@ -7,7 +7,7 @@ use Rattle.rubis_model.specs.Site.{Place, opening_at}
 use Rattle.rubis_keep.specs.Crashes.{Files}
 use Rattle.rubis_keep.specs.History.{Event, FileState, Follows, IsAnswered, IsSafe, after, records_in}
 use Rattle.rubis_keep.specs.Kept.{IsFrontOf}
-use Rattle.rubis_keep.specs.Lines.{AreSound, begun_after}
+use Rattle.rubis_keep.specs.Lines.{AreSound}
 use Rattle.rubis_keep.specs.Moments.{SurvivesIn, from_disk, opened_again}
 use Rattle.rubis_keep.specs.Room.{keeping, taken_in}
 use Rattle.rubis_keep.specs.Shops.{AreAgreed, IsPrefix, IsSomeRun, text_of}
@@ -59,11 +59,10 @@ abbrev pub keeps : ℕ → ℕ → List Step → ℕ
 keeps i keep [] = keep
 keeps i keep (e ∷ later) = keeps i (keep_after i keep e) later
 
--- these lines are whole ones that are kept as they are, and are what was kept without some records that change nothing: what
--- `shorten` promises of what it writes
+-- these lines are kept as they are, and are what was kept without some records that change nothing: what `shorten` promises of what it
+-- writes
 pub record ShortensKept (p : Place) (kept short : List ℕ) : Type 0 where
   pub sound : AreSound [] short
-  pub ends : begun_after [] short ≡ []
   pub without : IsShortened p (opening_at p.site) (records_in short) (records_in kept)
 
 -- a site keeps more messages from now on: all that was kept is flushed and answered, and the answers are the beginning of those that it gives
