@@ -1,27 +1,39 @@
 -- A shop of two sites, computed on the definitions: the bytes of both folders, lives that end anywhere, and the run that they are.
 use Rattle.std.proofs.Common.{◌≡◌, ◌∙◌, ◌⊎◌, inl, inr, ◌≤◌, ◌<◌, ◌+◌, ◌++◌, ◌∷◌, [], ℕ, zero, suc, Bool, true, false, List, Option, Some, None, cond, eqb, drop, length}
 use Rattle.std.proofs.Common.{refl, sym, ap, subst, arith, append-nil, length-append, take}
-use Rattle.std.specs.Prelude.{MatchBool, codes, map, ⊤}
+use Rattle.std.specs.Prelude.{MatchBool, Result, codes, map, ⊤}
 use Rattle.std.specs.Fmt.{digits}
 use Rattle.csv.specs.Machine.{next_record}
 use Rattle.csv.specs.Reading.{records_from, strip_bom}
 use Rattle.csv.specs.Writing.{escaped, fields_text, is_blank}
 use Rattle.rubis_numbers.specs.Numbers.{number_of}
 use Rattle.rubis_schema.specs.FieldForms.{nick_of}
+use Rattle.rubis_schema.specs.declared.refusals.Refusal.{Refusal}
 use Rattle.rubis_schema.specs.declared.limits.TheConstants.{KEEP_MAX}
+use Rattle.rubis_shadow.specs.declared.shadows.Ask.TheVariants as ask
+use Rattle.rubis_shadow.specs.declared.shadows.Shadow.TheVariants as shadow
+use Rattle.rubis_generate.specs.Decision.{decision}
+use Rattle.rubis_generate.specs.Lookup.{Rows}
 use Rattle.rubis_message.specs.Counts.{deps_of}
 use Rattle.rubis_message.specs.Forms.{take_positive, take_site}
 use Rattle.rubis_message.specs.Readings.{packet_of, request_of, take_kind, take_listing, take_message, take_packet, take_request, take_shadow, take_shown}
 use Rattle.rubis_message.specs.Readings.{take_stamp, take_token, kind_of, shown_of}
+use Rattle.rubis_message.specs.Message.{Message}
+use Rattle.rubis_message.specs.declared.requests.Request.TheVariants as request
 use Rattle.rubis_message.specs.declared.tokens.Packet.{Packet}
+use Rattle.rubis_message.specs.declared.tokens.Packet.TheVariants as packet
 use Rattle.rubis_model.specs.Listings.{log_from}
-use Rattle.rubis_model.specs.Processes.{process}
+use Rattle.rubis_model.specs.Meaning.{meaning_row}
+use Rattle.rubis_model.specs.Processes.{site_after}
 use Rattle.rubis_model.specs.Restarts.{CarriedWithRestarts, IsShortened, Moment, WasEverSent, has_read, read_on}
 use Rattle.rubis_model.specs.Restarts.Moment.{Reads, Replays, Restarts}
 use Rattle.rubis_model.specs.Runs.{answers, output_of}
 use Rattle.rubis_model.specs.Settle.{Has}
-use Rattle.rubis_model.specs.Site.{opening_at}
+use Rattle.rubis_model.specs.Site.{Replica, generating, opening_at, rows_at, standing_of}
+use Rattle.rubis_model.specs.System.{Event as SystemEvent, World, happens, run, sending, site, start}
+use Rattle.rubis_model.specs.System.Event.{At, Deliver}
 use Rattle.rubis_engine.specs.Text.{input_records, rows_text}
+use Rattle.rubis_laws.proofs.Rows.FoldIsMeaning.{fold_is_meaning}
 use Rattle.rubis_laws.proofs.Processes.AreARun.{is_itself, is_other}
 use Rattle.rubis_laws.proofs.Examples.ProcessExamples.{ann_answers, ann_is_answered, ann_is_asked, ann_is_sent, no_packet_asked, not_some}
 use Rattle.rubis_keep.specs.Crashes.{Files}
@@ -612,3 +624,57 @@ is-carried (a ∷ b ∷ c ∷ d ∷ f ∷ g ∷ h ∷ before) later i fields p e
 the-run : AreFoldersOfARun 2 keep (λ i. nothing) steps
 the-run = folders-are-a-run 2 keep (λ i. nothing) lives running steps (omega arith) (omega arith) (λ i. omega arith) are-lives
     (subst (CarriedWithRestarts 2 most) (sym what-is-read) is-carried)
+
+-- ---- the run, by computation
+
+-- ann is asked for at site 0, and the message is delivered to site 1
+abbrev happened : List SystemEvent
+happened = At 0 (request.Ask (ask.User (codes "ann"))) ∷ Deliver 1 1 ∷ []
+
+abbrev ann : Message
+ann = record { stamp = record { id = record { site = 0; seq = 1 }; red = 1; deps = 0 ∷ 0 ∷ [] }; shadow = shadow.User (codes "ann") }
+
+abbrev at_0 : Replica
+at_0 = record { log = ann ∷ []; waiting = []; held = Some 1; last = 0 }
+
+abbrev at_1 : Replica
+at_1 = record { log = ann ∷ []; waiting = []; held = None; last = 0 }
+
+-- what site 0 comes to and answers, from the rows of its tables
+abbrev by_rows : Rows → Replica × Result Message Refusal
+by_rows rows = generating (site_keeping 2 0 KEEP_MAX) (opening_at 0) (decision rows (standing_of KEEP_MAX (opening_at 0)) (ask.User (codes "ann")))
+
+abbrev world_by : Rows → World
+world_by rows = (happens KEEP_MAX (record { sites = (by_rows rows).0 ∷ opening_at 1 ∷ []; sent = sending packet.Msg (by_rows rows).1 }) (Deliver 1 1)).0
+
+no-rows : rows_at [] ≡ meaning_row []
+no-rows = λ i key. (fold_is_meaning [] tt (omega arith)).0.rows key i
+
+world-by-meaning : world_by (meaning_row []) ≡ record { sites = at_0 ∷ at_1 ∷ []; sent = packet.Msg ann ∷ [] }
+unfolding meaning_row
+world-by-meaning = refl
+
+the-world : run KEEP_MAX happened (start 2) ≡ record { sites = at_0 ∷ at_1 ∷ []; sent = packet.Msg ann ∷ [] }
+the-world = ap world_by no-rows ∙ world-by-meaning
+
+asked-by-rows : site_after (site_keeping 2 0 KEEP_MAX) (opening_at 0) 1 (ann_is_asked ∷ []) ≡ (by_rows (rows_at [])).0
+unfolding request_of take_request take_kind kind_of nick_of
+asked-by-rows = refl
+
+asked-by-meaning : (by_rows (meaning_row [])).0 ≡ at_0
+unfolding meaning_row
+asked-by-meaning = refl
+
+sent-leads : site_after (site_keeping 2 1 KEEP_MAX) (opening_at 1) 1 (ann_is_sent ∷ []) ≡ at_1
+unfolding request_of take_request take_kind kind_of packet_of take_packet take_message take_stamp take_site take_positive number_of deps_of take_shadow nick_of
+    digits
+sent-leads = refl
+
+-- what both folders have kept leads to the states of its sites
+folder-0 : site_after (site_keeping 2 0 KEEP_MAX) (opening_at 0) 1 (records_in asked) ≡ site (run KEEP_MAX happened (start 2)) 0
+folder-0 =
+    ap (site_after (site_keeping 2 0 KEEP_MAX) (opening_at 0) 1) asked-read ∙ asked-by-rows ∙ ap (λ rows. (by_rows rows).0) no-rows ∙ asked-by-meaning
+    ∙ ap (λ w. site w 0) (sym the-world)
+
+folder-1 : site_after (site_keeping 2 1 KEEP_MAX) (opening_at 1) 1 (records_in sent) ≡ site (run KEEP_MAX happened (start 2)) 1
+folder-1 = ap (site_after (site_keeping 2 1 KEEP_MAX) (opening_at 1) 1) sent-read ∙ sent-leads ∙ ap (λ w. site w 1) (sym the-world)
