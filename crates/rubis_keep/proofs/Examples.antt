@@ -1,6 +1,6 @@
 -- A shop of two sites, computed on the definitions: the bytes of both folders, lives that end anywhere, and the run that they are.
-use Rattle.std.proofs.Common.{◌≡◌, ◌∙◌, ◌⊎◌, inl, inr, ◌≤◌, ◌<◌, ◌+◌, ◌++◌, ◌∷◌, [], ℕ, zero, suc, Bool, true, false, List, Option, Some, None, cond, eqb, drop, length}
-use Rattle.std.proofs.Common.{refl, sym, ap, subst, arith, append-nil, length-append, take}
+use Rattle.std.proofs.Common.{◌≡◌, ◌∙◌, inl, inr, ◌<◌, ◌+◌, ◌++◌, ◌∷◌, [], ℕ, zero, suc, Bool, true, false, List, Some, None, cond, eqb, drop, length}
+use Rattle.std.proofs.Common.{refl, sym, ap, subst, arith, append-nil, take}
 use Rattle.std.specs.Prelude.{MatchBool, Result, codes, map, ⊤}
 use Rattle.std.specs.Fmt.{digits}
 use Rattle.csv.specs.Machine.{next_record}
@@ -17,7 +17,7 @@ use Rattle.rubis_generate.specs.Lookup.{Rows}
 use Rattle.rubis_message.specs.Counts.{deps_of}
 use Rattle.rubis_message.specs.Forms.{take_positive, take_site}
 use Rattle.rubis_message.specs.Readings.{packet_of, request_of, take_kind, take_listing, take_message, take_packet, take_request, take_shadow, take_shown}
-use Rattle.rubis_message.specs.Readings.{take_stamp, take_token, kind_of, shown_of}
+use Rattle.rubis_message.specs.Readings.{take_stamp, kind_of, shown_of}
 use Rattle.rubis_message.specs.Message.{Message}
 use Rattle.rubis_message.specs.declared.requests.Request.TheVariants as request
 use Rattle.rubis_message.specs.declared.tokens.Packet.{Packet}
@@ -38,10 +38,10 @@ use Rattle.rubis_laws.proofs.Processes.AreARun.{is_itself, is_other}
 use Rattle.rubis_laws.proofs.Examples.ProcessExamples.{ann_answers, ann_is_answered, ann_is_asked, ann_is_sent, no_packet_asked, not_some}
 use Rattle.rubis_keep.specs.Crashes.{Files}
 use Rattle.rubis_keep.specs.Folders.{AreFoldersOfARun}
-use Rattle.rubis_keep.specs.Histories.{AreHistories, ShortensKept, Step, answered_on, keep_after, keeps, moments_in, most, shortened_to, site_keeping, stand_after}
-use Rattle.rubis_keep.specs.Histories.{stands, takes}
+use Rattle.rubis_keep.specs.Histories.{ShortensKept, Step, answered_on, keep_after, keeps, moments_in, most, shortened_to, site_keeping, stand_after}
+use Rattle.rubis_keep.specs.Histories.{stands}
 use Rattle.rubis_keep.specs.Histories.Step.{Does, Fails, Happens, Raises, Shortens}
-use Rattle.rubis_keep.specs.History.{AreSafe, Event, FileState, IsSafe, after, after_all, records_in}
+use Rattle.rubis_keep.specs.History.{AreSafe, Event, FileState, after, after_all, records_in}
 use Rattle.rubis_keep.specs.History.Event.{Flushed, Kept, Told}
 use Rattle.rubis_keep.specs.Lines.{AreSound}
 use Rattle.rubis_keep.specs.Lives.{IsOpened}
@@ -49,7 +49,7 @@ use Rattle.rubis_keep.specs.Moments.{from_disk, opened_again}
 use Rattle.rubis_keep.specs.Room.{taken_by, taken_in}
 use Rattle.rubis_keep.specs.Shops.{IsPrefix, text_of}
 use Rattle.rubis_keep.specs.SiteLives.{AreLives, AreShopLives, SiteLife, happening, own_steps, steps_of}
-use Rattle.rubis_keep.specs.SiteLives.End.{IsRewritten, PowerFails, Stops}
+use Rattle.rubis_keep.specs.SiteLives.End.{IsRewritten, PowerFails}
 use Rattle.rubis_keep.proofs.FolderFacts.{folders-are-a-run}
 use Rattle.rubis_keep.proofs.HistoryFacts.{safe-answers, safe-append, safe-keeps, safe-last}
 use Rattle.rubis_keep.proofs.ShopFacts.{Records}

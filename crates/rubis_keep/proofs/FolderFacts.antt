@@ -1,5 +1,5 @@
 -- Folders with their lives are a run, which keeps its promises.
-use Rattle.std.proofs.Common.{◌≡◌, ◌∙◌, ◌≤◌, ◌<◌, ◌+◌, ◌++◌, ◌∷◌, [], ℕ, List, Option, None, length, refl, sym, ap, subst, arith, append-nil}
+use Rattle.std.proofs.Common.{◌≡◌, ◌∙◌, ◌≤◌, ◌<◌, ◌+◌, ◌∷◌, [], ℕ, List, None, refl, sym, ap, subst, arith, append-nil}
 use Rattle.std.specs.Prelude.{map}
 use Rattle.rubis_schema.specs.declared.limits.TheConstants.{KEEP_MAX}
 use Rattle.rubis_message.specs.Inputs.{input_of}
@@ -12,8 +12,8 @@ use Rattle.rubis_message.specs.declared.tokens.Token.{Token}
 use Rattle.rubis_model.specs.Laws.{IsLogOf}
 use Rattle.rubis_model.specs.Logs.{Log}
 use Rattle.rubis_model.specs.Processes.{process, read_by, site_after}
-use Rattle.rubis_model.specs.Rebuild.{after_inputs, inputs_to_rebuild, rebuilt, sent_by, sent_on_inputs}
-use Rattle.rubis_model.specs.Restarts.{CarriedWithRestarts, IsShortened, recorded}
+use Rattle.rubis_model.specs.Rebuild.{after_inputs, inputs_to_rebuild, sent_by, sent_on_inputs}
+use Rattle.rubis_model.specs.Restarts.{IsShortened, recorded}
 use Rattle.rubis_model.specs.Runs.{input_step}
 use Rattle.rubis_model.specs.Site.{Place, Replica, opening_at}
 use Rattle.rubis_model.specs.System.{AreEvents, Event, World, run, site, start}
@@ -23,7 +23,7 @@ use Rattle.rubis_laws.proofs.Rebuilding.RebuildInputs.{inputs_rebuild}
 use Rattle.rubis_laws.proofs.Rebuilding.RebuiltSites.{sites_are_rebuilt}
 use Rattle.rubis_laws.proofs.Runs.EveryRun.{every_run}
 use Rattle.rubis_laws.proofs.Runs.Nicknames.{nicknames_are_unique}
-use Rattle.rubis_keep.specs.Folders.{AreFoldersOfARun, AreOfSite, FoldersAreARun, IsRebuiltFolder, KeepsItsPromises}
+use Rattle.rubis_keep.specs.Folders.{AreOfSite, FoldersAreARun, IsRebuiltFolder, KeepsItsPromises}
 use Rattle.rubis_keep.specs.Histories.{keeps, moments_in, most, site_keeping, stands, takes}
 use Rattle.rubis_keep.specs.History.{records_in}
 use Rattle.rubis_keep.proofs.HistoriesFacts.{come, histories-are-replayed, history-at}

@@ -1,5 +1,5 @@
 -- What was kept is rewritten without what changed nothing.
-use Rattle.std.proofs.Common.{◌≡◌, ◌∙◌, ◌⊎◌, inl, inr, ◌≤◌, ◌<◌, ◌+◌, ◌++◌, ◌∷◌, [], ℕ, Bool, true, false, cond, List, Option, Some, None, length, refl, sym, ap, subst, arith}
+use Rattle.std.proofs.Common.{◌≡◌, ◌∙◌, ◌⊎◌, inl, inr, ◌≤◌, ◌+◌, ◌++◌, ◌∷◌, [], ℕ, Bool, true, false, cond, List, Option, Some, None, length, refl, sym, ap, subst, arith}
 use Rattle.std.proofs.Common.{append_assoc, append-nil, length-append, ⊎_elim}
 use Rattle.std.specs.Prelude.{◌||◌, ◌==◌, MatchBool, map, nat_le, Result, Ok, Err}
 use Rattle.std.proofs.lemmas.Bool.{cond_both}
@@ -12,15 +12,13 @@ use Rattle.rubis_message.specs.Message.{Message}
 use Rattle.rubis_message.specs.declared.inputs.Input.{Input}
 use Rattle.rubis_message.specs.declared.inputs.Input.TheVariants.{Asked, Came, Neither}
 use Rattle.rubis_message.specs.declared.requests.Request.TheVariants as request
-use Rattle.rubis_message.specs.declared.tokens.Packet.{Packet}
 use Rattle.rubis_message.specs.declared.tokens.Packet.TheVariants as packet
 use Rattle.rubis_message.specs.declared.tokens.Token.{Token}
-use Rattle.rubis_model.specs.Processes.{site_after}
 use Rattle.rubis_model.specs.Rebuild.{sent_on, sent_on_inputs}
 use Rattle.rubis_model.specs.Restarts.{IsShortened}
 use Rattle.rubis_model.specs.Runs.{answers, input_step, output_of}
 use Rattle.rubis_model.specs.Settle.{settle}
-use Rattle.rubis_model.specs.Site.{Place, Replica, generating, made, opening_at, passing, rows_at, standing_of, token_for}
+use Rattle.rubis_model.specs.Site.{Place, Replica, generating, made, opening_at, passing, rows_at, standing_of}
 use Rattle.rubis_model.specs.System.{sending}
 use Rattle.rubis_model.proofs.Settling.{settle_keeps}
 use Rattle.rubis_laws.proofs.Processes.AreARun.{answers_stay}
@@ -29,7 +27,7 @@ use Rattle.rubis_keep.specs.Crashes.{Files}
 use Rattle.rubis_keep.specs.History.{FileState, IsSafe}
 use Rattle.rubis_keep.specs.Kept.{IsFrontOf}
 use Rattle.rubis_keep.specs.Moments.{SurvivesIn}
-use Rattle.rubis_keep.specs.Rewriting.{IsLeftIn, IsOfFresh, IsOfKept, IsOldOrNew, KeepsThePromise, MayBeLeft, NamedBeforeEmptied, NamedBeforeFlushed, Rewriting, RewritingLeavesFiles}
+use Rattle.rubis_keep.specs.Rewriting.{IsLeftIn, IsOfFresh, IsOfKept, IsOldOrNew, NamedBeforeEmptied, NamedBeforeFlushed, Rewriting, RewritingLeavesFiles}
 use Rattle.rubis_keep.specs.Rewriting.{Rewritten, ShorteningKeepsThePromise, after_one, after_some, killed_in, rewriting, untouched}
 use Rattle.rubis_keep.specs.Rewriting.Rewriting.{Emptied, EmptyFlushed, FreshFlushed, NamesFlushed, Renamed, Wrote}
 use Rattle.rubis_keep.proofs.ShopFacts.{Records}

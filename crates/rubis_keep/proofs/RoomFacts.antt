@@ -26,14 +26,13 @@ use Rattle.rubis_generate.specs.Lookup.{Rows}
 use Rattle.rubis_generate.specs.declared.standing.Standing.{Standing}
 use Rattle.rubis_message.specs.Inputs.{input_of}
 use Rattle.rubis_message.specs.Message.{Message}
-use Rattle.rubis_message.specs.declared.answers.Arrival.{Arrival}
 use Rattle.rubis_message.specs.declared.answers.Arrival.TheVariants as arrival
 use Rattle.rubis_message.specs.declared.inputs.Input.{Input}
 use Rattle.rubis_message.specs.declared.inputs.Input.TheVariants.{Asked, Came, Neither}
 use Rattle.rubis_message.specs.declared.requests.Request.TheVariants as request
 use Rattle.rubis_message.specs.declared.tokens.Packet.TheVariants as packet
 use Rattle.rubis_message.specs.declared.tokens.Token.{Token}
-use Rattle.rubis_model.specs.Answers.{arrived_rows, asked_rows, passed_rows, refused_row, reply, send_row}
+use Rattle.rubis_model.specs.Answers.{arrived_rows, asked_rows, passed_rows, refused_row}
 use Rattle.rubis_model.specs.Processes.{site_after}
 use Rattle.rubis_model.specs.Rebuild.{sent_on, sent_on_inputs}
 use Rattle.rubis_model.specs.Restarts.{IsShortened}

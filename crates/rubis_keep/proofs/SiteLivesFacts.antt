@@ -1,5 +1,5 @@
 -- Lives of sites, interleaved in any way, are histories of their files.
-use Rattle.std.proofs.Common.{◌≡◌, ◌++◌, ◌∷◌, [], ℕ, Bool, true, false, List, cond, eqb, refl, sym, subst, arith}
+use Rattle.std.proofs.Common.{◌≡◌, ◌++◌, ◌∷◌, [], ℕ, true, false, List, cond, eqb, refl, sym, subst, arith}
 use Rattle.std.proofs.lemmas.List.{append-nil}
 use Rattle.std.specs.Prelude.{MatchBool, ⊤}
 use Rattle.rubis_model.specs.Restarts.Moment.{Reads, Replays, Restarts}
