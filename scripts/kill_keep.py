@@ -18,7 +18,8 @@ calls for files too, where there is a strace.
 Where `out` is torn at each of its bytes, a start with a greater --keep tells again what was told, or is refused if that was Full.
 
 With --sync, 200 lives are killed at a flush of `kept` or end, where there is a strace, and every other one is followed by a power failure:
-`kept` is cut to what was flushed, and `out`, which isn't flushed, anywhere. All that `out` had is answered again.
+`kept` is cut to what was flushed, and `out`, which isn't flushed, anywhere. All that `out` had is answered again. A start with --sync flushes
+the names in its folder before it writes anything.
 
 Questions stand among the records of each life. Where each input of a site has some, `kept` and `out` are what they are without them, and so are
 the answers on standard output, but for those to questions. A line of that form in the `kept` of an older folder is a record.
@@ -467,6 +468,22 @@ def lose_power(shop: Shop, dice: random.Random, lives: int) -> str:
     return f"{lives} lives with --sync, {killed} killed at a flush, a power failure after every other one: {len(site.kept().splitlines())} lines kept"
 
 
+def flush_names(shop: Shop) -> str:
+    """A start with --sync, after a shortening that was killed and may have left a rename that isn't on the disk: the names in the folder
+    are flushed before anything is written."""
+    if not shutil.which("strace"):
+        return "no strace on this machine: no start was watched while it flushes the names in a folder"
+    site = shop.site("named")
+    site.run(b"user,ann\nlist,users\n")
+    trace = shop.folder / "names"
+    command = ["strace", "-f", "-qq", "-y", "-o", str(trace), "-e", "trace=write,fsync", *site.command("--workers", "1", "--sync")]
+    done = subprocess.run(command, input=b"user,bob\n", stdout=subprocess.PIPE, stderr=subprocess.PIPE, timeout=WAIT)
+    check(done.returncode == 0, f"a start that is watched: {done.stderr!r}")
+    first = next((line for line in trace.read_text().splitlines() if re.search(r"\b(write|fsync)\(", line)), "")
+    check(re.search(rf"\bfsync\(\d+<[^>]*/{site.folder.name}>\) += 0$", first) is not None, f"a start with --sync begins with {first!r}")
+    return "a start with --sync flushes the names in its folder first"
+
+
 def synced_life(site: Site, dice: random.Random, made: list[int], trace: pathlib.Path) -> bool:
     """A life with --sync that is given its records one by one, and is killed at its n-th flush: whether it was. Two flushes belong to its
     start."""
@@ -587,6 +604,7 @@ def main() -> None:
                 lambda: refuse_another_setup(shop),
                 lambda: raise_a_keep(shop),
                 lambda: lose_power(shop, dice, SYNCED_LIVES),
+                lambda: flush_names(shop),
             ):
                 print(f"  {done()}", flush=True)
         except Failure as failure:

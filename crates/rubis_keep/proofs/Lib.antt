@@ -16,6 +16,7 @@ pub mod CrashFacts
 pub mod CountFacts
 pub mod TellingFacts
 pub mod ShopFacts
+pub mod RoomFacts
 pub mod ShortenFacts
 pub mod HistoryFacts
 pub mod SafeFacts
@@ -29,3 +30,6 @@ pub mod SiteLivesFacts
 pub mod AskFacts
 pub mod ReplyFacts
 pub mod QuestionFacts
+pub mod RewritingFacts
+pub mod FolderFacts
+pub mod Examples

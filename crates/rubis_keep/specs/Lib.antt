@@ -6,6 +6,7 @@ pub mod Kept
 pub mod Crashes
 pub mod Cuts
 pub mod Shops
+pub mod Room
 pub mod Shortened
 pub mod Setups
 pub mod History
@@ -17,3 +18,5 @@ pub mod Showing
 pub mod Pages
 pub mod Questions
 pub mod Asking
+pub mod Rewriting
+pub mod Folders

@@ -126,6 +126,14 @@ pub(crate) fn settle<R: Files<File = File> + AllocGlobal>(
     let from = format!(in rt.alloc(); "{folder}/{name}.new")?;
     let to = format!(in rt.alloc(); "{folder}/{name}")?;
     fs::rename(rt, from.as_str(), to.as_str())?;
+    flush_names(rt, folder)
+}
+
+/// Flushes the names in a folder, after which a power failure takes no rename back.
+pub(crate) fn flush_names<R: Files<File = File> + AllocGlobal>(
+    rt: &R,
+    folder: &str,
+) -> io::Result<()> {
     File::open(rt, folder)?.sync_all()
 }
 

@@ -7,7 +7,7 @@ ghost use Rattle.rubis_keep.specs.Setups.{GoesOn, next_setup, opening_setup, pla
 
 use crate::answers::Answers;
 use crate::fault::KeepFault;
-use crate::files::{FolderFiles, begin, open, settle, take_lock};
+use crate::files::{FolderFiles, begin, flush_names, open, settle, take_lock};
 use crate::folder_fault::FolderFault;
 use crate::run::Recording;
 use crate::setup::{ANSWERS, Setup, read_setup, write_setup};
@@ -291,6 +291,10 @@ pub fn keep_folder<
 >(rt: &R, folder: &str, wanted: &Wanted) -> Result<(), FolderFault> {
     make_folder(rt, folder, wanted.shortens)?;
     let _lock = take_lock(rt, folder)?;
+    // A process that was killed may have left a rename that isn't on the disk.
+    if wanted.is_synced {
+        flush_names(rt, folder).map_err(FolderFault::Folder)?;
+    }
     let setup = settled(rt, folder, wanted)?;
     let Some(asked) = wanted.goes_on(setup) else {
         return Err(FolderFault::IsOther(setup));
