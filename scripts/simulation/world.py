@@ -59,6 +59,7 @@ class World:
         self.machines = self._machines()
         self.standby: tuple[int, Machine] | None = self._standby()      # a site that has one, and on which machine
         self.taken_over: set[int] = set()   # sites of which a standby has taken the place
+        self.published: set[bytes] = set()  # all packets that ever stood in a stream
         self.is_calm = False                # no fault comes any more
         self.disturbed_at = -10.0           # when a connection was last cut off, or a process stood still
         self.running: list[Supervisor] = []
@@ -366,6 +367,8 @@ class Process:
         if self.machine.folders.get(site) is not self.made:
             self.machine.folders[site] = self.made
         self.world.taken_over.add(site)
+        # What stood in its stream, and doesn't any more, the server has lost.
+        self.world.lost |= {text for (origin, _), text in self.world.made.items() if origin == site} & self.world.published - set(self.made.sent())
         self.world.note("TakesOver", self.made.number, site)
 
     def replay(self, number: int, records: list[Any]) -> None:
@@ -463,9 +466,11 @@ class Process:
         match step:
             case Append(site, _, packets, _) if said:
                 folder = self.machine.folders.get(site) or next(iter(self.machine.folders.values()))
+                self.world.published |= {text for _, text in packets}
                 for place, _ in packets:
                     self.world.note("Appends", folder.number, site, "%d-%d" % place)
             case Rewrite(site, packets, _):
+                self.world.published |= {text for _, text in packets}
                 self.world.note("WritesAnew", self.machine.folders[site].number, *("%d-%d" % place for place, _ in packets))
 
     def call(self, request: Request, site: int, seconds: float) -> Steps[list[dict[str, Any]] | None]:
