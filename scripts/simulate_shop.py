@@ -2,9 +2,10 @@
 """Simulates whole shops: scripts/simulate_shop.py SEED [COUNT] [--seconds S] [--processes N] [--without RULE] [--steps FOLDER]
 [--program PROGRAM] [--skip N,..]
 
-Each run is a shop of 2 to 5 sites, over files or a server, in one process and on a clock of its own: what is decided is decided by the
-carrier of `shop`, and its sites, folders, server and askers are simulated. Things go wrong for half a minute; then nothing goes wrong any
-more, and it is looked whether ids were given once, nothing that was accepted is lost, what askers were told is true, and all goes on.
+Each run is a shop of 2 to 5 sites, over files or a server, where one of them may have a standby, in one process and on a clock of its own:
+what is decided is decided by the carrier of `shop`, and its sites, folders, server and askers are simulated. Things go wrong for half a
+minute; then nothing goes wrong any more, and it is looked whether ids were given once, nothing that was accepted is lost, what askers were
+told is true, and all goes on.
 
 Run number N of a seed is SEED.N, and is the same each time. One that breaks a promise is printed, and made smaller: `SEED.N 1 --skip ..`
 plays it again without some of its events. With --without one rule of the carrier is taken out, to see that this is found. With --program

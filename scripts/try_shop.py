@@ -920,6 +920,24 @@ def test_another_number_of_sites(at: Folder) -> None:
     at.shop("wait 2", folder="b")
 
 
+def test_rebuilt_with_what_was_left(at: Folder) -> None:
+    """What a folder has of the others is taken along where it is made again, since nothing else may have that any more."""
+    at.run("./shop start auction --sites 2")
+    at.shop(f"ask 0 {SALE} --published")
+    at.shop("ask 1 comment,0.3,0.2,0.1,5,good --published")
+    at.run("cp -a auction/1 older; ./shop stop auction; ./shop start auction; ./shop stop auction")
+    put_back(at, "auction/1", "older")
+    at.run("rm -r auction/0; ./shop start auction", 3, "shop rebuild 1")
+    at.shop("stop")
+    at.shop("rebuild 1")
+    expect("3 packets" in at.shop("rebuild 0"), "all that site 0 sent")
+    at.run("./shop start auction")
+    for site in (0, 1):
+        at.shop(f"wait {site}")
+    expect("bob" in at.shop("list 0 users") and "good" in at.shop("list 0 comments 0.1"), "all that was accepted")
+    expect(at.shop("audit") == "audit,Agree\n", "the audit")
+
+
 def test_others_append(at: Folder) -> None:
     """Where the server has lost messages of a site that isn't running, another site appends them."""
     server = Server(at).start_shop()

@@ -300,10 +300,10 @@ class Streams:
         """What the supervisor that has a site answers to a request; None if it gives no answer in time."""
         name = f"{os.getpid()}.{time.time_ns()}.{site}"
         until = time.monotonic() + seconds
-        while not (life := await self.redis.get(self.key(f"life:{site}"))):
+        while not (life := await self.redis.get(self.key(f"life:{site}")) or (await self.statuses()).get(site, {}).get("life")):
             if time.monotonic() > until:
                 return None
-            await asyncio.sleep(0.1)        # the server has lost it, and is told again
+            await asyncio.sleep(0.1)        # the server has lost it, and is told again; a site that waits for others says it beside its status
         await self.say({"call": name, "site": site, "life": life, "request": json.dumps(request)})
         while (left := until - time.monotonic()) > 0:
             # The server takes whole seconds, and a socket waits no longer than its time-out.

@@ -60,13 +60,13 @@ class Folder:
         """A copy of it, with other files of the same bytes."""
         made = Folder(self.world, machine)
         made.files = {name: File(self.world.new_number(), bytes(file.data)) for name, file in self.files.items()}
-        made.lives, made.noted, made.fenced = list(self.lives), self.noted, self.fenced
+        made.lives, made.noted, made.fenced, made.yields = list(self.lives), self.noted, self.fenced, self.yields
         return made
 
     def put_back(self, older: "Folder") -> None:
         """Has what an older copy has, in the same folder."""
         again = older.copied(self.machine)
-        self.files, self.lives, self.noted, self.fenced = again.files, again.lives, again.noted, again.fenced
+        self.files, self.lives, self.noted, self.fenced, self.yields = again.files, again.lives, again.noted, again.fenced, again.yields
 
     def file(self, name: str) -> File:
         if name not in self.files:

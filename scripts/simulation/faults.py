@@ -158,6 +158,10 @@ def cut_off(run: "Run", dice: random.Random) -> None:
     if not run.world.is_over_server:
         return killed_keeper(run, dice)
     machine = dice.choice(run.world.machines + [copy.machine for copy in run.copies])
+    cut_off_for(run, machine, dice.choice([0.2, 2.0, 6.0]))
+
+
+def cut_off_for(run: "Run", machine: Machine, seconds: float) -> None:
     run.world.note("cut-off", machine.name)
     run.disturb()
     machine.is_cut_off = True
@@ -165,7 +169,7 @@ def cut_off(run: "Run", dice: random.Random) -> None:
     def again() -> None:
         machine.is_cut_off = False
         run.disturb()
-    run.world.clock.after(dice.choice([0.2, 2.0, 6.0]), again)
+    run.world.clock.after(seconds, again)
 
 
 def server_goes(run: "Run", dice: random.Random, forget: Callable[[], None] | None = None) -> None:
@@ -221,7 +225,7 @@ def passed_to_a_stopped_site(run: "Run", dice: random.Random) -> None:
     """The token is passed to a stopped site, a message follows, and the server loses something while the sender is stopped too."""
     holder = next((site for supervisor in run.supervisors.values() if supervisor.is_alive for site in supervisor.sites.values()
                    if site.ledger.holds_token and supervisor.may_give(site)), None)
-    others = [machine for machine in run.world.machines if holder and machine is not holder.machine]
+    others = [machine for machine in run.world.machines if holder and machine is not holder.machine and machine.here]
     if not holder or not others:
         return killed_supervisor(run, dice)
     sender, to = holder.machine, dice.choice(others)
@@ -237,9 +241,28 @@ def passed_to_a_stopped_site(run: "Run", dice: random.Random) -> None:
     run.world.clock.after(1.0, lose)
 
 
+def gone(run: "Run", dice: random.Random) -> None:
+    """The machine of a site with a standby is gone for some time, or is cut off, or its supervisor stands still."""
+    standby = run.world.standby
+    machine = next((machine for machine in run.world.machines if standby and standby[0] in machine.here), None)
+    if not machine or not standby or machine is standby[1]:
+        return paused(run, dice)
+    seconds, supervisor = dice.uniform(7.0, 14.0), run.supervisors.get(machine.name)
+    how = dice.choice(["off", "cut off", "still"])
+    run.world.note("gone", machine.name, how)
+    run.disturb()
+    if how == "off":
+        run.switch_off(machine)
+        run.rest(machine, seconds)
+    elif how == "cut off":
+        cut_off_for(run, machine, seconds)
+    elif supervisor:
+        supervisor.paused_until = run.world.clock.now + seconds
+
+
 FAULTS: dict[Callable[["Run", random.Random], None], float] = {
     killed_keeper: 6, killed_supervisor: 5, stopped: 4, lost_power: 0.7, lost_all_power: 0.15, lost_end: 0.2, copied: 2.5, put_back: 0.6,
     lost: 0.25, lost_file: 0.25, changed_word: 0.2, ran_copy: 0.6, paused: 2, jumped: 1.5, cut_off: 3, server_goes: 2, server_loses_end: 1.5,
-    server_loses_all: 0.5, server_comes_from_backup: 0.2, passed_by_hand: 1.5,
+    server_loses_all: 0.5, server_comes_from_backup: 0.2, passed_by_hand: 1.5, gone: 1.2,
     passed_to_a_stopped_site: 0.4,
 }

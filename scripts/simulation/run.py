@@ -148,9 +148,21 @@ class Run:
                 if site.state is State.FENCED or site.state is State.DOWN and site.keeper and site.keeper.fault]
         for site in sick:
             self._is_due(site, site.fenced_by or str(site.keeper and site.keeper.fault))
+        elsewhere = [site for site in sick if self._runs_elsewhere(site)]
+        if elsewhere and not supervisor.is_leaving:
+            supervisor.stop()
+            for site in elsewhere:      # its operator starts the machine without it
+                supervisor.machine.here.remove(site.number)
+            return
         if sick and not supervisor.is_leaving and (self.world.is_calm or self.world.dice.random() < 0.3):
             supervisor.stop()
             self.to_rebuild[supervisor.machine.name] = [(site.number, site.fenced_by or "") for site in sick]
+
+    def _runs_elsewhere(self, site: SimulatedSite) -> bool:
+        """Whether a standby has taken the place of this folder of the site: it is said so, or a rebuild says that the site is running."""
+        return site.number in self.world.taken_over and any(
+            supervisor.machine is not site.machine and site.number in supervisor.sites and supervisor.sites[site.number].compared.is_set
+            and not supervisor.sites[site.number].fenced_by for supervisor in self.supervisors.values())
 
     def _are_fences_just(self, supervisor: Supervisor) -> None:
         for number, why in supervisor.fenced:
@@ -159,7 +171,7 @@ class Run:
 
     def _is_due(self, site: SimulatedSite, why: str) -> None:
         """A site whose files nobody touched isn't stopped."""
-        ran_copies = any(site.number in copy.sites for copy in self.copies)
+        ran_copies = any(site.number in copy.sites for copy in self.copies) or site.number in self.world.taken_over
         if site.folder.inode not in self.tainted and not self.changed and not ran_copies and not self._is_excused():
             raise Violation(f"site {site.number} is stopped, and nothing happened to its folder: {why}")
 
@@ -210,7 +222,7 @@ class Run:
 
     def some_site(self, dice: random.Random) -> SimulatedSite | None:
         supervisor = self.some_supervisor(dice)
-        return dice.choice(list(supervisor.sites.values())) if supervisor else None
+        return dice.choice(list(supervisor.sites.values())) if supervisor and supervisor.sites else None
 
     def some_folder(self, dice: random.Random) -> tuple[Machine, Folder]:
         machine = dice.choice(self.world.machines)

@@ -6,18 +6,19 @@ from collections.abc import Callable
 from typing import TYPE_CHECKING, Any
 
 from shop_tool.carrier.ledger import NOWHERE, Place
+from shop_tool.carrier.lives import count_of, life_text, placed
 from shop_tool.carrier.over_server import WANTS
 from shop_tool.carrier.publisher import hash_of
 from shop_tool.carrier.rebuilding import STATUS_SECONDS
-from shop_tool.carrier.steps import (Adopt, Append, Entries, Hear, Marks, Owner, Packets, Page, PageOf, Read, Rewrite, SeeLife, Signal, Sites,
-                                     State, Statuses, StreamState, Tell)
+from shop_tool.carrier.steps import (Adopt, Append, Entries, Hear, Marks, Owner, Packets, Page, PageOf, Read, Rewrite, SayYields, SeeLife,
+                                     Signal, Sites, StandBy, State, Statuses, StreamState, TakeOver, Tell)
 
 if TYPE_CHECKING:
     from .clock import Clock
     from .world import Process
 
 PAGE = 50
-WRITES = (Append, Rewrite, SeeLife, Adopt)
+WRITES = (Append, Rewrite, SeeLife, Adopt, SayYields)
 
 
 class Stream:
@@ -44,6 +45,8 @@ class Server:
         self.marks: list[bytes | None] = [None] * self.sites
         self.lives = [""] * self.sites
         self.owners = [""] * self.sites
+        self.standbys = [""] * self.sites
+        self.yields = [""] * self.sites
         self.said: dict[int, tuple[float, dict[str, Any]]] = {}
         self.wants: list[tuple[int, dict[bytes, bytes]]] = []
         self.answers: dict[bytes, list[dict[str, Any]]] = {}
@@ -83,7 +86,7 @@ class Server:
             case State(site):
                 stream = self.streams[site]
                 packet = stream.entries[-1][1] if stream.entries else b""
-                return StreamState(len(stream.entries), stream.last, packet, stream.greatest, self.lives[site])
+                return StreamState(len(stream.entries), stream.last, packet, stream.greatest, self.lives[site], self.standbys[site], self.yields[site])
             case Sites(_):
                 return self.sites
             case Owner(site):
@@ -118,6 +121,16 @@ class Server:
                 if packets:
                     self._write(functools.partial(self._rewrite, site, list(packets), by.world.new_mark()))
                 return True
+            case StandBy(site):
+                if self.standbys[site] != by.machine.name:
+                    self._write(functools.partial(self._stand_by, site, by.machine.name))
+            case SayYields(site, before, life):
+                if self.yields[site] != before:
+                    return False
+                self._write(functools.partial(self._yield, site, life or f"none {by.world.new_number()}"))
+                return True
+            case TakeOver(site, life, last):
+                return self._take_over(by, site, life, last)
             case PageOf(site, after, upto):
                 page = self._entries(site, after, upto)
                 tokens = [text for _, text in page if text.startswith(b"token,")]
@@ -141,12 +154,36 @@ class Server:
         del self.wants[:-WANTS]
         self.news.tell()
 
+    def life_of(self, site: int) -> str:
+        """The life of a site that was seen last; where that is lost, the one that is said beside its status."""
+        until, said = self.said.get(site, (0.0, {}))
+        return self.lives[site] or (str(said["life"]) if until > self.clock.now else "")
+
     def forget(self, sites: list[int]) -> None:
         for site in sites:
             self.said.pop(site, None)
 
     def _entries(self, site: int, after: Place, upto: Place | None) -> Packets:
         return [entry for entry in self.streams[site].entries if entry[0] > after and (upto is None or entry[0] <= upto)][:PAGE]
+
+    def _take_over(self, by: "Process", site: int, life: str, last: Place) -> bool:
+        if self.streams[site].last != last or self.said.get(site, (0.0, {}))[0] > self.clock.now or not self.lives[site] == self.yields[site] == life:
+            return False
+        assert by.made
+        by.made.lives = placed([], count_of(life), f"{by.world.new_number():x}")
+        now = life_text(by.made.lives)
+        for change in (functools.partial(self._see, site, now), functools.partial(self._yield, site, now),
+                       functools.partial(self._own, site, by.owner_text(site, True))):
+            self._write(change)
+        if self.standbys[site] == by.machine.name:
+            self._write(functools.partial(self._stand_by, site, ""))
+        return True
+
+    def _stand_by(self, site: int, who: str) -> None:
+        self.standbys[site] = who
+
+    def _yield(self, site: int, life: str) -> None:
+        self.yields[site] = life
 
     def _own(self, site: int, owner: str) -> None:
         self.owners[site] = owner
@@ -165,6 +202,7 @@ class Server:
         self.streams[site] = Stream()
         self._append(site, packets, mark)
         self.marks[site] = mark
+        self.yields[site] = f"none {mark.decode()}"
 
 
 def lost_seconds(server: Server, dice: random.Random) -> float:

@@ -5,6 +5,7 @@ from contextlib import ExitStack
 from typing import Any
 from unittest import mock
 
+from shop_tool.carrier.asking import Ask
 from shop_tool.carrier.files import Files
 from shop_tool.carrier.keys import Key, Keys
 from shop_tool.carrier.lives import Standing
@@ -58,12 +59,13 @@ def patches_of(rule: str) -> list[Any]:
         "11": [],
         "keys-read": [mock.patch.object(Keys, "read", lambda *_: None)],
         "keys-given": [mock.patch.object(Keys, "find", answered_only)],
+        "standby-told": [mock.patch.object(Ask, "_stands", lambda *_: iter(()))],
         "turns": [instead("shop_tool.carrier.shop.why_passed_on", lambda *_: None)],
     }
     return changes[rule]
 
 
-RULES = ("1", "2", "3", "4", "5", "6", "7", "9", "9-lives", "11", "keys-read", "keys-given", "turns")
+RULES = ("1", "2", "3", "4", "5", "6", "7", "9", "9-lives", "11", "keys-read", "keys-given", "standby-told", "turns")
 
 
 def rules_without(rule: str | None) -> Rules:

@@ -17,7 +17,8 @@ from shop_tool.carrier.records import Purpose, text_of
 from shop_tool.carrier.shop import HAND_OVER_SECONDS, Shop
 from shop_tool.carrier.site import FIRST_WAIT, LAST_WAIT, Disagreement, Site, State
 from shop_tool.carrier.steps import (Append, Broken, CallAll, Connect, Flag, Hear, IsRunning, Kept, KeptOf, Read, Replay, Rewrite, Say,
-                                     SayLeave, SayWant, SeeHere, SeenHere, SentHere, Signal, Statuses, Steps, Swap, UpElsewhere, Wait)
+                                     SayLeave, SayWant, SeeHere, SeenHere, SentHere, Signal, Statuses, Steps, Swap, TakeOver, UpElsewhere,
+                                     Wait)
 from shop_tool.carrier.sums import LINE_BYTES, why_changed
 from shop_tool.carrier.told import unanswered
 from shop_tool.ends import Fault, Status
@@ -56,6 +57,9 @@ class World:
         self.is_synced = self.dice.random() < 0.4
         self.server = Server(self.clock, self.sites, self.dice.random() < 0.4)
         self.machines = self._machines()
+        self.standby: tuple[int, Machine] | None = self._standby()      # a site that has one, and on which machine
+        self.taken_over: set[int] = set()   # sites of which a standby has taken the place
+        self.published: set[bytes] = set()  # all packets that ever stood in a stream
         self.is_calm = False                # no fault comes any more
         self.disturbed_at = -10.0           # when a connection was last cut off, or a process stood still
         self.running: list[Supervisor] = []
@@ -83,6 +87,15 @@ class World:
             sites = sites[count:]
         return machines
 
+    def _standby(self) -> "tuple[int, Machine] | None":
+        if len(self.machines) < 2 or self.dice.random() < 0.5:
+            return None
+        machine, home = self.dice.sample(self.machines, 2)
+        return self.dice.choice(home.here), machine
+
+    def has_standby(self, site: int) -> bool:
+        return self.standby is not None and self.standby[0] == site
+
     def supervisors(self) -> list["Supervisor"]:
         self.running = [supervisor for supervisor in self.running if supervisor.is_alive]
         return self.running
@@ -105,8 +118,8 @@ class World:
             self.words.append(",".join([f"{self.clock.now:.4f}", word, *map(str, fields)]))
 
     def knows_keys(self, site: int) -> bool:
-        """Whether nothing was taken from a folder of a site that had its keys."""
-        return site not in self.lost_keys and not self.excused
+        """Whether nothing was taken from a folder of a site that had its keys, and no standby, which has none, took its place."""
+        return site not in self.lost_keys | self.taken_over and not self.excused
 
     def _is_anywhere(self, text: bytes) -> bool:
         """Whether a folder or a stream has a message."""
@@ -124,6 +137,8 @@ class World:
         own, held = opens.release.counts[number], opens.turn if opens.issued is not None else None
         for machine in self.machines:
             for site, folder in machine.folders.items():
+                if self.has_standby(number) and site == number:
+                    continue        # what a folder of such a site has doesn't count
                 if folder is not opened and not self.is_unreached:
                     whole = [line for line in folder.lines("kept") if line.startswith(b"msg,1,%d," % number) and line.endswith(b"\n")]
                     has = [line.split(b",", 4)[3] for line in whole]
@@ -144,7 +159,7 @@ class World:
                 self.accepted.setdefault(record, set()).add(name)
                 if len(self.accepted[record]) > 1 and (record not in self.keyed or self.knows_keys(site)):
                     raise Violation(f"one ask was accepted twice: {record!r} as {sorted(self.accepted[record])}")
-                if (before := self.made.get(name, text)) != text:
+                if (before := self.made.get(name, text)) != text and not self.has_standby(site):
                     if self._is_anywhere(before):
                         self.excused.add(name)      # what knew of the first couldn't be asked when the site was opened
                     self.lost.add(before)
@@ -156,7 +171,7 @@ class World:
                 self.note("Passes", keeper.folder.number, to, turn)
                 if turn > self.turn[0]:
                     self.turn = turn, site, to
-                if self.passes.get(turn, text) != text and self._is_anywhere(self.passes[turn]):
+                if self.passes.get(turn, text) != text and not self.has_standby(site) and self._is_anywhere(self.passes[turn]):
                     self.excused.add((site, -turn))
                 self.passes[turn] = text
             case b"holding":
@@ -341,10 +356,49 @@ class Process:
 
     def kept_of(self, keeper: int, origin: int, after: int) -> Kept | None:
         """What stands in the file `kept` of a site here."""
-        folder = self.machine.folders[keeper]
-        if not folder.is_there or "kept" not in folder.files:
+        folder = self.machine.folders.get(keeper)
+        if not folder or not folder.is_there or "kept" not in folder.files:
             return None
         return list(packets_of(folder.unchanged(), origin, after)), tokens_of(folder.unchanged())
+
+    def takes_over(self, site: int) -> None:
+        """Puts the folder that was made in the place of a site elsewhere."""
+        assert self.made
+        if self.machine.folders.get(site) is not self.made:
+            self.machine.folders[site] = self.made
+        self.world.taken_over.add(site)
+        # What stood in its stream, and doesn't any more, the server has lost.
+        self.world.lost |= {text for (origin, _), text in self.world.made.items() if origin == site} & self.world.published - set(self.made.sent())
+        self.world.note("TakesOver", self.made.number, site)
+
+    def replay(self, number: int, records: list[Any]) -> None:
+        """Has a fresh folder beside a site's folder that is given these records."""
+        made = Folder(self.world, self.machine)
+        site = StandIn(number, self.world.sites)
+        kept, out = made.file("kept"), made.file("out")
+        for given in records:
+            said = site.answer(given.record)
+            lines = said.split(b"\n")[:-1]
+            fields = lines[0].split(b",")
+            packet = lines[1][5:] if fields[2] in (b"ok", b"passed") else None
+            if packet != given.packet or fields[2] == b"refused":
+                raise Fault(Status.REFUSED, f"{given.record!r} sends {given.packet!r} no more, but {lines}: {UNCHANGED}")
+            kept.data += given.record + b"\n"
+            made.noted += 1
+            out.data += said
+        kept.synced, out.synced = len(kept.data), len(out.data)
+        self.made = made
+
+    def do_here(self, task: Task, step: SentHere | Replay) -> None:
+        """Does a step that needs no server."""
+        if isinstance(step, SentHere):
+            folder = self.machine.folders.get(step.site)
+            return task.answer(sends_of(folder.lines("out")) if folder else [])
+        try:
+            self.replay(step.site, step.records)
+            task.answer()
+        except Fault as fault:
+            task.answer(fault=fault)
 
     def reaches(self) -> bool:
         return self.world.server.is_up and not self.machine.is_cut_off
@@ -376,6 +430,8 @@ class Process:
                 return self._read(task, Hear(self._heard_upto()) if step == Hear(b"$") else step)
             said = server.do(self, step)
             self._note(step, said)
+            if isinstance(step, TakeOver) and said:
+                self.takes_over(step.site)
             if not self.world.is_calm and dice.random() < 0.004:
                 return task.answer(fault=Broken("broke"))   # it was done, and that isn't known
             task.answer(said)
@@ -410,22 +466,23 @@ class Process:
         match step:
             case Append(site, _, packets, _) if said:
                 folder = self.machine.folders.get(site) or next(iter(self.machine.folders.values()))
+                self.world.published |= {text for _, text in packets}
                 for place, _ in packets:
                     self.world.note("Appends", folder.number, site, "%d-%d" % place)
             case Rewrite(site, packets, _):
+                self.world.published |= {text for _, text in packets}
                 self.world.note("WritesAnew", self.machine.folders[site].number, *("%d-%d" % place for place, _ in packets))
 
     def call(self, request: Request, site: int, seconds: float) -> Steps[list[dict[str, Any]] | None]:
         """What the supervisor of a site elsewhere answers; None if it gives no answer in time."""
         server, until = self.world.server, self.clock.now + seconds
         name = b"%d" % self.world.new_number()
-        while not self.reaches() or not server.lives[site]:
+        while not self.reaches() or not (life := server.life_of(site)):
             if self.clock.now > until:
                 return None
             yield Wait(None, 0.1)
-        life = server.lives[site].encode()
         yield Wait(None, 0)
-        server.say(self.world.new_number(), {"call": name, "site": site, "life": life, "request": json.dumps(request)})
+        server.say(self.world.new_number(), {"call": name, "site": site, "life": life.encode(), "request": json.dumps(request)})
         while self.clock.now < until:
             yield Wait(None, 0.02)
             if self.reaches() and name in server.answers:
@@ -473,6 +530,8 @@ class Supervisor(Process, Shop):
         self.is_gone = Flag()
         self.takers: set[tuple[int, int]] = set()
         self.sites = {number: SimulatedSite(self, number) for number in machine.here}
+        if world.standby and world.standby[1] is machine and world.standby[0] not in machine.here:
+            self.standby, self.after = (world.standby[0],), 3.0
         self.link: FileLink | SimulatedServerLink
         self.link = SimulatedServerLink(self, "the server") if world.is_over_server else FileLink(self)
         for site in self.sites.values():
@@ -537,6 +596,7 @@ class Supervisor(Process, Shop):
         site.lives = list(folder.lives)
         self.world.note("Starts", folder.number, site.number)
         site.open_sums()
+        site.yields = folder.yields
         site.keys.read(folder.lines("keys"), self.unix_time())
         has_all = answered is not None and "kept" in folder.files and len(folder.files["kept"].data) >= answered
         if folder.fenced:
@@ -626,9 +686,22 @@ class Supervisor(Process, Shop):
             case UpElsewhere():
                 statuses = server.do(self, Statuses()) if self.reaches() and is_over_server else {}
                 return task.answer({site for site, said in statuses.items() if site not in self.sites and said["state"] == "up"})
+        if isinstance(step, (SentHere, Replay)):
+            return self.do_here(task, step)
         if isinstance(step, CallAll):
             return self.call_all(task, step)
         self.over(task, step)
+
+    def took_over(self, site: int) -> None:
+        if site not in self.machine.here:
+            self.machine.here.append(site)
+        self.standby = ()
+        self.sites = self.sites | {site: SimulatedSite(self, site)}
+        self._begin(self.sites[site])
+        self.spawn(self.sites[site].run())
+        assert isinstance(self.link, SimulatedServerLink)
+        for name, work in self.link.works_of_site(self.sites[site]).items():
+            self.spawn(self.link.forever(name, work))
 
     def _is_running(self, site: int) -> bool | None:
         if not self.world.is_over_server:
@@ -769,42 +842,19 @@ class Command(Process):
     def do(self, task: Task, step: tuple[Any, ...]) -> None:
         folders = self.machine.folders
         match step:
-            case SentHere(site):
-                return task.answer(sends_of(folders[site].lines("out")))
             case KeptOf(keeper, origin, after):
                 return task.answer(self.kept_of(keeper, origin, after))
             case SeenHere(site):
                 return task.answer(self.machine.seen.get(site))
-            case Replay(site, records):
-                try:
-                    self._replay(site, records)
-                    return task.answer()
-                except Fault as fault:
-                    return task.answer(fault=fault)
             case Swap(site, starts):
                 assert self.made
                 self.made.lives = placed([], max(starts, len(folders[site].lives)), f"{self.world.new_number():x}")
                 folders[site] = self.made
                 self.world.note("Rebuilds", self.made.number, site)
                 return task.answer()
+        if isinstance(step, (SentHere, Replay)):
+            return self.do_here(task, step)
         if isinstance(step, CallAll):
             return self.call_all(task, step)
         task.connection = self.world.server.times
         self.over(task, step)
-
-    def _replay(self, number: int, records: list[Any]) -> None:
-        made = Folder(self.world, self.machine)
-        site = StandIn(number, self.world.sites)
-        kept, out = made.file("kept"), made.file("out")
-        for given in records:
-            said = site.answer(given.record)
-            lines = said.split(b"\n")[:-1]
-            fields = lines[0].split(b",")
-            packet = lines[1][5:] if fields[2] in (b"ok", b"passed") else None
-            if packet != given.packet or fields[2] == b"refused":
-                raise Fault(Status.REFUSED, f"{given.record!r} sends {given.packet!r} no more, but {lines}: {UNCHANGED}")
-            kept.data += given.record + b"\n"
-            made.noted += 1
-            out.data += said
-        kept.synced, out.synced = len(kept.data), len(out.data)
-        self.made = made

@@ -44,8 +44,7 @@ class Rebuild:
             if other != self.site and not (yield from self._add_kept(past, other)):
                 lacking.append(other)
         self._refuse_silent(lacking, "has no folder")
-        yield from self._add_kept(past, self.site)      # the tokens that came to it
-        past.add_passed()
+        yield from self._add_left(past)
         yield Replay(self.site, list(past.steps()))
         yield Swap(self.site, count_of((yield SeenHere(self.site))))
         return len(past.packets())
@@ -91,9 +90,16 @@ class Rebuild:
                 if other not in statuses or not (yield from self._ask_other(past, other)):
                     silent.append(other)
         self._refuse_silent(silent, "isn't running")
-        yield from self._add_kept(past, self.site)      # the tokens that came to it
-        past.add_passed()
+        yield from self._add_left(past)
         return past, was
+
+    def _add_left(self, past: "Past") -> Steps[None]:
+        """Adds what is left of its folder: the tokens that came to it, and what it has of the other sites, which they may have lost."""
+        yield from self._add_kept(past, self.site)
+        for other in range(self.count):
+            kept: Kept | None = (yield KeptOf(self.site, other, 0)) if other != self.site else None
+            past.left += [(other, number, text) for number, text in kept[0]] if kept else []
+        past.add_passed()
 
     def _add_kept(self, past: "Past", other: int) -> Steps[bool]:
         """Adds what another site of this machine has; False if it has no folder."""
@@ -172,6 +178,7 @@ class Past:
                 raise Fault(Status.REFUSED, f"the stream of site {site} has an entry {number}-{token} that isn't its packet "
                             f"(redis-cli xdel): {UNCHANGED}")
         self.tokens = {turn.turn: (turn, text) for stream in streams for _, text in stream if (turn := token_of(text))}
+        self.left: list[tuple[int, int, bytes]] = []    # the messages of other sites in its folder, each with its site and number
         self.taken: dict[int, int] = {}                 # the last turn that is known to have come to each site
         self.last = max(self.own, default=0)            # what others are asked for begins behind it
 
@@ -242,8 +249,11 @@ class Past:
         return made
 
     def steps(self) -> Iterator[Given]:
-        """What a fresh site is given so that it sends these packets again, and then the tokens that it took and didn't use."""
+        """What a fresh site is given so that it sends these packets again; then what else it had of the others, and the tokens that it took
+        and didn't use."""
         others = [{number: text for (number, token), text in stream if not token} for stream in self.streams]
+        for site, number, text in self.left:
+            others[site].setdefault(number, text)
         others[self.site] = self.own
         sellers = {b"%d.%d" % (site, number): seller for site, messages in enumerate(others) for number, text in messages.items()
                    if (seller := seller_in(text))}
@@ -269,5 +279,5 @@ class Past:
                 yield Given(came.pop(0), None)
             holds = isinstance(packet, Message) and (holds or is_red)
             yield Given(ask, text)
-        for text in came:
+        for text in [text for site, number, text in self.left if number > given[site]] + came:
             yield Given(text, None)

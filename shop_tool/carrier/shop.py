@@ -6,6 +6,7 @@ from typing import Any
 
 from ..ends import Fault, Status
 from .ledger import Prefix
+from .lives import life_text
 from .opening import may_open_unseen, why_behind, why_passed_on
 from .records import Message, Purpose, Token, packet_of, why_not_one_record
 from .site import Pending, Site, State
@@ -181,7 +182,7 @@ class Shop(abc.ABC):
         """How a site is, as the others need to know it."""
         ledger = site.ledger
         state = State.WAITING if site.state is State.UP and site.silent and not site.opened.is_set else site.state
-        return {"site": site.number, "state": state, "own": ledger.sends.messages, "turn": ledger.turn,
+        return {"site": site.number, "state": state, "life": life_text(site.lives), "own": ledger.sends.messages, "turn": ledger.turn,
                 "has": {str(origin): have.upto for origin, have in enumerate(ledger.have) if origin != site.number},
                 "holds_token": ledger.holds_token and site.known.is_set}
 

@@ -27,6 +27,12 @@ class Steps(unittest.TestCase):
         past = Past(1, [ZERO, ONE])
         self.assertEqual(records(past), [ANN, ITEM, FIRST, b"bid,0.2,1.9,5", b"pass,0", LAST])
 
+    def test_what_its_folder_had_of_the_others(self) -> None:
+        """The others may have lost it: what it counted stands nowhere else, and what it didn't count yet comes at the end."""
+        past = Past(1, [ZERO[:1] + ZERO[1:2], ONE])
+        past.left = [(0, 2, ITEM), (0, 3, CLOSE)]
+        self.assertEqual(records(past), [ANN, ITEM, FIRST, b"bid,0.2,1.9,5", b"pass,0", CLOSE])
+
     def test_what_the_server_lost_and_others_have(self) -> None:
         past = Past(0, [ZERO[:1], ONE])
         past.add([CLOSE, ITEM], [FIRST, LAST])
