@@ -23,6 +23,7 @@ from typing import Any
 TOP = pathlib.Path(__file__).resolve().parent.parent
 sys.path.insert(0, str(TOP))
 
+from measure_shop import ask_by_socket, driven, is_whole_line, processor_seconds, to_socket     # noqa: E402
 from shop_tool.program import answers_questions     # noqa: E402
 from trials import PYTHON, Skipped, expect, expect_types, expect_units, run_trials, trials_in
 
@@ -338,6 +339,17 @@ def test_several(at: Folder) -> None:
         line.sendall(b'{"op": "status"}\n')
         expect("`call` is no int" in json.loads(said.readline())["fault"] and said.readline() == b"", "one without a number ends it")
     os.kill(at.site(0)["pid"], signal.SIGCONT)
+
+
+def test_time_of_asks_over_kept_connections(at: Folder) -> None:
+    """Sixteen askers, one ask each at a time over connections that are kept, with --sync: an ask takes the supervisor less than half of a
+    millisecond of processor time, by the least of three; some 0.08 where nothing else runs."""
+    at.run("./shop start auction --sync")
+    at.shop(f"ask 0 {SALE}")
+    supervisor = {"supervisor": at.status()["pid"]}
+    taken = [driven(to_socket(os.path.relpath(at.path / "auction")), ask_by_socket, is_whole_line, 1.0, 1, supervisor) for _ in range(3)]
+    expect(min(each["processor µs an ask"]["supervisor"] for each in taken) < 500, f"what was measured: {taken}")
+    expect(at.shop("audit") == "audit,Agree\n", "the audit")
 
 
 def test_keys(at: Folder) -> None:
@@ -1526,12 +1538,6 @@ def test_shorten(at: Folder) -> None:
     left = "user,ann\nuser,bob\nitem,0.1,lamp,7,3,100,80\npass,1\nmsg,1,1,1,3,3:0,bid,0.3,0.2,500\n"
     expect(at.text("short/0/kept") == left, "what is left")
     stands_where_it_stood(at, "short", rows)
-
-
-def processor_seconds(process: int) -> float:
-    """How much processor time a process has taken, without its children."""
-    fields = pathlib.Path(f"/proc/{process}/stat").read_text().rpartition(")")[2].split()
-    return (int(fields[11]) + int(fields[12])) / os.sysconf("SC_CLK_TCK")
 
 
 def test_start_of_many_records(at: Folder) -> None:

@@ -9,6 +9,7 @@ from collections.abc import Iterator, Sequence
 from contextlib import closing
 from typing import TYPE_CHECKING, Any
 
+from .carrier.answers import Answer
 from .carrier.files import File
 from .carrier.site import FIRST_WAIT, LAST_WAIT, Disagreement, Site, State
 from .folders import put, synced
@@ -43,6 +44,10 @@ class KeptSite(Site):
 
     def _read_out(self, pieces: Sequence[tuple[int, int]]) -> list[bytes]:
         return read_pieces(f"{self.folder}/out", pieces)
+
+    def count(self, answer: Answer) -> None:
+        """An asker was told this answer."""
+        self.answers[answer.refusal or answer.kind.decode()] += 1
 
     async def run(self) -> None:
         """Starts the keeper, and again whenever it ends, until the shop is stopped or the site is fenced."""

@@ -26,6 +26,8 @@ class Connections:
 
     async def read(self, request: web.Request) -> bytes:
         """The body of a request; a Problem if it doesn't come to its end in time."""
+        if request.content.is_eof():
+            return await request.read()         # as most are: it came with the head
         try:
             async with asyncio.timeout(self.idle_seconds):
                 return await request.read()
