@@ -1646,6 +1646,22 @@ def test_small_things(at: Folder) -> None:
         at.run("setpriv --reuid 65534 --regid 65534 --clear-groups ./shop -C auction ask 0 user,ann", 3, "auction: this user may not use it")
 
 
+def test_upgrade(at: Folder) -> None:
+    """A folder whose answers have the text of another version is started with --upgrade, and from then on without."""
+    at.run("./shop start auction --sites 2")
+    at.shop(f"ask 0 {SALE}")
+    at.run("./shop stop auction")
+    setup = at.path / "auction/0/setup"
+    was = setup.read_text()
+    setup.write_text(re.sub(",[0-9]+\n$", ",0\n", was))
+    at.run("./shop start auction", 3, "auction/0 has answers of version 0: --upgrade writes them anew")
+    at.run("./shop stop auction; ./shop start auction --upgrade")
+    expect(setup.read_text() == was, f"what the folder says: {setup.read_text()}")
+    expect(at.shop("ask 0 user,eve") == "ok,0.4\n", "it goes on")
+    at.run("./shop stop auction; ./shop start auction")
+    at.shop("audit")
+
+
 def test_unit(at: Folder) -> None:
     """The unit file, as systemd reads it: with the paths of this folder it finds no fault."""
     if not shutil.which("systemd-analyze"):

@@ -45,7 +45,7 @@ def start(args: argparse.Namespace) -> int:
         print(f"shop: {args.folder} is running", file=sys.stderr)
         return Status.WELL
     found = _checked(args.folder, now)
-    said = _started(args.folder, now, found, args.timeout, ["--alone"] if args.alone else [])
+    said = _started(args.folder, now, found, args.timeout, [*["--alone"] * args.alone, *["--upgrade"] * args.upgrade])
     if said == "ready":
         return Status.WELL
     if said and _has_failed(args.folder):
@@ -107,7 +107,7 @@ def run(args: argparse.Namespace) -> int:
         now = settings.changed(args.folder, said_settings(args))
         found = _checked(args.folder, now)
     from . import supervisor
-    supervisor.run(args.folder, now, found, args.alone)
+    supervisor.run(args.folder, now, found, args.alone, args.upgrade)
     return Status.WELL
 
 

@@ -68,7 +68,7 @@ class KeptSite(Site):
 
     async def _live(self) -> int | str:
         """One life of the keeper; its status."""
-        command = keep_command(self.folder, self.number, self.shop.settings, self.shop.program)
+        command = keep_command(self.folder, self.number, self.shop.settings, self.shop.program) + ["--upgrade"] * self.shop.upgrades
         try:
             process = self.process = await asyncio.create_subprocess_exec(
                 *command, stdin=asyncio.subprocess.PIPE, stdout=asyncio.subprocess.PIPE, stderr=asyncio.subprocess.PIPE,
