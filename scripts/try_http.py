@@ -322,6 +322,14 @@ def test_what_is_no_request(at: Folder) -> None:
         head, _, body = raw(web, said).partition(b"\r\n\r\n")
         expect(b" 400 Bad Request" in head.split(b"\r\n")[0] and b"Server: shop" in head and b"Content-Type: application/problem+json" in head, f"{said[:50]!r}: {head!r}")
         expect(json.loads(body)["name"] == "BadRequest", f"{said[:50]!r}: {body!r}")
+    for header, status, name in (("Host: evil", 421, "OtherHost"), ("Host: 127.0.0.1:1@evil", 421, "OtherHost"), ("Host: [::1", 421, "OtherHost"),
+                                 ("Host:", 400, "BadRequest"), ("Expect: nothing", 417, "BadExpect"), ("Host: LOCALHOST:1", 200, "")):
+        said_of = web.get("/problems/LowBid", "-H", header)
+        expect((said_of.status, said_of.json.get("name", "")) == (status, name), f"{header}: {said_of}")
+    for path, status in (("/sites/0/users?limit=%D9%A3", 400), ("/sites/%D9%A0/users", 404), ("/sites/0/users?limit=1&limit=2", 400),
+                         ("/sites/0/users/0.1%0auser,eve", 400), ("/sites/0/users?nickname=ann%0d?state", 400), ("/sites/0/bids?item=0.3%0auser,eve", 400)):
+        expect(web.get(path).status == status, path)
+    expect(at.shop("list 0 users").count("\n") == 1, "nothing was asked")
 
 
 def test_idle_connections(at: Folder) -> None:

@@ -2,7 +2,7 @@
 
 import asyncio
 
-from aiohttp import web
+from aiohttp import HttpVersion11, web
 
 from .problems import Problem
 
@@ -44,6 +44,16 @@ class Connections:
             for each, since in idle_since.items():
                 if now - since > self.idle_seconds and isinstance(each, web.RequestHandler):
                     each.force_close()
+
+
+async def expected(request: web.Request) -> None:
+    """Says that the body is wanted, to a client that waits for that before it sends it."""
+    wants = request.headers.get("Expect", "").lower()
+    if request.version >= HttpVersion11 and wants != "100-continue":
+        response = Problem("BadExpect", f"`{wants}` isn't done here").response()
+        raise web.HTTPExpectationFailed(body=response.body, content_type=response.content_type, headers=HEADERS)
+    if request.version >= HttpVersion11:
+        await request.writer.write(b"HTTP/1.1 100 Continue\r\n\r\n")
 
 
 def told_as_problem(handler: web.RequestHandler, request: web.BaseRequest, status: int = 500, exc: BaseException | None = None,
