@@ -7,6 +7,7 @@ events that go on; the description of the routes, by its validator; the client i
 of these names are run. What isn't installed is skipped, aloud. The last line says how many passed; the status is 1 if one failed."""
 
 import concurrent.futures
+import contextlib
 import json
 import os
 import pathlib
@@ -332,21 +333,73 @@ def test_what_is_no_request(at: Folder) -> None:
     expect(at.shop("list 0 users").count("\n") == 1, "nothing was asked")
 
 
+LONG = b"GET /sites/0/log?limit=10000 HTTP/1.1\r\nHost: 127.0.0.1\r\n\r\n"
+
+
+def slowly(port: int) -> tuple[int, int]:
+    """How long an answer is, and how much of it comes to a client that reads slowly."""
+    with socket.create_connection(("127.0.0.1", port), SECONDS) as line:
+        line.sendall(LONG)
+        text = b""
+        while b"\r\n\r\n" not in text:
+            text += line.recv(1000)
+        head, _, body = text.partition(b"\r\n\r\n")
+        length, got = int(head.partition(b"Content-Length: ")[2].split(b"\r\n")[0]), len(body)
+        while got < length and (data := line.recv(250_000)):
+            got += len(data)
+            time.sleep(0.1)
+    return length, got
+
+
 def test_idle_connections(at: Folder) -> None:
     """A connection on which no request comes, or none to its end, is closed; one that has a request under way isn't."""
     at.run("./shop start auction")
     web = Web(at, "--idle 1")
     head = b"POST /sites/0/asks HTTP/1.1\r\nHost: 127.0.0.1\r\nContent-Type: application/json\r\nContent-Length: 22\r\n\r\n"
     got = b"GET /problems/LowBid HTTP/1.1\r\nHost: 127.0.0.1\r\n\r\n"
-    with concurrent.futures.ThreadPoolExecutor() as pool:
+    quotes = '"' * 402
+    (at.path / "asks").write_text("\n".join([*SALE.split(), *[f"comment,0.3,0.2,0.1,5,{quotes}"] * 8000]))
+    at.run("./shop -C auction ask 0 - < asks > answers")
+    with concurrent.futures.ThreadPoolExecutor() as pool, socket.socket() as reader:
+        reader.setsockopt(socket.SOL_SOCKET, socket.SO_RCVBUF, 4096)
+        host, port = web.url.removeprefix("http://").split(":")
+        reader.connect((host, int(port)))
+        reader.sendall(LONG)
+        slow = pool.submit(slowly, int(port))
         events = pool.submit(lambda: subprocess.run(["curl", "-sSN", "--max-time", "4", f"{web.url}/events"], capture_output=True))
         said = [*pool.map(lambda pieces: raw(web, *pieces), ([], [b"GET /sites HT"], [got], [head, b'{"record": '], [got, got[:30]]))]
+        time.sleep(6.0)
+        size = 0
+        with contextlib.suppress(ConnectionResetError):
+            while data := reader.recv(1 << 20):
+                size += len(data)
+        length, came = slow.result()
+        expect(length == came > 9_000_000, f"who reads slowly got {came} of {length} bytes")
+        expect(size < length, f"who reads nothing is cut off, and not when {size} bytes were sent")
     expect(said[:2] == [b"", b""], f"nothing, and the beginning of a request: {said[:2]}")
     expect(said[2].startswith(b"HTTP/1.1 200 ") and said[2].count(b"HTTP/1.1") == 1, f"one that isn't used any more: {said[2]!r}")
     expect(said[3].startswith(b"HTTP/1.1 408 ") and b"within 1 s; nothing was asked" in said[3], f"half of a body: {said[3]!r}")
     expect(said[4].count(b"HTTP/1.1 200 ") == 1, f"the beginning of a second request: {said[4]!r}")
     expect(events.result().returncode == 28, "who reads events isn't cut off")
     expect(web.get("/sites").status == 200, "it goes on")
+
+
+def test_no_more_files(at: Folder) -> None:
+    """Where there are more connections than files for them it says so once, and goes on when some have gone."""
+    at.run("./shop start auction")
+    server = at.start("sh -c 'ulimit -n 64; exec ./shop -C auction serve --listen 127.0.0.1:0 --idle 2 > address 2> faults'")
+    at.wait("the server", lambda: (at.path / "address").exists() and at.text("address").endswith("\n"))
+    port = int(at.text("address").strip().strip("/").rpartition(":")[2])
+    lines = [socket.create_connection(("127.0.0.1", port), SECONDS) for _ in range(100)]
+    at.wait("what it says", lambda: at.text("faults"))
+    time.sleep(1.5)
+    for line in lines[:50]:
+        line.close()
+    at.wait("that it goes on", lambda: at.run(f"curl -sS --max-time 5 http://127.0.0.1:{port}/sites/0/log; true"))
+    for line in lines:
+        line.close()
+    expect(at.text("faults") == "shop serve: no more connections for now: Too many open files\n", f"what it says: {at.text('faults')[:500]}")
+    expect(server.poll() is None, "it runs")
 
 
 def test_head(at: Folder) -> None:

@@ -27,7 +27,7 @@ from shop_tool.render import shown
 
 from . import access
 from .asks import One, Options, Told, asked, check, of_csv, of_json, place_of
-from .connections import HEADERS, Connections, expected
+from .connections import HEADERS, Connections, Faults, expected
 from .line import Line
 from .live import ANSWER_SECONDS, Watch, events, status_of, told
 from .metrics import Metrics
@@ -432,6 +432,7 @@ def serve(args: argparse.Namespace) -> int:
 
 async def _serve(server: Server, host: str, port: int, tls: ssl.SSLContext | None) -> None:
     logging.getLogger("aiohttp.server").setLevel(logging.CRITICAL)     # no traceback for each request that is malformed or left
+    asyncio.get_running_loop().set_exception_handler(Faults().tell)
     runner = web.AppRunner(server.app, access_log=None, handle_signals=False, keepalive_timeout=server.connections.idle_seconds)
     await runner.setup()
     assert runner.server
