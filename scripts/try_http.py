@@ -122,6 +122,7 @@ def test_keys_of_who_may(at: Folder) -> None:
 
 
 def test_tls(at: Folder) -> None:
+    """Over TLS an ask is answered; a key with a pass phrase is refused, since nobody is there to say it."""
     if not shutil.which("openssl"):
         raise Skipped("no openssl on this machine")
     at.run("./shop start auction")
@@ -131,6 +132,8 @@ def test_tls(at: Folder) -> None:
     os.chmod(at.path / "keys", 0o600)
     at.shop("serve --listen 0.0.0.0:0 --certificate certificate --private-key key", 2, "it takes --keys-file")
     at.shop("serve --certificate auction/shop.json --private-key key", 2, "auction/shop.json")
+    at.run("openssl pkey -in key -aes128 -passout pass:word -out locked")
+    at.shop("serve --certificate certificate --private-key locked", 2, "locked has a pass phrase")
     web = Web(at, "--certificate certificate --private-key key --keys-file keys")
     expect(web.url.startswith("https://"), web.url)
     expect(web.post("/sites/0/asks", {"record": "user,ann"}, "--cacert", "certificate", "-H", f"Authorization: Bearer {KEYS['ask']}").status == 201,
@@ -275,6 +278,11 @@ def test_metrics(at: Folder) -> None:
     for line in ('shop_http_asks_total{answer="NickTaken",site="0"} 1.0', 'shop_site_holds_token{site="0"} 1.0', 'shop_http_ask_seconds_count{site="0"} 2.0',
                  'shop_site_answers_total{answer="ok",site="0"} 1.0', 'shop_site_starts_total{site="1"} 1.0'):
         expect(line in text.splitlines(), f"{line}: {text}")
+    supervisor = at.status()["pid"]
+    os.kill(supervisor, signal.SIGSTOP)
+    began = time.monotonic()
+    expect("shop_up 0.0" in web.get("/metrics").text and time.monotonic() - began < 9.0, f"a supervisor that hangs, {time.monotonic() - began:.1f} s")
+    os.kill(supervisor, signal.SIGCONT)
     at.run("./shop stop auction")
     expect("shop_up 0.0" in web.get("/metrics").text, "a shop that is stopped")
     if shutil.which("promtool"):

@@ -29,7 +29,7 @@ from . import access
 from .asks import One, Options, Told, asked, check, of_csv, of_json, place_of
 from .connections import HEADERS, Connections, Faults, expected
 from .line import Line
-from .live import ANSWER_SECONDS, Watch, events, status_of, told
+from .live import Watch, events, status_of, told
 from .metrics import Metrics
 from .problems import KINDS, Problem, of_fault
 from .routes import KEY, NEEDED, ROUTES, Route, columns_of, description
@@ -38,6 +38,7 @@ from .rows import FEW_ROWS, LOG, MOST_ROWS, TABLES, Page, Rows, listing_of
 BODY_BYTES = 16 << 20
 STOP_SECONDS = 5.0          # how long requests that are under way have at a stop
 MOST_SECONDS = 600.0
+SCRAPE_SECONDS = 3.0        # Prometheus waits 10 s, and is to be told of a supervisor that hangs
 JSON, LINES, CSV = "application/json", "application/x-ndjson", "text/csv"
 EXAMPLES = {"category": "7", "item": "0.3", "to": "0.1"}
 PAGE = pathlib.Path(__file__).parent / "page.html"
@@ -329,7 +330,7 @@ class Server:
 
     async def get_metrics(self, request: web.Request) -> web.StreamResponse:
         try:
-            shop = (await self.line.one({"op": "status"}, ANSWER_SECONDS))["shop"]
+            shop = (await self.line.one({"op": "status"}, SCRAPE_SECONDS))["shop"]
         except Fault:
             shop = None
         return web.Response(body=self.metrics.text(shop), headers={"Content-Type": "text/plain; version=0.0.4; charset=utf-8"})
@@ -410,8 +411,11 @@ def tls_of(args: argparse.Namespace) -> ssl.SSLContext | None:
     context = ssl.create_default_context(ssl.Purpose.CLIENT_AUTH)
     for path in (args.certificate, args.private_key):
         open(path).close()      # the fault of `load_cert_chain` doesn't say which isn't there
+
+    def no_phrase() -> str:
+        raise Fault(Status.MISUSE, f"{args.private_key} has a pass phrase, which nobody is there to say (openssl pkey -in {args.private_key} takes it off)")
     try:
-        context.load_cert_chain(args.certificate, args.private_key)
+        context.load_cert_chain(args.certificate, args.private_key, no_phrase)
     except ssl.SSLError as fault:
         raise Fault(Status.MISUSE, f"{args.certificate}, {args.private_key}: {fault.reason or fault}") from fault
     return context
