@@ -12,8 +12,8 @@ _shop() {
     *,-C | *,--save | *,--with) mapfile -t COMPREPLY < <(compgen -f -- "$word"); return ;;
     *,--over) words='files redis://' ;;
     ,*) words='start run stop status log wait ask pass list show tables audit serve rebuild shorten carry adopt -C --help' ;;
-    start,*) [[ $word == -* ]] && words='--help --sites --here --standby --after --over --sync --no-sync --alone --keep --batch --shards --workers --timeout' ;;&
-    run,*) [[ $word == -* ]] && words='--help --sites --here --standby --after --over --sync --no-sync --alone --keep --batch --shards --workers' ;;&
+    start,*) [[ $word == -* ]] && words='--help --sites --here --standby --after --over --sync --no-sync --alone --upgrade --keep --batch --shards --workers --timeout' ;;&
+    run,*) [[ $word == -* ]] && words='--help --sites --here --standby --after --over --sync --no-sync --alone --upgrade --keep --batch --shards --workers' ;;&
     stop,*) [[ $word == -* ]] && words='--help' ;;&
     status,*) [[ $word == -* ]] && words='--help --json --timeout' ;;&
     log,*) [[ $at -eq 0 && $word != -* ]] && words='0 1 2 3 4 5 6 7 8 9 10 11 12 13 14 15' ;;&

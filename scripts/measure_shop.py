@@ -186,8 +186,8 @@ def driven(opened: Callable[[], socket.socket], request: Callable[[int], bytes],
                     line.sendall(request(count := count + asks))
         took, done = time.monotonic() - began, len(spans) * asks
         taken = {name: processor_seconds(process) - before[name] for name, process in processes.items()} | {"client": time.process_time() - own}
-        return {"a second": round(done / took), "ms a request": parts_of(spans),
-                "processor µs an ask": {name: round(1e6 * span / done, 1) for name, span in taken.items()}}
+    return {"a second": round(done / took), "ms a request": parts_of(spans),
+            "processor µs an ask": {name: round(1e6 * span / done, 1) for name, span in taken.items()}}
 
 
 def to_socket(folder: str) -> Callable[[], socket.socket]:

@@ -277,6 +277,9 @@ def play_examples(program: pathlib.Path, path: pathlib.Path, name: str) -> tuple
             compare(name, output, last, written.read().decode("utf-8", "replace"), f"the example of line {start}")
             if done.returncode != 0:
                 raise Failed(f"{name}:{start}: the example ended with status {done.returncode}")
+        # Else what the next page makes may meet it.
+        if left := sorted(set(os.listdir(folder)) - {"rubis", "shop", "scripts", "conversations", "docs"}):
+            raise Failed(f"{name}: its examples leave {', '.join(left)}")
     return len(examples) - skipped, skipped
 
 

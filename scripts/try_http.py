@@ -7,6 +7,7 @@ events that go on; the description of the routes, by its validator; the client i
 of these names are run. What isn't installed is skipped, aloud. The last line says how many passed; the status is 1 if one failed."""
 
 import concurrent.futures
+import contextlib
 import json
 import os
 import pathlib
@@ -121,6 +122,7 @@ def test_keys_of_who_may(at: Folder) -> None:
 
 
 def test_tls(at: Folder) -> None:
+    """Over TLS an ask is answered; a key with a pass phrase is refused, since nobody is there to say it."""
     if not shutil.which("openssl"):
         raise Skipped("no openssl on this machine")
     at.run("./shop start auction")
@@ -130,6 +132,8 @@ def test_tls(at: Folder) -> None:
     os.chmod(at.path / "keys", 0o600)
     at.shop("serve --listen 0.0.0.0:0 --certificate certificate --private-key key", 2, "it takes --keys-file")
     at.shop("serve --certificate auction/shop.json --private-key key", 2, "auction/shop.json")
+    at.run("openssl pkey -in key -aes128 -passout pass:word -out locked")
+    at.shop("serve --certificate certificate --private-key locked", 2, "locked has a pass phrase")
     web = Web(at, "--certificate certificate --private-key key --keys-file keys")
     expect(web.url.startswith("https://"), web.url)
     expect(web.post("/sites/0/asks", {"record": "user,ann"}, "--cacert", "certificate", "-H", f"Authorization: Bearer {KEYS['ask']}").status == 201,
@@ -274,6 +278,11 @@ def test_metrics(at: Folder) -> None:
     for line in ('shop_http_asks_total{answer="NickTaken",site="0"} 1.0', 'shop_site_holds_token{site="0"} 1.0', 'shop_http_ask_seconds_count{site="0"} 2.0',
                  'shop_site_answers_total{answer="ok",site="0"} 1.0', 'shop_site_starts_total{site="1"} 1.0'):
         expect(line in text.splitlines(), f"{line}: {text}")
+    supervisor = at.status()["pid"]
+    os.kill(supervisor, signal.SIGSTOP)
+    began = time.monotonic()
+    expect("shop_up 0.0" in web.get("/metrics").text and time.monotonic() - began < 9.0, f"a supervisor that hangs, {time.monotonic() - began:.1f} s")
+    os.kill(supervisor, signal.SIGCONT)
     at.run("./shop stop auction")
     expect("shop_up 0.0" in web.get("/metrics").text, "a shop that is stopped")
     if shutil.which("promtool"):
@@ -322,6 +331,32 @@ def test_what_is_no_request(at: Folder) -> None:
         head, _, body = raw(web, said).partition(b"\r\n\r\n")
         expect(b" 400 Bad Request" in head.split(b"\r\n")[0] and b"Server: shop" in head and b"Content-Type: application/problem+json" in head, f"{said[:50]!r}: {head!r}")
         expect(json.loads(body)["name"] == "BadRequest", f"{said[:50]!r}: {body!r}")
+    for header, status, name in (("Host: evil", 421, "OtherHost"), ("Host: 127.0.0.1:1@evil", 421, "OtherHost"), ("Host: [::1", 421, "OtherHost"),
+                                 ("Host:", 400, "BadRequest"), ("Expect: nothing", 417, "BadExpect"), ("Host: LOCALHOST:1", 200, "")):
+        said_of = web.get("/problems/LowBid", "-H", header)
+        expect((said_of.status, said_of.json.get("name", "")) == (status, name), f"{header}: {said_of}")
+    for path, status in (("/sites/0/users?limit=%D9%A3", 400), ("/sites/%D9%A0/users", 404), ("/sites/0/users?limit=1&limit=2", 400),
+                         ("/sites/0/users/0.1%0auser,eve", 400), ("/sites/0/users?nickname=ann%0d?state", 400), ("/sites/0/bids?item=0.3%0auser,eve", 400)):
+        expect(web.get(path).status == status, path)
+    expect(at.shop("list 0 users").count("\n") == 1, "nothing was asked")
+
+
+LONG = b"GET /sites/0/log?limit=10000 HTTP/1.1\r\nHost: 127.0.0.1\r\n\r\n"
+
+
+def slowly(port: int) -> tuple[int, int]:
+    """How long an answer is, and how much of it comes to a client that reads slowly."""
+    with socket.create_connection(("127.0.0.1", port), SECONDS) as line:
+        line.sendall(LONG)
+        text = b""
+        while b"\r\n\r\n" not in text:
+            text += line.recv(1000)
+        head, _, body = text.partition(b"\r\n\r\n")
+        length, got = int(head.partition(b"Content-Length: ")[2].split(b"\r\n")[0]), len(body)
+        while got < length and (data := line.recv(250_000)):
+            got += len(data)
+            time.sleep(0.1)
+    return length, got
 
 
 def test_idle_connections(at: Folder) -> None:
@@ -330,15 +365,49 @@ def test_idle_connections(at: Folder) -> None:
     web = Web(at, "--idle 1")
     head = b"POST /sites/0/asks HTTP/1.1\r\nHost: 127.0.0.1\r\nContent-Type: application/json\r\nContent-Length: 22\r\n\r\n"
     got = b"GET /problems/LowBid HTTP/1.1\r\nHost: 127.0.0.1\r\n\r\n"
-    with concurrent.futures.ThreadPoolExecutor() as pool:
+    quotes = '"' * 402
+    (at.path / "asks").write_text("\n".join([*SALE.split(), *[f"comment,0.3,0.2,0.1,5,{quotes}"] * 8000]))
+    at.run("./shop -C auction ask 0 - < asks > answers")
+    with concurrent.futures.ThreadPoolExecutor() as pool, socket.socket() as reader:
+        reader.setsockopt(socket.SOL_SOCKET, socket.SO_RCVBUF, 4096)
+        host, port = web.url.removeprefix("http://").split(":")
+        reader.connect((host, int(port)))
+        reader.sendall(LONG)
+        slow = pool.submit(slowly, int(port))
         events = pool.submit(lambda: subprocess.run(["curl", "-sSN", "--max-time", "4", f"{web.url}/events"], capture_output=True))
         said = [*pool.map(lambda pieces: raw(web, *pieces), ([], [b"GET /sites HT"], [got], [head, b'{"record": '], [got, got[:30]]))]
+        time.sleep(6.0)
+        size = 0
+        with contextlib.suppress(ConnectionResetError):
+            while data := reader.recv(1 << 20):
+                size += len(data)
+        length, came = slow.result()
+        expect(length == came > 9_000_000, f"who reads slowly got {came} of {length} bytes")
+        expect(size < length, f"who reads nothing is cut off, and not when {size} bytes were sent")
     expect(said[:2] == [b"", b""], f"nothing, and the beginning of a request: {said[:2]}")
     expect(said[2].startswith(b"HTTP/1.1 200 ") and said[2].count(b"HTTP/1.1") == 1, f"one that isn't used any more: {said[2]!r}")
     expect(said[3].startswith(b"HTTP/1.1 408 ") and b"within 1 s; nothing was asked" in said[3], f"half of a body: {said[3]!r}")
     expect(said[4].count(b"HTTP/1.1 200 ") == 1, f"the beginning of a second request: {said[4]!r}")
     expect(events.result().returncode == 28, "who reads events isn't cut off")
     expect(web.get("/sites").status == 200, "it goes on")
+
+
+def test_no_more_files(at: Folder) -> None:
+    """Where there are more connections than files for them it says so once, and goes on when some have gone."""
+    at.run("./shop start auction")
+    server = at.start("sh -c 'ulimit -n 64; exec ./shop -C auction serve --listen 127.0.0.1:0 --idle 2 > address 2> faults'")
+    at.wait("the server", lambda: (at.path / "address").exists() and at.text("address").endswith("\n"))
+    port = int(at.text("address").strip().strip("/").rpartition(":")[2])
+    lines = [socket.create_connection(("127.0.0.1", port), SECONDS) for _ in range(100)]
+    at.wait("what it says", lambda: at.text("faults"))
+    time.sleep(1.5)
+    for line in lines[:50]:
+        line.close()
+    at.wait("that it goes on", lambda: at.run(f"curl -sS --max-time 5 http://127.0.0.1:{port}/sites/0/log; true"))
+    for line in lines:
+        line.close()
+    expect(at.text("faults") == "shop serve: no more connections for now: Too many open files\n", f"what it says: {at.text('faults')[:500]}")
+    expect(server.poll() is None, "it runs")
 
 
 def test_head(at: Folder) -> None:

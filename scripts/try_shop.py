@@ -23,6 +23,7 @@ from typing import Any
 TOP = pathlib.Path(__file__).resolve().parent.parent
 sys.path.insert(0, str(TOP))
 
+from measure_shop import ask_by_socket, driven, is_whole_line, processor_seconds, to_socket     # noqa: E402
 from shop_tool.program import answers_questions     # noqa: E402
 from trials import PYTHON, Skipped, expect, expect_types, expect_units, run_trials, trials_in
 
@@ -338,6 +339,17 @@ def test_several(at: Folder) -> None:
         line.sendall(b'{"op": "status"}\n')
         expect("`call` is no int" in json.loads(said.readline())["fault"] and said.readline() == b"", "one without a number ends it")
     os.kill(at.site(0)["pid"], signal.SIGCONT)
+
+
+def test_time_of_asks_over_kept_connections(at: Folder) -> None:
+    """Sixteen askers, one ask each at a time over connections that are kept, with --sync: an ask takes the supervisor less than half of a
+    millisecond of processor time, by the least of three; some 0.08 where nothing else runs."""
+    at.run("./shop start auction --sync")
+    at.shop(f"ask 0 {SALE}")
+    supervisor = {"supervisor": at.status()["pid"]}
+    taken = [driven(to_socket(os.path.relpath(at.path / "auction")), ask_by_socket, is_whole_line, 1.0, 1, supervisor) for _ in range(3)]
+    expect(min(each["processor µs an ask"]["supervisor"] for each in taken) < 500, f"what was measured: {taken}")
+    expect(at.shop("audit") == "audit,Agree\n", "the audit")
 
 
 def test_keys(at: Folder) -> None:
@@ -1767,12 +1779,6 @@ def test_shorten(at: Folder) -> None:
     stands_where_it_stood(at, "short", rows)
 
 
-def processor_seconds(process: int) -> float:
-    """How much processor time a process has taken, without its children."""
-    fields = pathlib.Path(f"/proc/{process}/stat").read_text().rpartition(")")[2].split()
-    return (int(fields[11]) + int(fields[12])) / os.sysconf("SC_CLK_TCK")
-
-
 def test_start_of_many_records(at: Folder) -> None:
     """A start over 105,000 records, half of them a site's own asks and half messages of another one, takes the supervisor at most 1.5 s of
     processor time; the least of three counts, since what else runs makes one take longer."""
@@ -1877,6 +1883,22 @@ def test_small_things(at: Folder) -> None:
     if os.getuid() == 0 and shutil.which("setpriv"):
         os.chmod(at.path, 0o755)
         at.run("setpriv --reuid 65534 --regid 65534 --clear-groups ./shop -C auction ask 0 user,ann", 3, "auction: this user may not use it")
+
+
+def test_upgrade(at: Folder) -> None:
+    """A folder whose answers have the text of another version is started with --upgrade, and from then on without."""
+    at.run("./shop start auction --sites 2")
+    at.shop(f"ask 0 {SALE}")
+    at.run("./shop stop auction")
+    setup = at.path / "auction/0/setup"
+    was = setup.read_text()
+    setup.write_text(re.sub(",[0-9]+\n$", ",0\n", was))
+    at.run("./shop start auction", 3, "auction/0 has answers of version 0: --upgrade writes them anew")
+    at.run("./shop stop auction; ./shop start auction --upgrade")
+    expect(setup.read_text() == was, f"what the folder says: {setup.read_text()}")
+    expect(at.shop("ask 0 user,eve") == "ok,0.4\n", "it goes on")
+    at.run("./shop stop auction; ./shop start auction")
+    at.shop("audit")
 
 
 def test_unit(at: Folder) -> None:

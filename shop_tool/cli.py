@@ -112,6 +112,7 @@ class CommandLine:
             parser.add_argument("--sync", action=argparse.BooleanOptionalAction, help="have each record on the disk before it is answered")
             parser.add_argument("--alone", action="store_true", help="take asks before it is known what the others have of the sites here. "
                                 "If a folder lost its end, or is an older copy, numbers are given twice")
+            parser.add_argument("--upgrade", action="store_true", help="have answers that an earlier version wrote in another text written anew")
             keep = "how many messages a site keeps; 1,000,000 by default. It only grows"
             parser.add_argument("--keep", metavar="K", type=count_of, help=keep)
             for option in ("batch", "shards", "workers"):

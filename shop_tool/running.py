@@ -45,7 +45,8 @@ def start(args: argparse.Namespace) -> int:
         print(f"shop: {args.folder} is running", file=sys.stderr)
         return Status.WELL
     found = _checked(args.folder, now)
-    status, _, said = _started(args.folder, now, found, args.timeout, ["--alone"] if args.alone else []).partition(" ")
+    options = [*["--alone"] * args.alone, *["--upgrade"] * args.upgrade]
+    status, _, said = _started(args.folder, now, found, args.timeout, options).partition(" ")
     if status == str(int(Status.WELL)):
         return Status.WELL
     if said and _has_failed(args.folder):
@@ -108,7 +109,7 @@ def run(args: argparse.Namespace) -> int:
         now = settings.changed(args.folder, said_settings(args))
         found = _checked(args.folder, now)
     from . import supervisor
-    supervisor.run(args.folder, now, found, args.alone)
+    supervisor.run(args.folder, now, found, args.alone, args.upgrade)
     return Status.WELL
 
 

@@ -1,6 +1,6 @@
 """What the supervisor answers on the socket in its folder: a request is a line of JSON, and so is each answer to it; the last one has `end`.
 A connection has one request, or, after a line {"op": "several"}, many at once: each has a number `call`, which its answers have too, and
-{"leave": CALL} leaves one."""
+{"leave": CALL} leaves one (`shop_ask.several`)."""
 
 import asyncio
 import functools
@@ -10,9 +10,12 @@ import time
 from collections.abc import Awaitable, Callable
 from typing import Any
 
+from shop_ask.lines import Reader
+from shop_ask.several import READER_SECONDS, UNREAD_BYTES, Several, steps_of
+
 from .carrier.asking import Ask
 from .carrier.records import text_of
-from .carrier.steps import KeptOf
+from .carrier.steps import KeptOf, Steps
 from .carrier.steps import Say as SayAnswer
 from .carrier.told import unanswered
 from .ends import Fault, Status
@@ -25,11 +28,8 @@ from .site import KeptSite
 from .supervisor import Supervisor
 
 CONNECTIONS = 500
-READER_SECONDS = 60.0       # a client that takes in nothing for so long is cut off
 REFUSE_SECONDS = 2.0        # how long one that is too many has to say what it wants
-UNREAD_BYTES = 1 << 16      # how much may wait for a client to read it, before it is waited for
 SEVERAL = b'{"op": "several"}\n'
-AT_ONCE = 4000              # how many requests of such a connection are under way at once
 AUDITED = [b"list,log", b"list,tables"]
 
 Say = Callable[[dict[str, Any]], Awaitable[None]]
@@ -49,7 +49,11 @@ class Server:
                 os.unlink("sock", dir_fd=folder)
             except FileNotFoundError:
                 pass
-            self.server = await asyncio.start_unix_server(self._connected, f"/proc/self/fd/{folder}/sock", limit=REQUEST_BYTES)
+            loop = asyncio.get_running_loop()
+
+            def made() -> asyncio.StreamReaderProtocol:
+                return asyncio.StreamReaderProtocol(Reader(limit=REQUEST_BYTES, loop=loop), self._connected, loop=loop)
+            self.server = await loop.create_unix_server(made, f"/proc/self/fd/{folder}/sock")
         finally:
             os.close(folder)
 
@@ -75,8 +79,8 @@ class Server:
                 return
             if is_one_too_many:
                 return await say(end_of(Fault(Status.AWAY, f"{CONNECTIONS} others are connected; nothing was asked")))
-            if line == SEVERAL:
-                return await self._serve_several(reader, writer)
+            if line == SEVERAL and isinstance(reader, Reader):
+                return await Several(self, reader, writer).run()
             serving = asyncio.create_task(self._serve_line(line, reader, say))
             # A client that goes takes its request along, unless a site has it already.
             gone = asyncio.create_task(reader.read(1))
@@ -90,34 +94,6 @@ class Server:
         finally:
             self.connections.discard(writer)
             writer.close()
-
-    async def _serve_several(self, reader: asyncio.StreamReader, writer: asyncio.StreamWriter) -> None:
-        """Answers requests as they come, many at once. A client that goes takes along what no site has yet."""
-        serving: dict[int, asyncio.Task[None]] = {}
-        together = Together(writer)
-        try:
-            while (line := await reader.readline()).endswith(b"\n"):
-                request = request_of(line)
-                if "leave" in request:
-                    if task := serving.get(field(request, "leave", int)):
-                        task.cancel()       # one that has just ended isn't there any more
-                elif (name := field(request, "call", int)) in serving:
-                    raise no_request("its `call` is that of another one")
-                elif len(serving) == AT_ONCE:
-                    await said(together, {"call": name}, end_of(Fault(Status.AWAY, f"{AT_ONCE} requests are under way; nothing was asked")))
-                else:
-                    serving[name] = task = asyncio.create_task(self.serve(request, functools.partial(said, together, {"call": name})))
-                    task.add_done_callback(functools.partial(forget, serving, name))
-        except Fault as fault:
-            await said(together, {}, end_of(fault))
-            await asyncio.sleep(0)          # it is written
-        except ValueError:
-            await said(together, {}, end_of(no_request(f"it has more than {REQUEST_BYTES} bytes")))
-            await asyncio.sleep(0)
-        finally:
-            for task in serving.values():
-                task.cancel()
-            await asyncio.gather(*serving.values(), return_exceptions=True)
 
     async def _refuse_long(self, reader: asyncio.StreamReader, say: Say) -> None:
         """Reads the rest, since a client that is writing still wouldn't see the answer."""
@@ -143,14 +119,18 @@ class Server:
             else:
                 answer = await self.answer(request, say)
             last = end_of(None) | (answer or {})
-        except Fault as fault:
-            last = end_of(fault)
-        except OSError as fault:
-            last = end_of(Fault(Status.AWAY, f"{fault}{unanswered(request)}"))
         except Exception as fault:
-            self.shop.event(f"a fault of its own: {fault!r}")
-            last = end_of(Fault(Status.AWAY, f"a fault of its own: {fault!r}{unanswered(request)}"))
+            last = end_of(self.fault_of(fault, request))
         await say(last)
+
+    def fault_of(self, fault: Exception, request: Request) -> Fault:
+        """What is said where a request failed."""
+        if isinstance(fault, Fault):
+            return fault
+        if isinstance(fault, OSError):
+            return Fault(Status.AWAY, f"{fault}{unanswered(request)}")
+        self.shop.event(f"a fault of its own: {fault!r}")
+        return Fault(Status.AWAY, f"a fault of its own: {fault!r}{unanswered(request)}")
 
     async def answer(self, request: Request, say: Say) -> dict[str, Any] | None:
         """Answers one request; the last answer is what this returns. Requests of a site elsewhere go there."""
@@ -178,7 +158,7 @@ class Server:
         seconds = seconds_of(request)
         match request.get("op"):
             case "ask":
-                await self._ask(site, request, seconds, say)
+                await self._ask(site, request, say)
                 return None
             case "list":
                 rows, = await self.reads.listings(site, [listing_of(request)], seconds)
@@ -209,22 +189,22 @@ class Server:
             await say(answer)
         return answers[-1]
 
-    async def _ask(self, site: KeptSite, request: Request, seconds: float, say: Say) -> None:
-        asked = asks_of(request)
+    def ask_of(self, site: KeptSite, request: Request) -> Steps[None]:
+        """The steps of an ask, which is checked whole."""
+        asked, seconds = asks_of(request), seconds_of(request)
         if self.shop.is_leaving:
             raise Fault(Status.AWAY, "the shop is being stopped; nothing was asked")
+        return steps_of(Ask(site, seconds, asked.fetches_token), asked.records, asked.names, asked.published)
 
+    async def _ask(self, site: KeptSite, request: Request, say: Say) -> None:
         async def do(step: tuple[Any, ...]) -> Any:
             if not isinstance(step, SayAnswer):
                 return await self.shop.link.do(step)
-            site.answers[step.answer.refusal or step.answer.kind.decode()] += 1
+            site.count(step.answer)
             answer = {"record": text_of(step.record), "lines": [text_of(line) for line in step.answer.lines]}
             return await say(answer | {"again": True} if step.is_again else answer)
 
-        ask = Ask(site, seconds, asked.fetches_token)
-        await done(ask.run(asked.records, asked.names), do)
-        if asked.published:
-            await done(ask.published(), do)
+        await done(self.ask_of(site, request), do)
 
     async def _log(self, site: KeptSite, seconds: float) -> str:
         """A site's log and tables of one moment, as records for an audit."""
@@ -302,12 +282,6 @@ async def said(to: Together, name: dict[str, Any], answer: dict[str, Any]) -> No
     to.write(json.dumps(name | answer).encode() + b"\n")
     if to.writer.transport.get_write_buffer_size() > UNREAD_BYTES:
         await asyncio.wait_for(to.writer.drain(), READER_SECONDS)
-
-
-def forget(serving: "dict[int, asyncio.Task[None]]", name: int, task: "asyncio.Task[None]") -> None:
-    del serving[name]
-    if not task.cancelled():
-        task.exception()        # the client has gone, or reads nothing
 
 
 def end_of(fault: Fault | None) -> dict[str, Any]:

@@ -10,6 +10,7 @@ from collections.abc import Iterator, Sequence
 from contextlib import closing
 from typing import TYPE_CHECKING, Any
 
+from .carrier.answers import Answer
 from .carrier.files import File
 from .carrier.site import FIRST_WAIT, LAST_WAIT, Disagreement, Site, State
 from .carrier.sums import LINE_BYTES, compared
@@ -50,6 +51,10 @@ class KeptSite(Site):
     def _read_out(self, pieces: Sequence[tuple[int, int]]) -> list[bytes]:
         return read_pieces(f"{self.folder}/out", pieces)
 
+    def count(self, answer: Answer) -> None:
+        """An asker was told this answer."""
+        self.answers[answer.refusal or answer.kind.decode()] += 1
+
     async def run(self) -> None:
         """Starts the keeper, and again whenever it ends, until the shop is stopped or the site is fenced."""
         wait = FIRST_WAIT
@@ -69,7 +74,7 @@ class KeptSite(Site):
 
     async def _live(self) -> int | str:
         """One life of the keeper; its status."""
-        command = keep_command(self.folder, self.number, self.shop.settings, self.shop.program)
+        command = keep_command(self.folder, self.number, self.shop.settings, self.shop.program) + ["--upgrade"] * self.shop.upgrades
         try:
             process = self.process = await asyncio.create_subprocess_exec(
                 *command, stdin=asyncio.subprocess.PIPE, stdout=asyncio.subprocess.PIPE, stderr=asyncio.subprocess.PIPE,

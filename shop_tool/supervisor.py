@@ -58,9 +58,9 @@ class Supervisor(Shop):
     sites: dict[int, KeptSite]
     link: "Carrying"
 
-    def __init__(self, folder: str, settings: Settings, program: str, is_alone: bool) -> None:
+    def __init__(self, folder: str, settings: Settings, program: str, is_alone: bool, upgrades: bool = False) -> None:
         super().__init__(settings.sites, is_alone)
-        self.folder, self.settings, self.program = os.path.realpath(folder), settings, program
+        self.folder, self.settings, self.program, self.upgrades = os.path.realpath(folder), settings, program, upgrades
         self.asks_questions = answers_questions(program)
         self.prints_events = "SHOP_READY" not in os.environ     # it runs in the foreground, or for systemd
         self.since = stamp()
@@ -332,13 +332,13 @@ def they_have(silent: list[int]) -> str:
     return f"site{'s' * (len(silent) > 1)} {', '.join(map(str, silent))} ha{'ve' if len(silent) > 1 else 's'}" if silent else "the others have"
 
 
-def run(folder: str, settings: Settings, program: str, is_alone: bool) -> None:
+def run(folder: str, settings: Settings, program: str, is_alone: bool, upgrades: bool) -> None:
     """Runs the shop until it is stopped."""
     os.umask(0o077)
     take_lock(folder)
     write(folder, settings)
 
     async def main() -> None:
-        await Supervisor(folder, settings, program, is_alone).run()
+        await Supervisor(folder, settings, program, is_alone, upgrades).run()
         os._exit(Status.WELL)       # what a broken connection holds up doesn't hold up the end; all records are in files
     asyncio.run(main())

@@ -147,6 +147,10 @@ def check(asks: list[One]) -> None:
             raise Problem("BadRequest", f"{where}a key has 1 to {KEY_BYTES} printable ASCII characters; nothing was asked")
 
 
+def told_of(answer: dict[str, Any]) -> Told:
+    return Told(answer["record"], answer["lines"][0].split(","), "again" in answer)
+
+
 class Options(NamedTuple):
     """How asks are asked."""
 
@@ -164,9 +168,13 @@ async def asked(line: Line, site: int, asks: list[One], options: Options) -> Asy
         if any(ask.key is not None for ask in some):
             request["keys"] = [ask.key for ask in some]
         try:
+            if len(some) == 1:
+                for answer in await line.whole(request):
+                    yield told_of(answer)
+                continue
             async for answer in line.call(request):
                 if not answer.get("end"):
-                    yield Told(answer["record"], answer["lines"][0].split(","), "again" in answer)
+                    yield told_of(answer)
         except Fault as fault:
             raise of_fault(fault, is_ask=True) from fault
 

@@ -1,13 +1,17 @@
-"""Connections: one on which no request comes to its end is closed, and what is no request is told as a problem."""
+"""Connections: one on which no request comes to its end, or no answer is read, is closed; and what is no request is told as a problem."""
 
 import asyncio
+import errno
+import sys
+from typing import Any
 
-from aiohttp import web
+from aiohttp import HttpVersion11, web
 
 from .problems import Problem
 
 IDLE_SECONDS = 60.0
 LOOK_SECONDS = 5.0
+TELL_SECONDS = 60.0
 HEADERS = {"Server": "shop", "X-Content-Type-Options": "nosniff"}      # of every response
 
 
@@ -26,6 +30,8 @@ class Connections:
 
     async def read(self, request: web.Request) -> bytes:
         """The body of a request; a Problem if it doesn't come to its end in time."""
+        if request.content.is_eof():
+            return await request.read()         # as most are: it came with the head
         try:
             async with asyncio.timeout(self.idle_seconds):
                 return await request.read()
@@ -33,15 +39,50 @@ class Connections:
             raise Problem("TooSlow", f"the body didn't come to its end within {self.idle_seconds:g} s; nothing was asked") from None
 
     async def close_idle(self, server: web.Server) -> None:
-        """Closes connections that have had no request under way for some time, until it is cancelled."""
-        idle_since: dict[asyncio.BaseProtocol, float] = {}
+        """Closes connections that for some time have had no request under way, or whose client has taken in nothing of what waits for it,
+        until it is cancelled."""
+        still: dict[web.RequestHandler, tuple[int, float]] = {}     # what waits for the client, and since when that is so
         while True:
             await asyncio.sleep(min(LOOK_SECONDS, self.idle_seconds / 4))
-            now = asyncio.get_running_loop().time()
-            idle_since = {each: idle_since.get(each, now) for each in server.connections if each not in self._busy}
-            for each, since in idle_since.items():
-                if now - since > self.idle_seconds and isinstance(each, web.RequestHandler):
+            before, still, now = still, {}, asyncio.get_running_loop().time()
+            for each in server.connections:
+                transport = each.transport
+                unread = transport.get_write_buffer_size() if isinstance(transport, asyncio.WriteTransport) else 0
+                if each in self._busy and not unread:
+                    continue        # it waits for what is being done
+                was, since = before.get(each, (-1, now))
+                still[each] = (unread, since if was == unread else now)
+                if now - still[each][1] <= self.idle_seconds:
+                    continue
+                if isinstance(transport, asyncio.WriteTransport) and unread:
+                    transport.abort()       # a close would wait for what isn't read
+                else:
                     each.force_close()
+
+
+class Faults:
+    """What the loop says went wrong: that there are no more files for connections at most once a minute, since it says so of each try."""
+
+    def __init__(self) -> None:
+        self._said_at = -TELL_SECONDS
+
+    def tell(self, loop: asyncio.AbstractEventLoop, context: dict[str, Any]) -> None:
+        fault = context.get("exception")
+        if not isinstance(fault, OSError) or fault.errno not in (errno.EMFILE, errno.ENFILE):
+            return loop.default_exception_handler(context)
+        if loop.time() - self._said_at >= TELL_SECONDS:
+            self._said_at = loop.time()
+            print(f"shop serve: no more connections for now: {fault.strerror}", file=sys.stderr, flush=True)
+
+
+async def expected(request: web.Request) -> None:
+    """Says that the body is wanted, to a client that waits for that before it sends it."""
+    wants = request.headers.get("Expect", "").lower()
+    if request.version >= HttpVersion11 and wants != "100-continue":
+        response = Problem("BadExpect", f"`{wants}` isn't done here").response()
+        raise web.HTTPExpectationFailed(body=response.body, content_type=response.content_type, headers=HEADERS)
+    if request.version >= HttpVersion11:
+        await request.writer.write(b"HTTP/1.1 100 Continue\r\n\r\n")
 
 
 def told_as_problem(handler: web.RequestHandler, request: web.BaseRequest, status: int = 500, exc: BaseException | None = None,

@@ -29,6 +29,7 @@ _OWN = {
     "NoMethod": Kind(405, "this can't be done there"),
     "TooSlow": Kind(408, "the request didn't come to its end in time"),
     "TooLong": Kind(413, "the request is too long"),
+    "BadExpect": Kind(417, "what the header `Expect` says isn't done here"),
     "OtherHost": Kind(421, "the request is for another host"),
     "OtherContent": Kind(415, "the content is neither JSON nor CSV"),
     "Refused": Kind(409, "it can't be done now"),

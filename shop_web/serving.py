@@ -8,6 +8,7 @@ import ipaddress
 import json
 import logging
 import pathlib
+import re
 import signal
 import ssl
 import sys
@@ -15,7 +16,7 @@ import time
 from collections.abc import AsyncIterator, Awaitable, Callable
 from typing import Any
 
-from aiohttp import web
+from aiohttp import HttpVersion11, web
 
 from shop_tool import settings
 from shop_tool.carrier.records import Row
@@ -26,9 +27,9 @@ from shop_tool.render import shown
 
 from . import access
 from .asks import One, Options, Told, asked, check, of_csv, of_json, place_of
-from .connections import HEADERS, Connections
+from .connections import HEADERS, Connections, Faults, expected
 from .line import Line
-from .live import ANSWER_SECONDS, Watch, events, status_of, told
+from .live import Watch, events, status_of, told
 from .metrics import Metrics
 from .problems import KINDS, Problem, of_fault
 from .routes import KEY, NEEDED, ROUTES, Route, columns_of, description
@@ -37,11 +38,14 @@ from .rows import FEW_ROWS, LOG, MOST_ROWS, TABLES, Page, Rows, listing_of
 BODY_BYTES = 16 << 20
 STOP_SECONDS = 5.0          # how long requests that are under way have at a stop
 MOST_SECONDS = 600.0
+SCRAPE_SECONDS = 3.0        # Prometheus waits 10 s, and is to be told of a supervisor that hangs
 JSON, LINES, CSV = "application/json", "application/x-ndjson", "text/csv"
 EXAMPLES = {"category": "7", "item": "0.3", "to": "0.1"}
 PAGE = pathlib.Path(__file__).parent / "page.html"
 # The page gets nothing from elsewhere, and is in no other page.
 PAGE_POLICY = "default-src 'none'; style-src 'unsafe-inline'; script-src 'unsafe-inline'; connect-src 'self'; frame-ancestors 'none'"
+
+_HOST = re.compile(r"(?:\[([0-9A-Fa-f:.]+)\]|([^][:@/]+))(?::[0-9]*)?")
 
 Handler = Callable[[web.Request], Awaitable[web.StreamResponse]]
 
@@ -60,7 +64,7 @@ class Server:
         self.app.on_cleanup.append(self._close)
         for route in ROUTES:
             for method in (route.method, "HEAD") if route.method == "GET" else (route.method,):
-                self.app.router.add_route(method, route.path, self._handler(route))
+                self.app.router.add_route(method, route.path, self._handler(route), expect_handler=expected)
 
     async def _prepare(self, request: web.Request, response: web.StreamResponse) -> None:
         response.headers.update(HEADERS)
@@ -78,12 +82,16 @@ class Server:
             self._check_access(request, route)
             if wrong := set(request.query) - set(route.query):
                 raise Problem("BadRequest", f"there is no {', '.join(sorted(wrong))} here")
+            if len(set(request.query)) < len(request.query):
+                raise Problem("BadRequest", f"{request.query_string} says something twice")
             return await handler(request)
         return handle
 
     def _check_access(self, request: web.Request, route: Route) -> None:
         # A page of another origin that had its name resolved to this machine would be served like one of this one.
-        if self.hosts is not None and host_of(request.host) not in self.hosts:
+        if (host := request.headers.get("Host")) is None and request.version >= HttpVersion11:
+            raise Problem("BadRequest", "it has no header `Host`")
+        if self.hosts is not None and host is not None and not (host_of(host) in self.hosts and host_of(request.host) in self.hosts):
             raise Problem("OtherHost", f"{request.host} isn't this server")
         if route.may is not None:
             may = self.keys.of(request.headers.get("Authorization", ""))
@@ -130,7 +138,7 @@ class Server:
 
     def _site(self, request: web.Request) -> int:
         text = request.match_info["site"]
-        if not text.isdecimal() or len(text) > 4 or int(text) >= self.sites:
+        if not is_number(text) or len(text) > 4 or int(text) >= self.sites:
             raise Problem("NotFound", f"there is no site {text}: this shop has {self.sites}")
         return int(text)
 
@@ -155,7 +163,7 @@ class Server:
     @staticmethod
     def _limit(request: web.Request) -> int:
         text = request.query.get("limit", str(FEW_ROWS))
-        if not text.isdecimal() or len(text) > 9 or not 1 <= int(text) <= MOST_ROWS:
+        if not is_number(text) or len(text) > 9 or not 1 <= int(text) <= MOST_ROWS:
             raise Problem("BadRequest", f"`limit` is a number from 1 to {MOST_ROWS}")
         return int(text)
 
@@ -322,7 +330,7 @@ class Server:
 
     async def get_metrics(self, request: web.Request) -> web.StreamResponse:
         try:
-            shop = (await self.line.one({"op": "status"}, ANSWER_SECONDS))["shop"]
+            shop = (await self.line.one({"op": "status"}, SCRAPE_SECONDS))["shop"]
         except Fault:
             shop = None
         return web.Response(body=self.metrics.text(shop), headers={"Content-Type": "text/plain; version=0.0.4; charset=utf-8"})
@@ -349,8 +357,13 @@ def content_of(request: web.Request) -> str:
 
 
 def host_of(header: str) -> str:
-    """The host of a header `Host`, without its port."""
-    return header[1:].partition("]")[0] if header.startswith("[") else header.partition(":")[0]
+    """The host of a header `Host`, without its port; empty if it isn't one."""
+    found = _HOST.fullmatch(header)
+    return (found[1] or found[2]).lower() if found else ""
+
+
+def is_number(text: str) -> bool:
+    return text.isascii() and text.isdecimal()
 
 
 def json_line(said: Any) -> bytes:
@@ -398,8 +411,11 @@ def tls_of(args: argparse.Namespace) -> ssl.SSLContext | None:
     context = ssl.create_default_context(ssl.Purpose.CLIENT_AUTH)
     for path in (args.certificate, args.private_key):
         open(path).close()      # the fault of `load_cert_chain` doesn't say which isn't there
+
+    def no_phrase() -> str:
+        raise Fault(Status.MISUSE, f"{args.private_key} has a pass phrase, which nobody is there to say (openssl pkey -in {args.private_key} takes it off)")
     try:
-        context.load_cert_chain(args.certificate, args.private_key)
+        context.load_cert_chain(args.certificate, args.private_key, no_phrase)
     except ssl.SSLError as fault:
         raise Fault(Status.MISUSE, f"{args.certificate}, {args.private_key}: {fault.reason or fault}") from fault
     return context
@@ -420,6 +436,7 @@ def serve(args: argparse.Namespace) -> int:
 
 async def _serve(server: Server, host: str, port: int, tls: ssl.SSLContext | None) -> None:
     logging.getLogger("aiohttp.server").setLevel(logging.CRITICAL)     # no traceback for each request that is malformed or left
+    asyncio.get_running_loop().set_exception_handler(Faults().tell)
     runner = web.AppRunner(server.app, access_log=None, handle_signals=False, keepalive_timeout=server.connections.idle_seconds)
     await runner.setup()
     assert runner.server

@@ -97,7 +97,8 @@ class Listening(unittest.TestCase):
         self.assertEqual(serving.address_of("[::1]:80"), ("::1", 80))
         for text in ("80", "host:", "host:x", "host:70000"):
             self.assertRaises(Fault, serving.address_of, text)
-        hosts = {"localhost:80": "localhost", "127.0.0.1": "127.0.0.1", "[::1]:8080": "::1", "[::1]": "::1", "": "", "a.example:1": "a.example"}
+        hosts = {"localhost:80": "localhost", "127.0.0.1": "127.0.0.1", "[::1]:8080": "::1", "[::1]": "::1", "": "", "a.example:1": "a.example",
+                 "LOCALHOST": "localhost", "[::1": "", "::1": "", "127.0.0.1:1@a.example": "", "127.0.0.1:x": "", "a b": "a b"}
         for header, host in hosts.items():
             self.assertEqual(serving.host_of(header), host)
         loopback = {"127.0.0.1": True, "127.9.9.9": True, "::1": True, "localhost": True, "0.0.0.0": False, "": False, "10.0.0.1": False, "::": False}
