@@ -1,7 +1,7 @@
 #!/usr/bin/env python3
 """Measures rubis beside the plain program: scripts/costs.py [TABLE..] [--program FILE] [--small]
 
-The tables are `clock`, `count`, `busiest`, `hostile` and `questions`; without a name, all of them. Each is written as README, the guide and
+The tables are `clock`, `count`, `busiest`, `hostile`, `questions` and `reads`; without a name, all of them. Each is written as README, the guide and
 docs/COSTS.md have it, under the machine and the date. Both programs get the same inputs, one run after the other, and their
 answers have to be the same bytes.
 
@@ -11,6 +11,7 @@ answers have to be the same bytes.
 - busiest: the work of each thread with four workers (scripts/busiest.py).
 - hostile: inputs that somebody may send to slow rubis down, at n, 2n and 4n: processor time of one run, or peak memory.
 - questions: counted work of `rubis lack` and `rubis check`, at n, 2n and 4n, beside that of the audit or the site for the same input.
+- reads: counted work of what `rubis keep` is asked beside its records, behind n, 2n and 4n bids on an item, beside that of their listing.
 
 --small takes a tenth of each size. Needs `cargo`, `valgrind` and /usr/bin/time. The whole takes some forty minutes."""
 
@@ -266,13 +267,45 @@ def questions(programs: Programs) -> None:
         print(f"| {what} | {programs.size(least):,} | {'; '.join(each)} | {'; '.join(times)} |", flush=True)
 
 
+def kept(programs: Programs, text: str) -> float:
+    """The counted work of `rubis keep` over a new folder."""
+    with tempfile.TemporaryDirectory(dir="/dev/shm") as room:
+        work, _ = counted(programs.rubis, Work(["keep", f"{room}/site"], text.encode()), ["--workers", "1"])
+    return work
+
+
+def bids(many: int) -> str:
+    return "user,ann\nuser,bob\nitem,0.1,lamp,7,1,100,0\n" + "".join(f"bid,0.3,0.2,{100 + number}\n" for number in range(many))
+
+
+def pages(many: int) -> str:
+    """All pages of a listing of bids, each asked for behind the last row of the one before."""
+    ends = range(99, many, 100)
+    return "?page,100,0,,list,bids,0.3\n" + "".join(f"?page,100,{end},0.{4 + end},list,bids,0.3\n" for end in ends)
+
+
+def reads(programs: Programs) -> None:
+    asked: list[tuple[str, Callable[[int], str]]] = [
+        ("one bid", lambda many: "?row,bid,0.5\n"), ("a page of 100", lambda many: f"?page,100,{many // 2},,list,bids,0.3\n"), ("all pages, of 100 each", pages),
+    ]
+    print("| question | n | work behind n, 2n, 4n | times that of the listing |\n|---|---|---|---|")
+    sizes = [programs.size(25_000) * scale for scale in (1, 2, 4)]
+    without = [kept(programs, bids(many)) for many in sizes]
+    listing = [kept(programs, bids(many) + "?list,bids,0.3\n") - alone for many, alone in zip(sizes, without)]
+    for what, make in asked:
+        each = [kept(programs, bids(many) + make(many)) - alone for many, alone in zip(sizes, without)]
+        times = [f"{one / whole:.4f}" if one < whole / 10 else f"{one / whole:.1f}" for one, whole in zip(each, listing)]
+        print(f"| {what} | {sizes[0]:,} | {'; '.join(f'{one:,.0f}' for one in each)} | {'; '.join(times)} |", flush=True)
+
+
 def machine() -> str:
     names = re.findall(r"^model name\s*: (.*)$", pathlib.Path("/proc/cpuinfo").read_text(), re.M)
     name = names[0] if names else "of no name"
     return f"{os.cpu_count()} processors, {name}; {datetime.date.today():%d %B %Y}; {os.getloadavg()[0]:.1f} other things to do"
 
 
-TABLES: dict[str, Callable[[Programs], None]] = {"clock": clock, "count": count, "busiest": busiest_threads, "hostile": hostile, "questions": questions}
+TABLES: dict[str, Callable[[Programs], None]] = {"clock": clock, "count": count, "busiest": busiest_threads, "hostile": hostile, "questions": questions,
+                                                   "reads": reads}
 
 
 def main() -> int:
