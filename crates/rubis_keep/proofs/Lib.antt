@@ -32,3 +32,4 @@ pub mod QuestionFacts
 pub mod RewritingFacts
 pub mod FolderFacts
 pub mod Examples
+pub mod CallFacts
