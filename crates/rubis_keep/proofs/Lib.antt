@@ -33,3 +33,4 @@ pub mod QuestionFacts
 pub mod RewritingFacts
 pub mod FolderFacts
 pub mod Examples
+pub mod CallFacts

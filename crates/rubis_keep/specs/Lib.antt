@@ -20,3 +20,4 @@ pub mod Questions
 pub mod Asking
 pub mod Rewriting
 pub mod Folders
+pub mod Calls

@@ -1,6 +1,7 @@
 //! What holds of runs that are cut off and start again.
 
 ghost use Rattle.rubis_keep.specs.Crashes.{ComesBack, DifferencesAreFound, EditsAreFound, EndsLeft, LivesLeft, QuestionsLeaveNothing};
+ghost use Rattle.rubis_keep.specs.Calls.{CallsAreLives, RaisedCallsRaise, ShortenedMayReplace};
 ghost use Rattle.rubis_keep.specs.Folders.{FoldersAreARun};
 ghost use Rattle.rubis_keep.specs.Histories.{HistoriesAreRuns};
 ghost use Rattle.rubis_keep.specs.Rewriting.{NamedBeforeEmptied, NamedBeforeFlushed, RewritingLeavesFiles, ShorteningKeepsThePromise};
@@ -52,6 +53,14 @@ pub fn shortening_keeps_the_promise()
 /// has kept is shortened, or it keeps more messages from then on: if packets are carried unchanged.
 pub fn histories_are_runs()
     ensures { HistoriesAreRuns }
+{}
+
+/// What the calls of a site in a folder promise makes its lives: a call of `keep_site`, as far as it came, is one; what `shorten` writes may
+/// replace what was kept; and a run that keeps more messages, after one without input, raises the site or changes neither file.
+pub fn calls_make_lives()
+    ensures lives { CallsAreLives }
+    ensures shortened { ShortenedMayReplace }
+    ensures raised { RaisedCallsRaise }
 {}
 
 /// What `keep_site` promises of each of its calls makes a shop. The lives of a site, each over the files that the one before has left, which

@@ -35,8 +35,8 @@ pub use folder_fault::FolderFault;
 pub use keep::{Wanted, keep_folder};
 pub use keeping::KeptLines;
 pub use laws::{
-    crash_and_restart, early_answers_are_unsafe, folders_are_a_run, histories_are_runs,
-    moments_leave_files, raised_keeps_tell_the_same, shop_lives_are_runs,
+    calls_make_lives, crash_and_restart, early_answers_are_unsafe, folders_are_a_run,
+    histories_are_runs, moments_leave_files, raised_keeps_tell_the_same, shop_lives_are_runs,
     shortening_keeps_the_promise,
 };
 pub use lines::{Cut, LINE_MAX, LineCutter};
