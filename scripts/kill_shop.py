@@ -265,7 +265,7 @@ class Trial:
             return False
         kill(state["pid"])
         time.sleep(0.3)
-        for name in ("kept", "out", "life", "setup"):
+        for name in ("kept", "out", "life", "setup", "sums"):
             shutil.copyfile(copy / name, f"{folder}/{number}/{name}")
         shutil.rmtree(copy)
         self.mend(folder, number, "older")

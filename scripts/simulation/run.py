@@ -304,7 +304,8 @@ class Run:
     def _is_well(self) -> bool:
         return not self.commands and all(supervisor.is_alive and not supervisor.is_leaving and supervisor.link.state == "up"
                                          for supervisor in self.supervisors.values()) and \
-            all(site.state is State.UP and site.compared.is_set for site in self._sites())
+            all(site.state is State.UP and site.compared.is_set for site in self._sites()) and \
+            len({site.number for site in self._sites()}) == len(self._sites())      # none that a standby has taken over hasn't seen that yet
 
     def _state(self) -> str:
         said = [f"{name} {'runs' if supervisor.is_alive else 'has ended'} {supervisor.link.state} "

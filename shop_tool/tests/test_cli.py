@@ -24,6 +24,7 @@ class Words(unittest.TestCase):
 
     def test_the_folder(self) -> None:
         self.assertEqual(vars(read("start", "auction", "--here", "0,2"))["here"], (0, 2))
+        self.assertEqual(vars(read("start", "auction", "--here", "", "--standby", "2"))["here"], ())
         self.assertEqual([vars(read(*words))["folder"] for words in (("start", "a"), ("-C", "a", "status"))], ["a", "a"])
 
     def test_misuse(self) -> None:
