@@ -25,7 +25,7 @@ sys.path.insert(0, str(TOP))
 
 from measure_shop import ask_by_socket, driven, is_whole_line, processor_seconds, to_socket     # noqa: E402
 from shop_tool.program import answers_questions     # noqa: E402
-from trials import PYTHON, Skipped, expect, expect_types, expect_units, run_trials, trials_in
+from trials import PYTHON, Failed, Skipped, expect, expect_types, expect_units, run_trials, trials_in
 
 SECONDS = 60
 
@@ -338,7 +338,33 @@ def test_several(at: Folder) -> None:
         expect(json.loads(said.readline())["call"] == 3, "one that is left isn't answered")
         line.sendall(b'{"op": "status"}\n')
         expect("`call` is no int" in json.loads(said.readline())["fault"] and said.readline() == b"", "one without a number ends it")
+    with socket.socket(socket.AF_UNIX) as line:
+        line.settimeout(SECONDS)
+        line.connect(os.path.relpath(at.path / "auction/sock"))
+        line.sendall(b'{"op": "several"}\n' + b"x" * (17 << 20))
+        expect(b"it has more than 16777216 bytes" in line.recv(1 << 16), "one that is too long is refused, though it is written still")
     os.kill(at.site(0)["pid"], signal.SIGCONT)
+
+
+def test_flood(at: Folder) -> None:
+    """A client that makes requests and reads none of the refusals is given no more to read than waits for it, and leaves no event."""
+    at.run("./shop start auction")
+    supervisor = at.status()["pid"]
+    with socket.socket(socket.AF_UNIX) as line:
+        line.settimeout(2.0)
+        line.connect(os.path.relpath(at.path / "auction/sock"))
+        line.sendall(b'{"op": "several"}\n')
+        try:
+            for number in range(200_000):
+                line.sendall(b'{"call": %d, "op": "nothing", "site": 0, "timeout": 1}\n' % number)
+            raise Failed("200,000 requests were taken")
+        except TimeoutError:
+            pass
+        expect(at.shop("ask 0 user,ann") == "ok,0.1\n", "others are served")
+    memory = re.findall(r"VmRSS:\s*(\d+) kB", pathlib.Path(f"/proc/{supervisor}/status").read_text())
+    expect(int(memory[0]) < 200_000, f"its memory: {memory} kB")
+    at.shop("wait 0")
+    expect("fault" not in at.text("auction/events"), at.text("auction/events"))
 
 
 def test_time_of_asks_over_kept_connections(at: Folder) -> None:

@@ -1,6 +1,7 @@
 """A connection to the supervisor that is kept: many requests at once, each under its number. Asks among them take no task of the loop."""
 
 import asyncio
+import contextlib
 import functools
 import json
 from json.encoder import encode_basestring_ascii as json_of     # type: ignore[attr-defined]
@@ -20,6 +21,7 @@ if TYPE_CHECKING:
 
 AT_ONCE = 4000              # how many requests of a connection are under way at once
 UNREAD_BYTES = 1 << 16      # how much may wait for a client to read it, before it is waited for
+REFUSE_SECONDS = 2.0        # how long the rest is read of a request that is too long
 READER_SECONDS = 60.0       # a client that takes in nothing for so long is cut off
 
 
@@ -58,15 +60,17 @@ class Several:
         except Fault as fault:
             self.end(None, fault)
             self.reader.give = lambda data: None
-            asyncio.get_running_loop().call_soon(self._over.set)        # once it is written
+            # Once it is written; a client that is writing still wouldn't see it.
+            asyncio.get_running_loop().call_later(REFUSE_SECONDS if self._pieces.size > REQUEST_BYTES else 0.0, self._over.set)
         if self.is_behind:
             self.writer.transport.pause_reading()       # type: ignore[attr-defined]
             self.server.shop.task(self._go_on(), is_needed=False)
 
     async def _go_on(self) -> None:
         """Takes requests again once the client has read what waited for it."""
-        await self.read()
-        self.writer.transport.resume_reading()          # type: ignore[attr-defined]
+        with contextlib.suppress(OSError):      # the client has gone, or reads nothing
+            await self.read()
+            self.writer.transport.resume_reading()      # type: ignore[attr-defined]
 
     def _begin(self, line: bytes) -> None:
         request = request_of(line)

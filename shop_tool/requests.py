@@ -84,7 +84,7 @@ def _names_of(request: Request, records: int) -> list[bytes | None]:
 
 
 def _name_of(key: Any) -> bytes:
-    if not isinstance(key, str) or not is_key(name := bytes_of(key)):
+    if not isinstance(key, str) or not key.isascii() or not is_key(name := bytes_of(key)):
         raise Fault(Status.MISUSE, f"{str(key)[:80]!r}: a key has 1 to {KEY_BYTES} printable ASCII characters; nothing was asked")
     return name
 
@@ -99,7 +99,11 @@ def row_of_request(request: Request) -> tuple[str, str]:
     table, key = field(request, "table", str), field(request, "key", str)
     if table not in (*COLUMNS, "nickname") or table == "misfit":
         raise no_request(f"there is no table {table!r}")
-    if why := why_not_one_record(bytes_of(line_of(["?row", table, key])), Purpose.QUESTION):
+    try:
+        why = why_not_one_record(bytes_of(line_of(["?row", table, key])), Purpose.QUESTION)
+    except UnicodeEncodeError:
+        why = "it isn't text"
+    if why:
         raise Fault(Status.MISUSE, f"{key[:80]!r}: {why}; nothing was asked")
     return table, key
 

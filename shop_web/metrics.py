@@ -1,5 +1,6 @@
 """What Prometheus reads: how the shop is, and what was asked over HTTP."""
 
+import functools
 from collections.abc import Iterator
 from typing import Any
 
@@ -67,6 +68,24 @@ class Metrics:
         self.requests = Counter("shop_http_requests", "Requests over HTTP", ["method", "path", "status"], registry=self.registry)
         self.request_seconds = Histogram("shop_http_request_seconds", "Seconds until a request was served", ["method", "path"], buckets=SECONDS,
                                          registry=self.registry)
+
+    # Each by its labels, of which there are few: to look one up takes the library as long as to count it.
+
+    @functools.cache
+    def asks_of(self, site: str, answer: str) -> Counter:
+        return self.asks.labels(site, answer)
+
+    @functools.cache
+    def ask_seconds_of(self, site: str) -> Histogram:
+        return self.ask_seconds.labels(site)
+
+    @functools.cache
+    def requests_of(self, method: str, path: str, status: str) -> Counter:
+        return self.requests.labels(method, path, status)
+
+    @functools.cache
+    def request_seconds_of(self, method: str, path: str) -> Histogram:
+        return self.request_seconds.labels(method, path)
 
     def text(self, shop: dict[str, Any] | None) -> bytes:
         """All of them, in the text format of Prometheus."""

@@ -130,8 +130,8 @@ class Server:
         except Exception as fault:
             print(f"shop serve: {request.method} {shown(request.path)}: {fault!r}", file=sys.stderr, flush=True)
             response = Problem("Broken", repr(fault)).response()
-        self.metrics.requests.labels(method, path, str(response.status)).inc()
-        self.metrics.request_seconds.labels(method, path).observe(time.monotonic() - began)
+        self.metrics.requests_of(method, path, str(response.status)).inc()
+        self.metrics.request_seconds_of(method, path).observe(time.monotonic() - began)
         return response
 
     # What a request says.
@@ -201,7 +201,7 @@ class Server:
 
     async def _asked(self, site: int, asks: list[One], options: Options) -> AsyncIterator[Told]:
         async for one in asked(self.line, site, asks, options):
-            self.metrics.asks.labels(str(site), one.answer).inc()
+            self.metrics.asks_of(str(site), one.answer).inc()
             if one.answer == "BadRecord":
                 one = one._replace(meaning=await asyncio.to_thread(meaning_of, one.answer, one.record, self.sites))
             yield one
@@ -210,7 +210,7 @@ class Server:
         """One ask: what came of it is the status of the response."""
         began = time.monotonic()
         answers = [one async for one in self._asked(site, [ask], options)]
-        self.metrics.ask_seconds.labels(str(site)).observe(time.monotonic() - began)
+        self.metrics.ask_seconds_of(str(site)).observe(time.monotonic() - began)
         answer = answers[0]
         if answer.problem:
             return answer.problem.response()

@@ -4,7 +4,7 @@ import unittest
 from typing import Any
 
 from shop_tool.ends import Fault, Status
-from shop_tool.requests import RECORDS_OF_A_REQUEST, asks_of, listing_of, message_of, request_of, seconds_of, site_of
+from shop_tool.requests import RECORDS_OF_A_REQUEST, asks_of, listing_of, message_of, request_of, row_of_request, seconds_of, site_of
 
 
 class Requests(unittest.TestCase):
@@ -32,6 +32,14 @@ class Requests(unittest.TestCase):
         for records in (None, "user,ann", [7], [None], ["user,ann", ""], ["\ud800"], ["user,ann"] * (RECORDS_OF_A_REQUEST + 1)):
             self.refused(asks_of, {"records": records, "fetch": True})
         self.refused(asks_of, {"records": ["user,ann"]})
+
+        for key in (7, "", "\ud800", "\udcff", "a\n", "a" * 256):
+            self.refused(asks_of, {"records": ["user,ann"], "keys": [key], "fetch": True})
+
+    def test_rows(self) -> None:
+        self.assertEqual(row_of_request({"table": "user", "key": 'a,"b'}), ("user", 'a,"b'))
+        for table, key in (("misfit", "1"), ("thing", "1"), (["user"], "1"), ("user", 7), ("user", "1\n?state"), ("user", "\ud800"), ("user", "x" * 4096)):
+            self.refused(row_of_request, {"table": table, "key": key})
 
     def test_listings(self) -> None:
         self.assertEqual(listing_of({"record": "list,items,7"}), b"list,items,7")
