@@ -1,5 +1,5 @@
 use Rattle.std.proofs.Common.{◌≡◌, ◌+◌, ◌-◌, arith, false, refl, rules}
-use Rattle.rubis_reading.specs.declared.held.ChunkFault.TheVariants.{Read}
+use Rattle.rubis_reading.specs.declared.buffer.ChunkFault.TheVariants.{Read}
 use Rattle.rubis_script.proofs.ChunkFacts.{caught, cut-just, first-upto, prefix-ahead, reads-after, reads-caught, reads-waited, still-pending}
 use Rattle.rubis_engine.specs.Text.{input_records}
 use Rattle.rubis_reading.specs.Runs.{flat}
