@@ -162,10 +162,11 @@ class KeptSite(Site):
     def open_sums(self) -> int | None:
         """Opens the file of sums, before the keeper is started; the number of a line of `kept` that was changed."""
         self.sums.count, changed = checked(self.folder)
+        self._sums = os.open(f"{self.folder}/{SUMS}", os.O_WRONLY | os.O_CREAT, 0o600)
         if changed is None:
-            self._sums = os.open(f"{self.folder}/{SUMS}", os.O_WRONLY | os.O_CREAT, 0o600)
             os.ftruncate(self._sums, self.sums.count * LINE_BYTES)
             os.lseek(self._sums, 0, os.SEEK_END)
+        os.fsync(self._sums)        # a power failure takes none that a start has compared
         return changed
 
     def write_sums(self, lines: bytes) -> None:

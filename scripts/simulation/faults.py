@@ -110,7 +110,7 @@ def lost_file(run: "Run", dice: random.Random) -> None:
 
 
 def changed_word(run: "Run", dice: random.Random) -> None:
-    """A byte of `kept` changes while its site is stopped, in a line that has its sum."""
+    """A byte of `kept` changes while its site is stopped, in a line that has its sum on the disk."""
     machine, folder = run.some_folder(dice)
     run.switch_off(machine)
     kept = folder.files.get("kept")
@@ -119,6 +119,7 @@ def changed_word(run: "Run", dice: random.Random) -> None:
     if kept and places:
         at = dice.choice(places)
         kept.data[at] += 1
+        folder.files["sums"].synced = len(folder.files["sums"].data)
         run.taint([folder], "IsChanged")
         run.changed.append((folder, folder.lines("kept")))
 

@@ -226,11 +226,12 @@ class SimulatedSite(Site):
     def open_sums(self) -> None:
         """As the shell's: takes in the sums of `kept`; stops the site for good if a line isn't as its sum says."""
         self.sums.count, changed = self.folder.checked()
-        if changed:
-            return self.fence(why_changed(self.number, changed))
         self._sums = self.folder.file("sums")
-        del self._sums.data[self.sums.count * LINE_BYTES:]
-        self._sums.synced = min(self._sums.synced, len(self._sums.data))
+        if changed:
+            self.fence(why_changed(self.number, changed))
+        else:
+            del self._sums.data[self.sums.count * LINE_BYTES:]
+        self._sums.synced = len(self._sums.data)
 
     def write_sums(self, lines: bytes) -> None:
         self._sums.data += lines
