@@ -392,6 +392,31 @@ def test_idle_connections(at: Folder) -> None:
     expect(web.get("/sites").status == 200, "it goes on")
 
 
+def test_many_requests_at_once(at: Folder) -> None:
+    """Requests that come over one connection before the first of them is answered are not all kept, and each is answered."""
+    at.run("./shop start auction")
+    web = Web(at)
+    host, port = web.url.removeprefix("http://").split(":")
+    most, size = 200_000, b"GET /sites/0/log HTTP/1.1\r\nHost: 127.0.0.1\r\n\r\n"
+    sent = 0
+    with socket.create_connection((host, int(port)), 1.5) as line:
+        try:
+            while sent < most:
+                line.sendall(1000 * size)
+                sent += 1000
+        except TimeoutError:
+            pass
+        memory = int(re.findall(r"VmRSS:\s*(\d+) kB", pathlib.Path(f"/proc/{web.process.pid}/status").read_text())[0])
+        expect(memory < 90_000, f"its memory after {sent} requests: {memory} kB")
+    count = 3000
+    with socket.create_connection((host, int(port)), SECONDS) as line:
+        line.sendall(count * b"GET /problems/LowBid HTTP/1.1\r\nHost: 127.0.0.1\r\n\r\n")
+        text = b""
+        while text.count(b"HTTP/1.1 200") < count:
+            expect(bool(data := line.recv(1 << 16)), f"only {text.count(b'HTTP/1.1 200')} of {count} came")
+            text += data
+
+
 def test_no_more_files(at: Folder) -> None:
     """Where there are more connections than files for them it says so once, and goes on when some have gone."""
     at.run("./shop start auction")
