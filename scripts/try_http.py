@@ -234,6 +234,18 @@ def test_many(at: Folder) -> None:
     expect(web.get("/sites/0/bids?item=0.3&color=red").status == 400, "what isn't there to say")
 
 
+def test_bad_records_and_audits(at: Folder) -> None:
+    """Many records outside the grammar, of which the first are explained, and many audits at once hold nobody up for long."""
+    at.run("./shop start auction")
+    web = Web(at)
+    said = web.post("/sites/0/asks", [{"record": "bid,0.3"}] * 3000).text
+    expect((said.count("this record has 2"), said.count("BadRecord")) == (20, 3000 * 2), "how many are explained")
+    with concurrent.futures.ThreadPoolExecutor(20) as pool:
+        audits = [pool.submit(web.get, "/audit?timeout=50") for _ in range(20)]
+        expect(web.ask(0, "bid,0.3").json["detail"].endswith("this record has 2"), "one that is explained meanwhile")
+        expect([audit.result().json["agrees"] for audit in audits] == [True] * 20, "each audit")
+
+
 def test_a_client_that_goes(at: Folder) -> None:
     """An ask whose client has gone isn't given to the site any more, and one that was given stays."""
     at.run("./shop start auction")
