@@ -234,6 +234,18 @@ def test_many(at: Folder) -> None:
     expect(web.get("/sites/0/bids?item=0.3&color=red").status == 400, "what isn't there to say")
 
 
+def test_bad_records_and_audits(at: Folder) -> None:
+    """Many records outside the grammar, of which the first are explained, and many audits at once hold nobody up for long."""
+    at.run("./shop start auction")
+    web = Web(at)
+    said = web.post("/sites/0/asks", [{"record": "bid,0.3"}] * 3000).text
+    expect((said.count("this record has 2"), said.count("BadRecord")) == (20, 3000 * 2), "how many are explained")
+    with concurrent.futures.ThreadPoolExecutor(20) as pool:
+        audits = [pool.submit(web.get, "/audit?timeout=50") for _ in range(20)]
+        expect(web.ask(0, "bid,0.3").json["detail"].endswith("this record has 2"), "one that is explained meanwhile")
+        expect([audit.result().json["agrees"] for audit in audits] == [True] * 20, "each audit")
+
+
 def test_a_client_that_goes(at: Folder) -> None:
     """An ask whose client has gone isn't given to the site any more, and one that was given stays."""
     at.run("./shop start auction")
@@ -390,6 +402,31 @@ def test_idle_connections(at: Folder) -> None:
     expect(said[4].count(b"HTTP/1.1 200 ") == 1, f"the beginning of a second request: {said[4]!r}")
     expect(events.result().returncode == 28, "who reads events isn't cut off")
     expect(web.get("/sites").status == 200, "it goes on")
+
+
+def test_many_requests_at_once(at: Folder) -> None:
+    """Requests that come over one connection before the first of them is answered are not all kept, and each is answered."""
+    at.run("./shop start auction")
+    web = Web(at)
+    host, port = web.url.removeprefix("http://").split(":")
+    most, size = 200_000, b"GET /sites/0/log HTTP/1.1\r\nHost: 127.0.0.1\r\n\r\n"
+    sent = 0
+    with socket.create_connection((host, int(port)), 1.5) as line:
+        try:
+            while sent < most:
+                line.sendall(1000 * size)
+                sent += 1000
+        except TimeoutError:
+            pass
+        memory = int(re.findall(r"VmRSS:\s*(\d+) kB", pathlib.Path(f"/proc/{web.process.pid}/status").read_text())[0])
+        expect(memory < 90_000, f"its memory after {sent} requests: {memory} kB")
+    count = 3000
+    with socket.create_connection((host, int(port)), SECONDS) as line:
+        line.sendall(count * b"GET /problems/LowBid HTTP/1.1\r\nHost: 127.0.0.1\r\n\r\n")
+        text = b""
+        while text.count(b"HTTP/1.1 200") < count:
+            expect(bool(data := line.recv(1 << 16)), f"only {text.count(b'HTTP/1.1 200')} of {count} came")
+            text += data
 
 
 def test_no_more_files(at: Folder) -> None:

@@ -1904,6 +1904,11 @@ def test_small_things(at: Folder) -> None:
     at.shop("ask 0 user,Ann", 1, "user,Ann: the record isn't in the grammar: field 2: a nickname has 1 to 20 of a-z, 0-9 and _, the first a letter")
     at.shop("ask 0 bid,0.3", 1, "a bid has 4 fields, this record has 2")
     expect("this record has 2" in at.shop("ask 0 bid,0.3 --json", 1), "in JSON")
+    at.run("yes bid,0.3 | head -n 5000 | ./shop -C auction ask 0 - 2> faults", 1)
+    expect(at.text("faults").count("this record has 2") == 20, "the first of many are explained, since each takes a process")
+    expect(at.text("faults").count("the record isn't in the grammar") == 5000, "all are told")
+    for closed in ("<&-", ">&-", "2>&-", "<&- >&- 2>&-"):
+        at.run(f"./shop -C auction status {closed} && ./shop -C auction ask 0 list,users {closed} && ./shop -C auction ask 0 - {closed} < /dev/null")
     at.run("./shop start other --workers 0", 2, "0 is not in 1..=16")
     expect(not (at.path / "other").exists(), "nothing is left of a start that is refused")
     if os.getuid() == 0 and shutil.which("setpriv"):

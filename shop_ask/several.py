@@ -26,7 +26,7 @@ READER_SECONDS = 60.0       # a client that takes in nothing for so long is cut 
 
 
 class Several:
-    """Such a connection. A client that goes takes along what no site has yet."""
+    """A connection with many requests. A client that goes takes along what no site has yet."""
 
     def __init__(self, server: "Server", reader: Reader, writer: asyncio.StreamWriter) -> None:
         self.server, self.reader, self.writer = server, reader, writer
@@ -38,7 +38,7 @@ class Several:
     async def run(self) -> None:
         """Serves it until it ends."""
         try:
-            came = await self.reader.read(2 * REQUEST_BYTES)
+            came = await self.reader.read(1 << 30)      # all that has come; from then on it comes by calls
             self.reader.give, self.reader.ended = self._take, self._over.set
             if self.reader.at_eof():
                 return

@@ -15,6 +15,7 @@ from .carrier.records import BYTES_OF_A_RECORD, COLUMNS, REFUSALS, row_of, text_
 from .render import shown
 
 PIECE = 1000        # how many records of standard input are asked by one request
+EXPLAINED = 20      # how many records outside the grammar are explained, of one command or request: each takes a process
 
 
 def ask(args: argparse.Namespace) -> int:
@@ -83,6 +84,7 @@ class Printer:
         self.folder = args.folder
         self.status = Status.WELL
         self.count = printed
+        self.explained = 0
 
     def _noted(self, lines: list[str]) -> list[str]:
         head = lines[0].split(",")
@@ -105,8 +107,9 @@ class Printer:
             print(f"shop: {shown(record)}: {shown(self._meaning(head[4], record))}", file=sys.stderr)
 
     def _meaning(self, refusal: str, record: str) -> str:
-        if refusal != "BadRecord":
+        if refusal != "BadRecord" or self.explained == EXPLAINED:
             return REFUSALS.get(refusal, refusal)
+        self.explained += 1
         from . import reasons, settings
         try:
             return reasons.meaning_of(refusal, record, settings.existing(self.folder).sites)

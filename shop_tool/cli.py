@@ -265,6 +265,9 @@ def command_of(name: str) -> Callable[[argparse.Namespace], int]:
 
 def main(begun: Begun | None = None) -> NoReturn:
     """Does what the command line says; of an ask, the rest of what was begun."""
+    for name, mode in (("stdin", "r"), ("stdout", "w"), ("stderr", "w")):
+        if getattr(sys, name) is None:      # it was closed, as by a daemon
+            setattr(sys, name, open(os.devnull, mode))
     for stream in (sys.stdout, sys.stderr):
         # Records may have bytes that are no text.
         stream.reconfigure(encoding="utf-8", errors="surrogateescape")      # type: ignore[attr-defined]

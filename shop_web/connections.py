@@ -12,7 +12,13 @@ from .problems import Problem
 IDLE_SECONDS = 60.0
 LOOK_SECONDS = 5.0
 TELL_SECONDS = 60.0
+MOST_WAITING = 100          # requests of one connection, beyond which no more are read
 HEADERS = {"Server": "shop", "X-Content-Type-Options": "nosniff"}      # of every response
+
+
+def waiting(request: web.Request) -> int:
+    """How many requests came over its connection behind this one. The library keeps them all, and says so nowhere else."""
+    return len(getattr(request.protocol, "_messages", ()))
 
 
 class Connections:
@@ -24,9 +30,13 @@ class Connections:
 
     def begin(self, request: web.Request) -> None:
         self._busy.add(request.protocol)
+        if waiting(request) > MOST_WAITING:
+            request.protocol.pause_reading()
 
     def end(self, request: web.Request) -> None:
         self._busy.discard(request.protocol)
+        if waiting(request) <= MOST_WAITING:
+            request.protocol.resume_reading()
 
     async def read(self, request: web.Request) -> bytes:
         """The body of a request; a Problem if it doesn't come to its end in time."""

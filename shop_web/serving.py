@@ -19,6 +19,7 @@ from typing import Any
 from aiohttp import HttpVersion11, web
 
 from shop_tool import settings
+from shop_tool.asks import EXPLAINED
 from shop_tool.carrier.records import Row
 from shop_tool.ends import Fault, Status
 from shop_tool.reading import audited
@@ -38,6 +39,7 @@ from .rows import FEW_ROWS, LOG, MOST_ROWS, TABLES, Page, Rows, listing_of
 BODY_BYTES = 16 << 20
 STOP_SECONDS = 5.0          # how long requests that are under way have at a stop
 MOST_SECONDS = 600.0
+AUDITS = 2                  # how many are made at once: each takes a thread, a process, and all logs
 SCRAPE_SECONDS = 3.0        # Prometheus waits 10 s, and is to be told of a supervisor that hangs
 JSON, LINES, CSV = "application/json", "application/x-ndjson", "text/csv"
 EXAMPLES = {"category": "7", "item": "0.3", "to": "0.1"}
@@ -59,6 +61,7 @@ class Server:
         self.rows, self.watch, self.metrics = Rows(self.line), Watch(self.line), Metrics()
         self.app = web.Application(client_max_size=BODY_BYTES, middlewares=[self._look_after])
         self.stopping = asyncio.Event()
+        self.auditing = asyncio.Semaphore(AUDITS)
         self.app.on_response_prepare.append(self._prepare)
         self.app.on_shutdown.append(self._stop)
         self.app.on_cleanup.append(self._close)
@@ -200,9 +203,11 @@ class Server:
         return asks, is_many, content
 
     async def _asked(self, site: int, asks: list[One], options: Options) -> AsyncIterator[Told]:
+        explained = 0
         async for one in asked(self.line, site, asks, options):
             self.metrics.asks_of(str(site), one.answer).inc()
-            if one.answer == "BadRecord":
+            explained += one.answer == "BadRecord"
+            if one.answer == "BadRecord" and explained <= EXPLAINED:
                 one = one._replace(meaning=await asyncio.to_thread(meaning_of, one.answer, one.record, self.sites))
             yield one
 
@@ -319,7 +324,16 @@ class Server:
         return json_response(said["sites"][site])
 
     async def get_audit(self, request: web.Request) -> web.StreamResponse:
-        verdict = await asyncio.to_thread(audited, self.folder, self._seconds(request), None, [])
+        seconds = self._seconds(request)
+        try:
+            async with asyncio.timeout(seconds):
+                await self.auditing.acquire()
+        except TimeoutError:
+            raise Problem("Away", f"{AUDITS} audits are being made, and none had ended within {seconds:g} s") from None
+        try:
+            verdict = await asyncio.to_thread(audited, self.folder, seconds, None, [])
+        finally:
+            self.auditing.release()
         return json_response({"verdict": verdict.removeprefix("audit,"), "agrees": verdict == "audit,Agree"})
 
     async def get_events(self, request: web.Request) -> web.StreamResponse:
