@@ -9,9 +9,9 @@ use Rattle.rubis_engine.specs.Accounts.Ending.{AtEnd}
 use Rattle.rubis_engine.specs.Text.{input_records}
 use Rattle.rubis_script.specs.SiteRuns.{answers_of}
 use Rattle.rubis_keep.specs.Calls.{CallsAreLives, RaisedCallsRaise, ShortenedMayReplace}
-use Rattle.rubis_keep.specs.Histories.{RaisesKeep, ShortensKept}
-use Rattle.rubis_keep.specs.History.{AreSafe, Event, FileState, History, now, records_in}
-use Rattle.rubis_keep.specs.Kept.{Ended, IsFrontOf, Lived}
+use Rattle.rubis_keep.specs.Histories.{RaisesKeep}
+use Rattle.rubis_keep.specs.History.{AreSafe, FileState, History, now, records_in}
+use Rattle.rubis_keep.specs.Kept.{IsFrontOf, Lived}
 use Rattle.rubis_keep.specs.Lines.{AreSound, begun_after, kept_of, whole_lines}
 use Rattle.rubis_keep.specs.Room.{keeping}
 use Rattle.rubis_keep.specs.Shops.{text_of}
