@@ -2,14 +2,14 @@
 //! one site, which each program has.
 #![tactic(auto)]
 
+mod command_line;
 mod ends;
 mod site;
-mod start;
 
+pub use command_line::{Commands, start};
 pub use ends::{FAULT, MISUSE, NOT_WELL, end, fail, misuse};
 pub use rubis_cli::{
     AuditOptions, CheckOptions, Invocation, KeepOptions, LackOptions, Options, Reading,
     SetupOptions, Widening,
 };
 pub use site::{config_of, run_site_command};
-pub use start::{Commands, start};

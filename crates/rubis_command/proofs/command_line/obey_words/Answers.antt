@@ -3,7 +3,7 @@ use Rattle.std.specs.Process.{exit_status}
 use Rattle.clap.specs.Words.{fault_of, kind_of}
 use Rattle.rubis_cli.specs.CommandLine.{IsFaultAmong, command_line}
 use Rattle.rubis_command.proofs.Reasons.{status_among}
-use Rattle.rubis_command.proofs.start.obey_words.Goals as goal
+use Rattle.rubis_command.proofs.command_line.obey_words.Goals as goal
 
 pub returns-in-Err-Words : goal.returns-in-Err-Words
 returns-in-Err-Words g c =
