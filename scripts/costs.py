@@ -1,13 +1,14 @@
 #!/usr/bin/env python3
 """Measures rubis beside the plain program: scripts/costs.py [TABLE..] [--program FILE] [--small]
 
-The tables are `clock`, `count`, `busiest`, `hostile`, `questions` and `reads`; without a name, all of them. Each is written as README, the guide and
+The tables are `clock`, `count`, `misses`, `busiest`, `hostile`, `questions` and `reads`; without a name, all of them. Each is written as README, the guide and
 docs/COSTS.md have it, under the machine and the date. Both programs get the same inputs, one run after the other, and their
 answers have to be the same bytes.
 
 - clock: processor time and time by the clock, each the least of five runs, and peak memory.
 - count: work that valgrind counts, with one worker: instructions, 10 for each miss of a cache of 32 KiB and 100 for each of one of
   8 MiB. It is the same on a busy machine, and knows nothing of the kernel and of waiting.
+- misses: how often a message in order reads what isn't in a cache of 1 MiB, with one worker.
 - busiest: the work of each thread with four workers (scripts/busiest.py).
 - hostile: inputs that somebody may send to slow rubis down, at n, 2n and 4n: processor time of one run, or peak memory.
 - questions: counted work of `rubis lack` and `rubis check`, at n, 2n and 4n, beside that of the audit or the site for the same input.
@@ -36,7 +37,10 @@ TOP = pathlib.Path(__file__).resolve().parent.parent
 PLAIN = TOP / "plain/target/release/plain"
 RUBIS = TOP / "crates/rubis_app/out/rubis_app"
 RUNS = 5
-CACHES = ["--cache-sim=yes", "--I1=32768,8,64", "--D1=32768,8,64", "--LL=8388608,16,64"]
+FIRST_CACHES = ["--cache-sim=yes", "--I1=32768,8,64", "--D1=32768,8,64"]
+LAST_CACHE = "--LL=8388608,16,64"
+# What one processor has for itself.
+OWN_CACHE = "--LL=1048576,16,64"
 FIRST_MISS = 10
 LAST_MISS = 100
 
@@ -80,19 +84,24 @@ def measured(program: str, work: Work, more: list[str], pipe: bool = False) -> C
         return Cost(float(user) + float(system), took, int(memory) / 1024, done.stdout)
 
 
-def counted(program: str, work: Work, more: list[str]) -> tuple[float, bytes]:
-    """The counted work of one run, and its output."""
+def simulated(program: str, work: Work, more: list[str], last_cache: str) -> tuple[dict[str, int], bytes]:
+    """What valgrind counts in one run, with caches of 32 KiB and that one behind them, and the run's output."""
     with in_file(work.text) as records, tempfile.NamedTemporaryFile("r") as counts, open(records, "rb") as source:
-        tool = ["valgrind", "--tool=cachegrind", *CACHES, f"--cachegrind-out-file={counts.name}"]
+        tool = ["valgrind", "--tool=cachegrind", *FIRST_CACHES, last_cache, f"--cachegrind-out-file={counts.name}"]
         done = subprocess.run([*tool, program, *work.command, *more], stdin=source, capture_output=True, check=True)
         text = counts.read()
     events = re.search(r"^events: (.*)$", text, re.M)
     summary = re.search(r"^summary: (.*)$", text, re.M)
     assert events and summary
-    of = dict(zip(events[1].split(), map(int, summary[1].split())))
+    return dict(zip(events[1].split(), map(int, summary[1].split()))), done.stdout
+
+
+def counted(program: str, work: Work, more: list[str]) -> tuple[float, bytes]:
+    """The counted work of one run, and its output."""
+    of, output = simulated(program, work, more, LAST_CACHE)
     first = of["I1mr"] + of["D1mr"] + of["D1mw"]
     last = of["ILmr"] + of["DLmr"] + of["DLmw"]
-    return of["Ir"] + FIRST_MISS * first + LAST_MISS * last, done.stdout
+    return of["Ir"] + FIRST_MISS * first + LAST_MISS * last, output
 
 
 def workers(work: Work, settings: str) -> list[str]:
@@ -167,6 +176,18 @@ def count(programs: Programs) -> None:
         plain, theirs = counted(programs.plain, work, [])
         many = work.records()
         print(f"| {many:,}: {name}{programs.same(ours, theirs)} | {rubis / many:,.0f} | {plain / many:,.0f} | {rubis / plain:.2f} |", flush=True)
+
+
+def misses(programs: Programs) -> None:
+    """Writes how often a message in order reads what isn't in a cache of 1 MiB, with one worker."""
+    print("| records | misses a record that read: rubis | plain |\n|---|---|---|")
+    for many in (100_000, 300_000, 1_000_000):
+        work = workloads.in_order(programs.size(many))
+        rubis, ours = simulated(programs.rubis, work, ["--workers", "1"], OWN_CACHE)
+        plain, theirs = simulated(programs.plain, work, [], OWN_CACHE)
+        records = work.records()
+        what = f"{records:,}: messages in order{programs.same(ours, theirs)}"
+        print(f"| {what} | {rubis['DLmr'] / records:.2f} | {plain['DLmr'] / records:.2f} |", flush=True)
 
 
 def busiest_threads(programs: Programs) -> None:
@@ -304,8 +325,15 @@ def machine() -> str:
     return f"{os.cpu_count()} processors, {name}; {datetime.date.today():%d %B %Y}; {os.getloadavg()[0]:.1f} other things to do"
 
 
-TABLES: dict[str, Callable[[Programs], None]] = {"clock": clock, "count": count, "busiest": busiest_threads, "hostile": hostile, "questions": questions,
-                                                   "reads": reads}
+TABLES: dict[str, Callable[[Programs], None]] = {
+    "clock": clock,
+    "count": count,
+    "misses": misses,
+    "busiest": busiest_threads,
+    "hostile": hostile,
+    "questions": questions,
+    "reads": reads,
+}
 
 
 def main() -> int:
