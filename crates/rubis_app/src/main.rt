@@ -8,15 +8,15 @@ ghost use Rattle.std.specs.Option.{SomeIff};
 ghost use Rattle.std.specs.Process.{exit_status};
 ghost use Rattle.rubis_world.specs.Script.{IsSetup};
 ghost use Rattle.rubis_command.specs.Setups.{setup_of};
-ghost use Rattle.rubis_command.specs.Statuses.{IsRunStatus, IsStatus};
+ghost use Rattle.rubis_command.specs.Statuses.{IsRunStatus, IsStatus, IsStatusOf};
 ghost use Rattle.rubis_app.specs.Setups.{names_a_site, waiting_options, world_setup_of};
 ghost use Rattle.rubis_world.specs.Setup.{IsWorldSetup};
 ghost use Rattle.rubis_app.specs.Statuses.{status_of};
 
 use rubis_audit::{Auditor, Grammar, LogQuestion, Tally, run_auditor, run_check, run_widen};
 use rubis_command::{
-    CheckOptions, Commands, FAULT, Invocation, KeepOptions, LackOptions, MISUSE, NOT_WELL, Options,
-    Reading, SetupOptions, Widening, config_of, end, fail, misuse, run_site_command, start,
+    CheckOptions, FAULT, Invocation, KeepOptions, LackOptions, MISUSE, NOT_WELL, Options, Reading,
+    SetupOptions, Widening, config_of, end, fail, misuse, read_words, run_site_command, words_of,
 };
 use rubis_keep::{FolderFault, Setup as Place, Wanted, keep_folder};
 use rubis_schema::{Hashes, KEEP_MAX, RECORDS_MAX, SITES_MAX};
@@ -341,10 +341,8 @@ fn run_keep<
     }
 }
 
-/// All commands.
-struct All;
-
-impl<
+// Runs what is asked for.
+fn obey<
     R: Files<File = File>
         + Clock
         + Print
@@ -355,25 +353,50 @@ impl<
         + Threads
         + Wait
         + Sync,
-> Commands<R> for All {
-    fn obey(&self, rt: &R, asked: &Invocation) -> ExitCode {
-        match asked {
-            Invocation::Site(options) => run_site_command(rt, options),
-            Invocation::World(setup) => run_sites(rt, setup),
-            Invocation::Audit(options) => audit_logs(
-                rt,
-                options.sites,
-                LogQuestion::Agreement,
-                options.status,
-            ),
-            Invocation::Lack(options) => run_lack(rt, options),
-            Invocation::Check(options) => run_checker(rt, options),
-            Invocation::Widen(counts) => run_widener(rt, counts),
-            Invocation::Keep(options) => run_keep(rt, options),
-        }
+>(rt: &R, asked: &Invocation) -> ExitCode
+    ensures { IsStatus (exit_status result) }
+{
+    match asked {
+        Invocation::Site(options) => run_site_command(rt, options),
+        Invocation::World(setup) => run_sites(rt, setup),
+        Invocation::Audit(options) => audit_logs(
+            rt,
+            options.sites,
+            LogQuestion::Agreement,
+            options.status,
+        ),
+        Invocation::Lack(options) => run_lack(rt, options),
+        Invocation::Check(options) => run_checker(rt, options),
+        Invocation::Widen(counts) => run_widener(rt, counts),
+        Invocation::Keep(options) => run_keep(rt, options),
+    }
+}
+
+// Does what the words of the command line ask for.
+#[tactic(auto, using(rubis_command::proofs::Reasons::status_of_run))]
+fn start<
+    R: Files<File = File>
+        + Clock
+        + Print
+        + Eprint
+        + Input
+        + AllocGlobal
+        + RandomSource
+        + Threads
+        + Wait
+        + Sync,
+>(rt: &R, words: &[String]) -> ExitCode
+    ensures { IsStatusOf (map string_bytes words.now) (exit_status result) }
+{
+    match read_words(rt, words) {
+        Ok(asked) => obey(rt, &asked),
+        Err(status) => status,
     }
 }
 
 fn main(rt: HostRuntime) -> ExitCode {
-    start(&rt, &All)
+    match words_of(&rt) {
+        Ok(words) => start(&rt, words.as_slice()),
+        Err(status) => status,
+    }
 }

@@ -1,9 +1,10 @@
-//! From the words of a command line to the command that they ask for.
+//! From the words of a command line to what they ask for.
 
-ghost use Rattle.std.specs.Prelude.{◌≡◌, map, string_bytes};
+ghost use Rattle.std.specs.Prelude.{◌≡◌, [], IfErr, IfOk, map, string_bytes};
 ghost use Rattle.std.specs.Process.{exit_status};
-ghost use Rattle.clap.specs.Words.{kind_of};
-ghost use Rattle.rubis_command.specs.Statuses.{IsStatus, IsStatusOf, status_by};
+ghost use Rattle.clap.specs.Words.{fault_of, kind_of};
+ghost use Rattle.rubis_cli.specs.CommandLine.{IsAsked, command_line};
+ghost use Rattle.rubis_command.specs.Statuses.{IsStatusOf, status_by};
 
 use crate::ends::{MISUSE, fail, misuse};
 use clap::Error;
@@ -13,13 +14,6 @@ use std::env;
 use std::env::Env;
 use std::io::ErrorKind;
 use std::process::ExitCode;
-
-/// The commands of a program.
-pub trait Commands<R> {
-    /// Does what is asked for: the status of the run.
-    fn obey(&self, rt: &R, asked: &Invocation) -> ExitCode
-        ensures { IsStatus (exit_status result) };
-}
 
 // Says what `clap` says: the help or the version that was asked for, or what is wrong with the command line.
 fn tell<R: Print + Eprint>(rt: &R, error: &Error) -> ExitCode
@@ -33,40 +27,37 @@ fn tell<R: Print + Eprint>(rt: &R, error: &Error) -> ExitCode
     }
 }
 
-// Does what these words ask for.
-#[tactic(auto, using(crate::proofs::Reasons::status_of_run))]
-fn obey_words<R: Print + Eprint + AllocGlobal, C: Commands<R>>(
+/// What these words ask for, the program's name first. Where nothing is to be run, it is said why, and the error is the status.
+pub fn read_words<R: Print + Eprint + AllocGlobal>(
     rt: &R,
-    commands: &C,
     words: &[String],
-) -> ExitCode
-    ensures { IsStatusOf (map string_bytes words.now) (exit_status result) }
+) -> Result<Invocation, ExitCode>
+    ensures asked { IfOk result (IsAsked (map string_bytes words.now)) }
+    ensures fits { IfOk result (λ asked. fault_of command_line (map string_bytes words.now) ≡ []) }
+    ensures status { IfErr result (λ status. IsStatusOf (map string_bytes words.now) (exit_status status)) }
 {
     match read_options(rt.alloc(), words) {
-        Ok(asked) => commands.obey(rt, &asked),
-        Err(OptionFault::Memory) => fail(rt, RunFault::Memory),
-        Err(OptionFault::Words(error)) => tell(rt, &error),
+        Ok(asked) => Ok(asked),
+        Err(OptionFault::Memory) => Err(fail(rt, RunFault::Memory)),
+        Err(OptionFault::Words(error)) => Err(tell(rt, &error)),
     }
 }
 
-/// Does what the command line of this process asks for: the status that the process ends with.
-pub fn start<R: Print + Eprint + AllocGlobal + Env, C: Commands<R>>(
-    rt: &R,
-    commands: &C,
-) -> ExitCode {
+/// The words of the command line of this process. Where they can't be had, it is said why, and the error is the status.
+pub fn words_of<R: Eprint + AllocGlobal + Env>(rt: &R) -> Result<Vec<String>, ExitCode> {
     let args = match env::args(rt) {
         Ok(args) => args,
         Err(error) => {
             return if error.kind() == ErrorKind::OutOfMemory {
-                fail(rt, RunFault::Memory)
+                Err(fail(rt, RunFault::Memory))
             } else {
-                misuse(rt, "the command line isn't text")
+                Err(misuse(rt, "the command line isn't text"))
             };
         }
     };
     let words: Result<Vec<String>, _> = args.collect(rt.alloc());
     match words {
-        Ok(words) => obey_words(rt, commands, words.as_slice()),
-        Err(_) => fail(rt, RunFault::Memory),
+        Ok(words) => Ok(words),
+        Err(_) => Err(fail(rt, RunFault::Memory)),
     }
 }

@@ -6,7 +6,7 @@ mod command_line;
 mod ends;
 mod site;
 
-pub use command_line::{Commands, start};
+pub use command_line::{read_words, words_of};
 pub use ends::{FAULT, MISUSE, NOT_WELL, end, fail, misuse};
 pub use rubis_cli::{
     AuditOptions, CheckOptions, Invocation, KeepOptions, LackOptions, Options, Reading,

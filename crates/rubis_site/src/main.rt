@@ -2,28 +2,46 @@
 //! first run of a site need not wait for the others' proofs.
 #![tactic(auto)]
 
+ghost use Rattle.std.specs.Prelude.{map, string_bytes};
 ghost use Rattle.std.specs.Process.{exit_status};
-ghost use Rattle.rubis_command.specs.Statuses.{IsStatus};
+ghost use Rattle.rubis_command.specs.Statuses.{IsStatus, IsStatusOf};
 
-use rubis_command::{Commands, Invocation, misuse, run_site_command, start};
+use rubis_command::{Invocation, misuse, read_words, run_site_command, words_of};
 use std::process::ExitCode;
 use std::random::RandomSource;
 use std::sync::Wait;
 use std::thread::Threads;
 
-/// The command `site`.
-struct SiteAlone;
+// Runs what is asked for, if it is a site.
+fn obey<R: Print + Eprint + Input + AllocGlobal + RandomSource + Threads + Wait + Sync>(
+    rt: &R,
+    asked: &Invocation,
+) -> ExitCode
+    ensures { IsStatus (exit_status result) }
+{
+    match asked {
+        Invocation::Site(options) => run_site_command(rt, options),
+        _ => misuse(rt, "this program has the command site alone"),
+    }
+}
 
-impl<R: Print + Eprint + Input + AllocGlobal + RandomSource + Threads + Wait + Sync> Commands<R>
-    for SiteAlone {
-    fn obey(&self, rt: &R, asked: &Invocation) -> ExitCode {
-        match asked {
-            Invocation::Site(options) => run_site_command(rt, options),
-            _ => misuse(rt, "this program has the command site alone"),
-        }
+// Does what the words of the command line ask for.
+#[tactic(auto, using(rubis_command::proofs::Reasons::status_of_run))]
+fn start<R: Print + Eprint + Input + AllocGlobal + RandomSource + Threads + Wait + Sync>(
+    rt: &R,
+    words: &[String],
+) -> ExitCode
+    ensures { IsStatusOf (map string_bytes words.now) (exit_status result) }
+{
+    match read_words(rt, words) {
+        Ok(asked) => obey(rt, &asked),
+        Err(status) => status,
     }
 }
 
 fn main(rt: HostRuntime) -> ExitCode {
-    start(&rt, &SiteAlone)
+    match words_of(&rt) {
+        Ok(words) => start(&rt, words.as_slice()),
+        Err(status) => status,
+    }
 }

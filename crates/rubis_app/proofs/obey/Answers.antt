@@ -1,4 +1,4 @@
-use Rattle.rubis_app.proofs.All.obey.Goals as goal
+use Rattle.rubis_app.proofs.obey.Goals as goal
 
 pub returns-in-Site : goal.returns-in-Site
 returns-in-Site g c = c.run_site_command.ensures.status
