@@ -888,6 +888,12 @@ def test_another_number_of_sites(at: Folder) -> None:
     for command in ("start", "run"):
         at.run(f"./shop {command} b --sites 4 --here 3 --over {server.over}", 2, f"{said}b would have --sites 4")
         expect(not (at.path / "b").exists(), "nothing is left")
+    supervisor = at.status("a")["pid"]
+    os.kill(supervisor, signal.SIGSTOP)
+    expect(server.say("persist auction:status:0") == "1\n", "the status of a site")
+    server.say("del auction:sites")         # as an earlier version leaves it, which says how its sites are
+    at.run(f"./shop start b --sites 4 --here 3 --over {server.over}", 2, f"{said}b would have --sites 4")
+    os.kill(supervisor, signal.SIGCONT)
     server.say("flushall")
     at.wait("what is told again", lambda: server.say("get auction:sites") == "3\n")
     server.kill()
