@@ -5,6 +5,7 @@ Each trial runs in a folder of its own, in which `./shop` is the command and `./
 names are run. A trial that needs what isn't installed is skipped, aloud. The last line says how many passed; the status is 1 if one
 failed."""
 
+import concurrent.futures
 import itertools
 import json
 import os
@@ -344,6 +345,40 @@ def test_several(at: Folder) -> None:
         line.sendall(b'{"op": "several"}\n' + b"x" * (17 << 20))
         expect(b"it has more than 16777216 bytes" in line.recv(1 << 16), "one that is too long is refused, though it is written still")
     os.kill(at.site(0)["pid"], signal.SIGCONT)
+
+
+def test_kept_connections_while_keepers_are_killed(at: Folder) -> None:
+    """Each ask over a connection that is kept comes to its end, and what is told is there once, while the keepers are killed."""
+    at.run("./shop start auction --sites 2")
+    at.shop(f"ask 0 {SALE}")
+    told: dict[str, int] = {}
+    until = time.monotonic() + 6.0
+
+    def asker(number: int) -> None:
+        """Asks one bid after the other at one of the sites."""
+        with to_socket(os.path.relpath(at.path / "auction"))() as line, line.makefile("rb") as answers:
+            line.settimeout(SECONDS)
+            for amount in itertools.count(1000 + 1_000_000 * number):
+                if time.monotonic() > until:
+                    return
+                ask = {"call": amount, "op": "ask", "site": number % 2, "records": [f"bid,0.3,0.2,{amount}"], "timeout": 20, "fetch": True}
+                line.sendall(json.dumps(ask).encode() + b"\n")
+                told[(answer := json.loads(answers.readline()))["lines"][0].split(",")[3]] = amount
+                expect((answer["call"], json.loads(answers.readline())) == (amount, {"call": amount, "end": True}), f"an answer: {answer}")
+
+    with concurrent.futures.ThreadPoolExecutor() as pool:
+        asking = [pool.submit(asker, number) for number in range(8)]
+        for turn in range(6):
+            time.sleep(0.5)
+            if keeper := at.site(turn % 2)["pid"]:
+                at.kill(keeper)
+        for each in asking:
+            each.result()
+    at.shop("wait 0")
+    at.shop("wait 1")
+    expect(at.shop("audit") == "audit,Agree\n", "the audit")
+    accepted = {row["id"]: row["amount"] for row in json.loads(at.shop("list 0 bids 0.3 --json"))}
+    expect(accepted == told and len(told) > 50, f"{len(told)} were told, and {len(accepted)} are there")
 
 
 def test_flood(at: Folder) -> None:
