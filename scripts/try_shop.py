@@ -199,7 +199,8 @@ def test_asks_that_are_quick(at: Folder) -> None:
     """An ask by the quick way, which loads little, writes and says what it does by the long one, whatever comes of it."""
     at.run("./shop start auction --sites 2")
     at.shop(f"ask 0 {SALE}")
-    for words in ("0 bid,0.3,0.2,500 bid,0.3,0.2,500", "0 bid,0.3,0.2,5", "0 bid,0.3,0.2,600 bid,0.3,0.2,5 bid,0.3,0.2,600", "0 restock,0.3,0.1,1 list,users restock,0.3,0.1,1",
+    for words in ("0 bid,0.3,0.2,500 bid,0.3,0.2,500", "0 bid,0.3,0.2,5", "0 bid,0.3,0.2,600 bid,0.3,0.2,5 bid,0.3,0.2,600",
+                  "0 restock,0.3,0.1,1 list,users restock,0.3,0.1,1",
                   "0 'user,\"'", "0 ''", "0 \"$(printf 'user,\\351\\377')\"", "5 user,eve", "1 bid,0.3,0.2,900 --no-wait", "0 restock,0.3,0.1,1 --key one",
                   "0 restock,0.3,0.1,1 --key ''", "0 pass,9 pass,0", "0 bid,0.3,0.2,600 --timeout 0.4"):
         said = []
