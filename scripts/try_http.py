@@ -491,7 +491,8 @@ const said: unknown[] = [];
 const ann = { ask: "user", nickname: "ann" } as const;
 said.push((await shop.postAsks(0, ann, { idempotencyKey: "order-17" })).id, (await shop.postAsks(0, ann, { idempotencyKey: "order-17" })).again);
 for await (const told of shop.postAsksInLines(0, [{ record: "user,bob" },
-  { ask: "item", seller: "0.1", name: "a/b, c", category: 7, stock: 3, start: 1, price: 80 }, { ask: "bid", item: "0.3", bidder: "0.2", amount: 500, key: "k" }, { record: "user,eve", key: "k" }], { timeout: 5 })) {
+  { ask: "item", seller: "0.1", name: "a/b, c", category: 7, stock: 3, start: 1, price: 80 },
+  { ask: "bid", item: "0.3", bidder: "0.2", amount: 500, key: "k" }, { record: "user,eve", key: "k" }], { timeout: 5 })) {
   said.push("answer" in told ? told.problem?.name ?? told.id : told.problem.name);
 }
 said.push((await shop.getUser(0, "ann")).items, (await shop.getItem(0, "0.3")).name);
