@@ -4,7 +4,7 @@
 Four sites; over a server, two supervisors. Beside them, where redis-server is installed, what INCR costs on the same machine at the
 same time. Figures go to standard output as JSON.
 
-With --kept one site is asked over connections that are kept, by 16 askers with one request at a time each, so many seconds: by the socket,
+With --kept one site is asked over connections that are kept, by 16 askers with one request at a time each, for SECONDS: by the socket,
 and over HTTP with one ask a request and with a hundred. Beside that, where they are installed: a server of aiohttp that reads such a
 request and answers, Redis and etcd by 16 clients, SQLite with a transaction for each insert; and each as a command. Each has the
 processor time of an ask too, of the supervisor (or the other server), the keeper, the server over HTTP, and the client, since rates are
@@ -166,7 +166,7 @@ def processor_seconds(process: int) -> float:
 
 def driven(opened: Callable[[], socket.socket], request: Callable[[int], bytes], is_whole: Callable[[bytes], bool], seconds: float, asks: int,
            processes: dict[str, int]) -> dict[str, Any]:
-    """What 16 askers get who have a request under way each, of so many asks, and the processor time of each ask."""
+    """What 16 askers get who have a request of `asks` asks under way each, and the processor time of an ask."""
     lines, come, sent, spans, count = [opened() for _ in range(ASKERS)], dict[socket.socket, bytes](), dict[socket.socket, float](), [], 0
     before, own = {name: processor_seconds(process) for name, process in processes.items()}, time.process_time()
     with selectors.DefaultSelector() as waits, contextlib.ExitStack() as stack:

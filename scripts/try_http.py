@@ -3,7 +3,8 @@
 
 The trials: the examples of docs/HTTP.md, line by line; the unit tests and types of shop_web; where it listens, who may do what, and over
 TLS; asks that are asked again while parts of the shop are killed; the same answers by socket, HTTP and pipe; many asks in one request;
-events that go on; the description of the routes, by its validator; the client in TypeScript, by tsc and node; and, in a headless Chromium, the page while a site is killed. With names, only the trials
+events that go on; the description of the routes, by its validator; the client in TypeScript, by tsc and node; what is no request, idle
+connections, and what else strangers may send; and, in a headless Chromium, the page while a site is killed. With names, only the trials
 of these names are run. What isn't installed is skipped, aloud. The last line says how many passed; the status is 1 if one failed."""
 
 import concurrent.futures
@@ -341,7 +342,8 @@ def test_what_is_no_request(at: Folder) -> None:
                  b"GET /sites HTTP/1.1\r\nHost: 127.0.0.1\r\nContent-Length: -1\r\n\r\n", b"GET /" + b"x" * 9000 + b" HTTP/1.1\r\n\r\n",
                  b"GET /sites HTTP/1.1\r\nHost: 127.0.0.1\r\nX: " + b"x" * 9000 + b"\r\n\r\n", b"\x16\x03\x01\x02\x00\x01\x00\r\n\r\n"):
         head, _, body = raw(web, said).partition(b"\r\n\r\n")
-        expect(b" 400 Bad Request" in head.split(b"\r\n")[0] and b"Server: shop" in head and b"Content-Type: application/problem+json" in head, f"{said[:50]!r}: {head!r}")
+        expect(b" 400 Bad Request" in head.split(b"\r\n")[0], f"{said[:50]!r}: {head!r}")
+        expect(b"Server: shop" in head and b"Content-Type: application/problem+json" in head, f"{said[:50]!r}: {head!r}")
         expect(json.loads(body)["name"] == "BadRequest", f"{said[:50]!r}: {body!r}")
     for header, status, name in (("Host: evil", 421, "OtherHost"), ("Host: 127.0.0.1:1@evil", 421, "OtherHost"), ("Host: [::1", 421, "OtherHost"),
                                  ("Host:", 400, "BadRequest"), ("Expect: nothing", 417, "BadExpect"), ("Host: LOCALHOST:1", 200, "")):
@@ -488,7 +490,8 @@ const said: unknown[] = [];
 
 const ann = { ask: "user", nickname: "ann" } as const;
 said.push((await shop.postAsks(0, ann, { idempotencyKey: "order-17" })).id, (await shop.postAsks(0, ann, { idempotencyKey: "order-17" })).again);
-for await (const told of shop.postAsksInLines(0, [{ record: "user,bob" }, { ask: "item", seller: "0.1", name: "a/b, c", category: 7, stock: 3, start: 1, price: 80 },
+for await (const told of shop.postAsksInLines(0, [{ record: "user,bob" },
+  { ask: "item", seller: "0.1", name: "a/b, c", category: 7, stock: 3, start: 1, price: 80 },
   { ask: "bid", item: "0.3", bidder: "0.2", amount: 500, key: "k" }, { record: "user,eve", key: "k" }], { timeout: 5 })) {
   said.push("answer" in told ? told.problem?.name ?? told.id : told.problem.name);
 }

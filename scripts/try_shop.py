@@ -5,6 +5,7 @@ Each trial runs in a folder of its own, in which `./shop` is the command and `./
 names are run. A trial that needs what isn't installed is skipped, aloud. The last line says how many passed; the status is 1 if one
 failed."""
 
+import concurrent.futures
 import itertools
 import json
 import os
@@ -198,7 +199,8 @@ def test_asks_that_are_quick(at: Folder) -> None:
     """An ask by the quick way, which loads little, writes and says what it does by the long one, whatever comes of it."""
     at.run("./shop start auction --sites 2")
     at.shop(f"ask 0 {SALE}")
-    for words in ("0 bid,0.3,0.2,500 bid,0.3,0.2,500", "0 bid,0.3,0.2,5", "0 bid,0.3,0.2,600 bid,0.3,0.2,5 bid,0.3,0.2,600", "0 restock,0.3,0.1,1 list,users restock,0.3,0.1,1",
+    for words in ("0 bid,0.3,0.2,500 bid,0.3,0.2,500", "0 bid,0.3,0.2,5", "0 bid,0.3,0.2,600 bid,0.3,0.2,5 bid,0.3,0.2,600",
+                  "0 restock,0.3,0.1,1 list,users restock,0.3,0.1,1",
                   "0 'user,\"'", "0 ''", "0 \"$(printf 'user,\\351\\377')\"", "5 user,eve", "1 bid,0.3,0.2,900 --no-wait", "0 restock,0.3,0.1,1 --key one",
                   "0 restock,0.3,0.1,1 --key ''", "0 pass,9 pass,0", "0 bid,0.3,0.2,600 --timeout 0.4"):
         said = []
@@ -344,6 +346,40 @@ def test_several(at: Folder) -> None:
         line.sendall(b'{"op": "several"}\n' + b"x" * (17 << 20))
         expect(b"it has more than 16777216 bytes" in line.recv(1 << 16), "one that is too long is refused, though it is written still")
     os.kill(at.site(0)["pid"], signal.SIGCONT)
+
+
+def test_kept_connections_while_keepers_are_killed(at: Folder) -> None:
+    """Each ask over a connection that is kept comes to its end, and what is told is there once, while the keepers are killed."""
+    at.run("./shop start auction --sites 2")
+    at.shop(f"ask 0 {SALE}")
+    told: dict[str, int] = {}
+    until = time.monotonic() + 6.0
+
+    def asker(number: int) -> None:
+        """Asks one bid after the other at one of the sites."""
+        with to_socket(os.path.relpath(at.path / "auction"))() as line, line.makefile("rb") as answers:
+            line.settimeout(SECONDS)
+            for amount in itertools.count(1000 + 1_000_000 * number):
+                if time.monotonic() > until:
+                    return
+                ask = {"call": amount, "op": "ask", "site": number % 2, "records": [f"bid,0.3,0.2,{amount}"], "timeout": 20, "fetch": True}
+                line.sendall(json.dumps(ask).encode() + b"\n")
+                told[(answer := json.loads(answers.readline()))["lines"][0].split(",")[3]] = amount
+                expect((answer["call"], json.loads(answers.readline())) == (amount, {"call": amount, "end": True}), f"an answer: {answer}")
+
+    with concurrent.futures.ThreadPoolExecutor() as pool:
+        asking = [pool.submit(asker, number) for number in range(8)]
+        for turn in range(6):
+            time.sleep(0.5)
+            if keeper := at.site(turn % 2)["pid"]:
+                at.kill(keeper)
+        for each in asking:
+            each.result()
+    at.shop("wait 0")
+    at.shop("wait 1")
+    expect(at.shop("audit") == "audit,Agree\n", "the audit")
+    accepted = {row["id"]: row["amount"] for row in json.loads(at.shop("list 0 bids 0.3 --json"))}
+    expect(accepted == told and len(told) > 50, f"{len(told)} were told, and {len(accepted)} are there")
 
 
 def test_flood(at: Folder) -> None:
@@ -945,6 +981,12 @@ def test_another_number_of_sites(at: Folder) -> None:
     for command in ("start", "run"):
         at.run(f"./shop {command} b --sites 4 --here 3 --over {server.over}", 2, f"{said}b would have --sites 4")
         expect(not (at.path / "b").exists(), "nothing is left")
+    supervisor = at.status("a")["pid"]
+    os.kill(supervisor, signal.SIGSTOP)
+    expect(server.say("persist auction:status:0") == "1\n", "the status of a site")
+    server.say("del auction:sites")         # as an earlier version leaves it, which says how its sites are
+    at.run(f"./shop start b --sites 4 --here 3 --over {server.over}", 2, f"{said}b would have --sites 4")
+    os.kill(supervisor, signal.SIGCONT)
     server.say("flushall")
     at.wait("what is told again", lambda: server.say("get auction:sites") == "3\n")
     server.kill()

@@ -252,13 +252,15 @@ class Streams:
         return owner.decode("utf-8", "surrogateescape")
 
     async def count(self) -> int | None:
-        """How many sites the shop there has; None if nobody has said so yet."""
+        """How many sites the shop there has; None if nobody has said so yet, nor says how one of its sites is."""
         said: bytes = await self.redis.get(self.key("sites")) or b""
-        return int(said) if said.isdigit() else None
+        if said.isdigit():
+            return int(said)
+        return next((len(status["has"]) + 1 for status in (await self.statuses()).values()), None)
 
     async def count_of_first(self, count: int) -> int:
         """The same; it is `count` from now on, if nobody has said so yet."""
-        await self.redis.set(self.key("sites"), count, nx=True)
+        await self.redis.set(self.key("sites"), await self.count() or count, nx=True)
         return await self.count() or count
 
     async def adopt(self, site: int, before: str, is_fresh: bool) -> bool:

@@ -36,8 +36,12 @@ class Asks(unittest.IsolatedAsyncioTestCase):
         asked.begin()
         return asked
 
-    async def said(self) -> list[dict[str, Any]]:
-        await asyncio.sleep(0.01)
+    async def said(self, waits: bool = False) -> list[dict[str, Any]]:
+        """What was said once all that is ready is done; `waits` until there is something."""
+        for _ in range(20):
+            await asyncio.sleep(0)
+        while waits and not self.written:
+            await asyncio.sleep(0.001)
         return [json.loads(line) for line in b"".join(self.written).splitlines()]
 
     async def test_it_waits_says_and_ends(self) -> None:
@@ -63,7 +67,7 @@ class Asks(unittest.IsolatedAsyncioTestCase):
             if not (yield Wait(Signal(), 0.001)):
                 raise Fault(Status.AWAY, "no answer")
         self.ask(steps)
-        self.assertEqual((await self.said())[0], {"call": 7, "end": True, "status": 3, "fault": "no answer"})
+        self.assertEqual((await self.said(True))[0], {"call": 7, "end": True, "status": 3, "fault": "no answer"})
 
     async def test_one_that_is_left_is_told_of_it_and_says_nothing(self) -> None:
         signal, ends = Signal(), list[str]()

@@ -113,11 +113,6 @@ class Keys:
                 self._given[key.number] = key
         self.is_stale = self._lines > len(self._keys)
 
-    @property
-    def numbers(self) -> Container[int]:
-        """The numbers of the records that have keys and aren't answered."""
-        return self._given
-
     def find(self, name: bytes, now: float) -> Key | None:
         """What is known of a key; None if it is free."""
         key = self._keys.get(name)

@@ -159,8 +159,9 @@ class Site(abc.ABC):
         is_past = not self.known.is_set
         while data := next_piece():
             for answer in self.reader.feed(data):
-                record, size = records.next()
-                if is_past and self.ledger.records + 1 not in self.keys.numbers and self.ledger.note_plain(record, answer, size):
+                (record, size), start = records.next(), self.ledger.out_bytes
+                if is_past and self.ledger.note_plain(record, answer, size):
+                    self.keys.note(self.ledger.records, record, answer, start)
                     continue
                 pending = next(given, None)
                 if self.known.is_set and (not pending or pending.record != record):
