@@ -135,7 +135,7 @@ class Site:
         check(self.read("out") == self.answers(self.kept()), f"{when}: out isn't the answers to kept")
 
 
-QUESTIONS = (b"?state\n", b"?list,users\n", b"?list,log\n", b"?row,user,0.1\n", b"?row,nickname,u2\n", b"?row,user\n", b"?list,tables\n", b'?list,"users\n', b"?\n", b"?users\n", b"?" + b"x" * 5000 + b"\n")
+QUESTIONS = (b"?state\n", b"?list,users\n", b"?list,log\n", b"?row,user,0.1\n", b"?row,nickname,u2\n", b"?row,user\n", b"?page,3,0,,list,users\n", b"?page,2,0,0.1,list,users\n", b"?page,9,1,3,list,log\n", b"?page,9,0,,list,tables\n", b"?list,tables\n", b'?list,"users\n', b"?\n", b"?users\n", b"?" + b"x" * 5000 + b"\n")
 
 
 def requests(dice: random.Random, made: list[int]) -> bytes:
@@ -266,6 +266,46 @@ def ask_questions(shop: Shop, dice: random.Random) -> str:
     old.ends_well("an older folder")
     check(b"?rows,2\n" in done.stdout, "an older folder: its question wasn't answered")
     return f"{count} questions left nothing"
+
+
+LISTINGS = (b"users", b"items,7", b"bids,0.3", b"purchases,0.3", b"comments,0.1", b"categories", b"log", b"misfits")
+
+
+def rows_of(site: Site, question: bytes) -> list[bytes]:
+    """The rows that answer a question, the last one that is asked."""
+    replies = site.run(question).stdout.splitlines()
+    at = max(place for place, line in enumerate(replies) if line.startswith(b"?"))
+    check(replies[at] == b"?rows,%d" % (len(replies) - at - 1), f"{question!r}: {replies[at]!r}")
+    return replies[at + 1:]
+
+
+def turn_pages(shop: Shop, dice: random.Random) -> str:
+    """All pages of each listing are the listing, whatever is asked first and of whatever length; and where records are answered between, a
+    page still begins behind the row of its name."""
+    site = shop.site("paged")
+    site.run(b"user,ann\nuser,bob\nitem,0.1,lamp,7,90,100,500\n" + b"".join(
+        dice.choice((b"bid,0.3,0.2,%d\n" % (100 + number), b"buy,0.3,0.2,1\n", b"comment,0.3,0.2,0.1,5,good\n", b"user,u%d\n" % number))
+        for number in range(80)))
+    count = 0
+    for listing in LISTINGS:
+        rows = rows_of(site, b"?list,%b\n" % listing)
+        names = [b".".join(row.split(b",")[2:4]) if listing == b"misfits" else row.split(b",")[2] for row in rows]
+        most = dice.randrange(1, 9)
+        asked = [(begin, b"%d,%b" % (dice.randrange(begin), names[begin - 1]) if begin else b"0,") for begin in range(0, len(rows) + 1, most)]
+        for begin, behind in dice.sample(asked, len(asked)):
+            between = dice.choice((b"", b"", b"?state\n", b"?page,2,0,,list,users\n", b"user,%b%d\n" % (listing.replace(b",", b"").replace(b".", b""), begin)))
+            page = rows_of(site, between + b"?page,%d,%b,list,%b\n" % (most, behind, listing))
+            wanted = rows[begin:begin + most]
+            # Records that were answered between may have added rows at the end, or changed those that are there.
+            check([row.split(b",")[2] for row in page][:len(wanted)] == [row.split(b",")[2] for row in wanted], f"{listing!r} behind {behind!r}: {page}")
+            count += 1
+    for behind in (b"0,9.9", b"81,0.1", b"0,0.1 ", b"4294967295,0.1"):
+        replies = site.run(b"?page,5,%b,list,users\n" % behind).stdout.splitlines()
+        check(replies[-1] == b"?refused,NoRow", f"behind {behind!r}: {replies[-1]!r}")
+    for form in (b"65537,0,,list,users", b"5,4294967296,,list,users", b"5,0,,list,tables", b"5,0,list,users", b"5,0,,user,eve", b"05,0,,list,users", b"5,0,,"):
+        replies = site.run(b"?page,%b\n" % form).stdout.splitlines()
+        check(replies[-1] == b"?refused,BadQuestion", f"{form!r}: {replies[-1]!r}")
+    return f"{count} pages are those of their listings"
 
 
 def without_replies(text: bytes) -> bytes:
@@ -596,6 +636,7 @@ def main() -> None:
             for done in (
                 lambda: kill_shops(shop, dice, lives),
                 lambda: ask_questions(shop, dice),
+                lambda: turn_pages(shop, dice),
                 lambda: tear_a_small_site(shop),
                 lambda: change_a_small_site(shop, dice),
                 lambda: fill_a_disk(shop),
