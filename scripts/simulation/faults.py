@@ -182,8 +182,11 @@ def server_goes(run: "Run", dice: random.Random, forget: Callable[[], None] | No
     run.disturb()
     server.go()
     if forget:
+        owners = list(server.owners)
         forget()
         run.note_losses()
+        # Where the server has lost the word of it, two machines run a site that was taken over, and neither can know that.
+        run.world.is_unreached |= any(owners[site] != server.owners[site] for site in run.world.taken_over)
 
     def come() -> None:
         server.come()
