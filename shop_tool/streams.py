@@ -306,8 +306,9 @@ class Streams:
         await pipe.execute()
 
 
-STEPS = {StandBy: "stand_by", SayYields: "say_yields", State: "state", Owner: "owner", Adopt: "adopt", Statuses: "statuses", Tell: "tell", SeeLife: "see_life", Append: "append",
-         Rewrite: "rewrite", PageOf: "page", Entries: "entries", Marks: "marks", Read: "read", Hear: "hear"}
+STEPS = {State: "state", Owner: "owner", Adopt: "adopt", Statuses: "statuses", Tell: "tell", SeeLife: "see_life", Append: "append",
+         Rewrite: "rewrite", StandBy: "stand_by", SayYields: "say_yields", PageOf: "page", Entries: "entries", Marks: "marks", Read: "read",
+         Hear: "hear"}
 
 
 def no_life() -> str:
