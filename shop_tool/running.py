@@ -172,7 +172,8 @@ def _print_status(shop: dict[str, Any]) -> None:
         rows.append([
             str(site["site"]), state_text(site), site["since"], str(site["records"]), str(site["messages"]), behind or "-",
             f"{site['published']}/{site['sent']}", str(site["waiting"]), str(site["starts"]), site["fault"] or "-"])
-    print_columns(rows, {"up": GREEN, "starting": YELLOW, "waiting": YELLOW, "away": YELLOW} | dict.fromkeys(["down", "fenced", "ended", "full", "silent"], RED))
+    colours = {"up": GREEN} | dict.fromkeys(["starting", "waiting", "away"], YELLOW)
+    print_columns(rows, colours | dict.fromkeys(["down", "fenced", "ended", "full", "silent"], RED))
     grid = grid_of_status(shop)
     if shop["sites"] > 1 and grid.columns:
         print(f"\n{grid_text(grid)}", end="")

@@ -321,8 +321,8 @@ class Streams:
         await pipe.execute()
 
 
-STEPS = {StandBy: "stand_by", SayYields: "say_yields", State: "state", Owner: "owner", Sites: "count_of_first", Adopt: "adopt", Statuses: "statuses",
-         Tell: "tell", SeeLife: "see_life", Append: "append", Rewrite: "rewrite", PageOf: "page", Entries: "entries", Marks: "marks", Read: "read",
+STEPS = {State: "state", Owner: "owner", Sites: "count_of_first", Adopt: "adopt", Statuses: "statuses", Tell: "tell", SeeLife: "see_life",
+         Append: "append", Rewrite: "rewrite", StandBy: "stand_by", SayYields: "say_yields", PageOf: "page", Entries: "entries", Marks: "marks", Read: "read",
          Hear: "hear"}
 
 

@@ -776,8 +776,8 @@ class Supervisor(Process, Shop):
         said = self.world.server.do(self, Statuses())
         return {(site.number, site.starts) for other in self.world.supervisors() if other.machine.name != self.machine.name
                 for site in other.sites.values()
-                if site.number not in self.sites and other.reaches() and isinstance(other.link, SimulatedServerLink) and not other.link.down and not other.is_leaving
-                and other.paused_until + 3 < self.clock.now
+                if site.number not in self.sites and other.reaches() and isinstance(other.link, SimulatedServerLink)
+                and not other.link.down and not other.is_leaving and other.paused_until + 3 < self.clock.now
                 and site.up.is_set and site.compared.is_set and not site.fenced_by and said.get(site.number, {}).get("state") == "up"}
 
     def _leave(self) -> Steps[None]:
