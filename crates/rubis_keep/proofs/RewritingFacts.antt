@@ -103,7 +103,7 @@ after-more : (r : Rewritten) (a b : List Rewriting) → after_some r (a ++ b) �
 after-more r [] b = refl
 after-more r (e ∷ a) b = after-more (after_one r e) a b
 
--- a front of these writes and of what follows them
+-- a prefix of these writes and of what follows them
 front-of : (bytes : List ℕ) (next first later : List Rewriting) → first ++ later ≡ Wrotes bytes ++ next
     → ((some : List ℕ) × (first ≡ Wrotes some)) ⊎ ((tail rest : List Rewriting) × (first ≡ Wrotes bytes ++ tail) × (tail ++ rest ≡ next))
 front-of bytes next [] later e = inl ([], refl)

@@ -82,7 +82,7 @@ MayHappen p s (Shortens j short) = MatchBool (j == p.site) (ShortensKept p s.kep
 MayHappen p s (Raises j keep) = MatchBool (j == p.site) (RaisesKeep p s keep) ⊤
 MayHappen p s (Does m) = ⊤
 
--- site i of so many, which keeps so many messages
+-- site i of a shop of `sites` sites, which keeps at most `keep` messages
 abbrev pub site_keeping : ℕ → ℕ → ℕ → Place
 site_keeping sites i keep = record { site = i; sites = sites; keep = keep }
 
@@ -104,7 +104,7 @@ answered_on sites i keep n (Does (Reads j fields) ∷ later) = answered_on sites
 answered_on sites i keep n (Does (Restarts j) ∷ later) = answered_on sites i keep n later
 answered_on sites i keep n (Does (Replays j fields) ∷ later) = answered_on sites i keep n later
 
--- what a site, which kept so many messages before these steps, has kept and takes then; and how many of these records were answered
+-- what a site has kept and takes after these steps, if it kept at most `keep` messages before them; and how many of these records were answered
 abbrev pub takes : ℕ → ℕ → ℕ → FileState → List Step → List (List (List ℕ))
 takes sites i keep s steps = taken_in (site_keeping sites i (keeps i keep steps)) (stands i s steps).flushed
 

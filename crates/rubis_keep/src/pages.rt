@@ -228,7 +228,7 @@ fn rows_behind(rows: &[Fields], place: usize) -> &[Fields]
     &rows[place.min(rows.len())..]
 }
 
-// The first rows, at most so many.
+// The first rows, `most` at most.
 fn first_rows(rows: &[Fields], most: u64) -> &[Fields]
     ensures { result.now ≡ take most rows.now }
 {
