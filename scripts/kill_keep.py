@@ -22,7 +22,8 @@ With --sync, 200 lives are killed at a flush of `kept` or end, where there is a 
 the names in its folder before it writes anything.
 
 Questions stand among the records of each life. Where each input of a site has some, `kept` and `out` are what they are without them, and so are
-the answers on standard output, but for those to questions. A line of that form in the `kept` of an older folder is a record.
+the answers on standard output, but for those to questions. A line of that form in the `kept` of an older folder is a record. A question has
+the same answer in whatever way CSV spells it.
 
 The seed is in the first line of the output, so that a run can be repeated; LIVES is 60 for the gate."""
 
@@ -306,6 +307,29 @@ def turn_pages(shop: Shop, dice: random.Random) -> str:
         replies = site.run(b"?page,%b\n" % form).stdout.splitlines()
         check(replies[-1] == b"?refused,BadQuestion", f"{form!r}: {replies[-1]!r}")
     return f"{count} pages are those of their listings"
+
+
+def spell_questions(shop: Shop) -> str:
+    """A question is one record of CSV, however it is spelled: with quotes around its fields, a carriage return at its end, or both, it has the
+    same answer. What only looks like one has none."""
+    site = shop.site("spelled")
+    site.run(b'user,ann\nuser,a b\nuser,"c,d"\nuser,"e""f"\nitem,0.1,"a, ""b""",7,3,10,100\nbid,0.5,0.2,20\n')
+
+    def answer(question: bytes) -> bytes:
+        said = site.run(question + b"\n").stdout
+        return said[said.index(b"\n") + 1:]
+
+    plain = [*(question[:-1] for question in QUESTIONS if b'"' not in question and len(question) < 100), b"?row,item,0.5", b"?row,bid,0.6",
+             b"?row,category,7", b"?row,nickname,a b", b"?row,user,0.9", b"?row,user,00.1", b"?row,user,0.1,", b"?row,,0.1", b"?,row,user,0.1", b"?row,user, 0.1"]
+    for question in plain:
+        quoted = b"?" + b",".join(b'"%b"' % field for field in question[1:].split(b",")) if question != b"?" else question
+        for spelled in (question + b"\r", quoted, quoted + b"\r", question.replace(b"row,", b'"row",')):
+            check(answer(spelled) == answer(question), f"{spelled!r}: {answer(spelled)!r}, and {question!r}: {answer(question)!r}")
+    check(answer(b"?row,user,0.1") == b"?row,user,0.1,ann,0,0,0,0\n", "a row by its id")
+    check(answer(b'?row,nickname,"c,d"') == answer(b'?row,nickname,"e""f"').replace(b'"e""f",0.4', b'"c,d",0.3'), "names that need quotes")
+    for other in (b"\xef?row,user,0.1", b"? row,user,0.1", b"?row;user;0.1", b'?row,user,"0.1" '):
+        check(b"row,user,0.1,ann" not in answer(other), f"{other!r}: {answer(other)!r}")
+    return f"{len(plain)} questions in five spellings"
 
 
 def without_replies(text: bytes) -> bytes:
@@ -636,6 +660,7 @@ def main() -> None:
             for done in (
                 lambda: kill_shops(shop, dice, lives),
                 lambda: ask_questions(shop, dice),
+                lambda: spell_questions(shop),
                 lambda: turn_pages(shop, dice),
                 lambda: tear_a_small_site(shop),
                 lambda: change_a_small_site(shop, dice),

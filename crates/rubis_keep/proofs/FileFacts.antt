@@ -41,12 +41,6 @@ consumes-more (Some x) None c xs ys f g = absurd f
 consumes-more (Some x) (Some y) None xs ys f g = absurd g
 consumes-more (Some x) (Some y) (Some z) xs ys f g = f ∙ ap (λ t. xs ++ t) g ∙ sym (append_assoc xs ys z)
 
-pub consumes-kept : (a b c : Option (List ℕ)) (xs : List ℕ) → Consumes a b xs → Keeps b c → Consumes a c xs
-consumes-kept None b c xs f k = tt
-consumes-kept (Some x) None c xs f k = absurd f
-consumes-kept (Some x) (Some y) None xs f k = absurd k
-consumes-kept (Some x) (Some y) (Some z) xs f k = f ∙ ap (λ t. xs ++ t) (sym k)
-
 -- ---- where texts differ
 
 pub differ-at : (xs ys : List ℕ) → length xs ≡ length ys → pointwise eqb xs ys ≡ false → DiffersFrom xs ys

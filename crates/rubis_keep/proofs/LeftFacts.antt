@@ -1,8 +1,8 @@
 -- What of an input was read and isn't looked at yet.
-use Rattle.std.proofs.Common.{◌≡◌, ◌≤◌, ◌+◌, ◌-◌, zero, suc, ◌∙◌, ◌++◌, [], ℕ, List, arith, length, Option, Some, None, drop, take, refl, sym, ap, append_assoc}
+use Rattle.std.proofs.Common.{◌≡◌, ◌≢◌, ◌<◌, ◌≤◌, ◌+◌, ◌∷◌, Bool, true, false, ◌-◌, zero, suc, ◌∙◌, ◌++◌, [], ℕ, List, arith, length, Option, Some, None, drop, take, refl, sym, ap, append_assoc}
 use Rattle.std.proofs.lemmas.List.{drop-drop, drop-take, length-take, take-append-drop}
 use Rattle.std.specs.Io.KnownBytes.{Consumes, IsAtEnd, Keeps}
-use Rattle.rubis_keep.specs.Kept.{left_of}
+use Rattle.rubis_keep.specs.Kept.{CameOrEnded, left_of}
 
 -- more was read
 pub left-filled : (unread : List ℕ) (input input2 : Option (List ℕ)) → Consumes input input2 unread → Consumes (left_of [] input) (left_of unread input2) []
@@ -40,3 +40,14 @@ take-none (suc n) = refl
 pub left-end : (unread : List ℕ) (input : Option (List ℕ)) → unread ≡ [] → IsAtEnd input → IsAtEnd (left_of unread input)
 left-end unread None e end = tt
 left-end unread (Some xs) e end = ap (λ t. t ++ xs) e ∙ end
+
+-- some are taken of some
+pub taken-some : (xs : List ℕ) (n : ℕ) → 0 < length xs → 0 < n → take n xs ≢ []
+taken-some [] n some more none = absurd (omega (arith, some))
+taken-some (x ∷ xs) zero some more none = absurd (omega (arith, more))
+taken-some (x ∷ xs) (suc n) some more none = cc none
+
+pub came-or-ended : (more : Bool) (input input2 : Option (List ℕ)) (bytes : List ℕ) → Consumes input input2 bytes → (more ≡ true → bytes ≢ [])
+    → (more ≡ false → IsAtEnd input2) → CameOrEnded more input input2
+came-or-ended true input input2 bytes taken some end = (bytes, taken, some refl)
+came-or-ended false input input2 bytes taken some end = end refl

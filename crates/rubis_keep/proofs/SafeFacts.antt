@@ -264,7 +264,7 @@ piece-safe {T} {E} more more2 number number2 before before2 old new1 new2 chunk 
 
 -- ---- a run goes on, or ends with a fault
 
-ok-of-err : {T E : Type 0} (P : Type 0) (r : Result T E) → IsErr r → OnOk r P
+pub ok-of-err : {T E : Type 0} (P : Type 0) (r : Result T E) → IsErr r → OnOk r P
 ok-of-err P (Ok x) e = absurd (cc e)
 ok-of-err P (Err x) e = tt
 

@@ -1,5 +1,5 @@
 -- What a run that keeps its records has read, kept and written.
-use Rattle.std.specs.Prelude.{◌≡◌, ◌≢◌, ◌≤◌, ◌+◌, ◌++◌, ◌⊎◌, [], ℕ, Bool, List, Option, None, Some, IfSome, drop, false, length, take}
+use Rattle.std.specs.Prelude.{◌≡◌, ◌≢◌, ◌≤◌, ◌+◌, ◌++◌, ◌⊎◌, [], ℕ, Bool, List, Option, None, Some, IfSome, MatchBool, drop, false, length, take}
 use Rattle.std.specs.Io.KnownBytes.{Appends, Consumes, IsAtEnd, Keeps, prepend_known}
 use Rattle.rubis_engine.specs.Accounts.{Account, Ending, Keeps as TextStays}
 use Rattle.rubis_engine.specs.Accounts.Ending.{AtEnd, Cut}
@@ -24,6 +24,10 @@ pub record TookPiece (asks : Bool) (line : List ℕ) (input input2 log log2 : Op
   pub kept : Appends log log2 chunk
   pub begun : begun2 ≡ begun_bytes (begun_after line bytes)
   pub end : more ≡ false → IsAtEnd input2 × (bytes ≡ [])
+
+-- some bytes of an input came; or it is at its end
+abbrev pub CameOrEnded : Bool → Option (List ℕ) → Option (List ℕ) → Type 0
+CameOrEnded more input input2 = MatchBool more ((bytes : List ℕ) × Consumes input input2 bytes × (bytes ≢ [])) (IsAtEnd input2)
 
 -- the next bytes of an input came, and a prefix of what is kept of them stands in the log
 abbrev pub KeptFront : Bool → List ℕ → Option (List ℕ) → Option (List ℕ) → Option (List ℕ) → Option (List ℕ) → Type 0

@@ -2,9 +2,9 @@
 use Rattle.std.specs.Prelude.{◌≡◌, [], ℕ, List, Option, OnOk, Result, Some, false, true}
 use Rattle.rubis_engine.specs.Accounts.{Account}
 use Rattle.rubis_engine.specs.Accounts.Ending.{AtEnd}
-use Rattle.rubis_keep.specs.Crashes.{IsLeft}
 use Rattle.rubis_keep.specs.History.{FileState, History, IsSafe, StaysSafe, now}
 use Rattle.rubis_keep.specs.Kept.{HasAnswered}
+use Rattle.rubis_keep.specs.Left.{IsLeft}
 use Rattle.rubis_keep.specs.Lines.{AreSound, begun_after}
 
 -- all that was kept is flushed, answered and shown: `all` is the account of all records, and `more` that of those to come

@@ -85,7 +85,7 @@ fn tell_all<F: SiteFiles>(files: &mut F, is_live: bool, text: &[u8]) -> Result<(
         }
         at += tell_once(files, is_live, &text[at..])?;
     }
-    Err(KeepFault::TooLong)
+    Err(KeepFault::WriteOut(io::Error::from(ErrorKind::Interrupted)))
 }
 
 // Finds a text in what stands there before, as far as that goes, and appends the rest. That many whole lines come before the text.

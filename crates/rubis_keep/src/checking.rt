@@ -7,8 +7,9 @@ ghost use Rattle.rubis_keep.specs.Places.{begun_bytes};
 
 use crate::fault::KeepFault;
 use crate::lines::{LINE_MAX, is_sound};
+use rubis_engine::read_through_signals;
 use std::alloc::{AllocError, Global};
-use std::io::{ErrorKind, Read};
+use std::io::Read;
 
 // How many bytes are read at once.
 const PIECE: usize = 65_536;
@@ -56,18 +57,14 @@ pub(crate) fn check_kept<C: Read>(alloc: Global, kept: &mut C) -> Result<(), Kee
     let mut begun = Vec::new(alloc);
     let mut lines = 0;
     for _turn in 0..u64::MAX {
-        match kept.read(&mut piece) {
+        match read_through_signals(kept, &mut piece) {
             Ok(0) => return Ok(()),
             Ok(given) => {
                 if !check_bytes(&mut begun, &piece[..given], &mut lines)? {
                     return Err(KeepFault::Edited(lines.saturating_add(1)));
                 }
             }
-            Err(e) => {
-                if e.kind() != ErrorKind::Interrupted {
-                    return Err(KeepFault::ReadKept(e));
-                }
-            }
+            Err(e) => return Err(KeepFault::ReadKept(e)),
         }
     }
     Err(KeepFault::TooLong)

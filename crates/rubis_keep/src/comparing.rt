@@ -5,8 +5,9 @@ ghost use Rattle.std.specs.Io.KnownBytes.{Keeps};
 ghost use Rattle.rubis_keep.specs.Files.{DiffersFrom, Found, IfDiffers};
 
 use crate::fault::{Difference, KeepFault};
+use rubis_engine::read_through_signals;
 use std::alloc::{AllocError, Global};
-use std::io::{ErrorKind, Read};
+use std::io::Read;
 
 // How many bytes are read of what stands there before at once.
 const AT_ONCE: usize = 4096;
@@ -124,12 +125,12 @@ pub(crate) fn compare<O: Read>(
 {
     let mut buffer = [0; AT_ONCE];
     let mut at = 0;
-    for _turn in 0..u64::MAX {
+    for _turn in 0..text.len() {
         if at >= text.len() {
             return Ok(at);
         }
         let most = AT_ONCE.min(text.len() - at);
-        match before.read(&mut buffer[..most]) {
+        match read_through_signals(before, &mut buffer[..most]) {
             Ok(0) => return Ok(at),
             Ok(given) => {
                 if !is_same(&buffer[..given], &text[at..at + given]) {
@@ -137,12 +138,8 @@ pub(crate) fn compare<O: Read>(
                 }
                 at += given;
             }
-            Err(e) => {
-                if e.kind() != ErrorKind::Interrupted {
-                    return Err(KeepFault::ReadOut(e));
-                }
-            }
+            Err(e) => return Err(KeepFault::ReadOut(e)),
         }
     }
-    Err(KeepFault::TooLong)
+    Ok(at)
 }

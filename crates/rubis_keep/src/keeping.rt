@@ -2,7 +2,7 @@
 
 ghost use Rattle.std.specs.Prelude.{◌≡◌, [], ℕ, List, IfOk, None, OnErr, true};
 ghost use Rattle.rubis_keep.specs.History.{HasKept};
-ghost use Rattle.rubis_keep.specs.Kept.{KeptFront, TookQuestion, left_of};
+ghost use Rattle.rubis_keep.specs.Kept.{CameOrEnded, KeptFront, TookQuestion, left_of};
 ghost use Rattle.rubis_keep.specs.Places.{begun_bytes};
 
 use crate::fault::KeepFault;
@@ -89,7 +89,7 @@ fn keep_lines<F: SiteFiles>(files: &mut F, chunk: &[u8]) -> io::Result<()>
             }
         }
     }
-    Err(io::Error::from(ErrorKind::Other))
+    Err(io::Error::from(ErrorKind::Interrupted))
 }
 
 /// Takes what comes next of an input, up to the end of its first question if it asks questions. `chunk` has then what is kept of
@@ -103,6 +103,7 @@ pub(crate) fn read_next<R: Read>(
     ensures ok { IfOk result (λ came. (line : List ℕ) → lines.old.cutter ≡ begun_bytes line
         → TookQuestion asks line (left_of lines.old.unread (R.remaining live.old)) (left_of lines.new.unread (R.remaining live.new)) lines.new.chunk.items
         lines.new.cutter came.more came.is_asked lines.new.question.items) }
+    ensures end { IfOk result (λ came. CameOrEnded came.more (left_of lines.old.unread (R.remaining live.old)) (left_of lines.new.unread (R.remaining live.new))) }
     ensures err { OnErr result ((line : List ℕ) → lines.old.cutter ≡ begun_bytes line
         → KeptFront asks line (left_of lines.old.unread (R.remaining live.old)) (left_of lines.new.unread (R.remaining live.new)) None None) }
     ensures others { (lines.new.kept ≡ lines.old.kept) × (lines.new.listed ≡ lines.old.listed) }

@@ -13,10 +13,10 @@ mod files;
 mod folder_fault;
 mod keep;
 mod keeping;
-mod laws;
 mod lines;
 mod pages;
 mod pieces;
+mod plain_lines;
 mod questions;
 mod replying;
 mod run;
@@ -34,11 +34,6 @@ pub use fault::{Difference, KeepFault};
 pub use folder_fault::FolderFault;
 pub use keep::{Wanted, keep_folder};
 pub use keeping::KeptLines;
-pub use laws::{
-    calls_make_lives, crash_and_restart, early_answers_are_unsafe, folders_are_a_run,
-    histories_are_runs, moments_leave_files, raised_keeps_tell_the_same, shop_lives_are_runs,
-    shortening_keeps_the_promise,
-};
 pub use lines::{Cut, LINE_MAX, LineCutter};
 pub use pages::{Listed, PAGE_MAX, Page};
 pub use questions::Question;

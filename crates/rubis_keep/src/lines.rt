@@ -1,10 +1,10 @@
 //! The lines of an input that comes in pieces.
 
-ghost use Rattle.std.specs.Prelude.{◌≡◌, ◌&&◌, ◌++◌, ◌∷◌, [], ◌≤◌, ◌+◌, ℕ, List, IfOk, OnOk, false, length, not, take, true};
+ghost use Rattle.std.specs.Prelude.{◌≡◌, ◌&&◌, ◌++◌, ◌∷◌, [], ◌<◌, ◌≤◌, ◌+◌, ℕ, List, IfOk, OnOk, false, length, not, take, true};
 ghost use Rattle.csv.specs.Reading.{default_config};
 ghost use Rattle.csv.specs.Machine.{step};
 ghost use Rattle.csv.specs.declared.parser.State.{State};
-ghost use Rattle.rubis_keep.specs.Lines.{begun_after, closes, is_question, is_sound, kept_line, kept_record};
+ghost use Rattle.rubis_keep.specs.Lines.{begun_after, closes, is_marked, is_question, is_sound, kept_line, kept_record};
 ghost use Rattle.rubis_keep.specs.Cuts.{CutsLines};
 ghost use Rattle.rubis_keep.specs.Places.{StandsIn, begun_bytes, has_quote, plain_place};
 
@@ -95,11 +95,18 @@ pub(crate) fn closes(line: &[u8]) -> bool
     place != Place::Quoted
 }
 
+/// Whether a line begins as a byte order mark does.
+pub(crate) fn is_marked(line: &[u8]) -> bool
+    ensures { result ≡ is_marked line.now }
+{
+    line.first() == Some(&0xEF)
+}
+
 /// Whether a line is kept as it is.
 pub(crate) fn is_sound(line: &[u8]) -> bool
     ensures { result ≡ is_sound line.now }
 {
-    line.len() <= LINE_MAX && closes(line) && line.first() != Some(&0xEF)
+    line.len() <= LINE_MAX && closes(line) && !is_marked(line)
 }
 
 // Whether a line is a question.
@@ -196,7 +203,8 @@ fn take_bytes(
     question: &mut Vec<u8>,
 ) -> Result<Cut, AllocError>
     ensures asks { IfOk result (λ cut. cut.is_asked ≡ true → asks ≡ true) }
-    ensures bound { IfOk result (λ cut. (cut.taken ≤ length piece.now) × (cut.is_asked ≡ false → cut.taken ≡ length piece.now)) }
+    ensures bound { IfOk result (λ cut. (cut.taken ≤ length piece.now) × (cut.is_asked ≡ false → cut.taken ≡ length piece.now)
+        × (0 < length piece.now → 0 < cut.taken)) }
     ensures cut { IfOk result (λ cut. (line : List ℕ) → begun.old.items ≡ begun_bytes line
         → CutsLines asks line (take cut.taken piece.now) begun.new.items kept.old.items kept.new.items cut.is_asked question.new.items) }
 {
@@ -236,7 +244,8 @@ impl LineCutter {
         question: &mut Vec<u8>,
     ) -> Result<Cut, AllocError>
         ensures asks { IfOk result (λ cut. cut.is_asked ≡ true → asks ≡ true) }
-        ensures bound { IfOk result (λ cut. (cut.taken ≤ length piece.now) × (cut.is_asked ≡ false → cut.taken ≡ length piece.now)) }
+        ensures bound { IfOk result (λ cut. (cut.taken ≤ length piece.now) × (cut.is_asked ≡ false → cut.taken ≡ length piece.now)
+        × (0 < length piece.now → 0 < cut.taken)) }
         ensures cut { IfOk result (λ cut. (line : List ℕ) → self.old ≡ begun_bytes line
             → CutsLines asks line (take cut.taken piece.now) self.new kept.old.items kept.new.items cut.is_asked question.new.items) }
     {

@@ -14,7 +14,7 @@ ghost use Rattle.rubis_keep.specs.declared.pages.TheConstants.{PAGE_MAX, PLACE_M
 use crate::clerk::Clerk;
 use crate::fault::KeepFault;
 use crate::showing::{refuse, show_count};
-use rubis_engine::{InputRecord, OutOfMemory, Sink};
+use rubis_engine::{OutOfMemory, Sink};
 use rubis_message::{ReadFault, Request, read_request};
 use rubis_schema::{Fields, Items, Listing, Record, Text, read_number};
 use rubis_script::{Gate, write_rows};
@@ -51,7 +51,7 @@ pub struct Listed {
 // The fields of a record without the first ones.
 #[derive(Drop)]
 struct LaterFields<'a> {
-    fields: &'a InputRecord,
+    fields: &'a Fields,
     first: usize,
 }
 
@@ -85,7 +85,7 @@ fn has_pages(listing: &Listing) -> bool
 // The listing with pages for which the fields of a record ask, but for the first four.
 fn read_listing(
     alloc: Global,
-    fields: &InputRecord,
+    fields: &Fields,
     sites: u8,
 ) -> Result<Option<Listing>, OutOfMemory>
     ensures { IfOk result (λ listing. listing ≡ paged_by (request_of sites (drop 4 fields.now))) }
@@ -137,7 +137,7 @@ fn page_with(
 /// The page for which a record asks, if it does.
 pub(crate) fn read_page(
     alloc: Global,
-    fields: &InputRecord,
+    fields: &Fields,
     sites: u8,
 ) -> Result<Option<Page>, OutOfMemory>
     ensures { IfOk result (λ page. page ≡ page_asked sites fields.now) }

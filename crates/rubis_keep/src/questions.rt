@@ -1,6 +1,6 @@
 //! Questions, and what a site answers to them.
 
-ghost use Rattle.std.specs.Prelude.{◌≡◌, ◌≤◌, ◌++◌, ◌∷◌, [], IfOk, MatchBool, Some, drop, length};
+ghost use Rattle.std.specs.Prelude.{◌≡◌, ◌≤◌, ◌++◌, ◌∷◌, [], IfOk, MatchBool, Some, length};
 ghost use Rattle.rubis_model.specs.Settle.{counted};
 ghost use Rattle.rubis_model.specs.Site.{rows_at};
 ghost use Rattle.rubis_replica.specs.Progress.{resting_at};
@@ -15,11 +15,12 @@ use crate::counts::push_counts;
 use crate::fault::KeepFault;
 use crate::lines::{LINE_MAX, closes};
 use crate::pages::{Listed, Page, read_page, turn_page};
+use crate::plain_lines::{behind_first, read_plain};
 use crate::showing::{refuse, row, show_counted};
-use rubis_engine::{InputRecord, OutOfMemory, Records, Sink};
+use rubis_engine::{OutOfMemory, Records, Sink};
 use rubis_message::{ReadFault, Request, read_request};
 use rubis_replica::put_record;
-use rubis_schema::{CAT_MAX, Counted, Fields, Id, Listing, Nick, Record, Row, RowKey, read_number};
+use rubis_schema::{CAT_MAX, Counted, Fields, Id, Listing, Nick, Row, RowKey, read_number};
 use rubis_script::{Fault, Gate};
 use std::alloc::{AllocError, Global};
 use std::sync::Wait;
@@ -38,15 +39,8 @@ pub enum Question {
     State,
 }
 
-// A line without its first byte.
-fn behind_mark(line: &[u8]) -> &[u8]
-    ensures { result.now ≡ drop 1 line.now }
-{
-    if line.is_empty() { line } else { &line[1..] }
-}
-
 // Whether the fields are the word `state` alone.
-fn says_state(fields: &InputRecord) -> bool
+fn says_state(fields: &Fields) -> bool
     ensures { result ≡ says_state fields.now }
 {
     match (fields.len(), fields.field(0)) {
@@ -79,7 +73,7 @@ fn read_key(table: &[u8], name: &[u8], sites: u8) -> Option<RowKey>
 }
 
 // The row that a record asks for, if it does.
-fn read_row(fields: &InputRecord, sites: u8) -> Option<RowKey>
+fn read_row(fields: &Fields, sites: u8) -> Option<RowKey>
     ensures { result ≡ row_asked sites fields.now }
 {
     match (
@@ -101,7 +95,7 @@ fn read_row(fields: &InputRecord, sites: u8) -> Option<RowKey>
 // What a record asks, if it is a question.
 fn read_question(
     alloc: Global,
-    fields: &InputRecord,
+    fields: &Fields,
     sites: u8,
 ) -> Result<Option<Question>, OutOfMemory>
     ensures { IfOk result (λ asked. asked ≡ question_of sites fields.now) }
@@ -131,11 +125,11 @@ fn question_in(alloc: Global, text: &[u8], sites: u8) -> Result<Option<Question>
     if !records.advance()? {
         return Ok(None);
     }
-    let asked = read_question(alloc, records.fields(), sites)?;
+    let fields = records.fields().to_fields(alloc)?;
     if records.advance()? {
         return Ok(None);
     }
-    Ok(asked)
+    Ok(read_question(alloc, &fields, sites)?)
 }
 
 // A line with its end.
@@ -147,10 +141,14 @@ fn with_end(alloc: Global, line: &[u8]) -> Result<Vec<u8>, AllocError>
     Ok(text)
 }
 
-// What a line asks: the text after its '?'.
+// What a line asks: the text after its '?'. Most lines are read without a reader of CSV, which takes several times as long to make as a
+// row to find.
 fn read_line(alloc: Global, rest: &[u8], sites: u8) -> Result<Option<Question>, KeepFault>
     ensures { IfOk result (λ asked. asked ≡ question_in sites (input_records (rest.now ++ 10 ∷ []))) }
 {
+    if let Some(fields) = read_plain(alloc, rest)? {
+        return Ok(read_question(alloc, &fields, sites)?);
+    }
     let text = with_end(alloc, rest)?;
     question_in(alloc, &text, sites)
 }
@@ -271,7 +269,7 @@ pub(crate) fn answer<G: Gate, T: Threads + Wait + Sync>(
     if line.len() > LINE_MAX {
         return Ok(refuse(clerk.alloc, b"TooLong")?);
     }
-    let rest = behind_mark(line);
+    let rest = behind_first(line);
     if !closes(rest) {
         return Ok(refuse(clerk.alloc, b"OpenQuote")?);
     }

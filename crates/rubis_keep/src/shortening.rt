@@ -16,11 +16,11 @@ ghost use Rattle.rubis_keep.specs.Shortened.{IsShort, Shortens, TakesRecord, Tak
 
 use crate::fault::KeepFault;
 use crate::writing::write_front;
-use rubis_engine::{InputRecord, OutOfMemory, Records};
+use rubis_engine::{InputRecord, OutOfMemory, Records, read_through_signals};
 use rubis_message::{Arrival, Input, Message, Packet, Request, Taken, Token};
 use rubis_script::{Config, Desk, Fault, Free, Gate, Site};
 use std::alloc::{AllocError, Global};
-use std::io::{ErrorKind, Read, Write};
+use std::io::{Read, Write};
 use std::mem;
 use std::sync::Wait;
 use std::thread::Threads;
@@ -222,7 +222,7 @@ fn shorten_at<G: Gate, T: Threads + Wait + Sync, P: Read, W: Write>(
     let mut text = Vec::new(alloc);
     let mut piece = [0; PIECE];
     for _turn in 0..u64::MAX {
-        match past.read(&mut piece) {
+        match read_through_signals(past, &mut piece) {
             Ok(0) => return Ok(()),
             Ok(given) => {
                 text.clear();
@@ -231,11 +231,7 @@ fn shorten_at<G: Gate, T: Threads + Wait + Sync, P: Read, W: Write>(
                     return Err(KeepFault::WriteKept(e));
                 }
             }
-            Err(e) => {
-                if e.kind() != ErrorKind::Interrupted {
-                    return Err(KeepFault::ReadKept(e));
-                }
-            }
+            Err(e) => return Err(KeepFault::ReadKept(e)),
         }
     }
     Err(KeepFault::TooLong)

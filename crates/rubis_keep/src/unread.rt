@@ -1,12 +1,13 @@
 //! What of an input was read and isn't looked at yet.
 
-ghost use Rattle.std.specs.Prelude.{◌≡◌, ◌≤◌, [], IfOk, drop, false, length};
+ghost use Rattle.std.specs.Prelude.{◌≡◌, ◌<◌, ◌≤◌, [], IfOk, drop, false, length, true};
 ghost use Rattle.std.specs.Io.KnownBytes.{Consumes, IsAtEnd};
 ghost use Rattle.rubis_keep.specs.Kept.{left_of};
 
 use crate::fault::KeepFault;
+use rubis_engine::read_through_signals;
 use std::alloc::{AllocError, Global};
-use std::io::{ErrorKind, Read};
+use std::io::Read;
 use std::marker::Model;
 
 // How many bytes are read at once.
@@ -53,29 +54,24 @@ impl Unread {
         self.end = 0;
     }
 
-    /// Reads the next bytes of an input, if all are looked at. Whether the input goes on.
+    /// Reads the next bytes of an input, if all are looked at. Whether there are any.
     pub(crate) fn fill<R: Read>(&mut self, live: &mut R) -> Result<bool, KeepFault>
         ensures same { Consumes (left_of self.old (R.remaining live.old)) (left_of self.new (R.remaining live.new)) [] }
         ensures end { IfOk result (λ more. more ≡ false → (self.new ≡ []) × IsAtEnd (R.remaining live.new)) }
+        ensures more { IfOk result (λ more. more ≡ true → 0 < length self.new) }
     {
         if self.at < self.end {
             return Ok(true);
         }
         self.clear();
-        match live.read(&mut self.piece) {
+        match read_through_signals(live, &mut self.piece) {
             Ok(0) => Ok(false),
             Ok(given) => {
                 self.at = 0;
                 self.end = given;
                 Ok(true)
             }
-            Err(e) => {
-                if e.kind() == ErrorKind::Interrupted {
-                    Ok(true)
-                } else {
-                    Err(KeepFault::ReadInput(e))
-                }
-            }
+            Err(e) => Err(KeepFault::ReadInput(e)),
         }
     }
 

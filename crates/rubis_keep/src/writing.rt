@@ -27,5 +27,5 @@ pub(crate) fn write_front<W: Write>(writer: &mut W, bytes: &[u8]) -> Result<(), 
             }
         }
     }
-    Err(io::Error::from(ErrorKind::Other))
+    Err(io::Error::from(ErrorKind::Interrupted))
 }

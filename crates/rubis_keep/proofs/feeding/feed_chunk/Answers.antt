@@ -1,11 +1,19 @@
-use Rattle.std.proofs.Common.{◌+◌}
+use Rattle.std.proofs.Common.{◌∙◌, ◌+◌, sym}
 use Rattle.rubis_engine.proofs.RunFacts.{on_ok_both}
 use Rattle.rubis_engine.specs.Text.{input_records}
 use Rattle.rubis_keep.proofs.AskFacts.{chunk-led}
+use Rattle.rubis_keep.proofs.EmptyFacts.{led-nowhere, no-bytes, rest-stays}
 use Rattle.rubis_keep.proofs.EachFacts.{chunk-feeds, chunk-finish-ends, chunk-rest, on_err, on_err_weaker}
 use Rattle.rubis_keep.proofs.HistoryFacts.{told-failed, told-more}
 use Rattle.rubis_keep.proofs.TellingFacts.{none-told, rests-told}
 use Rattle.rubis_keep.proofs.feeding.feed_chunk.Goals as goal
+
+pub returns-then-is_empty-clause-ok : goal.returns-then-is_empty-clause-ok
+returns-then-is_empty-clause-ok g c = rest-stays _ _ _ _ c.args.chunk.now (no-bytes c.args.chunk.now (sym c.is_empty.ensures ∙ c.if-is_empty.true))
+
+pub returns-then-is_empty-clause-leads : goal.returns-then-is_empty-clause-leads
+returns-then-is_empty-clause-leads g c =
+    led-nowhere c.args.clerk.now.desk.site _ c.args.chunk.now (no-bytes c.args.chunk.now (sym c.is_empty.ensures ∙ c.if-is_empty.true))
 
 pub returns-in_err-feed_records-clause-err : goal.returns-in_err-feed_records-clause-err
 returns-in_err-feed_records-clause-err g c =

@@ -1,4 +1,4 @@
-use Rattle.std.proofs.Common.{[], ◌+◌, refl, subst}
+use Rattle.std.proofs.Common.{[], ◌∙◌, ◌+◌, ap, refl, subst}
 use Rattle.std.proofs.lemmas.Bool.{MatchBool-at_false, MatchBool-at_true}
 use Rattle.rubis_engine.specs.Accounts.{AnswersRecord}
 use Rattle.rubis_engine.specs.Reading.{fields_now}
@@ -14,16 +14,13 @@ use Rattle.rubis_keep.proofs.feeding.feed_records.Goals as goal
 pub returns-in_err-answer_next-clause-err : goal.returns-in_err-answer_next-clause-err
 returns-in_err-answer_next-clause-err g c = on_err _ (each-ends _ _ _ _ _ _ _ _ _ _ _ _ _ c.loop-turn.invariant.feeds)
 
-pub returns-clause-err : goal.returns-clause-err
-returns-clause-err g c = each-ends _ _ _ _ _ _ _ _ _ _ _ _ _ c.loop-turn.invariant.feeds
-
-pub returns-then-clerk-clause-ok : goal.returns-then-clerk-clause-ok
-returns-then-clerk-clause-ok g c =
+pub returns-clause-ok : goal.returns-clause-ok
+returns-clause-ok g c =
     ok_then c.stop.result c.stop.ensures.ok
     (λ s. rw (s.1, s.2) (each-end _ _ c.loop-turn.records c.stop.new.records _ _ _ _ _ _ _ _ _ _ _ _ c.loop-turn.invariant.feeds s.0 refl refl))
 
-pub returns-then-clerk-clause-err : goal.returns-then-clerk-clause-err
-returns-then-clerk-clause-err g c =
+pub returns-clause-err : goal.returns-clause-err
+returns-clause-err g c =
     on_err_weaker c.stop.result (each-finish-ends _ _ _ _ _ _ _ _ _ _ _ _ _ _ _ _ c.loop-turn.invariant.feeds) c.stop.ensures.err
 
 pub returns-then-not-branch-clause-ok : goal.returns-then-not-branch-clause-ok
@@ -47,13 +44,10 @@ returns-in_err-put_sink-clause-told g c =
     told-more _ _ _ _ _ _ c.from_residual-in_err-put_sink.result before.0 before.1.0 before.1.1
     (told-failed _ _ _ _ c.from_residual-in_err-put_sink.result c.from_residual-in_err-put_sink.ensures.0 c.in_err-put_sink.ensures.told)
 
-pub returns-then-clerk-clause-told : goal.returns-then-clerk-clause-told
-returns-then-clerk-clause-told g c =
+pub returns-clause-told : goal.returns-clause-told
+returns-clause-told g c =
     let before = c.loop-turn.invariant.told in
     told-more _ _ _ _ _ _ c.stop.result before.0 before.1.0 before.1.1 c.stop.ensures.told
-
-pub returns-clause-told : goal.returns-clause-told
-returns-clause-told g c = let before = c.loop-turn.invariant.told in (before.0, (before.1.0, [], before.1.1))
 
 pub loop-turn-preserved : goal.loop-turn-preserved
 loop-turn-preserved g c =
@@ -64,6 +58,10 @@ loop-turn-preserved g c =
     (fields_now c.answer_next.new.records)) found.2 found.1 in
     let step = each-step _ _ c.loop-turn.records c.answer_next.new.records _ _ _ _ _ _ _ _ _ _ _ _ c.loop-turn.invariant.feeds found.0 answers in
     record {
+      counted = elim c.if-is_full.branch [
+        | then-is_full+in_ok-put_sink w ↦ rw w.clerk-is (found.2 ∙ ap (λ n. n + 1) c.loop-turn.invariant.counted)
+        | else-is_full w ↦ rw w.clerk-is (found.2 ∙ ap (λ n. n + 1) c.loop-turn.invariant.counted)
+      ];
       feeds = elim c.if-is_full.branch [
         | then-is_full+in_ok-put_sink w ↦
             rw (w.clerk-is, w.answers-is, w.put_sink.ensures.sink, found.2) (each-put _ _ _ _ _ _ _ _ _ _ _ _ _ _ _ step w.in_ok-put_sink.ensures.ok)
@@ -83,13 +81,14 @@ loop-turn-preserved g c =
 
 pub loop-turn-init : goal.loop-turn-init
 loop-turn-init g c = record {
+  counted = refl;
   feeds = λ all told old out0 kept p. p;
   told = (refl, ([], tells-none _ _));
   led = λ all gives. feed-starts _ c.args.records.now _ _ _ all gives;
 }
 
-pub returns-then-clerk-clause-leads : goal.returns-then-clerk-clause-leads
-returns-then-clerk-clause-leads g c =
+pub returns-clause-leads : goal.returns-clause-leads
+returns-clause-leads g c =
     ok_then c.stop.result c.stop.ensures.ok
     (λ s. rw s.1 (λ all gives. feed-ends _ c.loop-turn.records c.stop.new.records _ _ _ _ _ _ all (c.loop-turn.invariant.led all gives) s.0))
 

@@ -14,6 +14,7 @@ invariant-loop-turn g l =
     let old = l.fn.clerk.desk in
     let new = l.clerk.desk in
     record {
+      counted : new.answered ≡ l._turn;
       feeds : InEachFeed rem l.fn.records (left_at old) (before l.fn.answers.before)
           (out l.fn.answers.files) old.reply.sink (old.answered + 1)
           (λ all told old out0 kept. Feeds rem l.records all (left_at new) told old (before l.answers.before) out0

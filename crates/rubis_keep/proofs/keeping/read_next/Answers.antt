@@ -1,7 +1,7 @@
 use Rattle.std.proofs.Common.{◌≡◌, ◌∙◌, ◌++◌, ap, drop, sym, take}
 use Rattle.rubis_keep.specs.Cuts.{asked_by}
 use Rattle.rubis_keep.specs.Lines.{kept_after}
-use Rattle.rubis_keep.proofs.LeftFacts.{drop-none, left-end, left-taken, take-none}
+use Rattle.rubis_keep.proofs.LeftFacts.{came-or-ended, drop-none, left-end, left-taken, take-none, taken-some}
 use Rattle.rubis_keep.proofs.keeping.read_next.Goals as goal
 
 pub returns-clause-ok : goal.returns-clause-ok
@@ -23,3 +23,12 @@ returns-clause-ok g c line h =
       },
       λ done. cut.questions done ∙ ap (λ k. asked_by c.in_ok-cut.cut.is_asked (done ++ k) c.take.new.question.items) (sym holds),
     )
+
+pub returns-clause-end : goal.returns-clause-end
+returns-clause-end g c =
+    let piece = c.fill.new.self in
+    let n = c.in_ok-cut.cut.taken in
+    let bound = rw c.bytes.ensures at c.in_ok-cut.ensures.bound in
+    came-or-ended c.in_ok-more.more _ _ (take n piece) (rw c.pass.ensures (left-taken piece n _ _ c.in_ok-more.ensures.same))
+    (λ e. let some = c.in_ok-more.ensures.more e in taken-some piece n some (bound.2 some))
+    (λ e. let none = c.in_ok-more.ensures.end e in rw c.pass.ensures (left-end (drop n piece) _ (ap (drop n) none.0 ∙ drop-none n) none.1))

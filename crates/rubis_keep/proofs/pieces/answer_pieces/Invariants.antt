@@ -2,8 +2,8 @@ use Rattle.std.proofs.Common.{◌≡◌, ◌+◌, [], ℕ, List, false, true}
 use Rattle.rubis_script.specs.SiteRuns.{told_by}
 use Rattle.rubis_keep.specs.History.{Tells, log_of, out_in}
 use Rattle.rubis_keep.specs.Lives.{Lives}
-use Rattle.rubis_keep.specs.Pages.{AreListed}
-use Rattle.rubis_keep.specs.Kept.{InEachStand, IsBegun, Stands, left_of}
+use Rattle.rubis_keep.specs.Standing.{IsAtRest, standing}
+use Rattle.rubis_keep.specs.Kept.{InEachStand, Stands, left_of}
 use Rattle.rubis_keep.specs.Asking.{Asks, OfEachAsking}
 use Rattle.rubis_keep.proofs.pieces.answer_pieces.Given as goal
 
@@ -15,10 +15,7 @@ invariant-loop-turn g l =
     let old = l.fn.clerk in
     let new = l.clerk in
     record {
-      window : new.desk.window.items ≡ [];
-      empty : new.desk.reply.sink ≡ [];
-      begun : IsBegun l.lines.cutter;
-      listed : AreListed new.desk.site.state l.lines.listed;
+      rests : IsAtRest (standing input before history l.live l.lines l.clerk l.answers);
       stands : InEachStand l.keeps (told_by old.desk.site (old.desk.answered + 1)) (left_of l.fn.lines.unread (input l.fn.live)) (log_of l.keeps (history l.fn.answers.files)) (before l.fn.answers.before)
           (out_in (history l.fn.answers.files)) l.fn.lines.cutter (old.desk.answered + 1) l.fn.lines.kept
           (λ all told old base line input0 log0 out0 len0. Stands l.keeps all (told_by new.desk.site (new.desk.answered + 1)) told old base line input0 (left_of l.lines.unread (input l.live)) log0

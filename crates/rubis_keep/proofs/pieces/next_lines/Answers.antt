@@ -4,149 +4,123 @@ use Rattle.rubis_keep.specs.Pages.{AreListed}
 use Rattle.rubis_keep.proofs.AskFacts.{each-asks, each-fails, each-fails-unread, front-silent, kept-silent, on_fault, silent-more, silent-none, told-silent}
 use Rattle.rubis_keep.proofs.EachFacts.{on_err}
 use Rattle.rubis_keep.proofs.FileFacts.{appends-kept}
-use Rattle.rubis_keep.proofs.HistoryFacts.{kept-log, kept-out, told-after, told-failed, told-log, tells-after, tells-none, torn-log, torn-out}
+use Rattle.rubis_keep.proofs.HistoryFacts.{kept-log, kept-out, told-after, told-failed, told-log, told_none, tells-after, tells-none, torn-log, torn-out}
 use Rattle.rubis_keep.proofs.PageFacts.{listed-after}
-use Rattle.rubis_keep.proofs.SafeFacts.{lives-err, lives-known, lives-none, lives-torn, piece-lines, piece-safe, piece-unanswered}
+use Rattle.rubis_keep.proofs.SafeFacts.{lives-err, lives-known, lives-none, lives-torn, ok-of-err, piece-lines, piece-safe, piece-unanswered}
 use Rattle.rubis_keep.proofs.SoundFacts.{begun-no-end}
 use Rattle.rubis_keep.proofs.StandFacts.{each-kept, each-more, each-torn, each-unanswered, each-unkept, took-kept, took-whole, torn-front, unanswered-kept, unread-front}
 use Rattle.rubis_keep.proofs.pieces.next_lines.Goals as goal
 
-pub returns-in_err-came-clause-err : goal.returns-in_err-came-clause-err
-returns-in_err-came-clause-err g c = on_err _ (each-unkept _ _ _ _ _ _ _ _ _ _ _ (λ line e. unread-front _ line _ _ _ (c.in_err-came.ensures.err line e)))
+-- nothing came
+pub returns-in_err-came-clause-goes : goal.returns-in_err-came-clause-goes
+returns-in_err-came-clause-goes g c = record {
+  rests = ok-of-err _ c.from_residual.result c.from_residual.ensures.0;
+  ok = ok-of-err _ c.from_residual.result c.from_residual.ensures.0;
+  err = on_err _ (each-unkept _ _ _ _ _ _ _ _ _ _ _ (λ line e. unread-front _ line _ _ _ (c.in_err-came.ensures.err line e)));
+  live = refl;
+  told = λ off. told_none _ _ c.from_residual.result;
+  safe = λ keeps live. lives-none _ _ _ _ _ _ _ c.from_residual.result c.from_residual.ensures.0;
+  asked = on_fault _ c.from_residual.result c.from_residual.ensures.0 (each-fails-unread _ _ _ _ _ _ _ _ c.in_err-came.ensures.err (silent-none _));
+}
 
-pub returns-in_err-keep_chunk-clause-err : goal.returns-in_err-keep_chunk-clause-err
-returns-in_err-keep_chunk-clause-err g c =
-    let torn = rw c.deref.ensures.value at c.in_err-keep_chunk.ensures in
-    on_err _ (each-torn _ _ _ _ _ _ _ _ _ _ _ _ (torn-out _ _ _ _ torn.3)
-    (λ line e. torn-front _ line _ _ _ _ _ _ _ (c.in_ok-came.ensures.ok line e).0 (torn-log _ _ _ _ torn.0 torn.1 torn.2 torn.3)))
-
-pub returns-in_default-clause-err : goal.returns-in_default-clause-err
-returns-in_default-clause-err g c =
+-- what came could not be kept
+pub returns-in_err-keep_chunk-clause-goes : goal.returns-in_err-keep_chunk-clause-goes
+returns-in_err-keep_chunk-clause-goes g c =
     let begun = c.requires.begun in
+    let t = (c.in_ok-came.ensures.ok begun.0 begun.2).0 in
+    let torn = rw c.deref.ensures.value at c.in_err-keep_chunk.ensures in
+    let bad = c.from_residual-in_err-keep_chunk.ensures.0 in
+    record {
+      rests = ok-of-err _ c.from_residual-in_err-keep_chunk.result bad;
+      ok = ok-of-err _ c.from_residual-in_err-keep_chunk.result bad;
+      err = on_err _ (each-torn _ _ _ _ _ _ _ _ _ _ _ _ (torn-out _ _ _ _ torn.3)
+          (λ line e. torn-front _ line _ _ _ _ _ _ _ (c.in_ok-came.ensures.ok line e).0 (torn-log _ _ _ _ torn.0 torn.1 torn.2 torn.3)));
+      live = refl;
+      told = λ off. absurd (cc (off, c.in_err-keep_chunk.ensures.0));
+      safe = λ keeps live. lives-torn _ _ _ _ _ _ _ _ c.read_next.new.lines.chunk.items torn.1 c.from_residual-in_err-keep_chunk.result bad
+          (piece-lines _ begun.0 t.bytes _ begun.1 t.holds) torn.3;
+      asked = on_fault _ c.from_residual-in_err-keep_chunk.result bad (each-fails _ _ _ _ _ _ _ _ _ _ _ _ _ c.in_ok-came.ensures.ok (front-silent _ _ _ c.in_err-keep_chunk.ensures.3));
+    }
+
+-- what is kept is longer than can be said
+pub returns-in_default-clause-goes : goal.returns-in_default-clause-goes
+returns-in_default-clause-goes g c =
+    let begun = c.requires.begun in
+    let t = (c.in_ok-came.ensures.ok begun.0 begun.2).0 in
     let kept = rw c.deref.ensures.value at c.in_ok-keep_chunk.ensures in
-    each-unanswered _ _ _ _ _ _ _ _ _ _ _ c.read_next.new.lines.chunk.items _ _ _
-    (λ line e. took-kept _ line _ _ _ _ _ _ _ (c.in_ok-came.ensures.ok line e).0 (kept-log _ _ _ _ kept))
-    (unanswered-kept _ _ _ _ _ _ (kept-out _ _ _ _ kept) (took-whole _ begun.0 [] _ _ _ _ _ _ _ (c.in_ok-came.ensures.ok begun.0 begun.2).0))
+    record {
+      rests = tt;
+      ok = tt;
+      err = each-unanswered _ _ _ _ _ _ _ _ _ _ _ c.read_next.new.lines.chunk.items _ _ _
+          (λ line e. took-kept _ line _ _ _ _ _ _ _ (c.in_ok-came.ensures.ok line e).0 (kept-log _ _ _ _ kept))
+          (unanswered-kept _ _ _ _ _ _ (kept-out _ _ _ _ kept) (took-whole _ begun.0 [] _ _ _ _ _ _ _ t));
+      live = refl;
+      told = λ off. (refl, ([], [], tells-after _ _ _ _ [] [] (rw off at c.in_ok-keep_chunk.ensures) (tells-none _ _)));
+      safe = λ keeps live all h is rested.
+          (piece-unanswered all _ _ _ h _ c.read_next.new.lines.chunk.items rested (piece-lines _ begun.0 t.bytes _ begun.1 t.holds) (rw is at (rw keeps at kept)), tt);
+      asked = each-fails _ _ _ _ _ _ _ _ _ _ _ _ _ c.in_ok-came.ensures.ok (kept-silent _ _ _ _ c.in_ok-keep_chunk.ensures);
+    }
 
 pub feed_chunk-requires-clause-whole : goal.feed_chunk-requires-clause-whole
 feed_chunk-requires-clause-whole g c κs within =
     let begun = c.requires.begun in
     rw c.deref-3.ensures.value (took-whole _ begun.0 [] _ _ _ _ _ _ _ (c.in_ok-came.ensures.ok begun.0 begun.2).0)
 
-pub returns-in_err-feed_chunk-clause-err : goal.returns-in_err-feed_chunk-clause-err
-returns-in_err-feed_chunk-clause-err g c =
-    let kept = rw c.deref.ensures.value at c.in_ok-keep_chunk.ensures in
-    on_err _ (each-unanswered _ _ _ _ _ _ _ _ _ _ _ c.read_next.new.lines.chunk.items _ _ _
-    (λ line e. took-kept _ line _ _ _ _ _ _ _ (c.in_ok-came.ensures.ok line e).0
-    (appends-kept _ _ _ _ (kept-log _ _ _ _ kept) (told-log _ _ _ _ _ c.feed_chunk.result c.feed_chunk.ensures.told)))
-    (each-kept _ _ _ _ _ _ (kept-out _ _ _ _ kept) (rw c.deref-3.ensures.value at c.in_err-feed_chunk.ensures.err)))
-
-pub returns-clause-ok : goal.returns-clause-ok
-returns-clause-ok g c =
-    let kept = rw c.deref.ensures.value at c.in_ok-keep_chunk.ensures in
-    each-more _ _ _ _ _ _ _ _ _ _ _ _ _ c.read_next.new.lines.chunk.items _ _ _ _ _
-    (λ line e. took-kept _ line _ _ _ _ _ _ _ (c.in_ok-came.ensures.ok line e).0
-    (appends-kept _ _ _ _ (kept-log _ _ _ _ kept) (told-log _ _ _ _ _ c.feed_chunk.result c.feed_chunk.ensures.told)))
-    (each-kept _ _ _ _ _ _ (kept-out _ _ _ _ kept) (rw c.deref-3.ensures.value at c.in_ok-feed_chunk.ensures.ok))
-    (search rules)
-
-pub returns-clause-end : goal.returns-clause-end
-returns-clause-end g c e =
-    let begun = c.requires.begun in
-    ((c.in_ok-came.ensures.ok begun.0 begun.2).0.end e).0
-
-pub returns-clause-begun : goal.returns-clause-begun
-returns-clause-begun g c =
-    let begun = c.requires.begun in
-    let t = (c.in_ok-came.ensures.ok begun.0 begun.2).0 in
-    (begun_after begun.0 t.bytes, begun-no-end begun.0 t.bytes begun.1, t.begun)
-
--- ---- a run that keeps nothing
-
-pub returns-in_err-keep_chunk-clause-told : goal.returns-in_err-keep_chunk-clause-told
-returns-in_err-keep_chunk-clause-told g c off = absurd (cc (off, c.in_err-keep_chunk.ensures.0))
-
-pub returns-in_default-clause-told : goal.returns-in_default-clause-told
-returns-in_default-clause-told g c off =
-    (refl, ([], [], tells-after _ _ _ _ [] [] (rw off at c.in_ok-keep_chunk.ensures) (tells-none _ _)))
-
-pub returns-in_err-feed_chunk-clause-told : goal.returns-in_err-feed_chunk-clause-told
-returns-in_err-feed_chunk-clause-told g c off =
-    told-after _ _ _ _ _ c.from_residual-in_err-feed_chunk.result (rw off at c.in_ok-keep_chunk.ensures)
-    (told-failed _ _ _ _ c.from_residual-in_err-feed_chunk.result c.from_residual-in_err-feed_chunk.ensures.0 c.in_err-feed_chunk.ensures.told)
-
-pub returns-clause-told : goal.returns-clause-told
-returns-clause-told g c off =
-    let told = c.in_ok-feed_chunk.ensures.told in
-    (told.0, (told.1.0, tells-after _ _ _ _ told.1.0 [] (rw off at c.in_ok-keep_chunk.ensures) told.1.1))
-
--- ---- a run that keeps what it reads
-
-pub returns-in_err-came-clause-safe : goal.returns-in_err-came-clause-safe
-returns-in_err-came-clause-safe g c keeps live = lives-none _ _ _ _ _ _ _ c.from_residual.result c.from_residual.ensures.0
-
-pub returns-in_err-keep_chunk-clause-safe : goal.returns-in_err-keep_chunk-clause-safe
-returns-in_err-keep_chunk-clause-safe g c keeps live =
-    let begun = c.requires.begun in
-    let t = (c.in_ok-came.ensures.ok begun.0 begun.2).0 in
-    let torn = rw c.deref.ensures.value at c.in_err-keep_chunk.ensures in
-    lives-torn _ _ _ _ _ _ _ _ c.read_next.new.lines.chunk.items torn.1 c.from_residual-in_err-keep_chunk.result c.from_residual-in_err-keep_chunk.ensures.0
-    (piece-lines _ begun.0 t.bytes _ begun.1 t.holds) torn.3
-
-pub returns-in_default-clause-safe : goal.returns-in_default-clause-safe
-returns-in_default-clause-safe g c keeps live all h is rested =
+-- it could not be answered
+pub returns-in_err-feed_chunk-clause-goes : goal.returns-in_err-feed_chunk-clause-goes
+returns-in_err-feed_chunk-clause-goes g c =
     let begun = c.requires.begun in
     let t = (c.in_ok-came.ensures.ok begun.0 begun.2).0 in
     let kept = rw c.deref.ensures.value at c.in_ok-keep_chunk.ensures in
-    (piece-unanswered all _ _ _ h _ c.read_next.new.lines.chunk.items rested (piece-lines _ begun.0 t.bytes _ begun.1 t.holds) (rw is at (rw keeps at kept)), tt)
+    let bad = c.from_residual-in_err-feed_chunk.ensures.0 in
+    record {
+      rests = ok-of-err _ c.from_residual-in_err-feed_chunk.result bad;
+      ok = ok-of-err _ c.from_residual-in_err-feed_chunk.result bad;
+      err = on_err _ (each-unanswered _ _ _ _ _ _ _ _ _ _ _ c.read_next.new.lines.chunk.items _ _ _
+          (λ line e. took-kept _ line _ _ _ _ _ _ _ (c.in_ok-came.ensures.ok line e).0
+          (appends-kept _ _ _ _ (kept-log _ _ _ _ kept) (told-log _ _ _ _ _ c.feed_chunk.result c.feed_chunk.ensures.told)))
+          (each-kept _ _ _ _ _ _ (kept-out _ _ _ _ kept) (rw c.deref-3.ensures.value at c.in_err-feed_chunk.ensures.err)));
+      live = c.feed_chunk.ensures.told.0;
+      told = λ off. told-after _ _ _ _ _ c.from_residual-in_err-feed_chunk.result (rw off at c.in_ok-keep_chunk.ensures)
+          (told-failed _ _ _ _ c.from_residual-in_err-feed_chunk.result bad c.in_err-feed_chunk.ensures.told);
+      safe = λ keeps live. lives-err _ _ _ _ _ _ _ _ c.feed_chunk.result c.from_residual-in_err-feed_chunk.result bad
+          (piece-safe _ _ _ _ _ _ _ _ _ c.read_next.new.lines.chunk.items _ _ c.feed_chunk.result live (piece-lines _ begun.0 t.bytes _ begun.1 t.holds)
+          (rw keeps at kept) c.feed_chunk.ensures.told (rw c.deref-3.ensures.value at c.feed_chunk.ensures.ok)
+          (rw c.deref-3.ensures.value at c.feed_chunk.ensures.err));
+      asked = on_fault _ c.from_residual-in_err-feed_chunk.result bad (each-fails _ _ _ _ _ _ _ _ _ _ _ _ _ c.in_ok-came.ensures.ok
+          (silent-more _ _ _ (kept-silent _ _ _ _ c.in_ok-keep_chunk.ensures) (told-silent _ _ _ _ c.feed_chunk.result c.feed_chunk.ensures.told)));
+    }
 
-pub returns-in_err-feed_chunk-clause-safe : goal.returns-in_err-feed_chunk-clause-safe
-returns-in_err-feed_chunk-clause-safe g c keeps live =
+-- it was
+pub returns-clause-goes : goal.returns-clause-goes
+returns-clause-goes g c =
     let begun = c.requires.begun in
     let t = (c.in_ok-came.ensures.ok begun.0 begun.2).0 in
     let kept = rw c.deref.ensures.value at c.in_ok-keep_chunk.ensures in
-    lives-err _ _ _ _ _ _ _ _ c.feed_chunk.result c.from_residual-in_err-feed_chunk.result c.from_residual-in_err-feed_chunk.ensures.0
-    (piece-safe _ _ _ _ _ _ _ _ _ c.read_next.new.lines.chunk.items _ _ c.feed_chunk.result live (piece-lines _ begun.0 t.bytes _ begun.1 t.holds) (rw keeps at kept)
-    c.feed_chunk.ensures.told (rw c.deref-3.ensures.value at c.feed_chunk.ensures.ok) (rw c.deref-3.ensures.value at c.feed_chunk.ensures.err))
-
-pub returns-clause-safe : goal.returns-clause-safe
-returns-clause-safe g c keeps live =
-    let begun = c.requires.begun in
-    let t = (c.in_ok-came.ensures.ok begun.0 begun.2).0 in
-    let kept = rw c.deref.ensures.value at c.in_ok-keep_chunk.ensures in
-    lives-known _ _ _ _ _ _ _ _ c.feed_chunk.result _ c.in_ok-feed_chunk.was
-    (piece-safe _ _ _ _ _ _ _ _ _ c.read_next.new.lines.chunk.items _ _ c.feed_chunk.result live (piece-lines _ begun.0 t.bytes _ begun.1 t.holds) (rw keeps at kept)
-    c.feed_chunk.ensures.told (rw c.deref-3.ensures.value at c.feed_chunk.ensures.ok) (rw c.deref-3.ensures.value at c.feed_chunk.ensures.err))
-
--- ---- questions
-
-pub returns-in_err-came-clause-asked : goal.returns-in_err-came-clause-asked
-returns-in_err-came-clause-asked g c =
-    on_fault _ c.from_residual.result c.from_residual.ensures.0 (each-fails-unread _ _ _ _ _ _ _ _ c.in_err-came.ensures.err (silent-none _))
-
-pub returns-in_err-keep_chunk-clause-asked : goal.returns-in_err-keep_chunk-clause-asked
-returns-in_err-keep_chunk-clause-asked g c =
-    on_fault _ c.from_residual-in_err-keep_chunk.result c.from_residual-in_err-keep_chunk.ensures.0 (each-fails _ _ _ _ _ _ _ _ _ _ _ _ _ c.in_ok-came.ensures.ok (front-silent _ _ _ c.in_err-keep_chunk.ensures.3))
-
-pub returns-in_default-clause-asked : goal.returns-in_default-clause-asked
-returns-in_default-clause-asked g c = (each-fails _ _ _ _ _ _ _ _ _ _ _ _ _ c.in_ok-came.ensures.ok (kept-silent _ _ _ _ c.in_ok-keep_chunk.ensures))
-
-pub returns-in_err-feed_chunk-clause-asked : goal.returns-in_err-feed_chunk-clause-asked
-returns-in_err-feed_chunk-clause-asked g c =
-    on_fault _ c.from_residual-in_err-feed_chunk.result c.from_residual-in_err-feed_chunk.ensures.0 (each-fails _ _ _ _ _ _ _ _ _ _ _ _ _ c.in_ok-came.ensures.ok
-    (silent-more _ _ _ (kept-silent _ _ _ _ c.in_ok-keep_chunk.ensures) (told-silent _ _ _ _ c.feed_chunk.result c.feed_chunk.ensures.told)))
-
-pub returns-clause-asked : goal.returns-clause-asked
-returns-clause-asked g c =
-    each-asks _ _ _ _ _ _ _ _ _ _ _ _ _ _ _ c.in_ok-came.ensures.ok
-    (silent-more _ _ _ (kept-silent _ _ _ _ c.in_ok-keep_chunk.ensures) (told-silent _ _ _ _ c.feed_chunk.result c.feed_chunk.ensures.told))
-    (rw c.deref-3.ensures.value at c.in_ok-feed_chunk.ensures.leads)
-
--- ---- pages
-
-pub returns-clause-listed : goal.returns-clause-listed
-returns-clause-listed g c =
     let led = rw c.deref-3.ensures.value at c.in_ok-feed_chunk.ensures.leads in
-    listed-after c.args.clerk.now.desk.site.place c.args.clerk.now.desk.site.state _ c.read_next.new.lines.chunk.items _ _
-    (subst (AreListed c.args.clerk.now.desk.site.state) (sym c.read_next.ensures.others.1) c.requires.listed)
-    (rw c.deref-2.ensures.value at c.let_go.ensures) led.state
+    record {
+      rests = record {
+        window = c.in_ok-feed_chunk.ensures.window;
+        empty = c.in_ok-feed_chunk.ensures.empty;
+        begun = (begun_after begun.0 t.bytes, begun-no-end begun.0 t.bytes begun.1, t.begun);
+        listed = listed-after c.args.clerk.now.desk.site.place c.args.clerk.now.desk.site.state _ c.read_next.new.lines.chunk.items _ _
+            (subst (AreListed c.args.clerk.now.desk.site.state) (sym c.read_next.ensures.others.1) c.requires.listed)
+            (rw c.deref-2.ensures.value at c.let_go.ensures) led.state;
+      };
+      ok = each-more _ _ _ _ _ _ _ _ _ _ _ _ _ c.read_next.new.lines.chunk.items _ _ _ _ _
+          (λ line e. took-kept _ line _ _ _ _ _ _ _ (c.in_ok-came.ensures.ok line e).0
+          (appends-kept _ _ _ _ (kept-log _ _ _ _ kept) (told-log _ _ _ _ _ c.feed_chunk.result c.feed_chunk.ensures.told)))
+          (each-kept _ _ _ _ _ _ (kept-out _ _ _ _ kept) (rw c.deref-3.ensures.value at c.in_ok-feed_chunk.ensures.ok))
+          (search rules);
+      err = tt;
+      live = c.feed_chunk.ensures.told.0;
+      told = λ off.
+          let told = c.in_ok-feed_chunk.ensures.told in
+          (told.0, (told.1.0, tells-after _ _ _ _ told.1.0 [] (rw off at c.in_ok-keep_chunk.ensures) told.1.1));
+      safe = λ keeps live. lives-known _ _ _ _ _ _ _ _ c.feed_chunk.result _ c.in_ok-feed_chunk.was
+          (piece-safe _ _ _ _ _ _ _ _ _ c.read_next.new.lines.chunk.items _ _ c.feed_chunk.result live (piece-lines _ begun.0 t.bytes _ begun.1 t.holds)
+          (rw keeps at kept) c.feed_chunk.ensures.told (rw c.deref-3.ensures.value at c.feed_chunk.ensures.ok)
+          (rw c.deref-3.ensures.value at c.feed_chunk.ensures.err));
+      asked = each-asks _ _ _ _ _ _ _ _ _ _ _ _ _ _ _ c.in_ok-came.ensures.ok
+          (silent-more _ _ _ (kept-silent _ _ _ _ c.in_ok-keep_chunk.ensures) (told-silent _ _ _ _ c.feed_chunk.result c.feed_chunk.ensures.told)) led;
+    }

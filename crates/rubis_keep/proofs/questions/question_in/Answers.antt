@@ -1,4 +1,4 @@
-use Rattle.std.proofs.Common.{Some, false, true}
+use Rattle.std.proofs.Common.{◌∙◌, Some, false, true}
 use Rattle.rubis_engine.proofs.RunFacts.{takes-at}
 use Rattle.rubis_engine.specs.Text.{input_records}
 use Rattle.rubis_keep.proofs.AskFacts.{question-many, question-none, question-one}
@@ -17,7 +17,7 @@ returns-then-branch c =
 
 pub returns : goal.returns
 returns c =
-    question-one (λ s. Some s.now) c.new-records.result c.advance.new.self c.advance-2.new.self c.args.sites (input_records c.args.text.now) c.in_ok-asked.asked
+    question-one (λ s. Some s.now) c.new-records.result c.advance.new.self c.advance-2.new.self c.args.sites (input_records c.args.text.now) _
     c.new-records.ensures
     (takes-at _ c.new-records.result c.advance.new.self _ true c.if-not-branch.false c.in_ok-advance.ensures.takes)
-    (takes-at _ c.advance.new.self c.advance-2.new.self _ false c.if-branch.false c.in_ok-advance-2.ensures.takes) (rw c.fields.ensures at c.in_ok-asked.ensures)
+    (takes-at _ c.advance.new.self c.advance-2.new.self _ false c.if-branch.false c.in_ok-advance-2.ensures.takes) (rw (c.in_ok-fields.ensures ∙ c.fields.ensures) at c.in_ok-read_question.ensures)

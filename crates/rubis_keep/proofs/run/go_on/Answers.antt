@@ -16,12 +16,12 @@ returns-in_err-tell_replayed-clause-err g c =
 pub returns-clause-ok : goal.returns-clause-ok
 returns-clause-ok g c =
     let cut = begun-cut _ _ _ _ _ _ c.in_ok-cut_and_flush.ensures.ok c.in_ok-tell_replayed.ensures.ok in
-    on_ok_both c.answer_pieces.result (go-ok-read _ _ _ _ _ _ _ _ _ _ _ _ _ _ _ _ _ _ _ _ (none-unread _ _ c.clear.ensures) cut.0 c.new.ensures cut.1) c.answer_pieces.ensures.ok c.answer_pieces.ensures.end
+    on_ok_both c.answer_pieces.result (go-ok-read _ _ _ _ _ _ _ _ _ _ _ _ _ _ _ _ _ _ _ _ (none-unread _ _ c.clear.ensures) cut.0 c.new.ensures cut.1) c.answer_pieces.ensures.goes.ok c.answer_pieces.ensures.end
 
 pub returns-clause-err : goal.returns-clause-err
 returns-clause-err g c =
     let cut = begun-cut _ _ _ _ _ _ c.in_ok-cut_and_flush.ensures.ok c.in_ok-tell_replayed.ensures.ok in
-    on_err_weaker c.answer_pieces.result (go-err-read _ _ _ _ _ _ _ _ _ _ _ _ _ _ _ (none-unread _ _ c.clear.ensures) cut.0 c.new.ensures cut.1) c.answer_pieces.ensures.err
+    on_err_weaker c.answer_pieces.result (go-err-read _ _ _ _ _ _ _ _ _ _ _ _ _ _ _ (none-unread _ _ c.clear.ensures) cut.0 c.new.ensures cut.1) c.answer_pieces.ensures.goes.err
 
 pub returns-in_err-cut_and_flush-clause-safe : goal.returns-in_err-cut_and_flush-clause-safe
 returns-in_err-cut_and_flush-clause-safe g c all kept old h is sound found r =
@@ -36,7 +36,7 @@ pub returns-clause-safe : goal.returns-clause-safe
 returns-clause-safe g c all kept old h is sound found r =
     go-safe all _ _ kept old _ _ h _ _ _ _ _ _ _ _ c.answer_pieces.result sound found (rw is at r)
     (none-told-at-end c.args.clerk.now.desk.site (c.args.clerk.now.desk.answered + 1)) refl
-    (rw is at c.in_ok-cut_and_flush.ensures.ok) c.in_ok-tell_replayed.ensures.ok (c.answer_pieces.ensures.safe refl refl)
+    (rw is at c.in_ok-cut_and_flush.ensures.ok) c.in_ok-tell_replayed.ensures.ok (c.answer_pieces.ensures.goes.safe refl refl)
 
 pub returns-in_err-cut_and_flush-clause-asked : goal.returns-in_err-cut_and_flush-clause-asked
 returns-in_err-cut_and_flush-clause-asked g c p s kept sound led =
@@ -51,4 +51,4 @@ pub returns-clause-asked : goal.returns-clause-asked
 returns-clause-asked g c p s kept sound led =
     go-replies p s kept _ _ _ _ _ _ _ _ _ _ _ _ _ c.answer_pieces.result (none-unread _ _ c.clear.ensures)
     (silent-more _ _ _ (silent-cut _ _ _ c.in_ok-cut_and_flush.ensures.ok) (silent-begun _ _ _ _ c.in_ok-tell_replayed.ensures.ok))
-    c.answer_pieces.ensures.asked c.answer_pieces.ensures.end c.new.ensures sound led
+    c.answer_pieces.ensures.goes.asked c.answer_pieces.ensures.end c.new.ensures sound led

@@ -16,7 +16,7 @@ returns-in-Ok-clause-ok g c =
     (λ end. rw c.check_end.ensures.files
     (replay-ok (told_by c.args.clerk.now.desk.site) (told_by c.answer_pieces.new.clerk.desk.site) _ _ _ _ _ _ _ _ _ _ _ _ _
     (none-told c.args.clerk.now.desk.site 1) c.requires.cutter c.requires.answered c.requires.kept
-    (rw (none-unread c.args.lines.now.unread (g.P.Read.remaining c.args.past.now) c.requires.unread) at c.in-Ok.ensures.ok) c.in-Ok.ensures.end end.0 end.1))
+    (rw (none-unread c.args.lines.now.unread (g.P.Read.remaining c.args.past.now) c.requires.unread) at c.in-Ok.ensures.goes.ok) c.in-Ok.ensures.end end.0 end.1))
     c.check_end.ensures.end
 
 pub returns-in-Ok-clause-err : goal.returns-in-Ok-clause-err
@@ -24,21 +24,21 @@ returns-in-Ok-clause-err g c =
     on_err _ (replay-unfound (told_by c.args.clerk.now.desk.site) (told_by c.answer_pieces.new.clerk.desk.site) _ _ _ _ _ _ _ _ _ _ _ _ _
     (none-told c.args.clerk.now.desk.site 1) c.requires.cutter c.requires.answered c.requires.kept
     (ap (λ files. out_in (g.F.SiteFiles.history files)) c.check_end.ensures.files)
-    (rw (none-unread c.args.lines.now.unread (g.P.Read.remaining c.args.past.now) c.requires.unread) at c.in-Ok.ensures.ok))
+    (rw (none-unread c.args.lines.now.unread (g.P.Read.remaining c.args.past.now) c.requires.unread) at c.in-Ok.ensures.goes.ok))
 
 pub returns-in-Err-clause-err : goal.returns-in-Err-clause-err
 returns-in-Err-clause-err g c =
     replay-err (told_by c.args.clerk.now.desk.site) _ _ _ _ _ _ _ _ _ _
     (none-told c.args.clerk.now.desk.site 1) c.requires.cutter c.requires.answered c.requires.kept
-    (rw (none-unread c.args.lines.now.unread (g.P.Read.remaining c.args.past.now) c.requires.unread) at c.in-Err.ensures.err)
+    (rw (none-unread c.args.lines.now.unread (g.P.Read.remaining c.args.past.now) c.requires.unread) at c.in-Err.ensures.goes.err)
 
 pub returns-in-Ok-clause-told : goal.returns-in-Ok-clause-told
-returns-in-Ok-clause-told g c = rw (c.check_end.ensures.files, c.check_end.ensures.live) (told-either _ _ _ _ c.check_end.result (c.in-Ok.ensures.told refl))
+returns-in-Ok-clause-told g c = rw (c.check_end.ensures.files, c.check_end.ensures.live) (told-either _ _ _ _ c.check_end.result (c.in-Ok.ensures.goes.told refl))
 
 pub returns-in-Err-clause-told : goal.returns-in-Err-clause-told
-returns-in-Err-clause-told g c = c.in-Err.ensures.told refl
+returns-in-Err-clause-told g c = c.in-Err.ensures.goes.told refl
 
 pub returns-in-Ok-clause-led : goal.returns-in-Ok-clause-led
 returns-in-Ok-clause-led g c =
-    on_ok c.check_end.result (λ kept old b. replay-led _ _ _ _ _ _ _ _ _ _ c.in-Ok.ensures.asked c.requires.cutter c.requires.answered c.in-Ok.ensures.end kept
+    on_ok c.check_end.result (λ kept old b. replay-led _ _ _ _ _ _ _ _ _ _ c.in-Ok.ensures.goes.asked c.requires.cutter c.requires.answered c.in-Ok.ensures.end kept
     (none-unread _ _ c.requires.unread ∙ b.past_is) b.sound)

@@ -1,9 +1,8 @@
 use Rattle.std.proofs.Common.{◌≡◌, ◌∙◌, ◌++◌, [], ap, refl, rules, subst, take}
 use Rattle.std.specs.Io.KnownBytes.{Appends}
 use Rattle.csv.proofs.WriteFacts.{appends-more, appends-none}
-use Rattle.rubis_keep.proofs.FileFacts.{consumes-kept, consumes-more, consumes-none}
+use Rattle.rubis_keep.proofs.FileFacts.{consumes-more, consumes-none}
 use Rattle.rubis_keep.proofs.ShortenFacts.{piece-taken, short-ends, short-more, short-starts}
-use Rattle.rubis_keep.proofs.shortening.shorten_at.Goals.{in-Ok+in_ok-take_piece-in-Ok+in_default, in-Err+else-ne}
 use Rattle.rubis_keep.proofs.shortening.shorten_at.Goals as goal
 
 pub loop-turn-init : goal.loop-turn-init
@@ -18,33 +17,25 @@ returns-in-Ok-eq0 g c =
     let none : c.in-Ok-eq0.field-0 ≡ 0 = search rules in
     short-ends c.args.desk.now.site.place c.args.desk.now.site.state c.loop-turn.desk.site.state _ _ _ _ _ come.0 _ c.loop-turn.line.items come.1 come.2
     c.in-Ok-eq0.ensures.bytes.0
-    (ap (λ n. take n c.read.new.buf) none) (c.in-Ok-eq0.ensures.bytes.1 none (search rules)) come.3 come.4
+    (ap (λ n. take n c.read_through_signals.new.buf) none) (c.in-Ok-eq0.ensures.bytes.1 none (search rules)) come.3 come.4
 
 pub loop-turn-preserved : goal.loop-turn-preserved
 loop-turn-preserved g c =
     let before = c.loop-turn.invariant in
     let come = before.come in
-    elim c.match-read.branch [
-      | in-Ok+in_ok-take_piece-in-Ok+in_default w ↦
-          let more = take w.in-Ok.given c.read.new.buf in
-          rw (w.desk-is, w.fresh-is, w.line-is) (record {
-            place = w.in_ok-take_piece-in-Ok.ensures.place ∙ before.place;
-            come = (
-              come.0 ++ more,
-              come.1 ++ w.take_piece.new.text.items,
-              consumes-more _ _ _ come.0 more come.2 w.in-Ok.ensures.bytes.0,
-              appends-more _ _ _ come.1 w.take_piece.new.text.items come.3 (subst (Appends _ _) w.deref.ensures.value w.in_default.ensures.ok),
-              short-more c.args.desk.now.site.place c.args.desk.now.site.state c.loop-turn.desk.site.state w.take_piece.new.desk.site.state come.0 more
-                  c.loop-turn.line.items w.take_piece.new.line.items come.1 w.take_piece.new.text.items come.4
-                  (piece-taken c.args.desk.now.site.place c.loop-turn.desk.site.place c.args.desk.now.site.state c.loop-turn.desk.site.state
-                  w.take_piece.new.desk.site.state
-                  c.loop-turn.line.items w.take_piece.new.line.items w.clear.new.self.items w.take_piece.new.text.items more before.place w.clear.ensures.items
-                  w.in_ok-take_piece-in-Ok.ensures.short),
-            );
-          })
-      | in-Err+else-ne w ↦
-          rw (w.desk-is, w.fresh-is, w.line-is) (record {
-            place = before.place;
-            come = (come.0, come.1, consumes-kept _ _ _ _ come.2 (rw w.in-Err.is at c.read.ensures.bytes), come.3, come.4);
-          })
-    ]
+    let more = take c.in-Ok.given c.read_through_signals.new.buf in
+    record {
+      place = c.in_ok-take_piece-in-Ok.ensures.place ∙ before.place;
+      come = (
+        come.0 ++ more,
+        come.1 ++ c.take_piece.new.text.items,
+        consumes-more _ _ _ come.0 more come.2 c.in-Ok.ensures.bytes.0,
+        appends-more _ _ _ come.1 c.take_piece.new.text.items come.3 (subst (Appends _ _) c.deref.ensures.value c.in_default.ensures.ok),
+        short-more c.args.desk.now.site.place c.args.desk.now.site.state c.loop-turn.desk.site.state c.take_piece.new.desk.site.state come.0 more
+            c.loop-turn.line.items c.take_piece.new.line.items come.1 c.take_piece.new.text.items come.4
+            (piece-taken c.args.desk.now.site.place c.loop-turn.desk.site.place c.args.desk.now.site.state c.loop-turn.desk.site.state
+            c.take_piece.new.desk.site.state
+            c.loop-turn.line.items c.take_piece.new.line.items c.clear.new.self.items c.take_piece.new.text.items more before.place c.clear.ensures.items
+            c.in_ok-take_piece-in-Ok.ensures.short),
+      );
+    }

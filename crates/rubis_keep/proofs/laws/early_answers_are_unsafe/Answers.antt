@@ -1,5 +1,0 @@
-use Rattle.rubis_keep.proofs.RefusedFacts.{shown-too-early, told-too-early}
-use Rattle.rubis_keep.proofs.laws.early_answers_are_unsafe.Goals as goal
-
-pub returns : goal.returns
-returns c = record { told = told-too-early; shown = shown-too-early }

@@ -1,6 +1,0 @@
-use Rattle.rubis_keep.proofs.MomentFacts.{kills-leave-files, power-failures-leave-files}
-use Rattle.rubis_keep.proofs.SiteFacts.{site-texts-extend}
-use Rattle.rubis_keep.proofs.laws.moments_leave_files.Goals as goal
-
-pub returns : goal.returns
-returns c = record { kills = kills-leave-files; power_failures = power-failures-leave-files; sites = site-texts-extend }

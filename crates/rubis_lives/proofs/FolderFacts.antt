@@ -1,0 +1,114 @@
+-- Folders with their lives are a run, which keeps its promises.
+use Rattle.std.proofs.Common.{◌≡◌, ◌∙◌, ◌≤◌, ◌<◌, ◌+◌, ◌∷◌, [], ℕ, List, None, refl, sym, ap, subst, arith, append-nil}
+use Rattle.std.specs.Prelude.{map}
+use Rattle.rubis_schema.specs.declared.limits.TheConstants.{KEEP_MAX}
+use Rattle.rubis_message.specs.Inputs.{input_of}
+use Rattle.rubis_message.specs.Message.{Message}
+use Rattle.rubis_message.specs.declared.inputs.Input.{Input}
+use Rattle.rubis_message.specs.declared.inputs.Input.TheVariants.{Asked, Came, Neither}
+use Rattle.rubis_message.specs.declared.requests.Request.TheVariants as request
+use Rattle.rubis_message.specs.declared.tokens.Packet.TheVariants as packet
+use Rattle.rubis_message.specs.declared.tokens.Token.{Token}
+use Rattle.rubis_model.specs.Laws.{IsLogOf}
+use Rattle.rubis_model.specs.Logs.{Log}
+use Rattle.rubis_model.specs.Processes.{process, read_by, site_after}
+use Rattle.rubis_model.specs.Rebuild.{after_inputs, inputs_to_rebuild, sent_by, sent_on_inputs}
+use Rattle.rubis_model.specs.Restarts.{IsShortened, recorded}
+use Rattle.rubis_model.specs.Runs.{input_step}
+use Rattle.rubis_model.specs.Site.{Place, Replica, opening_at}
+use Rattle.rubis_model.specs.System.{AreEvents, Event, World, run, site, start}
+use Rattle.rubis_laws.proofs.Processes.AreARun.{processes_run}
+use Rattle.rubis_laws.proofs.Processes.Restarts.{restarts_change_nothing, short_state}
+use Rattle.rubis_laws.proofs.Rebuilding.RebuildInputs.{inputs_rebuild}
+use Rattle.rubis_laws.proofs.Rebuilding.RebuiltSites.{sites_are_rebuilt}
+use Rattle.rubis_laws.proofs.Runs.EveryRun.{every_run}
+use Rattle.rubis_laws.proofs.Runs.Nicknames.{nicknames_are_unique}
+use Rattle.rubis_lives.specs.Folders.{AreOfSite, FoldersAreARun, IsRebuiltFolder, KeepsItsPromises}
+use Rattle.rubis_lives.specs.Histories.{keeps, moments_in, most, site_keeping, stands, takes}
+use Rattle.rubis_keep.specs.History.{records_in}
+use Rattle.rubis_lives.proofs.HistoriesFacts.{come, histories-are-replayed, history-at}
+use Rattle.rubis_lives.proofs.RoomFacts.{taken-state}
+use Rattle.rubis_lives.proofs.ShopFacts.{Records, prefix-same}
+use Rattle.rubis_lives.proofs.SiteLivesFacts.{shop-histories}
+
+-- ---- every run keeps the promises
+
+-- the log of a site, without its tables
+abbrev log-at : World → ℕ → Log
+log-at w i = record { site = i; messages = (site w i).log; rows = None }
+
+pub promises-kept : (n : ℕ) (events : List Event) → 1 ≤ n → AreEvents n events → KeepsItsPromises (run KEEP_MAX events (start n))
+promises-kept n events some are =
+    let w = run KEEP_MAX events (start n) in
+    let in_run = every_run n KEEP_MAX events some (omega arith) are in
+    let is : (i : ℕ) → IsLogOf w (log-at w i) = λ i. record { messages = refl; rows = tt } in
+    record {
+      tables = in_run.agree;
+      nicknames = nicknames_are_unique n KEEP_MAX events some (omega arith) are;
+      nicknames_at = λ i. (in_run.invariants.holds (log-at w i) (is i)).nicks;
+      sold = λ i item. (in_run.invariants.holds (log-at w i) (is i)).stock item;
+      stock = λ i. in_run.invariants.stock (log-at w i) (is i);
+      winner = in_run.invariants.winner;
+      winner_at = λ i. in_run.invariants.ended (log-at w i) (is i);
+    }
+
+-- ---- a folder that is rebuilt
+
+-- the number of a record shows in its answer alone
+same-inputs : (p : Place) (s : Replica) (n : ℕ) (records : Records) → site_after p s n records ≡ after_inputs p s (map (input_of p.sites) records)
+same-inputs p s n [] = refl
+same-inputs p s n (fields ∷ records) =
+    ap (λ t. site_after p t (n + 1) records) (same-state p s n (input_of p.sites fields))
+    ∙ same-inputs p (input_step p s 1 (input_of p.sites fields)).0 (n + 1) records
+  where
+    same-state : (p : Place) (s : Replica) (n : ℕ) (x : Input) → (input_step p s n x).0 ≡ (input_step p s 1 x).0
+    same-state p s n (Asked (request.Ask a)) = refl
+    same-state p s n (Asked (request.Pass to)) = refl
+    same-state p s n (Asked (request.List l)) = refl
+    same-state p s n (Came (packet.Msg u)) = refl
+    same-state p s n (Came (packet.Token t)) = refl
+    same-state p s n Neither = refl
+
+rebuilds : (sites : ℕ) (events : List Event) (i : ℕ) (all : List Message) (tokens : List Token) (bytes : List ℕ) → 1 ≤ sites → AreEvents sites events → i < sites
+    → AreOfSite i (run KEEP_MAX events (start sites)) all tokens
+    → map (input_of sites) (records_in bytes) ≡ inputs_to_rebuild (site_keeping sites i KEEP_MAX) tokens all (opening_at i) (sent_by i KEEP_MAX events (start sites))
+    → IsRebuiltFolder sites i events all tokens bytes
+rebuilds sites events i all tokens bytes some are within of read =
+    let p = site_keeping sites i KEEP_MAX in
+    let packets = sent_by i KEEP_MAX events (start sites) in
+    let r = sites_are_rebuilt sites KEEP_MAX i events all tokens (omega arith) within are of.sent of.whole of.tokens_sent of.tokens_whole in
+    let inputs = inputs_rebuild p (run KEEP_MAX events (start sites)).sent all tokens (opening_at i) packets of.sent of.tokens_sent in
+    record {
+      again = ap (sent_on_inputs p (opening_at i)) read ∙ inputs.1 ∙ r.again;
+      later = r.events;
+      are_events = r.are_events;
+      in_place = r.in_place;
+      here = r.here ∙ sym inputs.0 ∙ ap (after_inputs p (opening_at i)) (sym read) ∙ sym (same-inputs p (opening_at i) 1 (records_in bytes));
+      promises = promises-kept sites r.events some r.are_events;
+    }
+
+-- ---- folders with their lives
+
+pub folders-are-a-run : FoldersAreARun
+folders-are-a-run sites keep first lives running steps some top small shop carried =
+    let histories = shop-histories sites keep first lives running steps shop in
+    let again = histories-are-replayed sites keep first steps small histories in
+    let never = restarts_change_nothing sites most (moments_in steps) again carried in
+    let a_run = processes_run sites most (recorded (moments_in steps)) some top (λ i. omega arith) never.carried in
+    record {
+      events = a_run.0;
+      are_events = a_run.1;
+      processes = a_run.2;
+      kept = λ i within answered.
+          let room = keeps i (keep i) steps in
+          let taken = takes sites i (keep i) (first i) steps in
+          let all = read_by i (recorded (moments_in steps)) in
+          let c = come sites keep first steps histories i (small i) steps [] (sym (append-nil steps)) in
+          let is : c.recording ≡ taken = prefix-same c.recording taken taken c.kept ([], append-nil taken) (c.count ∙ answered) in
+          taken-state (site_keeping sites i room) KEEP_MAX c.small (opening_at i) 1 1 (records_in (stands i (first i) steps).flushed)
+          ∙ short_state (process sites most i) all taken (opening_at i) 1 1 (subst (λ t. IsShortened (process sites most i) (opening_at i) t all) is c.short)
+          ∙ sym (a_run.2.states i within);
+      told = λ i. (history-at sites keep first steps histories i (small i)).told;
+      promises = promises-kept sites a_run.0 some a_run.1;
+      rebuilt = λ i all tokens bytes within of read. rebuilds sites a_run.0 i all tokens bytes some a_run.1 within of read;
+    }

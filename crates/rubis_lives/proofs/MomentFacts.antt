@@ -1,0 +1,116 @@
+-- A site that is killed at any moment, or loses its power.
+use Rattle.std.proofs.Common.{◌≡◌, ◌∙◌, ◌⊎◌, inl, inr, ◌++◌, ◌∷◌, [], ℕ, List, Option, Some, None, refl, sym, ap, subst, append_assoc}
+use Rattle.std.proofs.lemmas.List.{append-nil}
+use Rattle.std.specs.Io.KnownBytes.{Consumes}
+use Rattle.rubis_engine.specs.Accounts.{Account}
+use Rattle.rubis_engine.specs.Accounts.Ending.{AtEnd, Cut}
+use Rattle.rubis_engine.specs.Text.{input_records}
+use Rattle.rubis_keep.specs.Left.{Files}
+use Rattle.rubis_keep.specs.History.{AreSafe, Event, FileState, Follows, IsSafe, after, after_all, records_in}
+use Rattle.rubis_keep.specs.History.Event.{Began, CutTo, Flushed, Kept, Replied, Settled, Shown, Told}
+use Rattle.rubis_keep.specs.Kept.{Ended, IsFrontOf, Lived}
+use Rattle.rubis_keep.specs.Lines.{AreSound, begun_after, kept_of, whole_lines}
+use Rattle.rubis_keep.specs.Lives.{IsOpened}
+use Rattle.rubis_lives.specs.Moments.{Extends, KillsLeaveFiles, PowerFailuresLeaveFiles, RaisedKeepsTellTheSame, SurvivesIn, from_disk, opened_again}
+use Rattle.rubis_lives.proofs.GrowFacts.{front-more, records-grow, whole-front, whole-more}
+use Rattle.rubis_keep.proofs.HistoryFacts.{safe-first}
+use Rattle.rubis_keep.proofs.SoundFacts.{sound-front, whole-rest}
+
+safe-at : (text : List (List (List ℕ)) → List ℕ) (s : FileState) (first later : List Event) → AreSafe text s (first ++ later) → IsSafe text (after_all s first)
+safe-at text s [] later h = safe-first text s later h
+safe-at text s (e ∷ first) later h = safe-at text (after s e) first later h.2
+
+sound-of : (text : List (List (List ℕ)) → List ℕ) (s : FileState) → IsSafe text s → AreSound [] s.kept
+sound-of text s h = sound-front [] s.kept s.cut h.sound
+
+-- what is told of what was flushed is the beginning of what is told of more
+told-of-more : (text : List (List (List ℕ)) → List ℕ) (flushed log out : List ℕ) → Extends text → AreSound [] log → IsFrontOf flushed log
+    → IsFrontOf out (text (records_in flushed)) → IsFrontOf out (text (records_in log))
+told-of-more text flushed log out extends sound front told =
+    let short = sound-front [] flushed front.0 (subst (AreSound []) (sym front.1) sound) in
+    let more = records-grow flushed log short sound (front-more (whole_lines flushed) flushed log (whole-front flushed) front) in
+    front-more out (text (records_in flushed)) (text (records_in log)) told
+    (subst (λ r. IsFrontOf (text (records_in flushed)) (text r)) more.1 (extends (records_in flushed) more.0))
+
+follows-lines : (text : List (List (List ℕ)) → List ℕ) (s : FileState) (e : Event) → Follows text s e → IsFrontOf (whole_lines s.kept) (after s e).kept
+follows-lines text s (Kept b) f =
+    (begun_after [] s.kept ++ b ∷ [], sym (append_assoc (whole_lines s.kept) (begun_after [] s.kept) (b ∷ [])) ∙ ap (λ t. t ++ b ∷ []) (whole-rest [] s.kept))
+follows-lines text s Flushed f = whole-front s.kept
+follows-lines text s (CutTo n) f = f
+follows-lines text s (Told b) f = whole-front s.kept
+follows-lines text s Settled f = whole-front s.kept
+follows-lines text s (Began n counts) f = whole-front s.kept
+follows-lines text s (Replied question reply) f = whole-front s.kept
+follows-lines text s (Shown b) f = whole-front s.kept
+
+lines-stay : (text : List (List (List ℕ)) → List ℕ) (s : FileState) (first later : List Event) → AreSafe text s (first ++ later)
+    → IsFrontOf (whole_lines s.kept) (after_all s first).kept
+lines-stay text s [] later h = whole-front s.kept
+lines-stay text s (e ∷ first) later h =
+    whole-more s.kept (after s e).kept (after_all (after s e) first).kept (sound-of text s h.0) (follows-lines text s e h.1) (lines-stay text (after s e) first later h.2)
+
+opens-again : (text : List (List (List ℕ)) → List ℕ) (s : FileState) → Extends text → IsSafe text s → IsOpened text (opened_again s)
+opens-again text s extends h =
+    let told = told-of-more text s.flushed s.kept s.out extends (sound-of text s h) h.flushed h.told in
+    record {
+      safe = record { sound = h.sound; flushed = h.flushed; told = h.told; shown = refl };
+      begun = refl;
+      left = record { sound = sound-of text s h; rest = told.0; begins = told.1 };
+    }
+
+pub kills-leave-files : KillsLeaveFiles
+kills-leave-files text s events extends h first later e =
+    let safe = subst (AreSafe text s) (sym e) h in
+    (opens-again text (after_all s first) extends (safe-at text s first later safe), lines-stay text s first later safe)
+
+survives : (text : List (List (List ℕ)) → List ℕ) (t : FileState) (files : Files) → Extends text → IsSafe text t → SurvivesIn t files
+    → IsOpened text (from_disk files) × IsFrontOf t.out (text (records_in files.log))
+survives text t files extends h left =
+    let sound : AreSound [] files.log = sound-front [] files.log left.1.0 (subst (AreSound []) (sym left.1.1) h.sound) in
+    let told = told-of-more text t.flushed files.log t.out extends sound left.0 h.told in
+    let out = front-more files.out t.out (text (records_in files.log)) left.2 told in (
+      record {
+        safe = record { sound = subst (AreSound []) (sym (append-nil files.log)) sound; flushed = ([], append-nil files.log); told = out; shown = refl };
+        begun = refl;
+        left = record { sound = sound; rest = out.0; begins = out.1 };
+      },
+      told,
+    )
+
+pub power-failures-leave-files : PowerFailuresLeaveFiles
+power-failures-leave-files text s events extends h first later e files left =
+    survives text (after_all s first) files extends (safe-at text s first later (subst (AreSafe text s) (sym e) h)) left
+
+-- ---- a site that keeps more messages from now on
+
+some-same : (a b : List ℕ) → Some a ≡ Some b → a ≡ b
+some-same a b e = cc e
+
+none-read : (bytes : List ℕ) (later : Option (List ℕ)) → Consumes (Some []) later bytes → bytes ≡ []
+none-read [] later c = refl
+none-read (b ∷ bytes) None c = absurd c
+none-read (b ∷ bytes) (Some rest) c = absurd (cc c)
+
+-- the answers to what was kept are complete
+completed : (before : Account) (files mid : Files) (done log1 out1 : Option (List ℕ))
+    → ((records : List (List (List ℕ))) → before.text Cut records ≡ before.text AtEnd records) → Lived before files.log files.out (Some []) done log1 out1
+    → log1 ≡ Some mid.log → out1 ≡ Some mid.out → mid.out ≡ before.text AtEnd (records_in files.log)
+completed before files mid done log1 out1 same l e f =
+    let none : kept_of l.bytes ≡ [] = ap kept_of (none-read l.bytes done l.taken) in
+    some-same mid.out (before.text Cut (input_records (whole_lines files.log ++ kept_of l.bytes))) (sym f ∙ l.out_is)
+    ∙ ap (λ k. before.text Cut (input_records (whole_lines files.log ++ k))) none
+    ∙ ap (λ k. before.text Cut (input_records k)) (append-nil (whole_lines files.log)) ∙ same (records_in files.log)
+
+pub raised-keeps-tell-the-same : RaisedKeepsTellTheSame
+raised-keeps-tell-the-same before raised files mid done log1 out1 input later log out told same l e f front =
+    let all : IsFrontOf told mid.out = subst (IsFrontOf told) (sym (completed before files mid done log1 out1 same l e f)) front in (
+      λ lived. front-more told mid.out (raised.text AtEnd (records_in mid.log)) all lived.found,
+      λ ended. ends all ended ended.answers,
+    )
+  where
+    ends : IsFrontOf told mid.out → (d : Ended raised mid.log mid.out input later log out) → ((d.kept ≡ mid.log) × (d.told ≡ mid.out))
+        ⊎ (AreSound [] mid.log × IsFrontOf mid.out (raised.text AtEnd (input_records (whole_lines mid.log)))
+        × ((more : List (List (List ℕ))) → IsFrontOf d.told (raised.text AtEnd (input_records (whole_lines d.kept) ++ more))))
+        → ((log ≡ Some mid.log) × (out ≡ Some mid.out)) ⊎ IsFrontOf told (raised.text AtEnd (records_in mid.log))
+    ends all d (inl is) = inl (d.log_is ∙ ap (λ t. Some t) is.0, d.out_is ∙ ap (λ t. Some t) is.1)
+    ends all d (inr (sound, found, begins)) = inr (front-more told mid.out (raised.text AtEnd (records_in mid.log)) all found)

@@ -1,0 +1,37 @@
+-- Histories that are refused.
+use Rattle.std.proofs.Common.{◌≡◌, ◌∙◌, ◌⊎◌, inl, inr, ◌++◌, ◌∷◌, [], ℕ, Bool, true, false, List, length, ap, arith, length-append}
+use Rattle.std.specs.Prelude.{MatchBool}
+use Rattle.rubis_keep.specs.History.{after, records_in}
+use Rattle.rubis_keep.specs.History.Event.{Kept, Shown, Told}
+use Rattle.rubis_keep.specs.Kept.{IsFrontOf}
+use Rattle.rubis_lives.specs.Moments.{ShownTooEarlyIsUnsafe, ToldTooEarlyIsUnsafe}
+use Rattle.rubis_keep.proofs.HistoryFacts.{safe-first}
+
+none-begins : (out : List ℕ) (b : ℕ) (all : List ℕ) → out ≡ [] → all ≡ [] → IsFrontOf (out ++ b ∷ []) all → ⊥
+none-begins out b all e f (rest, g) =
+    let long = length-append (out ++ b ∷ []) rest in
+    let first = length-append out (b ∷ []) in
+    omega (arith, ap length g, ap length f, long, first)
+
+pub told-too-early : ToldTooEarlyIsUnsafe
+told-too-early text s [] b later none e f h =
+    let safe = safe-first text (after s (Told b)) later h.2 in
+    none-begins s.out b (text (records_in s.flushed)) f (ap (λ k. text (records_in k)) e ∙ none) safe.told
+told-too-early text s (c ∷ lines) b later none e f h = told-too-early text (after s (Kept c)) lines b later none e f h.2
+
+no-end : (shown : List ℕ) (b : ℕ) → shown ++ b ∷ [] ≡ [] → ⊥
+no-end shown b e = let long = length-append shown (b ∷ []) in omega (arith, ap length e, long)
+
+not-longer : (shown out : List ℕ) (b : ℕ) → shown ≡ out → IsFrontOf (shown ++ b ∷ []) out → ⊥
+not-longer shown out b e (rest, g) =
+    let long = length-append (shown ++ b ∷ []) rest in
+    let first = length-append shown (b ∷ []) in
+    omega (arith, ap length g, ap length e, long, first)
+
+pub shown-too-early : ShownTooEarlyIsUnsafe
+shown-too-early text s b later early h = go s.begun early (safe-first text (after s (Shown b)) later h.2).shown
+  where
+    go : (begun : Bool) → (begun ≡ false) ⊎ (s.shown ≡ s.out) → MatchBool begun (IsFrontOf (s.shown ++ b ∷ []) s.out) (s.shown ++ b ∷ [] ≡ []) → ⊥
+    go true (inl e) m = cc e
+    go true (inr e) m = not-longer s.shown s.out b e m
+    go false early m = no-end s.shown b m

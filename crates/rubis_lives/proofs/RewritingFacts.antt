@@ -1,0 +1,262 @@
+-- What was kept is rewritten without what changed nothing.
+use Rattle.std.proofs.Common.{◌≡◌, ◌∙◌, ◌⊎◌, inl, inr, ◌≤◌, ◌+◌, ◌++◌, ◌∷◌, [], ℕ, Bool, true, false, cond, List, Option, Some, None, length, refl, sym, ap, subst, arith}
+use Rattle.std.proofs.Common.{append_assoc, append-nil, length-append, ⊎_elim}
+use Rattle.std.specs.Prelude.{◌||◌, ◌==◌, MatchBool, map, nat_le, Result, Ok, Err}
+use Rattle.std.proofs.lemmas.Bool.{cond_both}
+use Rattle.rubis_schema.specs.declared.refusals.Refusal.{Refusal}
+use Rattle.rubis_schema.specs.declared.refusals.Refusal.TheVariants.{BadTarget, LastTurn}
+use Rattle.rubis_shadow.specs.declared.shadows.Shadow.{Shadow}
+use Rattle.rubis_generate.specs.Decision.{decision}
+use Rattle.rubis_message.specs.Inputs.{input_of}
+use Rattle.rubis_message.specs.Message.{Message}
+use Rattle.rubis_message.specs.declared.inputs.Input.{Input}
+use Rattle.rubis_message.specs.declared.inputs.Input.TheVariants.{Asked, Came, Neither}
+use Rattle.rubis_message.specs.declared.requests.Request.TheVariants as request
+use Rattle.rubis_message.specs.declared.tokens.Packet.TheVariants as packet
+use Rattle.rubis_message.specs.declared.tokens.Token.{Token}
+use Rattle.rubis_model.specs.Rebuild.{sent_on, sent_on_inputs}
+use Rattle.rubis_model.specs.Restarts.{IsShortened}
+use Rattle.rubis_model.specs.Runs.{answers, input_step, output_of}
+use Rattle.rubis_model.specs.Settle.{settle}
+use Rattle.rubis_model.specs.Site.{Place, Replica, generating, made, opening_at, passing, rows_at, standing_of}
+use Rattle.rubis_model.specs.System.{sending}
+use Rattle.rubis_model.proofs.Settling.{settle_keeps}
+use Rattle.rubis_laws.proofs.Processes.AreARun.{answers_stay}
+use Rattle.rubis_laws.proofs.Processes.Restarts.{nothing_left_out, short_state}
+use Rattle.rubis_keep.specs.Left.{Files}
+use Rattle.rubis_keep.specs.History.{FileState, IsSafe}
+use Rattle.rubis_keep.specs.Kept.{IsFrontOf}
+use Rattle.rubis_lives.specs.Moments.{SurvivesIn}
+use Rattle.rubis_lives.specs.Rewriting.{IsLeftIn, IsOfFresh, IsOfKept, IsOldOrNew, NamedBeforeEmptied, NamedBeforeFlushed, Rewriting, RewritingLeavesFiles}
+use Rattle.rubis_lives.specs.Rewriting.{Rewritten, ShorteningKeepsThePromise, after_one, after_some, killed_in, rewriting, untouched}
+use Rattle.rubis_lives.specs.Rewriting.Rewriting.{Emptied, EmptyFlushed, FreshFlushed, NamesFlushed, Renamed, Wrote}
+use Rattle.rubis_lives.proofs.ShopFacts.{Records}
+use Rattle.rubis_keep.proofs.ShortenFacts.{shortened-append}
+
+-- ---- what changes nothing sends nothing
+
+settle-longer : (n : ℕ) (log waiting : List Message) → length log ≤ length (settle n log waiting).0
+settle-longer n log waiting =
+    settle_keeps (λ l w. length log ≤ length l) (λ l w p t h. let e = length-append l (p.0 ∷ []) in omega (arith, h, e)) n log waiting (omega arith)
+
+none-made : (p : Place) (s : Replica) (r : Result Shadow Refusal) → (generating p s r).0 ≡ s → sending packet.Msg (generating p s r).1 ≡ []
+none-made p s (Ok x) same =
+    let more = settle-longer (length s.waiting) (s.log ++ made p s x ∷ []) s.waiting in
+    let size = length-append s.log (made p s x ∷ []) in
+    absurd (omega (arith, more, size, ap (λ (t : Replica). length t.log) same))
+none-made p s (Err r) same = refl
+
+none-passed : (p : Place) (s : Replica) (to : ℕ) (held : Option ℕ) → s.held ≡ held → (passing p s to held).0 ≡ s
+    → sending packet.Token (passing p s to held).1 ≡ []
+none-passed p s to None is same = refl
+none-passed p s to (Some issued) is same =
+    cond_both (nat_le p.sites to || (to == p.site)) (s, Err BadTarget) _
+    (λ (a : Replica × Result Token Refusal). a.0 ≡ s → sending packet.Token a.1 ≡ []) (λ _ q. refl)
+    (λ _. cond_both (nat_le 1000000000 s.last) (s, Err LastTurn) _
+    (λ (a : Replica × Result Token Refusal). a.0 ≡ s → sending packet.Token a.1 ≡ []) (λ _ q. refl)
+    (λ _ q. let gone : None ≡ s.held = ap (λ (t : Replica). t.held) q in absurd (cc (gone, is)))) same
+
+none-sent : (p : Place) (s : Replica) (x : Input) → (input_step p s 1 x).0 ≡ s → sent_on p s x ≡ []
+none-sent p s (Asked (request.Ask a)) same = none-made p s (decision (rows_at s.log) (standing_of p.keep s) a) same
+none-sent p s (Asked (request.Pass to)) same = none-passed p s to s.held refl same
+none-sent p s (Asked (request.List l)) same = refl
+none-sent p s (Came x) same = refl
+none-sent p s Neither same = refl
+
+short-sent : (p : Place) (s : Replica) (short full : Records) → IsShortened p s short full
+    → sent_on_inputs p s (map (input_of p.sites) short) ≡ sent_on_inputs p s (map (input_of p.sites) full)
+short-sent p s short [] h = ap (λ (l : Records). sent_on_inputs p s (map (input_of p.sites) l)) h
+short-sent p s short (x ∷ full) (inl h) =
+    short-sent p s short full h.1
+    ∙ ap (λ t. sent_on_inputs p t (map (input_of p.sites) full)) (sym h.0)
+    ∙ ap (λ l. l ++ sent_on_inputs p (input_step p s 1 (input_of p.sites x)).0 (map (input_of p.sites) full)) (sym (none-sent p s (input_of p.sites x) h.0))
+short-sent p s short (x ∷ full) (inr h) =
+    ap (λ (l : Records). sent_on_inputs p s (map (input_of p.sites) l)) h.1
+    ∙ ap (λ l. sent_on p s (input_of p.sites x) ++ l) (short-sent p (input_step p s 1 (input_of p.sites x)).0 h.0 full h.2)
+
+pub shortening-keeps : ShorteningKeepsThePromise
+shortening-keeps p short full more h =
+    let o = opening_at p.site in
+    let longer : IsShortened p o (short ++ more) (full ++ more) = shortened-append p o short more full more h (nothing_left_out p _ more) in
+    record {
+      state = short_state p (full ++ more) (short ++ more) o 1 1 longer;
+      sent = short-sent p o (short ++ more) (full ++ more) longer;
+      was = answers_stay p full more;
+      is = answers_stay p short more
+          ∙ ap (λ t. output_of p short ++ answers p t (1 + length short) more) (short_state p full short o 1 1 h);
+    }
+
+-- ---- what is left of the files
+
+abbrev Wrotes : List ℕ → List Rewriting
+Wrotes short = map (λ b. Wrote b) short
+
+-- how the new file stands before it has its name
+abbrev begun : List ℕ → Rewritten
+begun bytes = record { fresh = bytes; flushed = []; is_empty = false; stays_empty = false; is_named = false; stays_named = false }
+
+some-written : (done bytes : List ℕ) → after_some (begun done) (Wrotes bytes) ≡ begun (done ++ bytes)
+some-written done [] = ap begun (sym (append-nil done))
+some-written done (b ∷ bytes) = some-written (done ++ b ∷ []) bytes ∙ ap begun (append_assoc done (b ∷ []) bytes)
+
+after-more : (r : Rewritten) (a b : List Rewriting) → after_some r (a ++ b) ≡ after_some (after_some r a) b
+after-more r [] b = refl
+after-more r (e ∷ a) b = after-more (after_one r e) a b
+
+-- a prefix of these writes and of what follows them
+front-of : (bytes : List ℕ) (next first later : List Rewriting) → first ++ later ≡ Wrotes bytes ++ next
+    → ((some : List ℕ) × (first ≡ Wrotes some)) ⊎ ((tail rest : List Rewriting) × (first ≡ Wrotes bytes ++ tail) × (tail ++ rest ≡ next))
+front-of bytes next [] later e = inl ([], refl)
+front-of [] next (x ∷ first) later e = inr (x ∷ first, later, refl, e)
+front-of (b ∷ bytes) next (x ∷ first) later e =
+    let same : x ≡ Wrote b = cc e in
+    ⊎_elim (λ w. inl (b ∷ w.0, ap (λ t. x ∷ t) w.1 ∙ ap (λ t. t ∷ Wrotes w.0) same))
+    (λ w. inr (w.0, w.1, ap (λ t. x ∷ t) w.2 ∙ ap (λ t. t ∷ (Wrotes bytes ++ w.0)) same, w.3))
+    (front-of bytes next first later (cc e))
+
+module _ (text : List (List (List ℕ)) → List ℕ) (s : FileState) (safe : IsSafe text s) (rest : s.flushed ≡ s.kept) where
+  -- the old lines, with a prefix of their answers
+  old : (files : Files) → files.log ≡ s.kept → IsFrontOf files.out s.out → SurvivesIn s files
+  old files e f = (
+    ([], append-nil s.flushed ∙ rest ∙ sym e),
+    (s.cut, ap (λ t. t ++ s.cut) e),
+    f,
+  )
+
+  none : IsFrontOf [] s.out
+  none = (s.out, refl)
+
+  all : IsFrontOf s.out s.out
+  all = ([], append-nil s.out)
+
+  -- while the new file hasn't its name, and `out` may be empty
+  unnamed : (short : List ℕ) (r : Rewritten) (files : Files) → r.is_named ≡ false → r.stays_named ≡ false → IsLeftIn s r files → IsOldOrNew s short files
+  unnamed short r files e f (inl is) =
+      inl (old files (ap (λ (t : Files). t.log) is ∙ ap (λ b. cond b r.fresh s.kept) e)
+      (subst (λ t. IsFrontOf t s.out) (sym (ap (λ (t : Files). t.out) is)) (emptied r.is_empty)))
+    where
+      emptied : (b : Bool) → IsFrontOf (cond b [] s.out) s.out
+      emptied true = none
+      emptied false = all
+  unnamed short r files e f (inr may) =
+      let log = kept-log (subst (λ b. MatchBool b (IsOfFresh r files.log) (IsOfKept s files.log ⊎ ((r.is_named ≡ true) × IsOfFresh r files.log))) f may.0) in
+      inl (log.0, log.1, some-out r.stays_empty may.1)
+    where
+      kept-log : IsOfKept s files.log ⊎ ((r.is_named ≡ true) × IsOfFresh r files.log) → IsOfKept s files.log
+      kept-log (inl k) = k
+      kept-log (inr k) = absurd (cc (k.0, e))
+
+      some-out : (b : Bool) → MatchBool b (files.out ≡ []) (IsFrontOf files.out s.out) → IsFrontOf files.out s.out
+      some-out true k = subst (λ t. IsFrontOf t s.out) (sym k) none
+      some-out false k = k
+
+  same-front : (short log : List ℕ) → IsFrontOf short log → IsFrontOf log short → log ≡ short
+  same-front short log f g =
+      let long = length-append short f.0 in
+      let more = length-append log g.0 in
+      let none : g.0 ≡ [] = no-more g.0 (omega (arith, long, more, ap length f.1, ap length g.1)) in
+      sym (append-nil log) ∙ ap (λ t. log ++ t) (sym none) ∙ g.1
+    where
+      no-more : (xs : List ℕ) → length xs ≡ 0 → xs ≡ []
+      no-more [] e = refl
+      no-more (x ∷ xs) e = absurd (omega (arith, e))
+
+  -- once it has its name, and all of it is flushed, and `out` is empty
+  named : (short : List ℕ) (r : Rewritten) (files : Files) → r.fresh ≡ short → r.flushed ≡ short → r.is_named ≡ true → r.is_empty ≡ true
+      → r.stays_empty ≡ true → IsLeftIn s r files → IsOldOrNew s short files
+  named short r files e f is empty stays (inl same) =
+      inr (ap (λ (l : List ℕ). record { log = l; out = files.out }) (ap (λ (t : Files). t.log) same ∙ ap (λ b. cond b r.fresh s.kept) is ∙ e)
+      ∙ ap (λ (o : List ℕ). record { log = short; out = o }) (ap (λ (t : Files). t.out) same ∙ ap (λ b. cond b [] s.out) empty))
+  named short r files e f is empty stays (inr may) =
+      let out : files.out ≡ [] = subst (λ b. MatchBool b (files.out ≡ []) (IsFrontOf files.out s.out)) stays may.1 in
+      log-of out r.stays_named may.0
+    where
+      fresh : files.out ≡ [] → IsOfFresh r files.log → IsOldOrNew s short files
+      fresh out k =
+          let same = same-front short files.log (subst (λ t. IsFrontOf t files.log) f k.0) (subst (IsFrontOf files.log) e k.1) in
+          inr (ap (λ (l : List ℕ). record { log = l; out = files.out }) same ∙ ap (λ (o : List ℕ). record { log = short; out = o }) out)
+
+      either : files.out ≡ [] → IsOfKept s files.log ⊎ ((r.is_named ≡ true) × IsOfFresh r files.log) → IsOldOrNew s short files
+      either out (inl k) = inl (k.0, k.1, subst (λ t. IsFrontOf t s.out) (sym out) none)
+      either out (inr k) = fresh out k.1
+
+      log-of : files.out ≡ [] → (b : Bool) → MatchBool b (IsOfFresh r files.log) (IsOfKept s files.log ⊎ ((r.is_named ≡ true) × IsOfFresh r files.log))
+          → IsOldOrNew s short files
+      log-of out true k = fresh out k
+      log-of out false k = either out k
+
+  -- how far it is behind its last write
+  behind : (short : List ℕ) (tail later : List Rewriting) (files : Files) → tail ++ later ≡ Emptied ∷ EmptyFlushed ∷ FreshFlushed ∷ Renamed ∷ NamesFlushed ∷ []
+      → IsLeftIn s (after_some (begun short) tail) files → IsOldOrNew s short files
+  behind short [] later files e left = unnamed short (begun short) files refl refl left
+  behind short (a ∷ []) later files e left =
+      let one : a ≡ Emptied = cc e in
+      let l = subst (λ t. IsLeftIn s (after_some (begun short) (t ∷ [])) files) one left in
+      unnamed short (after_some (begun short) (Emptied ∷ [])) files refl refl l
+  behind short (a ∷ b ∷ []) later files e left =
+      let one : a ≡ Emptied = cc e in
+      let two : b ≡ EmptyFlushed = cc e in
+      let l = subst (λ t. IsLeftIn s (after_some (begun short) (t ∷ EmptyFlushed ∷ [])) files) one
+      (subst (λ t. IsLeftIn s (after_some (begun short) (a ∷ t ∷ [])) files) two left) in
+      unnamed short (after_some (begun short) (Emptied ∷ EmptyFlushed ∷ [])) files refl refl l
+  behind short (a ∷ b ∷ c ∷ []) later files e left =
+      let is : a ∷ b ∷ c ∷ [] ≡ Emptied ∷ EmptyFlushed ∷ FreshFlushed ∷ [] = cc e in
+      unnamed short (after_some (begun short) (Emptied ∷ EmptyFlushed ∷ FreshFlushed ∷ [])) files refl refl
+      (subst (λ t. IsLeftIn s (after_some (begun short) t) files) is left)
+  behind short (a ∷ b ∷ c ∷ d ∷ []) later files e left =
+      let is : a ∷ b ∷ c ∷ d ∷ [] ≡ Emptied ∷ EmptyFlushed ∷ FreshFlushed ∷ Renamed ∷ [] = cc e in
+      named short (after_some (begun short) (Emptied ∷ EmptyFlushed ∷ FreshFlushed ∷ Renamed ∷ [])) files refl refl refl refl refl
+      (subst (λ t. IsLeftIn s (after_some (begun short) t) files) is left)
+  behind short (a ∷ b ∷ c ∷ d ∷ x ∷ []) later files e left =
+      let is : a ∷ b ∷ c ∷ d ∷ x ∷ [] ≡ Emptied ∷ EmptyFlushed ∷ FreshFlushed ∷ Renamed ∷ NamesFlushed ∷ [] = cc e in
+      named short (after_some (begun short) (Emptied ∷ EmptyFlushed ∷ FreshFlushed ∷ Renamed ∷ NamesFlushed ∷ [])) files refl refl refl refl refl
+      (subst (λ t. IsLeftIn s (after_some (begun short) t) files) is left)
+  behind short (a ∷ b ∷ c ∷ d ∷ x ∷ y ∷ tail) later files e left = absurd (cc e)
+
+  leaves : (short : List ℕ) (first later : List Rewriting) (files : Files) → first ++ later ≡ rewriting short
+      → IsLeftIn s (after_some untouched first) files → IsOldOrNew s short files
+  leaves short first later files e left =
+      ⊎_elim
+      (λ w. unnamed short (begun w.0) files refl refl
+      (subst (λ r. IsLeftIn s r files) (ap (after_some untouched) w.1 ∙ some-written [] w.0) left))
+      (λ w. behind short w.0 w.1 files w.3
+      (subst (λ r. IsLeftIn s r files)
+      (ap (after_some untouched) w.2 ∙ after-more untouched (Wrotes short) w.0 ∙ ap (λ r. after_some r w.0) (some-written [] short)) left))
+      (front-of short (Emptied ∷ EmptyFlushed ∷ FreshFlushed ∷ Renamed ∷ NamesFlushed ∷ []) first later e)
+
+pub rewriting-leaves : RewritingLeavesFiles
+rewriting-leaves text s short first later files safe rest e left = leaves text s safe rest short first later files e left
+
+-- ---- orders that are refused
+
+pub named-before-emptied : NamedBeforeEmptied
+named-before-emptied s short told shorter left =
+    go (after_some untouched (Wrotes short ++ FreshFlushed ∷ Renamed ∷ []))
+    (after-more untouched (Wrotes short) (FreshFlushed ∷ Renamed ∷ []) ∙ ap (λ r. after_some r (FreshFlushed ∷ Renamed ∷ [])) (some-written [] short)) left
+  where
+    go : (r : Rewritten) → r ≡ after_some (begun short) (FreshFlushed ∷ Renamed ∷ []) → IsOldOrNew s short (killed_in s r) → ⊥
+    go r e (inl old) =
+        let log : (killed_in s r).log ≡ short = ap (λ r. (killed_in s r).log) e in
+        let long = length-append s.flushed old.0.0 in
+        omega (arith, shorter, long, ap length old.0.1, ap length log)
+    go r e (inr new) = told (sym (ap (λ r. (killed_in s r).out) e) ∙ ap (λ (f : Files). f.out) new)
+
+pub named-before-flushed : NamedBeforeFlushed
+named-before-flushed s short some kept all = no (all files left)
+  where
+    files : Files
+    files = record { log = []; out = [] }
+
+    left : IsLeftIn s (after_some untouched (Wrotes short ++ Emptied ∷ EmptyFlushed ∷ Renamed ∷ [])) files
+    left = subst (λ r. IsLeftIn s r files)
+        (sym (after-more untouched (Wrotes short) (Emptied ∷ EmptyFlushed ∷ Renamed ∷ [])
+        ∙ ap (λ r. after_some r (Emptied ∷ EmptyFlushed ∷ Renamed ∷ [])) (some-written [] short)))
+        (inr (inr (refl, (([], refl), (short, refl))), refl))
+
+    empty-front : (xs : List ℕ) → IsFrontOf xs [] → xs ≡ []
+    empty-front [] f = refl
+    empty-front (x ∷ xs) f = absurd (cc f.1)
+
+    no : IsOldOrNew s short files → ⊥
+    no (inl old) = kept (empty-front s.flushed old.0)
+    no (inr new) = some (sym (ap (λ (f : Files). f.log) new))

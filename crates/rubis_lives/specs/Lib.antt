@@ -1,0 +1,9 @@
+pub mod Crashes
+pub mod Shops
+pub mod Room
+pub mod Moments
+pub mod Histories
+pub mod SiteLives
+pub mod Rewriting
+pub mod Folders
+pub mod Calls
