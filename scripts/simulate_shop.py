@@ -7,8 +7,8 @@ what is decided is decided by the carrier of `shop`, and its sites, folders, ser
 minute; then nothing goes wrong any more, and it is looked whether ids were given once, nothing that was accepted is lost, what askers were
 told is true, and all goes on.
 
-Run number N of a seed is SEED.N, and is the same each time. One that breaks a promise is printed, and made smaller: `SEED.N 1 --skip ..`
-plays it again without some of its events. With --without one rule of the carrier is taken out, to see that this is found. With --program
+Run number N of a seed is SEED.N, and is the same each time: `SEED.N 1` plays it again. One that breaks a promise is printed, and made
+smaller: `SEED.N 1 --skip ..` plays it without some of its events. With --without one rule of the carrier is taken out, to see that this is found. With --program
 the simulated sites' answers are compared with the program's first. With --steps each run is written to a file as a list of the model's
 steps. The status is 1 if a promise was broken."""
 
@@ -18,6 +18,7 @@ import multiprocessing
 import os
 import pathlib
 import random
+import re
 import subprocess
 import sys
 import threading
@@ -87,6 +88,11 @@ def many(job: tuple[list[str], str | None, str | None]) -> list[Played]:
     return [play(seed, without, steps=steps) for seed in seeds]
 
 
+def named(args: argparse.Namespace) -> str | None:
+    """The name of the only run that is to be played, if the seed is one."""
+    return args.seed if args.count == 1 and not args.first and re.fullmatch(r".+\.[0-9]+", args.seed) else None
+
+
 class Jobs:
     """Runs for the processes, some at a time, until the time is over or there are enough."""
 
@@ -98,6 +104,9 @@ class Jobs:
 
     def all(self) -> Iterator[tuple[list[str], str | None, str | None]]:
         args = self.args
+        if name := named(args):
+            yield [name], args.without, args.steps
+            return
         for first in range(args.first, args.first + args.count, AT_ONCE):
             self._free.acquire()
             if self.is_over or self.until and time.monotonic() > self.until:
