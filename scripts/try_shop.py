@@ -2095,7 +2095,7 @@ def test_help(at: Folder) -> None:
 
 
 def test_units(at: Folder) -> None:
-    """The unit tests of shop_tool and shop_ask."""
+    """The unit tests of shop_tool, shop_ask and the simulation."""
     expect_units(PYTHON, "shop_tool")
     expect_units(PYTHON, "shop_ask")
 
@@ -2103,6 +2103,7 @@ def test_units(at: Folder) -> None:
 def test_types(at: Folder) -> None:
     """The types of shop_tool, as mypy checks them."""
     expect_types(at.path / "cache", "shop_tool", "shop_ask", *map(str, TOP.glob("scripts/*shop*.py")))
+    expect_units(PYTHON, "scripts/simulation")
 
 
 def tried(test: Callable[[Folder], None], program: pathlib.Path) -> Exception | None:

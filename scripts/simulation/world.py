@@ -66,6 +66,7 @@ class World:
         # What no part of the shop knows.
         self.accepted: dict[bytes, set[tuple[int, int]]] = {}       # asks, each with the ids under which a site accepted it
         self.made: dict[tuple[int, int], bytes] = {}                # the message that had each id last
+        self.yielding: set[bytes] = set()   # packets that a folder sent while it yielded to a standby: they count once they stand in a stream
         self.text_of: dict[bytes, bytes] = {}                       # the message that each ask became
         self.open_asks: dict[int, set[bytes]] = {}  # by folder: asks of which an asker was told that a later answer decides
         self.decided: set[bytes] = set()            # those that weren't accepted when it came
@@ -92,9 +93,6 @@ class World:
             return None
         machine, home = self.dice.sample(self.machines, 2)
         return self.dice.choice(home.here), machine
-
-    def has_standby(self, site: int) -> bool:
-        return self.standby is not None and self.standby[0] == site
 
     def supervisors(self) -> list["Supervisor"]:
         self.running = [supervisor for supervisor in self.running if supervisor.is_alive]
@@ -137,8 +135,8 @@ class World:
         own, held = opens.release.counts[number], opens.turn if opens.issued is not None else None
         for machine in self.machines:
             for site, folder in machine.folders.items():
-                if self.has_standby(number) and site == number:
-                    continue        # what a folder of such a site has doesn't count
+                if folder.yields and site == number:
+                    continue        # it told ok only of what stands in the stream
                 if folder is not opened and not self.is_unreached:
                     whole = [line for line in folder.lines("kept") if line.startswith(b"msg,1,%d," % number) and line.endswith(b"\n")]
                     has = [line.split(b",", 4)[3] for line in whole]
@@ -159,21 +157,25 @@ class World:
                 self.accepted.setdefault(record, set()).add(name)
                 if len(self.accepted[record]) > 1 and (record not in self.keyed or self.knows_keys(site)):
                     raise Violation(f"one ask was accepted twice: {record!r} as {sorted(self.accepted[record])}")
-                if (before := self.made.get(name, text)) != text and not self.has_standby(site):
+                if (before := self.made.get(name, text)) != text and before not in self.yielding:
                     if self._is_anywhere(before):
                         self.excused.add(name)      # what knew of the first couldn't be asked when the site was opened
                     self.lost.add(before)
                 self.made[name] = text
                 self.text_of[record] = text
+                if keeper.folder.yields:
+                    self.yielding.add(text)
             case b"passed":
                 text = rest[5:].rstrip(b"\n")
                 turn, to = (int(field) for field in text.split(b",")[2:4])
                 self.note("Passes", keeper.folder.number, to, turn)
                 if turn > self.turn[0]:
                     self.turn = turn, site, to
-                if self.passes.get(turn, text) != text and not self.has_standby(site) and self._is_anywhere(self.passes[turn]):
+                if (before := self.passes.get(turn, text)) != text and before not in self.yielding and self._is_anywhere(before):
                     self.excused.add((site, -turn))
                 self.passes[turn] = text
+                if keeper.folder.yields:
+                    self.yielding.add(text)
             case b"holding":
                 self.note("Reads", keeper.folder.number, "pass", int(record.split(b",")[2]))
             case b"released" | b"held":
