@@ -650,13 +650,18 @@ def test_time_out(at: Folder) -> None:
     """Where a site or the supervisor hangs, a command ends when its time is over, and says what isn't known and how it is found out."""
     at.run("./shop start auction --sites 2")
     at.shop(f"ask 0 {SALE}")
+    at.shop("ask 0 user,zoe --key z")
     keeper, supervisor = at.site(0)["pid"], at.status()["pid"]
     os.kill(keeper, signal.SIGSTOP)
-    how = "when site 0 has answered a later record, it is in `shop log 0` after record 3, or it never will be"
-    at.shop("ask 0 user,eve --timeout 1", 3, f"it may still be accepted: {how}")
+    for number, name in enumerate(("hal", "eve"), 5):
+        how = f"as record {number} of `shop log 0`; once another record stands there, it never will be"
+        at.shop(f"ask 0 user,{name} --timeout 1", 3, f"it may still be accepted, {how}")
+    expect(at.shop("ask 0 user,zoe --key z") == "ok,0.4\n", "an answer that is given again comes after what the askers were told")
+    expect("reply,5," not in at.shop("log 0"), "it decides nothing")
     os.kill(keeper, signal.SIGCONT)
-    expect(at.shop("ask 0 user,cat") == "ok,0.5\n", "it goes on")
-    expect("< user,eve\n> reply,4,ok,0.4\n" in at.shop("log 0"), "what the asker finds")
+    expect(at.shop("ask 0 user,cat") == "ok,0.7\n", "it goes on")
+    found = at.shop("log 0")
+    expect("< user,hal\n> reply,5,ok,0.5\n" in found and "< user,eve\n> reply,6,ok,0.6\n" in found, f"what the askers find: {found}")
     os.kill(supervisor, signal.SIGSTOP)
     for words in ("ask 0 user,dan", "list 0 users", "show 0 item 0.3", "audit", "status"):
         unknown = "; whether it was accepted isn't known (shop log 0)" if words.startswith("ask") else ""
@@ -683,7 +688,7 @@ def test_asked_while_it_stops(at: Folder) -> None:
     at.shop("ask 0 user,fay", 3, "the shop is being stopped; nothing was asked")
     for asker in (given, waits):
         expect(asker.wait(SECONDS) == 3, "an asker's status")
-    expect("after record 3, or it never will be" in at.text("given"), f"what was given: {at.text('given')}")
+    expect("as record 4 of `shop log 0`; once another" in at.text("given"), f"what was given: {at.text('given')}")
     expect(at.text("waits").endswith("the shop is being stopped; not accepted\n"), f"what was refused: {at.text('waits')}")
     os.kill(keeper, signal.SIGCONT)
     expect(stop.wait(SECONDS) == 0, "the status of the stop")
@@ -2098,12 +2103,12 @@ def test_units(at: Folder) -> None:
     """The unit tests of shop_tool, shop_ask and the simulation."""
     expect_units(PYTHON, "shop_tool")
     expect_units(PYTHON, "shop_ask")
+    expect_units(PYTHON, "scripts/simulation")
 
 
 def test_types(at: Folder) -> None:
     """The types of shop_tool, as mypy checks them."""
     expect_types(at.path / "cache", "shop_tool", "shop_ask", *map(str, TOP.glob("scripts/*shop*.py")))
-    expect_units(PYTHON, "scripts/simulation")
 
 
 def tried(test: Callable[[Folder], None], program: pathlib.Path) -> Exception | None:

@@ -1,6 +1,6 @@
 """Puts faults back, one at a time, so that it is known that they are found: each takes one rule out."""
 
-from collections.abc import Iterable
+from collections.abc import Iterable, Iterator
 from contextlib import ExitStack
 from typing import Any
 from unittest import mock
@@ -12,7 +12,7 @@ from shop_tool.carrier.lives import Standing
 from shop_tool.carrier.over_server import ServerLink
 from shop_tool.carrier.records import Purpose, why_not_one_record
 from shop_tool.carrier.shop import Shop
-from shop_tool.carrier.site import Site
+from shop_tool.carrier.site import Pending, Site
 from shop_tool.carrier.sums import compared
 
 from .world import Rules
@@ -27,6 +27,10 @@ def opens_at_once(shop: Shop, site: Site, answered: int | None) -> None:
 
 def sent_unguarded(site: Site, begin: int, end: int) -> list[bytes]:
     return [text for _, text in site.ledger.sends.read(begin, end)]
+
+
+def numbered_alone(site: Site) -> Iterator[tuple[Pending, int]]:
+    return ((pending, site.ledger.records + 1) for pending in site.line)
 
 
 def answered_only(keys: Keys, name: bytes, now: float) -> Key | None:
@@ -59,13 +63,14 @@ def patches_of(rule: str) -> list[Any]:
         "11": [],
         "keys-read": [mock.patch.object(Keys, "read", lambda *_: None)],
         "keys-given": [mock.patch.object(Keys, "find", answered_only)],
+        "told-number": [mock.patch.object(Site, "numbered", numbered_alone)],
         "standby-told": [mock.patch.object(Ask, "_stands", lambda *_: iter(()))],
         "turns": [instead("shop_tool.carrier.shop.why_passed_on", lambda *_: None)],
     }
     return changes[rule]
 
 
-RULES = ("1", "2", "3", "4", "5", "6", "7", "9", "9-lives", "11", "keys-read", "keys-given", "standby-told", "turns")
+RULES = ("1", "2", "3", "4", "5", "6", "7", "9", "9-lives", "11", "keys-read", "keys-given", "told-number", "standby-told", "turns")
 
 
 def rules_without(rule: str | None) -> Rules:

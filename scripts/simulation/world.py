@@ -68,8 +68,7 @@ class World:
         self.made: dict[tuple[int, int], bytes] = {}                # the message that had each id last
         self.yielding: set[bytes] = set()   # packets that a folder sent while it yielded to a standby: they count once they stand in a stream
         self.text_of: dict[bytes, bytes] = {}                       # the message that each ask became
-        self.open_asks: dict[int, set[bytes]] = {}  # by folder: asks of which an asker was told that a later answer decides
-        self.decided: set[bytes] = set()            # those that weren't accepted when it came
+        self.numbers_of: dict[bytes, int] = {}      # which of its site's records each of these was
         self.keyed: dict[bytes, int] = {}           # the sites of asks that are asked again under keys
         self.lost_keys: set[int] = set()            # sites of which a folder lost something, and so maybe keys
         self.lost: set[bytes] = set()                               # messages of which nothing whole was left
@@ -155,6 +154,7 @@ class World:
                 name, text = (site, number), rest[5:-1] if rest.endswith(b"\n") else rest[5:]
                 self.note("Accepts", keeper.folder.number, self.ask(record), site, number)
                 self.accepted.setdefault(record, set()).add(name)
+                self.numbers_of[record] = int(fields[1])
                 if len(self.accepted[record]) > 1 and (record not in self.keyed or self.knows_keys(site)):
                     raise Violation(f"one ask was accepted twice: {record!r} as {sorted(self.accepted[record])}")
                 if (before := self.made.get(name, text)) != text and before not in self.yielding:
