@@ -16,8 +16,9 @@ from shop_tool.carrier.rebuilding import UNCHANGED
 from shop_tool.carrier.records import Purpose, text_of
 from shop_tool.carrier.shop import HAND_OVER_SECONDS, Shop
 from shop_tool.carrier.site import FIRST_WAIT, LAST_WAIT, Disagreement, Site, State
-from shop_tool.carrier.steps import (Append, Broken, CallAll, Connect, Flag, Hear, IsRunning, Kept, KeptOf, Read, Replay, Rewrite, Say,
-                                     SayLeave, SayWant, SeeHere, SeenHere, SentHere, Signal, Statuses, Steps, Swap, TakeOver, UpElsewhere,
+from shop_tool.carrier.steps import State as StateOf
+from shop_tool.carrier.steps import (Append, Broken, CallAll, Connect, Flag, Hear, IsRunning, Kept, KeptOf, Owner, Read, Replay, Rewrite, Say,
+                                     SayLeave, SayWant, SeeHere, SeenHere, SentHere, Signal, Statuses, Steps, Swap, TakeOver, Tell, UpElsewhere,
                                      Wait)
 from shop_tool.carrier.sums import LINE_BYTES, why_changed
 from shop_tool.carrier.told import unanswered
@@ -29,6 +30,7 @@ from .disk import File, Folder, Keeper, Machine
 from .server import WRITES, Server
 from .stand_in import StandIn
 
+OVER = (StateOf, Read, Tell, Hear, Owner, Append, Connect)      # some steps over the server, the most frequent ones
 STOP_SECONDS, END_SECONDS, LAST_SECONDS, LOOK_SECONDS = 30.0, 3.0, 2.0, 1.0
 
 
@@ -316,14 +318,6 @@ class Process:
         self.paused_until = 0.0
         self.tasks: dict[Task, None] = {}       # in their order, so that a run is the same each time
 
-    def resumes_in(self, call: Callable[[], None]) -> float | None:
-        if not self.is_alive:
-            return 0.0
-        if (left := self.paused_until - self.clock.now) > 0:
-            self.clock.after(left, call)
-            return left
-        return None
-
     def spawn(self, steps: Steps[Any], on_end: Callable[[Any, Exception | None], None] | None = None,
               hear: Callable[[bytes, Any], None] | None = None) -> Task:
         def ended(said: Any, fault: Exception | None) -> None:
@@ -362,7 +356,8 @@ class Process:
         folder = self.machine.folders.get(keeper)
         if not folder or not folder.is_there or "kept" not in folder.files:
             return None
-        return list(packets_of(folder.unchanged(), origin, after)), tokens_of(folder.unchanged())
+        lines = folder.unchanged()
+        return list(packets_of(lines, origin, after)), tokens_of(lines)
 
     def takes_over(self, site: int) -> None:
         """Puts the folder that was made in the place of a site elsewhere."""
@@ -660,6 +655,8 @@ class Supervisor(Process, Shop):
     # Steps.
 
     def do(self, task: Task, step: tuple[Any, ...]) -> None:
+        if isinstance(step, OVER):
+            return self.over(task, step)
         server, is_over_server = self.world.server, self.world.is_over_server
         match step:
             case Say(record, answer, _):

@@ -23,9 +23,10 @@ class Signal:
         self._waiters: dict[Callable[[], None], None] = {}
 
     def tell(self) -> None:
-        waiters, self._waiters = self._waiters, {}
-        for wake in waiters:
-            wake()
+        if self._waiters:
+            waiters, self._waiters = self._waiters, {}
+            for wake in waiters:
+                wake()
 
     def add(self, wake: Callable[[], None]) -> None:
         """Has this called the next time that it is told."""
