@@ -1290,11 +1290,11 @@ def yields(at: Folder, server: Server) -> None:
     at.wait("that site 2 yields", lambda: len(set(server.say("mget auction:life:2 auction:yields:2").split("\n")[:2])) == 1)
 
 
-def start_with_standby(at: Folder, over_of_b: str, server: Server) -> None:
+def start_with_standby(at: Folder, over_of_b: str, server: Server, after: int = 1) -> None:
     """Sites 0 and 1 in a, 2 in b, and c stands by for 2."""
     at.run(f"./shop start a --sites 3 --here 0,1 --over {server.over}")
     at.wait("site 2", lambda: at.run(f"./shop start b --sites 3 --here 2 --over {over_of_b} && echo up; true") == "up\n")
-    at.run(f"./shop start c --sites 3 --standby 2 --after 1 --over {server.over}")
+    at.run(f"./shop start c --sites 3 --standby 2 --after {after} --over {server.over}")
     at.shop(f"ask 0 {SALE}", folder="a")
     expect(at.shop("ask 2 bid,0.3,0.2,500", folder="b") == "ok,2.1\n", "a bid at site 2")
     yields(at, server)
@@ -1358,6 +1358,25 @@ def test_standby_of_one_that_was_cut_off(at: Folder) -> None:
     line.join()
     is_fenced_and_equal(at)
     expect("late" not in at.shop("list 2 comments 0.1", folder="c"), "what was accepted while it was cut off doesn't count")
+    at.run("./shop stop b")
+    server.kill()
+    at.run("./shop start b", 3, "site 2: takes no asks until it is known what the others have of it")
+
+
+def test_standby_and_a_rebuild(at: Folder) -> None:
+    """A site is made again while its standby waits: that doesn't take its place before the new folder was started, or two would have it."""
+    server = Server(at)
+    start_with_standby(at, server.over, server, after=3)
+    at.kill(at.status("b")["pid"])
+    at.shop("rebuild 2", folder="b")
+    at.wait("why not", lambda: "site 2: it isn't taken over: it hasn't said that it yields to a standby" in at.shop("log", folder="c"))
+    at.run("./shop start b")
+    expect(at.shop("ask 2 bid,0.3,0.2,600", folder="b") == "ok,2.2\n", "it goes on")
+    yields(at, server)
+    at.run("./shop stop b")
+    at.wait("the standby", lambda: json.loads(at.text("c/shop.json"))["here"] == [2])
+    expect(at.shop("ask 2 bid,0.3,0.2,700", folder="c") == "ok,2.3\n", "it takes over what yields again")
+    at.shop("audit", folder="c")
 
 
 def test_standby_that_comes_and_goes(at: Folder) -> None:

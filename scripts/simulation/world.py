@@ -43,6 +43,7 @@ class Rules:
 
     swallowed_cancel_ends = True    # a supervisor that is stopped ends, whatever a connection swallows
     hands_over = True               # a stop passes the token on first
+    adopted_yields_later = True     # a folder that is given a site hasn't said that it yields
 
 
 class World:
@@ -78,6 +79,7 @@ class World:
         self.is_unreached = False           # a site was opened of which a folder has more that couldn't be reached
         self.turn = (0, 0, 0)                                       # of the last token, from and to which site
         self.passes: dict[int, bytes] = {}                          # the last token of each turn
+        self.passed_by: dict[int, int] = {}                         # which site passed it
 
     def _machines(self) -> list[Machine]:
         if not self.is_over_server or self.dice.random() < 0.15:
@@ -131,8 +133,15 @@ class World:
         packets = [line[:-1] for line in older.lines("kept") if line.startswith((b"msg,", b"token,"))] + older.sent()
         self.is_unreached = self.is_unreached or not all(map(self._is_anywhere, packets))
 
-    def note_unreached(self, number: int, opened: Folder, opens: StandIn) -> None:
-        """A site is opened: notes whether a folder has more of it that can't be reached, or has had the token since."""
+    def _is_silent(self, machine: Machine, site: int) -> bool:
+        """Whether a site can't say what its folder on a machine has."""
+        return not any(supervisor.machine is machine and supervisor.reaches() and supervisor.paused_until < self.clock.now
+                       and site in supervisor.sites and supervisor.sites[site].compared.is_set and not supervisor.sites[site].fenced_by
+                       for supervisor in self.supervisors())
+
+    def note_unreached(self, number: int, opened: Folder, opens: StandIn, known: int) -> None:
+        """A site is opened whose supervisor knows of this turn of the token: notes whether a folder has more of it that can't be reached, or
+        has had the token since."""
         own, held = opens.release.counts[number], opens.turn if opens.issued is not None else None
         for machine in self.machines:
             for site, folder in machine.folders.items():
@@ -144,6 +153,10 @@ class World:
                     sent = sum(text.startswith(b"msg,") for text in folder.sent()) if site == number else 0
                     turns = [int(text.split(b",")[2]) for text in tokens_of(folder.lines("kept"))]
                     self.is_unreached = max([sent, *map(int, has)]) > own or held is not None and max(turns, default=0) > held
+                    # Where a later turn is known, a token that came before isn't taken again.
+                    passed = max((turn for turn in turns if self.passed_by.get(turn) == number), default=0)
+                    if passed > max(known, opens.turn + 1) and self._is_silent(machine, site):
+                        self.is_unreached = True
 
     def answered(self, keeper: Keeper, record: bytes, said: bytes) -> None:
         """A site has answered a record."""
@@ -175,7 +188,7 @@ class World:
                     self.turn = turn, site, to
                 if (before := self.passes.get(turn, text)) != text and before not in self.yielding and self._is_anywhere(before):
                     self.excused.add((site, -turn))
-                self.passes[turn] = text
+                self.passes[turn], self.passed_by[turn] = text, site
                 if keeper.folder.yields:
                     self.yielding.add(text)
             case b"holding":
@@ -577,10 +590,15 @@ class Supervisor(Process, Shop):
         memory[first] = site.lives[-1], answered, self.sites[site.number].folder.inode
 
         def tell(upto: int) -> None:
-            life, was, of = memory[first]
+            life, was, of = memory.get(first, ("", upto, 0))
             if upto > was:
                 memory[first] = life, upto, of
         return tell
+
+    def forget(self, site: Site) -> None:
+        memory, first = self.machine.memory, site.lives[0]
+        if first in memory and memory[first][2] == self.sites[site.number].folder.inode:
+            del memory[first]
 
     def _begin(self, site: SimulatedSite) -> None:
         """As the shell's: begins the next life of a site's folder."""
@@ -626,7 +644,7 @@ class Supervisor(Process, Shop):
         keeper = self.sites[site.number].keeper
         assert keeper
         messages = keeper.site.release.counts[site.number]
-        self.world.note_unreached(site.number, keeper.folder, keeper.site)
+        self.world.note_unreached(site.number, keeper.folder, keeper.site, self.wants.turn)
         own = dict(sends_of(keeper.folder.lines("out")))
         for other in self.sites.values():
             if other is not site and other.known.is_set and other.ledger.have[site.number].greatest > messages:
