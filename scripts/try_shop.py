@@ -1361,6 +1361,8 @@ def test_standby_of_one_that_was_cut_off(at: Folder) -> None:
     at.run("./shop stop b")
     server.kill()
     at.run("./shop start b", 3, "site 2: takes no asks until it is known what the others have of it")
+    time.sleep(1)
+    at.shop("ask 2 comment,0.3,0.2,0.1,1,bad --timeout 1", 3, "nothing was given to it", folder="b")
 
 
 def test_standby_and_a_rebuild(at: Folder) -> None:
