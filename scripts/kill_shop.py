@@ -13,8 +13,9 @@ key until it is, and some that were answered are asked once more, and have to ge
 what was told otherwise may be gone. With --elsewhere any supervisor is asked for any site.
 
 At the end a red ask at each site is accepted, all sites have equal logs as sets and equal tables, the audit says Agree, each accepted ask
-is in the logs once, as it was asked, and none that was told *not accepted* is. Figures go to standard output; the status is 1 if something
-was lost or doubled, or red asks don't go on."""
+is in the logs once, as it was asked, none that was told *not accepted* is, and where no folder loses anything, one that was told which
+record it would be is that one if it was accepted. Figures go to standard output; the status is 1 if something was lost or doubled, or red
+asks don't go on."""
 
 import argparse
 import collections
@@ -46,6 +47,7 @@ KINDS = {"user": 4, "item": 4, "bid": 6, "comment": 6, "buy": 2, "restock": 2, "
 TRIES = 1000        # how often one is asked again under its key at most: some time after the last kill
 # Asks that are one of their kind, so that they can be counted in the logs.
 COUNTED = ("user", "item", "comment", "bid", "restock")
+NUMBERED = re.compile(r"may still be accepted, as record ([0-9]+) of")
 
 
 class Asked:
@@ -55,6 +57,7 @@ class Asked:
         self.accepted: dict[str, tuple[str, str]] = {}      # by id: what was asked, and the message
         self.never: list[str] = []                          # told: not accepted, or not given to a site
         self.open = 0                                       # not told how it ended
+        self.numbered: list[tuple[int, int, str]] = []      # told which record of a site it would be
         self.refused: collections.Counter[str] = collections.Counter()
         self.faults: collections.Counter[str] = collections.Counter()
         self.seconds: list[float] = []
@@ -82,7 +85,7 @@ class Asker(threading.Thread):
             try:
                 self.ask(site, record)
             except Fault as fault:
-                self.told_fault(record, fault)
+                self.told_fault(site, record, fault)
 
     def ask_by_key(self, site: int, record: str, key: str) -> None:
         """Asks until an answer comes, and then maybe once more, when the answer has to be the same."""
@@ -140,12 +143,14 @@ class Asker(threading.Thread):
                 asked.items.append((head[3], record.split(",")[1]))
         return lines
 
-    def told_fault(self, record: str, fault: Fault) -> None:
+    def told_fault(self, site: int, record: str, fault: Fault) -> None:
         asked = self.trial.asked
         if "not accepted" in fault.text or "nothing was" in fault.text:
             asked.never.append(record)
         else:
             asked.open += 1
+            if found := NUMBERED.search(fault.text):
+                asked.numbered.append((site, int(found[1]), record))
         self.note_fault(fault)
 
     def note_fault(self, fault: Fault) -> None:
@@ -358,7 +363,7 @@ class Trial:
         within = [spans[len(spans) // 2], spans[len(spans) * 99 // 100], spans[-1]]
         return {
             "over": self.args.over, "seed": self.args.seed, "kills": dict(self.kills),
-            "asks answered": len(spans), "accepted": len(asked.accepted), "not told": asked.open,
+            "asks answered": len(spans), "accepted": len(asked.accepted), "not told": asked.open, "of these told a number": len(asked.numbered),
             "asked again by key": asked.again, "and after the answer": asked.same,
             "of these accepted": len(messages[0]) - len(asked.accepted), "told: not accepted": len(asked.never),
             "refused": dict(asked.refused), "faults told": dict(asked.faults), "token passes": passes, "messages": len(messages[0]),
@@ -386,6 +391,10 @@ class Trial:
         for record in asked.never:
             if asks[record] and record.split(",")[0] in COUNTED:
                 asked.bad.append(f"{record} was told as not accepted, and is in the logs")
+        kept = {site: pathlib.Path(folder, str(site), "kept").read_text().split("\n") for folder, sites in self.parts.items() for site in sites}
+        for site, number, record in asked.numbered if self.has_keys else ():
+            if asks[record] and record.split(",")[0] in COUNTED and kept[site][number - 1:number] != [record]:
+                asked.bad.append(f"{record} was told to be record {number} of site {site}, and is another one")
 
 
 def kill(process: int) -> bool:

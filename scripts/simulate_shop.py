@@ -7,17 +7,19 @@ what is decided is decided by the carrier of `shop`, and its sites, folders, ser
 minute; then nothing goes wrong any more, and it is looked whether ids were given once, nothing that was accepted is lost, what askers were
 told is true, and all goes on.
 
-Run number N of a seed is SEED.N, and is the same each time. One that breaks a promise is printed, and made smaller: `SEED.N 1 --skip ..`
-plays it again without some of its events. With --without one rule of the carrier is taken out, to see that this is found. With --program
+Run number N of a seed is SEED.N, and is the same each time: `SEED.N 1` plays it again. One that breaks a promise is printed, and made
+smaller: `SEED.N 1 --skip ..` plays it without some of its events. With --without one rule of the carrier is taken out, to see that this is found. With --program
 the simulated sites' answers are compared with the program's first. With --steps each run is written to a file as a list of the model's
 steps. The status is 1 if a promise was broken."""
 
 import argparse
 import collections
+import gc
 import multiprocessing
 import os
 import pathlib
 import random
+import re
 import subprocess
 import sys
 import threading
@@ -36,6 +38,7 @@ from simulation.without import RULES, rules_without, taken_out      # noqa: E402
 from simulation.world import Violation                  # noqa: E402
 
 AT_ONCE = 10            # how many runs a process makes before it says how they were
+MANY = 10               # how often it does before another process goes on
 RECORDS = 6000          # how many records are compared with the program's answers
 LEAST = {"events": 300, "faults": 10, "asks": 50, "turns": 3}
 
@@ -87,6 +90,11 @@ def many(job: tuple[list[str], str | None, str | None]) -> list[Played]:
     return [play(seed, without, steps=steps) for seed in seeds]
 
 
+def named(args: argparse.Namespace) -> str | None:
+    """The name of the only run that is to be played, if the seed is one."""
+    return args.seed if args.count == 1 and not args.first and re.fullmatch(r".+\.[0-9]+", args.seed) else None
+
+
 class Jobs:
     """Runs for the processes, some at a time, until the time is over or there are enough."""
 
@@ -98,6 +106,9 @@ class Jobs:
 
     def all(self) -> Iterator[tuple[list[str], str | None, str | None]]:
         args = self.args
+        if name := named(args):
+            yield [name], args.without, args.steps
+            return
         for first in range(args.first, args.first + args.count, AT_ONCE):
             self._free.acquire()
             if self.is_over or self.until and time.monotonic() > self.until:
@@ -155,7 +166,8 @@ def main() -> int:
     if args.skip is not None:
         return told_of(play(args.seed, args.without, frozenset(int(part) for part in args.skip.split(",") if part), args.steps))
     began, plays, jobs = time.monotonic(), Counts(), Jobs(args)
-    with multiprocessing.Pool(args.processes) as pool:
+    # What a run leaves is circular, and goes with its process: looking for it takes a fifth of the time.
+    with multiprocessing.Pool(args.processes, gc.disable, maxtasksperchild=MANY) as pool:
         for done in pool.imap_unordered(many, jobs.all()):
             for played in done:
                 plays.add(played)

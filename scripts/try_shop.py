@@ -650,13 +650,18 @@ def test_time_out(at: Folder) -> None:
     """Where a site or the supervisor hangs, a command ends when its time is over, and says what isn't known and how it is found out."""
     at.run("./shop start auction --sites 2")
     at.shop(f"ask 0 {SALE}")
+    at.shop("ask 0 user,zoe --key z")
     keeper, supervisor = at.site(0)["pid"], at.status()["pid"]
     os.kill(keeper, signal.SIGSTOP)
-    how = "when site 0 has answered a later record, it is in `shop log 0` after record 3, or it never will be"
-    at.shop("ask 0 user,eve --timeout 1", 3, f"it may still be accepted: {how}")
+    for number, name in enumerate(("hal", "eve"), 5):
+        how = f"as record {number} of `shop log 0`; once another record stands there, it never will be"
+        at.shop(f"ask 0 user,{name} --timeout 1", 3, f"it may still be accepted, {how}")
+    expect(at.shop("ask 0 user,zoe --key z") == "ok,0.4\n", "an answer that is given again comes after what the askers were told")
+    expect("reply,5," not in at.shop("log 0"), "it decides nothing")
     os.kill(keeper, signal.SIGCONT)
-    expect(at.shop("ask 0 user,cat") == "ok,0.5\n", "it goes on")
-    expect("< user,eve\n> reply,4,ok,0.4\n" in at.shop("log 0"), "what the asker finds")
+    expect(at.shop("ask 0 user,cat") == "ok,0.7\n", "it goes on")
+    found = at.shop("log 0")
+    expect("< user,hal\n> reply,5,ok,0.5\n" in found and "< user,eve\n> reply,6,ok,0.6\n" in found, f"what the askers find: {found}")
     os.kill(supervisor, signal.SIGSTOP)
     for words in ("ask 0 user,dan", "list 0 users", "show 0 item 0.3", "audit", "status"):
         unknown = "; whether it was accepted isn't known (shop log 0)" if words.startswith("ask") else ""
@@ -683,7 +688,7 @@ def test_asked_while_it_stops(at: Folder) -> None:
     at.shop("ask 0 user,fay", 3, "the shop is being stopped; nothing was asked")
     for asker in (given, waits):
         expect(asker.wait(SECONDS) == 3, "an asker's status")
-    expect("after record 3, or it never will be" in at.text("given"), f"what was given: {at.text('given')}")
+    expect("as record 4 of `shop log 0`; once another" in at.text("given"), f"what was given: {at.text('given')}")
     expect(at.text("waits").endswith("the shop is being stopped; not accepted\n"), f"what was refused: {at.text('waits')}")
     os.kill(keeper, signal.SIGCONT)
     expect(stop.wait(SECONDS) == 0, "the status of the stop")
@@ -1285,11 +1290,11 @@ def yields(at: Folder, server: Server) -> None:
     at.wait("that site 2 yields", lambda: len(set(server.say("mget auction:life:2 auction:yields:2").split("\n")[:2])) == 1)
 
 
-def start_with_standby(at: Folder, over_of_b: str, server: Server) -> None:
+def start_with_standby(at: Folder, over_of_b: str, server: Server, after: int = 1) -> None:
     """Sites 0 and 1 in a, 2 in b, and c stands by for 2."""
     at.run(f"./shop start a --sites 3 --here 0,1 --over {server.over}")
     at.wait("site 2", lambda: at.run(f"./shop start b --sites 3 --here 2 --over {over_of_b} && echo up; true") == "up\n")
-    at.run(f"./shop start c --sites 3 --standby 2 --after 1 --over {server.over}")
+    at.run(f"./shop start c --sites 3 --standby 2 --after {after} --over {server.over}")
     at.shop(f"ask 0 {SALE}", folder="a")
     expect(at.shop("ask 2 bid,0.3,0.2,500", folder="b") == "ok,2.1\n", "a bid at site 2")
     yields(at, server)
@@ -1353,6 +1358,27 @@ def test_standby_of_one_that_was_cut_off(at: Folder) -> None:
     line.join()
     is_fenced_and_equal(at)
     expect("late" not in at.shop("list 2 comments 0.1", folder="c"), "what was accepted while it was cut off doesn't count")
+    at.run("./shop stop b")
+    server.kill()
+    at.run("./shop start b", 3, "site 2: takes no asks until it is known what the others have of it")
+    time.sleep(1)
+    at.shop("ask 2 comment,0.3,0.2,0.1,1,bad --timeout 1", 3, "nothing was given to it", folder="b")
+
+
+def test_standby_and_a_rebuild(at: Folder) -> None:
+    """A site is made again while its standby waits: that doesn't take its place before the new folder was started, or two would have it."""
+    server = Server(at)
+    start_with_standby(at, server.over, server, after=3)
+    at.kill(at.status("b")["pid"])
+    at.shop("rebuild 2", folder="b")
+    at.wait("why not", lambda: "site 2: it isn't taken over: it hasn't said that it yields to a standby" in at.shop("log", folder="c"))
+    at.run("./shop start b")
+    expect(at.shop("ask 2 bid,0.3,0.2,600", folder="b") == "ok,2.2\n", "it goes on")
+    yields(at, server)
+    at.run("./shop stop b")
+    at.wait("the standby", lambda: json.loads(at.text("c/shop.json"))["here"] == [2])
+    expect(at.shop("ask 2 bid,0.3,0.2,700", folder="c") == "ok,2.3\n", "it takes over what yields again")
+    at.shop("audit", folder="c")
 
 
 def test_standby_that_comes_and_goes(at: Folder) -> None:
@@ -2095,9 +2121,10 @@ def test_help(at: Folder) -> None:
 
 
 def test_units(at: Folder) -> None:
-    """The unit tests of shop_tool and shop_ask."""
+    """The unit tests of shop_tool, shop_ask and the simulation."""
     expect_units(PYTHON, "shop_tool")
     expect_units(PYTHON, "shop_ask")
+    expect_units(PYTHON, "scripts/simulation")
 
 
 def test_types(at: Folder) -> None:

@@ -97,6 +97,13 @@ if (redis.call('GET', KEYS[6]) or '') == ARGV[5] then redis.call('DEL', KEYS[6])
 return 1
 """
 
+# Gives a site to a folder, if the one has it still that the caller knows. It hasn't said yet that it yields.
+ADOPT = b"""
+if (redis.call('GET', KEYS[1]) or '') ~= ARGV[1] then return 0 end
+redis.call('MSET', KEYS[1], ARGV[2], KEYS[2], ARGV[3])
+return 1
+"""
+
 # Sets a key, if it still has what the caller knows.
 CHANGE = b"""
 if (redis.call('GET', KEYS[1]) or '') ~= ARGV[1] then return 0 end
@@ -150,6 +157,7 @@ class Streams:
         self._take_over = self.redis.register_script(TAKE_OVER)
         self._see_life = self.redis.register_script(SEE_LIFE)
         self._change = self.redis.register_script(CHANGE)
+        self._adopt = self.redis.register_script(ADOPT)
         self._page = self.redis.register_script(PAGE_OF)
 
     async def __aenter__(self) -> "Streams":
@@ -265,7 +273,8 @@ class Streams:
 
     async def adopt(self, site: int, before: str, is_fresh: bool) -> bool:
         owner = owner_text(f"{self.folder}/{site}", ".new" if is_fresh else "")
-        return bool(await self._change(keys=[self.key(f"owner:{site}")], args=[bytes_of(before), bytes_of(owner)]))
+        keys = [self.key(f"{what}:{site}") for what in ("owner", "yields")]
+        return bool(await self._adopt(keys=keys, args=[bytes_of(before), bytes_of(owner), no_life()]))
 
     async def tell(self, statuses: dict[int, dict[str, Any]]) -> tuple[list[int], list[Mark]]:
         pipe = self.redis.pipeline(transaction=False)

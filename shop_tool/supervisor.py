@@ -25,7 +25,7 @@ from .settings import FILES, Settings, moved_here, write
 from .signals import done, is_over_within, waited
 from .site import FENCED, KEYS, YIELDS, KeptSite, lines_of
 from .times import changed, stamp
-from .witness import Witness, has_all, witnessed
+from .witness import Witness, forget, has_all, witnessed
 
 if TYPE_CHECKING:
     from .link import Carrying
@@ -96,6 +96,9 @@ class Supervisor(Shop):
 
     def witness_of(self, site: Site, answered: int) -> Callable[[int], None]:
         return Witness(self.sites[site.number].folder, site.lives, answered).tell
+
+    def forget(self, site: Site) -> None:
+        forget(self.sites[site.number].folder, site.lives)
 
     # Events, and who follows them.
 

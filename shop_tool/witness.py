@@ -41,6 +41,12 @@ def witnessed(of: str, lives: Sequence[str]) -> int | None:
     return int.from_bytes(said[LIFE_BYTES:BYTES], "little")
 
 
+def forget(of: str, lives: Sequence[str]) -> None:
+    """Removes what is said of a folder."""
+    if witnessed(of, lives) is not None:
+        os.unlink(f"{folder()}/{lives[0]}")
+
+
 def sweep(path: str) -> None:
     """Removes what is said of folders that are gone."""
     for name in os.listdir(path):

@@ -2,6 +2,7 @@
 
 import functools
 import random
+import re
 from collections.abc import Callable
 from typing import TYPE_CHECKING, Any
 
@@ -18,13 +19,15 @@ MARGIN = 2.0            # as the client's: seconds beyond its time-out that a re
 NOTHING = ("nothing was given to it", "nothing more was given to it", "nothing was asked")
 WORDS = {"ok": "TellsOk", "unknown": "TellsUnknown", "not-given": "TellsNothing", "not-accepted": "TellsNothing", "refused": "TellsNo"}
 UNKNOWN = ("may still be accepted", "isn't known")
+NUMBER = re.compile(r"may still be accepted, as record ([0-9]+) of")
 
 
 class Told:
-    """What an asker was told of one record: an answer, that it isn't accepted, or that this isn't known."""
+    """What an asker was told of one record: an answer, that it isn't accepted, or that this isn't known, and maybe which record of its site it
+    is if it is accepted."""
 
-    def __init__(self, site: int, record: bytes, what: str, id: tuple[int, int] | None = None) -> None:
-        self.site, self.record, self.what, self.id = site, record, what, id
+    def __init__(self, site: int, record: bytes, what: str, id: tuple[int, int] | None = None, number: int | None = None) -> None:
+        self.site, self.record, self.what, self.id, self.number = site, record, what, id, number
 
 
 class Asker:
@@ -38,9 +41,6 @@ class Asker:
         self.told: list[Told] = []
         self.is_over = False
         self.published, self.server_times = published, world.server.times
-        here = supervisor.sites.get(site) if supervisor else None
-        self.asked_after = here.folder.number if here else None     # in which folder its site was
-        self.open_before = set(world.open_asks.get(self.asked_after or 0, set()))
         self.task: "Task | None" = None
         for record in records if key is None else ():
             world.note("IsAsked", site, world.ask(record), len(record.split(b"\n")))
@@ -88,17 +88,12 @@ class Asker:
                 self._told(record, answer["lines"][0].split(","))
             else:
                 last = answer.get("fault", "")
-        here = self.supervisor.sites.get(self.site) if self.supervisor else None
+        found = NUMBER.search(last)
         for at, record in enumerate(records):
-            self.told.append(Told(self.site, record, self._what(last, at)))
-            if "may still be accepted" in last and here and self.key is None:
-                self.world.open_asks.setdefault(here.folder.number, set()).add(record)
+            self.told.append(Told(self.site, record, self._what(last, at), number=int(found[1]) + at if found else None))
+        here = self.supervisor.sites.get(self.site) if self.supervisor else None
         if here and self.published and not last:
             self._look_at_published(here)
-        if here and self.asked_after == here.folder.number and any(told.what in ("ok", "refused") for told in self.told):
-            open_asks = self.world.open_asks.get(here.folder.number, set())
-            self.world.decided |= {record for record in self.open_before & open_asks if record not in self.world.accepted}
-            open_asks -= self.open_before
         if self.key is None:
             note_told(self.world, self.told)
         self.on_end()

@@ -1,9 +1,9 @@
 """The clock of a run, and the machines of the carrier as tasks on it: each step takes some time, and anything may happen meanwhile."""
 
-import functools
-import heapq
 import random
 from collections.abc import Callable
+from functools import partial
+from heapq import heappop, heappush
 from typing import Any, Protocol
 
 from shop_tool.carrier.steps import Signal, Steps, Wait
@@ -13,22 +13,24 @@ Call = Callable[[], None]
 
 class Clock:
     def __init__(self, dice: random.Random) -> None:
-        self.dice = dice
         self.now = 0.0
+        self._random = dice.random
         self._count = 0
         self._calls: list[tuple[float, int, Call]] = []
 
     def after(self, seconds: float, call: Call) -> None:
         self._count += 1
-        heapq.heappush(self._calls, (self.now + seconds, self._count, call))
+        heappush(self._calls, (self.now + seconds, self._count, call))
 
     def soon(self, call: Call) -> None:
         """In a moment, which isn't always the same one: so what is due at once comes in any order."""
-        self.after(self.dice.random() * 0.002, call)
+        self._count += 1
+        heappush(self._calls, (self.now + self._random() * 0.002, self._count, call))
 
     def run(self, until: float) -> None:
-        while self._calls and self._calls[0][0] <= until:
-            self.now, _, call = heapq.heappop(self._calls)
+        calls = self._calls
+        while calls and calls[0][0] <= until:
+            self.now, _, call = heappop(calls)
             call()
         self.now = max(self.now, until)
 
@@ -37,9 +39,8 @@ class Owner(Protocol):
     """The process that a task runs in."""
 
     clock: Clock
-
-    def resumes_in(self, call: Call) -> float | None:
-        """None if it runs, or else in how many seconds it will; a process that has ended never does."""
+    is_alive: bool
+    paused_until: float
 
     def do(self, task: "Task", step: tuple[Any, ...]) -> None:
         """Begins a step of a task, which is resumed with what came of it."""
@@ -47,6 +48,8 @@ class Owner(Protocol):
 
 class Task:
     """A machine of the carrier that runs in a process."""
+
+    __slots__ = ("owner", "steps", "_on_end", "is_over", "turn", "step", "connection", "hear", "_waits")
 
     def __init__(self, owner: Owner, steps: Steps[Any], on_end: Callable[[Any, Exception | None], None] | None = None) -> None:
         self.owner, self.steps, self._on_end = owner, steps, on_end
@@ -56,14 +59,17 @@ class Task:
         self.connection: Any = None
         self.hear: Callable[[bytes, Any], None] | None = None      # is told answers to records
         self._waits: tuple[Signal, Call] | None = None
-        owner.clock.soon(functools.partial(self.resume, 0))
+        owner.clock.soon(partial(self.resume, 0))
 
     def resume(self, turn: int, said: Any = None, fault: Exception | None = None) -> None:
         """Goes on after the step of that turn."""
         if self.is_over or turn != self.turn:
             return
-        if (wait := self.owner.resumes_in(functools.partial(self.resume, turn, said, fault))) is not None:
+        owner = self.owner
+        if not owner.is_alive:
             return
+        if owner.paused_until > owner.clock.now:
+            return owner.clock.after(owner.paused_until - owner.clock.now, partial(self.resume, turn, said, fault))
         self.turn += 1
         if self._waits:
             self._waits[0].discard(self._waits[1])
@@ -77,24 +83,24 @@ class Task:
         if isinstance(step, Wait):
             self._wait(step)
         else:
-            self.owner.do(self, step)
+            owner.do(self, step)
 
     def _wait(self, step: Wait) -> None:
         signal, seconds = step
-        turn, clock = self.turn, self.owner.clock
-        if signal and signal.is_set:
-            return clock.soon(functools.partial(self.resume, turn, True))
+        clock = self.owner.clock
         if signal:
-            def wake() -> None:
-                clock.soon(functools.partial(self.resume, turn, True))
+            woken = partial(self.resume, self.turn, True)
+            if signal.is_set:
+                return clock.soon(woken)
+            wake = partial(clock.soon, woken)
             signal.add(wake)
             self._waits = signal, wake
         if seconds is not None:
-            clock.after(seconds, functools.partial(self.resume, turn, signal is None))
+            clock.after(seconds, partial(self.resume, self.turn, signal is None))
 
     def answer(self, said: Any = None, fault: Exception | None = None, seconds: float | None = None) -> None:
         """Has it go on with what came of its step, soon or after some time."""
-        call = functools.partial(self.resume, self.turn, said, fault)
+        call = partial(self.resume, self.turn, said, fault)
         if seconds is None:
             self.owner.clock.soon(call)
         else:

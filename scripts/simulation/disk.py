@@ -5,7 +5,7 @@ import errno
 import functools
 import random
 from collections.abc import Callable, Sequence
-from typing import TYPE_CHECKING
+from typing import TYPE_CHECKING, NamedTuple
 
 from shop_tool.carrier import sums
 from shop_tool.carrier.files import File as Seen
@@ -15,6 +15,15 @@ from .stand_in import StandIn, records_of
 
 if TYPE_CHECKING:
     from .world import World
+
+
+# A run asks for these again and again.
+setattr(sums, "sum_of", functools.lru_cache(1 << 14)(sums.sum_of))
+
+
+@functools.lru_cache(64)
+def compared(kept: bytes, sums_of_it: bytes) -> tuple[int, int | None]:
+    return sums.compared(kept.splitlines(keepends=True), sums_of_it)
 
 
 def text_lines(lines: list[bytes]) -> list[bytes]:
@@ -40,6 +49,14 @@ class File:
         return len(self.data) < size
 
 
+class Past(NamedTuple):
+    """How a keeper left its folder: what of `kept` it had answered, the answers, and its site."""
+
+    kept: bytes
+    out: bytes
+    site: StandIn
+
+
 class Folder:
     """The folder of a site: its files, and its lives."""
 
@@ -52,6 +69,7 @@ class Folder:
         self.yields = False                 # its site has a standby
         self.noted = 0                      # how many of its records the run has taken down
         self.keeper: "Keeper | None" = None  # who holds its lock
+        self.past: Past | None = None       # so that the next keeper needn't answer all of `kept` again
         self.is_there = True
         self.is_whole = True                # nothing was taken from it
         self.has_lost = False               # the power took something of `kept`
@@ -90,12 +108,15 @@ class Folder:
             raise OSError(errno.EIO, "it has lost its end", "out")
         return found
 
+    def _bytes(self, name: str) -> bytes:
+        return bytes(self.files[name].data) if self.is_there and name in self.files else b""
+
     def lines(self, name: str) -> list[bytes]:
-        return bytes(self.files[name].data).splitlines(keepends=True) if self.is_there and name in self.files else []
+        return self._bytes(name).splitlines(keepends=True)
 
     def checked(self) -> tuple[int, int | None]:
         """How many lines of `kept` are as their sums say, and the number of the first that was changed."""
-        return sums.compared(self.lines("kept"), b"".join(self.lines("sums")))
+        return compared(self._bytes("kept"), self._bytes("sums"))
 
     def unchanged(self) -> list[bytes]:
         """The lines of `kept` in front of the first that was changed."""
@@ -154,6 +175,7 @@ class Keeper:
         self.fault: str | None = None
         self.head: bytes | None = None
         self.output: list[bytes] = []
+        self.said = bytearray()         # all its answers
         self.is_working = False
         self.clock.after(0.01 + self.dice.random() * 0.02, self._start)
 
@@ -205,21 +227,29 @@ class Keeper:
         kept, out = self.kept, self.out = self.folder.file("kept"), self.folder.file("out")
         del kept.data[kept.data.rfind(b"\n") + 1:]
         kept.synced = min(kept.synced, len(kept.data))
-        lines = bytes(kept.data).split(b"\n")[:-1]
-        records = [record for line in lines for record in records_of(line)]
+        text, past = bytes(kept.data), self.folder.past
+        if not past or not text.startswith(past.kept) or self.folder.noted < past.site.records:
+            past = Past(b"", b"", self.site)
+        self.site, before = past.site, past.site.records
+        records = [record for line in text[len(past.kept):].split(b"\n")[:-1] for record in records_of(line)]
         said = [self.site.answer(record) for record in records]
-        for record, its in list(zip(records, said))[self.folder.noted:]:
+        for record, its in list(zip(records, said))[self.folder.noted - before:]:
             self.world.answered(self, record, its)
-        self.folder.noted = len(records)
-        answers = b"".join(said)
-        if not answers.startswith(bytes(out.data)):
+        self.folder.noted = self.site.records
+        self.said += past.out + b"".join(said)
+        self._is_read()
+        if not self.said.startswith(out.data):
             return self._end(1, "out differs")
-        out.data[:] = answers
+        out.data[:] = self.said
         self.head = b"kept,%d" % self.site.records
         if self.is_heard:
             self.clock.soon(self._told)
         self.is_working = True
         self.clock.soon(self._keep)
+
+    def _is_read(self) -> None:
+        """All of `kept` is answered."""
+        self.folder.past = Past(bytes(self.kept.data), bytes(self.said), self.site)
 
     def _keep(self) -> None:
         """Keeps what one read of its input gives."""
@@ -266,6 +296,8 @@ class Keeper:
             self.folder.noted += 1
             self.world.answered(self, record, said)
         self.out.data += answers
+        self.said += answers
+        self._is_read()
         if not self.is_heard:
             return self._end(1, "write")
         self.clock.soon(functools.partial(self._tell, told))

@@ -353,8 +353,9 @@ class Run:
             accepted = world.accepted.get(told.record, set())
             if told.what in ("refused", "not-given", "not-accepted") and accepted:
                 raise Violation(f"{told.record!r} at site {told.site} was told {told.what}, and was accepted as {sorted(accepted)}")
-            if told.what == "unknown" and told.record in world.decided and accepted:
-                raise Violation(f"{told.record!r} was told that a later answer decides it, and was accepted after that")
+            if told.what == "unknown" and told.number and accepted and world.numbers_of[told.record] != told.number:
+                raise Violation(f"{told.record!r} was told that it is record {told.number} if it is accepted, and it is record "
+                                f"{world.numbers_of[told.record]}")
             if told.what == "ok" and told.id not in accepted:
                 raise Violation(f"{told.record!r} was told ok,{told.id}, and was accepted as {sorted(accepted)}")
         if self._is_excused():

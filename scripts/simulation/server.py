@@ -1,7 +1,9 @@
 """The server of a run: streams, and what supervisors say to each other. It can lose the end of what it was told, or everything."""
 
 import functools
+import operator
 import random
+from bisect import bisect_right
 from collections.abc import Callable
 from typing import TYPE_CHECKING, Any
 
@@ -18,6 +20,7 @@ if TYPE_CHECKING:
     from .world import Process
 
 PAGE = 50
+place_of = operator.itemgetter(0)
 WRITES = (Append, Rewrite, SeeLife, Adopt, SayYields)
 
 
@@ -87,22 +90,28 @@ class Server:
                 stream = self.streams[site]
                 packet = stream.entries[-1][1] if stream.entries else b""
                 return StreamState(len(stream.entries), stream.last, packet, stream.greatest, self.lives[site], self.standbys[site], self.yields[site])
-            case Sites(_):
-                return self.sites
-            case Owner(site):
-                return self.owners[site]
-            case Adopt(site, before, is_fresh):
-                if self.owners[site] != before:
-                    return False
-                self._write(functools.partial(self._own, site, by.owner_text(site, is_fresh)))
-                return True
-            case Statuses():
-                return {site: dict(said) for site, (until, said) in self.said.items() if until > self.clock.now}
+            case Read(after, most, _):
+                return {site: entries for site, place in after.items() if (entries := self._entries(site, place, None, most))}
             case Tell(statuses):
                 for site, status in statuses.items():
                     said = status | {"told": by.clock.now, "by": by.named_of(site)}
                     self.said[site] = self.clock.now + STATUS_SECONDS, said
                 return [stream.last[0] for stream in self.streams], list(self.marks)
+            case Hear(after):
+                return [(b"%d" % number, fields) for number, fields in self.wants if number > int(after)]
+            case Owner(site):
+                return self.owners[site]
+            case Sites(_):
+                return self.sites
+            case Adopt(site, before, is_fresh):
+                if self.owners[site] != before:
+                    return False
+                self._write(functools.partial(self._own, site, by.owner_text(site, is_fresh)))
+                if by.world.rules.adopted_yields_later:
+                    self._write(functools.partial(self._yield, site, f"none {by.world.new_number()}"))
+                return True
+            case Statuses():
+                return {site: dict(said) for site, (until, said) in self.said.items() if until > self.clock.now}
             case SeeLife(site, before, life, last):
                 if self.lives[site] != before or self.streams[site].last != last:
                     return False
@@ -139,11 +148,6 @@ class Server:
                 return self._entries(site, after, upto)
             case Marks():
                 return list(self.marks)
-            case Read(after, most, _):
-                found = {site: [entry for entry in self.streams[site].entries if entry[0] > place][:most] for site, place in after.items()}
-                return {site: entries for site, entries in found.items() if entries}
-            case Hear(after):
-                return [(b"%d" % number, fields) for number, fields in self.wants if number > int(after)]
             case _:
                 raise NotImplementedError(step)
 
@@ -163,8 +167,13 @@ class Server:
         for site in sites:
             self.said.pop(site, None)
 
-    def _entries(self, site: int, after: Place, upto: Place | None) -> Packets:
-        return [entry for entry in self.streams[site].entries if entry[0] > after and (upto is None or entry[0] <= upto)][:PAGE]
+    def _entries(self, site: int, after: Place, upto: Place | None, most: int = PAGE) -> Packets:
+        """Those behind a place, which stand in their order."""
+        entries = self.streams[site].entries
+        if not entries or entries[-1][0] <= after:
+            return []
+        begin = bisect_right(entries, after, key=place_of)
+        return entries[begin:min(begin + most, len(entries) if upto is None else bisect_right(entries, upto, key=place_of))]
 
     def _take_over(self, by: "Process", site: int, life: str, last: Place) -> bool:
         if self.streams[site].last != last or self.said.get(site, (0.0, {}))[0] > self.clock.now or not self.lives[site] == self.yields[site] == life:

@@ -1,5 +1,6 @@
 """A site that answers as the program does, for the records that a simulation asks: users, items, bids, packets, passes and empty listings."""
 
+import functools
 import re
 from collections.abc import Iterator
 
@@ -28,6 +29,43 @@ class Refused(Exception):
         self.line = b"%d,%b" % (code, name.encode())
 
 
+@functools.lru_cache(1 << 12)
+def read(record: bytes) -> tuple[bytes, tuple[bytes, ...]] | None:
+    """The kind of a record and its fields, if it is in the grammar."""
+    kind = record.split(b",", 1)[0]
+    form = _FORMS.get(kind)
+    found = form.fullmatch(record) if form else None
+    return (kind, found.groups()) if found else None
+
+
+def in_limits(kind: bytes, fields: tuple[bytes, ...]) -> bool:
+    match kind:
+        case b"item":
+            category, stock, start, price = map(int, fields[2:])
+            return category <= 999 and 1 <= stock <= MOST and 1 <= start <= 10 ** 12 and price <= 10 ** 12
+        case b"bid":
+            return 1 <= int(fields[2]) <= 10 ** 12
+    return True
+
+
+@functools.lru_cache(1 << 12)
+def is_message(message: Message, kind: bytes, sites: int) -> bool:
+    """Whether a message is in the grammar of a shop of so many sites."""
+    shadow = read(message.shadow)
+    if not shadow or shadow[0] != kind or not in_limits(*shadow):
+        return False
+    return (message.origin < sites and 1 <= message.number <= MOST and len(message.deps) == sites
+            and message.deps[message.origin] == message.number - 1 and (message.red > 0) == (kind in RED)
+            and max(message.red, *message.deps) <= MOST)
+
+
+@functools.lru_cache(1 << 12)
+def ids_in(kind: bytes, fields: tuple[bytes, ...]) -> list[tuple[int, int]]:
+    """The ids in a request."""
+    ids = [field for field in fields if re.fullmatch(_ID, field)][:2 if kind == b"bid" else 1] if kind != b"user" else []
+    return [(int(site), int(number)) for site, number in (name.split(b".") for name in ids)]
+
+
 class StandIn:
     """A site: what it has released, what waits, the rows that decide, and the token."""
 
@@ -53,12 +91,10 @@ class StandIn:
         return b"reply,%d,%b\n" % (self.records, said)
 
     def _answer(self, record: bytes) -> bytes:
-        kind = record.split(b",", 1)[0]
-        form = _FORMS.get(kind)
-        found = form.fullmatch(record) if form else None
+        found = read(record)
         if not found:
             raise Refused(1, "BadRecord")
-        fields = list(found.groups())
+        kind, fields = found
         match kind:
             case b"list":
                 return b"rows,0"
@@ -68,14 +104,12 @@ class StandIn:
                 return self._message(record, fields)
             case b"token":
                 return self._token(record)
-        self._check(kind, fields, record)
+        self._check(kind, fields)
         return self._made(record, kind in RED)
 
-    def _check(self, kind: bytes, fields: list[bytes], record: bytes) -> None:
+    def _check(self, kind: bytes, fields: tuple[bytes, ...]) -> None:
         """Refuses a request, by the first refusal that holds."""
-        ids = [field for field in fields if re.fullmatch(_ID, field)][:2 if kind == b"bid" else 1] if kind != b"user" else []
-        numbers = [list(map(int, name.split(b"."))) for name in ids]
-        if any(site >= self.sites or number > MOST for site, number in numbers) or not self._in_limits(kind, fields):
+        if any(site >= self.sites or number > MOST for site, number in ids_in(kind, fields)) or not in_limits(kind, fields):
             raise Refused(1, "BadRecord")
         if len(self.log) + len(self.release.waiting) >= self.keep:
             raise Refused(2, "Full")
@@ -105,16 +139,6 @@ class StandIn:
         if int(amount) < start:
             raise Refused(9, "LowBid")
 
-    @staticmethod
-    def _in_limits(kind: bytes, fields: list[bytes]) -> bool:
-        match kind:
-            case b"item":
-                category, stock, start, price = map(int, fields[2:])
-                return category <= 999 and 1 <= stock <= MOST and 1 <= start <= 10 ** 12 and price <= 10 ** 12
-            case b"bid":
-                return 1 <= int(fields[2]) <= 10 ** 12
-        return True
-
     def _made(self, record: bytes, is_red: bool) -> bytes:
         red = 0
         if is_red:
@@ -129,9 +153,9 @@ class StandIn:
             self._release(released)
         return b"ok,%d.%d\nsend,%b" % (self.site, number, text)
 
-    def _message(self, record: bytes, fields: list[bytes]) -> bytes:
+    def _message(self, record: bytes, fields: tuple[bytes, ...]) -> bytes:
         message = packet_of(record)
-        if not isinstance(message, Message) or not self._is_message(message, fields):
+        if not isinstance(message, Message) or not is_message(message, fields[6], self.sites):
             raise Refused(1, "BadRecord")
         name = (message.origin, message.number)
         is_here = message.number <= self.release.counts[message.origin] or name in self.release.waiting
@@ -146,16 +170,6 @@ class StandIn:
         for each in released:
             self._release(each)
         return b"released,%d" % len(released) if released else b"held"
-
-    def _is_message(self, message: Message, fields: list[bytes]) -> bool:
-        kind, shadow = fields[6], message.shadow
-        form = _FORMS[kind].fullmatch(shadow)
-        if not form or not self._in_limits(kind, list(form.groups())):
-            return False
-        is_red = kind in RED
-        return (message.origin < self.sites and 1 <= message.number <= MOST and len(message.deps) == self.sites
-                and message.deps[message.origin] == message.number - 1 and (message.red > 0) == is_red
-                and max(message.red, *message.deps) <= MOST)
 
     def _release(self, message: Message) -> None:
         name = b"%d.%d" % (message.origin, message.number)

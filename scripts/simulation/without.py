@@ -1,6 +1,6 @@
 """Puts faults back, one at a time, so that it is known that they are found: each takes one rule out."""
 
-from collections.abc import Iterable
+from collections.abc import Iterable, Iterator
 from contextlib import ExitStack
 from typing import Any
 from unittest import mock
@@ -9,13 +9,14 @@ from shop_tool.carrier.asking import Ask
 from shop_tool.carrier.files import Files
 from shop_tool.carrier.keys import Key, Keys
 from shop_tool.carrier.lives import Standing
+from shop_tool.carrier.opening import must_hear_all
 from shop_tool.carrier.over_server import ServerLink
 from shop_tool.carrier.records import Purpose, why_not_one_record
 from shop_tool.carrier.shop import Shop
-from shop_tool.carrier.site import Site
+from shop_tool.carrier.site import Pending, Site
 from shop_tool.carrier.sums import compared
 
-from .world import Rules
+from .world import Rules, Supervisor
 
 # Where records are looked at before a site is given them.
 LOOKS = ("shop_tool.carrier.site", "shop_tool.carrier.shop", "shop_tool.requests")
@@ -25,8 +26,16 @@ def opens_at_once(shop: Shop, site: Site, answered: int | None) -> None:
     shop._opened(site, answered or 0)
 
 
+def hears_where_forgotten(is_forgotten: bool, was_here: bool, has_all: bool, is_alone: bool, seconds: float) -> bool:
+    return is_forgotten and must_hear_all(is_forgotten, was_here, has_all, is_alone, seconds)
+
+
 def sent_unguarded(site: Site, begin: int, end: int) -> list[bytes]:
     return [text for _, text in site.ledger.sends.read(begin, end)]
+
+
+def numbered_alone(site: Site) -> Iterator[tuple[Pending, int]]:
+    return ((pending, site.ledger.records + 1) for pending in site.line)
 
 
 def answered_only(keys: Keys, name: bytes, now: float) -> Key | None:
@@ -57,15 +66,19 @@ def patches_of(rule: str) -> list[Any]:
         "9": [instead("shop_tool.carrier.sums.compared", no_line_was_changed)],
         "9-lives": [instead(f"shop_tool.carrier.{name}.standing", lambda *_: Standing.NEXT) for name in ("publisher", "over_files")],
         "11": [],
+        "hear": [instead("shop_tool.carrier.publisher.must_hear_all", hears_where_forgotten)],
+        "forget": [mock.patch.object(Supervisor, "forget", lambda *_: None)],
+        "adopted": [],
         "keys-read": [mock.patch.object(Keys, "read", lambda *_: None)],
         "keys-given": [mock.patch.object(Keys, "find", answered_only)],
+        "told-number": [mock.patch.object(Site, "numbered", numbered_alone)],
         "standby-told": [mock.patch.object(Ask, "_stands", lambda *_: iter(()))],
         "turns": [instead("shop_tool.carrier.shop.why_passed_on", lambda *_: None)],
     }
     return changes[rule]
 
 
-RULES = ("1", "2", "3", "4", "5", "6", "7", "9", "9-lives", "11", "keys-read", "keys-given", "standby-told", "turns")
+RULES = ("1", "2", "3", "4", "5", "6", "7", "9", "9-lives", "11", "hear", "forget", "adopted", "keys-read", "keys-given", "told-number", "standby-told", "turns")
 
 
 def rules_without(rule: str | None) -> Rules:
@@ -75,6 +88,8 @@ def rules_without(rule: str | None) -> Rules:
         rules.swallowed_cancel_ends = False
     if rule == "11":
         rules.hands_over = False
+    if rule == "adopted":
+        rules.adopted_yields_later = False
     return rules
 
 

@@ -16,8 +16,9 @@ from shop_tool.carrier.rebuilding import UNCHANGED
 from shop_tool.carrier.records import Purpose, text_of
 from shop_tool.carrier.shop import HAND_OVER_SECONDS, Shop
 from shop_tool.carrier.site import FIRST_WAIT, LAST_WAIT, Disagreement, Site, State
-from shop_tool.carrier.steps import (Append, Broken, CallAll, Connect, Flag, Hear, IsRunning, Kept, KeptOf, Read, Replay, Rewrite, Say,
-                                     SayLeave, SayWant, SeeHere, SeenHere, SentHere, Signal, Statuses, Steps, Swap, TakeOver, UpElsewhere,
+from shop_tool.carrier.steps import State as StateOf
+from shop_tool.carrier.steps import (Append, Broken, CallAll, Connect, Flag, Hear, IsRunning, Kept, KeptOf, Owner, Read, Replay, Rewrite, Say,
+                                     SayLeave, SayWant, SeeHere, SeenHere, SentHere, Signal, Statuses, Steps, Swap, TakeOver, Tell, UpElsewhere,
                                      Wait)
 from shop_tool.carrier.sums import LINE_BYTES, why_changed
 from shop_tool.carrier.told import unanswered
@@ -29,6 +30,7 @@ from .disk import File, Folder, Keeper, Machine
 from .server import WRITES, Server
 from .stand_in import StandIn
 
+OVER = (StateOf, Read, Tell, Hear, Owner, Append, Connect)      # some steps over the server, the most frequent ones
 STOP_SECONDS, END_SECONDS, LAST_SECONDS, LOOK_SECONDS = 30.0, 3.0, 2.0, 1.0
 
 
@@ -41,6 +43,7 @@ class Rules:
 
     swallowed_cancel_ends = True    # a supervisor that is stopped ends, whatever a connection swallows
     hands_over = True               # a stop passes the token on first
+    adopted_yields_later = True     # a folder that is given a site hasn't said that it yields
 
 
 class World:
@@ -66,9 +69,9 @@ class World:
         # What no part of the shop knows.
         self.accepted: dict[bytes, set[tuple[int, int]]] = {}       # asks, each with the ids under which a site accepted it
         self.made: dict[tuple[int, int], bytes] = {}                # the message that had each id last
+        self.yielding: set[bytes] = set()   # packets that a folder sent while it yielded to a standby: they count once they stand in a stream
         self.text_of: dict[bytes, bytes] = {}                       # the message that each ask became
-        self.open_asks: dict[int, set[bytes]] = {}  # by folder: asks of which an asker was told that a later answer decides
-        self.decided: set[bytes] = set()            # those that weren't accepted when it came
+        self.numbers_of: dict[bytes, int] = {}      # which of its site's records each of these was
         self.keyed: dict[bytes, int] = {}           # the sites of asks that are asked again under keys
         self.lost_keys: set[int] = set()            # sites of which a folder lost something, and so maybe keys
         self.lost: set[bytes] = set()                               # messages of which nothing whole was left
@@ -76,6 +79,7 @@ class World:
         self.is_unreached = False           # a site was opened of which a folder has more that couldn't be reached
         self.turn = (0, 0, 0)                                       # of the last token, from and to which site
         self.passes: dict[int, bytes] = {}                          # the last token of each turn
+        self.passed_by: dict[int, int] = {}                         # which site passed it
 
     def _machines(self) -> list[Machine]:
         if not self.is_over_server or self.dice.random() < 0.15:
@@ -92,9 +96,6 @@ class World:
             return None
         machine, home = self.dice.sample(self.machines, 2)
         return self.dice.choice(home.here), machine
-
-    def has_standby(self, site: int) -> bool:
-        return self.standby is not None and self.standby[0] == site
 
     def supervisors(self) -> list["Supervisor"]:
         self.running = [supervisor for supervisor in self.running if supervisor.is_alive]
@@ -132,19 +133,30 @@ class World:
         packets = [line[:-1] for line in older.lines("kept") if line.startswith((b"msg,", b"token,"))] + older.sent()
         self.is_unreached = self.is_unreached or not all(map(self._is_anywhere, packets))
 
-    def note_unreached(self, number: int, opened: Folder, opens: StandIn) -> None:
-        """A site is opened: notes whether a folder has more of it that can't be reached, or has had the token since."""
+    def _is_silent(self, machine: Machine, site: int) -> bool:
+        """Whether a site can't say what its folder on a machine has."""
+        return not any(supervisor.machine is machine and supervisor.reaches() and supervisor.paused_until < self.clock.now
+                       and site in supervisor.sites and supervisor.sites[site].compared.is_set and not supervisor.sites[site].fenced_by
+                       for supervisor in self.supervisors())
+
+    def note_unreached(self, number: int, opened: Folder, opens: StandIn, known: int) -> None:
+        """A site is opened whose supervisor knows of this turn of the token: notes whether a folder has more of it that can't be reached, or
+        has had the token since."""
         own, held = opens.release.counts[number], opens.turn if opens.issued is not None else None
         for machine in self.machines:
             for site, folder in machine.folders.items():
-                if self.has_standby(number) and site == number:
-                    continue        # what a folder of such a site has doesn't count
+                if folder.yields and site == number:
+                    continue        # it told ok only of what stands in the stream
                 if folder is not opened and not self.is_unreached:
                     whole = [line for line in folder.lines("kept") if line.startswith(b"msg,1,%d," % number) and line.endswith(b"\n")]
                     has = [line.split(b",", 4)[3] for line in whole]
                     sent = sum(text.startswith(b"msg,") for text in folder.sent()) if site == number else 0
                     turns = [int(text.split(b",")[2]) for text in tokens_of(folder.lines("kept"))]
                     self.is_unreached = max([sent, *map(int, has)]) > own or held is not None and max(turns, default=0) > held
+                    # Where a later turn is known, a token that came before isn't taken again.
+                    passed = max((turn for turn in turns if self.passed_by.get(turn) == number), default=0)
+                    if passed > max(known, opens.turn + 1) and self._is_silent(machine, site):
+                        self.is_unreached = True
 
     def answered(self, keeper: Keeper, record: bytes, said: bytes) -> None:
         """A site has answered a record."""
@@ -157,23 +169,28 @@ class World:
                 name, text = (site, number), rest[5:-1] if rest.endswith(b"\n") else rest[5:]
                 self.note("Accepts", keeper.folder.number, self.ask(record), site, number)
                 self.accepted.setdefault(record, set()).add(name)
+                self.numbers_of[record] = int(fields[1])
                 if len(self.accepted[record]) > 1 and (record not in self.keyed or self.knows_keys(site)):
                     raise Violation(f"one ask was accepted twice: {record!r} as {sorted(self.accepted[record])}")
-                if (before := self.made.get(name, text)) != text and not self.has_standby(site):
+                if (before := self.made.get(name, text)) != text and before not in self.yielding:
                     if self._is_anywhere(before):
                         self.excused.add(name)      # what knew of the first couldn't be asked when the site was opened
                     self.lost.add(before)
                 self.made[name] = text
                 self.text_of[record] = text
+                if keeper.folder.yields:
+                    self.yielding.add(text)
             case b"passed":
                 text = rest[5:].rstrip(b"\n")
                 turn, to = (int(field) for field in text.split(b",")[2:4])
                 self.note("Passes", keeper.folder.number, to, turn)
                 if turn > self.turn[0]:
                     self.turn = turn, site, to
-                if self.passes.get(turn, text) != text and not self.has_standby(site) and self._is_anywhere(self.passes[turn]):
+                if (before := self.passes.get(turn, text)) != text and before not in self.yielding and self._is_anywhere(before):
                     self.excused.add((site, -turn))
-                self.passes[turn] = text
+                self.passes[turn], self.passed_by[turn] = text, site
+                if keeper.folder.yields:
+                    self.yielding.add(text)
             case b"holding":
                 self.note("Reads", keeper.folder.number, "pass", int(record.split(b",")[2]))
             case b"released" | b"held":
@@ -314,14 +331,6 @@ class Process:
         self.paused_until = 0.0
         self.tasks: dict[Task, None] = {}       # in their order, so that a run is the same each time
 
-    def resumes_in(self, call: Callable[[], None]) -> float | None:
-        if not self.is_alive:
-            return 0.0
-        if (left := self.paused_until - self.clock.now) > 0:
-            self.clock.after(left, call)
-            return left
-        return None
-
     def spawn(self, steps: Steps[Any], on_end: Callable[[Any, Exception | None], None] | None = None,
               hear: Callable[[bytes, Any], None] | None = None) -> Task:
         def ended(said: Any, fault: Exception | None) -> None:
@@ -360,7 +369,8 @@ class Process:
         folder = self.machine.folders.get(keeper)
         if not folder or not folder.is_there or "kept" not in folder.files:
             return None
-        return list(packets_of(folder.unchanged(), origin, after)), tokens_of(folder.unchanged())
+        lines = folder.unchanged()
+        return list(packets_of(lines, origin, after)), tokens_of(lines)
 
     def takes_over(self, site: int) -> None:
         """Puts the folder that was made in the place of a site elsewhere."""
@@ -580,10 +590,15 @@ class Supervisor(Process, Shop):
         memory[first] = site.lives[-1], answered, self.sites[site.number].folder.inode
 
         def tell(upto: int) -> None:
-            life, was, of = memory[first]
+            life, was, of = memory.get(first, ("", upto, 0))
             if upto > was:
                 memory[first] = life, upto, of
         return tell
+
+    def forget(self, site: Site) -> None:
+        memory, first = self.machine.memory, site.lives[0]
+        if first in memory and memory[first][2] == self.sites[site.number].folder.inode:
+            del memory[first]
 
     def _begin(self, site: SimulatedSite) -> None:
         """As the shell's: begins the next life of a site's folder."""
@@ -629,7 +644,7 @@ class Supervisor(Process, Shop):
         keeper = self.sites[site.number].keeper
         assert keeper
         messages = keeper.site.release.counts[site.number]
-        self.world.note_unreached(site.number, keeper.folder, keeper.site)
+        self.world.note_unreached(site.number, keeper.folder, keeper.site, self.wants.turn)
         own = dict(sends_of(keeper.folder.lines("out")))
         for other in self.sites.values():
             if other is not site and other.known.is_set and other.ledger.have[site.number].greatest > messages:
@@ -658,6 +673,8 @@ class Supervisor(Process, Shop):
     # Steps.
 
     def do(self, task: Task, step: tuple[Any, ...]) -> None:
+        if isinstance(step, OVER):
+            return self.over(task, step)
         server, is_over_server = self.world.server, self.world.is_over_server
         match step:
             case Say(record, answer, _):

@@ -141,10 +141,11 @@ class Ask:
                 yield from self._say(each.record, each.result())
         raise self._no_answer(given)
 
-    def _no_answer(self, given: Pending | None) -> Fault:
+    def _no_answer(self, given: int | None) -> Fault:
+        """That none came in time, where the record of that number was given, or none was."""
         site = self.site
         why = f" ({site.fault[1]})" if site.state != State.UP and site.fault else ""
-        what = site.not_known(given.behind) if given else self._not_given()
+        what = self._not_given() if given is None else site.not_known(given)
         return Fault(Status.AWAY, f"site {site.number} is {site.state}{why}: no answer within {self.seconds:g} s; {what}")
 
     def _not_given(self) -> str:

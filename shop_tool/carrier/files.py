@@ -16,9 +16,9 @@ class File(NamedTuple):
 Look = Callable[[str], File | None]
 
 
-def is_there(was: File | None, now: File | None) -> bool:
-    """Whether a file is there still, with all that it had; one that wasn't known can't be missed."""
-    return was is None or now is not None and was[:2] == now[:2] and was.size <= now.size
+def is_there(was: File | None, now: File | None, size: int) -> bool:
+    """Whether a file is there still, with so many bytes; one that wasn't known can't be missed."""
+    return was is None or now is not None and size <= now.size and was.inode == now.inode and was.device == now.device
 
 
 def why_lost(site: int, has_folder: bool, has_kept: bool, has_out: bool) -> str | None:
@@ -43,14 +43,13 @@ class Files:
     def read(self, kept_bytes: int, out_bytes: int) -> None:
         """They have been read to their ends, which are so many bytes by the ledger."""
         kept, out = self._look("kept"), self._look("out")
-        if kept and out and is_there(self.kept and self.kept._replace(size=0), kept):
+        if kept and out and is_there(self.kept, kept, 0):
             self.kept, self.out = kept, out
             self._beyond = kept.size - kept_bytes, out.size - out_bytes
 
     def why_lost(self, kept_bytes: int, out_bytes: int, is_up: bool) -> str | None:
         """Why the site can't go on whose ledger counts so many bytes. A keeper that isn't up yet may cut off a torn end."""
-        sizes = [count + beyond if is_up else 0 for count, beyond in zip((kept_bytes, out_bytes), self._beyond)]
-        has_kept, has_out = (
-            is_there(was and was._replace(size=size), self._look(name))
-            for was, size, name in ((self.kept, sizes[0], "kept"), (self.out, sizes[1], "out")))
+        kept_beyond, out_beyond = self._beyond
+        has_kept = is_there(self.kept, self._look("kept"), kept_bytes + kept_beyond if is_up else 0)
+        has_out = is_there(self.out, self._look("out"), out_bytes + out_beyond if is_up else 0)
         return why_lost(self.site, has_kept or self._look("") is not None, has_kept, has_out)

@@ -6,6 +6,8 @@ from typing import Any
 from .ledger import Place
 from .lives import Standing
 
+HEARD_SECONDS = 6.0     # until then a supervisor that runs has made its connections again, and has said how its sites are
+
 
 def may_open_unseen(is_alone: bool, has_all: bool) -> bool:
     """Whether a site takes asks before it is compared with what the others have of it, where that can't be seen: it is known that its
@@ -19,10 +21,12 @@ def must_compare_all(standing: Standing, is_alone: bool) -> bool:
     return standing is Standing.AHEAD or is_alone
 
 
-def must_hear_all(is_forgotten: bool, was_here: bool, has_all: bool, is_alone: bool) -> bool:
-    """Whether each site elsewhere has to say first what it has of a site of which the server knows nothing. If the site was here before, the
-    server has lost what it knew, and what the folder lacks may be anywhere."""
-    return is_forgotten and was_here and not has_all and not is_alone
+def must_hear_all(is_forgotten: bool, was_here: bool, has_all: bool, is_alone: bool, seconds: float) -> bool:
+    """Whether each site elsewhere has to say first what it has of a site whose folder may lack something, and which has looked for that on the
+    server for so long. If the server knows nothing of a site that was here before, it has lost what it knew, and what the folder lacks may be
+    anywhere. If it knows something, it may have lost the end of that just now, and with it how the sites elsewhere are: those that run say
+    it again in time."""
+    return not has_all and not is_alone and (was_here if is_forgotten else seconds < HEARD_SECONDS)
 
 
 def why_behind(site: int, own: int, has: Mapping[int, int]) -> str | None:

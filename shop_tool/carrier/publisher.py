@@ -33,9 +33,11 @@ class Publisher:
         self.link, self.site = link, site
         self.name = f"publish {site.number}"
         self.told: int | None = None        # how many packets it had sent when it began to tell ok only of those in the stream
+        self.began = 0.0                    # when it first looked at the server over this connection
 
     def run(self) -> Steps[None]:
         yield Wait(self.site.known)
+        self.began = self.site.shop.now()
         try:
             while not self.site.fenced_by and not self.link.is_over:
                 last = yield from self._compare()
@@ -43,6 +45,7 @@ class Publisher:
         except Fenced as why:
             self.site.fence(str(why), outlasts=True)
         except Elsewhere as why:
+            self.site.shop.forget(self.site)
             self.site.fence(str(why))
         except OSError:
             if not self.site.has_lost_files():
@@ -175,7 +178,8 @@ class Publisher:
         site, shop = self.site, self.site.shop
         statuses = {other: status for other, status in (yield Statuses()).items() if other not in shop.sites}
         is_forgotten = (state.greatest, state.life) == (NOWHERE, "")
-        must_hear = must_hear_all(is_forgotten, bool((yield SeenHere(site.number))), site.answered is not None, shop.is_alone)
+        was_here, seconds = bool((yield SeenHere(site.number))), shop.now() - self.began
+        must_hear = must_hear_all(is_forgotten, was_here, site.answered is not None, shop.is_alone, seconds)
         site.silent = [other for other in range(shop.count) if other not in shop.sites and other not in statuses] if must_hear else []
         has = {other: status["has"].get(str(site.number), 0) for other, status in statuses.items()}
         turns = {other: status["turn"] for other, status in statuses.items()}

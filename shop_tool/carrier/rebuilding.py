@@ -51,6 +51,7 @@ class Rebuild:
 
     def over_server(self) -> Steps[int]:
         """From the streams, with what its old folder and the other sites have beyond them."""
+        owner: str = yield Owner(self.site)
         past, was = yield from self._past_on_server()
         state: StreamState = yield State(self.site)
         if past.packets() != was or state.last != state.greatest:
@@ -58,7 +59,7 @@ class Rebuild:
         yield Replay(self.site, list(past.steps()))
         yield from statuses_without(self.site)
         state = yield State(self.site)
-        if not (yield Adopt(self.site, (yield Owner(self.site)), True)):
+        if not (yield Adopt(self.site, owner, True)):
             raise Fault(Status.REFUSED, f"another folder has taken site {self.site}: {UNCHANGED}")
         yield Swap(self.site, count_of(state.life))
         return len(past.packets())

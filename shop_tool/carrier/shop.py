@@ -87,6 +87,10 @@ class Shop(abc.ABC):
     def witness_of(self, site: Site, answered: int) -> Callable[[int], None]:
         """What is told from now on how many bytes of a site's `kept` are answered, after so many."""
 
+    @abc.abstractmethod
+    def forget(self, site: Site) -> None:
+        """Takes that back: another folder may have taken asks of the site since, so that its next start has to be compared."""
+
     def took_over(self, site: int) -> None:
         """A folder here has taken the place of a site elsewhere, which runs here from now on."""
 

@@ -51,12 +51,11 @@ class Gone(Fault):
 class Pending:
     """One record on its way through a site."""
 
-    __slots__ = ("record", "behind", "key", "is_question", "done", "answer", "gone", "is_given", "is_left", "releases", "records")
+    __slots__ = ("record", "key", "is_question", "done", "answer", "gone", "is_given", "is_left", "releases", "records")
 
-    def __init__(self, record: bytes, behind: int, key: Key | None = None) -> None:
+    def __init__(self, record: bytes, key: Key | None = None) -> None:
         self.record = record
         self.is_question = record.startswith(b"?")      # it isn't kept, and has no number
-        self.behind = behind        # how many records the site had answered when this one came
         self.key = key
         self.done = Flag()
         self.answer: Answer | None = None
@@ -259,23 +258,30 @@ class Site(abc.ABC):
         """It isn't started again: all who wait are told that no answer comes."""
         self.become(State.FENCED if self.fenced_by else State.ENDED)
         self.tried.set()
-        for pending in self.line:
+        for pending, number in list(self.numbered()):
             if not pending.done.is_set:
-                pending.gone = self.gone(pending)
+                pending.gone = self.gone(number if pending.is_given and not pending.is_question else None)
                 pending.done.set()
         self.line.clear()
         self.keys.end()
         self.token_came.tell()
         self.released.tell()
 
-    def gone(self, pending: Pending | None = None) -> Gone:
-        """That no answer comes to a record, or to one that it isn't given, since the site has ended."""
+    def gone(self, number: int | None = None) -> Gone:
+        """That no answer comes, since the site has ended: to the record of that number, or to one that it isn't given."""
         why = f"site {self.number}: {self.fenced_by or 'the shop is being stopped'}"
-        return Gone(why, self.not_known(pending.behind) if pending and pending.is_given and not pending.is_question else None)
+        return Gone(why, None if number is None else self.not_known(number))
 
-    def not_known(self, records: int) -> str:
-        """What is said of a record that it was given when it had answered so many, and hasn't answered."""
-        return counts_unknown(self.number) if self.yields else not_known(self.number, records)
+    def not_known(self, number: int) -> str:
+        """What is said of the record of that number, which it was given and hasn't answered."""
+        return counts_unknown(self.number) if self.yields else not_known(self.number, number)
+
+    def numbered(self) -> Iterator[tuple[Pending, int]]:
+        """Its line, each with which of its records that is: it keeps those that it was given in their order, each as that one or never."""
+        number = self.ledger.records
+        for pending in self.line:
+            number += not (pending.is_question or pending.done.is_set)
+            yield pending, number
 
     # Records.
 
@@ -287,7 +293,7 @@ class Site(abc.ABC):
                 raise Fault(Status.MISUSE, f"{text_of(record[:80])!r}: {why}; nothing was asked")
         if self.fenced_by or self.shop.stopping.is_set:
             raise self.gone()
-        given = [Pending(record, self.ledger.records, key) for record, key in itertools.zip_longest(records, keys)]
+        given = [Pending(record, key) for record, key in itertools.zip_longest(records, keys)]
         self.line.extend(given)
         if self.up.is_set and not self.gives_soon:
             self.gives_soon = True          # what comes together is written together
@@ -299,12 +305,12 @@ class Site(abc.ABC):
         if self.up.is_set and not self.fenced_by and not self.shop.stopping.is_set:
             self._write([*itertools.takewhile(lambda each: not each.is_given, reversed(self.line))][::-1])
 
-    def leave(self, pending: list[Pending]) -> Pending | None:
-        """Nobody waits for these any more: what wasn't given isn't given. The first of them that was given and isn't answered."""
+    def leave(self, pending: list[Pending]) -> int | None:
+        """Nobody waits for these any more: what wasn't given isn't given. The number of the first that was given and isn't answered."""
         for each in pending:
             each.is_left = True
         self.line = collections.deque(each for each in self.line if each.is_given or not each.is_left)
-        return next((each for each in pending if each.is_given and not each.done.is_set), None)
+        return next((number for each, number in self.numbered() if each in pending and not each.done.is_set), None)
 
     def unanswered(self) -> list[bytes]:
         """The records that the keeper was given and hasn't answered."""

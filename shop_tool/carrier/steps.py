@@ -23,9 +23,10 @@ class Signal:
         self._waiters: dict[Callable[[], None], None] = {}
 
     def tell(self) -> None:
-        waiters, self._waiters = self._waiters, {}
-        for wake in waiters:
-            wake()
+        if self._waiters:
+            waiters, self._waiters = self._waiters, {}
+            for wake in waiters:
+                wake()
 
     def add(self, wake: Callable[[], None]) -> None:
         """Has this called the next time that it is told."""
@@ -134,7 +135,8 @@ Owner = NamedTuple("Owner", [("site", int)])
 # How many sites the shop on the server has, by whoever came first; that is this folder's number, if nobody came before.
 Sites = NamedTuple("Sites", [("count", int)])
 
-# Gives a site to its folder here, or to the fresh one beside it; False if another folder than `before` has it now.
+# Gives a site to its folder here, or to the fresh one beside it; False if another folder than `before` has it now. Only once that folder's
+# life says that it yields does a standby take its place.
 Adopt = NamedTuple("Adopt", [("site", int), ("before", str), ("is_fresh", bool)])
 
 # The statuses of all sites that run.

@@ -14,10 +14,10 @@ def not_given(answered: int = 0, was_refused: bool = False) -> str:
     return "not accepted" if was_refused else "nothing more was given to it" if answered else "nothing was given to it"
 
 
-def not_known(site: int, records: int) -> str:
-    """Of a record that a site was given when it had answered so many, and hasn't answered: it keeps it before any later one, or never."""
-    return f"it may still be accepted: when site {site} has answered a later record, it is in `shop log {site}` after record {records}, " \
-        "or it never will be"
+def not_known(site: int, number: int) -> str:
+    """Of a record that a site was given and hasn't answered: it keeps it as its record of that number, or never. That another answer came
+    says nothing: it may be an earlier one, which is given again under its key."""
+    return f"it may still be accepted, as record {number} of `shop log {site}`; once another record stands there, it never will be"
 
 
 def counts_unknown(site: int) -> str:

@@ -62,6 +62,7 @@ class Supervisor(Shop):
         self.time, self.begun = 0.0, list[Steps[None]]()
         self.events: list[str] = []
         self.taken: list[int] = []
+        self.forgotten: list[int] = []
         self.sites: dict[int, Known] = {number: Known(self, number) for number in range(sites)}
         self.link = link(self)
 
@@ -91,6 +92,9 @@ class Supervisor(Shop):
 
     def witness_of(self, site: Site, answered: int) -> Callable[[int], None]:
         return lambda upto: None
+
+    def forget(self, site: Site) -> None:
+        self.forgotten.append(site.number)
 
 
 class OverServer(ServerLink):

@@ -14,8 +14,9 @@ class Files(unittest.TestCase):
         for now, there in ((was, True), (File(1, 2, 101), True), (File(1, 2, 99), False), (File(1, 3, 100), False),
                            (File(2, 2, 100), False), (None, False)):
             with self.subTest(now=now):
-                self.assertEqual(is_there(was, now), there)
-        self.assertTrue(is_there(None, None))
+                self.assertEqual(is_there(was, now, was.size), there)
+        self.assertTrue(is_there(was, File(1, 2, 99), 99))
+        self.assertTrue(is_there(None, None, 100))
 
     def test_a_file_that_is_put_back_is_the_same(self) -> None:
         with tempfile.TemporaryDirectory() as folder:
@@ -26,9 +27,10 @@ class Files(unittest.TestCase):
                     file.write(text)
                 was = file_at(path)
                 os.rename(path, f"{path}.aside")
-                self.assertFalse(is_there(was, file_at(path)))
+                assert was
+                self.assertFalse(is_there(was, file_at(path), was.size))
                 os.rename(f"{path}.aside", path)
-                self.assertTrue(is_there(was, file_at(path)))
+                self.assertTrue(is_there(was, file_at(path), was.size))
 
     def test_what_to_do(self) -> None:
         self.assertIsNone(why_lost(2, True, True, True))

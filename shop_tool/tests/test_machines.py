@@ -64,8 +64,29 @@ class Asking(unittest.TestCase):
     def test_one_that_was_given_and_is_not_answered_may_still_be_accepted(self) -> None:
         steps = ask(self.site).run([b"user,bob"])
         steps.send(None)
-        self.assertIn("it may still be accepted: when site 1 has answered a later record, it is in `shop log 1` after record 0",
+        self.assertIn("it may still be accepted, as record 1 of `shop log 1`; once another record stands there, it never will be",
                       self.fault(steps, False))
+
+    def test_it_has_its_number_by_the_records_in_front_of_it(self) -> None:
+        """Questions are in front of it too, and one whose answer has come; it keeps its number where the keeper died."""
+        self.site.give([b"user,ann", b"user,cat"])
+        self.site.give([b"?state"], Purpose.QUESTION)
+        steps = ask(self.site).run([b"user,bob"])
+        steps.send(None)
+        self.site.take(b"reply,1,refused,3,NoToken\n")
+        self.site.up.clear()
+        pieces = iter([b"reply,2,refused,3,NoToken\n"])
+        reading = self.site.catch_up(3, lambda: b"user,cat\n", lambda: next(pieces, b""))
+        reading.send(None)
+        self.assertIn("as record 3 of `shop log 1`", self.fault(steps, False))
+
+    def test_each_of_several_has_its_own_when_the_site_ends(self) -> None:
+        several = [ask(self.site).run([b"user,bob"]), ask(self.site).run([b"user,cat"])]
+        for steps in several:
+            steps.send(None)
+        self.site.end()
+        for number, steps in enumerate(several, 1):
+            self.assertIn(f"being stopped; it may still be accepted, as record {number} of", self.fault(steps, True))
 
     def test_one_that_was_not_given_is_not_given_any_more(self) -> None:
         self.site.up.clear()

@@ -128,6 +128,15 @@ class Memory(unittest.TestCase):
         os.rename(copy, original)
         self.assertIsNone(witness.witnessed(original, ["a" * 16]))
 
+    def test_what_is_taken_back(self) -> None:
+        lives = ["a" * 16, "b" * 16]
+        witness.Witness(self.folder, lives, 5)
+        witness.forget(self.folder, [*lives, "c" * 16])     # that of another life
+        self.assertEqual(witness.witnessed(self.folder, lives), 5)
+        witness.forget(self.folder, lives)
+        witness.forget(self.folder, lives)
+        self.assertIsNone(witness.witnessed(self.folder, lives))
+
     def test_a_folder_that_is_gone_is_forgotten(self) -> None:
         gone = f"{self.folder}/gone"
         os.mkdir(gone)

@@ -3,6 +3,7 @@
 import unittest
 from typing import Any
 
+from shop_tool.carrier.opening import HEARD_SECONDS
 from shop_tool.carrier.over_files import FileLink
 from shop_tool.carrier.publisher import Publisher
 from shop_tool.carrier.site import Site, State as SiteState
@@ -65,6 +66,8 @@ class Opening(unittest.TestCase):
         assert isinstance(site, Known)
         self.assertIn("elsewhere:0 has it", site.fenced_by or "")
         self.assertIsNone(site.written)
+        assert isinstance(site.shop, Supervisor)
+        self.assertEqual(site.shop.forgotten, [0])      # a start that can't see that doesn't take the folder for the last one that was asked
 
     def test_a_shop_of_another_number_of_sites_may_go(self) -> None:
         site = self.published(self.answers() | {Sites: 3})
@@ -81,12 +84,34 @@ class Opening(unittest.TestCase):
         site = self.published(self.answers(here="1 b"))
         self.assertFalse(site.opened.is_set or site.fenced_by)
         self.assertEqual(site.silent, [1])
-        others: list[dict[str, Any]] = [{"statuses": {1: {"has": {"0": 0}, "turn": 0}}}, {"life": "1 a"}, {"here": None}]
+        others: list[dict[str, Any]] = [{"statuses": {1: {"has": {"0": 0}, "turn": 0}}}, {"here": None}]
         for known in others:
             site = self.published(self.answers(**({"here": "1 b"} | known)))
             self.assertTrue(site.opened.is_set)
         site = self.published(self.answers(here="1 b", statuses={1: {"has": {"0": 3}, "turn": 0}}))
         self.assertEqual(site.fenced_by, "site 1 has 3 messages of it, and its folder has 0 (shop rebuild 0)")
+
+    def test_where_the_server_may_have_lost_its_end_the_others_have_some_time_to_say_what_they_have(self) -> None:
+        """They run, and make their connections again; the site's folder may have lost its end too."""
+        shop = Supervisor(OverServer, 1)
+        site, answers = shop.sites[0], self.answers(life="1 a")
+        assert isinstance(shop.link, OverServer)
+        steps = Publisher(shop.link, site).run()
+        done(steps, answers)
+        self.assertFalse(site.opened.is_set)
+        self.assertEqual(site.silent, [1])
+        shop.time = HEARD_SECONDS
+        done(steps, answers)
+        self.assertTrue(site.opened.is_set)
+        said = self.answers(life="1 a", statuses={1: {"has": {"0": 0}, "turn": 0}})
+        self.assertTrue(self.published(said).opened.is_set)
+
+    def test_one_that_lacks_nothing_waits_for_nobody(self) -> None:
+        shop = Supervisor(OverServer, 1)
+        assert isinstance(shop.link, OverServer)
+        shop.begin_site(shop.sites[0], 100)
+        done(Publisher(shop.link, shop.sites[0]).run(), self.answers(life="1 a"))
+        self.assertTrue(shop.sites[0].opened.is_set)
 
     def test_what_it_waits_for_others_are_told_too(self) -> None:
         """Two machines of which each lost all that its memory had would wait for each other."""

@@ -39,7 +39,8 @@ class Yielding(unittest.TestCase):
         self.site.take(b"reply,1,ok,1.1\nsend,%b\n" % ANN)
 
     def compare(self, state: StreamState) -> list[tuple[Any, ...]]:
-        answers = {State: state, Owner: "me:1 here:0", Statuses: {}, SeeLife: True, PageOf: Page(0, (0, 0), b"", []), SayYields: True, Rewrite: True,
+        others = {0: {"has": {"1": 0}, "turn": 0}}
+        answers = {State: state, Owner: "me:1 here:0", Statuses: others, SeeLife: True, PageOf: Page(0, (0, 0), b"", []), SayYields: True, Rewrite: True,
                    SeenHere: None, SeeHere: None, Sites: 2}
         return done(self.publisher._compare(), answers)
 

@@ -13,7 +13,7 @@ class Told(unittest.TestCase):
             self.assertEqual(not_given(answered, was_refused=True), "not accepted")
 
     def test_how_it_is_found_out(self) -> None:
-        self.assertIn("it is in `shop log 2` after record 17, or it never will be", not_known(2, 17))
+        self.assertIn("as record 17 of `shop log 2`; once another record stands there, it never will be", not_known(2, 17))
         self.assertIn("shop log 2", unanswered({"op": "ask", "site": 2}))
 
     def test_only_asks_change_something(self) -> None:
