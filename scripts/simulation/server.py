@@ -107,8 +107,7 @@ class Server:
                 if self.owners[site] != before:
                     return False
                 self._write(functools.partial(self._own, site, by.owner_text(site, is_fresh)))
-                if by.world.rules.adopted_yields_later:
-                    self._write(functools.partial(self._yield, site, f"none {by.world.new_number()}"))
+                self._write(functools.partial(self._yield, site, f"none {by.world.new_number()}"))
                 return True
             case Statuses():
                 return {site: dict(said) for site, (until, said) in self.said.items() if until > self.clock.now}

@@ -16,7 +16,7 @@ from shop_tool.carrier.shop import Shop
 from shop_tool.carrier.site import Pending, Site
 from shop_tool.carrier.sums import compared
 
-from .world import Rules, Supervisor
+from .world import Rules
 
 # Where records are looked at before a site is given them.
 LOOKS = ("shop_tool.carrier.site", "shop_tool.carrier.shop", "shop_tool.requests")
@@ -67,8 +67,6 @@ def patches_of(rule: str) -> list[Any]:
         "9-lives": [instead(f"shop_tool.carrier.{name}.standing", lambda *_: Standing.NEXT) for name in ("publisher", "over_files")],
         "11": [],
         "hear": [instead("shop_tool.carrier.publisher.must_hear_all", hears_where_forgotten)],
-        "forget": [mock.patch.object(Supervisor, "forget", lambda *_: None)],
-        "adopted": [],
         "keys-read": [mock.patch.object(Keys, "read", lambda *_: None)],
         "keys-given": [mock.patch.object(Keys, "find", answered_only)],
         "told-number": [mock.patch.object(Site, "numbered", numbered_alone)],
@@ -78,7 +76,7 @@ def patches_of(rule: str) -> list[Any]:
     return changes[rule]
 
 
-RULES = ("1", "2", "3", "4", "5", "6", "7", "9", "9-lives", "11", "hear", "forget", "adopted", "keys-read", "keys-given", "told-number", "standby-told", "turns")
+RULES = ("1", "2", "3", "4", "5", "6", "7", "9", "9-lives", "11", "hear", "keys-read", "keys-given", "told-number", "standby-told", "turns")
 
 
 def rules_without(rule: str | None) -> Rules:
@@ -88,8 +86,6 @@ def rules_without(rule: str | None) -> Rules:
         rules.swallowed_cancel_ends = False
     if rule == "11":
         rules.hands_over = False
-    if rule == "adopted":
-        rules.adopted_yields_later = False
     return rules
 
 

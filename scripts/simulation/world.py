@@ -43,7 +43,6 @@ class Rules:
 
     swallowed_cancel_ends = True    # a supervisor that is stopped ends, whatever a connection swallows
     hands_over = True               # a stop passes the token on first
-    adopted_yields_later = True     # a folder that is given a site hasn't said that it yields
 
 
 class World:
