@@ -1,0 +1,5 @@
+pub mod Rule
+pub mod Results
+pub mod States
+pub mod Codes
+pub mod Laws

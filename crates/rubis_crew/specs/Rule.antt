@@ -1,0 +1,135 @@
+-- The rule of the jobs: what is so of their queue and of all passes, before and after every step.
+use Rattle.std.specs.Prelude.{◌≡◌, ℕ, ◌+◌, ◌<◌, ◌≤◌, true, false, cond, eqb, List, [], ◌∷◌, ◌++◌, length}
+use Rattle.std.specs.List.{All, Contains}
+use mathlib.Core.Option.{some}
+use lib.ListN.{get_elem?}
+use Rattle.rubis_crew.specs.declared.job.Given.{Given}
+use Rattle.rubis_crew.specs.declared.rule.PassView.{PassView}
+use Rattle.rubis_crew.specs.declared.rule.Item.{Item}
+use Rattle.rubis_crew.specs.declared.rule.Item.TheVariants.{Work, Over}
+
+module _ {J : Type 0} where
+  -- ---- jobs under their numbers
+
+  -- the numbers rise from `low` on and are below `next`: no two are the same
+  abbrev pub AreRising : ℕ → ℕ → List (Given J) → Type 0
+  AreRising low next [] = low ≤ next
+  AreRising low next (x ∷ xs) = (low ≤ x.number) × AreRising (x.number + 1) next xs
+
+  -- they are all below `n`
+  abbrev pub AreBelow : ℕ → List (Given J) → Type 0
+  AreBelow n xs = All (λ x. x.number < n) xs
+
+  -- what the numbers weigh together
+  abbrev pub weigh : (ℕ → ℕ) → List (Given J) → ℕ
+  weigh h [] = 0
+  weigh h (x ∷ xs) = h x.number + weigh h xs
+
+  -- without the first one of that number
+  abbrev pub taken_off : ℕ → List (Given J) → List (Given J)
+  taken_off n [] = []
+  taken_off n (x ∷ xs) = cond (eqb x.number n) xs (x ∷ taken_off n xs)
+
+  -- without one that is held
+  abbrev pub without : List (Given J) → List (Given J) → List (Given J)
+  without [] given = given
+  without (x ∷ held) given = taken_off x.number given
+
+  -- ---- the queue
+
+  -- the jobs that wait
+  abbrev pub waiting : List (Item J) → List (Given J)
+  waiting [] = []
+  waiting (Work x ∷ items) = x ∷ waiting items
+  waiting (Over ∷ items) = waiting items
+
+  abbrev pub overs_in : List (Item J) → ℕ
+  overs_in [] = 0
+  overs_in (Work x ∷ items) = overs_in items
+  overs_in (Over ∷ items) = overs_in items + 1
+
+  -- ---- all passes
+
+  -- what a number of each pass adds up to
+  abbrev pub sum_over : (PassView J → ℕ) → List (PassView J) → ℕ
+  sum_over f [] = 0
+  sum_over f (v ∷ views) = f v + sum_over f views
+
+  abbrev pub EachAt : (ℕ → PassView J → Type 0) → List (PassView J) → Type 0
+  EachAt F views = (place : ℕ) (v : PassView J) → get_elem? views place ≡ some v → F place v
+
+  -- the pass that gives jobs, when none is given
+  abbrev pub first_view : PassView J
+  first_view = record { leads = true; next = 0; given = []; overs = 0; held = []; taken = []; pays = false }
+
+  -- a pass that holds nothing
+  abbrev pub idle : PassView J
+  idle = record { leads = false; next = 0; given = []; overs = 0; held = []; taken = []; pays = false }
+
+-- ---- the rule
+
+-- the pass gives the jobs: no other does, and it knows which are given, the next number, and how often no more come
+pub record GivesThem {J : Type 0} (lead : ℕ) (given : List (Given J)) (next overs place : ℕ) (v : PassView J) : Type 0 where
+  pub alone : place ≡ lead
+  pub same : v.given ≡ given
+  pub number : v.next ≡ next
+  pub said : overs ≤ v.overs
+
+-- a pass fits the jobs that are given
+pub record AgreesWith {J : Type 0} (lead : ℕ) (given : List (Given J)) (next overs place : ℕ) (v : PassView J) : Type 0 where
+  -- what it holds is given
+  pub held : (x : Given J) → Contains v.held x → Contains given x
+  pub leads : v.leads ≡ true → GivesThem lead given next overs place v
+
+pub record Ruled {J : Type 0} (Fits : J → Type 0) (items : List (Item J)) (views : List (PassView J)) : Type 0 where
+  -- the jobs that are given and aren't back, under numbers that differ
+  pub given : List (Given J)
+  pub next : ℕ
+  pub numbers : AreRising 0 next given
+  -- each of these numbers waits or is held by a pass, once, and no other does
+  pub once : (h : ℕ → ℕ) → weigh h given ≡ weigh h (waiting items) + sum_over (λ v. weigh h v.held) views
+  -- and under it is the job that was given
+  pub waits : (x : Given J) → Contains (waiting items) x → Contains given x
+  pub fits : All (λ x. Fits x.job) (waiting items)
+  -- one pass at most gives jobs
+  pub lead : ℕ
+  pub each : EachAt (AgreesWith lead given next (overs_in items)) views
+
+-- ---- the steps
+
+module _ {J : Type 0} where
+  -- a job is given under the next number, which none of those that are given has; or no more come
+  abbrev pub HasPut : PassView J → Item J → PassView J → Type 0
+  HasPut v (Work x) w = (w ≡ record v { next = v.next + 1; given = v.given ++ x ∷ [] }) × AreBelow x.number v.given
+  HasPut v Over w = w ≡ record v { overs = v.overs + 1 }
+
+  -- no more lies in the queue than is given, and was said
+  abbrev pub AreFew : PassView J → List (Item J) → Type 0
+  AreFew v items = length items ≤ length v.given + v.overs
+
+  -- the pass holds the job that it took; or no more come
+  abbrev pub HasTaken : (J → Type 0) → PassView J → Item J → PassView J → Type 0
+  HasTaken Fits v (Work x) w = Fits x.job × (w ≡ record v { held = v.held ++ x ∷ []; taken = v.taken ++ x ∷ [] })
+  HasTaken Fits v Over w = w ≡ v
+
+  -- a pass that gives away what it holds, and the one that then holds it and goes back with the result
+  abbrev pub emptied : PassView J → PassView J
+  emptied v = record v { held = [] }
+
+  abbrev pub token_view : PassView J → PassView J
+  token_view v = record { leads = false; next = 0; given = []; overs = 0; held = v.held; taken = []; pays = true }
+
+  -- the first pass holds what both did
+  abbrev pub together : PassView J → PassView J → PassView J
+  together v u = record v { held = v.held ++ u.held }
+
+  -- what the pass holds is one of the jobs that it gave, and taken off leaves the others
+  abbrev pub HoldsAGivenOne : PassView J → Type 0
+  HoldsAGivenOne v =
+      (x : Given J) → v.held ≡ x ∷ []
+      → (before : List (Given J)) × (after : List (Given J)) × (v.given ≡ before ++ x ∷ after)
+      × (taken_off x.number v.given ≡ before ++ after)
+
+  -- the job that it holds is given no more
+  abbrev pub settled : PassView J → PassView J
+  settled v = record v { given = without v.held v.given; held = [] }

@@ -1,0 +1,101 @@
+-- What a contract sees of a crew, of the one who gives jobs, and of a helper; and how each call changes it.
+use Rattle.std.specs.Prelude.{◌≡◌, ℕ, ◌+◌, ◌≤◌, ◌⊎◌, true, List, [], ◌∷◌, ◌++◌, length, Some}
+use Rattle.atomic_table.specs.Seated.{TableId}
+use Rattle.crossbeam_queue.specs.Passes.{Pass, view}
+use Rattle.rubis_crew.specs.declared.job.Given.{Given}
+use Rattle.rubis_crew.specs.declared.job.Back.{Back}
+use Rattle.rubis_crew.specs.declared.rule.Item.{Item}
+use Rattle.rubis_crew.specs.declared.rule.PassView.{PassView}
+use Rattle.rubis_crew.specs.declared.results.ResultView.{ResultView}
+use Rattle.rubis_crew.specs.declared.results.Slip.{Slip}
+use Rattle.rubis_crew.specs.declared.crew.Found.{Found}
+use Rattle.rubis_crew.specs.declared.crew.Found.TheVariants.{AJob, Nothing, Over}
+
+-- which crew it is: its queue of jobs, and that of the results
+pub record CrewId : Type 0 where
+  pub jobs : TableId
+  pub results : TableId
+
+-- a crew, and how many jobs may be given and not back
+pub record CrewState : Type 0 where
+  pub id : CrewId
+  pub room : ℕ
+
+-- a crew that was ended, and how many jobs were given, all of which are back
+pub record EndState : Type 0 where
+  pub crew : CrewId
+  pub jobs : ℕ
+
+-- the one who gives jobs: the next number, and the jobs that are given and not back
+pub record LeadState (J : Type 0) : Type 0 where
+  pub crew : CrewId
+  pub next : ℕ
+  pub given : List (Given J)
+
+-- a helper: the jobs that it ever took, and those for whose results it paid
+pub record HelperState (J : Type 0) : Type 0 where
+  pub crew : CrewId
+  pub taken : List (Given J)
+  pub paid : List (Given J)
+
+module _ {J : Type 0} where
+  -- nothing was given yet
+  abbrev pub new_lead : CrewId → LeadState J
+  new_lead crew = record { crew = crew; next = 0; given = [] }
+
+  abbrev pub new_helper : CrewId → HelperState J
+  new_helper crew = record { crew = crew; taken = []; paid = [] }
+
+  -- the job is given too, under the next number
+  abbrev pub given_too : LeadState J → J → LeadState J
+  given_too s job = record s { next = s.next + 1; given = s.given ++ record { number = s.next; job = job } ∷ [] }
+
+  -- all jobs for which there is room are given, or all numbers are
+  abbrev pub HasNoRoom : ℕ → LeadState J → Type 0
+  HasNoRoom room s = (room ≤ length s.given) ⊎ (18446744073709551615 ≤ s.next)
+
+  -- a job that was given is given no more
+  abbrev pub IsBack : LeadState J → Given J → LeadState J → Type 0
+  IsBack s x t =
+      (before : List (Given J)) × (after : List (Given J)) × (s.given ≡ before ++ x ∷ after) × (t ≡ record s { given = before ++ after })
+
+  -- the job is taken and paid for
+  abbrev pub served : HelperState J → Given J → HelperState J
+  served s x = record s { taken = s.taken ++ x ∷ []; paid = s.paid ++ x ∷ [] }
+
+  -- what the helper found: a job, which it took and paid for; or none, and nothing changes
+  abbrev pub HasHelped : Found → HelperState J → HelperState J → Type 0
+  HasHelped AJob s t = (x : Given J) × (t ≡ served s x)
+  HasHelped Nothing s t = t ≡ s
+  HasHelped Over s t = t ≡ s
+
+-- the result of a job that was given comes back under its number
+abbrev pub ComesBack : {J R : Type 0} → (J → R → Type 0) → LeadState J → Back R → LeadState J → Type 0
+ComesBack {J} Worked s back t = (job : J) × IsBack s (record { number = back.number; job = job }) t × Worked job back.result
+
+-- ---- what the passes say
+
+module _ {J R : Type 0} (seat : Pass (Item J) (PassView J)) (desk : Pass (Slip J R) (ResultView J)) where
+  abbrev pub crew_of : CrewId
+  crew_of = record { jobs = seat.table_id; results = desk.table_id }
+
+  abbrev pub lead_of : LeadState J
+  lead_of = record { crew = crew_of; next = (view seat).next; given = (view seat).given }
+
+  abbrev pub helper_of : HelperState J
+  helper_of = record { crew = crew_of; taken = (view seat).taken; paid = (view desk).paid }
+
+-- a pass of the jobs that holds nothing, with one of their results
+pub record AreAPair {J R : Type 0} (seat : Pass (Item J) (PassView J)) (desk : Pass (Slip J R) (ResultView J)) : Type 0 where
+  pub seat_free : seat.me.1 ≡ []
+  pub desk_free : desk.me.1 ≡ []
+  pub holds_none : (view seat).held ≡ []
+  pub told : (view desk).of ≡ Some seat.table_id
+
+-- they are those of the one who gives jobs, which are so many
+pub record AreALead {J R : Type 0} (next count : ℕ) (seat : Pass (Item J) (PassView J)) (desk : Pass (Slip J R) (ResultView J)) : Type 0 where
+  pub pair : AreAPair seat desk
+  pub leads : (view seat).leads ≡ true
+  pub none_over : (view seat).overs ≡ 0
+  pub number : next ≡ (view seat).next
+  pub many : count ≡ length (view seat).given

@@ -1,0 +1,396 @@
+//! The crew: how jobs are given and taken, and how their results come back.
+
+ghost use Rattle.std.specs.Prelude.{◌≡◌, ◌+◌, ◌-◌, ◌<◌, ◌^◌, [], ◌∷◌, ◌++◌, length, true, Some, IfOk, IfErr, OnOk, IfSome, IfNone};
+ghost use Rattle.crossbeam_queue.specs.Passes.{view, IsPassOf, IsSamePass};
+ghost use Rattle.rubis_crew.specs.declared.job.Given.{Given};
+ghost use Rattle.rubis_crew.specs.Results.{IsPaid, holds};
+ghost use Rattle.atomic_table.specs.Seated.{TableId};
+ghost use Rattle.rubis_crew.specs.Rule.{AreBelow, HoldsAGivenOne, settled};
+ghost use Rattle.rubis_crew.specs.States.{new_lead, new_helper, given_too, HasNoRoom, IsBack, HasHelped, ComesBack};
+
+use crate::job::{Back, Given, Job};
+use crate::results::{Collecting, Joining, Naming, Paying, Payment, ResultRule, ResultView, Slip};
+use crate::rule::{
+    Giving, Handing, Item, JobRule, Owning, PassView, Receiving, Settling, Sharing, Taking,
+};
+use crossbeam_queue::{Pass, RuledArrayQueue};
+use std::alloc::{AllocError, Global};
+use std::marker::Model;
+use std::sync::Wait;
+use std::thread;
+
+type Jobs<J> = RuledArrayQueue<Item<J>, PassView<J>, JobRule>;
+
+type Seat<J> = Pass<Item<J>, PassView<J>>;
+
+type Results<J> = RuledArrayQueue<Slip<J, <J as Job>::Output>, ResultView<J>, ResultRule>;
+
+type Desk<J> = Pass<Slip<J, <J as Job>::Output>, ResultView<J>>;
+
+/// Jobs and results, shared by the one who gives jobs and the helpers. It ends by `close`, and can't be let go before. To a contract it
+/// is its identity, and how many jobs may be given and not back.
+pub struct Crew<J: Job> {
+    jobs: Jobs<J>,
+    results: Results<J>,
+    room: usize,
+    // How many helpers are told that no more jobs come.
+    helpers: usize,
+}
+
+impl<J: Job> Model for Crew<J> {
+    ghost use Rattle.std.specs.Prelude.{◌+◌, ◌≤◌};
+    ghost use Rattle.crossbeam_queue.specs.Passes.{ruled_capacity};
+    ghost use Rattle.rubis_crew.specs.States.{CrewState};
+    ghost use Rattle.rubis_crew.specs.Codes.{crew_code};
+
+    ghost Value = { CrewState };
+
+    ghost coded = { crew_code };
+
+    ghost view = { λ c. record {
+      id = record { jobs = c.jobs.table.shared.table_id; results = c.results.table.shared.table_id };
+      room = c.room;
+    } };
+
+    ghost invariant = { λ c. c.room + c.helpers ≤ ruled_capacity c.jobs };
+}
+
+/// What the one who gives jobs knows of a crew, and its permission to give them.
+#[derive(Drop)]
+pub struct Lead<J: Job> {
+    seat: Seat<J>,
+    desk: Desk<J>,
+    next: u64,
+    // How many jobs are given and not back.
+    count: usize,
+}
+
+impl<J: Job> Model for Lead<J> {
+    ghost use Rattle.rubis_crew.specs.States.{LeadState, AreALead, lead_of};
+    ghost use Rattle.rubis_crew.specs.Codes.{lead_code};
+
+    ghost Value = { LeadState J };
+
+    ghost coded = { lead_code J.code };
+
+    ghost view = { λ l. lead_of l.seat l.desk };
+
+    ghost invariant = { λ l. AreALead l.next l.count l.seat l.desk };
+}
+
+/// What a helper knows of a crew, and its permission to take jobs.
+#[derive(Drop)]
+pub struct Helper<J: Job> {
+    seat: Seat<J>,
+    desk: Desk<J>,
+}
+
+impl<J: Job> Model for Helper<J> {
+    ghost use Rattle.rubis_crew.specs.States.{HelperState, AreAPair, helper_of};
+    ghost use Rattle.rubis_crew.specs.Codes.{helper_code};
+
+    ghost Value = { HelperState J };
+
+    ghost coded = { helper_code J.code };
+
+    ghost view = { λ h. helper_of h.seat h.desk };
+
+    ghost invariant = { λ h. AreAPair h.seat h.desk };
+}
+
+/// What shows that a crew was ended: its helpers were told, and all that was given is back.
+#[derive(Drop)]
+pub struct Ended<J: Job> {
+    seat: Seat<J>,
+    desk: Desk<J>,
+    // How many jobs were given.
+    jobs: u64,
+}
+
+impl<J: Job> Model for Ended<J> {
+    ghost use Rattle.rubis_crew.specs.States.{EndState, crew_of};
+    ghost use Rattle.rubis_crew.specs.Codes.{end_code};
+
+    ghost Value = { EndState };
+
+    ghost coded = { end_code };
+
+    ghost view = { λ e. record { crew = crew_of e.seat e.desk; jobs = e.jobs } };
+}
+
+/// What a helper found.
+#[derive(Clone, Copy, Debug, PartialEq, Eq)]
+pub enum Found {
+    /// A job, whose result it paid.
+    AJob,
+    /// None, and more may come.
+    Nothing,
+    /// None, and no more come.
+    Over,
+}
+
+// The job that the pass holds is back: it is one of those that the pass gave, and given no more.
+fn settle<J: Job>(jobs: &Jobs<J>, seat: &mut Seat<J>)
+    requires queue { IsPassOf jobs.now seat.old }
+    requires leads { (view seat.old).leads ≡ true }
+    requires one { (x : Given J) × ((view seat.old).held ≡ x ∷ []) }
+    ensures queue { IsSamePass seat.old seat.new }
+    ensures given { HoldsAGivenOne (view seat.old) }
+    ensures back { view seat.new ≡ settled (view seat.old) }
+{
+    jobs.learn_as::<Owning>(seat);
+    let _ = jobs.another::<Settling>(seat);
+}
+
+// Puts a result into the queue, as soon as there is room.
+fn pay<J: Job, R: Wait>(
+    rt: &R,
+    results: &Results<J>,
+    desk: &mut Desk<J>,
+    payment: Payment<J, J::Output>,
+)
+    requires queue { IsPassOf results.now desk.old }
+    requires paid { (queue : TableId) × ((view desk.old).of ≡ Some queue) × IsPaid J.Worked queue payment }
+    ensures queue { IsSamePass desk.old desk.new }
+    ensures paid { view desk.new ≡ record (view desk.old) { paid = (view desk.old).paid ++ holds payment.token } }
+{
+    let mut slip = Slip::Pay(payment);
+    for _ in rt.forever() {
+        match results.push_as::<Paying, R>(rt, desk, slip) {
+            Ok(()) => return,
+            Err(back) => slip = back,
+        }
+        thread::yield_now();
+    }
+    unreachable!()
+}
+
+impl<J: Job> Lead<J> {
+    /// How many jobs are given and not back.
+    pub fn out(&self) -> usize
+        ensures { result ≡ length self.now.given }
+    {
+        self.count
+    }
+}
+
+impl<J: Job> Crew<J> {
+    /// A crew for `helpers` helpers, with room for `room` jobs that are given and not back. None is given yet.
+    pub fn new<R: Wait>(
+        rt: &R,
+        alloc: Global,
+        room: usize,
+        helpers: usize,
+    ) -> Result<(Crew<J>, Lead<J>), AllocError>
+        requires { (0 < room) × (room + helpers < 2 ^ 63) }
+        ensures room { IfOk result (λ made. made.0.room ≡ room) }
+        ensures lead { IfOk result (λ made. made.1 ≡ new_lead made.0.id) }
+    {
+        let (jobs, mut seat) = Jobs::<J>::ruled(alloc, room + helpers)?;
+        let (results, mut desk) = Results::<J>::ruled(alloc, room)?;
+        let token = jobs.another::<Sharing>(&mut seat);
+        match results.push_as::<Naming, R>(rt, &mut desk, Slip::Name(token)) {
+            Ok(()) => {}
+            Err(_) => unreachable!(),
+        }
+        let _ = results.pop_as::<Collecting, R>(rt, &mut desk);
+        let crew = Crew {
+            jobs,
+            results,
+            room,
+            helpers,
+        };
+        let lead = Lead {
+            seat,
+            desk,
+            next: 0,
+            count: 0,
+        };
+        Ok((crew, lead))
+    }
+
+    /// What a new helper needs, for its thread.
+    pub fn helper(&self, lead: &mut Lead<J>) -> Helper<J>
+        requires { lead.old.crew ≡ self.now.id }
+        ensures helper { result ≡ new_helper self.now.id }
+        ensures same { lead.new ≡ lead.old }
+    {
+        let seat = self.jobs.another::<Sharing>(&mut lead.seat);
+        let desk = self.results.another::<Joining>(&mut lead.desk);
+        Helper { seat, desk }
+    }
+
+    /// Gives a job, and tells the number by which its result comes back. Returns the job if and only if there is no room.
+    pub fn give<R: Wait>(&self, rt: &R, lead: &mut Lead<J>, job: J) -> Result<u64, J>
+        requires crew { lead.old.crew ≡ self.now.id }
+        requires fits { J.Fits job }
+        ensures number { IfOk result (λ number. (number ≡ lead.old.next) × AreBelow number lead.old.given) }
+        ensures given { OnOk result (lead.new ≡ given_too lead.old job) }
+        ensures full { IfErr result (λ back. (back ≡ job) × HasNoRoom self.now.room lead.old × (lead.new ≡ lead.old)) }
+    {
+        if lead.count >= self.room || lead.next == u64::MAX {
+            return Err(job);
+        }
+        let number = lead.next;
+        let item = Item::Work(Given { number, job });
+        match self.jobs.push_as::<Giving, R>(rt, &mut lead.seat, item) {
+            Ok(()) => {
+                lead.next += 1;
+                lead.count += 1;
+                Ok(number)
+            }
+            Err(_) => unreachable!(),
+        }
+    }
+
+    /// A result that came back, if one did.
+    pub fn take_back<R: Wait>(&self, rt: &R, lead: &mut Lead<J>) -> Option<Back<J::Output>>
+        requires crew { lead.old.crew ≡ self.now.id }
+        ensures back { IfSome result (λ back. ComesBack J.Worked lead.old back lead.new) }
+        ensures none { IfNone result (lead.new ≡ lead.old) }
+    {
+        match self.results.pop_as::<Collecting, R>(rt, &mut lead.desk) {
+            Some(Slip::Pay(payment)) => {
+                let Payment {
+                    number,
+                    result,
+                    token,
+                } = payment;
+                self.jobs.absorb::<Receiving>(&mut lead.seat, token);
+                settle(&self.jobs, &mut lead.seat);
+                lead.count -= 1;
+                Some(Back { number, result })
+            }
+            Some(Slip::Name(_)) | None => None,
+        }
+    }
+
+    /// The first job that no helper has taken, if there is one. It comes back as it was given.
+    pub fn take_unworked<R: Wait>(&self, rt: &R, lead: &mut Lead<J>) -> Option<Given<J>>
+        requires crew { lead.old.crew ≡ self.now.id }
+        ensures job { IfSome result (λ given. IsBack lead.old given lead.new) }
+        ensures fits { IfSome result (λ given. J.Fits given.job) }
+        ensures none { IfNone result (lead.new ≡ lead.old) }
+    {
+        // Only helpers take what says that no more jobs come.
+        if lead.count == 0 {
+            return None;
+        }
+        match self.jobs.pop_as::<Taking, R>(rt, &mut lead.seat) {
+            Some(Item::Work(given)) => {
+                settle(&self.jobs, &mut lead.seat);
+                lead.count -= 1;
+                Some(given)
+            }
+            Some(Item::Over) | None => None,
+        }
+    }
+
+    /// Does the first job that no helper has taken, if there is one, and returns its result.
+    pub fn work<R: Wait>(&self, rt: &R, lead: &mut Lead<J>) -> Option<Back<J::Output>>
+        requires crew { lead.old.crew ≡ self.now.id }
+        ensures back { IfSome result (λ back. ComesBack J.Worked lead.old back lead.new) }
+        ensures none { IfNone result (lead.new ≡ lead.old) }
+    {
+        let Given { number, job } = self.take_unworked(rt, lead)?;
+        Some(Back {
+            number,
+            result: job.work(),
+        })
+    }
+
+    /// Lets go what is given: a job that no helper has taken unworked, and else its result.
+    pub fn drain<R: Wait>(&self, rt: &R, lead: &mut Lead<J>)
+        requires { lead.old.crew ≡ self.now.id }
+        ensures crew { lead.new.crew ≡ lead.old.crew }
+        ensures none { lead.new.given ≡ [] }
+    {
+        for _ in rt.forever() {
+            if lead.out() == 0 {
+                return;
+            }
+            if self.take_unworked(rt, lead).is_none() && self.take_back(rt, lead).is_none() {
+                thread::yield_now();
+            }
+        }
+        unreachable!()
+    }
+
+    /// Tells the helpers that no more jobs come. All that was given is back.
+    pub fn end<R: Wait>(&self, rt: &R, lead: Lead<J>) -> Ended<J>
+        requires crew { lead.crew ≡ self.now.id }
+        requires none { lead.given ≡ [] }
+        ensures { result ≡ record { crew = self.now.id; jobs = lead.next } }
+    {
+        let Lead {
+            mut seat,
+            desk,
+            next,
+            count: _,
+        } = lead;
+        for _ in 0..self.helpers {
+            match self.jobs.push_as::<Giving, R>(rt, &mut seat, Item::Over) {
+                Ok(()) => {}
+                Err(_) => unreachable!(),
+            }
+        }
+        Ended {
+            seat,
+            desk,
+            jobs: next,
+        }
+    }
+
+    /// Lets the crew go, once it was ended. Returns how many jobs were given: all of them are back.
+    pub fn close(self, ended: Ended<J>) -> u64
+        requires { ended.crew ≡ self.id }
+        ensures { result ≡ ended.jobs }
+    {
+        let Crew {
+            jobs: _,
+            results: _,
+            room: _,
+            helpers: _,
+        } = self;
+        ended.jobs
+    }
+
+    /// Takes the first job, if there is one, does it, and pays its result.
+    pub fn help<R: Wait>(&self, rt: &R, me: &mut Helper<J>) -> Found
+        requires { me.old.crew ≡ self.now.id }
+        ensures { HasHelped result me.old me.new }
+    {
+        match self.jobs.pop_as::<Taking, R>(rt, &mut me.seat) {
+            Some(Item::Work(given)) => {
+                let Given { number, job } = given;
+                let result = job.work();
+                let token = self.jobs.another::<Handing>(&mut me.seat);
+                let payment = Payment {
+                    number,
+                    result,
+                    token,
+                };
+                pay(rt, &self.results, &mut me.desk, payment);
+                Found::AJob
+            }
+            Some(Item::Over) => Found::Over,
+            None => Found::Nothing,
+        }
+    }
+
+    /// Helps until no more jobs come. What was taken is paid for.
+    pub fn stay<R: Wait>(&self, rt: &R, me: &mut Helper<J>)
+        requires crew { me.old.crew ≡ self.now.id }
+        requires owes { me.old.paid ≡ me.old.taken }
+        ensures crew { me.new.crew ≡ me.old.crew }
+        ensures owes { me.new.paid ≡ me.new.taken }
+    {
+        for _ in rt.forever() {
+            match self.help(rt, me) {
+                Found::AJob => {}
+                Found::Nothing => thread::yield_now(),
+                Found::Over => return,
+            }
+        }
+    }
+}
