@@ -1,19 +1,42 @@
 //! The auditor over a reader and a writer.
 
-ghost use Rattle.std.specs.Prelude.{◌≡◌, ◌≤◌, [], ℕ, IfOk, IfSome};
+ghost use Rattle.std.specs.Prelude.{◌≡◌, ◌≤◌, [], ℕ, List, IfOk, IfSome};
 ghost use Rattle.rubis_engine.specs.Progress.{IsRun};
 ghost use Rattle.rubis_engine.specs.Text.{input_records};
 ghost use Rattle.rubis_schema.specs.declared.limits.TheConstants.{COUNTED_MAX, RECORDS_MAX};
 ghost use Rattle.rubis_audit.specs.declared.questions.LogQuestion.TheVariants as LogQuestion;
 ghost use Rattle.rubis_audit.specs.Running.{account_from, audit_account, lack_account};
 ghost use Rattle.rubis_audit.specs.Soundness.{AgreesOnSoundLogs};
+ghost use Rattle.rubis_serving.specs.Whole.{EndsWhole, HasAll};
 
 use crate::auditor::Auditor;
 use crate::questions::LogQuestion;
-use rubis_engine::{Count, RunFault, run_upto};
+use rubis_engine::{Count, RunFault};
+use rubis_reading::Chunks;
 use rubis_schema::RECORDS_MAX;
+use rubis_serving::{BLOCK, run_service};
 use std::alloc::Global;
 use std::io::{Read, Write};
+
+/// Has an auditor read the records of a text as `run_auditor` does over a reader. The chunks are lent too: where their reader failed,
+/// the auditor has read the records that came whole, and the chunks have what came since, in which no record ends.
+///
+/// # Errors
+///
+/// Those of `run_auditor`.
+pub fn run_auditor_chunks<R: Read, W: Write>(
+    alloc: Global,
+    chunks: &mut Chunks<R>,
+    writer: &mut W,
+    auditor: &mut Auditor,
+) -> Result<Count, RunFault>
+    ensures { (input : List ℕ) → HasAll R.remaining chunks.old input
+        → EndsWhole R.remaining chunks.new (account_from auditor.old.asked auditor.old.sites 1 auditor.old.logs)
+        (λ n. account_from auditor.new.asked auditor.new.sites n auditor.new.logs)
+        RECORDS_MAX (W.contents writer.old) (W.contents writer.new) input result }
+{
+    run_service(&(), alloc, chunks, writer, auditor, RECORDS_MAX)
+}
 
 /// Has an auditor read at most 4,000,000 records of `reader`, until its end or the first malformed record, and appends its answer
 /// to `writer`. If a fresh one is asked whether the logs agree, and that is `audit,Agree`, the logs that the input's records say
@@ -37,7 +60,8 @@ pub fn run_auditor<R: Read + Drop, W: Write>(
         → IfOk result (λ _. IfSome (R.remaining reader) (λ input.
         AgreesOnSoundLogs auditor.old.sites (W.contents writer.old) (W.contents writer.new) (input_records input))) }
 {
-    run_upto(&(), alloc, reader, writer, auditor, RECORDS_MAX)
+    let mut chunks = Chunks::new(alloc, reader, BLOCK);
+    run_auditor_chunks(alloc, &mut chunks, writer, auditor)
 }
 
 /// Audits the logs of `sites` sites as `run_auditor`, and appends the one record of the audit.

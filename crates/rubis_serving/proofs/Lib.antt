@@ -1,0 +1,3 @@
+pub mod EndFacts
+pub mod StandFacts
+pub mod ServedFacts

@@ -1,0 +1,15 @@
+use Rattle.rubis_engine.specs.Text.{input_records}
+use Rattle.rubis_serving.proofs.EndFacts.{ends_so}
+use Rattle.rubis_serving.proofs.ServedFacts.{match_so}
+use Rattle.rubis_serving.proofs.run.answer_piece.Goals as goal
+
+pub returns : goal.returns
+returns g c =
+    let rows = input_records c.args.text.now in
+    ends_so c.answer_records.result
+    (λ over goes. match_so over
+    (λ (within, stands). (within, λ all old records rest h. stands all old records rest (record { rows = rows; gives = c.new-piece.ensures; stands = h })))
+    (λ count done all old records rest h. done all old records rest (record { rows = rows; gives = c.new-piece.ensures; stands = h })) goes)
+    (λ long all old records rest h. long all old records rest (record { rows = rows; gives = c.new-piece.ensures; stands = h })) absurd
+    (λ prefix all old records rest h. prefix all old records rest (record { rows = rows; gives = c.new-piece.ensures; stands = h }))
+    c.answer_records.ensures

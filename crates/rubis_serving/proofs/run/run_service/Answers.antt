@@ -1,0 +1,8 @@
+use Rattle.rubis_serving.proofs.ServedFacts.{ends_whole}
+use Rattle.rubis_serving.proofs.run.run_service.Goals as goal
+
+pub returns : goal.returns
+returns g c input all =
+    ends_whole g.R.Read.remaining c.args.chunks.now c.serve.new.chunks (g.S.Service.account c.args.service.now) (g.S.Service.account c.serve.new.service)
+    c.new-run.result c.serve.new.run c.args.limit input (g.W.Write.contents c.args.writer.now) (g.W.Write.contents c.serve.new.writer) c.serve.result all
+    c.new-run.ensures.empty c.new-run.ensures.none c.serve.ensures

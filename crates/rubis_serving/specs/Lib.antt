@@ -1,0 +1,3 @@
+pub mod Endings
+pub mod Whole
+pub mod Serving

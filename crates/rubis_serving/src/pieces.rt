@@ -1,0 +1,117 @@
+//! The next piece of a text, and what a run does between pieces and at its end.
+
+ghost use Rattle.std.specs.Prelude.{◌≡◌, ⊤};
+ghost use Rattle.rubis_engine.specs.Accounts.Ending.{AtEnd};
+ghost use Rattle.rubis_engine.specs.Progress.{IsDone, WritesFrontOf, WrotePrefix};
+ghost use Rattle.rubis_engine.specs.Text.{input_records};
+ghost use Rattle.rubis_reading.specs.Chunked.{FailsShort, KeepsCome, KeepsPending, held_text};
+ghost use Rattle.rubis_reading.specs.Streams.{EndsNoRecord};
+ghost use Rattle.rubis_serving.specs.Endings.{ByEnd};
+ghost use Rattle.rubis_serving.specs.Serving.{AnswersWhole, IsAtHand, MovesOn, OfEachLast, OfEachServed, Settles};
+
+use crate::served::Served;
+use rubis_engine::{Count, RunFault, Service, Sink};
+use rubis_reading::{ChunkFault, Chunks};
+use std::io::{Read, Write};
+
+/// Has a service answer what it holds back, and writes out all that waits.
+///
+/// # Errors
+///
+/// `Write` where the writer failed, and `Memory` if memory ran out: a prefix of the text was written then.
+pub fn settle<T, S: Service<T>, W: Write>(
+    rt: &T,
+    service: &mut S,
+    sink: &mut Sink,
+    writer: &mut W,
+) -> Result<(), RunFault>
+    ensures { ByEnd result
+        (λ _. Settles (S.account service.old) (S.account service.new) sink.old sink.new (W.contents writer.old) (W.contents writer.new)
+        × S.stays service.old service.new)
+        ⊥ ⊥ (WritesFrontOf (S.account service.old) sink.old (W.contents writer.old) (W.contents writer.new)) }
+{
+    service.answer_held(rt, sink)?;
+    sink.close(writer)
+}
+
+// How many bytes are whole records once a record ends in what is held, for which the reader is asked for more. `None` at its end: what
+// is held is the rest.
+fn fill_whole<R: Read>(chunks: &mut Chunks<R>) -> Result<Option<usize>, RunFault>
+    requires { EndsNoRecord (held_text chunks.old) }
+    ensures { ByEnd result
+        (λ piece. KeepsPending R.remaining chunks.old chunks.new × KeepsCome R.remaining chunks.old chunks.new × IsAtHand R.remaining chunks.new piece)
+        ⊥ (FailsShort R.remaining chunks.old chunks.new) ⊤ }
+{
+    'fills: for _ in 0..u64::MAX {
+        match chunks.fill() {
+            Ok(true) => {
+                let many = chunks.whole(chunks.held().len());
+                if many > 1 {
+                    return Ok(Some(many));
+                }
+            }
+            Ok(false) => return Ok(None),
+            Err(ChunkFault::Read) => return Err(RunFault::Read),
+            Err(ChunkFault::Memory) => return Err(RunFault::Memory),
+        }
+    }
+    Err(RunFault::Memory)
+}
+
+/// How many of the bytes that are held are whole records. Where none are, all that came is answered and written out, and only then is
+/// the reader asked for more. `None` at the end of the text: what is held is the rest.
+///
+/// # Errors
+///
+/// `Read` if the reader failed: the records that came whole are answered then. `Write` where the writer failed, and `Memory` if memory
+/// ran out: a prefix of the text was written then.
+pub fn next_piece<T, S: Service<T>, R: Read, W: Write>(
+    rt: &T,
+    chunks: &mut Chunks<R>,
+    service: &mut S,
+    run: &mut Served,
+    writer: &mut W,
+) -> Result<Option<usize>, RunFault>
+    ensures { ByEnd result
+        (λ piece. MovesOn R.remaining chunks.old (S.account service.old) run.old (W.contents writer.old)
+        chunks.new (S.account service.new) run.new (W.contents writer.new)
+        × (run.new.answered ≡ run.old.answered) × IsAtHand R.remaining chunks.new piece × S.stays service.old service.new)
+        ⊥
+        (AnswersWhole R.remaining chunks.old (S.account service.old) run.old (W.contents writer.old)
+        chunks.new (S.account service.new) run.new (W.contents writer.new)
+        × (run.new.answered ≡ run.old.answered) × S.stays service.old service.new)
+        (OfEachServed R.remaining chunks.old (S.account service.old) run.old (W.contents writer.old) (λ all old input.
+        WrotePrefix (all.text AtEnd) old (W.contents writer.new) (input_records input))) }
+{
+    let many = chunks.whole(chunks.held().len());
+    if many > 1 {
+        return Ok(Some(many));
+    }
+    settle(rt, service, &mut run.reply.sink, writer)?;
+    fill_whole(chunks)
+}
+
+/// Ends a run whose records are all answered: has the service give its last answers, and writes out all that waits.
+///
+/// # Errors
+///
+/// `Write` where the writer failed, and `Memory` if memory ran out: a prefix of the text was written then.
+pub fn end<T, S: Service<T>, W: Write>(
+    rt: &T,
+    service: &mut S,
+    run: &mut Served,
+    writer: &mut W,
+) -> Result<Count, RunFault>
+    ensures { ByEnd result
+        (λ count. OfEachLast (S.account service.old) run.old (W.contents writer.old) (λ all old records.
+        IsDone all run.old.answered old (W.contents writer.new) records count.records) × S.stays service.old service.new)
+        ⊥ ⊥
+        (OfEachLast (S.account service.old) run.old (W.contents writer.old) (λ all old records.
+        WrotePrefix (all.text AtEnd) old (W.contents writer.new) records)) }
+{
+    service.answer_end(rt, &mut run.reply.sink)?;
+    run.reply.sink.close(writer)?;
+    Ok(Count {
+        records: run.answered,
+    })
+}
