@@ -245,7 +245,7 @@ impl LineCutter {
     ) -> Result<Cut, AllocError>
         ensures asks { IfOk result (λ cut. cut.is_asked ≡ true → asks ≡ true) }
         ensures bound { IfOk result (λ cut. (cut.taken ≤ length piece.now) × (cut.is_asked ≡ false → cut.taken ≡ length piece.now)
-        × (0 < length piece.now → 0 < cut.taken)) }
+            × (0 < length piece.now → 0 < cut.taken)) }
         ensures cut { IfOk result (λ cut. (line : List ℕ) → self.old ≡ begun_bytes line
             → CutsLines asks line (take cut.taken piece.now) self.new kept.old.items kept.new.items cut.is_asked question.new.items) }
     {

@@ -83,11 +83,7 @@ fn has_pages(listing: &Listing) -> bool
 }
 
 // The listing with pages for which the fields of a record ask, but for the first four.
-fn read_listing(
-    alloc: Global,
-    fields: &Fields,
-    sites: u8,
-) -> Result<Option<Listing>, OutOfMemory>
+fn read_listing(alloc: Global, fields: &Fields, sites: u8) -> Result<Option<Listing>, OutOfMemory>
     ensures { IfOk result (λ listing. listing ≡ paged_by (request_of sites (drop 4 fields.now))) }
 {
     match read_request(alloc, &LaterFields { fields, first: 4 }, sites) {

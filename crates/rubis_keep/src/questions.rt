@@ -93,11 +93,7 @@ fn read_row(fields: &Fields, sites: u8) -> Option<RowKey>
 }
 
 // What a record asks, if it is a question.
-fn read_question(
-    alloc: Global,
-    fields: &Fields,
-    sites: u8,
-) -> Result<Option<Question>, OutOfMemory>
+fn read_question(alloc: Global, fields: &Fields, sites: u8) -> Result<Option<Question>, OutOfMemory>
     ensures { IfOk result (λ asked. asked ≡ question_of sites fields.now) }
 {
     if says_state(fields) {

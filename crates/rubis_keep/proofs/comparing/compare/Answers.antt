@@ -15,8 +15,7 @@ returns-then-not-is_same-clause-differs g c =
 
 pub loop-turn-preserved : goal.loop-turn-preserved
 loop-turn-preserved g c =
-    let before = c.loop-turn.invariant in
-    (
+    let before = c.loop-turn.invariant in (
       omega (arith, length-take c.min-most.result c.loop-turn.buffer, c.read_through_signals.auto.buf, c.min-most.ensures, c.in-Ok.ensures.bound),
       consumes-front _ _ _ c.loop-turn.at c.in-Ok.given c.args.text.now _ before.1 c.in-Ok.ensures.bytes.0
           (sym (take-append-le _ _ _ c.in-Ok.ensures.bound.0) ∙ c.is_same.ensures.same c.if-not-is_same.false),

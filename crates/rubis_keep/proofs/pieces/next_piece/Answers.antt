@@ -66,7 +66,7 @@ returns-clause-goes g c =
         same.answered,
         c.reply_if.ensures.before.0,
       )
-      (each-still _ _ _ _ _ _ _ _ _ _ _ _ _ _ _ _ _ _ _ went.ok (still-log _ _ _ still) still.1);
+          (each-still _ _ _ _ _ _ _ _ _ _ _ _ _ _ _ _ _ _ _ went.ok (still-log _ _ _ still) still.1);
       err = tt;
       live = c.reply_if.ensures.before.1 ∙ went.live;
       told = λ off. told-on _ _ _ _ _ _ c.in_ok-came.came.is_asked _ _ (not-asked _ _ c.in_ok-came.ensures.question off) (went.told off)
