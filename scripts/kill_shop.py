@@ -178,7 +178,7 @@ class Trial:
 
     def shop(self, *words: str, folder: str | None = None) -> "subprocess.CompletedProcess[str]":
         command = [str(TOP / "shop"), "-C", folder or next(iter(self.parts)), *words]
-        return subprocess.run(command, text=True, capture_output=True, env=os.environ | {"RUBIS": str(self.args.program)}, timeout=120)
+        return subprocess.run(command, text=True, capture_output=True, env=os.environ | {"RUBIS": str(self.args.program)}, timeout=300)
 
     def start(self, folder: str) -> None:
         here = ",".join(map(str, self.parts[folder]))

@@ -89,7 +89,7 @@ class Shop(abc.ABC):
 
     @abc.abstractmethod
     def forget(self, site: Site) -> None:
-        """Takes that back: another folder may have taken asks of the site since, so that its next start has to be compared."""
+        """Takes back what was told so: another folder may have taken asks of the site since, so its next start has to be compared."""
 
     def took_over(self, site: int) -> None:
         """A folder here has taken the place of a site elsewhere, which runs here from now on."""
