@@ -1,7 +1,7 @@
 -- What a run of several sites says of them, worked out on two records: site 0 passes the token to site 1, which then takes it.
 use Rattle.std.proofs.Common.{◌≡◌, ◌∙◌, ◌+◌, ◌^◌, ◌≤◌, ◌<◌, ◌++◌, ◌∷◌, [], ℕ, zero, suc, List, Option, Some, None, ap, arith, inl, inr, length, refl, subst}
 use Rattle.std.proofs.Common.{sym, take}
-use Rattle.std.specs.Prelude.{codes, decimal, is_some, map, nat_lt, option_and_then, unwrap_or, Ok, Err, ⊤}
+use Rattle.std.specs.Prelude.{codes, decimal, is_some, map, nat_lt, option_and_then, unwrap_or, IfOk, Ok, Err, Result, ⊤}
 use Rattle.std.specs.Option.{option_or}
 use mathlib.Core.Bool.{true≢false}
 use Rattle.rubis_schema.specs.NumberForms.{number_of}
@@ -22,14 +22,17 @@ use Rattle.rubis_model.specs.RecordedRuns.{IsTextOfARun, world_after}
 use Rattle.rubis_model.specs.Site.{Replica}
 use Rattle.rubis_model.specs.System.{World, site, start}
 use Rattle.rubis_model.specs.WorldRecords.{site_row, world_answers, world_output_of, world_step}
-use Rattle.rubis_engine.specs.Reading.{Gives, fields_now}
 use Rattle.rubis_engine.specs.Text.{input_records, rows_text}
+use Rattle.rubis_engine.specs.Progress.{IsDone}
 use Rattle.rubis_engine.specs.declared.fault.Count.{Count}
+use Rattle.rubis_engine.specs.declared.fault.RunFault.{RunFault}
 use Rattle.rubis_engine.specs.declared.fault.RunFault.TheVariants as fault
-use Rattle.rubis_engine.specs.declared.run.Run.{Run}
 use Rattle.rubis_engine.proofs.ReadBack.{HaveFields, HasNoMark, no_mark, rows_back}
+use Rattle.rubis_engine.proofs.RunFacts.{if_ok_both}
+use Rattle.rubis_engine.proofs.TextFacts.{text-two}
 use Rattle.rubis_laws.proofs.Runs.Recorded.{answers_are_a_run}
-use Rattle.rubis_world.specs.Headline.{AppendsARun, Lead, LeadsOn, TellsARun}
+use Rattle.rubis_world.specs.Headline.{AppendsARun, Lead, TellsARun, WorldAnswersAll, WorldAnswersJust}
+use Rattle.rubis_world.specs.Running.{told_by_world}
 use Rattle.rubis_world.specs.SitesWorlds.{WorldState, opening_world}
 
 passes_on : List (List ℕ)
@@ -128,6 +131,16 @@ both_told =
     (λ i. (world_step 1000000 (start 2) 1 (passes_is i)).1 ++ world_answers 1000000 (world_step 1000000 (start 2) 1 (passes_is i)).0 2 (is_delivered ∷ []))
     ∙ (λ i. first_rows ++ ((world_step 1000000 passed.world 2 (delivered_is i)).1 ++ []))
 
+-- and then those to the records that follow
+both_more : (to_come : List (List (List ℕ)))
+    → world_answers 1000000 (start 2) 1 (both ++ to_come) ≡ all_rows ++ world_answers 1000000 ended.world 3 to_come
+unfolding world_answers
+both_more to_come =
+    (λ i. (world_step 1000000 (start 2) 1 (passes_is i)).1
+    ++ world_answers 1000000 (world_step 1000000 (start 2) 1 (passes_is i)).0 2 (is_delivered ∷ to_come))
+    ∙ (λ i. first_rows ++ ((world_step 1000000 passed.world 2 (delivered_is i)).1
+    ++ world_answers 1000000 (world_step 1000000 passed.world 2 (delivered_is i)).0 3 to_come))
+
 alone_told : world_output_of 1 1000000 (passes_on ∷ []) ≡ refused_rows
 unfolding world_answers
 alone_told = λ i. (world_step 1000000 (start 1) 1 (passes_alone_is i)).1 ++ []
@@ -176,48 +189,48 @@ opened_is_fresh h = true≢false (sym (ap (λ (w : World). is_some (site w 1).he
 fewer_kept_since : Lead both opened (record ended { keep = 2 }) → ⊥
 fewer_kept_since h = let kept = h.0 in absurd (omega (arith, kept))
 
--- ---- the next record
+-- ---- what is answered where the reader failed
 
-next_leads : {R : Type 0} (rem : R → Option (List ℕ)) (run after : Run R) → run.answered ≡ 0 → fields_now after.records ≡ passes_on
-    → ((rows : List (List (List ℕ))) → Gives rem run.records rows → rows ≡ passes_on ∷ []) → Gives rem after.records [] →
-    LeadsOn rem run after opened passed None
-next_leads rem run after none is one end rows gives = (
-  [],
-  end,
-  one rows gives ∙ ap (λ fields. fields ∷ []) (sym is),
-  refl,
-  sym first_step ∙ (λ i. (world_step 1000000 (start 2) (sym none i + 1) (world_input 2 (sym is i))).0),
+-- both records, where both came whole: the sites are where they lead, with what is still to be made of those to come
+just_both : WorldAnswersJust 2 opened ended (Some []) (Some (rows_text all_rows)) both
+just_both = (
+  record {
+    within = omega arith;
+    appended = ap rows_text (sym both_told);
+    left = λ ending to_come.
+        ap rows_text (both_more to_come) ∙ text-two all_rows (world_answers 1000000 ended.world 3 to_come)
+        ∙ ap (λ rows. rows_text rows ++ rows_text (world_answers 1000000 ended.world 3 to_come)) (sym both_told);
+    counted = λ to_come. omega arith;
+  },
+  both_lead,
 )
 
--- it doesn't leave the sites where they were
-opened_leads_not : {R : Type 0} (rem : R → Option (List ℕ)) (run after : Run R) → run.answered ≡ 0 → fields_now after.records ≡ passes_on
-    → Gives rem run.records (passes_on ∷ []) → LeadsOn rem run after opened opened None → ⊥
-opened_leads_not rem run after none is gives h =
-    let (rest, more, took, keep, world) = h (passes_on ∷ []) gives in
-    true≢false (ap (λ (w : World). is_some (site w 0).held)
-    (world ∙ (λ i. (world_step 1000000 (start 2) (none i + 1) (world_input 2 (is i))).0) ∙ first_step))
+-- not one less, nor one more
+not_just_two : (before after : Option (List ℕ)) → WorldAnswersJust 2 opened passed before after both → ⊥
+not_just_two before after (cut, led) = passed_is_too_early led
 
--- nor is one taken for another
-other_leads_not : {R : Type 0} (rem : R → Option (List ℕ)) (run after : Run R) → fields_now after.records ≡ []
-    → Gives rem run.records (passes_on ∷ []) → LeadsOn rem run after opened opened None → ⊥
-unfolding passes_on
-other_leads_not rem run after is gives h =
-    let (rest, more, took, keep, world) = h (passes_on ∷ []) gives in
-    let none : passes_on ≡ [] = ap (first_of) took ∙ is in
-    let many = ap length none in
+not_just_one : (before after : Option (List ℕ)) → WorldAnswersJust 1 opened ended before after both → ⊥
+not_just_one before after (cut, led) = true≢false (ap (λ (w : World). is_some (site w 1).held) (led.1 ∙ first_step))
+
+not_three : (before after : Option (List ℕ)) → WorldAnswersJust 3 opened ended before after both → ⊥
+not_three before after (cut, led) = let few = cut.within in absurd (omega (arith, few))
+
+-- and with no other text
+no_more_than_one : WorldAnswersJust 1 opened passed (Some []) (Some (rows_text all_rows)) both → ⊥
+no_more_than_one (cut, led) =
+    let many = ap length (same_rows all_rows first_rows all_readable first_readable (cut.appended ∙ ap rows_text first_told)) in
     absurd (omega (arith, many))
-  where
-    first_of : List (List (List ℕ)) → List (List ℕ)
-    first_of [] = []
-    first_of (fields ∷ rest) = fields
 
--- where there is none, the sites stay
-none_left_stays : {R : Type 0} (rem : R → Option (List ℕ)) (run after : Run R) (count : Count) → LeadsOn rem run after opened passed (Some count) → ⊥
-none_left_stays rem run after count h = true≢false (sym (ap (λ (s : WorldState). is_some (site s.world 0).held) h.1))
+no_less_than_one : WorldAnswersJust 1 opened passed (Some []) (Some []) both → ⊥
+no_less_than_one (cut, led) =
+    let many = ap length (same_rows [] first_rows none_readable first_readable (cut.appended ∙ ap rows_text first_told)) in
+    absurd (omega (arith, many))
 
-none_left_is_all : {R : Type 0} (rem : R → Option (List ℕ)) (run after : Run R) (count : Count) → Gives rem run.records (passes_on ∷ [])
-    → LeadsOn rem run after opened opened (Some count) → ⊥
-none_left_is_all rem run after count gives h = let many = ap length (h.0 (passes_on ∷ []) gives) in absurd (omega (arith, many))
+-- where a run ends well, what is said of its text and of the sites is together what is said of chunks
+all_in_two_clauses : (limit : ℕ) (first new : WorldState) (old now : Option (List ℕ)) (records : List (List (List ℕ))) (result : Result Count RunFault)
+    → IfOk result (λ count. IsDone (told_by_world first 1) limit old now records count.records) → IfOk result (λ _. Lead records first new)
+    → IfOk result (λ count. WorldAnswersAll limit first new old now records count.records)
+all_in_two_clauses limit first new old now records result = if_ok_both result (λ count done led. (done, led))
 
 -- ---- the text of a run
 

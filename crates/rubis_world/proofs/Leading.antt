@@ -1,7 +1,8 @@
 -- Where records of several sites lead, one after the other.
 use Rattle.std.proofs.Common.{◌≡◌, ◌≤◌, ◌+◌, ◌++◌, ◌∷◌, ◌∙◌, [], ℕ, List, Option, Some, None, length, take, refl, sym, ap, arith, subst, append_assoc}
 use Rattle.std.proofs.Common.{append-nil, length-append}
-use Rattle.std.specs.Prelude.{IfOk, IfSome, IfNone, Result, Ok, Err, IsErrOf}
+use Rattle.std.proofs.Math.Seq.{take-append_seam}
+use Rattle.std.specs.Prelude.{Result, Ok, Err}
 use Rattle.std.specs.Io.KnownBytes.{Appends}
 use Rattle.rubis_schema.specs.declared.limits.TheConstants.{COUNTED_MAX, KEEP_MAX}
 use Rattle.rubis_message.specs.WorldReadings.{world_input}
@@ -9,14 +10,12 @@ use Rattle.rubis_model.specs.RecordedRuns.{IsTextOfARun, world_after}
 use Rattle.rubis_model.specs.System.{World}
 use Rattle.rubis_model.specs.WorldRecords.{world_output_of, world_step}
 use Rattle.rubis_engine.specs.Progress.{IsRun}
-use Rattle.rubis_engine.specs.Reading.{Advances, Gives, fields_now}
 use Rattle.rubis_engine.specs.Text.{input_records, rows_text}
 use Rattle.rubis_engine.specs.declared.fault.Count.{Count}
 use Rattle.rubis_engine.specs.declared.fault.RunFault.{RunFault}
 use Rattle.rubis_engine.specs.declared.fault.RunFault.TheVariants as fault
-use Rattle.rubis_engine.specs.declared.run.Run.{Run}
 use Rattle.rubis_laws.proofs.Runs.Recorded.{answers_are_a_run}
-use Rattle.rubis_world.specs.Headline.{AppendsARun, HasLed, Lead, LeadsOn, TellsARun}
+use Rattle.rubis_world.specs.Headline.{AppendsARun, Lead, TellsARun}
 use Rattle.rubis_world.specs.Running.{answers_of_world}
 use Rattle.rubis_world.specs.SitesWorlds.{ComesTo, WorldState}
 
@@ -29,52 +28,46 @@ after_one_more keep (first ∷ done) fields w n =
     let u = world_after keep v (n + 1) done in
     after_one_more keep done fields v (n + 1) ∙ ap (λ k. (world_step keep u k (world_input (length u.sites) fields)).0) (omega arith)
 
--- what is answered to a record leads on
-pub steps_on : (old before after new : WorldState) (n : ℕ) (fields : List (List ℕ)) → before ≡ old
-    → ComesTo before after (world_step before.keep before.world n (world_input (length before.world.sites) fields)).0 → new ≡ after
-    → (new.keep ≡ old.keep) × (new.world ≡ (world_step old.keep old.world n (world_input (length old.world.sites) fields)).0)
-steps_on old before after new n fields same step last =
-    subst (λ (s : WorldState). (new.keep ≡ s.keep) × (new.world ≡ (world_step s.keep s.world n (world_input (length s.world.sites) fields)).0)) same
-    (ap (λ (s : WorldState). s.keep) last ∙ step.0, ap (λ (s : WorldState). s.world) last ∙ step.1)
+-- the first of some records
+front : (records xs ys : List (List (List ℕ))) (k : ℕ) → records ≡ xs ++ ys → length xs ≡ k → take k records ≡ xs
+front records xs ys k parts many = ap (take k) parts ∙ subst (λ n. take n (xs ++ ys) ≡ xs) many (take-append_seam xs ys)
 
 -- before its first record a run has led nowhere
-pub led_none : {R : Type 0} (rem : R → Option (List ℕ)) (run : Run R) (s : WorldState) (rows : List (List (List ℕ))) → run.answered ≡ 0 →
-    Gives rem run.records rows
-    → HasLed rem run s s rows
-led_none rem run s rows none gives = ([], rows, refl, gives, sym none, (refl, refl))
+pub led_none : (s : WorldState) (n : ℕ) (records : List (List (List ℕ))) → n ≡ 0 → Lead (take n records) s s
+led_none s n records none = subst (λ rows. Lead rows s s) (sym (front records [] records n refl (sym none))) (refl, refl)
 
 -- a record more leads on
-pub led_more : {R : Type 0} (rem : R → Option (List ℕ)) (run after : Run R) (first old new : WorldState) (rows : List (List (List ℕ)))
-    → HasLed rem run first old rows → LeadsOn rem run after old new None → after.answered ≡ run.answered + 1 → HasLed rem after first new rows
-led_more rem run after first old new rows (done, rest, split, gives, many, (keep, world)) on next =
-    let (left, more, took, same, step) = on rest gives in
-    let fields = fields_now after.records in
-    let led : old.world ≡ world_after first.keep first.world 1 done = world in
-    let stepped : new.world ≡ (world_step first.keep old.world (run.answered + 1) (world_input (length old.world.sites) fields)).0 =
-    step ∙ ap (λ k. (world_step k old.world (run.answered + 1) (world_input (length old.world.sites) fields)).0) keep in (
-      done ++ fields ∷ [],
-      left,
-      split ∙ ap (λ r. done ++ r) took ∙ sym (append_assoc done (fields ∷ []) left),
-      more,
-      let one = length-append done (fields ∷ []) in omega (arith, one, many, next),
-      (
-        same ∙ keep,
-        stepped
-            ∙ ap (λ (w : World). (world_step first.keep w (run.answered + 1) (world_input (length w.sites) fields)).0) led
-            ∙ ap (λ k. (world_step first.keep (world_after first.keep first.world 1 done) k
-            (world_input (length (world_after first.keep first.world 1 done).sites) fields)).0) (omega (arith, many))
-            ∙ sym (after_one_more first.keep done fields first.world 1),
-      ),
+pub led_more : (first s s2 : WorldState) (n : ℕ) (records done later : List (List (List ℕ))) (fields : List (List ℕ)) → records ≡ done ++ fields ∷ later
+    → length done ≡ n → ComesTo s s2 (world_step s.keep s.world (n + 1) (world_input (length s.world.sites) fields)).0 → Lead (take n records) first s
+    → Lead (take (n + 1) records) first s2
+led_more first s s2 n records done later fields parts many (same, step) (keep, world) =
+    let one = length-append done (fields ∷ []) in
+    let before : take n records ≡ done = front records done (fields ∷ later) n parts many in
+    let after : take (n + 1) records ≡ done ++ fields ∷ [] =
+    front records (done ++ fields ∷ []) later (n + 1) (parts ∙ sym (append_assoc done (fields ∷ []) later)) (omega (arith, one, many)) in
+    let led : s.world ≡ world_after first.keep first.world 1 done = world ∙ ap (λ r. world_after first.keep first.world 1 r) before in
+    let stepped : s2.world ≡ (world_step first.keep s.world (n + 1) (world_input (length s.world.sites) fields)).0 =
+    step ∙ ap (λ k. (world_step k s.world (n + 1) (world_input (length s.world.sites) fields)).0) keep in (
+      same ∙ keep,
+      stepped
+          ∙ ap (λ (w : World). (world_step first.keep w (n + 1) (world_input (length w.sites) fields)).0) led
+          ∙ ap (λ k. (world_step first.keep (world_after first.keep first.world 1 done) k
+          (world_input (length (world_after first.keep first.world 1 done).sites) fields)).0) (omega (arith, many))
+          ∙ sym (after_one_more first.keep done fields first.world 1)
+          ∙ ap (λ r. world_after first.keep first.world 1 r) (sym after),
     )
 
--- where there is no further record, all of them led there
-pub led_all : {R : Type 0} (rem : R → Option (List ℕ)) (run : Run R) (first old new : WorldState) (rows : List (List (List ℕ)))
-    → HasLed rem run first old rows → ((rest : List (List (List ℕ))) → Gives rem run.records rest → rest ≡ []) → new ≡ old → Lead rows first new
-led_all rem run first old new rows (done, rest, split, gives, many, (keep, world)) end same =
-    let all : rows ≡ done = split ∙ ap (λ r. done ++ r) (end rest gives) ∙ append-nil done in (
-      ap (λ (s : WorldState). s.keep) same ∙ keep,
-      ap (λ (s : WorldState). s.world) same ∙ world ∙ ap (λ r. world_after first.keep first.world 1 r) (sym all),
-    )
+-- as many records, and the same state
+pub led_same : (first s s2 : WorldState) (n k : ℕ) (records : List (List (List ℕ))) → s2 ≡ s → n ≡ k → Lead (take n records) first s
+    → Lead (take k records) first s2
+led_same first s s2 n k records same last led =
+    subst (λ (t : WorldState). Lead (take k records) first t) (sym same) (subst (λ m. Lead (take m records) first s) last led)
+
+-- all of them
+pub led_all : (first s : WorldState) (n : ℕ) (records done : List (List (List ℕ))) → records ≡ done ++ [] → length done ≡ n
+    → Lead (take n records) first s → Lead records first s
+led_all first s n records done parts many led =
+    subst (λ rows. Lead rows first s) (front records done [] n parts many ∙ sym (parts ∙ append-nil done)) led
 
 -- ---- the text of a run
 
@@ -99,8 +92,3 @@ tells_a_run sites keep some few small limit (Some bytes) old new (Err fault.Read
     (h.0, appends_a_run sites keep some few small old new (take h.0 (input_records bytes)) h.1)
 tells_a_run sites keep some few small limit (Some bytes) old new (Err fault.Memory) h = tt
 tells_a_run sites keep some few small limit (Some bytes) old new (Err fault.Write) h = tt
-
--- what follows of what is known
-pub if_some_so : {A : Type 0} (P Q : A → Type 0) (o : Option A) → ((x : A) → P x → Q x) → IfSome o P → IfSome o Q
-if_some_so P Q None f h = tt
-if_some_so P Q (Some x) f h = f x h

@@ -6,3 +6,4 @@ pub mod Beginning
 pub mod Leading
 pub mod HeadlineExamples
 pub mod WaitingFacts
+pub mod StepFacts

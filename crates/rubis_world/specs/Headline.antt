@@ -1,15 +1,16 @@
 -- What a run of several sites says of them: where its records lead, and that its text is that of a run.
-use Rattle.std.specs.Prelude.{◌≡◌, ◌+◌, ◌++◌, ◌∷◌, [], ℕ, ⊤, IfSome, List, Option, Some, None, Result, Ok, Err, length, take}
+use Rattle.std.specs.Prelude.{◌≡◌, ◌+◌, ℕ, ⊤, IfSome, List, Option, Result, Ok, Err, take}
 use Rattle.std.specs.Io.KnownBytes.{Appends}
-use Rattle.rubis_message.specs.WorldReadings.{world_input}
 use Rattle.rubis_model.specs.RecordedRuns.{IsTextOfARun, world_after}
-use Rattle.rubis_model.specs.WorldRecords.{world_step}
-use Rattle.rubis_engine.specs.Reading.{Gives, fields_now}
+use Rattle.rubis_engine.specs.Accounts.Ending.{AtEnd}
+use Rattle.rubis_engine.specs.Progress.{IsDone, IsTooLong, WrotePrefix}
 use Rattle.rubis_engine.specs.Text.{input_records, rows_text}
 use Rattle.rubis_engine.specs.declared.fault.Count.{Count}
 use Rattle.rubis_engine.specs.declared.fault.RunFault.{RunFault}
 use Rattle.rubis_engine.specs.declared.fault.RunFault.TheVariants.{Memory, Read, TooLong, Write}
-use Rattle.rubis_engine.specs.declared.run.Run.{Run}
+use Rattle.rubis_reading.specs.declared.chunks.Chunks.{Chunks}
+use Rattle.rubis_serving.specs.Whole.{CameWhole, IsCutAfter}
+use Rattle.rubis_world.specs.Running.{told_by_world}
 use Rattle.rubis_world.specs.SitesWorlds.{WorldState}
 
 -- these records lead from one state of the sites to the other
@@ -31,16 +32,28 @@ TellsARun sites keep limit input old new (Err Read) = IfSome input (λ bytes. (k
 TellsARun sites keep limit input old new (Err Memory) = ⊤
 TellsARun sites keep limit input old new (Err Write) = ⊤
 
--- ---- steps of a run
+-- ---- a run over chunks
 
--- what the run does with its next record, if there is one; `over` says whether there was none
-abbrev pub LeadsOn : {R : Type 0} → (R → Option (List ℕ)) → Run R → Run R → WorldState → WorldState → Option Count → Type 0
-LeadsOn rem run after old new None = (rows : List (List (List ℕ))) → Gives rem run.records rows
-    → (rest : List (List (List ℕ))) × Gives rem after.records rest × (rows ≡ fields_now after.records ∷ rest) × (new.keep ≡ old.keep)
-    × (new.world ≡ (world_step old.keep old.world (run.answered + 1) (world_input (length old.world.sites) (fields_now after.records))).0)
-LeadsOn rem run after old new (Some count) = ((rows : List (List (List ℕ))) → Gives rem run.records rows → rows ≡ []) × (new ≡ old)
+-- all records are answered, at most `limit`, and they led the sites from the one state to the other
+abbrev pub WorldAnswersAll : ℕ → WorldState → WorldState → Option (List ℕ) → Option (List ℕ) → List (List (List ℕ)) → ℕ → Type 0
+WorldAnswersAll limit first new old now records count = IsDone (told_by_world first 1) limit old now records count × Lead records first new
 
--- the first of these records led from one state to the other, and the run has the rest before it
-abbrev pub HasLed : {R : Type 0} → (R → Option (List ℕ)) → Run R → WorldState → WorldState → List (List (List ℕ)) → Type 0
-HasLed rem run old new rows = (done rest : List (List (List ℕ))) × (rows ≡ done ++ rest) × Gives rem run.records rest × (length done ≡ run.answered)
-    × Lead done old new
+-- the first `limit` are, and there are more
+abbrev pub WorldAnswersFirst : ℕ → WorldState → WorldState → Option (List ℕ) → Option (List ℕ) → List (List (List ℕ)) → Type 0
+WorldAnswersFirst limit first new old now records = IsTooLong (told_by_world first 1) limit old now records × Lead (take limit records) first new
+
+-- just the first k are, and no more
+abbrev pub WorldAnswersJust : ℕ → WorldState → WorldState → Option (List ℕ) → Option (List ℕ) → List (List (List ℕ)) → Type 0
+WorldAnswersJust k first new old now records =
+    IsCutAfter k (told_by_world first 1) (told_by_world new (k + 1)) old now records × Lead (take k records) first new
+
+-- how a run of several sites over the chunks of an input ends: all records are answered; the first `limit` of more; those that came whole,
+-- where the reader failed; or a prefix of the text was written, where memory ran out or the writer failed
+abbrev pub WorldEndsWhole : {R : Type 0} → (R → Option (List ℕ)) → Chunks R → ℕ → WorldState → WorldState → Option (List ℕ) → Option (List ℕ) → List ℕ
+    → Result Count RunFault → Type 0
+WorldEndsWhole rem chunks limit first new old now input (Ok count) = WorldAnswersAll limit first new old now (input_records input) count.records
+WorldEndsWhole rem chunks limit first new old now input (Err TooLong) = WorldAnswersFirst limit first new old now (input_records input)
+WorldEndsWhole rem chunks limit first new old now input (Err Read) =
+    (k : ℕ) × WorldAnswersJust k first new old now (input_records input) × CameWhole rem chunks input k
+WorldEndsWhole rem chunks limit first new old now input (Err Memory) = WrotePrefix ((told_by_world first 1).text AtEnd) old now (input_records input)
+WorldEndsWhole rem chunks limit first new old now input (Err Write) = WrotePrefix ((told_by_world first 1).text AtEnd) old now (input_records input)

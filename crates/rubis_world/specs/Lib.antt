@@ -6,4 +6,5 @@ pub mod Setup
 pub mod SitesWorlds
 pub mod Script
 pub mod Headline
+pub mod Stepping
 pub mod Waiting

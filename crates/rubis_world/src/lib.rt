@@ -22,7 +22,7 @@ pub use rubis_script::{
     Arrived, Config, Count, Desk, Fault, Free, Gate, RunFault, Site, run_desk, run_site,
     run_site_upto,
 };
-pub use run::{run_world, run_world_desk};
+pub use run::{run_world, run_world_chunks, run_world_desk};
 pub use sites::Sites;
 pub use waiting::run_waiting;
 pub use world::World;

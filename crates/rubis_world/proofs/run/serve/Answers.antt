@@ -1,59 +1,28 @@
-use Rattle.std.proofs.Common.{◌≡◌, ◌+◌, Option, None, arith, rules, subst}
-use Rattle.std.specs.Prelude.{IfNone}
-use Rattle.rubis_engine.specs.declared.fault.Count.{Count}
-use Rattle.rubis_world.specs.Headline.{LeadsOn}
-use Rattle.rubis_engine.specs.Progress.{IsDone}
-use Rattle.rubis_engine.specs.Text.{input_records}
-use Rattle.rubis_world.specs.Running.{told_by_world}
-use Rattle.rubis_engine.proofs.RunFacts.{if_ok_both, if_ok_so, progress-starts}
-use Rattle.rubis_world.proofs.Leading.{led_all, led_more, led_none}
+use Rattle.std.proofs.Common.{refl}
+use Rattle.rubis_serving.proofs.EndFacts.{ends_on}
+use Rattle.rubis_serving.proofs.ServedFacts.{match-none, match-some, served-prefix}
 use Rattle.rubis_world.proofs.run.serve.Goals as goal
 
-pub steps-init : goal.steps-init
-steps-init g c = record {
-  answered = c.requires;
-  stands = λ input gives empty. progress-starts _ c.args.run.now (told_by_world c.args.desk.now.world) _ input c.requires empty gives;
-  led = λ rows gives. led_none _ c.args.run.now c.args.desk.now.world rows c.requires gives;
-}
+pub pieces-init : goal.pieces-init
+pieces-init g c = record { within = c.requires; stands = λ first old input h. h }
 
-pub steps-preserved : goal.steps-preserved
-steps-preserved g c =
-    let none : c.in_ok-count.field-0 ≡ None = c.in_default.is in
-    let leads = subst (λ (over : Option Count). LeadsOn g.R.Read.remaining c.steps.run c.answer_next.new.run c.steps.desk.world c.answer_next.new.desk.world
-    over) none c.in_ok-count.ensures.leads in
-    let counted = subst (λ (over : Option Count). IfNone over (c.answer_next.new.run.answered ≡ c.steps.run.answered + 1)) none c.in_ok-count.ensures.counted in
-    record {
-      answered = search rules;
-      stands = search rules;
-      led = λ rows gives. led_more _ c.steps.run c.answer_next.new.run c.args.desk.now.world c.steps.desk.world c.answer_next.new.desk.world rows
-          (c.steps.invariant.led rows gives) leads counted;
-    }
+pub returns-in_err-count : goal.returns-in_err-count
+returns-in_err-count g c =
+    let stands = c.pieces.invariant.stands in
+    ends_on _ _ c.from_residual.result c.in_err-count.field-0.0 c.from_residual.ensures
+    (λ long first old input h. long first old input (stands first old input h))
+    (λ whole first old input h. whole first old input (stands first old input h))
+    (λ prefix first old input h. prefix first old input (stands first old input h)) c.in_err-count.ensures
 
-pub returns-clause-ok : goal.returns-clause-ok
-returns-clause-ok g c =
-    let limit : c.steps.run.answered ≡ c.args.limit = omega (arith, c.steps.invariant.answered, c.steps-test.false, c.steps.auto._answered-end) in
-    if_ok_so _ _ c.stop.result (λ count done input gives empty.
-    subst (λ k. IsDone (told_by_world c.args.desk.now.world 1) k (g.W.Write.contents c.args.writer.now) (g.W.Write.contents c.stop.new.writer)
-    (input_records input) count.records) limit
-    (done _ _ input (c.steps.invariant.stands input gives empty))) c.stop.ensures.ok
+pub returns-in-Some : goal.returns-in-Some
+returns-in-Some g c first old input h =
+    match-some c.in_ok-count.field-0 _ _ c.in-Some.count c.in_ok-count.ensures c.in-Some.is first old input (c.pieces.invariant.stands first old input h)
 
-pub returns-clause-read : goal.returns-clause-read
-returns-clause-read g c e input gives empty = c.stop.ensures.read e _ _ input (c.steps.invariant.stands input gives empty)
+pub pieces-preserved : goal.pieces-preserved
+pieces-preserved g c =
+    let (moves, within) = match-none c.in_ok-count.field-0 _ _ c.in_ok-count.ensures c.in_default.is in
+    record { within = within; stands = λ first old input h. moves first old input (c.pieces.invariant.stands first old input h) }
 
-pub returns-clause-memory : goal.returns-clause-memory
-returns-clause-memory g c e input gives empty = c.stop.ensures.memory e _ _ input (c.steps.invariant.stands input gives empty)
-
-pub returns-clause-write : goal.returns-clause-write
-returns-clause-write g c e input gives empty = c.stop.ensures.write e _ _ input (c.steps.invariant.stands input gives empty)
-
-pub returns-in-Some-clause-leads : goal.returns-in-Some-clause-leads
-returns-in-Some-clause-leads g c rows gives =
-    let last = subst (λ (over : Option Count). LeadsOn g.R.Read.remaining c.steps.run c.answer_next.new.run c.steps.desk.world c.answer_next.new.desk.world
-    over) c.in-Some.is c.in_ok-count.ensures.leads in
-    led_all _ c.steps.run c.args.desk.now.world c.steps.desk.world c.answer_next.new.desk.world rows (c.steps.invariant.led rows gives) last.0 last.1
-
-pub returns-clause-leads : goal.returns-clause-leads
-returns-clause-leads g c =
-    if_ok_both c.stop.result (λ count ended stays rows gives.
-    led_all _ c.steps.run c.args.desk.now.world c.steps.desk.world c.stop.new.service.world rows (c.steps.invariant.led rows gives) ended stays)
-    c.stop.ensures.ended c.stop.ensures.stays
+pub returns : goal.returns
+returns g c first old input h =
+    served-prefix g.R.Read.remaining c.pieces.chunks _ _ old _ _ _ _ input refl (c.pieces.invariant.stands first old input h).0
