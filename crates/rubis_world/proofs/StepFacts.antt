@@ -1,5 +1,5 @@
 -- How a run of several sites over chunks goes on, and how it ends.
-use Rattle.std.proofs.Common.{◌≡◌, ◌≤◌, ◌+◌, ◌++◌, ◌∷◌, [], ℕ, List, Option, Some, None, ap, arith, length, refl, subst, sym, take, true}
+use Rattle.std.proofs.Common.{◌≡◌, ◌∙◌, ◌≤◌, ◌+◌, ◌++◌, ◌∷◌, [], ℕ, List, Option, Some, None, ap, arith, length, refl, subst, sym, take, true}
 use Rattle.std.specs.Prelude.{IfSome, Result, Ok, Err}
 use Rattle.rubis_message.specs.WorldReadings.{world_input}
 use Rattle.rubis_model.specs.WorldRecords.{world_step}

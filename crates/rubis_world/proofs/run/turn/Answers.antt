@@ -20,10 +20,10 @@ returns-in_err-many g c =
     (λ prefix first old input (h, led). prefix (told_by_world first 1) old input h) c.in_err-many.ensures
 
 pub finish-requires-clause-within : goal.finish-requires-clause-within
-finish-requires-clause-within g c = omega (arith, c.requires, c.in_ok-many.ensures.1)
+finish-requires-clause-within g c κs within = omega (arith, c.requires, c.in_ok-many.ensures.1)
 
 pub finish-requires-clause-last : goal.finish-requires-clause-last
-finish-requires-clause-last g c = match-none _ _ _ c.in_ok-many.ensures.2 c.in_default.is
+finish-requires-clause-last g c κs within = match-none _ _ _ c.in_ok-many.ensures.2 c.in_default.is
 
 pub returns-in_err-count : goal.returns-in_err-count
 returns-in_err-count g c =
@@ -42,7 +42,7 @@ returns-in_default g c first old input h =
     c.next_piece.new.run (g.W.Write.contents c.args.writer.now) (g.W.Write.contents c.next_piece.new.writer) moves number same first old input h)
 
 pub answer_piece-requires : goal.answer_piece-requires
-answer_piece-requires g c = omega (arith, c.requires, c.in_ok-many.ensures.1)
+answer_piece-requires g c κs within = omega (arith, c.requires, c.in_ok-many.ensures.1)
 
 pub returns-in_err-answer_piece : goal.returns-in_err-answer_piece
 returns-in_err-answer_piece g c =
