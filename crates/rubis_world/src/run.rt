@@ -89,7 +89,7 @@ fn answer_piece<T: Threads + Wait + Sync, W: Write>(
     writer: &mut W,
     limit: u64,
 ) -> Result<(), RunFault>
-    requires { run.old.answered ≤ limit }
+    requires within { run.old.answered ≤ limit }
     ensures { WorldPieceEnds limit desk.new.world run.new (OfEachWorldPiece text.now desk.old.world run.old (W.contents writer.old))
         (W.contents writer.new) result }
 {

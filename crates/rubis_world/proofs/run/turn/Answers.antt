@@ -41,8 +41,8 @@ returns-in_default g c first old input h =
     (world-moves g.R.Read.remaining c.args.chunks.now c.next_piece.new.chunks c.args.desk.now.world c.next_piece.new.service.world c.args.run.now
     c.next_piece.new.run (g.W.Write.contents c.args.writer.now) (g.W.Write.contents c.next_piece.new.writer) moves number same first old input h)
 
-pub answer_piece-requires : goal.answer_piece-requires
-answer_piece-requires g c κs within = omega (arith, c.requires, c.in_ok-many.ensures.1)
+pub answer_piece-requires-clause-within : goal.answer_piece-requires-clause-within
+answer_piece-requires-clause-within g c κs within = omega (arith, c.requires, c.in_ok-many.ensures.1)
 
 pub returns-in_err-answer_piece : goal.returns-in_err-answer_piece
 returns-in_err-answer_piece g c =
