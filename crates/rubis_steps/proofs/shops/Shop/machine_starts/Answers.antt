@@ -1,0 +1,13 @@
+use Rattle.rubis_steps.proofs.Leading.{changed, leads_machine, with_new}
+use Rattle.rubis_steps.proofs.shops.Shop.machine_starts.Goals as goal
+
+pub returns : goal.returns
+returns c = λ v s is.
+    let mid = c.list.new.self in
+    let k = c.args.folder in
+    let f = c.index_mut.result.now in
+    let g = c.lose_memory.new.self in (
+      tt,
+      leads_machine mid (with_new mid k g) k f g (changed mid k f g c.in_ok-list.ensures.listed c.index_mut.ensures.value) c.lose_memory.ensures s
+          (c.in_ok-list.ensures.same s is),
+    )

@@ -1,0 +1,3 @@
+pub mod Finite
+pub mod Tests
+pub mod Answers
