@@ -1,5 +1,5 @@
 -- The passes of the one who gives jobs, after one of them came back.
-use Rattle.std.proofs.Common.{◌≡◌, ℕ, ◌+◌, ◌-◌, List, [], ◌∷◌, ◌++◌, length, Some, sym, ap, ◌∙◌, arith}
+use Rattle.std.proofs.Common.{◌≡◌, ℕ, ◌+◌, ◌-◌, Bool, List, [], ◌∷◌, ◌++◌, length, Some, sym, ap, ◌∙◌, arith}
 use Rattle.std.proofs.lemmas.List.{length-append}
 use Rattle.atomic_table.specs.Seated.{TableId}
 use Rattle.crossbeam_queue.specs.Passes.{Pass, view, IsSamePass}
@@ -51,11 +51,11 @@ fewer {J} v w x held owns is =
     let short = length-append cut.0 cut.1 in
     omega arith
 
-module _ {J R : Type 0} (next count : ℕ) (seat holding after : Pass (Item J) (PassView J)) (desk later : Pass (Slip J R) (ResultView J))
+module _ {J R : Type 0} (next count : ℕ) (told : Bool) (seat holding after : Pass (Item J) (PassView J)) (desk later : Pass (Slip J R) (ResultView J))
     (x : Given J) where
-  pub still_leads : AreALead next count seat desk → IsSamePass seat holding → CameToHold (view seat) (view holding) x
+  pub still_leads : AreALead next count told seat desk → IsSamePass seat holding → CameToHold (view seat) (view holding) x
       → HoldsAGivenOne (view holding) → IsSamePass holding after → view after ≡ settled (view holding) → later.me.1 ≡ []
-      → (view later).of ≡ (view desk).of → AreALead next (count - 1) after later
+      → (view later).of ≡ (view desk).of → AreALead next (count - 1) told after later
   still_leads lead same came owns kept is free of =
       let many = lead.many in
       let given = ap length came.given in
@@ -68,7 +68,7 @@ module _ {J R : Type 0} (next count : ℕ) (seat holding after : Pass (Item J) (
           told = of ∙ lead.pair.told ∙ ap (λ (q : TableId). Some q) (sym (kept.0 ∙ same.0));
         };
         leads = ap (λ (u : PassView J). u.leads) is ∙ came.leads ∙ lead.leads;
-        none_over = ap (λ (u : PassView J). u.overs) is ∙ came.overs ∙ lead.none_over;
+        none_over = λ none. ap (λ (u : PassView J). u.overs) is ∙ came.overs ∙ lead.none_over none;
         number = lead.number ∙ sym (ap (λ (u : PassView J). u.next) is ∙ came.next);
         many = omega arith;
       }

@@ -1,9 +1,9 @@
 -- What a contract sees of a crew as plain data, by which proofs tell crews apart.
-use Rattle.std.specs.Prelude.{ℕ, List, refl}
-use Rattle.std.specs.Coded.{Coded, code_by, coded×, coded_ℕ, coded_list}
+use Rattle.std.specs.Prelude.{ℕ, Bool, List, refl}
+use Rattle.std.specs.Coded.{Coded, code_by, coded×, coded_ℕ, coded_bool, coded_list}
 use Rattle.atomic_table.specs.Seated.{TableId, table_id_coded}
 use Rattle.rubis_crew.specs.declared.job.Given.{Given}
-use Rattle.rubis_crew.specs.States.{CrewId, CrewState, EndState, LeadState, HelperState}
+use Rattle.rubis_crew.specs.States.{CrewId, CrewState, LeadState, HelperState}
 
 abbrev pub crew_id_code : Coded CrewId
 crew_id_code =
@@ -13,17 +13,14 @@ crew_id_code =
 abbrev pub crew_code : Coded CrewState
 crew_code = code_by (CrewId × ℕ) (coded× crew_id_code coded_ℕ) (λ c. (c.id, c.room)) (λ c. record { id = c.0; room = c.1 }) (λ _. refl)
 
-abbrev pub end_code : Coded EndState
-end_code = code_by (CrewId × ℕ) (coded× crew_id_code coded_ℕ) (λ c. (c.crew, c.jobs)) (λ c. record { crew = c.0; jobs = c.1 }) (λ _. refl)
-
 module _ {J : Type 0} (job : Coded J) where
   abbrev pub given_code : Coded (Given J)
   given_code = code_by (ℕ × J) (coded× coded_ℕ job) (λ x. (x.number, x.job)) (λ c. record { number = c.0; job = c.1 }) (λ _. refl)
 
   abbrev pub lead_code : Coded (LeadState J)
   lead_code =
-      code_by (CrewId × (ℕ × List (Given J))) (coded× crew_id_code (coded× coded_ℕ (coded_list given_code)))
-      (λ s. (s.crew, (s.next, s.given))) (λ c. record { crew = c.0; next = c.1.0; given = c.1.1 }) (λ _. refl)
+      code_by (CrewId × (ℕ × (List (Given J) × Bool))) (coded× crew_id_code (coded× coded_ℕ (coded× (coded_list given_code) coded_bool)))
+      (λ s. (s.crew, (s.next, (s.given, s.ended)))) (λ c. record { crew = c.0; next = c.1.0; given = c.1.1.0; ended = c.1.1.1 }) (λ _. refl)
 
   abbrev pub helper_code : Coded (HelperState J)
   helper_code =

@@ -1,5 +1,5 @@
 -- What a contract sees of a crew, of the one who gives jobs, and of a helper; and how each call changes it.
-use Rattle.std.specs.Prelude.{◌≡◌, ℕ, ◌+◌, ◌≤◌, ◌⊎◌, true, List, [], ◌∷◌, ◌++◌, length, Some}
+use Rattle.std.specs.Prelude.{◌≡◌, ℕ, ◌+◌, ◌≤◌, ◌⊎◌, Bool, true, false, List, [], ◌∷◌, ◌++◌, length, Some}
 use Rattle.atomic_table.specs.Seated.{TableId}
 use Rattle.crossbeam_queue.specs.Passes.{Pass, view}
 use Rattle.rubis_crew.specs.declared.job.Given.{Given}
@@ -21,16 +21,12 @@ pub record CrewState : Type 0 where
   pub id : CrewId
   pub room : ℕ
 
--- a crew that was ended, and how many jobs were given, all of which are back
-pub record EndState : Type 0 where
-  pub crew : CrewId
-  pub jobs : ℕ
-
--- the one who gives jobs: the next number, and the jobs that are given and not back
+-- the one who gives jobs: the next number, the jobs that are given and not back, and whether it said that no more come
 pub record LeadState (J : Type 0) : Type 0 where
   pub crew : CrewId
   pub next : ℕ
   pub given : List (Given J)
+  pub ended : Bool
 
 -- a helper: the jobs that it ever took, and those for whose results it paid
 pub record HelperState (J : Type 0) : Type 0 where
@@ -41,7 +37,7 @@ pub record HelperState (J : Type 0) : Type 0 where
 module _ {J : Type 0} where
   -- nothing was given yet
   abbrev pub new_lead : CrewId → LeadState J
-  new_lead crew = record { crew = crew; next = 0; given = [] }
+  new_lead crew = record { crew = crew; next = 0; given = []; ended = false }
 
   abbrev pub new_helper : CrewId → HelperState J
   new_helper crew = record { crew = crew; taken = []; paid = [] }
@@ -50,9 +46,13 @@ module _ {J : Type 0} where
   abbrev pub given_too : LeadState J → J → LeadState J
   given_too s job = record s { next = s.next + 1; given = s.given ++ record { number = s.next; job = job } ∷ [] }
 
-  -- all jobs for which there is room are given, or all numbers are
+  -- it said that no more come
+  abbrev pub ended : LeadState J → LeadState J
+  ended s = record s { ended = true }
+
+  -- no more come, all jobs for which there is room are given, or all numbers are
   abbrev pub HasNoRoom : ℕ → LeadState J → Type 0
-  HasNoRoom room s = (room ≤ length s.given) ⊎ (18446744073709551615 ≤ s.next)
+  HasNoRoom room s = (s.ended ≡ true) ⊎ ((room ≤ length s.given) ⊎ (18446744073709551615 ≤ s.next))
 
   -- a job that was given is given no more
   abbrev pub IsBack : LeadState J → Given J → LeadState J → Type 0
@@ -79,11 +79,11 @@ module _ {J R : Type 0} (seat : Pass (Item J) (PassView J)) (desk : Pass (Slip J
   abbrev pub crew_of : CrewId
   crew_of = record { jobs = seat.table_id; results = desk.table_id }
 
-  abbrev pub lead_of : LeadState J
-  lead_of = record { crew = crew_of; next = (view seat).next; given = (view seat).given }
-
   abbrev pub helper_of : HelperState J
   helper_of = record { crew = crew_of; taken = (view seat).taken; paid = (view desk).paid }
+
+abbrev pub lead_of : {J R : Type 0} → Bool → Pass (Item J) (PassView J) → Pass (Slip J R) (ResultView J) → LeadState J
+lead_of told seat desk = record { crew = crew_of seat desk; next = (view seat).next; given = (view seat).given; ended = told }
 
 -- a pass of the jobs that holds nothing, with one of their results
 pub record AreAPair {J R : Type 0} (seat : Pass (Item J) (PassView J)) (desk : Pass (Slip J R) (ResultView J)) : Type 0 where
@@ -93,9 +93,9 @@ pub record AreAPair {J R : Type 0} (seat : Pass (Item J) (PassView J)) (desk : P
   pub told : (view desk).of ≡ Some seat.table_id
 
 -- they are those of the one who gives jobs, which are so many
-pub record AreALead {J R : Type 0} (next count : ℕ) (seat : Pass (Item J) (PassView J)) (desk : Pass (Slip J R) (ResultView J)) : Type 0 where
+pub record AreALead {J R : Type 0} (next count : ℕ) (told : Bool) (seat : Pass (Item J) (PassView J)) (desk : Pass (Slip J R) (ResultView J)) : Type 0 where
   pub pair : AreAPair seat desk
   pub leads : (view seat).leads ≡ true
-  pub none_over : (view seat).overs ≡ 0
+  pub none_over : told ≡ false → (view seat).overs ≡ 0
   pub number : next ≡ (view seat).next
   pub many : count ≡ length (view seat).given

@@ -1,12 +1,12 @@
 //! The crew: how jobs are given and taken, and how their results come back.
 
-ghost use Rattle.std.specs.Prelude.{◌≡◌, ◌+◌, ◌-◌, ◌<◌, ◌^◌, [], ◌∷◌, ◌++◌, length, true, Some, IfOk, IfErr, OnOk, IfSome, IfNone};
-ghost use Rattle.crossbeam_queue.specs.Passes.{view, IsPassOf, IsSamePass};
+ghost use Rattle.std.specs.Prelude.{◌≡◌, ◌+◌, ◌-◌, ◌<◌, ◌≤◌, ◌^◌, [], ◌∷◌, ◌++◌, length, true, Some, IfOk, IfErr, OnOk, IfSome, IfNone};
+ghost use Rattle.crossbeam_queue.specs.Passes.{view, ruled_capacity, IsPassOf, IsSamePass};
 ghost use Rattle.rubis_crew.specs.declared.job.Given.{Given};
 ghost use Rattle.rubis_crew.specs.Results.{IsPaid, holds};
 ghost use Rattle.atomic_table.specs.Seated.{TableId};
 ghost use Rattle.rubis_crew.specs.Rule.{AreBelow, HoldsAGivenOne, settled};
-ghost use Rattle.rubis_crew.specs.States.{new_lead, new_helper, given_too, HasNoRoom, IsBack, HasHelped, ComesBack};
+ghost use Rattle.rubis_crew.specs.States.{ended, new_lead, new_helper, given_too, HasNoRoom, IsBack, HasHelped, ComesBack};
 
 use crate::job::{Back, Given, Job};
 use crate::results::{Collecting, Joining, Naming, Paying, Payment, ResultRule, ResultView, Slip};
@@ -63,6 +63,7 @@ pub struct Lead<J: Job> {
     next: u64,
     // How many jobs are given and not back.
     count: usize,
+    ended: bool,
 }
 
 impl<J: Job> Model for Lead<J> {
@@ -73,9 +74,9 @@ impl<J: Job> Model for Lead<J> {
 
     ghost coded = { lead_code J.code };
 
-    ghost view = { λ l. lead_of l.seat l.desk };
+    ghost view = { λ l. lead_of l.ended l.seat l.desk };
 
-    ghost invariant = { λ l. AreALead l.next l.count l.seat l.desk };
+    ghost invariant = { λ l. AreALead l.next l.count l.ended l.seat l.desk };
 }
 
 /// What a helper knows of a crew, and its permission to take jobs.
@@ -96,26 +97,6 @@ impl<J: Job> Model for Helper<J> {
     ghost view = { λ h. helper_of h.seat h.desk };
 
     ghost invariant = { λ h. AreAPair h.seat h.desk };
-}
-
-/// What shows that a crew was ended: its helpers were told, and all that was given is back.
-#[derive(Drop)]
-pub struct Ended<J: Job> {
-    seat: Seat<J>,
-    desk: Desk<J>,
-    // How many jobs were given.
-    jobs: u64,
-}
-
-impl<J: Job> Model for Ended<J> {
-    ghost use Rattle.rubis_crew.specs.States.{EndState, crew_of};
-    ghost use Rattle.rubis_crew.specs.Codes.{end_code};
-
-    ghost Value = { EndState };
-
-    ghost coded = { end_code };
-
-    ghost view = { λ e. record { crew = crew_of e.seat e.desk; jobs = e.jobs } };
 }
 
 /// What a helper found.
@@ -165,6 +146,22 @@ fn pay<J: Job, R: Wait>(
     unreachable!()
 }
 
+// Says so often that no more jobs come.
+fn say_over<J: Job, R: Wait>(rt: &R, jobs: &Jobs<J>, seat: &mut Seat<J>, helpers: usize)
+    requires queue { IsPassOf jobs.now seat.old }
+    requires leads { ((view seat.old).leads ≡ true) × ((view seat.old).given ≡ []) × ((view seat.old).overs ≡ 0) }
+    requires room { helpers ≤ ruled_capacity jobs.now }
+    ensures queue { IsSamePass seat.old seat.new }
+    ensures said { view seat.new ≡ record (view seat.old) { overs = helpers } }
+{
+    for _ in 0..helpers {
+        match jobs.push_as::<Giving, R>(rt, seat, Item::Over) {
+            Ok(()) => {}
+            Err(_) => unreachable!(),
+        }
+    }
+}
+
 impl<J: Job> Lead<J> {
     /// How many jobs are given and not back.
     pub fn out(&self) -> usize
@@ -205,6 +202,7 @@ impl<J: Job> Crew<J> {
             desk,
             next: 0,
             count: 0,
+            ended: false,
         };
         Ok((crew, lead))
     }
@@ -220,15 +218,16 @@ impl<J: Job> Crew<J> {
         Helper { seat, desk }
     }
 
-    /// Gives a job, and tells the number by which its result comes back. Returns the job if and only if there is no room.
+    /// Gives a job, and tells the number by which its result comes back. Returns the job if and only if there is no room, or the crew was
+    /// ended.
     pub fn give<R: Wait>(&self, rt: &R, lead: &mut Lead<J>, job: J) -> Result<u64, J>
         requires crew { lead.old.crew ≡ self.now.id }
         requires fits { J.Fits job }
         ensures number { IfOk result (λ number. (number ≡ lead.old.next) × AreBelow number lead.old.given) }
-        ensures given { OnOk result (lead.new ≡ given_too lead.old job) }
+        ensures given { OnOk result ((length lead.old.given < self.now.room) × (lead.new ≡ given_too lead.old job)) }
         ensures full { IfErr result (λ back. (back ≡ job) × HasNoRoom self.now.room lead.old × (lead.new ≡ lead.old)) }
     {
-        if lead.count >= self.room || lead.next == u64::MAX {
+        if lead.ended || lead.count >= self.room || lead.next == u64::MAX {
             return Err(job);
         }
         let number = lead.next;
@@ -317,34 +316,23 @@ impl<J: Job> Crew<J> {
     }
 
     /// Tells the helpers that no more jobs come. All that was given is back.
-    pub fn end<R: Wait>(&self, rt: &R, lead: Lead<J>) -> Ended<J>
-        requires crew { lead.crew ≡ self.now.id }
-        requires none { lead.given ≡ [] }
-        ensures { result ≡ record { crew = self.now.id; jobs = lead.next } }
+    pub fn end<R: Wait>(&self, rt: &R, lead: &mut Lead<J>)
+        requires crew { lead.old.crew ≡ self.now.id }
+        requires none { lead.old.given ≡ [] }
+        ensures { lead.new ≡ ended lead.old }
     {
-        let Lead {
-            mut seat,
-            desk,
-            next,
-            count: _,
-        } = lead;
-        for _ in 0..self.helpers {
-            match self.jobs.push_as::<Giving, R>(rt, &mut seat, Item::Over) {
-                Ok(()) => {}
-                Err(_) => unreachable!(),
-            }
+        if lead.ended {
+            return;
         }
-        Ended {
-            seat,
-            desk,
-            jobs: next,
-        }
+        say_over(rt, &self.jobs, &mut lead.seat, self.helpers);
+        lead.ended = true;
     }
 
     /// Lets the crew go, once it was ended. Returns how many jobs were given: all of them are back.
-    pub fn close(self, ended: Ended<J>) -> u64
-        requires { ended.crew ≡ self.id }
-        ensures { result ≡ ended.jobs }
+    pub fn close(self, lead: Lead<J>) -> u64
+        requires crew { lead.crew ≡ self.id }
+        requires ended { (lead.ended ≡ true) × (lead.given ≡ []) }
+        ensures { result ≡ lead.next }
     {
         let Crew {
             jobs: _,
@@ -352,7 +340,7 @@ impl<J: Job> Crew<J> {
             room: _,
             helpers: _,
         } = self;
-        ended.jobs
+        lead.next
     }
 
     /// Takes the first job, if there is one, does it, and pays its result.

@@ -9,6 +9,6 @@ mod rule;
 #[cfg(test)]
 mod tests;
 
-pub use crew::{Crew, Ended, Found, Helper, Lead};
+pub use crew::{Crew, Found, Helper, Lead};
 pub use job::{Back, Given, Job};
 pub use laws::{every_list_of_steps_accounts, every_step_keeps_the_rules, steps_move_the_waiting};

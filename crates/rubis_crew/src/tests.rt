@@ -1,8 +1,8 @@
 //! Jobs that are given while two helpers work.
 
-ghost use Rattle.std.specs.Prelude.{◌≡◌, []};
+ghost use Rattle.std.specs.Prelude.{◌≡◌, true, []};
 
-use crate::{Crew, Ended, Helper, Job, Lead};
+use crate::{Crew, Helper, Job, Lead};
 use std::sync::Wait;
 use std::test::*;
 use std::thread;
@@ -78,9 +78,9 @@ fn give_all<R: Wait>(
     crew: &Crew<Double>,
     mut lead: Lead<Double>,
     jobs: u32,
-) -> (Tally, Ended<Double>)
+) -> (Tally, Lead<Double>)
     requires { lead.crew ≡ crew.now.id }
-    ensures { result.1.crew ≡ crew.now.id }
+    ensures { (result.1.crew ≡ crew.now.id) × (result.1.ended ≡ true) × (result.1.given ≡ []) }
 {
     let mut tally = Tally { count: 0, sum: 0 };
     for number in 0..jobs {
@@ -92,8 +92,8 @@ fn give_all<R: Wait>(
         }
         count_one(rt, crew, &mut lead, &mut tally);
     }
-    let ended = crew.end(rt, lead);
-    (tally, ended)
+    crew.end(rt, &mut lead);
+    (tally, lead)
 }
 
 // Two helpers at work, until no more jobs come.
@@ -122,12 +122,12 @@ fn each_result_comes_back_once(rt: HostRuntime) -> Result<(), Fail> {
     let (crew, mut lead) = Crew::<Double>::new(&rt, rt.alloc(), 8, 2)?;
     let first = crew.helper(&mut lead);
     let second = crew.helper(&mut lead);
-    let ((), (tally, ended)) = thread::join(
+    let ((), (tally, lead)) = thread::join(
         &rt,
         || help_both(&rt, &crew, first, second),
         || give_all(&rt, &crew, lead, 1000),
     );
-    let jobs = crew.close(ended);
+    let jobs = crew.close(lead);
     assert_eq!(rt; (jobs, tally.count, tally.sum), (1000, 1000, 999_000));
     Ok(())
 }
