@@ -42,8 +42,8 @@ class Asker:
         self.asked_after = here.folder.number if here else None     # in which folder its site was
         self.open_before = set(world.open_asks.get(self.asked_after or 0, set()))
         self.task: "Task | None" = None
-        for record in records if key is None else ():
-            world.note("IsAsked", site, world.ask(record), len(record.split(b"\n")))
+        for _ in records if key is None else ():
+            world.note("IsAsked")
         if not supervisor or not supervisor.is_alive:
             self._end([{"end": True, "fault": "not running; nothing was asked"}])
             return
@@ -146,7 +146,7 @@ def id_of(name: str) -> tuple[int, int]:
 
 def note_told(world: "World", told: list[Told]) -> None:
     for one in told:
-        world.note(WORDS[one.what], one.site, world.ask(one.record), *(one.id or ())[1:])
+        world.note(WORDS[one.what])
 
 
 class KeyedAsker:
@@ -159,7 +159,7 @@ class KeyedAsker:
         self.told: list[Told] = []              # what it was told last
         self.tries = 0
         world.keyed[record] = site
-        world.note("IsAsked", site, world.ask(record), 1)
+        world.note("IsAsked")
         self._ask()
 
     @property
