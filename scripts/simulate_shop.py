@@ -10,7 +10,7 @@ told is true, and all goes on.
 Run number N of a seed is SEED.N, and is the same each time. One that breaks a promise is printed, and made smaller: `SEED.N 1 --skip ..`
 plays it again without some of its events. With --without one rule of the carrier is taken out, to see that this is found. With --program
 the simulated sites' answers are compared with the program's first. With --steps each run is written to a file as a list of the model's
-steps. With --decider a program that reads such lists decides whether each is a run of the model, as rubis_steps does: it has to be,
+steps. With --decider that program, which is proved (crates/rubis_decider), decides whether each list is a run of the model: it has to be,
 but where a site was opened of which something has more that couldn't be reached, or two processes of one site went on. The status is 1 if a
 promise was broken, or a list is no run."""
 
