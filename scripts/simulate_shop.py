@@ -1,6 +1,6 @@
 #!/usr/bin/env python3
 """Simulates whole shops: scripts/simulate_shop.py SEED [COUNT] [--seconds S] [--processes N] [--without RULE] [--steps FOLDER]
-[--program PROGRAM] [--skip N,..]
+[--decider PROGRAM] [--program PROGRAM] [--skip N,..]
 
 Each run is a shop of 2 to 5 sites, over files or a server, where one of them may have a standby, in one process and on a clock of its own:
 what is decided is decided by the carrier of `shop`, and its sites, folders, server and askers are simulated. Things go wrong for half a
@@ -10,7 +10,9 @@ told is true, and all goes on.
 Run number N of a seed is SEED.N, and is the same each time: `SEED.N 1` plays it again. One that breaks a promise is printed, and made
 smaller: `SEED.N 1 --skip ..` plays it without some of its events. With --without one rule of the carrier is taken out, to see that this is found. With --program
 the simulated sites' answers are compared with the program's first. With --steps each run is written to a file as a list of the model's
-steps. The status is 1 if a promise was broken."""
+steps. With --decider that program, which is proved (crates/rubis_decider), decides whether each list is a run of the model: it has to be,
+but where a site was opened of which something has more that couldn't be reached, or two processes of one site went on. The status is 1 if a
+promise was broken, or a list is no run."""
 
 import argparse
 import collections
@@ -39,6 +41,7 @@ from simulation.world import Violation                  # noqa: E402
 
 AT_ONCE = 10            # how many runs a process makes before it says how they were
 MANY = 10               # how often it does before another process goes on
+NO_STEP = "step "       # how it begins what is said of a list that is no run of the model
 RECORDS = 6000          # how many records are compared with the program's answers
 LEAST = {"events": 300, "faults": 10, "asks": 50, "turns": 3}
 
@@ -52,24 +55,27 @@ class Played(NamedTuple):
     counts: dict[str, int]
     least: dict[str, int]
     planned: int            # how many events could be left out
+    lines: list[str]        # the model's steps
+    why_none: str | None    # why they may be no run of the model
+    is_none: bool = False   # whether they are none for that
 
 
 def play(seed: str, without: str | None, skip: frozenset[int] = frozenset(), steps: str | None = None) -> Played:
-    words: list[str] | None = [] if steps else None
     broken = None
     with taken_out(without):
-        run = Run(seed, rules_without(without), skip, words)
+        run = Run(seed, rules_without(without), skip)
         try:
             run.play()
         except Violation as violation:
             broken = str(violation)
         except Exception:
             broken = "a fault of its own: " + traceback.format_exc()
-    if steps and words is not None:
-        pathlib.Path(steps, f"{seed}.steps").write_text("".join(f"{word}\n" for word in words))
+    lines = run.world.steps.lines()
+    if steps:
+        pathlib.Path(steps, f"{seed}.steps").write_text(text_of(lines))
     counts = dict(run.world.counts)
     least = {"events": sum(counts.values()), "faults": run.fault_count, "asks": len(run.askers), "turns": counts.get("Passes", 0)}
-    return Played(seed, broken, run.why_excused(), counts, least, run.planned)
+    return Played(seed, broken, run.why_excused(), counts, least, run.planned, lines, run.why_no_steps())
 
 
 def smaller(seed: str, without: str | None, events: int) -> frozenset[int]:
@@ -85,9 +91,57 @@ def smaller(seed: str, without: str | None, events: int) -> frozenset[int]:
     return skip
 
 
-def many(job: tuple[list[str], str | None, str | None]) -> list[Played]:
-    seeds, without, steps = job
-    return [play(seed, without, steps=steps) for seed in seeds]
+def text_of(lines: list[str]) -> str:
+    return "".join(f"{line}\n" for line in lines)
+
+
+def answers_of(decider: str, lists: list[list[str]]) -> list[int | None]:
+    """Of each list of steps the number of the first that may not happen, if there is one."""
+    done = subprocess.run([decider], input="".join(map(text_of, lists)), capture_output=True, text=True)
+    if done.returncode or len(answers := done.stdout.split()) != len(lists):
+        raise SystemExit(f"{decider}: status {done.returncode}, {done.stderr or done.stdout!r}")
+    return [None if answer == "run" else int(answer) for answer in answers]
+
+
+def not_given(lines: list[str]) -> tuple[list[str], int] | None:
+    """The list without the last ask's being given that was accepted; and the number of the step at which that is seen."""
+    at = next((at for at in range(len(lines) - 1, 0, -1) if lines[at].startswith("Accepts,")), None)
+    if at is None:
+        return None
+    given = lines.index(lines[at].replace("Accepts", "Gives"))
+    return lines[:given] + lines[given + 1:], at - 1
+
+
+def not_compared(lines: list[str]) -> tuple[list[str], int] | None:
+    """The list, in which a folder whose message another one has just read is lost, and opens all the same; and the number of that step."""
+    for at in range(len(lines) - 1, 0, -1):
+        if lines[at].startswith("Reads,") and ":" in lines[at] and lines[at].split(",")[2].startswith("m:"):
+            ask = lines[at].split(":")[3]
+            folder = next((line.split(",")[1] for line in lines[:at] if line.startswith("Accepts,") and line.split(",")[2] == ask), None)
+            if folder and folder != lines[at].split(",")[1]:
+                events = [f"{word},{folder}" for word in ("IsKilled", "IsLost", "Starts", "Opens")]
+                return lines[:at + 1] + events + lines[at + 1:], at + len(events)
+    return None
+
+
+def decided(decider: str, plays: list[Played]) -> list[Played]:
+    """The plays, of which those are broken whose lists aren't runs of the model; it is tried too that lists with a step too many aren't."""
+    answers = answers_of(decider, [played.lines for played in plays])
+    for played, answer in zip(plays, answers):
+        if answer is None:
+            wrong = [spoiled for spoiled in (not_given(played.lines), not_compared(played.lines)) if spoiled]
+            if answers_of(decider, [lines for lines, _ in wrong]) != [number for _, number in wrong]:
+                raise SystemExit(f"{played.seed}: {decider} doesn't see a step too many: {wrong}")
+            break
+    return [played if answer is None else played._replace(is_none=True) if played.broken or played.why_none else
+            played._replace(broken=f"{NO_STEP}{answer} of its list may not happen: {played.lines[answer]}")
+            for played, answer in zip(plays, answers)]
+
+
+def many(job: tuple[list[str], str | None, str | None, str | None]) -> list[Played]:
+    seeds, without, steps, decider = job
+    plays = [play(seed, without, steps=steps) for seed in seeds]
+    return [played._replace(lines=[]) for played in (decided(decider, plays) if decider else plays)]
 
 
 def named(args: argparse.Namespace) -> str | None:
@@ -104,17 +158,17 @@ class Jobs:
         self.is_over = False
         self._free = threading.Semaphore(args.processes + 1)
 
-    def all(self) -> Iterator[tuple[list[str], str | None, str | None]]:
+    def all(self) -> Iterator[tuple[list[str], str | None, str | None, str | None]]:
         args = self.args
         if name := named(args):
-            yield [name], args.without, args.steps
+            yield [name], args.without, args.steps, args.decider
             return
         for first in range(args.first, args.first + args.count, AT_ONCE):
             self._free.acquire()
             if self.is_over or self.until and time.monotonic() > self.until:
                 return
             numbers = range(first, min(first + AT_ONCE, args.first + args.count))
-            yield [f"{args.seed}.{number}" for number in numbers], args.without, args.steps
+            yield [f"{args.seed}.{number}" for number in numbers], args.without, args.steps, args.decider
 
     def done(self, is_over: bool) -> None:
         """One of them is done."""
@@ -158,6 +212,7 @@ def main() -> int:
     words.add_argument("--processes", type=int, default=os.cpu_count() or 1)
     words.add_argument("--without", choices=RULES)
     words.add_argument("--steps", metavar="FOLDER")
+    words.add_argument("--decider", metavar="PROGRAM")
     words.add_argument("--program")
     words.add_argument("--skip", metavar="N,..", help="play the run SEED without these events")
     args = words.parse_args()
@@ -176,7 +231,7 @@ def main() -> int:
     if not plays.broken:
         return 0
     told_of(plays.broken)
-    if plays.broken.broken and "\n" not in plays.broken.broken:
+    if plays.broken.broken and not plays.broken.broken.startswith(("a fault of its own", NO_STEP)):
         skip = smaller(plays.broken.seed, args.without, plays.broken.planned)
         without = f" --without {args.without}" if args.without else ""
         print(f"smaller: scripts/simulate_shop.py {plays.broken.seed} 1{without} --skip {','.join(map(str, sorted(skip)))}")
@@ -198,6 +253,7 @@ class Counts:
         self.kinds: collections.Counter[str] = collections.Counter()
         self.events: collections.Counter[str] = collections.Counter()
         self.excused: collections.Counter[str] = collections.Counter()
+        self.none: collections.Counter[str] = collections.Counter()
         self.least = dict.fromkeys(LEAST, 10 ** 9)
 
     def add(self, played: Played) -> None:
@@ -206,6 +262,8 @@ class Counts:
         self.events.update(played.counts)
         if played.excused:
             self.excused[played.excused] += 1
+        if played.is_none and played.why_none:
+            self.none[played.why_none] += 1
         for name, count in played.least.items():
             self.least[name] = min(self.least[name], count)
         if played.broken and not self.broken:
@@ -217,6 +275,9 @@ class Counts:
         print("runs that have each: " + ", ".join(f"{kind} {100 * count / self.runs:.1f} %" for kind, count in sorted(self.kinds.items())))
         print("runs in which so much was lost that not all is looked at: "
               + (", ".join(f"{why}: {count}" for why, count in self.excused.most_common()) or "none"))
+        if args.decider:
+            print(f"lists that are runs of the model, all but these of {self.runs}: "
+                  + (", ".join(f"{why}: {count}" for why, count in self.none.most_common()) or "none"))
 
 
 if __name__ == "__main__":

@@ -42,8 +42,8 @@ class Asker:
         self.is_over = False
         self.published, self.server_times = published, world.server.times
         self.task: "Task | None" = None
-        for record in records if key is None else ():
-            world.note("IsAsked", site, world.ask(record), len(record.split(b"\n")))
+        for _ in records if key is None else ():
+            world.note("IsAsked")
         if not supervisor or not supervisor.is_alive:
             self._end([{"end": True, "fault": "not running; nothing was asked"}])
             return
@@ -141,7 +141,7 @@ def id_of(name: str) -> tuple[int, int]:
 
 def note_told(world: "World", told: list[Told]) -> None:
     for one in told:
-        world.note(WORDS[one.what], one.site, world.ask(one.record), *(one.id or ())[1:])
+        world.note(WORDS[one.what])
 
 
 class KeyedAsker:
@@ -154,7 +154,7 @@ class KeyedAsker:
         self.told: list[Told] = []              # what it was told last
         self.tries = 0
         world.keyed[record] = site
-        world.note("IsAsked", site, world.ask(record), 1)
+        world.note("IsAsked")
         self._ask()
 
     @property

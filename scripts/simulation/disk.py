@@ -14,6 +14,7 @@ from .clock import Clock
 from .stand_in import StandIn, records_of
 
 if TYPE_CHECKING:
+    from .model import Packet, Slot
     from .world import World
 
 
@@ -73,18 +74,22 @@ class Folder:
         self.is_there = True
         self.is_whole = True                # nothing was taken from it
         self.has_lost = False               # the power took something of `kept`
+        self.slot: "Slot | None" = None     # which folder of the model it is
+        self.packets: list["Packet | None"] = []    # the packet that each record of `kept` sent or took in
 
     def copied(self, machine: "Machine") -> "Folder":
         """A copy of it, with other files of the same bytes."""
         made = Folder(self.world, machine)
         made.files = {name: File(self.world.new_number(), bytes(file.data)) for name, file in self.files.items()}
         made.lives, made.noted, made.fenced, made.yields = list(self.lives), self.noted, self.fenced, self.yields
+        made.packets = list(self.packets)
         return made
 
     def put_back(self, older: "Folder") -> None:
         """Has what an older copy has, in the same folder."""
         again = older.copied(self.machine)
         self.files, self.lives, self.noted, self.fenced, self.yields = again.files, again.lives, again.noted, again.fenced, again.yields
+        self.packets = again.packets
 
     def file(self, name: str) -> File:
         if name not in self.files:
@@ -113,6 +118,10 @@ class Folder:
 
     def lines(self, name: str) -> list[bytes]:
         return self._bytes(name).splitlines(keepends=True)
+
+    def whole_lines(self) -> list[bytes]:
+        """The lines of `kept`, without one that is torn."""
+        return [line for line in self.lines("kept") if line.endswith(b"\n")]
 
     def checked(self) -> tuple[int, int | None]:
         """How many lines of `kept` are as their sums say, and the number of the first that was changed."""
@@ -167,7 +176,7 @@ class Keeper:
     def __init__(self, folder: Folder, number: int, told: Callable[[], None]) -> None:
         self.folder, self.number, self._told = folder, number, told
         self.world, self.clock, self.dice = folder.world, folder.world.clock, folder.world.dice
-        self.site = StandIn(number, self.world.sites)
+        self.site: StandIn = StandIn(number, self.world.sites)
         self.input: list[bytes] = []
         self.is_closed = False          # its input has ended
         self.is_heard = True            # somebody reads its output
@@ -212,6 +221,7 @@ class Keeper:
         self.status, self.fault = status, fault
         if self.folder.keeper is self:
             self.folder.keeper = None
+        self.world.steps.keeper_ended(self)
         if self.is_heard:
             self.clock.soon(self._told)
 
@@ -224,7 +234,9 @@ class Keeper:
             self.folder.is_there = True                    # it makes its folder
             self.folder.files = {}
         self.folder.keeper = self
-        kept, out = self.kept, self.out = self.folder.file("kept"), self.folder.file("out")
+        self.kept: File = self.folder.file("kept")
+        self.out: File = self.folder.file("out")
+        kept, out = self.kept, self.out
         del kept.data[kept.data.rfind(b"\n") + 1:]
         kept.synced = min(kept.synced, len(kept.data))
         text, past = bytes(kept.data), self.folder.past
@@ -270,31 +282,44 @@ class Keeper:
             # A kill may come in the middle of this write.
             cut = self.dice.randrange(len(text))
             self.kept.data += text[:cut]
-            return self.clock.soon(functools.partial(self._keep_rest, text[cut:], records))
-        self._keep_rest(text, records)
+            said = self._made(records, text[:cut].count(b"\n"))
+            return self.clock.soon(functools.partial(self._keep_rest, text[cut:], records[len(said):], said))
+        self._keep_rest(text, records, [])
 
-    def _keep_rest(self, text: bytes, records: list[bytes]) -> None:
+    def _keep_rest(self, text: bytes, records: list[bytes], said: list[tuple[bytes, bytes]]) -> None:
         if not self.is_alive:
             return
         self.kept.data += text
         if self.world.is_synced:
             self.kept.synced = len(self.kept.data)
-        self.clock.soon(functools.partial(self._answer, records))
+        said += self._made(records, len(records))
+        self.clock.soon(functools.partial(self._answer, said))
 
-    def _answer(self, records: list[bytes]) -> None:
+    def _made(self, records: list[bytes], count: int) -> list[tuple[bytes, bytes]]:
+        """The answers to the first records, so many of which have just been kept, and to the questions among them."""
+        said: list[tuple[bytes, bytes]] = []
+        for record in records:
+            if is_question(record):
+                said.append((record, b"?state,%d\n" % self.site.records))
+            elif count:
+                count -= 1
+                said.append((record, self.site.answer(record)))
+                self.world.steps.kept(self, *said[-1])
+            else:
+                break
+        return said
+
+    def _answer(self, said: list[tuple[bytes, bytes]]) -> None:
         """Answers what was kept, in `out` and then to the supervisor."""
         if not self.is_alive:
             return
         answers = told = b""
-        for record in records:
-            if is_question(record):
-                told += b"?state,%d\n" % self.site.records
-                continue
-            said = self.site.answer(record)
-            answers += said
-            told += said
-            self.folder.noted += 1
-            self.world.answered(self, record, said)
+        for record, its in said:
+            told += its
+            if not is_question(record):
+                answers += its
+                self.folder.noted += 1
+                self.world.answered(self, record, its)
         self.out.data += answers
         self.said += answers
         self._is_read()

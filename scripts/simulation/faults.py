@@ -14,13 +14,13 @@ if TYPE_CHECKING:
 
 def killed_keeper(run: "Run", dice: random.Random) -> None:
     if site := run.some_site(dice):
-        run.world.note("keeper-killed", site.folder.number)
+        run.world.note("keeper-killed")
         site.kill()
 
 
 def killed_supervisor(run: "Run", dice: random.Random) -> None:
     if supervisor := run.some_supervisor(dice):
-        run.world.note("supervisor-killed", supervisor.machine.name)
+        run.world.note("supervisor-killed")
         supervisor.end()
 
 
@@ -32,9 +32,13 @@ def stopped(run: "Run", dice: random.Random) -> None:
 
 def lost_ends(run: "Run", machine: Machine, dice: random.Random) -> None:
     """The power of a machine goes: its memory is gone, and the ends of files that aren't on the disk."""
-    for folder in machine.folders.values():
-        run.world.note("MachineStarts", folder.number)
-    run.taint(machine.lose_power(dice), "LosesEnd", is_whole=True)
+    for _ in machine.folders:
+        run.world.note("MachineStarts")
+    lost = machine.lose_power(dice)
+    run.world.steps.machine_starts(machine)
+    for folder in lost:
+        run.world.steps.lost_end(folder)
+    run.taint(lost, "LosesEnd", is_whole=True)
 
 
 def lost_power(run: "Run", dice: random.Random) -> None:
@@ -62,13 +66,15 @@ def lost_end(run: "Run", dice: random.Random) -> None:
             data = folder.files[name].data
             del data[max(0, len(data) - dice.randint(1, 400)):]
             folder.files[name].synced = min(folder.files[name].synced, len(data))
+    run.world.steps.lost_end(folder)
     run.taint([folder], "LosesEnd", is_whole=True)      # what is left of it is whole
 
 
 def copied(run: "Run", dice: random.Random) -> None:
     machine, folder = run.some_folder(dice)
     copy = folder.copied(machine)
-    run.world.note("IsCopied", folder.number, copy.number)
+    run.world.note("IsCopied")
+    run.world.steps.copied(folder, copy, is_stored=True)
     run.backups.append((machine, run.number_of(machine, folder), copy))
 
 
@@ -87,6 +93,7 @@ def put_back(run: "Run", dice: random.Random) -> None:
     else:
         folder.is_there = False
         machine.folders[number] = older.copied(machine)
+    run.world.steps.put_back(folder, older, machine.folders[number])
     run.taint([machine.folders[number]], "IsPutBack")
 
 
@@ -99,6 +106,7 @@ def lost(run: "Run", dice: random.Random) -> None:
     folder.files = {}
     machine.folders[number] = made = Folder(run.world, machine)
     made.is_there = False
+    run.world.steps.lost(folder, made)
     run.taint([made], "IsLost")
 
 
@@ -106,6 +114,7 @@ def lost_file(run: "Run", dice: random.Random) -> None:
     """`out` or `kept` is removed while the site runs."""
     machine, folder = run.some_folder(dice)
     if folder.files.pop(dice.choice(["out", "out", "kept"]), None):
+        run.world.steps.lost_end(folder)
         run.taint([folder], "file-removed")
 
 
@@ -119,6 +128,7 @@ def changed_word(run: "Run", dice: random.Random) -> None:
     if kept and places:
         at = dice.choice(places)
         kept.data[at] += 1
+        run.world.steps.changed(folder, bytes(kept.data[:at]).count(b"\n"))
         folder.files["sums"].synced = len(folder.files["sums"].data)
         run.taint([folder], "IsChanged")
         run.changed.append((folder, folder.lines("kept")))
@@ -134,7 +144,8 @@ def ran_copy(run: "Run", dice: random.Random) -> None:
     if is_here:
         copy.memory, copy.boot = machine.memory, machine.boot       # it is one machine, and one start of it
     for number, folder in machine.folders.items():
-        run.world.note("IsCopied", folder.number, copy.folders[number].number)
+        run.world.note("IsCopied")
+        run.world.steps.copied(folder, copy.folders[number])
     run.taint([*machine.folders.values(), *copy.folders.values()], "copy-runs", is_whole=True)
     if dice.random() < 0.4:
         run.switch_off(machine)
@@ -144,14 +155,14 @@ def ran_copy(run: "Run", dice: random.Random) -> None:
 def paused(run: "Run", dice: random.Random) -> None:
     """A supervisor stands still, as a laptop's that sleeps; or its clock jumps."""
     if supervisor := run.some_supervisor(dice):
-        run.world.note("paused", supervisor.machine.name)
+        run.world.note("paused")
         run.disturb()
         supervisor.paused_until = run.world.clock.now + dice.choice([0.3, 4.0, 8.0])
 
 
 def jumped(run: "Run", dice: random.Random) -> None:
     if supervisor := run.some_supervisor(dice):
-        run.world.note("clock-jumps", supervisor.machine.name)
+        run.world.note("clock-jumps")
         supervisor.skew += dice.choice([1.0, 10.0, 3600.0])
 
 
@@ -163,7 +174,7 @@ def cut_off(run: "Run", dice: random.Random) -> None:
 
 
 def cut_off_for(run: "Run", machine: Machine, seconds: float) -> None:
-    run.world.note("cut-off", machine.name)
+    run.world.note("cut-off")
     run.disturb()
     machine.is_cut_off = True
 
@@ -196,25 +207,30 @@ def server_goes(run: "Run", dice: random.Random, forget: Callable[[], None] | No
 
 def server_loses_end(run: "Run", dice: random.Random) -> None:
     def forget() -> None:
-        server = run.world.server
-        server.lose_end(lost_seconds(server, dice))
-        for site, stream in enumerate(server.streams):
-            run.world.note("StreamLosesEnd", site, len(stream.entries))
+        server_forgets(run, lost_seconds(run.world.server, dice))
     server_goes(run, dice, forget)
+
+
+def server_forgets(run: "Run", seconds: float) -> None:
+    """The server comes back as it was that long ago."""
+    server = run.world.server
+    server.lose_end(seconds)
+    for _ in server.streams:
+        run.world.note("StreamLosesEnd")
+    run.world.steps.server_lost([[text for _, text in stream.entries] for stream in server.streams])
 
 
 def server_loses_all(run: "Run", dice: random.Random) -> None:
     def forget() -> None:
         run.world.note("ServerLosesAll")
         run.world.server.lose_all()
+        run.world.steps.server_lost_all()
     server_goes(run, dice, forget)
 
 
 def server_comes_from_backup(run: "Run", dice: random.Random) -> None:
     def forget() -> None:
-        run.world.server.lose_end(dice.uniform(1, 30))
-        for site, stream in enumerate(run.world.server.streams):
-            run.world.note("StreamLosesEnd", site, len(stream.entries))
+        server_forgets(run, dice.uniform(1, 30))
     server_goes(run, dice, forget)
 
 
@@ -253,7 +269,7 @@ def gone(run: "Run", dice: random.Random) -> None:
         return paused(run, dice)
     seconds, supervisor = dice.uniform(7.0, 14.0), run.supervisors.get(machine.name)
     how = dice.choice(["off", "cut off", "still"])
-    run.world.note("gone", machine.name, how)
+    run.world.note("gone")
     run.disturb()
     if how == "off":
         run.switch_off(machine)

@@ -23,13 +23,16 @@ LAST_SECONDS = 60.0         # how long a red ask may take then
 LEAST_EVENTS, LEAST_TURNS, MORE = 300, 3, 12
 FIRST_TURNS = 6             # how many red asks there are at alternate sites before anything goes wrong
 LAST = 10 ** 6              # the number of the first of the last asks
+GIVEN_TWICE = "an id or a turn was given twice by a site that couldn't reach what knew of it"
+OPENED_UNREACHED = "a site was opened that couldn't reach what has more of it"
+WENT_ON = "a process went on whose site had another one by then"
 EXACT = 15                  # how often an operator tries to rebuild a site before he says --anyway
 
 
 class Run:
-    def __init__(self, seed: str, rules: Rules, skip: frozenset[int] = frozenset(), words: list[str] | None = None) -> None:
+    def __init__(self, seed: str, rules: Rules, skip: frozenset[int] = frozenset()) -> None:
         self.seed, self.skip = seed, skip
-        self.world = World(seed, rules, words)
+        self.world = World(seed, rules)
         self.askers: list[Asker | KeyedAsker] = []
         self.supervisors: dict[str, Supervisor] = {}
         self.copies: list[Supervisor] = []              # those of copies of folders
@@ -180,6 +183,7 @@ class Run:
         if "`kept` is enough" not in why:
             return self._rebuild(machine, number)
         machine.folders[number].files.pop("out", None)
+        self.world.steps.lost_end(machine.folders[number])
 
     def _rebuild(self, machine: Machine, number: int) -> None:
         world, command = self.world, Command(self.world, machine)
@@ -235,7 +239,7 @@ class Run:
     def taint(self, folders: Iterable[Folder], what: str, is_whole: bool = False) -> None:
         """Something happened to these folders; they aren't whole any more, unless that is said."""
         for folder in folders:
-            self.world.note(what, folder.number, len(folder.sent()))
+            self.world.note(what)
             self.world.lost_keys |= {number for machine in [*self.world.machines, folder.machine] for number, its in machine.folders.items()
                                      if its is folder}
             self.tainted[folder.inode] = self.world.clock.now, what
@@ -282,6 +286,8 @@ class Run:
         for copy in self.copies:
             if copy.is_alive:
                 copy.end()
+        for folder in [folder for _, _, folder in self.backups] + [folder for copy in self.copies for folder in copy.machine.folders.values()]:
+            world.steps.gone(folder)
         world.server.come()
         for machine in world.machines:
             machine.is_cut_off = False
@@ -313,12 +319,17 @@ class Run:
                            for site in supervisor.sites.values()) for name, supervisor in self.supervisors.items()]
         return "; ".join(said)
 
+    def why_no_steps(self) -> str | None:
+        """Why its list of steps may be no run of the model, which has no such things."""
+        why = self.why_excused()
+        return why if why in (GIVEN_TWICE, OPENED_UNREACHED) else WENT_ON if self.world.steps.has_gone_on else None
+
     def why_excused(self) -> str | None:
         """Why so much was lost that the shop may not go on, if it was."""
         if self.world.excused:
-            return "an id or a turn was given twice by a site that couldn't reach what knew of it"
+            return GIVEN_TWICE
         if self.world.is_unreached:
-            return "a site was opened that couldn't reach what has more of it"
+            return OPENED_UNREACHED
         if self.is_token_lost:
             return "a pass is lost"
         if self.may_be_lost:

@@ -9,13 +9,13 @@ from typing import Any
 
 from shop_tool.carrier.asking import Ask
 from shop_tool.carrier.ledger import packets_of, sends_of, tokens_of
-from shop_tool.carrier.lives import placed
+from shop_tool.carrier.lives import life_text, placed
 from shop_tool.carrier.over_files import FileLink
 from shop_tool.carrier.over_server import ServerLink
 from shop_tool.carrier.rebuilding import UNCHANGED
 from shop_tool.carrier.records import Purpose, text_of
 from shop_tool.carrier.shop import HAND_OVER_SECONDS, Shop
-from shop_tool.carrier.site import FIRST_WAIT, LAST_WAIT, Disagreement, Site, State
+from shop_tool.carrier.site import FIRST_WAIT, LAST_WAIT, Disagreement, Pending, Site, State
 from shop_tool.carrier.steps import State as StateOf
 from shop_tool.carrier.steps import (Append, Broken, CallAll, Connect, Flag, Hear, IsRunning, Kept, KeptOf, Owner, Read, Replay, Rewrite, Say,
                                      SayLeave, SayWant, SeeHere, SeenHere, SentHere, Signal, Statuses, Steps, Swap, TakeOver, Tell, UpElsewhere,
@@ -27,6 +27,7 @@ from shop_tool.requests import Request, asks_of
 
 from .clock import Clock, Task
 from .disk import File, Folder, Keeper, Machine
+from .model import Steps as ModelSteps
 from .server import WRITES, Server
 from .stand_in import StandIn
 
@@ -46,19 +47,18 @@ class Rules:
 
 
 class World:
-    def __init__(self, seed: str, rules: Rules, words: list[str] | None) -> None:
+    def __init__(self, seed: str, rules: Rules) -> None:
         self.dice = random.Random(seed)
         self.clock = Clock(self.dice)
         self.rules = rules
-        self.words = words                  # the run as a list of the model's steps
         self.counts: collections.Counter[str] = collections.Counter()
         self.numbers = 0
-        self.asks: dict[bytes, int] = {}
         self.sites = self.dice.choice([2, 2, 3, 3, 4, 5])
         self.is_over_server = self.dice.random() < 0.65
         self.is_synced = self.dice.random() < 0.4
         self.server = Server(self.clock, self.sites, self.dice.random() < 0.4)
         self.machines = self._machines()
+        self.steps = ModelSteps(self)       # the run as a list of the model's steps
         self.standby: tuple[int, Machine] | None = self._standby()      # a site that has one, and on which machine
         self.taken_over: set[int] = set()   # sites of which a standby has taken the place
         self.published: set[bytes] = set()  # all packets that ever stood in a stream
@@ -107,15 +107,10 @@ class World:
     def new_mark(self) -> bytes:
         return b"%d" % self.new_number()
 
-    def ask(self, record: bytes) -> int:
-        """The number of an ask: they are counted as they are first seen."""
-        return self.asks.setdefault(record, len(self.asks) + 1)
-
-    def note(self, word: str, *fields: object) -> None:
-        """A step of the model is done, by the name that it has there, or something else happens, whose word begins with a small letter."""
+    def note(self, word: str) -> None:
+        """Counts that something happens: a step of the model, by the name that it has there, or something else, whose word begins with a small
+        letter."""
         self.counts[word] += 1
-        if self.words is not None:
-            self.words.append(",".join([f"{self.clock.now:.4f}", word, *map(str, fields)]))
 
     def knows_keys(self, site: int) -> bool:
         """Whether nothing was taken from a folder of a site that had its keys, and no standby, which has none, took its place."""
@@ -166,7 +161,7 @@ class World:
             case b"ok":
                 number = int(fields[3].split(b".")[1])
                 name, text = (site, number), rest[5:-1] if rest.endswith(b"\n") else rest[5:]
-                self.note("Accepts", keeper.folder.number, self.ask(record), site, number)
+                self.note("Accepts")
                 self.accepted.setdefault(record, set()).add(name)
                 self.numbers_of[record] = int(fields[1])
                 if len(self.accepted[record]) > 1 and (record not in self.keyed or self.knows_keys(site)):
@@ -182,7 +177,7 @@ class World:
             case b"passed":
                 text = rest[5:].rstrip(b"\n")
                 turn, to = (int(field) for field in text.split(b",")[2:4])
-                self.note("Passes", keeper.folder.number, to, turn)
+                self.note("Passes")
                 if turn > self.turn[0]:
                     self.turn = turn, site, to
                 if (before := self.passes.get(turn, text)) != text and before not in self.yielding and self._is_anywhere(before):
@@ -190,13 +185,10 @@ class World:
                 self.passes[turn], self.passed_by[turn] = text, site
                 if keeper.folder.yields:
                     self.yielding.add(text)
-            case b"holding":
-                self.note("Reads", keeper.folder.number, "pass", int(record.split(b",")[2]))
-            case b"released" | b"held":
-                packet = record.split(b",")
-                self.note("Reads", keeper.folder.number, int(packet[2]), int(packet[3]))
+            case b"holding" | b"released" | b"held":
+                self.note("Reads")
             case b"refused":
-                self.note("Refuses", keeper.folder.number, self.ask(record), fields[4].decode())
+                self.note("Refuses")
 
 
 class SimulatedSite(Site):
@@ -224,9 +216,20 @@ class SimulatedSite(Site):
         if self.keeper:
             self.keeper.close()
 
+    def come_up(self) -> None:
+        if self.opened.is_set and not self.fenced_by:
+            self.shop.world.steps.opens(self.folder)
+        super().come_up()
+
+    def _write(self, pending: list[Pending]) -> None:
+        super()._write(pending)
+        for each in pending:
+            if each.is_given:
+                self.shop.world.steps.gives(self.folder, self.keeper, each.record)
+
     def fence(self, text: str, outlasts: bool = False) -> None:
         if not self.fenced_by:
-            self.shop.world.note("fenced", self.folder.number)
+            self.shop.world.note("fenced")
             self.shop.fenced.append((self.number, text))
         super().fence(text, outlasts)
 
@@ -278,7 +281,8 @@ class SimulatedSite(Site):
     def _live(self) -> Steps[int]:
         keeper = self.keeper = Keeper(self.folder, self.number, self.output.tell)
         if self.starts > 1:
-            self.shop.world.note("KeeperStarts", self.folder.number)
+            self.shop.world.note("KeeperStarts")
+            self.shop.world.steps.keeper_starts(self.folder)
         if self.shop.stopping.is_set:
             self.stop()
         try:
@@ -379,7 +383,9 @@ class Process:
         self.world.taken_over.add(site)
         # What stood in its stream, and doesn't any more, the server has lost.
         self.world.lost |= {text for (origin, _), text in self.world.made.items() if origin == site} & self.world.published - set(self.made.sent())
-        self.world.note("TakesOver", self.made.number, site)
+        self.world.note("TakesOver")
+        folders = [machine.folders.get(site) for machine in self.world.machines if machine is not self.machine]
+        self.world.steps.takes_over(self.made, site, [folder for folder in folders if folder])
 
     def replay(self, number: int, records: list[Any]) -> None:
         """Has a fresh folder beside a site's folder that is given these records."""
@@ -388,6 +394,7 @@ class Process:
         kept, out = made.file("kept"), made.file("out")
         for given in records:
             said = site.answer(given.record)
+            made.packets.append(self.world.steps.packet_of(given.record, said))
             lines = said.split(b"\n")[:-1]
             fields = lines[0].split(b",")
             packet = lines[1][5:] if fields[2] in (b"ok", b"passed") else None
@@ -474,14 +481,16 @@ class Process:
 
     def _note(self, step: tuple[Any, ...], said: Any) -> None:
         match step:
-            case Append(site, _, packets, _) if said:
-                folder = self.machine.folders.get(site) or next(iter(self.machine.folders.values()))
+            case Append(_, _, packets, _) if said:
                 self.world.published |= {text for _, text in packets}
-                for place, _ in packets:
-                    self.world.note("Appends", folder.number, site, "%d-%d" % place)
+                for _, text in packets:
+                    self.world.note("Appends")
+                    self.world.steps.appends(self.machine, text)
             case Rewrite(site, packets, _):
                 self.world.published |= {text for _, text in packets}
-                self.world.note("WritesAnew", self.machine.folders[site].number, *("%d-%d" % place for place, _ in packets))
+                self.world.note("WritesAnew")
+                if packets:
+                    self.world.steps.writes_anew(self.machine.folders[site], site, [text for _, text in packets])
 
     def call(self, request: Request, site: int, seconds: float) -> Steps[list[dict[str, Any]] | None]:
         """What the supervisor of a site elsewhere answers; None if it gives no answer in time."""
@@ -492,6 +501,8 @@ class Process:
                 return None
             yield Wait(None, 0.1)
         yield Wait(None, 0)
+        if request["op"] == "ask":
+            self.world.steps.calls(name, life, request)
         server.say(self.world.new_number(), {"call": name, "site": site, "life": life.encode(), "request": json.dumps(request)})
         while self.clock.now < until:
             yield Wait(None, 0.02)
@@ -609,7 +620,8 @@ class Supervisor(Process, Shop):
             folder.is_there, folder.files, folder.lives = True, {}, []
         folder.lives.append(f"{self.world.new_number():016x}")
         site.lives = list(folder.lives)
-        self.world.note("Starts", folder.number, site.number)
+        self.world.note("Starts")
+        self.world.steps.starts(folder, life_text(site.lives))
         site.open_sums()
         site.yields = folder.yields
         site.keys.read(folder.lines("keys"), self.unix_time())
@@ -620,6 +632,8 @@ class Supervisor(Process, Shop):
 
     def _opened(self, site: Site, answered: int) -> None:
         super()._opened(site, answered)
+        if site.up.is_set and not site.fenced_by:
+            self.world.steps.opens(self.sites[site.number].folder)
         self.look_at_open(site)
 
     def question(self, site: SimulatedSite) -> None:
@@ -631,7 +645,7 @@ class Supervisor(Process, Shop):
             yield Wait(pending.done)
             if pending.answer and pending.answer.lines != [b"?state,%d" % pending.records]:
                 raise Violation(f"site {site.number} says {pending.answer.lines} after {pending.records} records")
-        self.world.note("question", site.number)
+        self.world.note("question")
         self.spawn(steps())
 
     def look_at_open(self, site: Site) -> None:
@@ -639,7 +653,7 @@ class Supervisor(Process, Shop):
         if site.number in self.looked_at or self.world.excused or self.world.is_unreached or site.fenced_by or not (site.up.is_set and site.opened.is_set):
             return
         self.looked_at.add(site.number)
-        self.world.note("Opens", self.machine.folders[site.number].number)
+        self.world.note("Opens")
         keeper = self.sites[site.number].keeper
         assert keeper
         messages = keeper.site.release.counts[site.number]
@@ -676,7 +690,8 @@ class Supervisor(Process, Shop):
             return self.over(task, step)
         server, is_over_server = self.world.server, self.world.is_over_server
         match step:
-            case Say(record, answer, _):
+            case Say(record, answer, is_again):
+                self.world.steps.says(self.sites.values(), record, answer, is_again)
                 if task.hear:
                     task.hear(record, answer)
                 return task.answer()
@@ -688,7 +703,7 @@ class Supervisor(Process, Shop):
                 self.machine.seen[site] = life
                 return task.answer()
             case SayWant(site, known):
-                self.world.note("want", site)
+                self.world.note("want")
                 if not is_over_server:
                     self.hear_want(site, known)
                 elif self.reaches():
@@ -730,16 +745,17 @@ class Supervisor(Process, Shop):
 
     # Requests.
 
-    def serve(self, request: Request, answers: list[dict[str, Any]], called: SimulatedSite | None = None) -> Steps[None]:
-        """As the shell's: answers a request of a client, or of another supervisor; the last answer has `end`."""
+    def serve(self, request: Request, answers: list[dict[str, Any]], called: SimulatedSite | None = None, name: bytes = b"") -> Steps[None]:
+        """As the shell's: answers a request of a client, or the call of another supervisor; the last answer has `end`."""
         last: dict[str, Any] = {"end": True}
         try:
-            last |= (yield from self._answer(request, answers, called)) or {}
+            last |= (yield from self._answer(request, answers, called, name)) or {}
         except Fault as fault:
             last |= {"status": fault.status, "fault": fault.text}
         answers.append(last)
 
-    def _answer(self, request: Request, answers: list[dict[str, Any]], called: SimulatedSite | None) -> Steps[dict[str, Any] | None]:
+    def _answer(self, request: Request, answers: list[dict[str, Any]], called: SimulatedSite | None,
+                name: bytes) -> Steps[dict[str, Any] | None]:
         if request["op"] == "status":
             return {"shop": {"stopping": self.is_leaving, "site": [self.status_of(site) for site in self.sites.values()]}}
         site = called or self.sites.get(request["site"])
@@ -752,13 +768,22 @@ class Supervisor(Process, Shop):
         if request["op"] == "have":
             messages, tokens = self.kept_of(site.number, request["origin"], request["after"]) or ([], [])
             return {"messages": [text_of(text) for _, text in messages], "tokens": [text_of(text) for text in tokens]}
+        steps = self.world.steps
+        asks = steps.asked_here(site.folder, name, request)
         asked = asks_of(request)
         if self.is_leaving:
             raise Fault(Status.AWAY, "the shop is being stopped; nothing was asked")
         ask = Ask(site, request["timeout"], asked.fetches_token)
-        yield from ask.run(asked.records, asked.names)
-        if asked.published:
-            yield from ask.published()
+        steps.serves(site.folder, asks, asked.records)
+        try:
+            yield from ask.run(asked.records, asked.names)
+            if asked.published:
+                yield from ask.published()
+        except Fault as fault:
+            steps.says_fault(site.folder, asks[ask.answered:], fault.text)
+            raise
+        finally:
+            steps.leaves(site.folder, asks, asked.records)
         return None
 
     def serve_call(self, name: bytes, site: SimulatedSite, request: Request) -> None:
@@ -769,7 +794,7 @@ class Supervisor(Process, Shop):
                 return self.failed(fault)
             if self.reaches():
                 self.world.server.answers[name] = answers
-        self.spawn(self.serve(request, answers, site), replied, functools.partial(heard, answers))
+        self.spawn(self.serve(request, answers, site, name), replied, functools.partial(heard, answers))
 
     # Its end.
 
@@ -777,7 +802,7 @@ class Supervisor(Process, Shop):
         if not self.is_leaving and self.is_alive:
             self.takers = self._takers()
             self.is_leaving, self.stopped_at = True, self.clock.now
-            self.world.note("stopped", self.machine.name)
+            self.world.note("stopped")
             self.spawn(self._leave())
 
     def _takers(self) -> set[tuple[int, int]]:
@@ -842,9 +867,10 @@ class Supervisor(Process, Shop):
     def end(self) -> None:
         if self.is_alive:
             for site in self.sites.values():
-                self.world.note("IsKilled", site.folder.number)
+                self.world.note("IsKilled")
                 if site.keeper:
                     site.keeper.leave()
+                self.world.steps.supervisor_ended(site.folder, site.keeper)
             super().end()
             self.is_gone.set()
 
@@ -866,8 +892,9 @@ class Command(Process):
             case Swap(site, starts):
                 assert self.made
                 self.made.lives = placed([], max(starts, len(folders[site].lives)), f"{self.world.new_number():x}")
+                self.world.note("Rebuilds")
+                self.world.steps.rebuilds(folders[site], self.made, site)
                 folders[site] = self.made
-                self.world.note("Rebuilds", self.made.number, site)
                 return task.answer()
         if isinstance(step, (SentHere, Replay)):
             return self.do_here(task, step)

@@ -1,0 +1,141 @@
+//! Steps of shops as they stand on lines: the kind, then numbers and packets, separated by commas. A message is `m:SITE:NUMBER:ASK`, and a
+//! pass of the token `p:SITE:TURN:TO:AFTER`.
+
+use rubis_steps::{Event, Packet};
+use std::alloc::{AllocError, Global};
+
+fn packet_of(kind: &str, numbers: &[u64]) -> Option<Packet> {
+    match (kind, numbers) {
+        ("m", [site, number, ask]) => Some(Packet::Message {
+            site: *site,
+            number: *number,
+            ask: *ask,
+        }),
+        ("p", [site, turn, to, after]) => Some(Packet::Pass {
+            site: *site,
+            turn: *turn,
+            to: *to,
+            after: *after,
+        }),
+        _ => None,
+    }
+}
+
+// The packet that a word is.
+fn read_packet(alloc: Global, word: &str) -> Result<Option<Packet>, AllocError> {
+    let mut numbers = Vec::new(alloc);
+    let mut kind = "";
+    for part in word.split(':') {
+        match part.parse::<u64>() {
+            Ok(number) => numbers.push(number)?,
+            Err(_) => kind = part,
+        }
+    }
+    Ok(packet_of(kind, &numbers))
+}
+
+// The events that have a folder, or a stream, and no other number.
+fn event_of_one(kind: &str, folder: u64) -> Option<Event> {
+    match kind {
+        "Starts" => Some(Event::Starts { folder }),
+        "Opens" => Some(Event::Opens { folder }),
+        "KeeperStarts" => Some(Event::KeeperStarts { folder }),
+        "IsKilled" => Some(Event::IsKilled { folder }),
+        "MachineStarts" => Some(Event::MachineStarts { folder }),
+        "IsLost" => Some(Event::IsLost { folder }),
+        "WritesAnew" => Some(Event::WritesAnew { folder }),
+        _ => None,
+    }
+}
+
+// Those that have two.
+fn event_of_two(kind: &str, folder: u64, other: u64) -> Option<Event> {
+    match kind {
+        "Serves" => Some(Event::Serves { folder, ask: other }),
+        "Gives" => Some(Event::Gives { folder, ask: other }),
+        "Accepts" => Some(Event::Accepts { folder, ask: other }),
+        "Refuses" => Some(Event::Refuses { folder, ask: other }),
+        "TellsNothing" => Some(Event::TellsNothing { folder, ask: other }),
+        "TellsUnknown" => Some(Event::TellsUnknown { folder, ask: other }),
+        "Passes" => Some(Event::Passes { folder, to: other }),
+        "LosesEnd" => Some(Event::LosesEnd {
+            folder,
+            count: other,
+        }),
+        "IsCopied" => Some(Event::IsCopied { folder, other }),
+        "StreamLosesEnd" => Some(Event::StreamLosesEnd {
+            site: folder,
+            count: other,
+        }),
+        _ => None,
+    }
+}
+
+// Those that have three.
+fn event_of_three(kind: &str, first: u64, second: u64, third: u64) -> Option<Event> {
+    match kind {
+        "IsAsked" => Some(Event::IsAsked {
+            ask: first,
+            life: second,
+            records: third,
+        }),
+        "TellsOk" => Some(Event::TellsOk {
+            folder: first,
+            ask: second,
+            number: third,
+        }),
+        "TellsPublished" => Some(Event::TellsPublished {
+            folder: first,
+            ask: second,
+            number: third,
+        }),
+        _ => None,
+    }
+}
+
+// Those of a packet.
+fn event_of_packet(kind: &str, folder: u64, packet: Packet) -> Option<Event> {
+    match kind {
+        "Appends" => Some(Event::Appends { folder, packet }),
+        "Reads" => Some(Event::Reads { folder, packet }),
+        _ => None,
+    }
+}
+
+// Those of any packets.
+fn event_of_packets(kind: &str, folder: u64, packets: Vec<Packet>) -> Option<Event> {
+    match kind {
+        "IsChanged" => Some(Event::IsChanged { folder, packets }),
+        "Rebuilds" => Some(Event::Rebuilds { folder, packets }),
+        _ => None,
+    }
+}
+
+fn event_of(kind: &str, numbers: &[u64], packets: Vec<Packet>) -> Option<Event> {
+    match (kind, numbers, packets.as_slice()) {
+        ("ServerLosesAll", [], []) => Some(Event::ServerLosesAll),
+        ("Appends" | "Reads", [folder], [packet]) => event_of_packet(kind, *folder, *packet),
+        ("IsChanged" | "Rebuilds", [folder], _) => event_of_packets(kind, *folder, packets),
+        (_, [folder], []) => event_of_one(kind, *folder),
+        (_, [folder, other], []) => event_of_two(kind, *folder, *other),
+        (_, [first, second, third], []) => event_of_three(kind, *first, *second, *third),
+        _ => None,
+    }
+}
+
+/// The event that a line is, if it is one.
+pub fn read_event(alloc: Global, line: &str) -> Result<Option<Event>, AllocError> {
+    let mut numbers = Vec::new(alloc);
+    let mut packets = Vec::new(alloc);
+    let mut kind = "";
+    for word in line.split(',') {
+        if let Ok(number) = word.parse::<u64>() {
+            numbers.push(number)?;
+        } else if let Some(packet) = read_packet(alloc, word)? {
+            packets.push(packet)?;
+        } else {
+            kind = word;
+        }
+    }
+    Ok(event_of(kind, &numbers, packets))
+}
