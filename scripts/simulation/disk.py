@@ -7,24 +7,15 @@ import random
 from collections.abc import Callable, Sequence
 from typing import TYPE_CHECKING, NamedTuple
 
-from shop_tool.carrier import sums
 from shop_tool.carrier.files import File as Seen
 
 from .clock import Clock
+from .remembered import compared
 from .stand_in import StandIn, records_of
 
 if TYPE_CHECKING:
     from .model import Packet, Slot
     from .world import World
-
-
-# A run asks for these again and again.
-setattr(sums, "sum_of", functools.lru_cache(1 << 14)(sums.sum_of))
-
-
-@functools.lru_cache(64)
-def compared(kept: bytes, sums_of_it: bytes) -> tuple[int, int | None]:
-    return sums.compared(kept.splitlines(keepends=True), sums_of_it)
 
 
 def text_lines(lines: list[bytes]) -> list[bytes]:

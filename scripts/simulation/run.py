@@ -5,7 +5,7 @@ import random
 from collections.abc import Iterable
 
 from shop_tool.carrier.rebuilding import Rebuild
-from shop_tool.carrier.records import Message, packet_of, why_not_one_record
+from shop_tool.carrier.records import Message, why_not_one_record
 from shop_tool.carrier.site import State
 from shop_tool.carrier.steps import Broken
 from shop_tool.ends import Fault
@@ -13,6 +13,7 @@ from shop_tool.ends import Fault
 from .askers import Asker, KeyedAsker, asked
 from .disk import Folder, Machine
 from .faults import FAULTS
+from .remembered import packet_of
 from .world import Command, Rules, SimulatedSite, Supervisor, Violation, World
 
 ASKS, FAULTS_OF_A_RUN, QUESTIONS = (58, 75), (12, 18), (8, 14)

@@ -4,8 +4,10 @@ import functools
 import re
 from collections.abc import Iterator
 
-from shop_tool.carrier.records import Message, Token, packet_of
+from shop_tool.carrier.records import Message, Token
 from shop_tool.carrier.release import Release
+
+from .remembered import packet_of
 
 MOST = 1_000_000
 _NUMBER = rb"(?:0|[1-9][0-9]{0,12})"

@@ -182,6 +182,7 @@ class Past:
         self.left: list[tuple[int, int, bytes]] = []    # the messages of other sites in its folder, each with its site and number
         self.taken: dict[int, int] = {}                 # the last turn that is known to have come to each site
         self.last = max(self.own, default=0)            # what others are asked for begins behind it
+        self.reds: list[tuple[int, int]] = []           # its red numbers, each with the number of the message, once all is known
 
     def add(self, messages: list[bytes], tokens: list[bytes]) -> None:
         """Takes in what another site has: messages of this site, and tokens that came to the other one."""
@@ -196,6 +197,8 @@ class Past:
 
     def add_passed(self) -> None:
         """The token of a turn was passed by the site to which the turn before went, and by site 0 at first."""
+        messages = ((number, packet_of(text)) for number, text in sorted(self.own.items()))
+        self.reds = [(packet.red, number) for number, packet in messages if isinstance(packet, Message) and packet.red]
         for turn, (token, text) in sorted(self.tokens.items()):
             before = self.tokens.get(turn - 1)
             sender = before[0].to if before else 0 if turn == 1 else None
@@ -209,20 +212,16 @@ class Past:
         for turn, (_, text) in sorted(self.passed.items()):
             if turn > 1 and turn - 1 not in self.tokens and (passed := token_of(text)):
                 before = max((token.issued for its, (token, _) in self.tokens.items() if its < turn), default=0)
-                issued = min((red for red in self._reds() if before < red <= passed.issued), default=passed.issued + 1) - 1
+                issued = min((red for red, _ in self.reds if before < red <= passed.issued), default=passed.issued + 1) - 1
                 self._add_token(Token(turn - 1, self.site, issued))
         came = {turn: token.issued for turn, (token, _) in self.tokens.items() if token.to == self.site} | ({0: 0} if self.site == 0 else {})
         for turn, issued in came.items():
             later = min((its for its in self.tokens if its > turn + 1), default=None)
             to = max((site for site in self.taken if site != self.site), key=lambda site: self.taken[site], default=None)
             if turn + 1 not in self.passed and later and to is not None and self.taken[to] > turn:
-                last = max((red for red in self._reds() if red <= self.tokens[later][0].issued), default=0)
+                last = max((red for red, _ in self.reds if red <= self.tokens[later][0].issued), default=0)
                 token = self._add_token(Token(turn + 1, to, max(issued, last)))
                 self.passed[turn + 1] = (self._number_before(token), self.tokens[turn + 1][1])
-
-    def _reds(self) -> list[int]:
-        """The red numbers of its messages."""
-        return [packet.red for text in self.own.values() if isinstance(packet := packet_of(text), Message) and packet.red]
 
     def _add_token(self, token: Token) -> Token:
         self.tokens[token.turn] = token, b"token,1,%d,%d,%d" % token
@@ -230,11 +229,7 @@ class Past:
 
     def _number_before(self, token: Token) -> int:
         """The last own message before a token: the next red one has a number that the token doesn't count."""
-        for number, text in sorted(self.own.items()):
-            packet = packet_of(text)
-            if isinstance(packet, Message) and packet.red > token.issued:
-                return number - 1
-        return max(self.own, default=0)
+        return next((number for red, number in self.reds if red > token.issued), max(self.own, default=0) + 1) - 1
 
     def packets(self) -> Packets:
         """All that the site sent, in order, with the ids of its stream."""

@@ -2,7 +2,6 @@
 
 import csv
 import enum
-import functools
 import re
 from collections.abc import Callable
 from typing import NamedTuple
@@ -151,9 +150,8 @@ class Token(NamedTuple):
     issued: int
 
 
-@functools.lru_cache(1024)
 def packet_of(text: bytes) -> Message | Token | None:
-    """Reads a packet that a site sent; None for another line. Each is read more than once on its way."""
+    """Reads a packet that a site sent; None for another line."""
     fields = text.split(b",", 6)
     try:
         if fields[0] == b"msg" and len(fields) == 7:
