@@ -105,7 +105,11 @@ class Folder:
             time.sleep(0.05)
 
     def kill(self, process: int) -> None:
+        """Ends a process at once, and waits until it has ended: on a busy machine its socket takes connections until then."""
         os.kill(process, signal.SIGKILL)
+        until = time.monotonic() + SECONDS
+        while is_there(process) and time.monotonic() < until:
+            time.sleep(0.01)
 
     def close(self) -> None:
         for made in self.running:
@@ -116,6 +120,14 @@ class Folder:
             made.wait()
         for settings in self.path.glob("*/shop.json"):
             subprocess.run([self.path / "shop", "stop", settings.parent], capture_output=True)
+
+
+def is_there(process: int) -> bool:
+    """Whether a process hasn't ended yet."""
+    try:
+        return b") Z " not in pathlib.Path(f"/proc/{process}/stat").read_bytes()
+    except OSError:
+        return False
 
 
 SALE = "user,ann user,bob item,0.1,lamp,7,3,100,80"
