@@ -5,8 +5,9 @@ ghost use Rattle.std.specs.Prelude.{◌≡◌, []};
 use rubis_engine::Reply;
 use std::alloc::Global;
 
-/// How many bytes a reader is asked for at a time: few enough that they are still in the cache of the thread that reads and answers.
-pub const BLOCK: usize = 98_304;
+/// How many bytes a reader is asked for at a time. Each chunk has a reader of CSV of its own, which takes as long to make as some twenty
+/// records of an audit to read, so a chunk that is at hand is long.
+pub const BLOCK: usize = 393_216;
 
 /// The answers that wait to be written, and how many records were answered.
 #[derive(Drop)]
