@@ -14,7 +14,7 @@ class GivenTwice(unittest.TestCase):
     """Two folders of a site, one of them cut off, accept an ask each under one number."""
 
     def setUp(self) -> None:
-        self.world = World("1", Rules(), None)
+        self.world = World("1", Rules())
         self.world.machines[0].folders[3] = self.folder = Folder(self.world, self.world.machines[0])
 
     def accept(self, folder: Folder, record: bytes) -> None:
