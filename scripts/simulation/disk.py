@@ -287,7 +287,7 @@ class Keeper:
         self.clock.soon(functools.partial(self._answer, said))
 
     def _made(self, records: list[bytes], count: int) -> list[tuple[bytes, bytes]]:
-        """The answers to the first records, so many of which have just been kept, and to the questions among them."""
+        """The answers to the first records, of which this many have just been kept, and to the questions among them."""
         said: list[tuple[bytes, bytes]] = []
         for record in records:
             if is_question(record):

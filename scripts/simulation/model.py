@@ -428,7 +428,7 @@ class Steps:
             self._lose(copy)
 
     def changed(self, folder: "Folder", records: int) -> None:
-        """Only so many records are as they were."""
+        """Only this many records are as they were."""
         del folder.packets[records:]
         left, slot = [packet for packet in folder.packets if packet], folder.slot
         if slot:

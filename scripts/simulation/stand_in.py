@@ -52,7 +52,7 @@ def in_limits(kind: bytes, fields: tuple[bytes, ...]) -> bool:
 
 @functools.lru_cache(1 << 12)
 def is_message(message: Message, kind: bytes, sites: int) -> bool:
-    """Whether a message is in the grammar of a shop of so many sites."""
+    """Whether a message is in the grammar of a shop of this many sites."""
     shadow = read(message.shadow)
     if not shadow or shadow[0] != kind or not in_limits(*shadow):
         return False

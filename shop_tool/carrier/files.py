@@ -17,7 +17,7 @@ Look = Callable[[str], File | None]
 
 
 def is_there(was: File | None, now: File | None, size: int) -> bool:
-    """Whether a file is there still, with so many bytes; one that wasn't known can't be missed."""
+    """Whether a file is there still, with this many bytes; one that wasn't known can't be missed."""
     return was is None or now is not None and size <= now.size and was.inode == now.inode and was.device == now.device
 
 
