@@ -123,8 +123,8 @@ fn event_of(kind: &str, numbers: &[u64], packets: Vec<Packet>) -> Option<Event> 
     }
 }
 
-/// The event that a line is, if it is one.
-pub fn read_event(alloc: Global, line: &str) -> Result<Option<Event>, AllocError> {
+// The event that a line is, if it is one. No clause says so: `stdin` has a list with its answer, and the gate spoils lists.
+pub(crate) fn read_event(alloc: Global, line: &str) -> Result<Option<Event>, AllocError> {
     let mut numbers = Vec::new(alloc);
     let mut packets = Vec::new(alloc);
     let mut kind = "";
