@@ -49,7 +49,7 @@ pub fn remove_ask(asks: &mut Vec<u64>, ask: u64)
     asks.retain(|other| *other != ask);
 }
 
-/// Puts the ask behind them, so many times.
+/// Puts the ask behind them, this many times.
 pub fn push_times(asks: &mut Vec<u64>, count: u64, ask: u64) -> Result<(), DeciderFault>
     ensures { OnOk result (asks.new.items ≡ asks.old.items ++ times count ask) }
 {

@@ -93,7 +93,7 @@ impl Folder {
         self.remembered = false;
     }
 
-    /// Only so many packets are left, and nothing runs it.
+    /// Only this many packets are left, and nothing runs it.
     pub fn lose_end(&mut self, count: u64)
         ensures { folder_of self.new ≡ replaced (folder_of self.old) (take count (folder_of self.old).kept) }
     {
@@ -160,7 +160,7 @@ impl Folder {
         Ok(())
     }
 
-    /// An ask that waited is given to the site, as so many records.
+    /// An ask that waited is given to the site, as this many records.
     pub fn give(&mut self, ask: u64, records: u64) -> Result<(), DeciderFault>
         ensures { OnOk result (folder_of self.new ≡ giving (folder_of self.old) ask records) }
     {
