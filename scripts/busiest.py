@@ -1,8 +1,8 @@
 #!/usr/bin/env python3
-"""Counts the work of each thread of a run: scripts/busiest.py PROGRAM [MESSAGES]
+"""Counts the work of each thread of a run: scripts/busiest.py PROGRAM [MESSAGES] [--pipe] [-- SETTINGS]
 
-A site takes 300,000 messages of another one in order, or that many, with one worker and then with four, batches of 8,192 and
-16 shards. valgrind counts the instructions of each thread and simulates caches of fixed sizes: 32 KiB for instructions and for
+A site takes 300,000 messages of another one in order, or that many, from a file or from a pipe, with one worker and then with four, batches
+of 8,192 and 16 shards, or with the settings that are given, as `--workers 2`. valgrind counts the instructions of each thread and simulates caches of fixed sizes: 32 KiB for instructions and for
 data, and 1 MiB behind them, which is what one processor has for itself. Work is instructions, plus 10 for each miss of the first
 caches and 200 for each of the second. It knows nothing of the kernel and of waiting, so it doesn't depend on what else the
 machine does. valgrind runs one thread at a time, here each in its turn, as if each had a processor of its own. Threads of the
@@ -10,6 +10,7 @@ same number that ran one after the other count as one: how shards are shared out
 the work over that of the run with one worker: of the busiest thread, and of all of them; then the same
 of instructions alone. The answers have to be the same bytes. Takes some three minutes."""
 
+import argparse
 import pathlib
 import random
 import re
@@ -75,24 +76,32 @@ def threads_of(folder: pathlib.Path) -> list[tuple[int, int]]:
     return found
 
 
-def counted(program: str, command: list[str], text: bytes) -> tuple[list[tuple[int, int]], bytes]:
-    """The counts of each thread of a run over a file, and its answers."""
+def counted(program: str, command: list[str], text: bytes, is_piped: bool = False) -> tuple[list[tuple[int, int]], bytes]:
+    """The counts of each thread of a run over a file or a pipe, and its answers."""
     with tempfile.TemporaryDirectory() as folder, tempfile.TemporaryFile() as records:
         records.write(text)
         records.seek(0)
         counter = ["valgrind", "-q", "--tool=callgrind", "--fair-sched=yes", "--separate-threads=yes", *CACHES, f"--callgrind-out-file={folder}/counts"]
-        run = subprocess.run([*counter, program, *command], stdin=records, capture_output=True, check=True)
+        words = [*counter, program, *command]
+        run = subprocess.run(words, input=text, capture_output=True, check=True) if is_piped else \
+            subprocess.run(words, stdin=records, capture_output=True, check=True)
         return threads_of(pathlib.Path(folder)), run.stdout
 
 
 def main() -> int:
-    text = messages(int(sys.argv[2]) if len(sys.argv) > 2 else 300_000)
-    one, alone = counted(sys.argv[1], [*SITE, *ONE], text)
-    four, together = counted(sys.argv[1], [*SITE, *FOUR], text)
+    words = argparse.ArgumentParser(description=__doc__, formatter_class=argparse.RawDescriptionHelpFormatter)
+    words.add_argument("program")
+    words.add_argument("messages", type=int, nargs="?", default=300_000)
+    words.add_argument("--pipe", action="store_true", help="from a pipe, which hands over 64 KiB at once")
+    settings: list[str] = sys.argv[sys.argv.index("--") + 1:] if "--" in sys.argv else FOUR
+    args = words.parse_args(sys.argv[1:sys.argv.index("--")] if "--" in sys.argv else sys.argv[1:])
+    text = messages(args.messages)
+    one, alone = counted(args.program, [*SITE, *ONE], text, args.pipe)
+    four, together = counted(args.program, [*SITE, *settings], text, args.pipe)
     for place, what in ((1, "work"), (0, "instructions")):
         whole = sum(counts[place] for counts in one)
         shares = [counts[place] / whole for counts in four]
-        print(f"{what}: {whole / 1e6:.0f} million with one worker; of four workers the busiest thread {max(shares):.2f}, all {sum(shares):.2f}")
+        print(f"{what}: {whole / 1e6:.0f} million with one worker; of several the busiest thread {max(shares):.2f}, all {sum(shares):.2f}")
     if alone != together:
         print("the answers differ")
     return int(alone != together)

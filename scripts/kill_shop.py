@@ -10,7 +10,8 @@ appendfsync; with `everysec` the server also loses the end of its file at times,
 lost, and made again by `shop rebuild`. With --power `kept` and `out` lose their ends, and with --older a site's folder is put back to a
 copy that was made while it ran. Where no folder loses anything, half of the asks have keys: one that isn't answered is asked again under its
 key until it is, and some that were answered are asked once more, and have to get the same answer. --published: asks end only once another site, or the server, has them; with --disks, --power and --older
-what was told otherwise may be gone. With --elsewhere any supervisor is asked for any site.
+what was told otherwise may be gone; so may a message that stood nowhere but in a folder that loses it, since the server had just lost its
+end. With --elsewhere any supervisor is asked for any site.
 
 At the end a red ask at each site is accepted, all sites have equal logs as sets and equal tables, the audit says Agree, each accepted ask
 is in the logs once, as it was asked, none that was told *not accepted* is, and where no folder loses anything, one that was told which
@@ -64,6 +65,8 @@ class Asked:
         self.users: list[str] = []
         self.items: list[tuple[str, str]] = []              # with their sellers
         self.bad: list[str] = []
+        self.told: dict[str, float] = {}                    # when the askers of these messages were told of them
+        self.lost: set[str] = set()                         # those that stood nowhere but in a folder that lost them
         self.again = 0                                      # asked again under their keys, since no answer had come
         self.same = 0                                       # and once more, after the answer
 
@@ -134,9 +137,10 @@ class Asker(threading.Thread):
         if head[2] == "refused":
             asked.refused[head[4]] += 1
         elif head[2] == "ok" and asked.accepted.get(head[3], ("", ""))[0] != (key and record):
-            if head[3] in asked.accepted:
+            if head[3] in asked.accepted and not asked.lost & {asked.accepted[head[3]][1], lines[1][5:]}:
                 asked.bad.append(f"{head[3]} was given to {record} and to {asked.accepted[head[3]][0]}")
             asked.accepted[head[3]] = (record, lines[1][5:])
+            asked.told[lines[1][5:]] = time.monotonic()
             if record.startswith("user"):
                 asked.users.append(head[3])
             elif record.startswith("item"):
@@ -172,6 +176,7 @@ class Trial:
         self.parts = {str(folder / name): list(group) for name, group in zip("ab", groups)}
         self.over = "files" if args.over == "files" else f"redis://127.0.0.1:{PORT}/kills"
         self.server: subprocess.Popen[bytes] | None = None
+        self.lost_end = 0.0                     # when the server that lost its end last came back
 
     def folder_of(self, site: int) -> str:
         return next(folder for folder, sites in self.parts.items() if site in sites)
@@ -225,11 +230,14 @@ class Trial:
         assert self.server
         self.server.kill()
         self.server.wait()
+        has_lost = False
         if self.args.over == "everysec" and self.dice.random() < 0.5:
             file = max(glob.glob(f"{self.folder}/redis/appendonlydir/*.incr.aof"))
             os.truncate(file, max(200, os.path.getsize(file) - self.dice.randrange(6000)))
             self.kills["server lost its end"] += 1
+            has_lost = True
         time.sleep(self.dice.random() * 1.5)
+        self.lost_end = time.monotonic() if has_lost else self.lost_end
         self.start_server()
         return True
 
@@ -238,6 +246,7 @@ class Trial:
         kill(state["pid"])
         time.sleep(0.3)
         number = site["site"]
+        self.note_lost(folder, number)
         sent = sends_of(f"{folder}/{number}/out")
         shutil.rmtree(f"{folder}/{number}")
         self.rebuild(folder, number)
@@ -255,6 +264,7 @@ class Trial:
         kill(state["pid"])
         time.sleep(0.5)
         number = site["site"]
+        self.note_lost(folder, number)
         for name, most in (("kept", self.dice.choice([0, 30, 300, 3000])), ("out", self.dice.choice([0, 300, 3000, 9000]))):
             path = f"{folder}/{number}/{name}"
             os.truncate(path, max(0, os.path.getsize(path) - int(most * self.dice.random())))
@@ -270,11 +280,33 @@ class Trial:
             return False
         kill(state["pid"])
         time.sleep(0.3)
+        self.note_lost(folder, number)
         for name in ("kept", "out", "life", "setup", "sums"):
             shutil.copyfile(copy / name, f"{folder}/{number}/{name}")
         shutil.rmtree(copy)
         self.mend(folder, number, "older")
         return True
+
+    def note_lost(self, folder: str, number: int) -> None:
+        """A folder is about to lose something. Of what was told before the server lost its end, some messages may stand nowhere else: then
+        their numbers may be given again. What was told since stands in a stream."""
+        if self.args.over != "everysec":
+            return
+        stream = subprocess.CompletedProcess([], 1, "", "")
+        for _ in range(100):        # until the server answers
+            stream = subprocess.run(["redis-cli", "-p", str(PORT), "-e", "xrange", f"kills:{number}", "-", "+"], text=True, capture_output=True)
+            if stream.returncode == 0:
+                break
+            time.sleep(0.1)
+        elsewhere = set(stream.stdout.splitlines())
+        for part, sites in self.parts.items():
+            for site in sites:
+                if site != number and os.path.exists(f"{part}/{site}/kept"):
+                    elsewhere |= set(pathlib.Path(part, str(site), "kept").read_text(errors="replace").split("\n"))
+        sent = {text for text in sends_of(f"{folder}/{number}/out") if text.startswith("msg,")}
+        lost = {text for text in sent - elsewhere if self.asked.told.get(text, self.lost_end) < self.lost_end}
+        self.kills["messages that only the folder had"] += len(lost - self.asked.lost)
+        self.asked.lost |= lost
 
     def mend(self, folder: str, number: int, kind: str) -> None:
         """Starts sites of which one may have lost something; it goes on, or is made again."""
@@ -381,9 +413,9 @@ class Trial:
             assert isinstance(packet, Message)
             asks[ask_of(packet.shadow, lambda item: sellers[item]).decode()] += 1
         for name, (record, message) in asked.accepted.items():
-            if messages.get(name) != message:
+            if messages.get(name) != message and message not in asked.lost:
                 asked.bad.append(f"{name} was accepted as {message}, and the logs have {messages.get(name)}")
-            elif asks[record] == 0:
+            elif asks[record] == 0 and message not in asked.lost:
                 asked.bad.append(f"the asker of {record} was told {message}")
         for record, count in asks.items():
             if count > 1 and record.split(",")[0] in COUNTED:

@@ -10,9 +10,9 @@ told is true, and all goes on.
 Run number N of a seed is SEED.N, and is the same each time: `SEED.N 1` plays it again. One that breaks a promise is printed, and made
 smaller: `SEED.N 1 --skip ..` plays it without some of its events. With --without one rule of the carrier is taken out, to see that this is found. With --program
 the simulated sites' answers are compared with the program's first. With --steps each run is written to a file as a list of the model's
-steps. With --decider that program, which is proved (crates/rubis_decider), decides whether each list is a run of the model: it has to be,
-but where a site was opened of which something has more that couldn't be reached, or two processes of one site went on. The status is 1 if a
-promise was broken, or a list is no run."""
+steps. With --decider that program, which is proved (crates/rubis_decider), decides whether each list is a run of the model: it has to be, up
+to a step of which the run itself says that the model doesn't have it: a site is opened of which something has more that it doesn't reach, or
+a process goes on after another folder of its site was opened. The status is 1 if a promise was broken, or a list is no run."""
 
 import argparse
 import collections
@@ -46,6 +46,10 @@ RECORDS = 6000          # how many records are compared with the program's answe
 LEAST = {"events": 300, "faults": 10, "asks": 50, "turns": 3}
 
 
+class Ended(Exception):
+    """A process can't go on."""
+
+
 class Played(NamedTuple):
     """How a run was."""
 
@@ -56,8 +60,8 @@ class Played(NamedTuple):
     least: dict[str, int]
     planned: int            # how many events could be left out
     lines: list[str]        # the model's steps
-    why_none: str | None    # why they may be no run of the model
-    is_none: bool = False   # whether they are none for that
+    none: dict[int, str]    # those that the model doesn't have, by number, and why
+    why_none: str | None = None     # why the list is no run of the model
 
 
 def play(seed: str, without: str | None, skip: frozenset[int] = frozenset(), steps: str | None = None) -> Played:
@@ -75,7 +79,7 @@ def play(seed: str, without: str | None, skip: frozenset[int] = frozenset(), ste
         pathlib.Path(steps, f"{seed}.steps").write_text(text_of(lines))
     counts = dict(run.world.counts)
     least = {"events": sum(counts.values()), "faults": run.fault_count, "asks": len(run.askers), "turns": counts.get("Passes", 0)}
-    return Played(seed, broken, run.why_excused(), counts, least, run.planned, lines, run.why_no_steps())
+    return Played(seed, broken, run.why_excused(), counts, least, run.planned, lines, run.world.steps.none())
 
 
 def smaller(seed: str, without: str | None, events: int) -> frozenset[int]:
@@ -125,7 +129,8 @@ def not_compared(lines: list[str]) -> tuple[list[str], int] | None:
 
 
 def decided(decider: str, plays: list[Played]) -> list[Played]:
-    """The plays, of which those are broken whose lists aren't runs of the model; it is tried too that lists with a step too many aren't."""
+    """The plays, of which those are broken whose lists aren't runs of the model, but at a step that it doesn't have; it is tried too that
+    lists with a step too many are none."""
     answers = answers_of(decider, [played.lines for played in plays])
     for played, answer in zip(plays, answers):
         if answer is None:
@@ -133,15 +138,18 @@ def decided(decider: str, plays: list[Played]) -> list[Played]:
             if answers_of(decider, [lines for lines, _ in wrong]) != [number for _, number in wrong]:
                 raise SystemExit(f"{played.seed}: {decider} doesn't see a step too many: {wrong}")
             break
-    return [played if answer is None else played._replace(is_none=True) if played.broken or played.why_none else
-            played._replace(broken=f"{NO_STEP}{answer} of its list may not happen: {played.lines[answer]}")
+    return [played if answer is None else played._replace(why_none=played.none[answer]) if answer in played.none else
+            played._replace(broken=played.broken or f"{NO_STEP}{answer} of its list may not happen: {played.lines[answer]}")
             for played, answer in zip(plays, answers)]
 
 
 def many(job: tuple[list[str], str | None, str | None, str | None]) -> list[Played]:
     seeds, without, steps, decider = job
     plays = [play(seed, without, steps=steps) for seed in seeds]
-    return [played._replace(lines=[]) for played in (decided(decider, plays) if decider else plays)]
+    try:
+        return [played._replace(lines=[]) for played in (decided(decider, plays) if decider else plays)]
+    except SystemExit as end:       # this process alone would end, and nobody would hear why
+        raise Ended(*end.args) from None
 
 
 def named(args: argparse.Namespace) -> str | None:
@@ -203,6 +211,13 @@ def compared(program: str, seed: str) -> None:
     print(f"{sum(map(len, given))} records: the simulated sites answer as {program} does", flush=True)
 
 
+def make_folder(path: str) -> None:
+    try:
+        os.makedirs(path, exist_ok=True)
+    except OSError as fault:
+        raise SystemExit(f"{path}: {fault.strerror}") from None
+
+
 def main() -> int:
     words = argparse.ArgumentParser(description=__doc__, formatter_class=argparse.RawDescriptionHelpFormatter)
     words.add_argument("seed")
@@ -216,6 +231,8 @@ def main() -> int:
     words.add_argument("--program")
     words.add_argument("--skip", metavar="N,..", help="play the run SEED without these events")
     args = words.parse_args()
+    if args.steps:
+        make_folder(args.steps)
     if args.program:
         compared(args.program, args.seed)
     if args.skip is not None:
@@ -223,10 +240,15 @@ def main() -> int:
     began, plays, jobs = time.monotonic(), Counts(), Jobs(args)
     # What a run leaves is circular, and goes with its process: looking for it takes a fifth of the time.
     with multiprocessing.Pool(args.processes, gc.disable, maxtasksperchild=MANY) as pool:
-        for done in pool.imap_unordered(many, jobs.all()):
-            for played in done:
-                plays.add(played)
-            jobs.done(plays.broken is not None)
+        try:
+            for done in pool.imap_unordered(many, jobs.all()):
+                for played in done:
+                    plays.add(played)
+                jobs.done(plays.broken is not None)
+        except Ended as why:
+            raise SystemExit(*why.args) from None
+        finally:
+            jobs.done(is_over=True)     # else the pool would wait for the jobs that wait for it
     plays.tell(time.monotonic() - began, args)
     if not plays.broken:
         return 0
@@ -262,7 +284,7 @@ class Counts:
         self.events.update(played.counts)
         if played.excused:
             self.excused[played.excused] += 1
-        if played.is_none and played.why_none:
+        if played.why_none:
             self.none[played.why_none] += 1
         for name, count in played.least.items():
             self.least[name] = min(self.least[name], count)

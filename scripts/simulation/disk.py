@@ -139,6 +139,7 @@ class Machine:
         self.memory: dict[str, tuple[str, int, int]] = {}
         self.boot = world.new_number()
         self.is_cut_off = False             # from the server
+        self.disturbed_until = 0.0          # when it was last cut off, or a supervisor of it stood still
 
     def lose_power(self, dice: random.Random) -> list[Folder]:
         """The power goes, and files lose what isn't on the disk; the folders of which that takes something that was kept."""

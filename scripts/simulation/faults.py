@@ -97,6 +97,32 @@ def put_back(run: "Run", dice: random.Random) -> None:
     run.taint([machine.folders[number]], "IsPutBack")
 
 
+def restored(run: "Run", dice: random.Random) -> None:
+    """The disk of a machine on which the server runs too is put back to how it was some seconds ago. The other machines run on."""
+    world, machine, seconds = run.world, dice.choice(run.world.machines), dice.choice([0.3, 1.0, 3.0])
+    if not world.is_over_server:
+        return copied(run, dice)
+    older = {number: folder.copied(machine) for number, folder in machine.folders.items()}
+    for number, copy in older.items():
+        world.note("IsCopied")
+        world.steps.copied(machine.folders[number], copy, is_stored=True)
+
+    def restore() -> None:
+        if world.is_calm or older.keys() != machine.folders.keys() or not world.server.is_up:
+            return
+        run.switch_off(machine)
+        machine.memory, machine.boot = {}, world.new_number()
+        for number, copy in older.items():
+            folder = machine.folders[number]
+            world.note("MachineStarts")
+            world.note_brought_back(copy)
+            folder.put_back(copy)
+            world.steps.put_back(folder, copy, folder)
+        run.taint(machine.folders.values(), "IsPutBack")
+        server_goes(run, dice, lambda: server_forgets(run, seconds))
+    world.clock.after(seconds, restore)
+
+
 def lost(run: "Run", dice: random.Random) -> None:
     machine, folder = run.some_folder(dice)
     if dice.random() < 0.5:
@@ -156,8 +182,9 @@ def paused(run: "Run", dice: random.Random) -> None:
     """A supervisor stands still, as a laptop's that sleeps; or its clock jumps."""
     if supervisor := run.some_supervisor(dice):
         run.world.note("paused")
-        run.disturb()
-        supervisor.paused_until = run.world.clock.now + dice.choice([0.3, 4.0, 8.0])
+        seconds = dice.choice([0.3, 4.0, 8.0])
+        run.disturb(supervisor.machine, seconds)
+        supervisor.paused_until = run.world.clock.now + seconds
 
 
 def jumped(run: "Run", dice: random.Random) -> None:
@@ -175,7 +202,7 @@ def cut_off(run: "Run", dice: random.Random) -> None:
 
 def cut_off_for(run: "Run", machine: Machine, seconds: float) -> None:
     run.world.note("cut-off")
-    run.disturb()
+    run.disturb(machine, seconds)
     machine.is_cut_off = True
 
     def again() -> None:
@@ -270,7 +297,7 @@ def gone(run: "Run", dice: random.Random) -> None:
     seconds, supervisor = dice.uniform(7.0, 14.0), run.supervisors.get(machine.name)
     how = dice.choice(["off", "cut off", "still"])
     run.world.note("gone")
-    run.disturb()
+    run.disturb(machine, seconds)
     if how == "off":
         run.switch_off(machine)
         run.rest(machine, seconds)
@@ -281,8 +308,8 @@ def gone(run: "Run", dice: random.Random) -> None:
 
 
 FAULTS: dict[Callable[["Run", random.Random], None], float] = {
-    killed_keeper: 6, killed_supervisor: 5, stopped: 4, lost_power: 0.7, lost_all_power: 0.15, lost_end: 0.2, copied: 2.5, put_back: 0.6,
-    lost: 0.25, lost_file: 0.25, changed_word: 0.2, ran_copy: 0.6, paused: 2, jumped: 1.5, cut_off: 3, server_goes: 2, server_loses_end: 1.5,
+    killed_keeper: 6, killed_supervisor: 5, stopped: 4, lost_power: 0.7, lost_all_power: 0.15, restored: 0.4, lost_end: 0.2, copied: 2.5,
+    put_back: 0.6, lost: 0.25, lost_file: 0.25, changed_word: 0.2, ran_copy: 0.6, paused: 2, jumped: 1.5, cut_off: 3, server_goes: 2, server_loses_end: 1.5,
     server_loses_all: 0.5, server_comes_from_backup: 0.2, passed_by_hand: 1.5, gone: 1.2,
     passed_to_a_stopped_site: 0.4,
 }

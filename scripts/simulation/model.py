@@ -12,19 +12,27 @@ comes. Some things happen otherwise than the model has them, and are written as 
 - An ask that is asked again under its key is another one. Its answer, if another one got it, is told of that one; and of an earlier life
   it is no news, and written as unknown.
 - Where a standby takes the place of a site, the folder of that site is lost: what it does from then on counts for nothing. Where a second
-  folder of a site opens, the life of the first one ends; if its process sends something after that, nobody may read it.
+  folder of a site opens, the first one is closed; if its process sends something all the same, it opens again just before.
+- A packet that comes to the server once no folder has it any more is appended by one that is made for it, of no site.
 - A folder that has lost passes, and whose site doesn't have the token, is made again with them before it starts: the start learns of them
   from the others, and takes no token that it had before.
 - A folder that is made again has what was found, without passes that nobody has any more. Where it lacks what the old one had, the old one
-  is lost first."""
+  is lost first.
 
-from collections.abc import Callable, Iterable, Sequence
+Two things that happen are no steps of the model, since its laws don't hold where they do; the steps that they come to are known as such
+before anybody decides. A site opens, and a folder or a stream has more of it that it doesn't reach: which supervisors run, and what they
+know, says whether it does. And a process goes on after another folder of its site was opened, and sends something though that has more of
+the site; or somebody reads what it sends after a standby has taken the site's place."""
+
+from collections.abc import Callable, Generator, Iterable, Sequence
 from functools import partial
 from typing import TYPE_CHECKING, Any
 
 from shop_tool.carrier.answers import Answer
+from shop_tool.carrier.asking import Ask
 from shop_tool.carrier.keys import UNDECIDED
 from shop_tool.carrier.records import bytes_of
+from shop_tool.carrier.steps import Say
 
 if TYPE_CHECKING:
     from .disk import Folder, Keeper, Machine
@@ -36,14 +44,19 @@ NOTHING = ("nothing was given to it", "nothing more was given to it", "nothing w
 SENDS = (b",ok,", b",passed\n")             # how answers go on that send a packet
 UNKNOWN = ("may still be accepted", "isn't known", "published", "accepted here")
 
+# What happens and is no step of the model.
+UNREACHED = "a site is opened that doesn't reach what has more of it"
+WENT_ON = "a process goes on after another folder of its site was opened"
+
 
 class Step:
-    """A line of the list; one that turns out not to have happened for the model is void."""
+    """A line of the list. One that turns out not to have happened for the model is void; one that the model doesn't have says why."""
 
-    __slots__ = ("text", "is_void")
+    __slots__ = ("text", "is_void", "why_none")
 
     def __init__(self, text: str, is_void: bool = False) -> None:
         self.text, self.is_void = text, is_void
+        self.why_none: str | None = None
 
 
 class Given:
@@ -60,15 +73,51 @@ class Slot:
         self.number, self.site = number, site
         self.packets: list[Packet] = []
         self.life = 0                                   # in which it runs, or 0
-        self.start: tuple[Step, list[Packet]] | None = None     # how that began, and with which packets
+        self.start: tuple[Step, list[Packet], int] | None = None    # how that began, with which packets, and after how many passes of all sites
         self.end: Step | None = None                    # how the life before ended
-        self.is_open = False
+        self.has_opened = self.is_open = False          # its process takes asks; and, since it was opened, no other one does
+        self.was_closed = False                         # another one was opened since
+        self.is_remembered = False                      # its machine knows that it was the last of its site to open, and lost nothing
         self.waiting: dict[bytes, list[int]] = {}       # the asks that this life has taken and not settled, by their records
         self.accepted: dict[bytes, int] = {}            # and those that its site has accepted
         self.given: list[Given] = []                    # what its keeper was given and hasn't kept
-        self.harms: list[Callable[[], None]] = []       # what happened to its files while it ran
+        self.harms: list[Callable[[], object]] = []       # what happened to its files while it ran
         self.draining: "Keeper | None" = None           # the keeper that outlives its supervisor
         self.is_stored = False                          # a copy that nobody sees unless it is put back
+
+    def last(self, kind: str) -> int:
+        """The number of the last message of its site, or the last turn that this passed on."""
+        return max((packet[2] for packet in self.packets if packet[:2] == (kind, self.site)), default=0)
+
+    def taken(self) -> int:
+        """The last turn of the token that its site took."""
+        return max((packet[2] for packet in self.packets if packet[0] == "p" and packet[3] == self.site), default=0)
+
+    def behind(self) -> Callable[[Iterable[Packet]], list[Packet]]:
+        """Says which packets its site may send again, under their names: those of it that are beyond what the folder has."""
+        last = {"m": self.last("m"), "p": max(self.last("p"), self.taken())}
+        return lambda packets: [packet for packet in packets if packet[1] == self.site and packet[2] > last[packet[0]]]
+
+
+class Asking(Generator[tuple[Any, ...], Any, None]):
+    """The steps of an asker, who notes whose answer is said."""
+
+    def __init__(self, steps: "Steps", asks: Sequence[int], ask: Ask, run: Generator[tuple[Any, ...], Any, None]) -> None:
+        self._steps, self._asks, self._ask, self._run = steps, asks, ask, run
+
+    def _noted(self, step: tuple[Any, ...]) -> tuple[Any, ...]:
+        if isinstance(step, Say):
+            self._steps.told = self._asks[self._ask.answered]
+        return step
+
+    def send(self, said: Any) -> tuple[Any, ...]:
+        return self._noted(self._run.send(said))
+
+    def throw(self, *raised: Any) -> tuple[Any, ...]:
+        return self._noted(self._run.throw(*raised))
+
+    def close(self) -> None:
+        self._run.close()
 
 
 class Steps:
@@ -80,17 +129,29 @@ class Steps:
         self.slots: list[Slot] = []
         self.streams: list[list[Packet]] = [[] for _ in range(world.sites)]
         self.begun = self.asks = 0
-        self.has_gone_on = False                        # whether a process sent something whose site had another one by then
+        self.told: int = 0                              # the ask whose answer is said
+        self.replaced: "set[Folder]" = set()            # those of which a standby took the place
+        self.gone_on: set[Packet] = set()               # what processes sent whose sites had others by then
         self.lives: dict[str, int] = {}                 # the numbers of lives, by their texts
         self.called: dict[bytes, list[int]] = {}        # the asks of a call to another supervisor
         self.known: dict[bytes, Packet] = {}            # the packets that texts are
+        self.passes: list[Packet] = []                  # those that were made, in their order
         self.last: dict[Packet, tuple[Step, dict[Slot, int]]] = {}      # where each was last before it was lost, and what folders had then
+        self.lost_by: dict[Packet, Step] = {}           # by which step each was lost last in a folder
+        self.unseen: dict[Slot, tuple[Step, list[Packet], Step]] = {}   # stored copies that are as good as lost, what they had, and what opened
         for site, folder in sorted((site, folder) for machine in world.machines for site, folder in machine.folders.items()):
             folder.slot = Slot(site, site)
             self.slots.append(folder.slot)
 
     def lines(self) -> list[str]:
-        return ["Server" if self.world.is_over_server else "Files"] + [step.text for step in self.list if not step.is_void]
+        return ["Server" if self.world.is_over_server else "Files"] + [step.text for step in self._happened()]
+
+    def none(self) -> dict[int, str]:
+        """The lines that are no steps of the model, by number, and why."""
+        return {at: step.why_none for at, step in enumerate(self._happened(), 1) if step.why_none}
+
+    def _happened(self) -> list[Step]:
+        return [step for step in self.list if not step.is_void]
 
     def _add(self, word: str, *fields: object, is_void: bool = False, before: Step | None = None) -> Step:
         step = Step(",".join(map(str, (word, *fields))), is_void)
@@ -121,39 +182,80 @@ class Steps:
             self._end_life(slot)
         self.begun += 1
         slot.life = self.lives[life] = self.begun
-        slot.start = self._add("Starts", slot.number), list(slot.packets)
+        slot.start = self._add("Starts", slot.number), list(slot.packets), len(self.passes)
 
     def opens(self, folder: "Folder") -> None:
         slot = folder.slot
-        if not slot or slot.is_open or not slot.life:
+        if not slot or slot.has_opened or not slot.life:
             return
-        for other in self.slots:
-            if other is not slot and other.site == slot.site and other.is_open:
-                accepted = other.accepted
-                self._end_life(other)       # it is fenced, or will be
-                other.accepted = accepted
-        for other in self.slots:
-            if other.is_stored and any(self._is_ahead(packet, slot) for packet in other.packets):
-                self._lose(other)           # unless it is put back, it is as good as lost
-        self._learn_passes(slot, folder.keeper)
-        slot.is_open = True
-        self._add("Opens", slot.number)
+        slot.has_opened = True
+        beyond = slot.behind()
+        stored = [(other, list(other.packets)) for other in self.slots if other.is_stored and beyond(other.packets)]
+        lost = [self._lose(other) for other, _ in stored]       # unless it is put back, it is as good as lost
+        self._learn_passes(slot, folder)
+        step = self._open(slot, None if slot.is_remembered or not self._is_unreached(folder, slot) else UNREACHED)
+        self.unseen.update((other, (loss, packets, step)) for (other, packets), loss in zip(stored, lost))
 
-    def _learn_passes(self, slot: Slot, keeper: "Keeper | None") -> None:
+    def _is_seen_again(self, slot: Slot) -> None:
+        """A stored copy is put back that was as good as lost where a site was opened: that site didn't reach it."""
+        if slot in self.unseen:
+            loss, slot.packets, opened = self.unseen.pop(slot)
+            loss.is_void, opened.why_none = True, UNREACHED
+
+    def _open(self, slot: Slot, why_none: str | None) -> Step:
+        for other in self.slots:
+            if other.site == slot.site:
+                if other.is_open:
+                    self._add("Closes", other.number)       # it is fenced, or will be
+                    other.is_open, other.was_closed = False, True
+                other.is_remembered = False
+        slot.is_open = slot.is_remembered = True
+        step = self._add("Opens", slot.number)
+        step.why_none = why_none
+        return step
+
+    def _open_again(self, slot: Slot) -> None:
+        """Its process goes on after another folder of its site was opened."""
+        if slot.has_opened and not slot.is_open:
+            is_behind = any(map(slot.behind(), [*(other.packets for other in self.slots), *self.streams]))
+            self._open(slot, WENT_ON if is_behind else None)
+
+    def _learn_passes(self, slot: Slot, folder: "Folder") -> None:
         """Where a folder has lost passes, and its site doesn't have the token, the start learns of them from the others."""
-        passed = max((its[2] for its in slot.packets if its[:2] == ("p", slot.site)), default=0)
-        taken = max((its[2] for its in slot.packets if its[0] == "p" and its[3] == slot.site), default=0)
-        places = [*(other.packets for other in self.slots), *self.streams]
-        lost = {packet: None for place in places for packet in place if packet[:2] == ("p", slot.site) and packet[2] > passed}
-        is_without = passed > taken or not taken and slot.site or keeper and keeper.site.issued is None
-        if lost and slot.start and is_without:
-            step, had = slot.start
+        if not slot.start:
+            return
+        taken, beyond, is_cut_off = slot.taken(), slot.behind(), self._is_cut_off(folder)
+        step, had, passes = slot.start
+        places = [other.packets for other in self.slots if beyond(other.packets) and self._reaches(folder, other, is_cut_off)]
+        lost = {packet: None for place in places + self.streams * (not is_cut_off) for packet in beyond(place) if packet in self.passes[:passes]}
+        is_without = slot.last("p") > taken or not taken and slot.site or folder.keeper and folder.keeper.site.issued is None
+        if lost and is_without:
             self._add("Rebuilds", slot.number, *map(self._word, [*had, *lost]), before=step)
+            slot.is_remembered = False
             slot.packets[len(had):len(had)] = lost
 
-    @staticmethod
-    def _is_ahead(packet: Packet, slot: Slot) -> bool:
-        return packet[1] == slot.site and all(packet[2] > its[2] for its in slot.packets if its[:2] == packet[:2])
+    def _is_unreached(self, folder: "Folder", slot: Slot) -> bool:
+        """Whether a site opens that doesn't reach what has more of it."""
+        beyond, is_cut_off = slot.behind(), self._is_cut_off(folder)
+        return is_cut_off and any(map(beyond, self.streams)) or \
+            any(beyond(other.packets) and not self._reaches(folder, other, is_cut_off) for other in self.slots)
+
+    def _is_cut_off(self, folder: "Folder") -> bool:
+        """Whether the supervisor of a folder doesn't reach the server."""
+        return self.world.is_over_server and not any(its.reaches() for its in self.world.supervisors() if its.machine is folder.machine)
+
+    def _reaches(self, folder: "Folder", other: Slot, is_cut_off: bool) -> bool:
+        """Whether what another folder has is known where this one opens: it is beside it, or its site says it to all."""
+        now, said = self.world.clock.now, self.world.server.said
+        for supervisor in self.world.supervisors():
+            for number, site in supervisor.sites.items():
+                if site.folder.slot is other:
+                    if supervisor.machine is folder.machine:
+                        return site.known.is_set
+                    is_said = number in said and said[number][0] > now and not (folder.slot and folder.slot.site == other.site)
+                    return is_said and not is_cut_off and supervisor.reaches() and supervisor.paused_until < now and site.compared.is_set \
+                        and not site.fenced_by
+        return False
 
     def keeper_starts(self, folder: "Folder") -> None:
         if folder.slot:
@@ -176,7 +278,8 @@ class Steps:
 
     def _end_life(self, slot: Slot) -> None:
         slot.end = self._add("IsKilled", slot.number)
-        slot.life, slot.is_open, slot.draining = 0, False, None
+        slot.life, slot.draining = 0, None
+        slot.has_opened = slot.is_open = slot.was_closed = False
         slot.waiting, slot.accepted, slot.given = {}, {}, []
         harms, slot.harms = slot.harms, []
         for harm in harms:
@@ -188,6 +291,7 @@ class Steps:
                 self._harm(folder.slot, partial(self._forget, folder.slot))
 
     def _forget(self, slot: Slot) -> None:
+        slot.is_remembered = False
         self._add("MachineStarts", slot.number)
 
     # Asks.
@@ -222,13 +326,17 @@ class Steps:
         if slot and (asks := slot.waiting.get(record)):
             slot.given.append(Given(keeper, record, asks[0], self._add("Gives", slot.number, asks[0], is_void=True)))
 
+    def asking(self, asks: Sequence[int], ask: Ask, run: Generator[tuple[Any, ...], Any, None]) -> Asking:
+        """The steps of the asker of these."""
+        return Asking(self, asks, ask, run)
+
     def says(self, sites: Iterable["SimulatedSite"], record: bytes, answer: Answer, is_again: bool) -> None:
         """An asker is told an answer."""
+        ask = self.told
         for site in sites:
             slot, head = site.folder.slot, answer.head
             if not slot or not (record in slot.waiting if slot.life else record in slot.accepted):
                 continue
-            ask = (slot.waiting.get(record) or [0])[0]      # under a key others wait for its answer
             if head[2] == b"ok" and (not is_again or record in slot.accepted):
                 word = "TellsPublished" if site.yields else "TellsOk"
                 ask, number = slot.accepted.get(record, 0), int(head[3].split(b".")[1])
@@ -264,16 +372,21 @@ class Steps:
         """A record is in the file `kept`, and will have this answer."""
         folder, slot = keeper.folder, keeper.folder.slot
         is_found = folder.is_there and folder.files.get("kept") is keeper.kept
-        if not slot or not is_found and not (folder.is_there and folder.files.get("out") is keeper.out and said.startswith(SENDS, said.index(b",", 6))):
-            return              # in files that nobody finds again
         head, _, rest = said.partition(b"\n")
         fields = head.split(b",")
+        if not slot or not is_found and not (folder.is_there and folder.files.get("out") is keeper.out and said.startswith(SENDS, said.index(b",", 6))):
+            return self._sent_unseen(keeper, fields, rest)      # in files that nobody finds again
         packet: Packet | None = None
         lost = None
         given = next((given for given in slot.given if given.keeper is keeper and given.record == record), None)
         if given:
             slot.given.remove(given)
             given.step.is_void = fields[2] == b"refused" and fields[4].decode() in UNDECIDED
+            if slot.was_closed and not given.step.is_void:      # it is open again by then
+                self._open_again(slot)
+                self.list.append(self.list.pop(self.list.index(given.step)))
+        elif fields[2] in (b"ok", b"passed"):
+            self._open_again(slot)
         match fields[2]:
             case b"ok":
                 number, ask = int(fields[3].split(b".")[1]), given.ask if given else 0
@@ -281,30 +394,54 @@ class Steps:
                 self.known[rest.rstrip(b"\n")[5:]] = packet
                 if slot.life:
                     slot.accepted[record] = ask
-                    self._add("Accepts", slot.number, ask)
+                    step = self._add("Accepts", slot.number, ask)
+                    self._look_at_name(step, packet, slot.last("m") + 1)
             case b"passed":
                 turn, to = (int(field) for field in rest.rstrip(b"\n").split(b",")[3:5])
-                after = max((its[2] for its in slot.packets if its[:2] == ("m", keeper.number)), default=0)
-                packet = "p", keeper.number, turn, to, after
+                packet = "p", keeper.number, turn, to, slot.last("m")
+                self.passes.append(packet)
                 self.known[rest.rstrip(b"\n")[5:]] = packet
                 if slot.life:
-                    self._add("Passes", slot.number, to)
+                    step = self._add("Passes", slot.number, to)
+                    self._look_at_name(step, packet, slot.taken() + 1)
             case b"holding" | b"released" | b"held":
                 packet = self.known.get(record) if slot.life else None
                 if packet:
-                    lost = None if self._is_offered(packet) else self.last.get(packet)
-                    self._add("Reads", slot.number, self._word(packet), before=lost and lost[0])
+                    is_offered = self._is_offered(packet)
+                    lost = None if is_offered else self.last.get(packet)
+                    step = self._add("Reads", slot.number, self._word(packet), before=lost and lost[0])
+                    if not is_offered and packet in self.gone_on:
+                        step.why_none = WENT_ON
                     if lost:        # it was read before that
                         slot.packets.insert(lost[1].get(slot, 0), packet)
             case b"refused":
                 if given and not given.step.is_void and slot.life:
                     self._add("Refuses", slot.number, given.ask)
         if packet and not slot.life:
-            packet, self.has_gone_on = None, True       # nobody may read what such a process sends
+            self.gone_on.add(packet)        # nobody may read what such a process sends
+            packet = None
         if is_found:
             folder.packets.append(packet)
         if packet and not lost:
             slot.packets.append(packet)
+
+    def _sent_unseen(self, keeper: "Keeper", fields: Sequence[bytes], rest: bytes) -> None:
+        """What a process sends whose folder isn't one of the model any more. It goes on if a standby has taken its site's place."""
+        packet: Packet | None = None
+        match fields[2]:
+            case b"ok":
+                packet = "m", keeper.number, int(fields[3].split(b".")[1]), 0
+            case b"passed":
+                turn, to = (int(field) for field in rest.rstrip(b"\n").split(b",")[3:5])
+                packet = "p", keeper.number, turn, to, 0
+        if packet and self.known.setdefault(rest.rstrip(b"\n")[5:], packet) is packet and keeper.folder in self.replaced:
+            self.gone_on.add(packet)
+
+    def _look_at_name(self, step: Step, packet: Packet, next_one: int) -> None:
+        """A folder has sent a packet: its name is the next one, if no packet stands there that its process sent as it went on."""
+        names = {its[:3] for its in self.gone_on}
+        if packet[2] != next_one and (*packet[:2], next_one) in names:
+            step.why_none = WENT_ON
 
     # What a server has.
 
@@ -317,7 +454,7 @@ class Steps:
         """A folder that runs carries it, one of these first. Else it comes late, or a command carries it, and the folder runs as long as that."""
         slots = sorted((slot for slot in self.slots if packet in slot.packets), key=lambda slot: (slot.life > 0, slot in first, slot.site == packet[1]))
         if not slots:
-            return
+            return self._append_late(packet)
         slot = slots[-1]
         if not slot.life:
             self.begun += 1
@@ -326,6 +463,18 @@ class Steps:
         self.streams[packet[1]].append(packet)
         if not slot.life:
             self._add("IsKilled", slot.number)
+
+    def _append_late(self, packet: Packet) -> None:
+        """It was on its way as the last folder that had it lost it: another one, of no site, had it alone."""
+        step = self.lost_by.get(packet)
+        if step and packet not in self.gone_on:
+            number = len(self.slots)
+            slot = Slot(number, number)
+            self.slots.append(slot)
+            self._add("Rebuilds", number, self._word(packet), before=step)
+            slot.packets.append(packet)
+            self._append(packet, [])
+            self._lose(slot)
 
     def writes_anew(self, folder: "Folder", site: int, texts: Sequence[bytes]) -> None:
         slot = folder.slot
@@ -363,7 +512,7 @@ class Steps:
 
     # What happens to files.
 
-    def _harm(self, slot: Slot, harm: Callable[[], None]) -> None:
+    def _harm(self, slot: Slot, harm: Callable[[], object]) -> None:
         if slot.life:
             slot.harms.append(harm)
         else:
@@ -376,7 +525,7 @@ class Steps:
             made.slot.is_stored = is_stored
 
     def _copy(self, slot: Slot, other: Slot) -> None:
-        self._add("IsCopied", slot.number, other.number)
+        self._note_lost(self._add("IsCopied", slot.number, other.number), other)
         other.packets, other.site = list(slot.packets), slot.site
 
     def put_back(self, folder: "Folder", older: "Folder", made: "Folder") -> None:
@@ -386,6 +535,7 @@ class Steps:
             return
         folder.slot = None
         made.slot = slot
+        self._is_seen_again(its)
         self._harm(slot, partial(self._copy, its, slot))
 
     def lost(self, folder: "Folder", made: "Folder") -> None:
@@ -401,9 +551,16 @@ class Steps:
             folder.slot = None
             self._harm(slot, partial(self._lose, slot))
 
-    def _lose(self, slot: Slot) -> None:
-        self._add("IsLost", slot.number)
+    def _note_lost(self, step: Step, slot: Slot) -> None:
+        """By this step a folder loses some of what it has; it is stopped then."""
+        slot.is_remembered = False
+        self.lost_by.update((packet, step) for packet in slot.packets)
+
+    def _lose(self, slot: Slot) -> Step:
+        step = self._add("IsLost", slot.number)
+        self._note_lost(step, slot)
         slot.packets = []
+        return step
 
     def lost_end(self, folder: "Folder") -> None:
         """Of a folder no more is left than its files have: what it sent may stand in `out` alone."""
@@ -417,12 +574,12 @@ class Steps:
         if left + len(sent) == len(slot.packets):
             return
         if not sent:
-            self._add("LosesEnd", slot.number, left)
+            self._note_lost(self._add("LosesEnd", slot.number, left), slot)
             self._note_gone(slot.packets[left:])
             del slot.packets[left:]
         else:
             copy = self._copy_of(slot)
-            self._add("LosesEnd", slot.number, left)
+            self._note_lost(self._add("LosesEnd", slot.number, left), slot)
             slot.packets[left:] = sent
             self._add("Rebuilds", slot.number, *map(self._word, slot.packets))
             self._lose(copy)
@@ -437,7 +594,7 @@ class Steps:
     def _change(self, slot: Slot, folder: "Folder", left: list[Packet]) -> None:
         sent = self._sent(slot, folder, left)
         copy = self._copy_of(slot) if sent else None
-        self._add("IsChanged", slot.number, *map(self._word, left))
+        self._note_lost(self._add("IsChanged", slot.number, *map(self._word, left)), slot)
         slot.packets = left + sent
         if copy:
             self._add("Rebuilds", slot.number, *map(self._word, slot.packets))
@@ -487,7 +644,10 @@ class Steps:
         for folder in before:
             if slot := folder.slot:
                 folder.slot = None
+                self.replaced.add(folder)
                 self._end_life(slot)
+                elsewhere = {packet for its in [*(its.packets for its in self.slots if its is not slot), *self.streams] for packet in its}
+                self.gone_on.update(packet for packet in slot.packets if packet[1] == site and packet not in elsewhere)
                 self._lose(slot)
 
     def _rebuild(self, slot: Slot, made: "Folder") -> None:
@@ -500,5 +660,5 @@ class Steps:
             self._add("Rebuilds", slot.number, *map(self._word, packets))
             self._lose(copy)
         else:
-            self._add("Rebuilds", slot.number, *map(self._word, packets))
+            self._note_lost(self._add("Rebuilds", slot.number, *map(self._word, packets)), slot)
         slot.packets = packets

@@ -26,7 +26,6 @@ FIRST_TURNS = 6             # how many red asks there are at alternate sites bef
 LAST = 10 ** 6              # the number of the first of the last asks
 GIVEN_TWICE = "an id or a turn was given twice by a site that couldn't reach what knew of it"
 OPENED_UNREACHED = "a site was opened that couldn't reach what has more of it"
-WENT_ON = "a process went on whose site had another one by then"
 EXACT = 15                  # how often an operator tries to rebuild a site before he says --anyway
 
 
@@ -247,8 +246,11 @@ class Run:
             folder.is_whole = folder.is_whole and is_whole
         self.note_losses()
 
-    def disturb(self) -> None:
-        self.world.disturbed_at = self.world.clock.now
+    def disturb(self, machine: Machine | None = None, seconds: float = 0.0) -> None:
+        """A connection is cut off, or a process stands still: of a machine for so long."""
+        now = self.world.disturbed_at = self.world.clock.now
+        if machine:
+            machine.disturbed_until = max(machine.disturbed_until, now + seconds)
 
     # What was lost, as it may be.
 
@@ -319,11 +321,6 @@ class Run:
                 + " ".join(f"{site.number}:{site.state}{'' if site.compared.is_set else ' not compared'} ({site.fenced_by or site.fault})"
                            for site in supervisor.sites.values()) for name, supervisor in self.supervisors.items()]
         return "; ".join(said)
-
-    def why_no_steps(self) -> str | None:
-        """Why its list of steps may be no run of the model, which has no such things."""
-        why = self.why_excused()
-        return why if why in (GIVEN_TWICE, OPENED_UNREACHED) else WENT_ON if self.world.steps.has_gone_on else None
 
     def why_excused(self) -> str | None:
         """Why so much was lost that the shop may not go on, if it was."""

@@ -38,6 +38,7 @@ class Server:
     def __init__(self, clock: "Clock", sites: int, is_always: bool) -> None:
         self.clock, self.sites, self.is_always = clock, sites, is_always
         self.is_up = True
+        self.gone_at = self.came_at = -10.0     # when it went away last, and came back
         self.times = 0                      # how often it was started: a connection is of one of them
         self.news = Signal()                # an entry came, or it went away
         self.log: list[tuple[float, Callable[[], None]]] = []
@@ -76,11 +77,13 @@ class Server:
     def go(self) -> None:
         """It goes away, and all connections break."""
         self.is_up = False
+        self.gone_at = self.clock.now
         self.times += 1
         self.news.tell()
 
     def come(self) -> None:
-        self.is_up = True
+        if not self.is_up:
+            self.is_up, self.came_at = True, self.clock.now
 
     # Steps.
 

@@ -10,6 +10,7 @@ from typing import Any
 from shop_tool.carrier.asking import Ask
 from shop_tool.carrier.ledger import packets_of, sends_of, tokens_of
 from shop_tool.carrier.lives import life_text, placed
+from shop_tool.carrier.opening import HEARD_SECONDS
 from shop_tool.carrier.over_files import FileLink
 from shop_tool.carrier.over_server import ServerLink
 from shop_tool.carrier.rebuilding import UNCHANGED
@@ -549,7 +550,7 @@ class Supervisor(Process, Shop):
         self.began = self.clock.now
         self.stopped_at: float | None = None
         self.is_gone = Flag()
-        self.takers: set[tuple[int, int]] = set()
+        self.takers: set[tuple[int, str, int]] = set()
         self.sites = {number: SimulatedSite(self, number) for number in machine.here}
         if world.standby and world.standby[1] is machine and world.standby[0] not in machine.here:
             self.standby, self.after = (world.standby[0],), 3.0
@@ -657,6 +658,7 @@ class Supervisor(Process, Shop):
         keeper = self.sites[site.number].keeper
         assert keeper
         messages = keeper.site.release.counts[site.number]
+        self._look_at_those_that_ran_on(site, keeper.site)
         self.world.note_unreached(site.number, keeper.folder, keeper.site, self.wants.turn)
         own = dict(sends_of(keeper.folder.lines("out")))
         for other in self.sites.values():
@@ -671,6 +673,26 @@ class Supervisor(Process, Shop):
         for number, (until, said) in self.world.server.said.items():
             if number not in self.sites and until > self.clock.now and said["has"][str(site.number)] > messages:
                 raise Violation(f"site {site.number} is opened with {messages} messages, and site {number} says that it has {said['has']}")
+
+    def _look_at_those_that_ran_on(self, site: Site, opens: StandIn) -> None:
+        """The server came back a moment ago, and may have lost its end: a site whose folder may lack something is opened only once the sites
+        elsewhere that ran on meanwhile have said again what they have. Where a site has two processes, one of them may have said it; and by a
+        clock that jumps the time that they have for it is over at once."""
+        world, server = self.world, self.world.server
+        if site.answered is not None or self.skew or self.clock.now > server.came_at + HEARD_SECONDS or world.counts["copy-runs"] or world.taken_over:
+            return
+        messages, held = opens.release.counts[site.number], opens.turn if opens.issued is not None else None
+        for other in (its for supervisor in world.supervisors() if supervisor.ran_on() for its in supervisor.sites.values()):
+            if other.number not in self.sites and other.compared.is_set and not other.fenced_by:
+                ledger = other.ledger
+                if ledger.have[site.number].upto > messages or held is not None and ledger.turn > held:
+                    raise Violation(f"site {site.number} is opened with {messages} messages and the token of turn {held}, and site {other.number}, "
+                                    f"which ran on, has {ledger.have[site.number].upto} and that of turn {ledger.turn}")
+
+    def ran_on(self) -> bool:
+        """Whether it has run, and nothing stood in its way, since the server went away last."""
+        since = self.world.server.gone_at
+        return self.began < since and self.machine.disturbed_until < since and not self.is_leaving
 
     def failed(self, fault: Exception) -> None:
         if isinstance(fault, Violation):
@@ -776,7 +798,7 @@ class Supervisor(Process, Shop):
         ask = Ask(site, request["timeout"], asked.fetches_token)
         steps.serves(site.folder, asks, asked.records)
         try:
-            yield from ask.run(asked.records, asked.names)
+            yield from steps.asking(asks, ask, ask.run(asked.records, asked.names))
             if asked.published:
                 yield from ask.published()
         except Fault as fault:
@@ -805,9 +827,9 @@ class Supervisor(Process, Shop):
             self.world.note("stopped")
             self.spawn(self._leave())
 
-    def _takers(self) -> set[tuple[int, int]]:
-        """The sites elsewhere that could take the token now, each with how often it was started; none where one here couldn't pass it, or
-        a connection failed."""
+    def _takers(self) -> set[tuple[int, str, int]]:
+        """The sites elsewhere that could take the token now, each with its life and how often it was started in that: one that was killed
+        while the stop went on may be up again, but too late to be asked. None where one here couldn't pass it, or a connection failed."""
         holder = next((site for site in self.sites.values() if site.ledger.holds_token), None)
         link = self.link
         if not isinstance(link, SimulatedServerLink) or not self.reaches() or link.down or self.world.disturbed_at > self.clock.now - 3:
@@ -815,7 +837,7 @@ class Supervisor(Process, Shop):
         if not holder or not self.may_give(holder) or holder.is_passing or not all(site.known.is_set for site in self.sites.values()):
             return set()        # what stands in the files of one that can't be started may be anything
         said = self.world.server.do(self, Statuses())
-        return {(site.number, site.starts) for other in self.world.supervisors() if other.machine.name != self.machine.name
+        return {(site.number, site.lives[-1], site.starts) for other in self.world.supervisors() if other.machine.name != self.machine.name
                 for site in other.sites.values()
                 if site.number not in self.sites and other.reaches() and isinstance(other.link, SimulatedServerLink)
                 and not other.link.down and not other.is_leaving and other.paused_until + 3 < self.clock.now

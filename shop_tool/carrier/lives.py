@@ -29,7 +29,11 @@ def count_of(seen: str | None) -> int:
 
 
 def takes_place(lives: Sequence[str], seen: str | None) -> bool:
-    """Whether the folder was made again, or adopted, since that life was seen, or where none was."""
+    """Whether the folder was made again, or adopted, since that life was seen, or where none was. Counts decide, since a server that lost its
+    end may say any earlier life, which this folder needn't know. A folder that was made later, in the place of this one, has a greater count,
+    unless all that was seen was lost before that. Then this one may have the site again while the later one isn't running: what it has by
+    then is compared, each packet that stands in the stream or that a site which runs has, and from then on nothing is appended that the later
+    one sends. So no number is given twice but one that nobody in reach has, as where nothing at all was seen."""
     place = max((at for at, life in enumerate(lives, 1) if life.startswith(PLACE)), default=0)
     return 0 < place and (not seen or 0 < count_of(seen) <= place)
 

@@ -73,6 +73,8 @@ class Publisher:
             raise Elsewhere(why)
         while True:
             state: StreamState = yield State(site.number)
+            if standing(site.lives, state.life) is Standing.OTHER:
+                site.doubt()
             if not (yield from self._has_site(state)):
                 continue
             if not site.compared.is_set and ((yield from self._waited_for_others()) or (yield from self._waited_for_another())):
@@ -152,6 +154,7 @@ class Publisher:
         first = None
         while runs_elsewhere(status := (yield Statuses()).get(self.site.number), self.link.named(self.site)):
             assert status
+            self.site.doubt()
             if first not in (None, status.get("told")):
                 raise Elsewhere(f"{str(status.get('by')).split(' ', 2)[-1]} runs it (shop adopt {self.site.number}, if that is gone for good)")
             first = status.get("told")

@@ -15,6 +15,7 @@ from .turns import SAY_AGAIN, Wants, taker
 
 HAND_OVER_SECONDS = 2.0     # how long a stop waits until a site elsewhere has taken the token
 ANSWER_SECONDS = 0.5        # how long supervisors elsewhere have to say that they could take it
+AGAIN_SECONDS = 0.2         # until they are asked again
 LOOK_SECONDS = 0.05
 WHERE_SECONDS = 0.5         # how long it is looked where the token is, once the time of an asker is over
 
@@ -268,9 +269,12 @@ class Shop(abc.ABC):
             if holder.is_passing or not holder.ledger.holds_token or not self.may_give(holder):
                 yield Wait(self.progress)       # it is on its way
                 continue
-            to = taker(self.wants.waiting(), (yield from self._turns_at((yield UpElsewhere()), ANSWER_SECONDS)))
-            if to is None:
+            if not (running := (yield UpElsewhere())):
                 return
+            to = taker(self.wants.waiting(), (yield from self._turns_at(running, ANSWER_SECONDS)))
+            if to is None:
+                yield Wait(None, AGAIN_SECONDS)     # one that gave no answer may give one yet, or be started again
+                continue
             yield from self._hand_to(holder, to)
         if not holder:
             self.stays = None

@@ -254,6 +254,11 @@ class Site(abc.ABC):
             self.shop.progress.tell()
             self.kill()
 
+    def doubt(self) -> None:
+        """Another process of the site has run, or may run: that its folder has all that it answered itself says no more that nothing is missing,
+        so it isn't opened any more where what the others have can't be seen."""
+        self.answered = None
+
     def end(self) -> None:
         """It isn't started again: all who wait are told that no answer comes."""
         self.become(State.FENCED if self.fenced_by else State.ENDED)

@@ -1,5 +1,6 @@
 """A shop whose sites are told what they answer, for tests of the machines of the carrier."""
 
+import contextlib
 import errno
 from collections.abc import Callable
 from typing import Any
@@ -108,15 +109,14 @@ class OverServer(ServerLink):
         return lambda: None
 
 
-def done(steps: Steps[Any], answers: dict[type, Any]) -> list[tuple[Any, ...]]:
-    """Has steps done with these answers, until one waits for something; what they were."""
-    asked, said = [], None
-    try:
-        while True:
+def done(steps: Steps[Any], answers: dict[type, Any], upto: int | None = None) -> list[tuple[Any, ...]]:
+    """Has steps done with these answers until one waits for something, or as many as `upto`; what they were."""
+    asked, said = list[tuple[Any, ...]](), None
+    with contextlib.suppress(StopIteration):
+        while upto is None or len(asked) <= upto:
             step = steps.send(said)
             asked.append(step)
             if isinstance(step, Wait) and not (step.signal and step.signal.is_set):
-                return asked
+                break
             said = True if isinstance(step, Wait) else answers[type(step)]
-    except StopIteration:
-        return asked
+    return asked

@@ -251,10 +251,22 @@ class HandingOver(unittest.TestCase):
         self.assertEqual(self.shop.stays, "the token goes to site 1, which hasn't taken it yet")
 
     def test_it_stays_where_nobody_takes_it(self) -> None:
+        steps = self.shop.hand_over()
+        steps.send(None)
+        steps.send(None)
+        self.assertRaises(StopIteration, steps.send, set())
+        self.assertEqual(self.shop.stays, "the token stays with site 0, since no site elsewhere takes it")
+
+    def test_those_that_do_not_take_it_are_asked_again(self) -> None:
+        """One that was killed may have been started again by then; the two seconds that a stop has end it."""
         for answers in ({}, {1: [{"shop": {"stopping": True, "site": [{"site": 1, "turn": 0}]}}]}):
             steps = self.shop.hand_over()
             steps.send(None)
-            steps.send(None)
+            self.assertEqual(steps.send(None), UpElsewhere())
+            self.assertIsInstance(steps.send({1}), CallAll)
+            self.assertIsInstance(steps.send(answers), Wait)
+            self.assertEqual(steps.send(True), UpElsewhere())
             steps.send({1})
-            self.assertRaises(StopIteration, steps.send, answers)
-            self.assertEqual(self.shop.stays, "the token stays with site 0, since no site elsewhere takes it")
+            self.assertIsInstance(steps.send({1: [{"shop": {"stopping": False, "site": [{"site": 1, "turn": 0}]}}]}), Wait)
+            self.assertEqual(self.shop.sites[0].given, b"pass,1\n")
+            self.setUp()

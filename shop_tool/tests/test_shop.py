@@ -31,6 +31,16 @@ class Opening(unittest.TestCase):
             shop.link.fail(f"publish {site}", "away")
         self.assertEqual([site.opened.is_set for site in shop.sites.values()], [True, False])
 
+    def test_one_that_has_seen_another_process_of_it_opens_unseen_no_more(self) -> None:
+        """A clone of the folder ran meanwhile, or runs, and the server goes away before the site is stopped for that."""
+        for seen in (self.answers(life="2 b") | {Owner: "me:1 here:0"}, self.answers(statuses={0: {"by": "boot me:1 clone:0", "told": 1.0}})):
+            shop = Supervisor(OverServer, 1)
+            assert isinstance(shop.link, OverServer)
+            shop.begin_site(shop.sites[0], 100)
+            done(Publisher(shop.link, shop.sites[0])._compare(), seen, upto=2 if seen[State].life else None)
+            shop.link.fail("publish 0", "away")
+            self.assertFalse(shop.sites[0].opened.is_set or shop.sites[0].fenced_by)
+
     def test_alone_it_opens(self) -> None:
         shop = Supervisor(OverServer, 1, is_alone=True)
         shop.begin_site(shop.sites[0], None)

@@ -1,7 +1,7 @@
 -- The program's exit status for a site in a folder.
 use Rattle.std.specs.Prelude.{ℕ}
-use Rattle.rubis_keep.specs.declared.folder_fault.FolderFault.{FolderFault}
-use Rattle.rubis_keep.specs.declared.folder_fault.FolderFault.TheVariants as folder
+use Rattle.rubis_keep.specs.declared.fault.FolderFault.{FolderFault}
+use Rattle.rubis_keep.specs.declared.fault.FolderFault.TheVariants as folder
 
 -- the status of a site in a folder that isn't run, or ended early: a folder without a name, without a site to shorten, or of another
 -- site than was asked for is a mistake, and all else a fault of the run

@@ -16,10 +16,11 @@ ghost use Rattle.rubis_app.specs.Statuses.{status_of};
 use rubis_audit::{Auditor, Grammar, LogQuestion, Tally, run_auditor, run_check, run_widen};
 use rubis_command::{
     CheckOptions, FAULT, Invocation, KeepOptions, LackOptions, MISUSE, NOT_WELL, Options, Reading,
-    SetupOptions, Widening, config_of, end, fail, misuse, read_words, run_site_command, words_of,
+    SetupOptions, Widening, end, fail, misuse, read_site, read_words, words_of,
 };
 use rubis_keep::{FolderFault, Setup as Place, Wanted, keep_folder};
 use rubis_schema::{Hashes, KEEP_MAX, RECORDS_MAX, SITES_MAX};
+use rubis_script::run_last_site;
 use rubis_world::{Count, RunFault, WorldConfig, WorldDesk, run_waiting, run_world_desk};
 use std::fs::{File, Files};
 use std::process::ExitCode;
@@ -38,6 +39,24 @@ fn end_audit<R: Eprint>(rt: &R, ended: Result<Count, RunFault>, is_well: bool) -
         Ok(_) if !is_well => ExitCode::from(NOT_WELL),
         ended => end(rt, ended),
     }
+}
+
+// Runs a site over standard input and output.
+fn run_one<R: Print + Eprint + Input + AllocGlobal + RandomSource + Threads + Wait + Sync>(
+    rt: &R,
+    options: &Options,
+) -> ExitCode
+    ensures misuse { ¬ IsSetup (setup_of options.now) → exit_status result ≡ 2 }
+    ensures runs { IsSetup (setup_of options.now) → IsRunStatus (exit_status result) }
+    ensures status { IsStatus (exit_status result) }
+{
+    let config = match read_site(rt, options) {
+        Ok(config) => config,
+        Err(status) => return status,
+    };
+    let mut writer = io::writer(rt);
+    let ended = run_last_site(rt, rt.alloc(), rt.reader(), &mut writer, &config);
+    end(rt, ended)
 }
 
 // The configuration of several sites, if each number is within its limits.
@@ -137,10 +156,10 @@ fn run_waits<R: Print + Eprint + Input + AllocGlobal + RandomSource + Threads + 
     ensures runs { IsSetup (setup_of (waiting_options options.now)) → IsRunStatus (exit_status result) }
     ensures status { IsStatus (exit_status result) }
 {
-    let Some(config) = config_of(&waiting_options(options)) else {
-        return misuse(rt, "site must be below sites");
+    let config = match read_site(rt, &waiting_options(options)) {
+        Ok(config) => config,
+        Err(status) => return status,
     };
-    let config = config.with_hashes(Hashes::random(rt));
     let mut writer = io::writer(rt);
     end(
         rt,
@@ -357,7 +376,7 @@ fn obey<
     ensures { IsStatus (exit_status result) }
 {
     match asked {
-        Invocation::Site(options) => run_site_command(rt, options),
+        Invocation::Site(options) => run_one(rt, options),
         Invocation::World(setup) => run_sites(rt, setup),
         Invocation::Audit(options) => audit_logs(
             rt,

@@ -7,7 +7,8 @@ ghost use Rattle.rubis_schema.specs.declared.limits.TheConstants.{COUNTED_MAX, R
 ghost use Rattle.rubis_audit.specs.declared.questions.LogQuestion.TheVariants as LogQuestion;
 ghost use Rattle.rubis_audit.specs.Running.{account_from, audit_account, lack_account};
 ghost use Rattle.rubis_audit.specs.Soundness.{AgreesOnSoundLogs};
-ghost use Rattle.rubis_serving.specs.Whole.{EndsWhole, HasAll};
+ghost use Rattle.rubis_serving.specs.Whole.{EndsWhole};
+ghost use Rattle.rubis_reading.specs.Chunked.{HasAll};
 
 use crate::auditor::Auditor;
 use crate::questions::LogQuestion;

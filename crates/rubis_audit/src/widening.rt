@@ -5,7 +5,8 @@ ghost use Rattle.rubis_schema.specs.declared.limits.TheConstants.{COUNTED_MAX, R
 ghost use Rattle.rubis_engine.specs.Progress.{IsRun};
 ghost use Rattle.rubis_audit.specs.Places.{logs_at};
 ghost use Rattle.rubis_audit.specs.Widening.{widening_account, widening_from};
-ghost use Rattle.rubis_serving.specs.Whole.{EndsWhole, HasAll};
+ghost use Rattle.rubis_serving.specs.Whole.{EndsWhole};
+ghost use Rattle.rubis_reading.specs.Chunked.{HasAll};
 
 use crate::widener::Widener;
 use rubis_engine::{Count, RunFault};

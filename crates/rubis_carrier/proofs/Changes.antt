@@ -9,7 +9,7 @@ use Rattle.rubis_carrier.specs.Shops.Place.{InFolder, InStream}
 use Rattle.rubis_carrier.specs.Events.{Event, IsFirst, May, after, first, forgotten, next_message, next_pass, others, without}
 use Rattle.rubis_carrier.specs.Events.Event.{Accepts, Appends, Gives, IsAsked, IsChanged, IsCopied, IsKilled, IsLost, LosesEnd, MachineStarts, Opens}
 use Rattle.rubis_carrier.specs.Events.Event.{Passes, Reads, Rebuilds, Refuses, Serves, ServerLosesAll, Starts, StreamLosesEnd, TellsNothing, TellsOk, TellsPublished}
-use Rattle.rubis_carrier.specs.Events.Event.{KeeperStarts, TellsUnknown, WritesAnew}
+use Rattle.rubis_carrier.specs.Events.Event.{Closes, KeeperStarts, TellsUnknown, WritesAnew}
 use Rattle.rubis_carrier.proofs.PacketFacts.{has_unchanged}
 use Rattle.rubis_carrier.proofs.PutFacts.{eqb_same, has_filter, has_take, put_cases}
 use Rattle.rubis_carrier.proofs.Sound.{IsSomewhere, offered}
@@ -39,6 +39,7 @@ in_opened s k f x e = put_cases (λ j g. Has x g.kept → IsSomewhere s x ⊎ Is
 pub from_step : (c : Carrier) (s : Shop) (e : Event) (h : Place) (x : Packet) → May c s e → Has x (there (after s e) h) → IsSomewhere s x ⊎ IsNew s e x
 from_step c s (Starts k) (InFolder j) x m a = in_folder s (Starts k) k _ x (λ b. inl (InFolder k, b)) j a
 from_step c s (Opens k) (InFolder j) x m a = in_opened s k _ x refl j a
+from_step c s (Closes k) (InFolder j) x m a = in_folder s (Closes k) k _ x (λ b. inl (InFolder k, b)) j a
 from_step c s (KeeperStarts k) (InFolder j) x m a = inl (InFolder j, a)
 from_step c s (IsKilled k) (InFolder j) x m a = in_folder s (IsKilled k) k _ x (λ b. inl (InFolder k, b)) j a
 from_step c s (MachineStarts k) (InFolder j) x m a = in_folder s (MachineStarts k) k _ x (λ b. inl (InFolder k, b)) j a

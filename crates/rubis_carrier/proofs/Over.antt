@@ -7,7 +7,7 @@ use Rattle.rubis_carrier.specs.Shops.{Carrier, Folder, Request, Shop, put, start
 use Rattle.rubis_carrier.specs.Events.{AreSteps, Event, IsFirst, May, after, first, forgotten, run}
 use Rattle.rubis_carrier.specs.Events.Event.{Accepts, Appends, Gives, IsAsked, IsChanged, IsCopied, IsKilled, IsLost, KeeperStarts, LosesEnd}
 use Rattle.rubis_carrier.specs.Events.Event.{MachineStarts, Opens, Passes, Reads, Rebuilds, Refuses, Serves, ServerLosesAll, Starts, StreamLosesEnd}
-use Rattle.rubis_carrier.specs.Events.Event.{TellsNothing, TellsOk, TellsPublished, TellsUnknown, WritesAnew}
+use Rattle.rubis_carrier.specs.Events.Event.{Closes, TellsNothing, TellsOk, TellsPublished, TellsUnknown, WritesAnew}
 use Rattle.rubis_carrier.specs.Laws.{AnswersComeInOrder, IsOver, IsUnmade, WhatIsOverStays}
 use Rattle.rubis_carrier.proofs.Changes.{AreApart, IsNew, first_in, from_step, has_others, has_without}
 use Rattle.rubis_carrier.proofs.PutFacts.{put_cases, put_there}
@@ -72,6 +72,7 @@ over_step c s (Starts k) r m q o = record {
 over_step c s (Opens k) r m q o = over_less s r o (after s (Opens k))
     (put_cases (λ j g. IsWithout r (s.folder j) g) k _ (λ i. forgotten (s.folder k).site (s.folder i)) (with_memory s r o k _ refl refl refl refl)
     (λ j n. with_memory s r o j _ refl refl refl refl)) refl refl
+over_step c s (Closes k) r m q o = over_put s r o _ k _ refl (with_memory s r o k _ refl refl refl refl) refl refl
 over_step c s (KeeperStarts k) r m q o = o
 over_step c s (IsKilled k) r m q o = over_stopped s r o _ k _ refl refl refl refl refl refl
 over_step c s (MachineStarts k) r m q o = over_stopped s r o _ k _ refl refl refl refl refl refl

@@ -46,13 +46,26 @@ passed_more i [] more = omega arith
 passed_more i (Message j m q ∷ ys) more = passed_more i ys more
 passed_more i (Pass j t k a ∷ ys) more = by_test (eqb j i) t (passed i ys) (passed i (ys ++ more)) (passed_more i ys more)
 
+taken_more : (i : ℕ) (kept more : List Packet) → taken i kept ≤ taken i (kept ++ more)
+taken_more i [] more = omega arith
+taken_more i (Message j m q ∷ ys) more = taken_more i ys more
+taken_more i (Pass j t k a ∷ ys) more = by_test (eqb k i) t (taken i ys) (taken i (ys ++ more)) (taken_more i ys more)
+
+-- the greater of two that each become no less
+both_more : (t a b c d : ℕ) → t ≤ max a b → a ≤ c → b ≤ d → t ≤ max c d
+both_more t a b c d h p q = omega (arith, h, p, q)
+
 pub reached_more : (i : ℕ) (kept more : List Packet) (x : Packet) → IsReached i kept x → IsReached i (kept ++ more) x
 reached_more i kept more (Message j n r) h = omega (arith, h, number_more i kept more)
-reached_more i kept more (Pass j t k a) h = omega (arith, h, passed_more i kept more)
+reached_more i kept more (Pass j t k a) h =
+    both_more t (passed i kept) (taken i kept) (passed i (kept ++ more)) (taken i (kept ++ more)) h (passed_more i kept more) (taken_more i kept more)
 
 pub reached_within : (x : Packet) (kept : List Packet) → Has x kept → IsReached (sender x) kept x
 reached_within (Message i n r) kept h = number_within i n r kept h
-reached_within (Pass i t j a) kept h = passed_within i t j a kept h
+reached_within (Pass i t j a) kept h = either_more t (passed i kept) (taken i kept) (passed_within i t j a kept h)
+  where
+    either_more : (t a b : ℕ) → t ≤ a → t ≤ max a b
+    either_more t a b h = omega (arith, h)
 
 pub has_unchanged : (x : Packet) (xs ys : List Packet) → Has x (unchanged xs ys) → Has x xs
 has_unchanged x [] ys h = h

@@ -1,5 +1,5 @@
 -- What every event keeps of a shop, and that so a name is given once.
-use Rattle.std.proofs.Common.{◌≡◌, ◌∙◌, ◌≢◌, ◌⊎◌, inl, inr, ⊎_elim, ◌≤◌, ◌+◌, ◌++◌, ◌∷◌, [], ℕ, Bool, true, false, cond, eqb, List, refl, sym, ap, subst, arith}
+use Rattle.std.proofs.Common.{◌≡◌, ◌∙◌, ◌≢◌, ◌⊎◌, inl, inr, ⊎_elim, ◌≤◌, ◌+◌, ◌++◌, ◌∷◌, [], ℕ, Bool, true, false, cond, eqb, List, refl, sym, ap, subst, arith, max}
 use Rattle.std.specs.Prelude.{filter, take, ◌==◌}
 use Rattle.rubis_model.specs.Settle.{Has}
 use Rattle.rubis_model.proofs.Lists.{has_last, push_cases}
@@ -12,7 +12,7 @@ use Rattle.rubis_carrier.specs.Events.{AreSteps, Event, IsOffered, May, acceptin
 use Rattle.rubis_carrier.specs.Events.Event.{Accepts, Appends, Gives, IsAsked, IsChanged, IsCopied, IsKilled, IsLost, LosesEnd, MachineStarts, Opens, Passes}
 use Rattle.rubis_carrier.specs.Events.Event.{Reads, Rebuilds, Refuses, Serves, ServerLosesAll, Starts, StreamLosesEnd, TellsNothing, TellsOk, TellsPublished}
 use Rattle.std.proofs.lemmas.Bool.{eqb-false, eqb-true}
-use Rattle.rubis_carrier.specs.Events.Event.{KeeperStarts, TellsUnknown, WritesAnew}
+use Rattle.rubis_carrier.specs.Events.Event.{Closes, KeeperStarts, TellsUnknown, WritesAnew}
 use Rattle.rubis_carrier.specs.Laws.{AreGivenOnce, IdsAreGivenOnce}
 use Rattle.rubis_carrier.proofs.PacketFacts.{has_unchanged, reached_more, reached_within}
 use Rattle.rubis_carrier.proofs.PutFacts.{has_filter, has_take, put_cases}
@@ -191,7 +191,10 @@ new_pass : (f : Folder) (to : ℕ) → passed f.site f.kept ≤ taken f.site f.k
 new_pass f to l (Message i n q) h e = cc e
 new_pass f to l (Pass i t j a) h e =
     let turn : t ≡ taken f.site f.kept + 1 = cc e in
-    omega (arith, turn, h, l)
+    later t (passed f.site f.kept) (taken f.site f.kept) turn h l
+  where
+    later : (t a b : ℕ) → t ≡ b + 1 → t ≤ max a b → a ≤ b → ⊥
+    later t a b e h l = omega (arith, e, h, l)
 
 -- ---- a folder opens
 
@@ -304,6 +307,8 @@ pub sound_step : (c : Carrier) (s : Shop) (e : Event) → May c s e → Sound s 
 sound_step c s (Starts k) m q = less_folder s q k _
     (record { from = λ x h. (InFolder k, h); was = λ r. r; site = λ r. refl; kept = λ r x h. h; opened = λ o. gone o }) _ refl refl (omega arith)
 sound_step c s (Opens k) m q = opens_sound s q k m
+sound_step c s (Closes k) m q = less_folder s q k _
+    (record { from = λ x h. (InFolder k, h); was = λ r. r; site = λ r. refl; kept = λ r x h. h; opened = λ o. gone o }) _ refl refl (omega arith)
 sound_step c s (KeeperStarts k) m q = q
 sound_step c s (IsKilled k) m q = less_folder s q k _
     (record { from = λ x h. (InFolder k, h); was = λ r. r; site = λ r. refl; kept = λ r x h. h; opened = λ o. gone o }) _ refl refl (omega arith)

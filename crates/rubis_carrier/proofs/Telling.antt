@@ -11,7 +11,7 @@ use Rattle.rubis_carrier.specs.Events.{AreSteps, Event, IsFirst, May, MayServe, 
 use Rattle.rubis_carrier.specs.Events.{without}
 use Rattle.rubis_carrier.specs.Events.Event.{Accepts, Appends, Gives, IsAsked, IsChanged, IsCopied, IsKilled, IsLost, LosesEnd, MachineStarts, Opens}
 use Rattle.rubis_carrier.specs.Events.Event.{Passes, Reads, Rebuilds, Refuses, Serves, ServerLosesAll, Starts, StreamLosesEnd, TellsNothing, TellsOk, TellsPublished}
-use Rattle.rubis_carrier.specs.Events.Event.{KeeperStarts, TellsUnknown, WritesAnew}
+use Rattle.rubis_carrier.specs.Events.Event.{Closes, KeeperStarts, TellsUnknown, WritesAnew}
 use Rattle.rubis_carrier.specs.Laws.{AsksAreAcceptedOnce, IsUnmade, NobodyIsToldBoth, PublishedIsInStream, ToldOkIsKept, WhatIsToldIsTrue}
 use Rattle.rubis_carrier.proofs.Changes.{AreApart, IsNew, apart_more, apart_others, first_in, from_step, has_others, in_opened, has_without}
 use Rattle.rubis_carrier.proofs.PutFacts.{put_cases, put_there}
@@ -637,6 +637,8 @@ opens_tells s k q = quiet_tells s (after s (Opens k)) q (record {
 pub tells_step : (c : Carrier) (s : Shop) (e : Event) → May c s e → Tells s → Tells (after s e)
 tells_step c s (Starts k) m q = starts_tells c s k q m
 tells_step c s (Opens k) m q = opens_tells s k q
+tells_step c s (Closes k) m q = quiet_put c s (Closes k) k _ q m (λ i n p e. e) refl
+    (inl (same (s.folder k) _ refl refl refl refl refl refl refl (λ x h. h))) refl refl refl refl
 tells_step c s (KeeperStarts k) m q = q
 tells_step c s (IsKilled k) m q = quiet_put c s (IsKilled k) k _ q m (λ i n p e. e) refl (inr (idle _ refl refl refl refl refl)) refl refl refl refl
 tells_step c s (MachineStarts k) m q = quiet_put c s (MachineStarts k) k _ q m (λ i n p e. e) refl (inr (idle _ refl refl refl refl refl)) refl refl refl refl

@@ -9,7 +9,7 @@ use Rattle.rubis_carrier.specs.Shops.Place.{InFolder, InStream}
 use Rattle.rubis_carrier.specs.Events.{AreSteps, Event, Harms, IsWhole, May, after, forgotten, run}
 use Rattle.rubis_carrier.specs.Events.Event.{Accepts, Appends, Gives, IsAsked, IsChanged, IsCopied, IsKilled, IsLost, LosesEnd, MachineStarts, Opens}
 use Rattle.rubis_carrier.specs.Events.Event.{Passes, Reads, Rebuilds, Refuses, Serves, ServerLosesAll, Starts, StreamLosesEnd, TellsNothing, TellsOk, TellsPublished}
-use Rattle.rubis_carrier.specs.Events.Event.{KeeperStarts, TellsUnknown, WritesAnew}
+use Rattle.rubis_carrier.specs.Events.Event.{Closes, KeeperStarts, TellsUnknown, WritesAnew}
 use Rattle.rubis_carrier.specs.Laws.{GivenAgainOnlyWhereLost, NothingAcceptedIsLost}
 use Rattle.rubis_carrier.proofs.PutFacts.{put_cases}
 use Rattle.rubis_carrier.proofs.Sound.{ids_once}
@@ -59,6 +59,7 @@ pub folder_step : (c : Carrier) (s : Shop) (e : Event) (j : ℕ) → May c s e �
     → Has x (s.folder j).kept → Has x ((after s e).folder j).kept
 folder_step c s (Starts k) j m n x h = same_or_more s k _ (λ z a. a) j x h
 folder_step c s (Opens k) j m n x h = opened_kept s k _ x refl j h
+folder_step c s (Closes k) j m n x h = same_or_more s k _ (λ z a. a) j x h
 folder_step c s (KeeperStarts k) j m n x h = h
 folder_step c s (IsKilled k) j m n x h = same_or_more s k _ (λ z a. a) j x h
 folder_step c s (MachineStarts k) j m n x h = same_or_more s k _ (λ z a. a) j x h

@@ -9,10 +9,12 @@ use Rattle.rubis_carrier.specs.Shops.Place.{InFolder, InStream}
 use Rattle.rubis_carrier.specs.Shops.{Told as told}
 
 pub data Event : Type 0 where
-  -- a supervisor begins to run a folder, in a new life; its site may take asks; the keeper that it has for it ends, and is started again,
-  -- and is given again what it hadn't kept; the supervisor ends; the machine is started, and remembers nothing
+  -- a supervisor begins to run a folder, in a new life; its site may take asks; it may not any more, but runs on, as one does that doesn't
+  -- know that another folder of its site was opened; the keeper that it has for it ends, and is started again, and is given again what it
+  -- hadn't kept; the supervisor ends; the machine is started, and remembers nothing
   Starts : (folder : ℕ) → Event
   Opens : (folder : ℕ) → Event
+  Closes : (folder : ℕ) → Event
   KeeperStarts : (folder : ℕ) → Event
   IsKilled : (folder : ℕ) → Event
   MachineStarts : (folder : ℕ) → Event
@@ -74,6 +76,7 @@ pub record MayRebuild (s : Shop) (k : ℕ) (packets : List Packet) : Type 0 wher
 abbrev pub May : Carrier → Shop → Event → Type 0
 May c s (Starts k) = (s.folder k).life ≡ 0
 May c s (Opens k) = MayOpen s k
+May c s (Closes k) = Unit {0}
 May c s (KeeperStarts k) = Unit {0}
 May c s (IsKilled k) = Unit {0}
 May c s (MachineStarts k) = Unit {0}
@@ -161,6 +164,10 @@ accepting f r = record (keeping (answering f) (next_message f r)) {
 abbrev pub telling : told → Shop → Shop
 telling what s = record s { told = what ∷ s.told }
 
+-- its site may take no asks
+abbrev pub closed : Folder → Folder
+closed f = record f { is_open = false }
+
 abbrev pub started : Folder → ℕ → Folder
 started f life = record (stopped f) { life = life }
 
@@ -168,6 +175,7 @@ abbrev pub after : Shop → Event → Shop
 after s (Starts k) = record (with_folder k (started (s.folder k) (s.begun + 1)) s) { begun = s.begun + 1 }
 after s (Opens k) =
     record s { folder = put k (record (s.folder k) { is_open = true; remembered = true }) (λ j. forgotten (s.folder k).site (s.folder j)) }
+after s (Closes k) = with_folder k (closed (s.folder k)) s
 after s (KeeperStarts k) = s
 after s (IsKilled k) = with_folder k (stopped (s.folder k)) s
 after s (MachineStarts k) = with_folder k (unknown (s.folder k)) s

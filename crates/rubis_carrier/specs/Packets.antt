@@ -56,11 +56,15 @@ passed i [] = 0
 passed i (Message j n r ∷ rest) = passed i rest
 passed i (Pass j t k a ∷ rest) = cond (j == i) (max t (passed i rest)) (passed i rest)
 
+-- the greatest turn that it passed on or took: those that it passes on from now on are later
+abbrev pub last_turn : ℕ → List Packet → ℕ
+last_turn i kept = max (passed i kept) (taken i kept)
+
 -- the site has the token: it took one, or is the first to have it, and hasn't passed a later one on
 abbrev pub Holds : ℕ → List Packet → Type 0
 Holds i kept = (passed i kept ≤ taken i kept) × ((i ≡ 0) ⊎ (0 < taken i kept))
 
--- it has given such a number, or passed such a turn on, or a greater one
+-- it has given such a number, or a greater one; it has passed such a turn on, or a later one, or taken one, and never passes it on again
 abbrev pub IsReached : ℕ → List Packet → Packet → Type 0
 IsReached i kept (Message j n r) = n ≤ highest i kept
-IsReached i kept (Pass j t k a) = t ≤ passed i kept
+IsReached i kept (Pass j t k a) = t ≤ last_turn i kept

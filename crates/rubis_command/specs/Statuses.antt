@@ -16,7 +16,11 @@ status_by k = 2
 abbrev pub IsRunStatus : ℕ → Type 0
 IsRunStatus s = (s ≡ 0) ⊎ (s ≡ 1)
 
--- the same, or 2 where what is asked for isn't run
+-- the status where nothing is run: 1 if a fault is the reason, 2 if the command line is
+abbrev pub IsRefusal : ℕ → Type 0
+IsRefusal s = (s ≡ 1) ⊎ (s ≡ 2)
+
+-- the status of a run, or 2 where what is asked for isn't run
 abbrev pub IsStatus : ℕ → Type 0
 IsStatus s = IsRunStatus s ⊎ (s ≡ 2)
 

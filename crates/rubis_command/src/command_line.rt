@@ -4,12 +4,12 @@ ghost use Rattle.std.specs.Prelude.{◌≡◌, [], IfErr, IfOk, map, string_byte
 ghost use Rattle.std.specs.Process.{exit_status};
 ghost use Rattle.clap.specs.Words.{fault_of, kind_of};
 ghost use Rattle.rubis_cli.specs.CommandLine.{IsAsked, command_line};
-ghost use Rattle.rubis_command.specs.Statuses.{IsStatusOf, status_by};
+ghost use Rattle.rubis_command.specs.Statuses.{IsRefusal, IsStatusOf, status_by};
 
 use crate::ends::{MISUSE, fail, misuse};
 use clap::Error;
 use rubis_cli::{Invocation, OptionFault, read_options};
-use rubis_script::RunFault;
+use rubis_engine::RunFault;
 use std::env;
 use std::env::Env;
 use std::io::ErrorKind;
@@ -44,7 +44,9 @@ pub fn read_words<R: Print + Eprint + AllocGlobal>(
 }
 
 /// The words of the command line of this process. Where they can't be had, it is said why, and the error is the status.
-pub fn words_of<R: Eprint + AllocGlobal + Env>(rt: &R) -> Result<Vec<String>, ExitCode> {
+pub fn words_of<R: Eprint + AllocGlobal + Env>(rt: &R) -> Result<Vec<String>, ExitCode>
+    ensures { IfErr result (λ status. IsRefusal (exit_status status)) }
+{
     let args = match env::args(rt) {
         Ok(args) => args,
         Err(error) => {

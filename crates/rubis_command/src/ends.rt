@@ -4,7 +4,7 @@ ghost use Rattle.std.specs.Prelude.{◌≡◌, ◌⊎◌, cond, is_ok};
 ghost use Rattle.std.specs.Process.{exit_status};
 ghost use Rattle.rubis_command.specs.Statuses.{IsRunStatus};
 
-use rubis_script::{Count, RunFault};
+use rubis_engine::{Count, RunFault};
 use std::process::ExitCode;
 
 /// The status of a run that a fault ended.

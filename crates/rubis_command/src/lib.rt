@@ -1,5 +1,4 @@
-//! A run of the program from its command line: what is said where it goes wrong, the status that it ends with, and the command that runs
-//! one site, which each program has.
+//! A run of a program from its command line: what the words ask for, what is said where it goes wrong, and the status that it ends with.
 #![tactic(auto)]
 
 mod command_line;
@@ -12,4 +11,5 @@ pub use rubis_cli::{
     AuditOptions, CheckOptions, Invocation, KeepOptions, LackOptions, Options, Reading,
     SetupOptions, Widening,
 };
-pub use site::{config_of, run_site_command};
+pub use rubis_engine::{Count, RunFault};
+pub use site::read_site;

@@ -14,6 +14,7 @@ use crate::rule::{
     Giving, Handing, Item, JobRule, Owning, PassView, Receiving, Settling, Sharing, Taking,
 };
 use crossbeam_queue::{Pass, RuledArrayQueue};
+use crossbeam_utils::sync::EventCount;
 use std::alloc::{AllocError, Global};
 use std::marker::Model;
 use std::sync::Wait;
@@ -35,6 +36,8 @@ pub struct Crew<J: Job> {
     room: usize,
     // How many helpers are told that no more jobs come.
     helpers: usize,
+    // By which helpers that sleep are told of a job, and that no more come.
+    calls: EventCount,
 }
 
 impl<J: Job> Model for Crew<J> {
@@ -196,6 +199,7 @@ impl<J: Job> Crew<J> {
             results,
             room,
             helpers,
+            calls: EventCount::new(),
         };
         let lead = Lead {
             seat,
@@ -218,12 +222,23 @@ impl<J: Job> Crew<J> {
         Helper { seat, desk }
     }
 
+    /// What one more helper needs, for its thread.
+    pub fn another(&self, helper: &mut Helper<J>) -> Helper<J>
+        requires { helper.old.crew ≡ self.now.id }
+        ensures helper { result ≡ new_helper self.now.id }
+        ensures same { helper.new ≡ helper.old }
+    {
+        let seat = self.jobs.another::<Sharing>(&mut helper.seat);
+        let desk = self.results.another::<Joining>(&mut helper.desk);
+        Helper { seat, desk }
+    }
+
     /// Gives a job, and tells the number by which its result comes back. Returns the job if and only if there is no room, or the crew was
     /// ended.
     pub fn give<R: Wait>(&self, rt: &R, lead: &mut Lead<J>, job: J) -> Result<u64, J>
         requires crew { lead.old.crew ≡ self.now.id }
         requires fits { J.Fits job }
-        ensures number { IfOk result (λ number. (number ≡ lead.old.next) × AreBelow number lead.old.given) }
+        ensures number { IfOk result (λ number. (number ≡ lead.old.next) × (number < 18446744073709551615) × AreBelow number lead.old.given) }
         ensures given { OnOk result ((length lead.old.given < self.now.room) × (lead.new ≡ given_too lead.old job)) }
         ensures full { IfErr result (λ back. (back ≡ job) × HasNoRoom self.now.room lead.old × (lead.new ≡ lead.old)) }
     {
@@ -234,6 +249,7 @@ impl<J: Job> Crew<J> {
         let item = Item::Work(Given { number, job });
         match self.jobs.push_as::<Giving, R>(rt, &mut lead.seat, item) {
             Ok(()) => {
+                self.calls.notify_one();
                 lead.next += 1;
                 lead.count += 1;
                 Ok(number)
@@ -325,6 +341,7 @@ impl<J: Job> Crew<J> {
             return;
         }
         say_over(rt, &self.jobs, &mut lead.seat, self.helpers);
+        self.calls.notify_all();
         lead.ended = true;
     }
 
@@ -339,6 +356,7 @@ impl<J: Job> Crew<J> {
             results: _,
             room: _,
             helpers: _,
+            calls: _,
         } = self;
         lead.next
     }
@@ -366,7 +384,20 @@ impl<J: Job> Crew<J> {
         }
     }
 
-    /// Helps until no more jobs come. What was taken is paid for.
+    // Helps, or sleeps until a job is given or no more come, if there is none.
+    fn help_or_sleep<R: Wait>(&self, rt: &R, me: &mut Helper<J>) -> Found
+        requires { me.old.crew ≡ self.now.id }
+        ensures { HasHelped result me.old me.new }
+    {
+        let call = self.calls.prepare_wait();
+        let found = self.help(rt, me);
+        if found == Found::Nothing {
+            call.wait(rt);
+        }
+        found
+    }
+
+    /// Helps until no more jobs come, and sleeps while there is none. What was taken is paid for.
     pub fn stay<R: Wait>(&self, rt: &R, me: &mut Helper<J>)
         requires crew { me.old.crew ≡ self.now.id }
         requires owes { me.old.paid ≡ me.old.taken }
@@ -374,10 +405,12 @@ impl<J: Job> Crew<J> {
         ensures owes { me.new.paid ≡ me.new.taken }
     {
         for _ in rt.forever() {
-            match self.help(rt, me) {
-                Found::AJob => {}
-                Found::Nothing => thread::yield_now(),
-                Found::Over => return,
+            let found = match self.help(rt, me) {
+                Found::Nothing => self.help_or_sleep(rt, me),
+                other => other,
+            };
+            if found == Found::Over {
+                return;
             }
         }
     }

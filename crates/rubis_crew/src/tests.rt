@@ -120,8 +120,8 @@ fn help_both<R: Threads + Wait + Sync>(
 #[test]
 fn each_result_comes_back_once(rt: HostRuntime) -> Result<(), Fail> {
     let (crew, mut lead) = Crew::<Double>::new(&rt, rt.alloc(), 8, 2)?;
-    let first = crew.helper(&mut lead);
-    let second = crew.helper(&mut lead);
+    let mut first = crew.helper(&mut lead);
+    let second = crew.another(&mut first);
     let ((), (tally, lead)) = thread::join(
         &rt,
         || help_both(&rt, &crew, first, second),

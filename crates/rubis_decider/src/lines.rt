@@ -1,6 +1,9 @@
-//! Steps of shops as they stand on lines: the kind, then numbers and packets, separated by commas. A message is `m:SITE:NUMBER:ASK`, and a
-//! pass of the token `p:SITE:TURN:TO:AFTER`.
+//! Steps of shops, read from lines.
 
+ghost use Rattle.std.specs.Prelude.{◌≡◌, IfOk, IfSome};
+ghost use Rattle.rubis_decider.specs.Written.{step_text};
+
+use crate::written::is_text_of;
 use rubis_steps::{Event, Packet};
 use std::alloc::{AllocError, Global};
 
@@ -39,6 +42,7 @@ fn event_of_one(kind: &str, folder: u64) -> Option<Event> {
     match kind {
         "Starts" => Some(Event::Starts { folder }),
         "Opens" => Some(Event::Opens { folder }),
+        "Closes" => Some(Event::Closes { folder }),
         "KeeperStarts" => Some(Event::KeeperStarts { folder }),
         "IsKilled" => Some(Event::IsKilled { folder }),
         "MachineStarts" => Some(Event::MachineStarts { folder }),
@@ -123,8 +127,8 @@ fn event_of(kind: &str, numbers: &[u64], packets: Vec<Packet>) -> Option<Event> 
     }
 }
 
-// The event that a line is, if it is one. No clause says so: `stdin` has a list with its answer, and the gate spoils lists.
-pub(crate) fn read_event(alloc: Global, line: &str) -> Result<Option<Event>, AllocError> {
+// The event that the words of a line name, if they name one.
+fn event_in(alloc: Global, line: &str) -> Result<Option<Event>, AllocError> {
     let mut numbers = Vec::new(alloc);
     let mut packets = Vec::new(alloc);
     let mut kind = "";
@@ -138,4 +142,21 @@ pub(crate) fn read_event(alloc: Global, line: &str) -> Result<Option<Event>, All
         }
     }
     Ok(event_of(kind, &numbers, packets))
+}
+
+/// The event that a line is: it is written so, and not otherwise. None where the line isn't one of those that this reads.
+pub(crate) fn read_event(alloc: Global, line: &str) -> Result<Option<Event>, AllocError>
+    ensures { IfOk result (λ found. IfSome found (λ event. step_text event ≡ line.now)) }
+{
+    let found = event_in(alloc, line)?;
+    match found {
+        Some(event) => {
+            if is_text_of(alloc, line, &event)? {
+                Ok(Some(event))
+            } else {
+                Ok(None)
+            }
+        }
+        None => Ok(None),
+    }
 }

@@ -3,6 +3,7 @@
 #![tactic(auto)]
 
 mod lines;
+mod written;
 
 use anyhow::{Result, bail};
 use lines::read_event;

@@ -1,13 +1,13 @@
 -- A text that is written as far as the writer takes it.
 use Rattle.std.proofs.Common.{◌≡◌, ◌∙◌, ◌≤◌, ◌+◌, ◌-◌, ◌++◌, ℕ, List, Option, Some, None, drop, length, take, sym, ap, subst, arith}
 use Rattle.std.proofs.Common.{append_assoc}
-use Rattle.std.specs.Prelude.{IsErrOf, OnErr, Result, Ok, Err}
+use Rattle.std.specs.Prelude.{OnErr, Result, Ok, Err}
 use Rattle.std.proofs.lemmas.List.{drop-take, length-drop, take-append-drop, take-take, take_rest}
 use Rattle.std.specs.Io.KnownBytes.{Appends, Keeps}
 use Rattle.csv.proofs.WriteFacts.{appends-more}
 use Rattle.rubis_engine.specs.Progress.{AppendsFront}
 
-take-more : (at n : ℕ) (bytes : List ℕ) → take at bytes ++ take n (take (length bytes - at) (drop at bytes)) ≡ take (at + n) bytes
+pub take-more : (at n : ℕ) (bytes : List ℕ) → take at bytes ++ take n (take (length bytes - at) (drop at bytes)) ≡ take (at + n) bytes
 take-more at n bytes =
     ap (λ t. take at bytes ++ take n t) (take_rest bytes at)
     ∙ ap (λ t. t ++ take n (drop at bytes)) (sym (take-take at (at + n) bytes (omega arith)))
@@ -53,8 +53,3 @@ front-behind old now now2 written text whole before f e = subst (AppendsFront ol
 pub on_err : {T E P : Type 0} (r : Result T E) → P → OnErr r P
 on_err (Ok v) p = tt
 on_err (Err e) p = p
-
--- at this one
-pub at_err : {T E P : Type 0} (r : Result T E) (e : E) → OnErr r P → IsErrOf r e → P
-at_err (Ok v) e p h = absurd cc
-at_err (Err f) e p h = p

@@ -1,6 +1,7 @@
 pub mod ListFacts
 pub mod ReadingFacts
 pub mod RowFacts
+pub mod EndFacts
 pub mod FrontFacts
 pub mod RunFacts
 pub mod TextFacts

@@ -14,7 +14,7 @@ use Rattle.csv.specs.declared.parser.Action.{Action}
 use Rattle.csv.specs.declared.reader.Reader.{Reader}
 use Rattle.csv.specs.declared.reader.Trim.TheVariants as trim
 use Rattle.csv.proofs.ReadFacts.{rows-end, rows-more}
-use Rattle.rubis_engine.specs.Reading.{HasToGive, ReadsNext}
+use Rattle.rubis_engine.specs.Reading.{HasToGive, LeavesFewer, ReadsNext}
 use Rattle.rubis_engine.specs.Text.{input_records}
 
 -- a step that ends a record leaves a state between records
@@ -147,3 +147,25 @@ holds-takes rem a b true fields first reads rest h =
     )
 holds-takes rem a b false fields first reads rest h =
     h.records ∙ no-more h.fuel a.state h.bytes (rows-end rem a b fields default_config h.bytes h.config h.source (reads h.trim h.ready))
+
+-- a record takes bytes
+some-taken : (s : State) (bytes : List ℕ) (p : Read) → ends_at_end s ≡ false → next_record default_config s [] [] bytes ≡ Some p
+    → length p.2 < length bytes
+some-taken s [] p between e =
+    let none = none-at-end s between in
+    cc (none, e)
+some-taken s (c ∷ rest) p between e =
+    let short = next-shorter default_config s [] [] (c ∷ rest) p e in
+    omega (arith, short.0)
+
+-- a read that finds a record leaves fewer bytes
+pub holds-fewer : {R : Type 0} (rem : R → Option (List ℕ)) (a b : Reader R) (found : Bool) (fields : List (List ℕ))
+    → (reader_trim a ≡ trim.None → Ready a → ReadRecord rem a b found fields)
+    → LeavesFewer rem a b found
+unfolding Reached
+holds-fewer rem a b true fields reads e rest h =
+    let (z, source, took) = rows-more rem a b fields default_config a.state h.bytes h.bytes [] h.config h.source (refl, refl) (reads h.trim h.ready) in
+    let (p, next, same, after) = took in
+    let (state, left) = after in
+    rw (source, h.source) (subst (λ (t : List ℕ). length t < length h.bytes) left (some-taken a.state h.bytes p h.between next))
+holds-fewer rem a b false fields reads e rest h = absurd (cc e)

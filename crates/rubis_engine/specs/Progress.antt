@@ -1,11 +1,10 @@
 -- How far a run has come, and how it ended.
-use Rattle.std.specs.Prelude.{◌≡◌, ◌≤◌, ◌<◌, ◌+◌, ◌++◌, ◌⊎◌, [], ℕ, List, IfSome, MatchOption, length, take, Option, Result, Ok, Err}
+use Rattle.std.specs.Prelude.{◌≡◌, ◌≤◌, ◌<◌, ◌+◌, ◌++◌, ◌⊎◌, [], ℕ, List, IfSome, length, take, Option, Result, Ok, Err}
 use Rattle.std.specs.Io.KnownBytes.{Appends}
 use Rattle.rubis_engine.specs.declared.fault.Count.{Count}
 use Rattle.rubis_engine.specs.declared.fault.RunFault.{RunFault}
 use Rattle.rubis_engine.specs.declared.fault.RunFault.TheVariants.{Memory, Read, TooLong, Write}
 use Rattle.rubis_engine.specs.declared.record_list.Records.{Records}
-use Rattle.rubis_engine.specs.declared.run.Run.{Run}
 use Rattle.rubis_engine.specs.Accounts.{Account, Ending}
 use Rattle.rubis_engine.specs.Accounts.Ending.{AtEnd, Cut}
 use Rattle.rubis_engine.specs.Reading.{Gives}
@@ -46,12 +45,6 @@ WritesFrontOf account sink before after = (number : ℕ) (more : List (List (Lis
 
 -- ---- what a run has written and read
 
--- of every run that has come so far this holds, `all` being the account of its records and `old` what stood in its writer
-abbrev pub InEachRun : {R : Type 0} → (R → Option (List ℕ)) → Records R → Account → Option (List ℕ) → List ℕ → ℕ
-    → (Account → Option (List ℕ) → List ℕ → Type 0) → Type 0
-InEachRun rem records more now sink number holds = (all : Account) (old : Option (List ℕ)) (input : List ℕ)
-    → HasComeSoFar rem records all more old now sink number input → holds all old input
-
 -- the run is done: the text of all records was written, and as many were read as there are to read, at most `limit`
 abbrev pub IsDone : Account → ℕ → Option (List ℕ) → Option (List ℕ) → List (List (List ℕ)) → ℕ → Type 0
 IsDone all limit old now records count = Appends old now (all.text AtEnd records) × (count ≡ all.read records) × (count ≤ limit)
@@ -81,31 +74,3 @@ EndsSo all limit old new records (Err Write) = WrotePrefix (all.text AtEnd) old 
 -- what its writer had and has
 abbrev pub IsRun : Account → ℕ → Option (List ℕ) → Option (List ℕ) → Option (List ℕ) → Result Count RunFault → Type 0
 IsRun all limit input old new result = IfSome input (λ bytes. EndsSo all limit old new (input_records bytes) result)
-
--- ---- a run and its service, which makes `account n` of the records from record n on
-
--- the run stands there: all that was answered, with what is still to be made, is `all`
-abbrev pub StandsAt : {R : Type 0} → (R → Option (List ℕ)) → Run R → (ℕ → Account) → Account → Option (List ℕ) → Option (List ℕ) → List ℕ → Type 0
-StandsAt rem run account all old now input = HasComeSoFar rem run.records all (account (run.answered + 1)) old now run.reply.sink (run.answered + 1) input
-
--- of every run that stands there this holds
-abbrev pub OfEachRun : {R : Type 0} → (R → Option (List ℕ)) → Run R → (ℕ → Account) → Option (List ℕ) → (Account → Option (List ℕ) → List ℕ → Type 0) → Type 0
-OfEachRun rem run account now holds = InEachRun rem run.records (account (run.answered + 1)) now run.reply.sink (run.answered + 1) holds
-
--- it is cut short
-abbrev pub EndsCut : {R : Type 0} → (R → Option (List ℕ)) → Run R → (ℕ → Account) → Option (List ℕ) → Option (List ℕ) → Type 0
-EndsCut rem run account before after = OfEachRun rem run account before (λ all old input. IsCut all old after (input_records input))
-
--- it leaves a prefix of the text
-abbrev pub EndsInPrefix : {R : Type 0} → (R → Option (List ℕ)) → Run R → (ℕ → Account) → Option (List ℕ) → Option (List ℕ) → Type 0
-EndsInPrefix rem run account before after = OfEachRun rem run account before (λ all old input. WrotePrefix (all.text AtEnd) old after (input_records input))
-
--- after one record more it stands at `new`, or is done
-abbrev pub HasMoved : {R : Type 0} → (R → Option (List ℕ)) → Run R → Run R → (ℕ → Account) → (ℕ → Account) → Option (List ℕ) → Option (List ℕ)
-    → Option Count → Type 0
-HasMoved rem run new account account2 before after over = OfEachRun rem run account before (λ all old input.
-    MatchOption over (StandsAt rem new account2 all old after input) (λ count. IsDone all (run.answered + 1) old after (input_records input) count.records))
-
--- of all records that it reads, from the first on, this holds
-abbrev pub FromStart : {R : Type 0} → (R → Option (List ℕ)) → Run R → (List (List (List ℕ)) → Type 0) → Type 0
-FromStart rem run holds = (input : List ℕ) → Gives rem run.records (input_records input) → run.reply.sink ≡ [] → holds (input_records input)

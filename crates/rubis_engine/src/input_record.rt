@@ -2,7 +2,7 @@
 
 ghost use Rattle.std.specs.Prelude.{◌≡◌, ◌⊎◌, [], IfErr, IfOk};
 ghost use Rattle.csv.specs.Records.{fields_of};
-ghost use Rattle.rubis_engine.specs.Reading.{ReadsNext};
+ghost use Rattle.rubis_engine.specs.Reading.{LeavesFewer, ReadsNext};
 
 use crate::fault::RunFault;
 use csv::{ByteRecord, Reader};
@@ -57,6 +57,7 @@ impl InputRecord {
     #[inline(always)]
     pub fn read_from<R: Read>(&mut self, reader: &mut Reader<R>) -> Result<bool, RunFault>
         ensures takes { IfOk result (λ found. ReadsNext R.remaining reader.old reader.new found self.new) }
+        ensures fewer { IfOk result (λ found. LeavesFewer R.remaining reader.old reader.new found) }
         ensures faults { IfErr result (λ e. (e ≡ RunFault.Read) ⊎ (e ≡ RunFault.Memory)) }
     {
         let found = match reader.read_byte_record(&mut self.fields) {

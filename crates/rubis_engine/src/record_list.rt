@@ -1,12 +1,11 @@
 //! The records of a reader, one at a time.
 
 ghost use Rattle.std.specs.Prelude.{◌≡◌, ◌⊎◌, IfErr, IfOk, IfSome};
-ghost use Rattle.rubis_engine.specs.Reading.{Advances, Gives, fields_now};
+ghost use Rattle.rubis_engine.specs.Reading.{Advances, ComesNearer, Gives, fields_now};
 ghost use Rattle.rubis_engine.specs.Text.{input_records};
 
 use crate::fault::RunFault;
 use crate::input_record::InputRecord;
-use crate::meter::Meter;
 use csv::{Reader, ReaderBuilder};
 use std::alloc::Global;
 use std::io::Read;
@@ -14,7 +13,7 @@ use std::io::Read;
 /// The records of a reader, each with any number of fields, and no header row. A byte order mark at the start is removed.
 #[derive(Drop)]
 pub struct Records<R> {
-    reader: Reader<Meter<R>>,
+    reader: Reader<R>,
     // The one that was read last.
     current: InputRecord,
 }
@@ -27,7 +26,7 @@ impl<R: Read> Records<R> {
         let reader = ReaderBuilder::new()
             .has_headers(false)
             .flexible(true)
-            .from_reader(alloc, Meter::new(reader));
+            .from_reader(alloc, reader);
         Records {
             reader,
             current: InputRecord::new(alloc),
@@ -41,6 +40,7 @@ impl<R: Read> Records<R> {
     /// `Read` if the reader failed, and `Memory` if there wasn't enough memory for the record.
     pub fn advance(&mut self) -> Result<bool, RunFault>
         ensures takes { IfOk result (λ found. Advances R.remaining self.old self.new found) }
+        ensures nearer { IfOk result (λ found. ComesNearer R.remaining self.old self.new found) }
         ensures faults { IfErr result (λ e. (e ≡ RunFault.Read) ⊎ (e ≡ RunFault.Memory)) }
     {
         self.current.read_from(&mut self.reader)
@@ -51,13 +51,5 @@ impl<R: Read> Records<R> {
         ensures { result.now ≡ fields_now self.now }
     {
         &self.current
-    }
-
-    // Whether all bytes that the reader gave so far were used up, except for line ends, so that going on means waiting for the
-    // reader. It decides when text is written, not what text.
-    pub fn is_used_up(&self) -> bool {
-        self.reader
-            .get_ref()
-            .is_used_up(self.reader.position().byte())
     }
 }

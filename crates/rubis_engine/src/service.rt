@@ -1,4 +1,4 @@
-//! What answers records.
+//! What answers records, and what it answers with.
 
 ghost use Rattle.std.specs.Prelude.{◌≡◌, ◌<◌, ◌++◌, ◌+◌, ◌∷◌, [], ℕ, List, IfOk, OnOk};
 ghost use Rattle.rubis_engine.specs.Accounts.{Account, AnswersRecord, Keeps};
@@ -6,8 +6,41 @@ ghost use Rattle.rubis_engine.specs.Accounts.Ending.{AtEnd, Cut};
 
 use crate::fault::OutOfMemory;
 use crate::input_record::InputRecord;
-use crate::reply::Reply;
 use crate::sink::Sink;
+use rubis_schema::{Fields, PlainRow};
+use std::alloc::Global;
+
+/// A row that is being made: in place, if none of its fields calls for quotes, or as a list of fields.
+#[derive(Drop)]
+pub struct Draft {
+    pub row: PlainRow,
+    pub fields: Fields,
+}
+
+/// What a record is answered with: its number, the row that is being made, and the text of all rows that wait to be written.
+#[derive(Drop)]
+pub struct Reply {
+    /// The number of the record, counted from 1.
+    pub number: u64,
+    pub draft: Draft,
+    pub sink: Sink,
+}
+
+impl Reply {
+    /// With no text, before the first record. It takes no memory yet.
+    pub fn new(alloc: Global) -> Reply
+        ensures { result.sink ≡ [] }
+    {
+        Reply {
+            number: 0,
+            draft: Draft {
+                row: PlainRow::new(),
+                fields: Fields::new(alloc),
+            },
+            sink: Sink::new(alloc),
+        }
+    }
+}
 
 /// Whether a run goes on after a record.
 #[derive(Clone, Copy, PartialEq, Eq)]
@@ -46,9 +79,8 @@ pub trait Service<T> {
     ghost reads_next: { (s : Self) (number : ℕ) (fields : List (List ℕ)) (more : List (List (List ℕ))) → 0 < (account s number).read (fields ∷ more) };
 }
 
-/// A service that `run_upto` asks for its answers. One whose work goes to other threads isn't one: a bound of a trait's
-/// method is known to the calling thread alone. Its loop goes by the steps of the engine, with a call of its own between
-/// `next_record` and `write_out`.
+/// A service whose answers need no other thread. One whose work goes to other threads isn't one: a bound of a trait's method is
+/// known to the calling thread alone.
 pub trait Answering<T>: Service<T> {
     /// Answers the record whose number the reply has, and says whether the run goes on. What it writes and what is still to be
     /// written are together the text; where the run ends here, what it writes is all of it.

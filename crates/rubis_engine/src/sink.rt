@@ -11,7 +11,7 @@ ghost use Rattle.rubis_engine.specs.Text.{plain_writer};
 use crate::fault::RunFault;
 use crate::plain_sinks::PlainSink;
 use crate::quoted_rows::QuotedRows;
-use crate::writing::write_front;
+use crate::streams::write_front;
 use rubis_schema::{Fields, PlainRow, RowSink, SharedSink, is_plain, make_room, push_bytes};
 use std::alloc::{AllocError, Global};
 use std::io::Write;
@@ -138,14 +138,26 @@ fn add_both(text: &mut Vec<u8>, first: &[u8], second: &[u8]) -> Result<(), Alloc
     Ok(())
 }
 
+// Writes a text out. Where the writer fails, a prefix of it was written.
+fn write_text<W: Write>(writer: &mut W, text: &[u8]) -> Result<(), RunFault>
+    ensures ok { OnOk result (Appends (W.contents writer.old) (W.contents writer.new) text.now) }
+    ensures err { OnErr result (AppendsFront (W.contents writer.old) (W.contents writer.new) text.now) }
+    ensures faults { IfErr result (λ e. e ≡ RunFault.Write) }
+{
+    match write_front(writer, text) {
+        Ok(()) => Ok(()),
+        Err(_) => Err(RunFault::Write),
+    }
+}
+
 // Writes two texts out. Where the writer fails, a prefix of them was written.
 fn write_both<W: Write>(writer: &mut W, first: &[u8], second: &[u8]) -> Result<(), RunFault>
     ensures ok { OnOk result (Appends (W.contents writer.old) (W.contents writer.new) (first.now ++ second.now)) }
     ensures err { OnErr result (AppendsFront (W.contents writer.old) (W.contents writer.new) (first.now ++ second.now)) }
     ensures faults { IfErr result (λ e. e ≡ RunFault.Write) }
 {
-    write_front(writer, first)?;
-    write_front(writer, second)
+    write_text(writer, first)?;
+    write_text(writer, second)
 }
 
 impl Sink {

@@ -9,27 +9,7 @@ use Rattle.rubis_keep.specs.Files.{DiffersFrom, IfDiffers}
 use Rattle.rubis_keep.specs.declared.fault.KeepFault.{KeepFault}
 use Rattle.rubis_keep.specs.declared.fault.KeepFault.TheVariants as fault
 use Rattle.std.specs.Io.KnownBytes.{Appends, Consumes, Keeps}
-use Rattle.csv.proofs.WriteFacts.{appends-more}
-
-pub take-more : (at n : ℕ) (bytes : List ℕ) → take at bytes ++ take n (take (length bytes - at) (drop at bytes)) ≡ take (at + n) bytes
-take-more at n bytes =
-    ap (λ t. take at bytes ++ take n t) (take_rest bytes at)
-    ∙ ap (λ t. t ++ take n (drop at bytes)) (sym (take-take at (at + n) bytes (omega arith)))
-    ∙ ap (λ t. take at (take (at + n) bytes) ++ t) (sym (drop-take at n bytes))
-    ∙ take-append-drop at (take (at + n) bytes)
-
-pub more-bound : (at n : ℕ) (bytes : List ℕ) → at ≤ length bytes → n ≤ length (take (length bytes - at) (drop at bytes)) → at + n ≤ length bytes
-more-bound at n bytes h l = let e = ap length (take_rest bytes at) in let f = length-drop at bytes in omega (arith, e, f)
-
-pub appends-front : (old mid new : Option (List ℕ)) (at n : ℕ) (bytes : List ℕ) → Appends old mid (take at bytes)
-    → Appends mid new (take n (take (length bytes - at) (drop at bytes))) → Appends old new (take (at + n) bytes)
-appends-front old mid new at n bytes f g = subst (Appends old new) (take-more at n bytes) (appends-more old mid new _ _ f g)
-
-pub appends-kept : (old mid new : Option (List ℕ)) (bytes : List ℕ) → Appends old mid bytes → Keeps mid new → Appends old new bytes
-appends-kept None mid new bytes f k = tt
-appends-kept (Some x) None new bytes f k = absurd f
-appends-kept (Some x) (Some y) None bytes f k = absurd k
-appends-kept (Some x) (Some y) (Some z) bytes f k = k ∙ f
+use Rattle.rubis_engine.proofs.FrontFacts.{take-more}
 
 pub consumes-none : (known : Option (List ℕ)) → Consumes known known []
 consumes-none None = tt

@@ -10,7 +10,7 @@ use Rattle.rubis_keep.specs.History.{HasDone, HasKept, HasTold, TellsFront, Keep
 use Rattle.rubis_keep.specs.History.Event.{Began, CutTo, Flushed, Kept, Replied, Settled, Shown, Told}
 use Rattle.rubis_keep.specs.Kept.{CutsTo, IsFrontOf}
 use Rattle.rubis_keep.specs.Lines.{AreSound}
-use Rattle.rubis_keep.proofs.FileFacts.{more-bound, take-more}
+use Rattle.rubis_engine.proofs.FrontFacts.{more-bound, take-more}
 use Rattle.rubis_keep.proofs.SoundFacts.{sound-front}
 
 -- ---- histories that grow

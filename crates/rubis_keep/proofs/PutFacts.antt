@@ -12,7 +12,7 @@ use Rattle.rubis_engine.specs.Text.{input_records}
 use Rattle.rubis_keep.specs.Files.{AppendsFront, Found}
 use Rattle.rubis_keep.specs.History.{History, Tells, TellsFront, out_in}
 use Rattle.rubis_keep.specs.Kept.{OutEnds, Puts, PutsFront, Wrote}
-use Rattle.rubis_keep.proofs.FileFacts.{appends-kept, more-bound}
+use Rattle.rubis_engine.proofs.FrontFacts.{front-kept as appends-kept, more-bound}
 use Rattle.rubis_keep.proofs.HistoryFacts.{front-front, tells-out}
 
 pub puts-front : (before before2 out out2 : Option (List ℕ)) (n : ℕ) (text : List ℕ) → Found before before2 text n

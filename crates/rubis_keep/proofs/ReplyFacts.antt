@@ -151,10 +151,3 @@ each-unreplied asks input input2 h h2 h3 begun begun2 question s s2 n n2 asked g
 each-unreplied asks input input2 h h2 h3 begun begun2 question s s2 n n2 asked goes (is, inr (k, g)) p s0 kept line input0 h0 a =
     asks-cut asks p s0 kept line input0 input2 h0 h2 h3 begun2 question (reply_text (reply_rows s2.place s2.state n2 question)) s2 n2 k
     (subst (λ v. Asks asks p s0 kept line input0 input2 h0 h2 begun2 s2 n2 (owed v s2 n2 question)) is (goes p s0 kept line input0 h0 a)) g
-
--- a run that stands somewhere may stop there
-pub each-stopped : (asks : Bool) (input input2 : Option (List ℕ)) (h h2 : Option History) (begun begun2 : List ℕ) (s s2 : SiteState) (n n2 : ℕ)
-    → OfEachAsking asks input h begun s n (λ p s0 kept line input0 h0. Asks asks p s0 kept line input0 input2 h0 h2 begun2 s2 n2 [])
-    → OfEachAsking asks input h begun s n (λ p s0 kept line input0 h0. AsksFirst asks p s0 kept line input0 input2 h0 h2)
-each-stopped asks input input2 h h2 begun begun2 s s2 n n2 goes p s0 kept line input0 h0 a =
-    asks-fails asks p s0 kept line input0 input2 input2 h0 h2 h2 begun2 [] s2 n2 [] (goes p s0 kept line input0 h0 a) (consumes-none input2) (silent-none h2)

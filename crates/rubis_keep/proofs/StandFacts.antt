@@ -9,7 +9,8 @@ use Rattle.rubis_keep.specs.Kept.{Fails, InEachRest, InEachStand, KeptFront, Out
 use Rattle.rubis_keep.specs.Lines.{begun_after, kept_after}
 use Rattle.rubis_keep.specs.Places.{begun_bytes}
 use Rattle.rubis_keep.specs.Whole.{IsWhole}
-use Rattle.rubis_keep.proofs.FileFacts.{appends-kept, consumes-more, consumes-none}
+use Rattle.rubis_keep.proofs.FileFacts.{consumes-more, consumes-none}
+use Rattle.rubis_engine.proofs.FrontFacts.{front-kept as appends-kept}
 use Rattle.rubis_keep.proofs.LineFacts.{begun-append, kept-append}
 use Rattle.rubis_keep.proofs.RestFacts.{keeps-same, rests-ends}
 use Rattle.rubis_keep.proofs.WholeFacts.{kept-whole}

@@ -16,7 +16,7 @@ use Rattle.rubis_keep.specs.Places.{begun_bytes}
 use Rattle.rubis_keep.specs.Questions.{reply_rows, reply_text}
 use Rattle.rubis_keep.specs.Shortened.{state_after}
 use Rattle.rubis_keep.specs.Whole.{IsWhole}
-use Rattle.rubis_keep.specs.declared.clerk.Clerk.{Clerk}
+use Rattle.rubis_keep.specs.declared.site.Clerk.{Clerk}
 
 -- ---- what is replied
 
@@ -62,11 +62,6 @@ RepliesTo p s kept input input2 old new r = (bytes : List ℕ) × Consumes input
 abbrev pub RepliesIf : {T E : Type 0} → Bool → Option History → Option History → Result T E → List ℕ → List ℕ → Type 0
 RepliesIf asked old new r question text = MatchResult r (λ _. Grows old new (cond asked (Replied question text ∷ []) []))
     (λ _. (asked ≡ true) × (Grows old new [] ⊎ ((n : ℕ) × Grows old new (Replied question (take n text) ∷ []))))
-
--- a question was replied to
-abbrev pub RepliesOnce : {T E : Type 0} → Option History → Option History → Result T E → List ℕ → List ℕ → Type 0
-RepliesOnce old new r question text = MatchResult r (λ _. Grows old new (Replied question text ∷ []))
-    (λ _. Grows old new [] ⊎ ((n : ℕ) × Grows old new (Replied question (take n text) ∷ [])))
 
 -- ---- how far a run has come
 

@@ -14,3 +14,4 @@ pub mod Pages
 pub mod Questions
 pub mod Asking
 pub mod Standing
+pub mod Steps

@@ -5,11 +5,12 @@ use Rattle.rubis_replica.specs.State.{SiteState}
 use Rattle.rubis_script.specs.SiteRuns.{told_by}
 use Rattle.rubis_keep.specs.Asking.{GoesOnAsking, Reply}
 use Rattle.rubis_keep.specs.History.{HasTold, History, log_of, out_in}
-use Rattle.rubis_keep.specs.Kept.{Fails, InEachStand, IsBegun, Stands, left_of}
+use Rattle.rubis_keep.specs.Kept.{CameOrEnded, Fails, InEachStand, IsBegun, Stands, left_of}
 use Rattle.rubis_keep.specs.Lives.{LivesSafe}
 use Rattle.rubis_keep.specs.Pages.{AreListed}
 use Rattle.rubis_keep.specs.declared.answers.Answers.{Answers}
-use Rattle.rubis_keep.specs.declared.clerk.Clerk.{Clerk}
+use Rattle.rubis_keep.specs.declared.site.Clerk.{Clerk}
+use Rattle.rubis_keep.specs.declared.keeping.Came.{Came}
 use Rattle.rubis_keep.specs.declared.keeping.KeptLines.{KeptLines}
 use Rattle.rubis_keep.specs.declared.pages.Listed.{Listed}
 
@@ -42,6 +43,11 @@ standing input before history live lines clerk answers = record {
   kept = lines.kept;
   listed = lines.listed;
 }
+
+-- what came of an input: a question, only if it asks them; and some bytes, or it is at its end
+pub record HasCome (asks : Bool) (came : Came) (input input2 : Option (List ℕ)) : Type 0 where
+  pub question : came.is_asked ≡ true → asks ≡ true
+  pub end : CameOrEnded came.more input input2
 
 -- nothing is held, and nothing waits to be put; some line is begun; and what is held of a listing is that of this moment
 pub record IsAtRest (s : Standing) : Type 0 where

@@ -10,6 +10,7 @@ use crate::lines::{LINE_MAX, is_sound};
 use rubis_engine::read_through_signals;
 use std::alloc::{AllocError, Global};
 use std::io::Read;
+use std::sync::Wait;
 
 // How many bytes are read at once.
 const PIECE: usize = 65_536;
@@ -50,13 +51,17 @@ fn check_bytes(begun: &mut Vec<u8>, piece: &[u8], lines: &mut u64) -> Result<boo
 }
 
 /// Reads what was kept, and refuses it if it has a line that isn't kept as it is.
-pub(crate) fn check_kept<C: Read>(alloc: Global, kept: &mut C) -> Result<(), KeepFault>
+pub(crate) fn check_kept<T: Wait, C: Read>(
+    rt: &T,
+    alloc: Global,
+    kept: &mut C,
+) -> Result<(), KeepFault>
     ensures { OnOk result (IfSome (C.remaining kept.old) (λ text. AreSound [] text)) }
 {
     let mut piece = [0; PIECE];
     let mut begun = Vec::new(alloc);
     let mut lines = 0;
-    for _turn in 0..u64::MAX {
+    for _turn in rt.forever() {
         match read_through_signals(kept, &mut piece) {
             Ok(0) => return Ok(()),
             Ok(given) => {
@@ -67,5 +72,5 @@ pub(crate) fn check_kept<C: Read>(alloc: Global, kept: &mut C) -> Result<(), Kee
             Err(e) => return Err(KeepFault::ReadKept(e)),
         }
     }
-    Err(KeepFault::TooLong)
+    unreachable!()
 }

@@ -1,21 +1,20 @@
 //! The answers of a site to a text of whole records.
 
-ghost use Rattle.std.specs.Prelude.{◌≡◌, ◌<◌, ◌+◌, ◌++◌, ◌^◌, [], ℕ, List, IfOk, MatchBool, OnErr, OnOk, false, true};
+ghost use Rattle.std.specs.Prelude.{◌≡◌, ◌<◌, ◌+◌, ◌^◌, ℕ, List, IfOk, MatchBool, OnErr, OnOk, false, true};
 ghost use Rattle.rubis_engine.specs.Accounts.{AnswersRecord};
 ghost use Rattle.rubis_engine.specs.declared.service.Course.TheVariants.{GoesOn};
 ghost use Rattle.rubis_engine.specs.Reading.{Advances, Gives, fields_now};
 ghost use Rattle.rubis_script.specs.Desks.{left_at};
-ghost use Rattle.rubis_script.specs.Headline.{Settles};
 ghost use Rattle.rubis_script.specs.SiteRuns.{told_by};
-ghost use Rattle.rubis_engine.specs.Text.{input_records};
-ghost use Rattle.rubis_keep.specs.Asking.{LeadsOn, LedBy, StepsDesk};
+ghost use Rattle.rubis_keep.specs.Asking.{LeadsOn, StepsDesk};
 ghost use Rattle.rubis_keep.specs.History.{HasTold, out_in};
-ghost use Rattle.rubis_keep.specs.Kept.{FeedEnds, Finished, FinishedFront, InEachFeed, InEachRest, OutEnds, Rests};
+ghost use Rattle.rubis_keep.specs.Kept.{FeedEnds, FinishedFront, InEachFeed, OutEnds};
+ghost use Rattle.rubis_keep.specs.Steps.{FeedsChunk, Finishes, IsIdle};
 ghost use Rattle.rubis_keep.specs.Whole.{IsWhole};
 
 use crate::answers::Answers;
-use crate::clerk::Clerk;
 use crate::fault::KeepFault;
+use crate::site::Clerk;
 use crate::site_files::SiteFiles;
 use rubis_engine::Records;
 use rubis_script::Gate;
@@ -45,25 +44,12 @@ fn answer_next<G: Gate, T: Threads + Wait + Sync, R: Read>(
 }
 
 // Takes in the messages that are held, and puts the answers.
-#[tactic(auto, using(crate::proofs::HistoryFacts::told_none))]
 fn finish<G: Gate, T: Threads + Wait + Sync, O: Read, F: SiteFiles>(
     rt: &T,
     clerk: &mut Clerk<G>,
     answers: &mut Answers<O, F>,
 ) -> Result<(), KeepFault>
-    ensures ok { OnOk result (Finished (left_at clerk.old.desk)
-        (told_by clerk.new.desk.site
-        (clerk.old.desk.answered + 1)) clerk.old.desk.reply.sink (O.remaining answers.old.before) (O.remaining answers.new.before)
-        (out_in (F.history answers.old.files)) (out_in (F.history answers.new.files))) }
-    ensures same { OnOk result ((clerk.new.desk.answered ≡ clerk.old.desk.answered)
-        × Settles clerk.old.desk.site clerk.old.desk.window.items clerk.new.desk.site clerk.new.desk.window.items) }
-    ensures empty { OnOk result (clerk.new.desk.reply.sink ≡ []) }
-    ensures window { OnOk result (clerk.new.desk.window.items ≡ []) }
-    ensures err { OnErr result (FinishedFront (left_at clerk.old.desk)
-        (told_by clerk.new.desk.site
-        (clerk.old.desk.answered + 1)) clerk.old.desk.reply.sink (O.remaining answers.old.before) (O.remaining answers.new.before)
-        (out_in (F.history answers.old.files)) (out_in (F.history answers.new.files))) }
-    ensures told { HasTold answers.old.is_live answers.new.is_live (F.history answers.old.files) (F.history answers.new.files) result }
+    ensures { Finishes O.remaining F.history clerk.old clerk.new answers.old answers.new result }
 {
     clerk.desk.flush(rt)?;
     answers.put_sink(&mut clerk.desk.reply.sink)
@@ -121,7 +107,6 @@ fn feed_records<G: Gate, T: Threads + Wait + Sync, R: Read, O: Read, F: SiteFile
 }
 
 /// Answers a text of whole records.
-#[tactic(auto, using(crate::proofs::HistoryFacts::told_none))]
 pub(crate) fn feed_chunk<G: Gate, T: Threads + Wait + Sync, O: Read, F: SiteFiles>(
     rt: &T,
     chunk: &[u8],
@@ -129,20 +114,8 @@ pub(crate) fn feed_chunk<G: Gate, T: Threads + Wait + Sync, O: Read, F: SiteFile
     answers: &mut Answers<O, F>,
 ) -> Result<(), KeepFault>
     requires whole { IsWhole chunk.now }
-    requires empty { clerk.old.desk.reply.sink ≡ [] }
-    requires window { clerk.old.desk.window.items ≡ [] }
-    ensures ok { OnOk result (InEachRest (told_by clerk.old.desk.site (clerk.old.desk.answered + 1)) (O.remaining answers.old.before)
-        (out_in (F.history answers.old.files)) (clerk.old.desk.answered + 1)
-        (λ all told old out0 kept. Rests all (told_by clerk.new.desk.site (clerk.new.desk.answered + 1)) told old (O.remaining answers.new.before) out0
-        (out_in (F.history answers.new.files)) (clerk.new.desk.answered + 1) (kept ++ chunk.now))) }
-    ensures empty { OnOk result (clerk.new.desk.reply.sink ≡ []) }
-    ensures window { OnOk result (clerk.new.desk.window.items ≡ []) }
-    ensures err { OnErr result (InEachRest (told_by clerk.old.desk.site (clerk.old.desk.answered + 1)) (O.remaining answers.old.before)
-        (out_in (F.history answers.old.files)) (clerk.old.desk.answered + 1)
-        (λ all told old out0 kept. OutEnds all told old out0 (out_in (F.history answers.new.files)) (kept ++ chunk.now))) }
-    ensures told { HasTold answers.old.is_live answers.new.is_live (F.history answers.old.files) (F.history answers.new.files) result }
-    ensures leads { OnOk result (LedBy clerk.old.desk.site.place clerk.old.desk.site.state clerk.old.desk.answered clerk.new.desk.site
-        clerk.new.desk.answered (input_records chunk.now)) }
+    requires idle { IsIdle clerk.old.desk.window.items clerk.old.desk.reply.sink }
+    ensures { FeedsChunk O.remaining F.history chunk.now clerk.old clerk.new answers.old answers.new result }
 {
     // Between two questions no record stands, and a reader takes longer to make than most questions to answer.
     if chunk.is_empty() {

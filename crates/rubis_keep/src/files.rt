@@ -1,6 +1,6 @@
 //! The files of a site in a folder.
 
-use crate::folder_fault::FolderFault;
+use crate::fault::FolderFault;
 use crate::setup::{Setup, write_setup};
 use crate::site_files::SiteFiles;
 use std::fs::{File, Files, OpenOptions, TryLockError};

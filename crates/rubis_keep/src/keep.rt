@@ -6,9 +6,8 @@ ghost use Rattle.rubis_script.specs.Replica.{setup_place};
 ghost use Rattle.rubis_keep.specs.Setups.{GoesOn, next_setup, opening_setup, place_of};
 
 use crate::answers::Answers;
-use crate::fault::KeepFault;
+use crate::fault::{FolderFault, KeepFault};
 use crate::files::{FolderFiles, begin, flush_names, open, settle, take_lock};
-use crate::folder_fault::FolderFault;
 use crate::run::Recording;
 use crate::setup::{ANSWERS, Setup, read_setup, write_setup};
 use crate::shortening::shorten;

@@ -2,8 +2,9 @@
 
 ghost use Rattle.std.specs.Prelude.{◌≡◌, [], ℕ, List, IfOk, None, OnErr, true};
 ghost use Rattle.rubis_keep.specs.History.{HasKept};
-ghost use Rattle.rubis_keep.specs.Kept.{CameOrEnded, KeptFront, TookQuestion, left_of};
+ghost use Rattle.rubis_keep.specs.Kept.{KeptFront, TookQuestion, left_of};
 ghost use Rattle.rubis_keep.specs.Places.{begun_bytes};
+ghost use Rattle.rubis_keep.specs.Standing.{HasCome};
 
 use crate::fault::KeepFault;
 use crate::lines::LineCutter;
@@ -99,11 +100,10 @@ pub(crate) fn read_next<R: Read>(
     lines: &mut KeptLines,
     asks: bool,
 ) -> Result<Came, KeepFault>
-    ensures asks { IfOk result (λ came. came.is_asked ≡ true → asks ≡ true) }
     ensures ok { IfOk result (λ came. (line : List ℕ) → lines.old.cutter ≡ begun_bytes line
         → TookQuestion asks line (left_of lines.old.unread (R.remaining live.old)) (left_of lines.new.unread (R.remaining live.new)) lines.new.chunk.items
         lines.new.cutter came.more came.is_asked lines.new.question.items) }
-    ensures end { IfOk result (λ came. CameOrEnded came.more (left_of lines.old.unread (R.remaining live.old)) (left_of lines.new.unread (R.remaining live.new))) }
+    ensures came { IfOk result (λ came. HasCome asks came (left_of lines.old.unread (R.remaining live.old)) (left_of lines.new.unread (R.remaining live.new))) }
     ensures err { OnErr result ((line : List ℕ) → lines.old.cutter ≡ begun_bytes line
         → KeptFront asks line (left_of lines.old.unread (R.remaining live.old)) (left_of lines.new.unread (R.remaining live.new)) None None) }
     ensures others { (lines.new.kept ≡ lines.old.kept) × (lines.new.listed ≡ lines.old.listed) }

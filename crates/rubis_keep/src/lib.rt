@@ -4,13 +4,11 @@
 
 mod answers;
 mod checking;
-mod clerk;
 mod comparing;
 mod counts;
 mod fault;
 mod feeding;
 mod files;
-mod folder_fault;
 mod keep;
 mod keeping;
 mod lines;
@@ -26,12 +24,9 @@ mod showing;
 mod site;
 mod site_files;
 mod unread;
-mod writing;
 
 pub use answers::Answers;
-pub use clerk::Clerk;
-pub use fault::{Difference, KeepFault};
-pub use folder_fault::FolderFault;
+pub use fault::{Difference, FolderFault, KeepFault};
 pub use keep::{Wanted, keep_folder};
 pub use keeping::KeptLines;
 pub use lines::{Cut, LINE_MAX, LineCutter};
@@ -40,6 +35,6 @@ pub use questions::Question;
 pub use run::{Recording, run_kept};
 pub use setup::Setup;
 pub use shortening::shorten;
-pub use site::keep_site;
+pub use site::{Clerk, keep_site};
 pub use site_files::SiteFiles;
 pub use unread::Unread;

@@ -11,9 +11,9 @@ ghost use Rattle.rubis_keep.specs.Pages.{AreListed, behind, has_pages, page_aske
 ghost use Rattle.rubis_keep.specs.Showing.{counted_rows};
 ghost use Rattle.rubis_keep.specs.declared.pages.TheConstants.{PAGE_MAX, PLACE_MAX};
 
-use crate::clerk::Clerk;
 use crate::fault::KeepFault;
 use crate::showing::{refuse, show_count};
+use crate::site::Clerk;
 use rubis_engine::{OutOfMemory, Sink};
 use rubis_message::{ReadFault, Request, read_request};
 use rubis_schema::{Fields, Items, Listing, Record, Text, read_number};

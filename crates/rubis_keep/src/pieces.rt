@@ -5,14 +5,15 @@ ghost use Rattle.std.specs.Io.KnownBytes.{IsAtEnd};
 ghost use Rattle.rubis_keep.specs.Asking.{owed};
 ghost use Rattle.rubis_keep.specs.Kept.{CameOrEnded, IsBegun, left_of};
 ghost use Rattle.rubis_keep.specs.Standing.{GoesOn, IsAtRest, standing};
+ghost use Rattle.rubis_keep.specs.Steps.{IsIdle};
 
 use crate::answers::Answers;
-use crate::clerk::Clerk;
 use crate::fault::KeepFault;
 use crate::feeding::feed_chunk;
 use crate::keeping::{Came, KeptLines, keep_chunk, read_next};
 use crate::pages::let_go;
 use crate::replying::reply_if;
+use crate::site::Clerk;
 use crate::site_files::SiteFiles;
 use rubis_script::Gate;
 use std::io::Read;
@@ -83,8 +84,7 @@ pub(crate) fn answer_pieces<G: Gate, T: Threads + Wait + Sync, R: Read, O: Read,
     clerk: &mut Clerk<G>,
     answers: &mut Answers<O, F>,
 ) -> Result<(), KeepFault>
-    requires window { clerk.old.desk.window.items ≡ [] }
-    requires empty { clerk.old.desk.reply.sink ≡ [] }
+    requires idle { IsIdle clerk.old.desk.window.items clerk.old.desk.reply.sink }
     requires begun { IsBegun lines.old.cutter }
     ensures goes { GoesOn keeps (standing R.remaining O.remaining F.history live.old lines.old clerk.old answers.old)
         (standing R.remaining O.remaining F.history live.new lines.new clerk.new answers.new)
@@ -92,10 +92,10 @@ pub(crate) fn answer_pieces<G: Gate, T: Threads + Wait + Sync, R: Read, O: Read,
     ensures end { OnOk result (IsAtEnd (left_of lines.new.unread (R.remaining live.new))) }
 {
     lines.listed = None;
-    for _turn in 0..u64::MAX {
+    for _turn in rt.forever() {
         if !next_piece(rt, live, keeps, lines, clerk, answers)? {
             return Ok(());
         }
     }
-    Err(KeepFault::TooLong)
+    unreachable!()
 }

@@ -10,13 +10,13 @@ ghost use Rattle.rubis_keep.specs.declared.questions.Question.TheVariants as Que
 ghost use Rattle.rubis_keep.specs.Pages.{AreListed};
 ghost use Rattle.rubis_keep.specs.Questions.{key_in, or_none, question_in, question_of, reply_rows, row_asked, row_shown, says_state, shown_to, state_row};
 
-use crate::clerk::Clerk;
 use crate::counts::push_counts;
 use crate::fault::KeepFault;
 use crate::lines::{LINE_MAX, closes};
 use crate::pages::{Listed, Page, read_page, turn_page};
 use crate::plain_lines::{behind_first, read_plain};
 use crate::showing::{refuse, row, show_counted};
+use crate::site::Clerk;
 use rubis_engine::{OutOfMemory, Records, Sink};
 use rubis_message::{ReadFault, Request, read_request};
 use rubis_replica::put_record;

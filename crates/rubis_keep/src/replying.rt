@@ -2,15 +2,16 @@
 
 ghost use Rattle.std.specs.Prelude.{◌≡◌, ◌∷◌, ◌⊎◌, [], IfOk, OnErr, OnOk};
 ghost use Rattle.rubis_engine.specs.Text.{rows_text};
-ghost use Rattle.rubis_keep.specs.Asking.{IsUnmoved, RepliesIf, RepliesOnce};
+ghost use Rattle.rubis_keep.specs.Asking.{RepliesIf};
 ghost use Rattle.rubis_keep.specs.Pages.{AreListed};
 ghost use Rattle.rubis_keep.specs.Questions.{reply_rows, reply_text};
+ghost use Rattle.rubis_keep.specs.Steps.{IsStill};
 
 use crate::answers::Answers;
-use crate::clerk::Clerk;
 use crate::fault::KeepFault;
 use crate::pages::Listed;
 use crate::questions::answer;
+use crate::site::Clerk;
 use crate::site_files::SiteFiles;
 use rubis_engine::Sink;
 use rubis_script::Gate;
@@ -39,29 +40,6 @@ fn text_of(alloc: Global, mut rows: Sink) -> Result<Vec<u8>, KeepFault>
     }
 }
 
-// Answers a line that is a question on standard output alone.
-fn reply<G: Gate, T: Threads + Wait + Sync, O: Read, F: SiteFiles>(
-    rt: &T,
-    question: &[u8],
-    listed: &mut Option<Listed>,
-    clerk: &mut Clerk<G>,
-    answers: &mut Answers<O, F>,
-) -> Result<(), KeepFault>
-    requires listed { AreListed clerk.old.desk.site.state listed.old }
-    ensures listed { AreListed clerk.old.desk.site.state listed.new }
-    ensures same { IsUnmoved clerk.old clerk.new }
-    ensures before { (answers.new.before ≡ answers.old.before) × (answers.new.is_live ≡ answers.old.is_live) }
-    ensures replied { RepliesOnce (F.history answers.old.files) (F.history answers.new.files) result question.now
-        (reply_text (reply_rows clerk.old.desk.site.place clerk.old.desk.site.state clerk.old.desk.answered question.now)) }
-{
-    let rows = answer(rt, clerk, listed, question)?;
-    let text = text_of(answers.alloc(), rows)?;
-    match answers.files.reply(question, &text) {
-        Ok(()) => Ok(()),
-        Err(e) => Err(KeepFault::Show(e)),
-    }
-}
-
 /// Answers a line on standard output alone, if it is a question that was asked. What is pending at the site may be applied; nothing
 /// else changes.
 pub(crate) fn reply_if<G: Gate, T: Threads + Wait + Sync, O: Read, F: SiteFiles>(
@@ -73,14 +51,17 @@ pub(crate) fn reply_if<G: Gate, T: Threads + Wait + Sync, O: Read, F: SiteFiles>
     answers: &mut Answers<O, F>,
 ) -> Result<(), KeepFault>
     requires listed { AreListed clerk.old.desk.site.state listed.old }
-    ensures listed { AreListed clerk.old.desk.site.state listed.new }
-    ensures same { IsUnmoved clerk.old clerk.new }
-    ensures before { (answers.new.before ≡ answers.old.before) × (answers.new.is_live ≡ answers.old.is_live) }
+    ensures still { IsStill clerk.old clerk.new answers.old answers.new listed.new }
     ensures replied { RepliesIf is_asked (F.history answers.old.files) (F.history answers.new.files) result question.now
         (reply_text (reply_rows clerk.old.desk.site.place clerk.old.desk.site.state clerk.old.desk.answered question.now)) }
 {
-    if is_asked {
-        return reply(rt, question, listed, clerk, answers);
+    if !is_asked {
+        return Ok(());
     }
-    Ok(())
+    let rows = answer(rt, clerk, listed, question)?;
+    let text = text_of(answers.alloc(), rows)?;
+    match answers.files.reply(question, &text) {
+        Ok(()) => Ok(()),
+        Err(e) => Err(KeepFault::Show(e)),
+    }
 }

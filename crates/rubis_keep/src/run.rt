@@ -1,28 +1,26 @@
 //! A site that keeps its records, and goes on where an earlier run was cut off.
 
-ghost use Rattle.std.specs.Prelude.{◌≡◌, ◌+◌, ◌∷◌, ◌⊎◌, [], ℕ, List, Option, OnErr, OnOk, Some, false, map};
+ghost use Rattle.std.specs.Prelude.{◌≡◌, ◌∷◌, ◌⊎◌, [], ℕ, List, OnErr, OnOk, Some, false, map};
 ghost use Rattle.std.specs.List.{range_with_len};
-ghost use Rattle.rubis_engine.specs.Accounts.{Account};
 ghost use Rattle.rubis_engine.specs.Accounts.Ending.{AtEnd};
 ghost use Rattle.rubis_script.specs.SiteRuns.{told_by};
-ghost use Rattle.rubis_engine.specs.Text.{input_records};
 ghost use Rattle.rubis_model.specs.Settle.{counted};
-ghost use Rattle.rubis_model.specs.Site.{Place, Replica};
-ghost use Rattle.rubis_keep.specs.Asking.{LedBy, RepliesTo};
-ghost use Rattle.rubis_keep.specs.History.{Grows, HasDone, HasTold, History, StaysSafe, kept_in, now, out_in};
+ghost use Rattle.rubis_keep.specs.Asking.{RepliesTo};
+ghost use Rattle.rubis_keep.specs.History.{Grows, HasDone, History, StaysSafe, kept_in, now, out_in};
 ghost use Rattle.rubis_keep.specs.History.Event.{Began, CutTo, Flushed, Settled};
-ghost use Rattle.rubis_keep.specs.Kept.{Begins, Ended, Lived, Opens, Replayed};
-ghost use Rattle.rubis_keep.specs.Lines.{AreSound, whole_lines};
-ghost use Rattle.rubis_keep.specs.Lives.{Found, IsOpened};
+ghost use Rattle.rubis_keep.specs.Kept.{Ended, Lived, Opens};
+ghost use Rattle.rubis_keep.specs.Lives.{IsOpened};
+ghost use Rattle.rubis_keep.specs.Standing.{standing};
+ghost use Rattle.rubis_keep.specs.Steps.{HasReadNone, IsIdle, LivesOn, Replays};
 
 use crate::answers::Answers;
 use crate::checking::check_kept;
-use crate::clerk::Clerk;
 use crate::counts::counts_of;
 use crate::fault::KeepFault;
 use crate::keeping::KeptLines;
 use crate::lines::LineCutter;
 use crate::pieces::answer_pieces;
+use crate::site::Clerk;
 use crate::site_files::SiteFiles;
 use rubis_script::Gate;
 use std::io::Read;
@@ -52,25 +50,10 @@ fn replay<G: Gate, T: Threads + Wait + Sync, P: Read, O: Read, F: SiteFiles>(
     clerk: &mut Clerk<G>,
     answers: &mut Answers<O, F>,
 ) -> Result<(), KeepFault>
-    requires window { clerk.old.desk.window.items ≡ [] }
-    requires empty { clerk.old.desk.reply.sink ≡ [] }
-    requires answered { clerk.old.desk.answered ≡ 0 }
-    requires cutter { lines.old.cutter ≡ [] }
-    requires unread { lines.old.unread ≡ [] }
-    requires kept { lines.old.kept ≡ 0 }
-    ensures ok { OnOk result ((kept old : List ℕ) → Begins kept old (P.remaining past.old) (Some kept) (O.remaining answers.old.before)
-        (out_in (F.history answers.old.files))
-        → Replayed (told_by clerk.old.desk.site 1) (told_by clerk.new.desk.site
-        (clerk.new.desk.answered + 1)) kept old (O.remaining answers.new.before) (out_in (F.history answers.new.files)) (clerk.new.desk.answered + 1) lines.new.kept) }
-    ensures window { OnOk result (clerk.new.desk.window.items ≡ []) }
-    ensures empty { OnOk result (clerk.new.desk.reply.sink ≡ []) }
-    ensures err { OnErr result ((kept old : List ℕ) (input : Option (List ℕ))
-        → Begins kept old (P.remaining past.old) (Some kept) (O.remaining answers.old.before) (out_in (F.history answers.old.files))
-        → Ended (told_by clerk.old.desk.site 1) kept old input input (Some kept) (out_in (F.history answers.new.files))) }
-    ensures told { HasTold answers.old.is_live answers.new.is_live (F.history answers.old.files) (F.history answers.new.files) result }
-    ensures led { OnOk result ((kept old : List ℕ) → Begins kept old (P.remaining past.old) (Some kept) (O.remaining answers.old.before)
-        (out_in (F.history answers.old.files))
-        → LedBy clerk.old.desk.site.place clerk.old.desk.site.state 0 clerk.new.desk.site clerk.new.desk.answered (input_records (whole_lines kept))) }
+    requires idle { IsIdle clerk.old.desk.window.items clerk.old.desk.reply.sink }
+    requires fresh { HasReadNone lines.old × (clerk.old.desk.answered ≡ 0) }
+    ensures { Replays (P.remaining past.old) (standing P.remaining O.remaining F.history past.old lines.old clerk.old answers.old)
+        (standing P.remaining O.remaining F.history past.new lines.new clerk.new answers.new) result }
 {
     match answer_pieces(rt, past, false, lines, clerk, answers) {
         Ok(()) => answers.check_end(),
@@ -124,23 +107,9 @@ fn go_on<G: Gate, T: Threads + Wait + Sync, O: Read, F: SiteFiles, R: Read>(
     clerk: &mut Clerk<G>,
     answers: &mut Answers<O, F>,
 ) -> Result<(), KeepFault>
-    requires window { clerk.old.desk.window.items ≡ [] }
-    requires empty { clerk.old.desk.reply.sink ≡ [] }
-    ensures ok { OnOk result ((all : Account) (kept old : List ℕ) → AreSound [] kept → kept_in (F.history answers.old.files) ≡ Some kept
-        → Replayed all (told_by clerk.old.desk.site
-        (clerk.old.desk.answered + 1)) kept old (O.remaining answers.old.before) (out_in (F.history answers.old.files)) (clerk.old.desk.answered + 1) lines.old.kept
-        → Lived all kept old (R.remaining live.old) (R.remaining live.new) (kept_in (F.history answers.new.files)) (out_in (F.history answers.new.files))) }
-    ensures err { OnErr result ((all : Account) (kept old : List ℕ) → AreSound [] kept → kept_in (F.history answers.old.files) ≡ Some kept
-        → Replayed all (told_by clerk.old.desk.site
-        (clerk.old.desk.answered + 1)) kept old (O.remaining answers.old.before) (out_in (F.history answers.old.files)) (clerk.old.desk.answered + 1) lines.old.kept
-        → Ended all kept old (R.remaining live.old) (R.remaining live.new) (kept_in (F.history answers.new.files)) (out_in (F.history answers.new.files))) }
-    ensures safe { (all : Account) (kept old : List ℕ) (h : History) → F.history answers.old.files ≡ Some h → AreSound [] kept → Found kept (now h)
-        → Replayed all (told_by clerk.old.desk.site
-        (clerk.old.desk.answered + 1)) kept old (O.remaining answers.old.before) (out_in (F.history answers.old.files)) (clerk.old.desk.answered + 1) lines.old.kept
-        → StaysSafe (all.text AtEnd) (Some h) (F.history answers.new.files) }
-    ensures asked { (p : Place) (s : Replica) (kept : List ℕ) → AreSound [] kept
-        → LedBy p s 0 clerk.old.desk.site clerk.old.desk.answered (input_records (whole_lines kept))
-        → RepliesTo p s kept (R.remaining live.old) (R.remaining live.new) (F.history answers.old.files) (F.history answers.new.files) result }
+    requires { IsIdle clerk.old.desk.window.items clerk.old.desk.reply.sink }
+    ensures { LivesOn (R.remaining live.old) (R.remaining live.new) (standing R.remaining O.remaining F.history live.old lines.old clerk.old answers.old)
+        (F.history answers.new.files) result }
 {
     cut_and_flush(&mut answers.files, lines.kept)?;
     lines.cutter = LineCutter::new(clerk.alloc);
@@ -197,7 +166,7 @@ pub fn run_kept<
         (F.history answers.new.files) result }
 {
     let mut lines = KeptLines::new(clerk.alloc)?;
-    check_kept(clerk.alloc, &mut recording.first)?;
+    check_kept(rt, clerk.alloc, &mut recording.first)?;
     flush(&mut answers.files)?;
     replay(rt, &mut recording.past, &mut lines, clerk, answers)?;
     go_on(rt, live, &mut lines, clerk, answers)

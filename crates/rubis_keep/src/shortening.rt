@@ -1,6 +1,7 @@
 //! What was kept, without the lines whose records changed nothing.
 
-ghost use Rattle.std.specs.Prelude.{◌≡◌, ◌≤◌, ◌++◌, ◌∷◌, [], ℕ, List, IfOk, OnOk, None, cond, false};
+ghost use Rattle.std.specs.Prelude.{◌≡◌, ◌≤◌, ◌++◌, ◌∷◌, [], ℕ, List, IfOk, OnErr, OnOk, None, cond, false};
+ghost use Rattle.std.specs.Io.KnownBytes.{Appends};
 ghost use Rattle.rubis_message.specs.Grammar.{IsPacket, IsRequest};
 ghost use Rattle.rubis_message.specs.Message.{sites_of};
 ghost use Rattle.rubis_schema.specs.declared.refusals.Refusal.{Refusal};
@@ -8,6 +9,7 @@ ghost use Rattle.rubis_script.specs.Replica.fault_variants as Fault;
 ghost use Rattle.rubis_message.specs.declared.tokens.Packet.TheVariants as Packet;
 ghost use Rattle.rubis_message.specs.Inputs.{input_of};
 ghost use Rattle.rubis_message.specs.declared.inputs.Input.TheVariants.{Asked, Came};
+ghost use Rattle.rubis_engine.specs.Progress.{AppendsFront};
 ghost use Rattle.rubis_engine.specs.Text.{input_records};
 ghost use Rattle.rubis_model.specs.Site.{Replica, opening_at};
 ghost use Rattle.rubis_script.specs.Replica.{setup_place};
@@ -15,15 +17,14 @@ ghost use Rattle.rubis_keep.specs.Lines.{AreSound};
 ghost use Rattle.rubis_keep.specs.Shortened.{IsShort, Shortens, TakesRecord, TakesRecords};
 
 use crate::fault::KeepFault;
-use crate::writing::write_front;
-use rubis_engine::{InputRecord, OutOfMemory, Records, read_through_signals};
+use rubis_engine::{InputRecord, OutOfMemory, Records, read_through_signals, write_front};
 use rubis_message::{Arrival, Input, Message, Packet, Request, Taken, Token};
 use rubis_script::{Config, Desk, Fault, Free, Gate, Site};
 use std::alloc::{AllocError, Global};
 use std::io::{Read, Write};
-use std::mem;
 use std::sync::Wait;
 use std::thread::Threads;
+use std::{io, mem};
 
 // How many bytes are read at once.
 const PIECE: usize = 65_536;
@@ -208,6 +209,15 @@ fn take_piece<G: Gate, T: Threads + Wait + Sync>(
     Ok(())
 }
 
+// Writes these bytes, and flushes the writer. A writer that failed has a prefix of them.
+fn write_and_flush<W: Write>(writer: &mut W, bytes: &[u8]) -> io::Result<()>
+    ensures ok { OnOk result (Appends (W.contents writer.old) (W.contents writer.new) bytes.now) }
+    ensures err { OnErr result (AppendsFront (W.contents writer.old) (W.contents writer.new) bytes.now) }
+{
+    write_front(writer, bytes)?;
+    writer.flush()
+}
+
 // Reads what was kept to its end, and writes it without the lines whose records change nothing.
 fn shorten_at<G: Gate, T: Threads + Wait + Sync, P: Read, W: Write>(
     rt: &T,
@@ -221,20 +231,20 @@ fn shorten_at<G: Gate, T: Threads + Wait + Sync, P: Read, W: Write>(
     let mut line = Vec::new(alloc);
     let mut text = Vec::new(alloc);
     let mut piece = [0; PIECE];
-    for _turn in 0..u64::MAX {
+    for _turn in rt.forever() {
         match read_through_signals(past, &mut piece) {
             Ok(0) => return Ok(()),
             Ok(given) => {
                 text.clear();
                 take_piece(rt, desk, &mut line, &piece[..given], &mut text)?;
-                if let Err(e) = write_front(fresh, &text) {
+                if let Err(e) = write_and_flush(fresh, &text) {
                     return Err(KeepFault::WriteKept(e));
                 }
             }
             Err(e) => return Err(KeepFault::ReadKept(e)),
         }
     }
-    Err(KeepFault::TooLong)
+    unreachable!()
 }
 
 /// Writes what was kept without the lines whose records changed nothing where they were read: refusals, repeats and listings. A

@@ -1,6 +1,6 @@
-//! A site that keeps its records, from its configuration.
+//! A site at its desk, for as long as records come, and its run from its configuration on.
 
-ghost use Rattle.std.specs.Prelude.{◌≡◌, ℕ, List, OnErr, OnOk, Some, false};
+ghost use Rattle.std.specs.Prelude.{◌≡◌, ℕ, List, OnErr, OnOk, Some, false, IfOk};
 ghost use Rattle.rubis_model.specs.Site.{opening_at};
 ghost use Rattle.rubis_script.specs.Replica.{setup_place};
 ghost use Rattle.rubis_script.specs.SiteRuns.{site_account};
@@ -9,18 +9,40 @@ ghost use Rattle.rubis_keep.specs.Asking.{RepliesTo};
 ghost use Rattle.rubis_keep.specs.History.{History, StaysSafe, kept_in, now, out_in};
 ghost use Rattle.rubis_keep.specs.Kept.{Ended, Lived, Opens};
 ghost use Rattle.rubis_keep.specs.Lives.{IsOpened};
+ghost use Rattle.rubis_script.specs.Desks.{IsFresh};
 
 use crate::answers::Answers;
-use crate::clerk::Clerk;
 use crate::fault::KeepFault;
 use crate::run::{Recording, run_kept};
 use crate::site_files::SiteFiles;
-use rubis_script::{Config, Free};
-use std::alloc::Global;
+use rubis_script::{Config, Desk, Free, Gate};
+use std::alloc::{AllocError, Global};
 use std::io::Read;
 use std::mem;
 use std::sync::Wait;
 use std::thread::Threads;
+
+/// A site at its desk, and how many records it answers.
+#[derive(Drop)]
+pub struct Clerk<G: Gate = Free> {
+    pub desk: Desk<G>,
+    pub(crate) limit: u64,
+    pub(crate) alloc: Global,
+}
+
+impl<G: Gate + Drop> Clerk<G> {
+    /// A site with nothing done, set up so, that answers up to `limit` records.
+    pub fn new(alloc: Global, config: &Config, gate: G, limit: u64) -> Result<Clerk<G>, AllocError>
+        ensures site { IfOk result (λ clerk. (clerk.desk.site.place ≡ setup_place config.now) × (clerk.desk.site.state ≡ opening_at config.now.site)) }
+        ensures fresh { IfOk result (λ clerk. IsFresh clerk.desk) }
+    {
+        Ok(Clerk {
+            desk: Desk::new(alloc, config, gate)?,
+            limit,
+            alloc,
+        })
+    }
+}
 
 /// Runs a site that keeps its records, as `run_kept`, up to `limit` of them, for a program that ends with it: the site isn't
 /// taken apart, since the process gives its memory back at once.

@@ -27,7 +27,7 @@ unfolding AreInputs
 first-of sites [] p left h = absurd h
 first-of sites (fields ∷ more) p left h = record { fields = fields; more = more; parts = refl; one = h.0; others = h.1 }
 
-none-of : (sites : ℕ) (rows : List (List (List ℕ))) → AreInputs sites rows [] → rows ≡ []
+pub none-of : (sites : ℕ) (rows : List (List (List ℕ))) → AreInputs sites rows [] → rows ≡ []
 unfolding AreInputs
 none-of sites [] h = refl
 none-of sites (fields ∷ rows) h = absurd h
@@ -217,6 +217,10 @@ ahead-done sites ps all more old now sink n k limit records later empty none rea
     (subst (λ t. Appends old now t) (sym text) h.appended, omega (arith, read, reads, h.count, e), within)
 
 -- ---- what was found
+
+pub match-none : {A : Type 0} (o : Option A) (P : Type 0) (Q : A → Type 0) → MatchOption o P Q → o ≡ None → P
+match-none None P Q h e = h
+match-none (Some x) P Q h e = absurd cc
 
 pub match-some : {A : Type 0} (o : Option A) (P : Type 0) (Q : A → Type 0) (x : A) → MatchOption o P Q → o ≡ Some x → Q x
 match-some None P Q x h e = absurd cc

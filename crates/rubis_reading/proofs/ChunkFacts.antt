@@ -3,12 +3,12 @@ use Rattle.std.proofs.Common.{◌≡◌, ◌≤◌, ◌<◌, ◌+◌, ◌-◌, �
 use Rattle.std.proofs.Common.{append-nil, length-append, take-append-drop}
 use Rattle.std.proofs.Transfers.{drop-appended}
 use Rattle.std.proofs.lemmas.List.{length-take-le}
-use Rattle.std.specs.Prelude.{Bool, Err, IfOk, IfSome, Ok, OnOk, Result, false, true}
-use Rattle.std.specs.Io.KnownBytes.{Consumes, IsAtEnd, Keeps, prepend_known}
+use Rattle.std.specs.Prelude.{Bool, IfSome}
+use Rattle.std.specs.Io.KnownBytes.{Consumes, Keeps, prepend_known}
 use Rattle.csv.specs.Reading.{strip_bom}
 use Rattle.rubis_reading.specs.Streams.{IsWhole, records_on}
 use Rattle.rubis_engine.specs.Text.{input_records}
-use Rattle.rubis_reading.specs.Chunked.{HasCome, HasPending, IsFilled, KeepsCome, KeepsPending}
+use Rattle.rubis_reading.specs.Chunked.{HasCome, HasPending, IsChunk, IsFilled, KeepsCome, KeepsPending, held_text}
 use Rattle.rubis_reading.specs.declared.chunks.Chunks.{Chunks}
 use Rattle.rubis_reading.proofs.StreamFacts.{all-from-here, cut-off}
 
@@ -64,6 +64,13 @@ taken held bytes (Some xs) many some within whole e =
       refl,
       ap input_records split ∙ cut-off (take many held) (drop many held ++ xs) whole ∙ ap (λ t. input_records (take many held) ++ input_records t) (sym left),
     )
+
+-- a chunk stands first
+pub pending-front : {R : Type 0} (rem : R → Option (List ℕ)) (c : Chunks R) (many : ℕ) (rows : List (List (List ℕ))) → IsChunk many (held_text c)
+    → HasPending rem c rows → (more : List (List (List ℕ))) × (rows ≡ input_records (take many (held_text c)) ++ more)
+pending-front rem c many rows (some, within, whole) h =
+    let (left, same, split) = taken c.held h.bytes (rem c.reader) many some within whole h.source in
+    (input_records left, h.reads ∙ split)
 
 -- ---- what came of an input
 

@@ -4,8 +4,8 @@ pub mod QuoteFacts
 pub mod ChunkFacts
 pub mod InputFacts
 pub mod AheadFacts
-pub mod PartFacts
 pub mod RunFacts
 mod HeldFacts
 pub mod EndFacts
 pub mod LookFacts
+mod PieceFacts

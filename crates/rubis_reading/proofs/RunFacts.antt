@@ -29,10 +29,6 @@ pub window-more : (window : ℕ) (a : List Stretch) (r : Stretch) → FitWindow 
 window-more window [] r all one = (one, tt)
 window-more window (x ∷ a) r all one = (all.0, window-more window a r all.1 one)
 
-pub window-both : (window : ℕ) (a b : List Stretch) → FitWindow window a → FitWindow window b → FitWindow window (a ++ b)
-window-both window [] b all others = others
-window-both window (x ∷ a) b all others = (all.0, window-both window a b all.1 others)
-
 pub window-singles : (window : ℕ) (a : List Stretch) → AreSingle a → FitWindow window a
 window-singles window [] all = tt
 window-singles window (Messages list ∷ a) all = absurd all.0

@@ -1,8 +1,8 @@
 -- What a source of chunks has still to give.
-use Rattle.std.specs.Prelude.{◌≡◌, ◌≤◌, ◌<◌, ◌++◌, ℕ, Bool, List, Option, Some, false, length, true}
+use Rattle.std.specs.Prelude.{◌≡◌, ◌≤◌, ◌<◌, ◌++◌, ℕ, Bool, List, Option, Some, false, length, take, true}
 use Rattle.std.specs.Io.KnownBytes.{Consumes, IsAtEnd, prepend_known}
 use Rattle.rubis_engine.specs.Text.{input_records}
-use Rattle.rubis_reading.specs.Streams.{EndsNoRecord}
+use Rattle.rubis_reading.specs.Streams.{EndsNoRecord, IsWhole}
 use Rattle.rubis_reading.specs.declared.chunks.Chunks.{Chunks}
 
 -- the bytes that came from the reader and were not handed on
@@ -12,6 +12,10 @@ held_text c = c.held
 -- all bytes that are not handed on
 abbrev pub pending_text : {R : Type 0} → (R → Option (List ℕ)) → Chunks R → Option (List ℕ)
 pending_text rem c = prepend_known (held_text c) (rem c.reader)
+
+-- the first `many` bytes are whole records
+abbrev pub IsChunk : ℕ → List ℕ → Type 0
+IsChunk many text = (0 < many) × (many ≤ length text) × IsWhole (take many text)
 
 -- a source of chunks has these records still to give
 pub record HasPending {R : Type 0} (rem : R → Option (List ℕ)) (c : Chunks R) (rows : List (List (List ℕ))) : Type 0 where
@@ -62,3 +66,13 @@ pub record FailsShort {R : Type 0} (rem : R → Option (List ℕ)) (old new : Ch
   pub pending : KeepsPending rem old new
   pub come : KeepsCome rem old new
   pub none : EndsNoRecord (held_text old) → EndsNoRecord (held_text new)
+
+-- the chunks have all of the input still to give
+abbrev pub HasAll : {R : Type 0} → (R → Option (List ℕ)) → Chunks R → List ℕ → Type 0
+HasAll rem chunks input = HasPending rem chunks (input_records input) × HasCome rem input chunks
+
+-- of an input k whole records came: they were handed on, and in what came since no record ends
+pub record CameWhole {R : Type 0} (rem : R → Option (List ℕ)) (chunks : Chunks R) (input : List ℕ) (k : ℕ) : Type 0 where
+  pub come : HasCome rem input chunks
+  pub count : k ≡ length (input_records come.front)
+  pub none : EndsNoRecord (held_text chunks)

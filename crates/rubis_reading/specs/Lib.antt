@@ -5,3 +5,4 @@ pub mod Looks
 pub mod Inputs
 pub mod Steps
 pub mod Runs
+pub mod Readings

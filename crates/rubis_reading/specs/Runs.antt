@@ -1,6 +1,9 @@
 -- Records that were read, one after the other, messages in lists of their own.
 use Rattle.std.specs.Prelude.{◌++◌, ◌∷◌, ◌≤◌, ◌<◌, [], ⊤, ℕ, List, None, Option, Some, length}
 use Rattle.rubis_message.specs.Message.{Message}
+use Rattle.rubis_engine.specs.Reading.{Gives}
+use Rattle.rubis_engine.specs.declared.record_list.Records.{Records}
+use Rattle.rubis_reading.specs.Inputs.{AreInputs}
 use Rattle.rubis_message.specs.declared.tokens.Packet.TheVariants.{Msg}
 use Rattle.rubis_message.specs.declared.inputs.Input.{Input}
 use Rattle.rubis_message.specs.declared.inputs.Input.TheVariants.{Came}
@@ -50,3 +53,9 @@ FitWindow window (r ∷ rest) = FitsWindow window r × FitWindow window rest
 -- and with the messages that came last, which are still to be put behind
 abbrev pub HaveWindow : ℕ → List Stretch → List Message → Type 0
 HaveWindow window runs messages = FitWindow window runs × (0 < window → length messages ≤ window)
+
+-- all records of a reader are these, and those that came last are messages
+pub record HasRead {R : Type 0} (rem : R → Option (List ℕ)) (sites most : ℕ) (records : Records R) (runs : List Stretch) (messages : List Message) :
+    Type 0 where
+  pub parsed : (rows : List (List (List ℕ))) → Gives rem records rows → AreInputs sites rows (flat runs ++ all_came messages)
+  pub window : HaveWindow most runs messages

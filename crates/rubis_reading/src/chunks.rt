@@ -60,7 +60,7 @@ impl<R: Read> Chunks<R> {
         ensures failed { IsErrOf result ChunkFault.Read → FailsShort R.remaining self.old self.new }
     {
         let mut looked = Looked::none();
-        'asks: for _asked in 0..u64::MAX {
+        'asks: loop {
             if !self.held.fill(&mut self.reader, self.size)? {
                 return Ok(false);
             }
@@ -73,7 +73,6 @@ impl<R: Read> Chunks<R> {
                 return Ok(true);
             }
         }
-        Ok(true)
     }
 
     /// How many of the bytes that are held are whole records: as many as lie within `most` bytes, if a record ends there.
@@ -95,6 +94,7 @@ impl<R: Read> Chunks<R> {
         requires whole { IsWhole (take many (held_text self.old)) }
         ensures takes { TakesOff R.remaining self.old self.new (take many (held_text self.old)) }
         ensures come { KeepsCome R.remaining self.old self.new }
+        ensures held { held_text self.new ≡ drop (many - 1) (held_text self.old) }
     {
         self.held.pass(many - 1);
     }

@@ -6,12 +6,15 @@ mod buffer;
 mod chunks;
 mod csv_state;
 mod cuts;
-mod parts;
+mod pieces;
+mod readings;
 mod stretches;
+mod worth;
 
 pub use ahead::Ahead;
 pub use buffer::ChunkFault;
 pub use chunks::Chunks;
 pub use cuts::whole_end;
-pub use parts::read_parts;
+pub use pieces::{Pieces, ReadPiece};
+pub use readings::Reading;
 pub use stretches::{Stretch, read_piece};

@@ -4,7 +4,7 @@ ghost use Rattle.std.specs.Prelude.{◌≡◌, ◌≤◌, ◌<◌, ◌++◌, ◌
 ghost use Rattle.rubis_engine.specs.Reading.{Gives};
 ghost use Rattle.rubis_engine.specs.Text.{input_records};
 ghost use Rattle.rubis_reading.specs.Inputs.{AreInputs};
-ghost use Rattle.rubis_reading.specs.Runs.{FitWindow, HaveWindow, all_came, flat, of_stretch};
+ghost use Rattle.rubis_reading.specs.Runs.{FitWindow, HasRead, HaveWindow, all_came, flat, of_stretch};
 ghost use Rattle.rubis_message.specs.declared.tokens.Packet.TheVariants.{Msg};
 ghost use Rattle.rubis_message.specs.declared.inputs.Input.TheVariants.{Came};
 
@@ -96,13 +96,11 @@ fn read_all<R: Read>(
     window: usize,
 ) -> Result<(), OutOfMemory>
     requires few { sites ≤ 16 }
-    requires none { list.old.items ≡ [] }
-    requires no_messages { messages.old.items ≡ [] }
-    ensures parsed { OnOk result ((rows : List (List (List ℕ))) → Gives R.remaining records.old rows
-        → AreInputs sites rows (flat list.new.items ++ all_came messages.new.items)) }
-    ensures window { OnOk result (HaveWindow window list.new.items messages.new.items) }
+    requires known { (rows : List (List (List ℕ))) × Gives R.remaining records.old rows }
+    requires none { (list.old.items ≡ []) × (messages.old.items ≡ []) }
+    ensures { OnOk result (HasRead R.remaining sites window records.old list.new.items messages.new.items) }
 {
-    'steps: for _ in 0..u64::MAX {
+    'steps: loop {
         let Ok(found) = records.advance() else {
             return Err(OutOfMemory);
         };
@@ -112,7 +110,6 @@ fn read_all<R: Read>(
         let input = read_input(alloc, records.fields(), sites)?;
         keep(alloc, list, messages, window, input)?;
     }
-    Err(OutOfMemory)
 }
 
 /// What the records of a piece of text are, in order. At most `window` messages that come one after the other are one run, or

@@ -6,12 +6,12 @@ use Rattle.rubis_engine.specs.Progress.{WrotePrefix}
 use Rattle.rubis_engine.specs.Reading.{Advances, Gives, fields_now}
 use Rattle.rubis_engine.specs.Text.{input_records}
 use Rattle.rubis_engine.specs.declared.record_list.Records.{Records}
-use Rattle.rubis_reading.specs.Chunked.{HasPending, held_text}
+use Rattle.rubis_reading.specs.Chunked.{HasPending, IsChunk, held_text}
 use Rattle.rubis_reading.specs.declared.chunks.Chunks.{Chunks}
 use Rattle.rubis_reading.proofs.ChunkFacts.{taken as first-taken}
 use Rattle.rubis_script.specs.Desks.{IsSettled}
 use Rattle.rubis_script.specs.Headline.{AnswersFirst}
-use Rattle.rubis_script.specs.Runs.{HasYet, IsChunk, StandsAt, Takes}
+use Rattle.rubis_script.specs.Runs.{HasYet, StandsAt, Takes}
 use Rattle.rubis_script.specs.SiteRuns.{told_by}
 use Rattle.rubis_script.specs.declared.desk.Desk.{Desk}
 use Rattle.rubis_script.proofs.LoopFacts.{stands-cut, stands-prefix}

@@ -2,10 +2,12 @@
 use Rattle.std.proofs.Common.{◌≡◌, ◌∙◌, ◌≤◌, ◌<◌, ◌+◌, ◌-◌, ◌++◌, ◌∷◌, [], ℕ, All, List, Option, ap, append-nil, arith, length, length-append, refl, subst, sym, take}
 use Rattle.std.specs.Prelude.{MatchOption, None, Some}
 use Rattle.rubis_replica.specs.State.{SiteState}
-use Rattle.rubis_engine.specs.Progress.{IsWrittenOrWaits}
+use Rattle.rubis_engine.specs.Accounts.Ending.{AtEnd}
+use Rattle.rubis_engine.specs.Progress.{IsWrittenOrWaits, WrotePrefix}
+use Rattle.rubis_script.specs.SiteRuns.{told_by}
 use Rattle.rubis_engine.specs.Text.{input_records}
 use Rattle.rubis_engine.specs.declared.fault.Count.{Count}
-use Rattle.rubis_reading.specs.Chunked.{FailsShort, IsLast, KeepsCome, KeepsPending, TakesOff, held_text}
+use Rattle.rubis_reading.specs.Chunked.{FailsShort, IsChunk, IsLast, KeepsCome, KeepsPending, TakesOff, held_text}
 use Rattle.rubis_reading.specs.Inputs.{AreInputs}
 use Rattle.rubis_reading.specs.Runs.{FitWindow, flat}
 use Rattle.rubis_reading.specs.declared.chunks.Chunks.{Chunks}
@@ -16,12 +18,12 @@ use Rattle.rubis_reading.proofs.AheadFacts.{all-fit}
 use Rattle.rubis_reading.proofs.ChunkFacts.{come-rest}
 use Rattle.rubis_script.specs.Desks.{IsSettled, KeepsSetup}
 use Rattle.rubis_script.specs.Headline.{AnswersFirst}
-use Rattle.rubis_script.specs.Runs.{AnswersAllAhead, AnswersFirstAhead, AnswersFirstOf, AnswersWholeAhead, HasReadAhead, HasTaken, IsChunk, IsSound, LeavesPrefix}
-use Rattle.rubis_script.specs.Runs.{OfEachAhead, OfEachPiece, ReadsOn, StandsAt, Takes, WritesPrefixAhead}
+use Rattle.rubis_script.specs.Runs.{AnswersAllAhead, AnswersFirstAhead, AnswersFirstOf, AnswersWholeAhead, HasReadAhead, HasTaken, IsSound, LeavesPrefix}
+use Rattle.rubis_script.specs.Runs.{OfEachAhead, OfEachPiece, StandsAt, Takes, WritesPrefixAhead}
 use Rattle.rubis_script.specs.declared.desk.Desk.{Desk}
 use Rattle.rubis_script.proofs.AloneFacts.{pending-front}
 use Rattle.rubis_script.proofs.LoopFacts.{stands-cut, stands-done, stands-prefix, stands-read, stands-too_long, stands-waited}
-use Rattle.rubis_script.proofs.StepFacts.{sound-kept, sound-none, takes-whole}
+use Rattle.rubis_script.proofs.StepFacts.{sound-kept, takes-whole}
 
 -- what was read is of this desk's system
 pub sound-read : {G : Type 0} (d d2 : Desk G) (ahead list : List Stretch) (rows : List (List (List ℕ))) → KeepsSetup d d2 → ahead ≡ list
@@ -45,20 +47,6 @@ caught rem chunks d d2 ahead before after takes first old input h = record {
   pending = h.pending;
   come = h.come;
 }
-
--- and a chunk was read meanwhile
-pub reads-chunk : {R G : Type 0} (rem : R → Option (List ℕ)) (chunks chunks2 : Chunks R) (d d2 : Desk G) (ahead ahead2 : List Stretch) (text : List ℕ)
-    (before after : Option (List ℕ)) → Takes (flat ahead) d d2 before after → TakesOff rem chunks chunks2 text → KeepsCome rem chunks chunks2
-    → AreInputs d2.site.place.sites (input_records text) (flat ahead2)
-    → OfEachAhead rem chunks d ahead before (λ first old input. HasReadAhead rem chunks2 d2 ahead2 first old after input)
-reads-chunk rem chunks chunks2 d d2 ahead ahead2 text before after takes off came parsed first old input h =
-    let (more, split, pending) = off h.later h.pending in record {
-      later = more;
-      stands = stands-read d2.site [] (flat ahead2) d2.window.items first old after d2.reply.sink d2.answered (input_records input) h.later
-          (input_records text) more refl split parsed (takes-whole (flat ahead) d d2 before after first old (input_records input) h.later takes h.stands);
-      pending = pending;
-      come = came input h.come;
-    }
 
 -- a prefix was written before all of it was taken
 pub prefix-ahead : {R G : Type 0} (rem : R → Option (List ℕ)) (chunks : Chunks R) (d : Desk G) (ahead : List Stretch) (before after : Option (List ℕ))
@@ -109,6 +97,55 @@ chunk-taken rem chunks chunks2 text chunk d d2 before after is off came each fir
       come = came input h.come;
     }
 
+-- the number of those is what is left of the limit
+pub first-upto : {G : Type 0} (limit left : ℕ) (d d2 : Desk G) (ahead : List Stretch) (before after : Option (List ℕ)) (first : SiteState)
+    (start : Option (List ℕ)) (records later : List (List (List ℕ))) → d.answered + left ≡ limit → AnswersFirstOf left d ahead d2 before after
+    → StandsAt d (flat ahead) first start before records later → AnswersFirst limit first d2.site start after records
+first-upto limit left d d2 ahead before after first start records later most answers stands =
+    subst (λ k. AnswersFirst k first d2.site start after records) most (answers first start records later stands)
+
+-- ---- a chunk that was read
+
+pub list-each : {G : Type 0} (text : List ℕ) (d : Desk G) (list : List Stretch) (now : Option (List ℕ))
+    (holds : SiteState → Option (List ℕ) → List (List (List ℕ)) → List (List (List ℕ)) → Type 0)
+    → AreInputs d.site.place.sites (input_records text) (flat list)
+    → ((first : SiteState) (old : Option (List ℕ)) (records rest : List (List (List ℕ))) → StandsAt d (flat list) first old now records rest
+    → holds first old records rest) → OfEachPiece text d now holds
+list-each text d list now holds parsed so first old records rest stands =
+    so first old records rest (stands-read d.site [] (flat list) d.window.items first old now d.reply.sink d.answered records
+    (input_records text ++ rest) (input_records text) rest refl refl parsed stands)
+
+-- all its records were taken
+pub list-taken : {R G : Type 0} (rem : R → Option (List ℕ)) (chunks chunks2 : Chunks R) (text : List ℕ) (d d2 : Desk G) (list : List Stretch)
+    (before after : Option (List ℕ)) → AreInputs d.site.place.sites (input_records text) (flat list) → TakesOff rem chunks chunks2 text
+    → KeepsCome rem chunks chunks2 → Takes (flat list) d d2 before after
+    → OfEachAhead rem chunks d [] before (λ first old input. HasReadAhead rem chunks2 d2 [] first old after input)
+list-taken rem chunks chunks2 text d d2 list before after parsed off came takes =
+    chunk-taken rem chunks chunks2 text text d d2 before after refl off came
+    (list-each text d list before (λ first old records rest. StandsAt d2 [] first old after records rest) parsed
+    (λ first old records rest stands. takes-whole (flat list) d d2 before after first old records rest takes stands))
+
+-- as many as are left of the limit were
+pub list-first : {R G : Type 0} (rem : R → Option (List ℕ)) (chunks : Chunks R) (many limit left : ℕ) (d d2 : Desk G) (list : List Stretch)
+    (before after : Option (List ℕ)) → IsChunk many (held_text chunks) → AreInputs d.site.place.sites (input_records (take many (held_text chunks))) (flat list)
+    → d.answered + left ≡ limit → AnswersFirstOf left d list d2 before after → AnswersFirstAhead limit rem chunks d [] before d2 after
+list-first rem chunks many limit left d d2 list before after chunk parsed most answers =
+    let text = take many (held_text chunks) in
+    chunk-each rem chunks many text d before (λ first old records. AnswersFirst limit first d2.site old after records) chunk refl
+    (list-each text d list before (λ first old records rest. AnswersFirst limit first d2.site old after records) parsed
+    (λ first old records rest stands. first-upto limit left d d2 list before after first old records rest most answers stands))
+
+-- a prefix was written before they were
+pub list-prefix : {R G : Type 0} (rem : R → Option (List ℕ)) (chunks : Chunks R) (many : ℕ) (d : Desk G) (list : List Stretch)
+    (before after : Option (List ℕ)) → IsChunk many (held_text chunks) → AreInputs d.site.place.sites (input_records (take many (held_text chunks))) (flat list)
+    → LeavesPrefix (flat list) d before after → WritesPrefixAhead rem chunks d [] before after
+list-prefix rem chunks many d list before after chunk parsed front =
+    let text = take many (held_text chunks) in
+    chunk-each rem chunks many text d before (λ first old records. WrotePrefix ((told_by first 1).text AtEnd) old after records) chunk refl
+    (list-each text d list before (λ first old records rest. WrotePrefix ((told_by first 1).text AtEnd) old after records) parsed
+    (λ first old records rest stands. front [] first old records rest
+    (subst (λ l. StandsAt d l first old before records rest) (sym (append-nil (flat list))) stands)))
+
 -- ---- the end
 
 -- what is held is the rest, and was read
@@ -139,13 +176,6 @@ first-taken n d mid d2 ahead left before after h count more settles settled firs
     let long = ap length h.parts in
     stands-too_long d2.site left d2.window.items first start after d2.reply.sink d2.answered (d.answered + n) records later settled.1 settled.0
     (omega (arith, long, length-append h.took left, h.takes.count, count, more)) (omega (arith, settles.count, count)) went
-
--- the number of those is what is left of the limit
-pub first-upto : {G : Type 0} (limit left : ℕ) (d d2 : Desk G) (ahead : List Stretch) (before after : Option (List ℕ)) (first : SiteState)
-    (start : Option (List ℕ)) (records later : List (List (List ℕ))) → d.answered + left ≡ limit → AnswersFirstOf left d ahead d2 before after
-    → StandsAt d (flat ahead) first start before records later → AnswersFirst limit first d2.site start after records
-first-upto limit left d d2 ahead before after first start records later most answers stands =
-    subst (λ k. AnswersFirst k first d2.site start after records) most (answers first start records later stands)
 
 pub prefix-last : {R G : Type 0} (rem : R → Option (List ℕ)) (chunks : Chunks R) (d : Desk G) (ahead : List Stretch) (before after : Option (List ℕ))
     → IsLast rem chunks → AreInputs d.site.place.sites (input_records (held_text chunks)) (flat ahead) → LeavesPrefix (flat ahead) d before after
@@ -181,33 +211,6 @@ pub still-pending : {R G : Type 0} (rem : R → Option (List ℕ)) (chunks chunk
 still-pending rem chunks chunks2 d d2 ahead before after takes keeps came first old input h =
     let all = caught rem chunks d d2 ahead before after takes first old input h in
     record { later = all.later; stands = all.stands; pending = keeps all.later all.pending; come = came input all.come }
-
-pub reads-caught : {R G : Type 0} (rem : R → Option (List ℕ)) (chunks chunks2 : Chunks R) (d d2 : Desk G) (ahead ahead2 : List Stretch)
-    (before after : Option (List ℕ)) → Takes (flat ahead) d d2 before after → ahead2 ≡ [] → KeepsPending rem chunks chunks2 → KeepsCome rem chunks chunks2
-    → ReadsOn rem chunks d ahead before chunks2 d2 ahead2 after
-reads-caught rem chunks chunks2 d d2 ahead ahead2 before after takes none keeps came =
-    subst (λ l. ReadsOn rem chunks d ahead before chunks2 d2 l after) (sym none)
-    (record { sound = sound-none d2; goes = still-pending rem chunks chunks2 d d2 ahead before after takes keeps came })
-
--- all was answered, and then a chunk
-pub reads-after : {R G : Type 0} (rem : R → Option (List ℕ)) (chunks chunks2 : Chunks R) (d mid d2 : Desk G) (ahead ahead2 : List Stretch)
-    (before between after : Option (List ℕ)) → Takes (flat ahead) d mid before between → ahead2 ≡ [] → ReadsOn rem chunks mid [] between chunks2 d2 [] after
-    → ReadsOn rem chunks d ahead before chunks2 d2 ahead2 after
-reads-after rem chunks chunks2 d mid d2 ahead ahead2 before between after takes none reads =
-    subst (λ l. ReadsOn rem chunks d ahead before chunks2 d2 l after) (sym none) (record {
-      sound = reads.sound;
-      goes = λ first old input h. reads.goes first old input (caught rem chunks d mid ahead before between takes first old input h);
-    })
-
--- a chunk was read, and text was written out
-pub reads-waited : {R G : Type 0} (rem : R → Option (List ℕ)) (chunks chunks2 : Chunks R) (d mid d2 : Desk G) (ahead ahead2 : List Stretch)
-    (before between after : Option (List ℕ)) → ReadsOn rem chunks d ahead before chunks2 mid ahead2 between
-    → d2.site ≡ mid.site → d2.plan ≡ mid.plan → d2.window.items ≡ mid.window.items → d2.answered ≡ mid.answered
-    → IsWrittenOrWaits mid.reply.sink d2.reply.sink between after → ReadsOn rem chunks d ahead before chunks2 d2 ahead2 after
-reads-waited rem chunks chunks2 d mid d2 ahead ahead2 before between after reads site plan held count out = record {
-  sound = sound-kept mid d2 ahead2 (ap (λ s. s.place) site, plan) reads.sound;
-  goes = λ first old input h. waited rem chunks2 mid d2 ahead2 between after site held count out first old input (reads.goes first old input h);
-}
 
 -- as many records were answered or are held as came whole, where none were read ahead
 come-count : {R G : Type 0} (rem : R → Option (List ℕ)) (chunks : Chunks R) (d : Desk G) (first : SiteState) (old now : Option (List ℕ)) (input : List ℕ)

@@ -7,7 +7,7 @@ pub mod LeadFacts
 pub mod DrainFacts
 pub mod DeskFacts
 pub mod StepFacts
-pub mod EndFacts
 pub mod AloneFacts
 pub mod ChunkFacts
+mod HelpFacts
 pub mod Names

@@ -22,7 +22,6 @@ use Rattle.rubis_reading.specs.Chunked.{HasCome, HasPending}
 use Rattle.rubis_reading.specs.declared.chunks.Chunks.{Chunks}
 use Rattle.rubis_reading.specs.Inputs.{AreInputs}
 use Rattle.rubis_reading.proofs.AheadFacts.{ahead-answered, ahead-done, ahead-kept, ahead-prefix, ahead-read, ahead-starts, ahead-too_long, ahead-written}
-use Rattle.rubis_reading.proofs.AheadFacts.{all-fit}
 use Rattle.rubis_message.specs.declared.inputs.Input.{Input}
 use Rattle.rubis_replica.specs.State.{SiteState}
 use Rattle.rubis_engine.specs.Accounts.Ending.{AtEnd, Cut}
@@ -31,8 +30,10 @@ use Rattle.rubis_engine.specs.declared.fault.Count.{Count}
 use Rattle.rubis_engine.specs.declared.fault.RunFault.{RunFault}
 use Rattle.rubis_engine.specs.declared.fault.RunFault.TheVariants as fault
 use Rattle.rubis_script.specs.Desks.{IsFresh}
-use Rattle.rubis_script.specs.Endings.{ByEnd}
-use Rattle.rubis_script.specs.Runs.{AnswersAllAhead, AnswersFirstAhead, AnswersWholeAhead, EndsWhole, HasAll, HasReadAhead, Stands, WritesPrefixAhead}
+use Rattle.rubis_reading.proofs.AheadFacts.{all-fit}
+use Rattle.rubis_engine.specs.Endings.{ByEnd}
+use Rattle.rubis_script.specs.Runs.{AnswersAllAhead, AnswersFirstAhead, AnswersWholeAhead, EndsWhole, HasReadAhead, Stands, WritesPrefixAhead}
+use Rattle.rubis_reading.specs.Chunked.{HasAll}
 use Rattle.std.specs.Prelude.{IfOk, IfSome, Result, Ok, Err, Some, None}
 use Rattle.rubis_script.specs.declared.desk.Desk.{Desk}
 
@@ -43,10 +44,6 @@ held-end s window n ending none = rw none refl
 
 pub held-told : (s : SiteState) (window : List Message) (n : ℕ) → window ≡ [] → n ≡ 1 → held_by s window n ≡ told_by s 1
 held-told s window n none one = rw (none, one) refl
-
-pub at_if_ok : {T E : Type 0} (P : T → Type 0) (r : Result T E) (v : T) → IfOk r P → r ≡ Ok v → P v
-at_if_ok P (Ok x) v h e = subst (λ o. IfOk o P) e h
-at_if_ok P (Err x) v h e = absurd cc
 
 -- nothing was read or answered yet
 pub starts : {R G : Type 0} (rem : R → Option (List ℕ)) (chunks : Chunks R) (d : Desk G) (ahead : List Stretch) (old : Option (List ℕ)) (input : List ℕ)

@@ -36,9 +36,6 @@ sound-kept d d2 ahead (place, plan) h = record {
   windows = subst (λ p. FitWindow p.window ahead) (sym plan) h.windows;
 }
 
-pub sound-none : {G : Type 0} (d : Desk G) → IsSound d []
-sound-none d = record { fits = λ k x lt. absurd (omega (arith, lt)); windows = tt }
-
 -- the next stretch, and those after it
 pub sound-front : {G : Type 0} (d : Desk G) (ahead left : List Stretch) (stretch : Stretch) → ahead ≡ stretch ∷ left → IsSound d ahead
     → All (λ p. FitsIn d.site.place.sites p) (of_stretch stretch) × FitsWindow d.plan.window stretch × IsSound d left

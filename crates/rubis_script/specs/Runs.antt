@@ -4,7 +4,7 @@ use Rattle.rubis_schema.specs.declared.listings.Listing.{Listing}
 use Rattle.rubis_message.specs.Message.{Message}
 use Rattle.rubis_message.specs.declared.requests.Request.TheVariants as request
 use Rattle.rubis_script.specs.Desks.{IsSettled, KeepsSetup}
-use Rattle.rubis_script.specs.Endings.{ByEnd}
+use Rattle.rubis_engine.specs.Endings.{ByEnd}
 use Rattle.rubis_script.specs.Headline.{AnswersAll, AnswersFirst, AnswersJust, HasLed}
 use Rattle.rubis_script.specs.SiteRuns.{told_by}
 use Rattle.rubis_script.specs.Windows.{held_by}
@@ -16,10 +16,9 @@ use Rattle.rubis_engine.specs.declared.fault.Count.{Count}
 use Rattle.rubis_engine.specs.declared.fault.RunFault.{RunFault}
 use Rattle.rubis_engine.specs.declared.fault.RunFault.TheVariants.{Memory, Read, TooLong, Write}
 use Rattle.rubis_engine.specs.declared.record_list.Records.{Records}
-use Rattle.rubis_reading.specs.Chunked.{HasCome, HasPending, held_text}
+use Rattle.rubis_reading.specs.Chunked.{CameWhole, HasCome, HasPending}
 use Rattle.rubis_message.specs.Inputs.{FitsIn}
 use Rattle.rubis_reading.specs.Runs.{FitWindow, flat}
-use Rattle.rubis_reading.specs.Streams.{EndsNoRecord, IsWhole}
 use Rattle.rubis_message.specs.declared.inputs.Input.{Input}
 use Rattle.rubis_message.specs.declared.inputs.Input.TheVariants.{Asked}
 use Rattle.rubis_reading.specs.declared.stretches.Stretch.{Stretch}
@@ -104,12 +103,6 @@ abbrev pub OfEachAhead : {R G : Type 0} → (R → Option (List ℕ)) → Chunks
 OfEachAhead rem chunks d ahead now holds = (first : SiteState) (old : Option (List ℕ)) (input : List ℕ)
     → HasReadAhead rem chunks d ahead first old now input → holds first old input
 
--- every run that stands there has come to stand here: `before` was written then, and `after` is now
-pub record ReadsOn {R G : Type 0} (rem : R → Option (List ℕ)) (chunks : Chunks R) (d : Desk G) (ahead : List Stretch) (before : Option (List ℕ))
-    (chunks2 : Chunks R) (d2 : Desk G) (ahead2 : List Stretch) (after : Option (List ℕ)) : Type 0 where
-  pub sound : IsSound d2 ahead2
-  pub goes : OfEachAhead rem chunks d ahead before (λ first old input. HasReadAhead rem chunks2 d2 ahead2 first old after input)
-
 -- every run that stands there has answered all records, at most `limit`
 abbrev pub AnswersAllAhead : {R G : Type 0} → ℕ → (R → Option (List ℕ)) → Chunks R → Desk G → List Stretch → Option (List ℕ)
     → Desk G → Option (List ℕ) → Count → Type 0
@@ -121,12 +114,6 @@ abbrev pub AnswersFirstAhead : {R G : Type 0} → ℕ → (R → Option (List �
     → Desk G → Option (List ℕ) → Type 0
 AnswersFirstAhead limit rem chunks d ahead before new after =
     OfEachAhead rem chunks d ahead before (λ first old input. AnswersFirst limit first new.site old after (input_records input))
-
--- of an input k whole records came: they were handed on, and in what came since no record ends
-pub record CameWhole {R : Type 0} (rem : R → Option (List ℕ)) (chunks : Chunks R) (input : List ℕ) (k : ℕ) : Type 0 where
-  pub come : HasCome rem input chunks
-  pub count : k ≡ length (input_records come.front)
-  pub none : EndsNoRecord (held_text chunks)
 
 -- every run that stands there has answered the records that came whole, and no more
 abbrev pub AnswersWholeAhead : {R G : Type 0} → (R → Option (List ℕ)) → Chunks R → Desk G → List Stretch → Option (List ℕ)
@@ -146,10 +133,6 @@ EndsWhole rem chunks limit first new old now input (Err Read) =
 EndsWhole rem chunks limit first new old now input (Err Memory) = WrotePrefix ((told_by first 1).text AtEnd) old now (input_records input)
 EndsWhole rem chunks limit first new old now input (Err Write) = WrotePrefix ((told_by first 1).text AtEnd) old now (input_records input)
 
--- the chunks have all of the input still to give
-abbrev pub HasAll : {R : Type 0} → (R → Option (List ℕ)) → Chunks R → List ℕ → Type 0
-HasAll rem chunks input = HasPending rem chunks (input_records input) × HasCome rem input chunks
-
 -- every run that stands there has written a prefix of its text
 abbrev pub WritesPrefixAhead : {R G : Type 0} → (R → Option (List ℕ)) → Chunks R → Desk G → List Stretch → Option (List ℕ) → Option (List ℕ) → Type 0
 WritesPrefixAhead rem chunks d ahead before after =
@@ -160,16 +143,33 @@ abbrev pub AnswersFirstOf : {G : Type 0} → ℕ → Desk G → List Stretch →
 AnswersFirstOf n d ahead new before after = (first : SiteState) (start : Option (List ℕ)) (records later : List (List (List ℕ)))
     → StandsAt d (flat ahead) first start before records later → AnswersFirst (d.answered + n) first new.site start after records
 
--- the first `many` bytes are whole records
-abbrev pub IsChunk : ℕ → List ℕ → Type 0
-IsChunk many text = (0 < many) × (many ≤ length text) × IsWhole (take many text)
+-- a step answered or holds a piece of what is held: the run goes on with nothing read ahead, at most `limit` records being answered or held
+abbrev pub GoesOn : {R G : Type 0} → ℕ → (R → Option (List ℕ)) → Chunks R → Desk G → Option (List ℕ) → Chunks R → Desk G → Option (List ℕ) → Type 0
+GoesOn limit rem chunks d before chunks2 d2 after =
+    OfEachAhead rem chunks d [] before (λ first old input. HasReadAhead rem chunks2 d2 [] first old after input)
+    × (d2.answered ≤ limit) × KeepsSetup d d2
 
--- a step took a chunk, or answered what was read ahead: the run goes on, at most `limit` records being answered or held, or it is done
-abbrev pub GoesOnOrEnds : {R G : Type 0} → ℕ → (R → Option (List ℕ)) → Chunks R → Desk G → List Stretch → Option (List ℕ)
-    → Chunks R → Desk G → List Stretch → Option (List ℕ) → Option Count → Type 0
-GoesOnOrEnds limit rem chunks d ahead before chunks2 d2 ahead2 after over = MatchOption over
-    (ReadsOn rem chunks d ahead before chunks2 d2 ahead2 after × (d2.answered ≤ limit))
-    (λ count. AnswersAllAhead limit rem chunks d ahead before d2 after count)
+-- the run goes on, or it is done
+abbrev pub GoesOnOrEnds : {R G : Type 0} → ℕ → (R → Option (List ℕ)) → Chunks R → Desk G → Option (List ℕ)
+    → Chunks R → Desk G → Option (List ℕ) → Option Count → Type 0
+GoesOnOrEnds limit rem chunks d before chunks2 d2 after over = MatchOption over
+    (GoesOn limit rem chunks d before chunks2 d2 after)
+    (λ count. AnswersAllAhead limit rem chunks d [] before d2 after count)
+
+-- how a run ends that stands there: all records are answered, at most `limit`; the first `limit` of more; those that came whole, where the
+-- reader failed; or a prefix of the text was written
+abbrev pub RunEnds : {R G : Type 0} → ℕ → (R → Option (List ℕ)) → Chunks R → Desk G → Option (List ℕ)
+    → Chunks R → Desk G → Option (List ℕ) → Result Count RunFault → Type 0
+RunEnds limit rem chunks d before chunks2 d2 after result = ByEnd result
+    (λ count. AnswersAllAhead limit rem chunks d [] before d2 after count) (AnswersFirstAhead limit rem chunks d [] before d2 after)
+    (AnswersWholeAhead rem chunks d [] before chunks2 d2 after) (WritesPrefixAhead rem chunks d [] before after)
+
+-- the same of one step of it
+abbrev pub TurnEnds : {R G : Type 0} → ℕ → (R → Option (List ℕ)) → Chunks R → Desk G → Option (List ℕ)
+    → Chunks R → Desk G → Option (List ℕ) → Result (Option Count) RunFault → Type 0
+TurnEnds limit rem chunks d before chunks2 d2 after result = ByEnd result
+    (λ over. GoesOnOrEnds limit rem chunks d before chunks2 d2 after over) (AnswersFirstAhead limit rem chunks d [] before d2 after)
+    (AnswersWholeAhead rem chunks d [] before chunks2 d2 after) (WritesPrefixAhead rem chunks d [] before after)
 
 -- ---- a piece of text whose records are answered one by one, where they are read
 

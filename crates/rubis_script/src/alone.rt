@@ -1,7 +1,7 @@
 //! One thread reads a piece of text and answers each record where it was read.
 
 ghost use Rattle.std.specs.Prelude.{◌≤◌, ◌<◌, ◌+◌, ◌^◌};
-ghost use Rattle.rubis_script.specs.Endings.{ByEnd};
+ghost use Rattle.rubis_engine.specs.Endings.{ByEnd};
 ghost use Rattle.rubis_script.specs.Runs.{LeavesRecord, OfEachPiece, OfEachYet, PieceEnds, TakesRecord};
 
 use crate::answering::settle;

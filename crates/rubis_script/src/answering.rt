@@ -4,7 +4,7 @@ ghost use Rattle.std.specs.Prelude.{◌≡◌, ◌≤◌, ◌<◌, ◌+◌, ◌^
 ghost use Rattle.rubis_message.specs.Inputs.{FitsIn};
 ghost use Rattle.rubis_reading.specs.Runs.{AreSingle, FitsWindow, flat, of_stretch};
 ghost use Rattle.rubis_script.specs.Desks.{IsSettled};
-ghost use Rattle.rubis_script.specs.Endings.{ByEnd};
+ghost use Rattle.rubis_engine.specs.Endings.{ByEnd};
 ghost use Rattle.rubis_script.specs.Runs.{IsSound, LeavesPrefix, Takes, TakesAll, TakesSome, TakesUpTo, left_ahead, stopped_at};
 
 use crate::desk::Desk;

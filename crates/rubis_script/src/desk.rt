@@ -13,7 +13,7 @@ ghost use Rattle.rubis_model.specs.Site.{opening_at};
 ghost use Rattle.rubis_replica.specs.Setup.{setup_place};
 ghost use Rattle.rubis_script.specs.Drains.{WritesFront, WritesOff, listed_behind};
 ghost use Rattle.rubis_script.specs.Inputs.{IsAnswered, IsRefusedBy};
-ghost use Rattle.rubis_script.specs.Endings.{ByEnd};
+ghost use Rattle.rubis_engine.specs.Endings.{ByEnd};
 ghost use Rattle.rubis_engine.specs.Text.{rows_text};
 
 use crate::plan::Plan;

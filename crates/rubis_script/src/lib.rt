@@ -5,8 +5,8 @@
 mod alone;
 mod answering;
 mod desk;
+mod helped;
 mod laws;
-mod overlap;
 mod plan;
 mod replies;
 mod rows_out;
@@ -23,4 +23,4 @@ pub use replies::{
 pub use rubis_engine::{Count, RunFault};
 pub use rubis_replica::{Arrived, Config, Fault, Free, Gate, Site};
 pub use run::{run_chunks, run_desk};
-pub use site_run::{run_site, run_site_upto};
+pub use site_run::{run_last_site, run_site, run_site_upto};

@@ -1,6 +1,8 @@
 //! A site over a reader and a writer, from its configuration.
 
+ghost use Rattle.std.specs.Prelude.{◌≡◌};
 ghost use Rattle.rubis_engine.specs.Progress.{IsRun};
+ghost use Rattle.rubis_model.specs.Site.{opening_at};
 ghost use Rattle.rubis_replica.specs.Setup.{setup_place};
 ghost use Rattle.rubis_schema.specs.declared.limits.TheConstants.{RECORDS_MAX};
 ghost use Rattle.rubis_script.specs.Headline.{OfRead, WritesAsProcess};
@@ -13,8 +15,26 @@ use rubis_replica::{Config, Free, Gate};
 use rubis_schema::RECORDS_MAX;
 use std::alloc::Global;
 use std::io::{Read, Write};
+use std::mem;
 use std::sync::Wait;
 use std::thread::Threads;
+
+// Runs the desk of a site with which nothing was done yet.
+fn run_opened<G: Gate, T: Threads + Wait + Sync, R: Read + Drop, W: Write>(
+    rt: &T,
+    alloc: Global,
+    reader: R,
+    writer: &mut W,
+    desk: &mut Desk<G>,
+    limit: u64,
+) -> Result<Count, RunFault>
+    requires opened { desk.old.site.state ≡ opening_at desk.old.site.place.site }
+    ensures run { IsRun (answers_of desk.old.site.place) limit (R.remaining reader) (W.contents writer.old) (W.contents writer.new) result }
+    ensures process { OfRead limit (R.remaining reader) result (λ records.
+        WritesAsProcess desk.old.site.place (W.contents writer.old) (W.contents writer.new) records) }
+{
+    run_desk(rt, alloc, reader, writer, desk, limit)
+}
 
 /// Runs a site over the records of `reader` until its end, or up to `limit` of them: appends the text of its answers to
 /// `writer`. The answers depend on the records, and on which site it is, of how many, and how many messages it keeps; not on
@@ -39,7 +59,7 @@ pub fn run_site_upto<G: Gate + Drop, T: Threads + Wait + Sync, R: Read + Drop, W
         WritesAsProcess (setup_place config.now) (W.contents writer.old) (W.contents writer.new) records) }
 {
     let mut desk = Desk::new(alloc, config, gate)?;
-    run_desk(rt, alloc, reader, writer, &mut desk, limit)
+    run_opened(rt, alloc, reader, writer, &mut desk, limit)
 }
 
 /// Runs a site over at most 4,000,000 records, as `run_site_upto`.
@@ -59,4 +79,27 @@ pub fn run_site<T: Threads + Wait + Sync, R: Read + Drop, W: Write>(
         WritesAsProcess (setup_place config.now) (W.contents writer.old) (W.contents writer.new) records) }
 {
     run_site_upto(rt, alloc, reader, writer, config, RECORDS_MAX, Free)
+}
+
+/// Runs a site as `run_site` does, as the last thing that a process does: its tables and its log aren't given back, row by row, before the
+/// process ends, which gives all memory back at once.
+///
+/// # Errors
+///
+/// Those of `run_site_upto`.
+pub fn run_last_site<T: Threads + Wait + Sync, R: Read + Drop, W: Write>(
+    rt: &T,
+    alloc: Global,
+    reader: R,
+    writer: &mut W,
+    config: &Config,
+) -> Result<Count, RunFault>
+    ensures run { IsRun (answers_of (setup_place config.now)) RECORDS_MAX (R.remaining reader) (W.contents writer.old) (W.contents writer.new) result }
+    ensures process { OfRead RECORDS_MAX (R.remaining reader) result (λ records.
+        WritesAsProcess (setup_place config.now) (W.contents writer.old) (W.contents writer.new) records) }
+{
+    let mut desk = Desk::new(alloc, config, Free)?;
+    let ended = run_opened(rt, alloc, reader, writer, &mut desk, RECORDS_MAX);
+    mem::forget(desk);
+    ended
 }

@@ -1,3 +1,2 @@
-pub mod EndFacts
 pub mod StandFacts
 pub mod ServedFacts

@@ -14,10 +14,12 @@ use Rattle.rubis_engine.specs.declared.record_list.Records.{Records}
 use Rattle.rubis_reading.specs.Chunked.{FailsShort, HasCome, HasPending, IsLast, KeepsCome, KeepsPending, TakesOff, held_text}
 use Rattle.rubis_reading.specs.Streams.{EndsNoRecord}
 use Rattle.rubis_reading.specs.declared.chunks.Chunks.{Chunks}
-use Rattle.rubis_reading.proofs.ChunkFacts.{come-rest, taken as first-taken}
-use Rattle.rubis_serving.specs.Serving.{HasServed, HasYet, IsChunk, OfEachPiece, OfEachServed, Settles, Stands, Stops}
-use Rattle.rubis_serving.specs.Whole.{CameWhole, EndsWhole, HasAll, IsCutAfter}
-use Rattle.rubis_serving.specs.declared.served.Served.{Served}
+use Rattle.rubis_reading.proofs.ChunkFacts.{come-rest, pending-front}
+use Rattle.rubis_serving.specs.Serving.{HasServed, HasYet, OfEachPiece, OfEachServed, Settles, Stands, Stops}
+use Rattle.rubis_reading.specs.Chunked.{IsChunk}
+use Rattle.rubis_serving.specs.Whole.{EndsWhole, IsCutAfter}
+use Rattle.rubis_reading.specs.Chunked.{CameWhole, HasAll}
+use Rattle.rubis_serving.specs.declared.pieces.Served.{Served}
 use Rattle.rubis_serving.proofs.StandFacts.{stands-cut, stands-drained, stands-front, stands-prefix, stands-starts, stands-too_long}
 
 -- what was held back is answered, and all that waited was written out
@@ -129,13 +131,6 @@ served-front rem chunks account all old now now2 sink answered input front h =
 
 -- ---- a piece
 
--- a chunk stands first
-pub pending-front : {R : Type 0} (rem : R → Option (List ℕ)) (c : Chunks R) (many : ℕ) (rows : List (List (List ℕ))) → IsChunk many (held_text c)
-    → HasPending rem c rows → (more : List (List (List ℕ))) × (rows ≡ input_records (take many (held_text c)) ++ more)
-pending-front rem c many rows (some, within, whole) h =
-    let (left, same, split) = first-taken c.held h.bytes (rem c.reader) many some within whole h.source in
-    (input_records left, h.reads ∙ split)
-
 -- a chunk was answered, and is handed on
 pub served-taken : {R : Type 0} (rem : R → Option (List ℕ)) (chunks chunks2 : Chunks R) (text chunk : List ℕ) (account account2 : ℕ → Account)
     (run run2 : Served) (now now2 : Option (List ℕ)) (all : Account) (old : Option (List ℕ)) (input : List ℕ) → text ≡ chunk
@@ -190,14 +185,6 @@ pub match_so : {A : Type 0} {P P2 : Type 0} {Q Q2 : A → Type 0} (o : Option A)
     → MatchOption o P2 Q2
 match_so None f g h = f h
 match_so (Some x) f g h = g x h
-
-pub match-none : {A : Type 0} (o : Option A) (P : Type 0) (Q : A → Type 0) → MatchOption o P Q → o ≡ None → P
-match-none None P Q h e = h
-match-none (Some x) P Q h e = absurd cc
-
-pub match-some : {A : Type 0} (o : Option A) (P : Type 0) (Q : A → Type 0) (x : A) → MatchOption o P Q → o ≡ Some x → Q x
-match-some None P Q x h e = absurd cc
-match-some (Some y) P Q x h e = let same : y ≡ x = cc in subst Q same h
 
 -- ---- a run from its beginning
 

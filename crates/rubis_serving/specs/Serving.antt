@@ -1,5 +1,5 @@
 -- Where a run over chunks stands.
-use Rattle.std.specs.Prelude.{◌≡◌, ◌≤◌, ◌<◌, ◌+◌, ◌++◌, ◌∷◌, [], ℕ, List, MatchOption, Option, Result, length, take}
+use Rattle.std.specs.Prelude.{◌≡◌, ◌≤◌, ◌+◌, ◌++◌, ◌∷◌, [], ℕ, List, MatchOption, Option, Result, length}
 use Rattle.std.specs.Io.KnownBytes.{Appends}
 use Rattle.rubis_engine.specs.Accounts.{Account, Ending}
 use Rattle.rubis_engine.specs.Accounts.Ending.{AtEnd, Cut}
@@ -9,12 +9,12 @@ use Rattle.rubis_engine.specs.Text.{input_records}
 use Rattle.rubis_engine.specs.declared.fault.Count.{Count}
 use Rattle.rubis_engine.specs.declared.fault.RunFault.{RunFault}
 use Rattle.rubis_engine.specs.declared.record_list.Records.{Records}
-use Rattle.rubis_reading.specs.Chunked.{HasCome, HasPending, IsLast, held_text}
-use Rattle.rubis_reading.specs.Streams.{IsWhole}
+use Rattle.rubis_reading.specs.Chunked.{HasCome, HasPending, IsChunk, IsLast, held_text}
 use Rattle.rubis_reading.specs.declared.chunks.Chunks.{Chunks}
-use Rattle.rubis_serving.specs.Endings.{ByEnd}
-use Rattle.rubis_serving.specs.Whole.{CameWhole, IsCutAfter}
-use Rattle.rubis_serving.specs.declared.served.Served.{Served}
+use Rattle.rubis_engine.specs.Endings.{ByEnd}
+use Rattle.rubis_serving.specs.Whole.{IsCutAfter}
+use Rattle.rubis_reading.specs.Chunked.{CameWhole}
+use Rattle.rubis_serving.specs.declared.pieces.Served.{Served}
 
 -- the first `answered` of these records are answered, and `later` are to come: `all` is the account of all, `more` that of those to come;
 -- `sink` waits to be written
@@ -82,10 +82,6 @@ PieceEnds limit account run of_each after result = ByEnd result
     (of_each (λ all old records rest. WrotePrefix (all.text AtEnd) old after records))
 
 -- ---- a text by chunks
-
--- the first `many` bytes are whole records
-abbrev pub IsChunk : ℕ → List ℕ → Type 0
-IsChunk many text = (0 < many) × (many ≤ length text) × IsWhole (take many text)
 
 -- that many of the bytes that are held are whole records, or what is held is the rest
 abbrev pub IsAtHand : {R : Type 0} → (R → Option (List ℕ)) → Chunks R → Option ℕ → Type 0

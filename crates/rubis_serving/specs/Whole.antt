@@ -8,19 +8,8 @@ use Rattle.rubis_engine.specs.Text.{input_records}
 use Rattle.rubis_engine.specs.declared.fault.Count.{Count}
 use Rattle.rubis_engine.specs.declared.fault.RunFault.{RunFault}
 use Rattle.rubis_engine.specs.declared.fault.RunFault.TheVariants.{Memory, Read, TooLong, Write}
-use Rattle.rubis_reading.specs.Chunked.{HasCome, HasPending, held_text}
-use Rattle.rubis_reading.specs.Streams.{EndsNoRecord}
+use Rattle.rubis_reading.specs.Chunked.{CameWhole}
 use Rattle.rubis_reading.specs.declared.chunks.Chunks.{Chunks}
-
--- the chunks have all of the input still to give
-abbrev pub HasAll : {R : Type 0} → (R → Option (List ℕ)) → Chunks R → List ℕ → Type 0
-HasAll rem chunks input = HasPending rem chunks (input_records input) × HasCome rem input chunks
-
--- of an input k whole records came: they were handed on, and in what came since no record ends
-pub record CameWhole {R : Type 0} (rem : R → Option (List ℕ)) (chunks : Chunks R) (input : List ℕ) (k : ℕ) : Type 0 where
-  pub come : HasCome rem input chunks
-  pub count : k ≡ length (input_records come.front)
-  pub none : EndsNoRecord (held_text chunks)
 
 -- the run was cut short behind the first k records: their text was written, and `more` is the account of what is still to be made of
 -- those that follow, whichever they are. `all` is that of all records

@@ -4,8 +4,6 @@
 
 mod pieces;
 mod run;
-mod served;
 
-pub use pieces::{end, next_piece, settle};
+pub use pieces::{BLOCK, Served, end, next_piece, settle};
 pub use run::run_service;
-pub use served::{BLOCK, Served};

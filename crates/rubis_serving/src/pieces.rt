@@ -1,18 +1,45 @@
-//! The next piece of a text, and what a run does between pieces and at its end.
+//! What a run has answered so far, the next piece of its text, and what it does between pieces and at its end.
 
-ghost use Rattle.std.specs.Prelude.{◌≡◌, ⊤};
+ghost use Rattle.std.specs.Prelude.{◌≡◌, ⊤, []};
 ghost use Rattle.rubis_engine.specs.Accounts.Ending.{AtEnd};
 ghost use Rattle.rubis_engine.specs.Progress.{IsDone, WritesFrontOf, WrotePrefix};
 ghost use Rattle.rubis_engine.specs.Text.{input_records};
 ghost use Rattle.rubis_reading.specs.Chunked.{FailsShort, KeepsCome, KeepsPending, held_text};
 ghost use Rattle.rubis_reading.specs.Streams.{EndsNoRecord};
-ghost use Rattle.rubis_serving.specs.Endings.{ByEnd};
+ghost use Rattle.rubis_engine.specs.Endings.{ByEnd};
 ghost use Rattle.rubis_serving.specs.Serving.{AnswersWhole, IsAtHand, MovesOn, OfEachLast, OfEachServed, Settles};
 
-use crate::served::Served;
-use rubis_engine::{Count, RunFault, Service, Sink};
+use rubis_engine::{Count, Reply, RunFault, Service, Sink};
 use rubis_reading::{ChunkFault, Chunks};
+use std::alloc::Global;
 use std::io::{Read, Write};
+
+/// How many bytes a reader is asked for at a time. Each chunk has a reader of CSV of its own, which takes as long to make as some twenty
+/// records of an audit to read, so a chunk that is at hand is long.
+pub const BLOCK: usize = 393_216;
+
+/// The answers that wait to be written, and how many records were answered.
+#[derive(Drop)]
+pub struct Served {
+    pub reply: Reply,
+    pub answered: u64,
+    /// What a run takes memory from.
+    pub alloc: Global,
+}
+
+impl Served {
+    /// Nothing was answered. It takes no memory yet.
+    pub fn new(alloc: Global) -> Served
+        ensures empty { result.reply.sink ≡ [] }
+        ensures none { result.answered ≡ 0 }
+    {
+        Served {
+            reply: Reply::new(alloc),
+            answered: 0,
+            alloc,
+        }
+    }
+}
 
 /// Has a service answer what it holds back, and writes out all that waits.
 ///
@@ -42,7 +69,7 @@ fn fill_whole<R: Read>(chunks: &mut Chunks<R>) -> Result<Option<usize>, RunFault
         (λ piece. KeepsPending R.remaining chunks.old chunks.new × KeepsCome R.remaining chunks.old chunks.new × IsAtHand R.remaining chunks.new piece)
         ⊥ (FailsShort R.remaining chunks.old chunks.new) ⊤ }
 {
-    'fills: for _ in 0..u64::MAX {
+    'fills: loop {
         match chunks.fill() {
             Ok(true) => {
                 let many = chunks.whole(chunks.held().len());
@@ -55,7 +82,6 @@ fn fill_whole<R: Read>(chunks: &mut Chunks<R>) -> Result<Option<usize>, RunFault
             Err(ChunkFault::Memory) => return Err(RunFault::Memory),
         }
     }
-    Err(RunFault::Memory)
 }
 
 /// How many of the bytes that are held are whole records. Where none are, all that came is answered and written out, and only then is

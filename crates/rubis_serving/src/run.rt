@@ -3,14 +3,15 @@
 ghost use Rattle.std.specs.Prelude.{◌≡◌, ◌≤◌, ◌<◌, ◌+◌, ◌^◌, ℕ, List, MatchOption};
 ghost use Rattle.rubis_engine.specs.Accounts.Ending.{AtEnd};
 ghost use Rattle.rubis_engine.specs.Progress.{IsDone, WrotePrefix};
+ghost use Rattle.rubis_engine.specs.Reading.{Gives};
 ghost use Rattle.rubis_engine.specs.Text.{input_records};
 ghost use Rattle.rubis_reading.specs.Chunked.{IsLast};
-ghost use Rattle.rubis_serving.specs.Endings.{ByEnd};
+ghost use Rattle.rubis_engine.specs.Endings.{ByEnd};
 ghost use Rattle.rubis_serving.specs.Serving.{GoesOnOrEnds, OfEachNext, OfEachPiece, OfEachServed, OfEachYet, PieceEnds, Stands, Stops};
-ghost use Rattle.rubis_serving.specs.Whole.{EndsWhole, HasAll};
+ghost use Rattle.rubis_serving.specs.Whole.{EndsWhole};
+ghost use Rattle.rubis_reading.specs.Chunked.{HasAll};
 
-use crate::pieces::{end, next_piece, settle};
-use crate::served::Served;
+use crate::pieces::{Served, end, next_piece, settle};
 use rubis_engine::{Answering, Count, Course, InputRecord, Records, RunFault};
 use rubis_reading::Chunks;
 use std::alloc::Global;
@@ -64,11 +65,12 @@ fn answer_records<T, S: Answering<T>, R: Read, W: Write>(
     writer: &mut W,
     limit: u64,
 ) -> Result<Option<Count>, RunFault>
-    requires { run.old.answered ≤ limit }
+    requires within { run.old.answered ≤ limit }
+    requires known { (rows : List (List (List ℕ))) × Gives R.remaining piece.old rows }
     ensures { PieceEnds limit (S.account service.new) run.new (OfEachYet R.remaining piece.old (S.account service.old) run.old (W.contents writer.old))
         (W.contents writer.new) result }
 {
-    'records: for _ in 0..u64::MAX {
+    'records: loop {
         let Ok(found) = piece.advance() else {
             return Err(RunFault::Memory);
         };
@@ -83,7 +85,6 @@ fn answer_records<T, S: Answering<T>, R: Read, W: Write>(
             return Ok(Some(count));
         }
     }
-    Err(RunFault::Memory)
 }
 
 // The same of the records of a text.

@@ -2,15 +2,37 @@
 //! first run of a site need not wait for the others' proofs.
 #![tactic(auto)]
 
-ghost use Rattle.std.specs.Prelude.{map, string_bytes};
+ghost use Rattle.std.specs.Prelude.{◌≡◌, map, string_bytes};
 ghost use Rattle.std.specs.Process.{exit_status};
-ghost use Rattle.rubis_command.specs.Statuses.{IsStatus, IsStatusOf};
+ghost use Rattle.rubis_script.specs.Replica.{IsSetup};
+ghost use Rattle.rubis_command.specs.Setups.{setup_of};
+ghost use Rattle.rubis_command.specs.Statuses.{IsRunStatus, IsStatus, IsStatusOf};
 
-use rubis_command::{Invocation, misuse, read_words, run_site_command, words_of};
+use rubis_command::{Invocation, Options, end, misuse, read_site, read_words, words_of};
+use rubis_script::run_last_site;
+use std::io;
 use std::process::ExitCode;
 use std::random::RandomSource;
 use std::sync::Wait;
 use std::thread::Threads;
+
+// Runs a site over standard input and output.
+fn run_one<R: Print + Eprint + Input + AllocGlobal + RandomSource + Threads + Wait + Sync>(
+    rt: &R,
+    options: &Options,
+) -> ExitCode
+    ensures misuse { ¬ IsSetup (setup_of options.now) → exit_status result ≡ 2 }
+    ensures runs { IsSetup (setup_of options.now) → IsRunStatus (exit_status result) }
+    ensures status { IsStatus (exit_status result) }
+{
+    let config = match read_site(rt, options) {
+        Ok(config) => config,
+        Err(status) => return status,
+    };
+    let mut writer = io::writer(rt);
+    let ended = run_last_site(rt, rt.alloc(), rt.reader(), &mut writer, &config);
+    end(rt, ended)
+}
 
 // Runs what is asked for, if it is a site.
 fn obey<R: Print + Eprint + Input + AllocGlobal + RandomSource + Threads + Wait + Sync>(
@@ -20,7 +42,7 @@ fn obey<R: Print + Eprint + Input + AllocGlobal + RandomSource + Threads + Wait 
     ensures { IsStatus (exit_status result) }
 {
     match asked {
-        Invocation::Site(options) => run_site_command(rt, options),
+        Invocation::Site(options) => run_one(rt, options),
         _ => misuse(rt, "this program has the command site alone"),
     }
 }

@@ -5,10 +5,10 @@ use Rattle.std.specs.Vec.{with_item}
 use Rattle.std.proofs.lemmas.List.{length_push, map_push, take-map}
 use Rattle.rubis_carrier.specs.Packets.{Packet, own, sender, unchanged}
 use Rattle.rubis_carrier.specs.Shops.{Folder, Request, Shop, Told, empty, put, with_folder, with_stream}
-use Rattle.rubis_carrier.specs.Events.{accepting, answering, forgotten, giving, keeping, next_pass, replaced, started, stopped, unknown, without}
+use Rattle.rubis_carrier.specs.Events.{accepting, answering, closed, forgotten, giving, keeping, next_pass, replaced, started, stopped, unknown, without}
 use Rattle.rubis_carrier.specs.Events.Event.{Accepts, Appends, Gives, IsAsked, IsChanged, IsCopied, IsKilled, IsLost, LosesEnd}
 use Rattle.rubis_carrier.specs.Events.Event.{MachineStarts, Opens, Passes, Reads, Rebuilds, Refuses, Serves, ServerLosesAll, Starts, StreamLosesEnd}
-use Rattle.rubis_carrier.specs.Events.Event.{TellsNothing, TellsOk, TellsPublished, TellsUnknown, WritesAnew}
+use Rattle.rubis_carrier.specs.Events.Event.{Closes, TellsNothing, TellsOk, TellsPublished, TellsUnknown, WritesAnew}
 use Rattle.rubis_steps.specs.declared.events.Request.{Request as CodeRequest}
 use Rattle.rubis_steps.specs.declared.folders.Folder.{Folder as CodeFolder}
 use Rattle.rubis_steps.specs.declared.packets.Packet.{Packet as CodePacket}
@@ -44,6 +44,9 @@ with_told : (c : CodeShop) (s : Shop) (told : List Told) (turn : ℕ) → IsAs c
 with_told c s told turn is = record { folders = is.folders; streams = is.streams; begun = is.begun; asks = is.asks; requests = is.requests }
 
 module _ (old new : CodeShop) (k : ℕ) (f g : CodeFolder) (c : Changed old new k f g) where
+  pub leads_closes : folder_of g ≡ closed (folder_of f) → Leads (Closes k) old new
+  leads_closes e = changes_by closed old new k f g c e
+
   pub leads_killed : folder_of g ≡ stopped (folder_of f) → Leads (IsKilled k) old new
   leads_killed e = changes_by stopped old new k f g c e
 

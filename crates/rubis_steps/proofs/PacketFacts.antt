@@ -6,7 +6,7 @@ use Rattle.std.proofs.lemmas.Bool.{and_from, and_parts, eq-eqb, eqb-true, false�
 use Rattle.std.proofs.lemmas.Bool.Decides.{Decides-and, Decides-eqb}
 use Rattle.std.proofs.lemmas.List.{at_drop_more, drop_all}
 use Rattle.rubis_model.specs.Settle.{Has}
-use Rattle.rubis_carrier.specs.Packets.{IsReached, Packet, highest, own, passed, same_packet, sender, taken, unchanged}
+use Rattle.rubis_carrier.specs.Packets.{IsReached, Packet, highest, last_turn, own, passed, same_packet, sender, taken, unchanged}
 use Rattle.rubis_carrier.specs.Packets.Packet.{Message, Pass}
 use Rattle.rubis_steps.specs.declared.packets.Packet.{Packet as CodePacket}
 use Rattle.rubis_steps.specs.Finite.{packet_of, packets_of}
@@ -88,20 +88,20 @@ or_not : (b d : Bool) → (not b || d) ≡ true → b ≡ true → d ≡ true
 or_not true d h e = h
 or_not false d h e = absurd (false≢true e)
 
-pub reached_decides : (i : ℕ) (kept : List Packet) (x : Packet) → Decides (is_reached i (highest i kept) (passed i kept) x) (IsBehind i kept x)
+pub reached_decides : (i : ℕ) (kept : List Packet) (x : Packet) → Decides (is_reached i (highest i kept) (last_turn i kept) x) (IsBehind i kept x)
 reached_decides i kept (Message j n r) = (
   λ t e. leb-true n (highest i kept) (or_not (j == i) (nat_le n (highest i kept)) t (eq-eqb j i e)),
   λ h. not_or (j == i) (nat_le n (highest i kept)) (λ e. le-leb n (highest i kept) (h (eqb-true j i e))),
 )
 reached_decides i kept (Pass j t k a) = (
-  λ w e. leb-true t (passed i kept) (or_not (j == i) (nat_le t (passed i kept)) w (eq-eqb j i e)),
-  λ h. not_or (j == i) (nat_le t (passed i kept)) (λ e. le-leb t (passed i kept) (h (eqb-true j i e))),
+  λ w e. leb-true t (last_turn i kept) (or_not (j == i) (nat_le t (last_turn i kept)) w (eq-eqb j i e)),
+  λ h. not_or (j == i) (nat_le t (last_turn i kept)) (λ e. le-leb t (last_turn i kept) (h (eqb-true j i e))),
 )
 
 pub are_reached_decides : (i : ℕ) (kept : List Packet) (xs : List CodePacket)
-    → Decides (are_reached i (highest i kept) (passed i kept) xs) ((x : Packet) → Has x (packets_of xs) → IsBehind i kept x)
+    → Decides (are_reached i (highest i kept) (last_turn i kept) xs) ((x : Packet) → Has x (packets_of xs) → IsBehind i kept x)
 are_reached_decides i kept xs =
-    all_decides packet_of (λ x. is_reached i (highest i kept) (passed i kept) (packet_of x)) (IsBehind i kept) (λ x. reached_decides i kept (packet_of x)) xs
+    all_decides packet_of (λ x. is_reached i (highest i kept) (last_turn i kept) (packet_of x)) (IsBehind i kept) (λ x. reached_decides i kept (packet_of x)) xs
 
 pub own_is : (i : ℕ) (xs : List CodePacket) → packets_of (filter (λ x. sender (packet_of x) == i) xs) ≡ own i (packets_of xs)
 own_is i [] = refl

@@ -8,7 +8,7 @@ use Rattle.std.proofs.lemmas.List.{map_more, take-map}
 use Rattle.std.proofs.lemmas.Bool.{false≢true}
 use Rattle.std.proofs.lemmas.Bool.Decides.{Decides-and, Decides-eqb, Decides-not, Decides-or, not_from_Decides}
 use Rattle.rubis_model.specs.Settle.{Has}
-use Rattle.rubis_carrier.specs.Packets.{IsReached, Packet, highest, own, passed, sender}
+use Rattle.rubis_carrier.specs.Packets.{IsReached, Packet, highest, last_turn, own, sender}
 use Rattle.rubis_carrier.specs.Packets.Packet.{Message}
 use Rattle.rubis_carrier.specs.Shops.{Carrier, Folder, IsCompared, MayOpen, Place, Request, Shop, empty, start, there, with_folder, with_stream}
 use Rattle.rubis_carrier.specs.Shops.Carrier.{Files, Server}
@@ -116,16 +116,16 @@ at_streams c s R q is d none =
 
 -- nothing is ahead of these, in any folder, and in any stream
 pub compared_decides : (c : CodeShop) (s : Shop) (k : ℕ) (f : CodeFolder) → IsAs c s → k < length c.folders.items → f ≡ get_or c.folders.items k f
-    → Decides (folders_reached f.site (highest f.site (packets_of f.kept.items)) (passed f.site (packets_of f.kept.items)) c.folders.items
-    && streams_reached f.site (highest f.site (packets_of f.kept.items)) (passed f.site (packets_of f.kept.items)) c.streams.items) (IsCompared s k)
+    → Decides (folders_reached f.site (highest f.site (packets_of f.kept.items)) (last_turn f.site (packets_of f.kept.items)) c.folders.items
+    && streams_reached f.site (highest f.site (packets_of f.kept.items)) (last_turn f.site (packets_of f.kept.items)) c.streams.items) (IsCompared s k)
 compared_decides c s k f is lt read =
     let i = f.site in
     let kept = packets_of f.kept.items in
-    let both = Decides-and (folders_reached i (highest i kept) (passed i kept) c.folders.items) (streams_reached i (highest i kept) (passed i kept)
+    let both = Decides-and (folders_reached i (highest i kept) (last_turn i kept) c.folders.items) (streams_reached i (highest i kept) (last_turn i kept)
     c.streams.items)
-    (at_folders c s (λ g. (x : Packet) → Has x g.kept → IsBehind i kept x) (λ g. are_reached i (highest i kept) (passed i kept) g.kept.items) is
+    (at_folders c s (λ g. (x : Packet) → Has x g.kept → IsBehind i kept x) (λ g. are_reached i (highest i kept) (last_turn i kept) g.kept.items) is
     (λ g. are_reached_decides i kept g.kept.items) (λ j x h. absurd h))
-    (at_streams c s (λ xs. (x : Packet) → Has x xs → IsBehind i kept x) (λ v. are_reached i (highest i kept) (passed i kept) v.items) is
+    (at_streams c s (λ xs. (x : Packet) → Has x xs → IsBehind i kept x) (λ v. are_reached i (highest i kept) (last_turn i kept) v.items) is
     (λ v. are_reached_decides i kept v.items) (λ x h. absurd h)) in
     let same : s.folder k ≡ folder_of f = its_folder c s k f is lt read in
     let to : ((j : ℕ) (x : Packet) → Has x (s.folder j).kept → IsBehind i kept x) × ((j : ℕ) (x : Packet) → Has x (s.stream j) → IsBehind i kept x) →

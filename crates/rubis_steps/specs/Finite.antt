@@ -83,6 +83,7 @@ carrier_of carrier.Server = Server
 abbrev pub event_of : CodeEvent → Event
 event_of (event.Starts k) = model.Starts k
 event_of (event.Opens k) = model.Opens k
+event_of (event.Closes k) = model.Closes k
 event_of (event.KeeperStarts k) = model.KeeperStarts k
 event_of (event.IsKilled k) = model.IsKilled k
 event_of (event.MachineStarts k) = model.MachineStarts k

@@ -16,6 +16,7 @@ fn happens(shop: &mut Shop, carrier: Carrier, event: &Event) -> Result<bool, Dec
     match event {
         Event::Starts { folder } => shop.starts(*folder),
         Event::Opens { folder } => shop.opens(*folder),
+        Event::Closes { folder } => shop.closes(*folder),
         Event::KeeperStarts { folder } => shop.keeper_starts(*folder),
         Event::IsKilled { folder } => shop.is_killed(*folder),
         Event::MachineStarts { folder } => shop.machine_starts(*folder),

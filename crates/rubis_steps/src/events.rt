@@ -21,6 +21,7 @@ pub struct Request {
 pub enum Event {
     Starts { folder: u64 },
     Opens { folder: u64 },
+    Closes { folder: u64 },
     KeeperStarts { folder: u64 },
     IsKilled { folder: u64 },
     MachineStarts { folder: u64 },

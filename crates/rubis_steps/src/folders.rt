@@ -4,7 +4,7 @@ ghost use Rattle.std.specs.Prelude.{◌≡◌, ◌≢◌, Decides, IfOk, OnOk, t
 ghost use Rattle.rubis_model.specs.Settle.{Has};
 ghost use Rattle.rubis_carrier.specs.Packets.{Holds, unchanged};
 ghost use Rattle.rubis_carrier.specs.Shops.{empty};
-ghost use Rattle.rubis_carrier.specs.Events.{IsFirst, accepting, answering, forgotten, giving, keeping, next_pass};
+ghost use Rattle.rubis_carrier.specs.Events.{IsFirst, accepting, answering, closed, forgotten, giving, keeping, next_pass};
 ghost use Rattle.rubis_carrier.specs.Events.{replaced, started, stopped, unknown, without};
 ghost use Rattle.rubis_steps.specs.Finite.{folder_of, packet_of, packets_of, serving};
 ghost use Rattle.rubis_steps.specs.Tests.{has_answer};
@@ -140,6 +140,13 @@ impl Folder {
     {
         self.is_open = true;
         self.remembered = true;
+    }
+
+    /// Its site may take none any more.
+    pub fn take_none(&mut self)
+        ensures { folder_of self.new ≡ closed (folder_of self.old) }
+    {
+        self.is_open = false;
     }
 
     /// Another folder of that site takes asks.

@@ -2,7 +2,7 @@
 
 ghost use Rattle.std.specs.Prelude.{◌≡◌, ◌==◌, IfOk, cond, filter, max, take};
 ghost use Rattle.std.specs.List.{list_all};
-ghost use Rattle.rubis_carrier.specs.Packets.{highest, own, passed, same_packet, sender, taken, unchanged};
+ghost use Rattle.rubis_carrier.specs.Packets.{highest, last_turn, own, passed, same_packet, sender, taken, unchanged};
 ghost use Rattle.rubis_carrier.specs.Packets.Packet.{Message, Pass};
 ghost use Rattle.rubis_steps.specs.Finite.{packet_of, packets_of};
 ghost use Rattle.rubis_steps.specs.Tests.{are_reached, has_packet, is_reached, number_in, passed_in, taken_in};
@@ -167,6 +167,13 @@ pub fn passed(kept: &[Packet], site: u64) -> u64
         most = larger(most, packet.passed_by(site));
     }
     most
+}
+
+/// The greatest turn that the site passed on or took.
+pub fn last_turn(kept: &[Packet], site: u64) -> u64
+    ensures { result ≡ last_turn site (packets_of kept.now) }
+{
+    larger(passed(kept, site), taken(kept, site))
 }
 
 /// Whether the packet stands there.

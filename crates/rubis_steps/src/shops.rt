@@ -3,7 +3,7 @@
 ghost use Rattle.std.specs.Prelude.{◌≡◌, ◌<◌, ◌≤◌, ◌⊎◌, OnOk, length, true};
 ghost use Rattle.rubis_carrier.specs.Events.Event.{Accepts, Appends, Gives, IsAsked, IsChanged, IsCopied, IsKilled, IsLost, KeeperStarts, LosesEnd};
 ghost use Rattle.rubis_carrier.specs.Events.Event.{MachineStarts, Opens, Passes, Reads, Rebuilds, Refuses, Serves, ServerLosesAll, Starts, StreamLosesEnd};
-ghost use Rattle.rubis_carrier.specs.Events.Event.{TellsNothing, TellsOk, TellsPublished, TellsUnknown, WritesAnew};
+ghost use Rattle.rubis_carrier.specs.Events.Event.{Closes, TellsNothing, TellsOk, TellsPublished, TellsUnknown, WritesAnew};
 ghost use Rattle.rubis_carrier.specs.Events.{IsOffered, MayRebuild, MayServe};
 ghost use Rattle.rubis_carrier.specs.Shops.{IsAlone, IsCompared, MayOpen, start};
 ghost use Rattle.rubis_steps.specs.Answers.{DecidesIn, DecidesMay, IsDone, IsDoneOver, IsStart, Keeps};
@@ -12,7 +12,7 @@ ghost use Rattle.rubis_steps.specs.Finite.{carrier_of, folder_at, packet_of, pac
 use crate::events::{Carrier, Request};
 use crate::faults::DeciderFault;
 use crate::folders::Folder;
-use crate::packets::{Packet, are_all_in, has, highest, own, passed};
+use crate::packets::{Packet, are_all_in, has, highest, last_turn, own};
 use crate::places::{
     are_found, are_own, folders_reached, forget_all, in_own_folder, is_alone, list_folder,
     list_stream, streams_reached,
@@ -114,7 +114,7 @@ impl Shop {
         let it = &self.folders[folder as usize];
         let site = it.site;
         let number = highest(&it.kept, site);
-        let turn = passed(&it.kept, site);
+        let turn = last_turn(&it.kept, site);
         folders_reached(&self.folders, site, number, turn)
             && streams_reached(&self.streams, site, number, turn)
     }
@@ -155,6 +155,14 @@ impl Shop {
         let site = self.folders[folder as usize].site;
         forget_all(&mut self.folders, site);
         self.folders[folder as usize].take_asks();
+        Ok(true)
+    }
+
+    pub fn closes(&mut self, folder: u64) -> Result<bool, DeciderFault>
+        ensures { IsDoneOver (Closes folder) self.old self.new result }
+    {
+        self.list(folder)?;
+        self.folders[folder as usize].take_none();
         Ok(true)
     }
 

@@ -1,5 +1,5 @@
 //! The tests that cross crates: batches in shares, schedules, a board, a site's packets and tables, workers and their gate;
-//! runs over streams, of the engine, of a site, of the auditor, of what widens logs, and of several sites; and inputs that no
+//! runs over streams, of a service, of a site, of the auditor, of what widens logs, and of several sites; and inputs that no
 //! line of text can write down. They are one crate, since each crate of tests links all that it reaches. Whole conversations
 //! are no code: they lie in `conversations/`. What the scenarios of `rubis_growths` print of a call isn't tested here once more.
 #![tactic(auto)]
@@ -23,8 +23,6 @@ mod configurations;
 #[cfg(test)]
 mod echoes;
 #[cfg(test)]
-mod engine;
-#[cfg(test)]
 mod failing;
 #[cfg(test)]
 mod failing_streams;
@@ -40,6 +38,8 @@ mod packets;
 mod records;
 #[cfg(test)]
 mod schedules;
+#[cfg(test)]
+mod services;
 #[cfg(test)]
 mod shares;
 #[cfg(test)]

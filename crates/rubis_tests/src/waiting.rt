@@ -1,7 +1,9 @@
 //! Whether a run answers all that it read before it asks for more.
 
 use crate::echoes::Echo;
-use rubis_engine::{Count, run_upto};
+use rubis_engine::Count;
+use rubis_reading::Chunks;
+use rubis_serving::run_service;
 use std::cell::Cell;
 use std::io;
 use std::io::{Read, Write};
@@ -71,14 +73,9 @@ fn answers_before_it_asks_for_more(rt: HostRuntime) {
             written: 0,
             flushed: &flushed,
         };
-        let end = run_upto(
-            &(),
-            rt.alloc(),
-            reader,
-            &mut writer,
-            &mut Echo::new(rt.alloc()),
-            9,
-        );
+        let mut chunks = Chunks::new(rt.alloc(), reader, 16);
+        let mut service = Echo::new(rt.alloc());
+        let end = run_service(&(), rt.alloc(), &mut chunks, &mut writer, &mut service, 9);
         assert!(rt; end == Ok(Count { records: 3 }));
         assert!(rt; !late.get());
     }

@@ -15,10 +15,13 @@ use Rattle.rubis_engine.proofs.FrontFacts.{front-longer}
 use Rattle.rubis_reading.specs.Chunked.{HasCome, HasPending, IsLast, KeepsCome, TakesOff, held_text}
 use Rattle.rubis_reading.specs.declared.chunks.Chunks.{Chunks}
 use Rattle.rubis_script.specs.Headline.{OfRead}
-use Rattle.rubis_serving.specs.Serving.{IsChunk, MovesOn, Settles, Stands}
-use Rattle.rubis_serving.specs.Whole.{EndsWhole, HasAll}
-use Rattle.rubis_serving.specs.declared.served.Served.{Served}
-use Rattle.rubis_serving.proofs.ServedFacts.{pending-front, reader_run, served-last, served-starts, yet-one, yet-too_long}
+use Rattle.rubis_serving.specs.Serving.{MovesOn, Settles, Stands}
+use Rattle.rubis_reading.specs.Chunked.{IsChunk}
+use Rattle.rubis_serving.specs.Whole.{EndsWhole}
+use Rattle.rubis_reading.specs.Chunked.{HasAll}
+use Rattle.rubis_serving.specs.declared.pieces.Served.{Served}
+use Rattle.rubis_serving.proofs.ServedFacts.{reader_run, served-last, served-starts, yet-one, yet-too_long}
+use Rattle.rubis_reading.proofs.ChunkFacts.{pending-front}
 use Rattle.rubis_serving.proofs.StandFacts.{stands-front, stands-step, stands-waited}
 use Rattle.rubis_world.specs.Headline.{Lead, WorldAnswersAll, WorldAnswersFirst, WorldEndsWhole}
 use Rattle.rubis_world.specs.Running.{IsTold, told_by_world}

@@ -9,7 +9,8 @@ use Rattle.rubis_engine.specs.declared.fault.Count.{Count}
 use Rattle.rubis_engine.specs.declared.fault.RunFault.{RunFault}
 use Rattle.rubis_engine.specs.declared.fault.RunFault.TheVariants.{Memory, Read, TooLong, Write}
 use Rattle.rubis_reading.specs.declared.chunks.Chunks.{Chunks}
-use Rattle.rubis_serving.specs.Whole.{CameWhole, IsCutAfter}
+use Rattle.rubis_serving.specs.Whole.{IsCutAfter}
+use Rattle.rubis_reading.specs.Chunked.{CameWhole}
 use Rattle.rubis_world.specs.Running.{told_by_world}
 use Rattle.rubis_world.specs.SitesWorlds.{WorldState}
 

@@ -7,10 +7,10 @@ use Rattle.rubis_engine.specs.declared.fault.Count.{Count}
 use Rattle.rubis_engine.specs.declared.fault.RunFault.{RunFault}
 use Rattle.rubis_engine.specs.declared.record_list.Records.{Records}
 use Rattle.rubis_reading.specs.declared.chunks.Chunks.{Chunks}
-use Rattle.rubis_serving.specs.Endings.{ByEnd}
+use Rattle.rubis_engine.specs.Endings.{ByEnd}
 use Rattle.rubis_serving.specs.Serving.{HasServed, HasYet, Stands}
-use Rattle.rubis_serving.specs.Whole.{CameWhole}
-use Rattle.rubis_serving.specs.declared.served.Served.{Served}
+use Rattle.rubis_reading.specs.Chunked.{CameWhole}
+use Rattle.rubis_serving.specs.declared.pieces.Served.{Served}
 use Rattle.rubis_world.specs.Headline.{Lead, WorldAnswersAll, WorldAnswersFirst, WorldAnswersJust}
 use Rattle.rubis_world.specs.Running.{told_by_world}
 use Rattle.rubis_world.specs.SitesWorlds.{WorldState}

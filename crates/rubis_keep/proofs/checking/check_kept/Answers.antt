@@ -8,18 +8,22 @@ use Rattle.rubis_keep.proofs.checking.check_kept.Goals as goal
 
 pub returns-in-Ok-eq0 : goal.returns-in-Ok-eq0
 returns-in-Ok-eq0 g c =
-    let before = c.loop-turn.invariant in
+    let before = c.loop-turn.invariant.come in
     let none : c.in-Ok-eq0.field-0 ≡ 0 = search rules in
     sound-end _ _ _ before.0 _ before.1 before.2 c.in-Ok-eq0.ensures.bytes.0 (ap (λ n. take n c.read_through_signals.new.buf) none)
     (c.in-Ok-eq0.ensures.bytes.1 none (search rules))
 
 pub loop-turn-preserved : goal.loop-turn-preserved
 loop-turn-preserved g c =
-    let before = c.loop-turn.invariant in
-    let more = take c.in-Ok.given c.read_through_signals.new.buf in (
-      before.0 ++ more,
-      consumes-more _ _ _ before.0 more before.1 c.in-Ok.ensures.bytes.0,
-      sound_more [] before.0 more before.2 (sym (c.in_ok-check_bytes-in-Ok.ensures.sound (begun_after [] before.0) before.3) ∙ c.if-not-branch.false),
-      c.in_ok-check_bytes-in-Ok.ensures.begun c.if-not-branch.false (begun_after [] before.0) before.3
-          ∙ ap begun_bytes (sym (begun-append [] before.0 more)),
-    )
+    let before = c.loop-turn.invariant.come in
+    let more = take c.in-Ok.given c.read_through_signals.new.buf in record {
+      next = search rules;
+      ends = search rules;
+      come = (
+        before.0 ++ more,
+        consumes-more _ _ _ before.0 more before.1 c.in-Ok.ensures.bytes.0,
+        sound_more [] before.0 more before.2 (sym (c.in_ok-check_bytes-in-Ok.ensures.sound (begun_after [] before.0) before.3) ∙ c.if-not-branch.false),
+        c.in_ok-check_bytes-in-Ok.ensures.begun c.if-not-branch.false (begun_after [] before.0) before.3
+            ∙ ap begun_bytes (sym (begun-append [] before.0 more)),
+      );
+    }

@@ -5,5 +5,9 @@ use Rattle.rubis_keep.specs.Places.{begun_bytes}
 use Rattle.rubis_keep.proofs.checking.check_kept.Given as goal
 
 abbrev pub invariant-loop-turn : goal.invariant-loop-turn
-invariant-loop-turn g l = (bytes : List ℕ) × Consumes (g.C.Read.remaining l.fn.kept) (g.C.Read.remaining l.kept) bytes × (are_sound [] bytes ≡ true)
-    × (l.begun.items ≡ begun_bytes (begun_after [] bytes))
+invariant-loop-turn g l = record {
+  next : (goal.iterator-loop-turn g).can_next l._turn-iterator;
+  ends : (goal.iterator-loop-turn g).is_finite l._turn-iterator;
+  come : (bytes : List ℕ) × Consumes (g.C.Read.remaining l.fn.kept) (g.C.Read.remaining l.kept) bytes × (are_sound [] bytes ≡ true)
+      × (l.begun.items ≡ begun_bytes (begun_after [] bytes));
+}

@@ -1,19 +1,31 @@
-use Rattle.std.proofs.Common.{inr}
+use Rattle.std.proofs.Common.{inl, inr}
 use Rattle.std.proofs.lemmas.Result.{on_ok_weaker}
 use Rattle.rubis_engine.proofs.RunFacts.{on_ok}
 use Rattle.rubis_script.proofs.DeskFacts.{told-flushed}
-use Rattle.rubis_keep.proofs.EachFacts.{on_err_weaker}
+use Rattle.rubis_keep.proofs.EachFacts.{on_err, on_err_weaker}
+use Rattle.rubis_keep.proofs.HistoryFacts.{told_none}
+use Rattle.rubis_keep.proofs.RestFacts.{keeps-same}
+use Rattle.rubis_keep.proofs.SafeFacts.{ok-of-err}
 use Rattle.rubis_keep.proofs.feeding.finish.Goals as goal
 
-pub returns-clause-ok : goal.returns-clause-ok
-returns-clause-ok g c =
-    let told = told-flushed c.args.clerk.now.desk c.flush.new.self c.in_ok-flush.ensures.flushed c.in_ok-flush.ensures.empty in
-    on_ok_weaker c.put_sink.result (λ puts. (c.flush.new.self.reply.sink, told, puts)) c.put_sink.ensures.ok
+pub returns-in_err-flush : goal.returns-in_err-flush
+returns-in_err-flush g c =
+    let bad = c.from_residual.ensures.0 in
+    record {
+      ok = ok-of-err _ c.from_residual.result bad;
+      same = ok-of-err _ c.from_residual.result bad;
+      idle = ok-of-err _ c.from_residual.result bad;
+      err = on_err _ (inl (keeps-same _));
+      told = told_none _ _ c.from_residual.result;
+    }
 
-pub returns-clause-err : goal.returns-clause-err
-returns-clause-err g c =
+pub returns : goal.returns
+returns g c =
     let told = told-flushed c.args.clerk.now.desk c.flush.new.self c.in_ok-flush.ensures.flushed c.in_ok-flush.ensures.empty in
-    on_err_weaker c.put_sink.result (λ front. inr (c.flush.new.self.reply.sink, told, front)) c.put_sink.ensures.err
-
-pub returns-clause-same : goal.returns-clause-same
-returns-clause-same g c = on_ok c.put_sink.result (c.in_ok-flush.ensures.flushed.count, c.in_ok-flush.ensures.flushed.leads)
+    record {
+      ok = on_ok_weaker c.put_sink.result (λ puts. (c.flush.new.self.reply.sink, told, puts)) c.put_sink.ensures.ok;
+      same = on_ok c.put_sink.result (c.in_ok-flush.ensures.flushed.count, c.in_ok-flush.ensures.flushed.leads);
+      idle = on_ok c.put_sink.result (record { window = c.in_ok-flush.ensures.empty; empty = c.put_sink.ensures.sink });
+      err = on_err_weaker c.put_sink.result (λ front. inr (c.flush.new.self.reply.sink, told, front)) c.put_sink.ensures.err;
+      told = c.put_sink.ensures.told;
+    }

@@ -24,11 +24,14 @@ returns-clause-ok g c line h =
       λ done. cut.questions done ∙ ap (λ k. asked_by c.in_ok-cut.cut.is_asked (done ++ k) c.take.new.question.items) (sym holds),
     )
 
-pub returns-clause-end : goal.returns-clause-end
-returns-clause-end g c =
+pub returns-clause-came : goal.returns-clause-came
+returns-clause-came g c =
     let piece = c.fill.new.self in
     let n = c.in_ok-cut.cut.taken in
     let bound = rw c.bytes.ensures at c.in_ok-cut.ensures.bound in
-    came-or-ended c.in_ok-more.more _ _ (take n piece) (rw c.pass.ensures (left-taken piece n _ _ c.in_ok-more.ensures.same))
-    (λ e. let some = c.in_ok-more.ensures.more e in taken-some piece n some (bound.2 some))
-    (λ e. let none = c.in_ok-more.ensures.end e in rw c.pass.ensures (left-end (drop n piece) _ (ap (drop n) none.0 ∙ drop-none n) none.1))
+    record {
+      question = c.in_ok-cut.ensures.asks;
+      end = came-or-ended c.in_ok-more.more _ _ (take n piece) (rw c.pass.ensures (left-taken piece n _ _ c.in_ok-more.ensures.same))
+          (λ e. let some = c.in_ok-more.ensures.more e in taken-some piece n some (bound.2 some))
+          (λ e. let none = c.in_ok-more.ensures.end e in rw c.pass.ensures (left-end (drop n piece) _ (ap (drop n) none.0 ∙ drop-none n) none.1));
+    }

@@ -1,16 +1,17 @@
-use Rattle.std.proofs.Common.{◌∙◌, [], refl}
+use Rattle.std.proofs.Common.{◌∙◌, [], refl, rules}
 use Rattle.std.proofs.lemmas.Bool.{MatchBool-at_false}
 use Rattle.rubis_keep.proofs.AskFacts.{on_fault}
 use Rattle.rubis_keep.proofs.EachFacts.{on_err}
-use Rattle.rubis_keep.proofs.ReplyFacts.{each-stopped}
 use Rattle.rubis_keep.proofs.HistoryFacts.{tells-later, tells-none, told-failed, told-more}
 use Rattle.rubis_keep.proofs.SafeFacts.{lives-err, lives-known, lives-more, lives-start, ok-of-err}
-use Rattle.rubis_keep.proofs.StandFacts.{each-stops, gone-failed}
+use Rattle.rubis_keep.proofs.StandFacts.{gone-failed}
 use Rattle.rubis_keep.proofs.pieces.answer_pieces.Goals as goal
 
 pub loop-turn-init : goal.loop-turn-init
 loop-turn-init g c = record {
-  rests = record { window = c.requires.window; empty = c.requires.empty; begun = c.requires.begun; listed = tt };
+  next = search rules;
+  ends = search rules;
+  rests = record { window = c.requires.idle.window; empty = c.requires.idle.empty; begun = c.requires.begun; listed = tt };
   stands = λ all told old base line input0 log0 out0 len0 s. s;
   live = refl;
   told = λ off. (refl, ([], tells-none _ _));
@@ -23,6 +24,8 @@ loop-turn-preserved g c =
     let before = c.loop-turn.invariant in
     let went = c.in_ok-next_piece.ensures.goes in
     record {
+      next = search rules;
+      ends = search rules;
       rests = went.rests;
       stands = λ all told old base line input0 log0 out0 len0 s.
           went.ok all told old base line input0 log0 out0 len0 (before.stands all told old base line input0 log0 out0 len0 s);
@@ -78,17 +81,3 @@ returns-then-not-branch-clause-goes g c =
 
 pub returns-then-not-branch-clause-end : goal.returns-then-not-branch-clause-end
 returns-then-not-branch-clause-end g c = MatchBool-at_false _ _ c.if-not-branch.true c.in_ok-next_piece.ensures.end
-
--- it has more pieces than can be counted
-pub returns-clause-goes : goal.returns-clause-goes
-returns-clause-goes g c =
-    let before = c.loop-turn.invariant in
-    record {
-      rests = tt;
-      ok = tt;
-      err = gone-failed _ _ _ _ _ _ _ _ _ _ _ _ _ _ _ _ _ _ _ _ before.stands (each-stops _ _ _ _ _ _ _ _ _);
-      live = before.live;
-      told = λ off. let told = before.told off in (told.0, (told.1.0, [], told.1.1));
-      safe = λ keeps live all h is rested. ((before.safe keeps live all h is rested).0, tt);
-      asked = each-stopped _ _ _ _ _ _ _ _ _ _ _ before.asked;
-    }

@@ -15,6 +15,8 @@ invariant-loop-turn g l =
     let old = l.fn.clerk in
     let new = l.clerk in
     record {
+      next : (goal.iterator-loop-turn g).can_next l._turn-iterator;
+      ends : (goal.iterator-loop-turn g).is_finite l._turn-iterator;
       rests : IsAtRest (standing input before history l.live l.lines l.clerk l.answers);
       stands : InEachStand l.keeps (told_by old.desk.site (old.desk.answered + 1)) (left_of l.fn.lines.unread (input l.fn.live)) (log_of l.keeps (history l.fn.answers.files)) (before l.fn.answers.before)
           (out_in (history l.fn.answers.files)) l.fn.lines.cutter (old.desk.answered + 1) l.fn.lines.kept

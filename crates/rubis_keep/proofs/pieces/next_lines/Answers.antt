@@ -3,7 +3,7 @@ use Rattle.rubis_keep.specs.Lines.{begun_after}
 use Rattle.rubis_keep.specs.Pages.{AreListed}
 use Rattle.rubis_keep.proofs.AskFacts.{each-asks, each-fails, each-fails-unread, front-silent, kept-silent, on_fault, silent-more, silent-none, told-silent}
 use Rattle.rubis_keep.proofs.EachFacts.{on_err}
-use Rattle.rubis_keep.proofs.FileFacts.{appends-kept}
+use Rattle.rubis_engine.proofs.FrontFacts.{front-kept as appends-kept}
 use Rattle.rubis_keep.proofs.HistoryFacts.{kept-log, kept-out, told-after, told-failed, told-log, told_none, tells-after, tells-none, torn-log, torn-out}
 use Rattle.rubis_keep.proofs.PageFacts.{listed-after}
 use Rattle.rubis_keep.proofs.SafeFacts.{lives-err, lives-known, lives-none, lives-torn, ok-of-err, piece-lines, piece-safe, piece-unanswered}
@@ -66,6 +66,9 @@ feed_chunk-requires-clause-whole g c κs within =
     let begun = c.requires.begun in
     rw c.deref-3.ensures.value (took-whole _ begun.0 [] _ _ _ _ _ _ _ (c.in_ok-came.ensures.ok begun.0 begun.2).0)
 
+pub feed_chunk-requires-clause-idle : goal.feed_chunk-requires-clause-idle
+feed_chunk-requires-clause-idle g c κs within = record { window = c.requires.window; empty = c.requires.empty }
+
 -- it could not be answered
 pub returns-in_err-feed_chunk-clause-goes : goal.returns-in_err-feed_chunk-clause-goes
 returns-in_err-feed_chunk-clause-goes g c =
@@ -100,8 +103,8 @@ returns-clause-goes g c =
     let led = rw c.deref-3.ensures.value at c.in_ok-feed_chunk.ensures.leads in
     record {
       rests = record {
-        window = c.in_ok-feed_chunk.ensures.window;
-        empty = c.in_ok-feed_chunk.ensures.empty;
+        window = c.in_ok-feed_chunk.ensures.idle.window;
+        empty = c.in_ok-feed_chunk.ensures.idle.empty;
         begun = (begun_after begun.0 t.bytes, begun-no-end begun.0 t.bytes begun.1, t.begun);
         listed = listed-after c.args.clerk.now.desk.site.place c.args.clerk.now.desk.site.state _ c.read_next.new.lines.chunk.items _ _
             (subst (AreListed c.args.clerk.now.desk.site.state) (sym c.read_next.ensures.others.1) c.requires.listed)
@@ -124,3 +127,9 @@ returns-clause-goes g c =
       asked = each-asks _ _ _ _ _ _ _ _ _ _ _ _ _ _ _ c.in_ok-came.ensures.ok
           (silent-more _ _ _ (kept-silent _ _ _ _ c.in_ok-keep_chunk.ensures) (told-silent _ _ _ _ c.feed_chunk.result c.feed_chunk.ensures.told)) led;
     }
+
+pub returns-clause-end : goal.returns-clause-end
+returns-clause-end g c = c.in_ok-came.ensures.came.end
+
+pub returns-clause-question : goal.returns-clause-question
+returns-clause-question g c = c.in_ok-came.ensures.came.question

@@ -28,21 +28,21 @@ pub returns-in_err-reply_if-clause-goes : goal.returns-in_err-reply_if-clause-go
 returns-in_err-reply_if-clause-goes g c =
     let went = c.in_ok-came.ensures.goes in
     let bad = c.from_residual-in_err-reply_if.ensures.0 in
-    let same = c.reply_if.ensures.same in
+    let same = c.reply_if.ensures.still.same in
     let mid = c.next_lines.new.clerk.desk in
     let still = replied-still _ _ _ c.reply_if.result _ _ c.reply_if.ensures.replied in
     record {
       rests = ok-of-err _ c.from_residual-in_err-reply_if.result bad;
       ok = ok-of-err _ c.from_residual-in_err-reply_if.result bad;
       err = on_err _ (each-late _ _ _ _ _ _ _ _ _ _ _ _ _ _ _ _ _ _ _ went.ok (still-log _ _ _ still) still.1);
-      live = c.reply_if.ensures.before.1 ∙ went.live;
+      live = c.reply_if.ensures.still.before.1 ∙ went.live;
       told = λ off. absurd (cc (off, c.in_ok-came.ensures.question c.in_err-reply_if.ensures.replied.0));
       safe = λ keeps live. lives-more _ _ _ _ _ _ _ _ _ _ _ _ c.from_residual-in_err-reply_if.result
           (lives-known _ _ _ _ _ _ _ _ c.next_lines.result _ c.in_ok-came.was (c.next_lines.ensures.goes.safe keeps live))
           (lives-any _ _ _ _ _ _ _ _ c.from_residual-in_err-reply_if.result
           (reply-lives _ _ _ _ _ _ _ _ _ c.reply_if.result _ _ c.reply_if.ensures.replied
           (told-same mid.site c.reply_if.new.clerk.desk.site mid.answered c.reply_if.new.clerk.desk.answered same.place same.state same.answered)
-          (ap g.O.Read.remaining c.reply_if.ensures.before.0) (ap (λ n. n + 1) same.answered) (none-told-at-end mid.site (mid.answered + 1))));
+          (ap g.O.Read.remaining c.reply_if.ensures.still.before.0) (ap (λ n. n + 1) same.answered) (none-told-at-end mid.site (mid.answered + 1))));
       asked = on_fault _ c.from_residual-in_err-reply_if.result bad
           (each-unreplied _ _ _ _ _ _ _ _ _ _ _ _ _ _ went.asked (rw c.deref.ensures.value at c.in_err-reply_if.ensures.replied));
     }
@@ -51,7 +51,7 @@ returns-in_err-reply_if-clause-goes g c =
 pub returns-clause-goes : goal.returns-clause-goes
 returns-clause-goes g c =
     let went = c.in_ok-came.ensures.goes in
-    let same = c.reply_if.ensures.same in
+    let same = c.reply_if.ensures.still.same in
     let mid = c.next_lines.new.clerk.desk in
     let still = replied-still _ _ _ c.reply_if.result _ _ c.reply_if.ensures.replied in
     record {
@@ -59,23 +59,23 @@ returns-clause-goes g c =
         window = same.window ∙ went.rests.window;
         empty = same.sink ∙ went.rests.empty;
         begun = went.rests.begun;
-        listed = rw same.state c.reply_if.ensures.listed;
+        listed = rw same.state c.reply_if.ensures.still.listed;
       };
       ok = rw (
         told-same mid.site c.reply_if.new.clerk.desk.site mid.answered c.reply_if.new.clerk.desk.answered same.place same.state same.answered,
         same.answered,
-        c.reply_if.ensures.before.0,
+        c.reply_if.ensures.still.before.0,
       )
           (each-still _ _ _ _ _ _ _ _ _ _ _ _ _ _ _ _ _ _ _ went.ok (still-log _ _ _ still) still.1);
       err = tt;
-      live = c.reply_if.ensures.before.1 ∙ went.live;
+      live = c.reply_if.ensures.still.before.1 ∙ went.live;
       told = λ off. told-on _ _ _ _ _ _ c.in_ok-came.came.is_asked _ _ (not-asked _ _ c.in_ok-came.ensures.question off) (went.told off)
-          c.reply_if.ensures.before.1 c.in_ok-reply_if.ensures.replied;
+          c.reply_if.ensures.still.before.1 c.in_ok-reply_if.ensures.replied;
       safe = λ keeps live. lives-join _ _ _ _ _ _ _ _ _ _ _ _
           (lives-known _ _ _ _ _ _ _ _ c.next_lines.result _ c.in_ok-came.was (c.next_lines.ensures.goes.safe keeps live))
           (reply-lives _ _ _ _ _ _ _ _ _ c.reply_if.result _ _ c.reply_if.ensures.replied
           (told-same mid.site c.reply_if.new.clerk.desk.site mid.answered c.reply_if.new.clerk.desk.answered same.place same.state same.answered)
-          (ap g.O.Read.remaining c.reply_if.ensures.before.0) (ap (λ n. n + 1) same.answered) (none-told-at-end mid.site (mid.answered + 1)));
+          (ap g.O.Read.remaining c.reply_if.ensures.still.before.0) (ap (λ n. n + 1) same.answered) (none-told-at-end mid.site (mid.answered + 1)));
       asked = each-replied _ _ _ _ _ _ _ _ _ _ _ _ _ _ _ _ went.asked (rw c.deref.ensures.value at c.in_ok-reply_if.ensures.replied) same.place same.state
           same.answered;
     }

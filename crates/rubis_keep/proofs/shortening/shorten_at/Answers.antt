@@ -7,6 +7,8 @@ use Rattle.rubis_keep.proofs.shortening.shorten_at.Goals as goal
 
 pub loop-turn-init : goal.loop-turn-init
 loop-turn-init g c = record {
+  next = search rules;
+  ends = search rules;
   place = refl;
   come = ([], [], consumes-none _, appends-none _, λ sound. rw c.new-line.ensures.items (short-starts c.args.desk.now.site.place c.args.desk.now.site.state));
 }
@@ -25,6 +27,8 @@ loop-turn-preserved g c =
     let come = before.come in
     let more = take c.in-Ok.given c.read_through_signals.new.buf in
     record {
+      next = search rules;
+      ends = search rules;
       place = c.in_ok-take_piece-in-Ok.ensures.place ∙ before.place;
       come = (
         come.0 ++ more,

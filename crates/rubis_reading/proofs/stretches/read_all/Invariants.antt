@@ -1,7 +1,7 @@
 use Rattle.std.proofs.Common.{List, ℕ}
 use Rattle.std.proofs.Common.{◌++◌}
 use Rattle.rubis_reading.specs.Runs.{HaveWindow, all_came, flat}
-use Rattle.rubis_engine.specs.Reading.{Gives}
+use Rattle.rubis_engine.specs.Reading.{Gives, bytes_left}
 use Rattle.rubis_reading.proofs.InputFacts.{HasInputs}
 use Rattle.rubis_reading.proofs.stretches.read_all.Given as goal
 
@@ -11,3 +11,6 @@ invariant-steps g l = record {
       HasInputs g.R.Read.remaining l.records l.sites rows (flat l.list.items ++ all_came l.messages.items);
   window : HaveWindow l.window l.list.items l.messages.items;
 }
+
+abbrev pub decreases-steps : goal.decreases-steps
+decreases-steps g l = bytes_left g.R.Read.remaining l.records

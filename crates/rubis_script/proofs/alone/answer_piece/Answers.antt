@@ -1,5 +1,5 @@
 use Rattle.rubis_engine.specs.Text.{input_records}
-use Rattle.rubis_script.proofs.EndFacts.{ends_so}
+use Rattle.rubis_engine.proofs.EndFacts.{ends_so}
 use Rattle.rubis_script.proofs.alone.answer_piece.Goals as goal
 
 pub returns : goal.returns

@@ -2,7 +2,7 @@ use Rattle.std.proofs.Common.{◌≡◌, refl, rules, subst}
 use Rattle.rubis_message.specs.declared.requests.Request.TheVariants as request
 use Rattle.rubis_message.specs.Inputs.{IsInput}
 use Rattle.rubis_message.specs.declared.inputs.Input.TheVariants as input
-use Rattle.rubis_script.proofs.EndFacts.{ends_memory, ends_so}
+use Rattle.rubis_engine.proofs.EndFacts.{ends_memory, ends_so}
 use Rattle.rubis_script.proofs.StepFacts.{prefix-listed, prefix-record, record-none, takes-listed, takes-next, takes-record}
 use Rattle.rubis_script.proofs.alone.answer_record.Goals as goal
 

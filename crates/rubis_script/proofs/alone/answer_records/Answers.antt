@@ -3,7 +3,7 @@ use Rattle.rubis_engine.specs.Reading.{Advances}
 use Rattle.rubis_script.specs.Runs.{LeavesRecord, TakesRecord}
 use Rattle.rubis_script.proofs.AloneFacts.{yet-none, yet-one, yet-prefix, yet-too_long}
 use Rattle.rubis_script.proofs.DrainFacts.{stands_broken}
-use Rattle.rubis_script.proofs.EndFacts.{ends_on, ends_write}
+use Rattle.rubis_engine.proofs.EndFacts.{ends_on, ends_write}
 use Rattle.rubis_script.proofs.LoopFacts.{stands-waited}
 use Rattle.rubis_script.proofs.StepFacts.{setup-on}
 use Rattle.rubis_script.proofs.alone.answer_records.Goals as goal

@@ -3,7 +3,7 @@ use Rattle.rubis_reading.specs.Runs.{flat}
 use Rattle.rubis_message.specs.declared.inputs.Input.{Input}
 use Rattle.rubis_script.specs.Runs.{left_ahead, stopped_at}
 use Rattle.rubis_engine.proofs.RunFacts.{if_none}
-use Rattle.rubis_script.proofs.EndFacts.{ends_memory, ends_on}
+use Rattle.rubis_engine.proofs.EndFacts.{ends_memory, ends_on}
 use Rattle.rubis_script.proofs.StepFacts.{prefix-listed, prefix-none, sound-kept, taken-all, taken-few, taken-more, taken-none, taken-prefix, taken-same, takes-listed}
 use Rattle.rubis_script.proofs.answering.finish.Goals as goal
 

@@ -1,6 +1,6 @@
 use Rattle.std.proofs.Common.{[], refl}
 use Rattle.std.proofs.lemmas.Result.{on_ok_weaker}
-use Rattle.rubis_script.proofs.EndFacts.{ends_memory, ends_writer}
+use Rattle.rubis_engine.proofs.EndFacts.{ends_memory, ends_writer}
 use Rattle.rubis_script.proofs.StepFacts.{prefix-front, prefix-none, takes-held, takes-more, takes-written}
 use Rattle.rubis_script.proofs.answering.settle.Goals as goal
 

@@ -5,8 +5,7 @@ use Rattle.rubis_reading.specs.Chunked.{held_text}
 use Rattle.rubis_script.specs.Headline.{AnswersFirst}
 use Rattle.rubis_script.specs.SiteRuns.{told_by}
 use Rattle.rubis_script.proofs.ChunkFacts.{chunk-each, chunk-taken}
-use Rattle.rubis_script.proofs.EndFacts.{ends_on}
-use Rattle.rubis_script.proofs.StepFacts.{sound-none}
+use Rattle.rubis_engine.proofs.EndFacts.{ends_on}
 use Rattle.rubis_script.proofs.run.answer_chunk.Goals as goal
 
 pub returns-in_err-answer_piece : goal.returns-in_err-answer_piece
@@ -24,10 +23,8 @@ pub returns : goal.returns
 returns g c =
     let (setup, within, stands) = c.in_ok-answer_piece.ensures in
     let text : c.split_at.result.0.now ≡ take c.args.many (held_text c.args.chunks.now) = c.split_at.ensures.front ∙ ap (take c.args.many) c.held.ensures in (
-      record {
-        sound = sound-none c.answer_piece.new.desk;
-        goes = chunk-taken g.R.Read.remaining c.args.chunks.now c.pass.new.self c.split_at.result.0.now (take c.args.many (held_text c.args.chunks.now))
-            c.args.desk.now c.answer_piece.new.desk _ _ text c.pass.ensures.takes c.pass.ensures.come stands;
-      },
+      chunk-taken g.R.Read.remaining c.args.chunks.now c.pass.new.self c.split_at.result.0.now (take c.args.many (held_text c.args.chunks.now))
+          c.args.desk.now c.answer_piece.new.desk _ _ text c.pass.ensures.takes c.pass.ensures.come stands,
       within,
+      setup,
     )

@@ -1,11 +1,11 @@
+use Rattle.std.proofs.Common.{[], refl}
 use Rattle.rubis_reading.proofs.AheadFacts.{match-some}
 use Rattle.rubis_script.proofs.ChunkFacts.{match-none, prefix-stays}
-use Rattle.std.proofs.Common.{refl}
-use Rattle.rubis_script.proofs.EndFacts.{ends_on}
+use Rattle.rubis_engine.proofs.EndFacts.{ends_on}
 use Rattle.rubis_script.proofs.run.serve.Goals as goal
 
 pub steps-init : goal.steps-init
-steps-init g c = record { sound = c.requires.sound; within = c.requires.within; stands = λ first old input h. h }
+steps-init g c = record { within = c.requires.within; stands = λ first old input h. h }
 
 pub returns-in_err-count : goal.returns-in_err-count
 returns-in_err-count g c =
@@ -21,13 +21,9 @@ returns-in-Some g c first old input h =
 
 pub steps-preserved : goal.steps-preserved
 steps-preserved g c =
-    let (reads, within) = match-none c.in_ok-count.field-0 _ _ c.in_ok-count.ensures c.in_default.is in
-    record {
-      sound = reads.sound;
-      within = within;
-      stands = λ first old input h. reads.goes first old input (c.steps.invariant.stands first old input h);
-    }
+    let (goes, within, setup) = match-none c.in_ok-count.field-0 _ _ c.in_ok-count.ensures c.in_default.is in
+    record { within = within; stands = λ first old input h. goes first old input (c.steps.invariant.stands first old input h) }
 
 pub returns : goal.returns
 returns g c first old input h =
-    prefix-stays g.R.Read.remaining c.steps.chunks c.steps.desk c.steps.ahead _ _ refl first old input (c.steps.invariant.stands first old input h)
+    prefix-stays g.R.Read.remaining c.steps.chunks c.steps.desk [] _ _ refl first old input (c.steps.invariant.stands first old input h)

@@ -1,7 +1,7 @@
 use Rattle.std.proofs.Common.{◌+◌, [], refl, subst, sym}
 use Rattle.std.specs.Io.KnownBytes.{Appends}
 use Rattle.rubis_engine.specs.Progress.{AppendsFront}
-use Rattle.rubis_serving.proofs.EndFacts.{ends_memory, ends_write}
+use Rattle.rubis_engine.proofs.EndFacts.{ends_memory, ends_write}
 use Rattle.rubis_serving.proofs.StandFacts.{stands-done, stands-front, stands-prefix}
 use Rattle.rubis_serving.proofs.pieces.end.Goals as goal
 

@@ -1,3 +1,4 @@
+use Rattle.std.proofs.Common.{◌-◌, ◌^◌, length}
 use Rattle.rubis_reading.specs.Chunked.{KeepsCome, KeepsPending, held_text}
 use Rattle.rubis_reading.specs.Streams.{EndsNoRecord}
 use Rattle.rubis_serving.proofs.pieces.fill_whole.Given as goal
@@ -8,3 +9,6 @@ invariant-fills g l = record {
   come : KeepsCome g.R.Read.remaining l.fn.chunks l.chunks;
   none : EndsNoRecord (held_text l.chunks);
 }
+
+abbrev pub decreases-fills : goal.decreases-fills
+decreases-fills g l = 2 ^ 64 - length (held_text l.chunks)

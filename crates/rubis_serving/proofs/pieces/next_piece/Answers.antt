@@ -1,5 +1,5 @@
 use Rattle.std.proofs.Common.{arith, refl}
-use Rattle.rubis_serving.proofs.EndFacts.{ends_on, ends_so}
+use Rattle.rubis_engine.proofs.EndFacts.{ends_on, ends_so}
 use Rattle.rubis_serving.proofs.ServedFacts.{served-cut, served-front, served-settled, served-written}
 use Rattle.rubis_serving.proofs.pieces.next_piece.Goals as goal
 

@@ -4,7 +4,7 @@ use Rattle.csv.proofs.WriteFacts.{appends-none}
 use Rattle.rubis_engine.specs.Accounts.Ending.{AtEnd}
 use Rattle.rubis_engine.specs.Progress.{AppendsFront}
 use Rattle.rubis_engine.proofs.FrontFacts.{front-longer}
-use Rattle.rubis_serving.proofs.EndFacts.{ends_memory, ends_writer}
+use Rattle.rubis_engine.proofs.EndFacts.{ends_memory, ends_writer}
 use Rattle.rubis_serving.proofs.pieces.settle.Goals as goal
 
 pub returns-in_err-answer_held : goal.returns-in_err-answer_held

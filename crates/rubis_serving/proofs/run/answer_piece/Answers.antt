@@ -1,5 +1,5 @@
 use Rattle.rubis_engine.specs.Text.{input_records}
-use Rattle.rubis_serving.proofs.EndFacts.{ends_so}
+use Rattle.rubis_engine.proofs.EndFacts.{ends_so}
 use Rattle.rubis_serving.proofs.ServedFacts.{match_so}
 use Rattle.rubis_serving.proofs.run.answer_piece.Goals as goal
 
@@ -13,3 +13,6 @@ returns g c =
     (λ long all old records rest h. long all old records rest (record { rows = rows; gives = c.new-piece.ensures; stands = h })) absurd
     (λ prefix all old records rest h. prefix all old records rest (record { rows = rows; gives = c.new-piece.ensures; stands = h }))
     c.answer_records.ensures
+
+pub answer_records-requires-clause-known : goal.answer_records-requires-clause-known
+answer_records-requires-clause-known g c = (input_records c.args.text.now, c.new-piece.ensures)

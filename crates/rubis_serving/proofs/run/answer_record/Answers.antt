@@ -1,7 +1,7 @@
 use Rattle.std.proofs.Common.{◌≡◌, ◌+◌, ◌∷◌, refl}
 use Rattle.rubis_engine.specs.declared.service.Course.TheVariants as course
 use Rattle.rubis_engine.proofs.FrontFacts.{front-longer}
-use Rattle.rubis_serving.proofs.EndFacts.{ends_memory, ends_write}
+use Rattle.rubis_engine.proofs.EndFacts.{ends_memory, ends_write}
 use Rattle.rubis_serving.proofs.StandFacts.{stands-ended, stands-ended_front, stands-front, stands-prefix, stands-step, stands-waited}
 use Rattle.rubis_serving.proofs.run.answer_record.Goals as goal
 

@@ -1,12 +1,13 @@
 use Rattle.std.proofs.Common.{◌≡◌, ◌+◌, ◌++◌, arith, false, refl, rules, subst, true}
 use Rattle.rubis_engine.specs.Reading.{Advances}
-use Rattle.rubis_serving.proofs.EndFacts.{ends_on}
-use Rattle.rubis_serving.proofs.ServedFacts.{match-none, match-some, yet-none, yet-one, yet-prefix, yet-too_long}
+use Rattle.rubis_engine.proofs.EndFacts.{ends_on}
+use Rattle.rubis_serving.proofs.ServedFacts.{yet-none, yet-one, yet-prefix, yet-too_long}
+use Rattle.rubis_reading.proofs.AheadFacts.{match-none, match-some}
 use Rattle.rubis_serving.proofs.StandFacts.{done-within, stands-front}
 use Rattle.rubis_serving.proofs.run.answer_records.Goals as goal
 
 pub records-init : goal.records-init
-records-init g c = record { within = c.requires; stands = λ all old records rest h. h }
+records-init g c = record { within = c.requires.within; known = c.requires.known; stands = λ all old records rest h. h }
 
 pub returns-in_default : goal.returns-in_default
 returns-in_default g c all old records rest h =
@@ -65,12 +66,18 @@ records-preserved g c =
     let (next, goes) = match-none _ _ _ c.in_ok-count.ensures c.in_default-2.is in
     record {
       within = omega (arith, next, c.if-run-limit.false);
+      known =
+          let (rows, gives) = c.records.invariant.known in
+          let (left, first, rest) = takes rows gives in
+          (left, rest);
       stands = λ all old records rest h.
           let (left, gives, one) = yet-one g.R.Read.remaining c.records.piece c.advance.new.self all _ old _ _ _ records rest _ takes c.fields.ensures
           (c.records.invariant.stands all old records rest h) in
           record { rows = left; gives = gives; stands = goes all old records (left ++ rest) one };
     }
 
-pub returns : goal.returns
-returns g c all old records rest h =
-    yet-prefix _ _ all _ old _ _ _ _ records rest refl (c.records.invariant.stands all old records rest h)
+pub records-smaller : goal.records-smaller
+records-smaller g c =
+    let some : c.in-Ok.found ≡ true = search rules in
+    let (rows, gives) = c.records.invariant.known in
+    c.in-Ok.ensures.nearer some rows gives

@@ -2,8 +2,9 @@ use Rattle.std.proofs.Common.{[]}
 use Rattle.rubis_engine.specs.Accounts.Ending.{AtEnd}
 use Rattle.rubis_engine.specs.Progress.{IsDone, IsTooLong, WrotePrefix}
 use Rattle.rubis_engine.specs.Text.{input_records}
-use Rattle.rubis_serving.proofs.EndFacts.{ends_on, ends_so}
-use Rattle.rubis_serving.proofs.ServedFacts.{last-each, match-none, match-some, served-last}
+use Rattle.rubis_engine.proofs.EndFacts.{ends_on, ends_so}
+use Rattle.rubis_serving.proofs.ServedFacts.{last-each, served-last}
+use Rattle.rubis_reading.proofs.AheadFacts.{match-none, match-some}
 use Rattle.rubis_serving.proofs.StandFacts.{done-within}
 use Rattle.rubis_serving.proofs.run.finish.Goals as goal
 

@@ -2,8 +2,9 @@ use Rattle.std.proofs.Common.{◌≡◌, ◌∙◌, ap, arith, take}
 use Rattle.rubis_engine.specs.Accounts.Ending.{AtEnd}
 use Rattle.rubis_engine.specs.Progress.{IsDone, IsTooLong, WrotePrefix}
 use Rattle.rubis_reading.specs.Chunked.{held_text}
-use Rattle.rubis_serving.proofs.EndFacts.{ends_on}
-use Rattle.rubis_serving.proofs.ServedFacts.{chunk-each, match-none, match-some, match_so, served-taken}
+use Rattle.rubis_engine.proofs.EndFacts.{ends_on}
+use Rattle.rubis_serving.proofs.ServedFacts.{chunk-each, match_so, served-taken}
+use Rattle.rubis_reading.proofs.AheadFacts.{match-none, match-some}
 use Rattle.rubis_serving.proofs.run.turn.Goals as goal
 
 pub returns-in_err-many : goal.returns-in_err-many

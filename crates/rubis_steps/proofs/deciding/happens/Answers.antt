@@ -13,6 +13,11 @@ returns-in-Opens c =
     happens_over (carrier_of c.args.carrier) c.args.event.now (event.Opens c.in-Opens.folder) c.args.shop.now c.opens.new.self c.opens.result c.in-Opens.is
     c.opens.ensures
 
+pub returns-in-Closes : goal.returns-in-Closes
+returns-in-Closes c =
+    happens_over (carrier_of c.args.carrier) c.args.event.now (event.Closes c.in-Closes.folder) c.args.shop.now c.closes.new.self c.closes.result
+    c.in-Closes.is c.closes.ensures
+
 pub returns-in-KeeperStarts : goal.returns-in-KeeperStarts
 returns-in-KeeperStarts c =
     happens_over (carrier_of c.args.carrier) c.args.event.now (event.KeeperStarts c.in-KeeperStarts.folder) c.args.shop.now c.args.shop.now

@@ -1,7 +1,7 @@
 use Rattle.std.proofs.Common.{◌+◌, ◌∷◌, refl}
 use Rattle.std.proofs.lemmas.Result.{on_ok_weaker}
 use Rattle.rubis_engine.proofs.FrontFacts.{front-longer}
-use Rattle.rubis_serving.proofs.EndFacts.{ends_memory, ends_writer}
+use Rattle.rubis_engine.proofs.EndFacts.{ends_memory, ends_writer}
 use Rattle.rubis_serving.proofs.StandFacts.{stands-front, stands-prefix, stands-waited}
 use Rattle.rubis_world.specs.Running.{told_by_world}
 use Rattle.rubis_world.proofs.StepFacts.{world-step}

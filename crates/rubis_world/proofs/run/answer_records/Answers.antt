@@ -1,6 +1,6 @@
 use Rattle.std.proofs.Common.{◌≡◌, ◌+◌, ◌++◌, arith, false, refl, rules, subst, sym, true}
 use Rattle.rubis_engine.specs.Reading.{Advances, fields_now}
-use Rattle.rubis_serving.proofs.EndFacts.{ends_on}
+use Rattle.rubis_engine.proofs.EndFacts.{ends_on}
 use Rattle.rubis_serving.proofs.ServedFacts.{yet-none, yet-prefix}
 use Rattle.rubis_serving.proofs.StandFacts.{stands-front}
 use Rattle.rubis_world.proofs.StepFacts.{world-one, world-too_long}

@@ -1,6 +1,6 @@
 use Rattle.std.proofs.Common.{[], refl}
 use Rattle.rubis_engine.specs.Text.{input_records}
-use Rattle.rubis_serving.proofs.EndFacts.{ends_on, ends_so}
+use Rattle.rubis_engine.proofs.EndFacts.{ends_on, ends_so}
 use Rattle.rubis_serving.proofs.StandFacts.{done-within}
 use Rattle.rubis_world.specs.Running.{told_by_world}
 use Rattle.rubis_world.proofs.Leading.{led_all, led_same}

@@ -1,6 +1,7 @@
 use Rattle.std.proofs.Common.{refl}
-use Rattle.rubis_serving.proofs.EndFacts.{ends_on}
-use Rattle.rubis_serving.proofs.ServedFacts.{match-none, match-some, served-prefix}
+use Rattle.rubis_engine.proofs.EndFacts.{ends_on}
+use Rattle.rubis_serving.proofs.ServedFacts.{served-prefix}
+use Rattle.rubis_reading.proofs.AheadFacts.{match-none, match-some}
 use Rattle.rubis_world.proofs.run.serve.Goals as goal
 
 pub pieces-init : goal.pieces-init

@@ -3,8 +3,8 @@ use Rattle.rubis_engine.specs.Accounts.Ending.{AtEnd}
 use Rattle.rubis_engine.specs.Progress.{WrotePrefix}
 use Rattle.rubis_engine.specs.Text.{input_records}
 use Rattle.rubis_reading.specs.Chunked.{held_text}
-use Rattle.rubis_serving.proofs.EndFacts.{ends_on}
-use Rattle.rubis_serving.proofs.ServedFacts.{match-none, match-some}
+use Rattle.rubis_engine.proofs.EndFacts.{ends_on}
+use Rattle.rubis_reading.proofs.AheadFacts.{match-none, match-some}
 use Rattle.rubis_world.specs.Headline.{WorldAnswersFirst}
 use Rattle.rubis_world.specs.Running.{told_by_world}
 use Rattle.rubis_world.proofs.StepFacts.{world-chunk, world-moves, world-taken}

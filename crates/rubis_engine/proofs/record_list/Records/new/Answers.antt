@@ -1,5 +1,4 @@
-use Rattle.std.proofs.Common.{◌∙◌, ap, inr, option_map}
-use Rattle.csv.specs.Reading.{strip_bom}
+use Rattle.std.proofs.Common.{◌∙◌, inr}
 use Rattle.rubis_engine.proofs.ReadingFacts.{holds-start}
 use Rattle.rubis_engine.proofs.record_list.Records.new.Goals as goal
 
@@ -9,5 +8,4 @@ returns g c =
     let e = c.flexible.ensures in
     let d = c.has_headers.ensures in
     holds-start _ _ _ (rw (e, d) at r.trim ∙ c.new.ensures.trim) (inr (inr (rw (e, d) at r.has_headers, r.headers)))
-    (rw (e, d) at r.config ∙ c.new.ensures.config) r.state
-    (r.source ∙ ap (λ reader. option_map strip_bom (g.R.Read.remaining reader)) c.new-2.ensures)
+    (rw (e, d) at r.config ∙ c.new.ensures.config) r.state r.source

@@ -1,4 +1,4 @@
-use Rattle.std.proofs.Common.{◌++◌, ap, arith, length, length-append, refl, rules, subst, sym}
+use Rattle.std.proofs.Common.{◌++◌, ap, arith, length, length-append, refl, subst, sym}
 use Rattle.rubis_engine.proofs.RunFacts.{handed_on}
 use Rattle.rubis_reading.specs.declared.buffer.ChunkFault.TheVariants.{Read}
 use Rattle.csv.specs.Reading.{strip_bom}
@@ -10,7 +10,7 @@ use Rattle.rubis_reading.proofs.LookFacts.{marked-more}
 use Rattle.rubis_reading.proofs.chunks.Chunks.fill.Goals as goal
 
 pub asks-init : goal.asks-init
-asks-init g c = record { keeps = λ rows h. h; come = λ input h. h; none = λ h. h; grown = omega arith; some = λ asked. absurd (omega arith); looked = λ more. c.none-looked.ensures (strip_bom (c.args.self.now.held ++ more)) }
+asks-init g c = record { keeps = λ rows h. h; come = λ input h. h; none = λ h. h; grown = omega arith; looked = λ more. c.none-looked.ensures (strip_bom (c.args.self.now.held ++ more)) }
 
 pub returns-then-held-lt-MARKED-clause-keeps : goal.returns-then-held-lt-MARKED-clause-keeps
 returns-then-held-lt-MARKED-clause-keeps g c rows h =
@@ -33,7 +33,6 @@ asks-preserved g c = record {
   none = λ h. subst EndsNoRecord c.bytes-held.ensures
       (c.look_for_end-looked.ensures.none (grind (arith, nat_tests, c.ends.ensures.value, c.if-ends.false)));
   grown = omega (arith, c.asks.invariant.grown, ap length c.in_ok-fill.ensures.given.behind, length-append c.asks.self.held c.in_ok-fill.ensures.given.bytes);
-  some = λ asked. omega (arith, c.asks.invariant.grown, ap length c.in_ok-fill.ensures.given.behind, length-append c.asks.self.held c.in_ok-fill.ensures.given.bytes, c.in_ok-fill.ensures.given.some (search rules));
   looked = λ more. subst (λ t. HasLooked (strip_bom (t ++ more)) c.look_for_end-looked.result) c.bytes-held.ensures
       (marked-more c.bytes-held.result.now more c.look_for_end-looked.result (omega (arith, c.if-held-lt-MARKED.false)) c.look_for_end-looked.ensures.looked);
 }

@@ -1,4 +1,4 @@
-use Rattle.std.proofs.Common.{◌++◌, ◌≤◌, ◌<◌, ℕ, List, length}
+use Rattle.std.proofs.Common.{◌++◌, ◌≤◌, ◌-◌, ◌^◌, ℕ, List, length}
 use Rattle.csv.specs.Reading.{strip_bom}
 use Rattle.rubis_reading.specs.Chunked.{KeepsCome, KeepsPending, held_text}
 use Rattle.rubis_reading.specs.Streams.{EndsNoRecord}
@@ -11,6 +11,8 @@ invariant-asks g l = record {
   come : KeepsCome g.R.Read.remaining l.fn.self l.self;
   none : EndsNoRecord (held_text l.fn.self) → EndsNoRecord (held_text l.self);
   grown : length (held_text l.fn.self) ≤ length (held_text l.self);
-  some : 0 < l._asked → length (held_text l.fn.self) < length (held_text l.self);
   looked : (more : List ℕ) → HasLooked (strip_bom (held_text l.self ++ more)) l.looked;
 }
+
+abbrev pub decreases-asks : goal.decreases-asks
+decreases-asks g l = 2 ^ 64 - length (held_text l.self)

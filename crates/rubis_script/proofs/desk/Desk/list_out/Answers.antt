@@ -1,6 +1,6 @@
 use Rattle.std.proofs.Common.{refl}
 use Rattle.rubis_script.proofs.DeskFacts.{front-flushed, front-same, listed-flushed}
-use Rattle.rubis_script.proofs.EndFacts.{ends_memory, ends_on}
+use Rattle.rubis_engine.proofs.EndFacts.{ends_memory, ends_on}
 use Rattle.rubis_script.proofs.desk.Desk.list_out.Goals as goal
 
 pub returns-in_err-flush-clause-listed : goal.returns-in_err-flush-clause-listed

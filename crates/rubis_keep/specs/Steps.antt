@@ -1,0 +1,89 @@
+-- What the steps of a run leave, by how they end.
+use Rattle.std.specs.Prelude.{◌≡◌, ◌+◌, ◌++◌, [], ℕ, List, OnErr, OnOk, Option, Result, Some}
+use Rattle.rubis_message.specs.Message.{Message}
+use Rattle.rubis_engine.specs.Accounts.{Account}
+use Rattle.rubis_engine.specs.Accounts.Ending.{AtEnd}
+use Rattle.rubis_engine.specs.Text.{input_records}
+use Rattle.rubis_model.specs.Site.{Place, Replica}
+use Rattle.rubis_script.specs.Desks.{left_at}
+use Rattle.rubis_script.specs.Headline.{Settles}
+use Rattle.rubis_script.specs.SiteRuns.{told_by}
+use Rattle.rubis_keep.specs.Asking.{IsUnmoved, LedBy, RepliesTo}
+use Rattle.rubis_keep.specs.History.{HasTold, History, StaysSafe, kept_in, now, out_in}
+use Rattle.rubis_keep.specs.Kept.{Begins, Ended, Finished, FinishedFront, InEachRest, Lived, OutEnds, Replayed, Rests}
+use Rattle.rubis_keep.specs.Lines.{AreSound, whole_lines}
+use Rattle.rubis_keep.specs.Lives.{Found}
+use Rattle.rubis_keep.specs.Pages.{AreListed}
+use Rattle.rubis_keep.specs.Standing.{Standing}
+use Rattle.rubis_keep.specs.declared.answers.Answers.{Answers}
+use Rattle.rubis_keep.specs.declared.site.Clerk.{Clerk}
+use Rattle.rubis_keep.specs.declared.keeping.KeptLines.{KeptLines}
+use Rattle.rubis_keep.specs.declared.pages.Listed.{Listed}
+
+-- nothing is held at a desk, and nothing waits to be put
+pub record IsIdle (held : List Message) (sink : List ℕ) : Type 0 where
+  pub window : held ≡ []
+  pub empty : sink ≡ []
+
+-- the messages that a clerk holds are taken in, and the answers are put; at a fault a front of them
+pub record Finishes {T E O F G : Type 0} (before : O → Option (List ℕ)) (history : F → Option History) (old new : Clerk G) (answers answers2 : Answers O F)
+    (r : Result T E) : Type 0 where
+  pub ok : OnOk r (Finished (left_at old.desk) (told_by new.desk.site (old.desk.answered + 1)) old.desk.reply.sink
+      (before answers.before) (before answers2.before) (out_in (history answers.files)) (out_in (history answers2.files)))
+  pub same : OnOk r ((new.desk.answered ≡ old.desk.answered)
+      × Settles old.desk.site old.desk.window.items new.desk.site new.desk.window.items)
+  pub idle : OnOk r (IsIdle new.desk.window.items new.desk.reply.sink)
+  pub err : OnErr r (FinishedFront (left_at old.desk) (told_by new.desk.site (old.desk.answered + 1)) old.desk.reply.sink
+      (before answers.before) (before answers2.before) (out_in (history answers.files)) (out_in (history answers2.files)))
+  pub told : HasTold answers.is_live answers2.is_live (history answers.files) (history answers2.files) r
+
+-- a clerk has answered a text of whole records; at a fault what stands in `out` answers nothing else
+pub record FeedsChunk {T E O F G : Type 0} (before : O → Option (List ℕ)) (history : F → Option History) (chunk : List ℕ) (old new : Clerk G)
+    (answers answers2 : Answers O F) (r : Result T E) : Type 0 where
+  pub ok : OnOk r (InEachRest (told_by old.desk.site (old.desk.answered + 1)) (before answers.before) (out_in (history answers.files))
+      (old.desk.answered + 1)
+      (λ all told was out0 kept. Rests all (told_by new.desk.site (new.desk.answered + 1)) told was (before answers2.before) out0
+      (out_in (history answers2.files)) (new.desk.answered + 1) (kept ++ chunk)))
+  pub idle : OnOk r (IsIdle new.desk.window.items new.desk.reply.sink)
+  pub err : OnErr r (InEachRest (told_by old.desk.site (old.desk.answered + 1)) (before answers.before) (out_in (history answers.files))
+      (old.desk.answered + 1) (λ all told was out0 kept. OutEnds all told was out0 (out_in (history answers2.files)) (kept ++ chunk)))
+  pub told : HasTold answers.is_live answers2.is_live (history answers.files) (history answers2.files) r
+  pub leads : OnOk r (LedBy old.desk.site.place old.desk.site.state old.desk.answered new.desk.site new.desk.answered (input_records chunk))
+
+-- nothing of what a clerk answers has changed, nor what it holds, nor the answers of before; and what is held of a listing is that of this moment
+pub record IsStill {O F G : Type 0} (old new : Clerk G) (answers answers2 : Answers O F) (shown : Option Listed) : Type 0 where
+  pub same : IsUnmoved old new
+  pub before : (answers2.before ≡ answers.before) × (answers2.is_live ≡ answers.is_live)
+  pub listed : AreListed old.desk.site.state shown
+
+-- nothing of an input was read, and nothing kept
+pub record HasReadNone (lines : KeptLines) : Type 0 where
+  pub cutter : lines.cutter ≡ []
+  pub unread : lines.unread ≡ []
+  pub kept : lines.kept ≡ 0
+
+-- what was kept before, which is `past`, is answered, and its answers were found; at a fault nothing else stands in `out`
+pub record Replays {T E : Type 0} (past : Option (List ℕ)) (old new : Standing) (r : Result T E) : Type 0 where
+  pub ok : OnOk r ((kept was : List ℕ) → Begins kept was past (Some kept) old.before (out_in old.history)
+      → Replayed (told_by old.site 1) (told_by new.site (new.answered + 1)) kept was new.before (out_in new.history) (new.answered + 1) new.kept)
+  pub idle : OnOk r (IsIdle new.held new.sink)
+  pub err : OnErr r ((kept was : List ℕ) (input : Option (List ℕ)) → Begins kept was past (Some kept) old.before (out_in old.history)
+      → Ended (told_by old.site 1) kept was input input (Some kept) (out_in new.history))
+  pub told : HasTold old.is_live new.is_live old.history new.history r
+  pub led : OnOk r ((kept was : List ℕ) → Begins kept was past (Some kept) old.before (out_in old.history)
+      → LedBy old.site.place old.site.state 0 new.site new.answered (input_records (whole_lines kept)))
+
+-- a run that has replayed goes on to the end of its input, or ends with a fault
+pub record LivesOn {T E : Type 0} (input input2 : Option (List ℕ)) (old : Standing) (history2 : Option History) (r : Result T E) : Type 0 where
+  pub ok : OnOk r ((all : Account) (kept was : List ℕ) → AreSound [] kept → kept_in old.history ≡ Some kept
+      → Replayed all (told_by old.site (old.answered + 1)) kept was old.before (out_in old.history) (old.answered + 1) old.kept
+      → Lived all kept was input input2 (kept_in history2) (out_in history2))
+  pub err : OnErr r ((all : Account) (kept was : List ℕ) → AreSound [] kept → kept_in old.history ≡ Some kept
+      → Replayed all (told_by old.site (old.answered + 1)) kept was old.before (out_in old.history) (old.answered + 1) old.kept
+      → Ended all kept was input input2 (kept_in history2) (out_in history2))
+  pub safe : (all : Account) (kept was : List ℕ) (h : History) → old.history ≡ Some h → AreSound [] kept → Found kept (now h)
+      → Replayed all (told_by old.site (old.answered + 1)) kept was old.before (out_in old.history) (old.answered + 1) old.kept
+      → StaysSafe (all.text AtEnd) (Some h) history2
+  pub asked : (p : Place) (s : Replica) (kept : List ℕ) → AreSound [] kept
+      → LedBy p s 0 old.site old.answered (input_records (whole_lines kept))
+      → RepliesTo p s kept input input2 old.history history2 r

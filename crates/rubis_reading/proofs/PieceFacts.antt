@@ -1,0 +1,192 @@
+-- Pieces of a text that are given to be read.
+use Rattle.std.proofs.Common.{◌≡◌, ◌∙◌, ◌≤◌, ◌<◌, ◌+◌, ◌-◌, ◌++◌, ◌∷◌, ◌⊎◌, inl, inr, [], ℕ, zero, suc, List, ap, arith, drop, drop-drop, length, length-append, length-drop, length-set, refl, subst, sym, take}
+use Rattle.std.specs.Prelude.{IfOk, None, Result, Some, slice_index_or, slice_set}
+use Rattle.std.specs.Global.{Vec}
+use Rattle.rubis_engine.specs.declared.fault.OutOfMemory.{OutOfMemory}
+use Rattle.rubis_crew.specs.declared.job.Back.{Back}
+use Rattle.rubis_crew.specs.declared.job.Given.{Given}
+use Rattle.rubis_crew.specs.States.{IsBack, LeadState}
+use Rattle.rubis_reading.specs.Chunked.{IsChunk}
+use Rattle.rubis_reading.specs.Readings.{AreGiven, AreOf, AreRead, EachGiven, IsPiece, IsPut, IsReading, passed}
+use Rattle.rubis_reading.specs.declared.pieces.Piece.{Piece}
+use Rattle.rubis_reading.specs.declared.pieces.Pieces.{Pieces}
+use Rattle.rubis_reading.specs.declared.readings.Reading.{Reading}
+use Rattle.rubis_reading.specs.declared.stretches.Stretch.{Stretch}
+
+-- ---- jobs
+
+pub each_so : (P Q : Given Reading → Type 0) (xs : List (Given Reading)) → ((x : Given Reading) → P x → Q x) → EachGiven P xs → EachGiven Q xs
+each_so P Q [] so all = tt
+each_so P Q (x ∷ xs) so all = (so x all.0, each_so P Q xs so all.1)
+
+pub each_more : (P : Given Reading → Type 0) (xs : List (Given Reading)) (x : Given Reading) → EachGiven P xs → P x → EachGiven P (xs ++ x ∷ [])
+each_more P [] x all one = (one, tt)
+each_more P (y ∷ xs) x all one = (all.0, each_more P xs x all.1 one)
+
+pub each_without : (P : Given Reading → Type 0) (before after : List (Given Reading)) (x : Given Reading) → EachGiven P (before ++ x ∷ after)
+    → EachGiven P (before ++ after)
+each_without P [] after x all = all.1
+each_without P (y ∷ before) after x all = (all.0, each_without P before after x all.1)
+
+pub each_at : (P : Given Reading → Type 0) (before after : List (Given Reading)) (x : Given Reading) → EachGiven P (before ++ x ∷ after) → P x
+each_at P [] after x all = all.0
+each_at P (y ∷ before) after x all = each_at P before after x all.1
+
+-- ---- a piece more
+
+pub given_more : (sites window : ℕ) (jobs : List (Given Reading)) (x : Given Reading) (number many : ℕ) (text : List ℕ) (ps : List Piece)
+    → AreGiven sites window jobs number text ps → x.number ≡ number + length ps → IsChunk many (drop (passed ps) text)
+    → IsReading sites window (take many (drop (passed ps) text)) x.job
+    → AreGiven sites window (jobs ++ x ∷ []) number text (ps ++ record { many = many; read = None } ∷ [])
+given_more sites window jobs x number many text [] given is chunk reading = (
+  record {
+    chunk = chunk;
+    read = tt;
+    job = each_more (λ y. y.number ≡ number → IsReading sites window (take many text) y.job) jobs x
+        (each_so (λ y. y.number < number) (λ y. y.number ≡ number → IsReading sites window (take many text) y.job) jobs
+        (λ y lt same. absurd (omega (arith, lt, same))) given) (λ same. reading);
+  },
+  each_more (λ y. y.number < number + 1) jobs x
+      (each_so (λ y. y.number < number) (λ y. y.number < number + 1) jobs (λ y lt. omega (arith, lt)) given) (omega (arith, is)),
+)
+given_more sites window jobs x number many text (q ∷ ps) given is chunk reading =
+    let rest = drop (q.many - 1) text in
+    let on : drop (passed ps) rest ≡ drop (passed (q ∷ ps)) text = drop-drop (passed ps) (q.many - 1) text in (
+      record {
+        chunk = given.0.chunk;
+        read = given.0.read;
+        job = each_more (λ y. y.number ≡ number → IsReading sites window (take q.many text) y.job) jobs x given.0.job
+            (λ same. absurd (omega (arith, same, is)));
+      },
+      given_more sites window jobs x (number + 1) many rest ps given.1 (omega (arith, is)) (subst (λ t. IsChunk many t) (sym on) chunk)
+          (subst (λ t. IsReading sites window (take many t) x.job) (sym on) reading),
+    )
+
+-- they lie within the text
+pub passed_within : (sites window : ℕ) (jobs : List (Given Reading)) (number : ℕ) (text : List ℕ) (ps : List Piece)
+    → AreGiven sites window jobs number text ps → passed ps ≤ length text
+passed_within sites window jobs number text [] given = omega arith
+passed_within sites window jobs number text (q ∷ ps) given =
+    let rest = passed_within sites window jobs (number + 1) (drop (q.many - 1) text) ps given.1 in
+    omega (arith, rest, length-drop (q.many - 1) text, given.0.chunk.1)
+
+pub passed_more : (ps : List Piece) (many : ℕ) → passed (ps ++ record { many = many; read = None } ∷ []) ≡ passed ps + (many - 1)
+passed_more [] many = omega arith
+passed_more (q ∷ ps) many = let rest = passed_more ps many in omega (arith, rest)
+
+pub of_more : (text : List ℕ) (old new : Pieces) (job : Reading) (many : ℕ) → AreOf text old → IsChunk many (drop old.from text)
+    → IsReading old.sites old.window (take many (drop old.from text)) job → old.lead.next < 18446744073709551615
+    → new.lead.given ≡ old.lead.given ++ record { number = old.lead.next; job = job } ∷ [] → new.lead.next ≡ old.lead.next + 1
+    → new.given.items ≡ old.given.items ++ record { many = many; read = None } ∷ [] → new.first ≡ old.first → new.from ≡ old.from + (many - 1)
+    → new.sites ≡ old.sites → new.window ≡ old.window → AreOf text new
+of_more text old new job many h chunk reading few jobs next items first from sites window =
+    let x : Given Reading = record { number = old.lead.next; job = job } in
+    let p : Piece = record { many = many; read = None } in
+    let all = given_more old.sites old.window old.lead.given x old.first many text old.given.items h.pieces h.next
+    (subst (λ k. IsChunk many (drop k text)) h.from chunk) (subst (λ k. IsReading old.sites old.window (take many (drop k text)) job) h.from reading) in
+    record {
+      pieces = rw (sites, window, jobs, first, items) all;
+      next = let long = ap length items in omega (arith, next, first, h.next, long, length-append old.given.items (p ∷ []));
+      fits = omega (arith, next, few);
+      from = from ∙ ap (λ k. k + (many - 1)) h.from ∙ sym (passed_more old.given.items many) ∙ sym (ap passed items);
+    }
+
+-- ---- a result
+
+pub given_put : (sites window : ℕ) (before after : List (Given Reading)) (x : Given Reading) (number : ℕ) (text : List ℕ) (ps : List Piece) (k : ℕ)
+    (d : Piece) (result : Result (Vec Stretch) OutOfMemory) → AreGiven sites window (before ++ x ∷ after) number text ps → number + k ≡ x.number
+    → IfOk result (λ list. AreRead x.job.sites x.job.window x.job.text.items list.items)
+    → AreGiven sites window (before ++ x ∷ after) number text (slice_set ps k (record { many = (slice_index_or ps k d).many; read = Some result }))
+given_put sites window before after x number text [] k d result given is worked = given
+given_put sites window before after x number text (p ∷ ps) zero d result given is worked =
+    let job = each_at (λ y. y.number ≡ number → IsReading sites window (take p.many text) y.job) before after x given.0.job (omega (arith, is)) in (
+      record {
+        chunk = given.0.chunk;
+        read = subst (λ t. IfOk result (λ list. AreRead sites window t list.items)) job.0
+            (subst (λ k. IfOk result (λ list. AreRead k window x.job.text.items list.items)) job.1
+            (subst (λ k. IfOk result (λ list. AreRead x.job.sites k x.job.text.items list.items)) job.2 worked));
+        job = given.0.job;
+      },
+      given.1,
+    )
+given_put sites window before after x number text (p ∷ ps) (suc k) d result given is worked =
+    (given.0, given_put sites window before after x (number + 1) (drop (p.many - 1) text) ps k d result given.1 (omega (arith, is)) worked)
+
+pub passed_put : (ps : List Piece) (k : ℕ) (d : Piece) (result : Result (Vec Stretch) OutOfMemory)
+    → passed (slice_set ps k (record { many = (slice_index_or ps k d).many; read = Some result })) ≡ passed ps
+passed_put [] k d result = refl
+passed_put (p ∷ ps) zero d result = refl
+passed_put (p ∷ ps) (suc k) d result = ap (λ n. (p.many - 1) + n) (passed_put ps k d result)
+
+pub given_without : (sites window : ℕ) (before after : List (Given Reading)) (x : Given Reading) (number : ℕ) (text : List ℕ) (ps : List Piece)
+    → AreGiven sites window (before ++ x ∷ after) number text ps → AreGiven sites window (before ++ after) number text ps
+given_without sites window before after x number text [] given = each_without (λ y. y.number < number) before after x given
+given_without sites window before after x number text (p ∷ ps) given = (
+  record {
+    chunk = given.0.chunk;
+    read = given.0.read;
+    job = each_without (λ y. y.number ≡ number → IsReading sites window (take p.many text) y.job) before after x given.0.job;
+  },
+  given_without sites window before after x (number + 1) (drop (p.many - 1) text) ps given.1,
+)
+
+-- a job is back, and its result is with its piece, if that is waited for
+items_put : (sites window : ℕ) (before after : List (Given Reading)) (x : Given Reading) (number : ℕ) (text : List ℕ) (ps qs : List Piece)
+    (result : Result (Vec Stretch) OutOfMemory) → AreGiven sites window (before ++ x ∷ after) number text ps
+    → IfOk result (λ list. AreRead x.job.sites x.job.window x.job.text.items list.items)
+    → (qs ≡ ps) ⊎ ((k : ℕ) × (p : Piece) × (number + k ≡ x.number) × (k < length ps) × (p ≡ slice_index_or ps k p)
+    × (qs ≡ slice_set ps k (record { many = p.many; read = Some result })))
+    → AreGiven sites window (before ++ after) number text qs × (length qs ≡ length ps) × (passed qs ≡ passed ps)
+items_put sites window before after x number text ps qs result given worked (inl same) = (
+  subst (λ l. AreGiven sites window (before ++ after) number text l) (sym same) (given_without sites window before after x number text ps given),
+  ap length same,
+  ap passed same,
+)
+items_put sites window before after x number text ps qs result given worked (inr (k, p, at, within, is, set)) =
+    let v : Piece = record { many = (slice_index_or ps k p).many; read = Some result } in
+    let there : qs ≡ slice_set ps k v = set ∙ ap (λ (q : Piece). slice_set ps k (record { many = q.many; read = Some result })) is in (
+      subst (λ l. AreGiven sites window (before ++ after) number text l) (sym there)
+          (given_without sites window before after x number text (slice_set ps k v) (given_put sites window before after x number text ps k p result given at worked)),
+      ap length there ∙ length-set ps k v,
+      ap passed there ∙ passed_put ps k p result,
+    )
+
+pub of_put : (text : List ℕ) (old mid new : Pieces) (back : Back (Result (Vec Stretch) OutOfMemory)) (job : Reading) → AreOf text old
+    → IsBack old.lead (record { number = back.number; job = job }) mid.lead
+    → IfOk back.result (λ list. AreRead job.sites job.window job.text.items list.items)
+    → mid.given.items ≡ old.given.items → mid.first ≡ old.first → mid.from ≡ old.from → mid.sites ≡ old.sites → mid.window ≡ old.window
+    → IsPut mid back new → AreOf text new
+of_put text old mid new back job h (before, after, was, now) worked items first from sites window (lead2, first2, from2, sites2, window2, puts) =
+    let x : Given Reading = record { number = back.number; job = job } in
+    let given : AreGiven mid.sites mid.window (before ++ x ∷ after) mid.first text mid.given.items =
+    rw (sites, window, first, items, sym was) h.pieces in
+    let (all, long, far) = items_put mid.sites mid.window before after x mid.first text mid.given.items new.given.items back.result given worked puts in
+    let jobs : new.lead.given ≡ before ++ after = ap (λ (l : LeadState Reading). l.given) (lead2 ∙ now) in
+    let next : new.lead.next ≡ old.lead.next = ap (λ (l : LeadState Reading). l.next) (lead2 ∙ now) in
+    let size = ap length items in
+    record {
+      pieces = rw (sites2, window2, jobs, first2) all;
+      next = omega (arith, next, h.next, first2, first, long, size);
+      fits = omega (arith, next, h.fits);
+      from = from2 ∙ from ∙ h.from ∙ sym (ap passed items) ∙ sym far;
+    }
+
+-- ---- the first piece
+
+-- it is taken off
+pub of_rest : (text : List ℕ) (old new : Pieces) (p : Piece) → AreOf text old → old.given.items ≡ p ∷ new.given.items → new.lead ≡ old.lead
+    → new.first ≡ old.first + 1 → new.from ≡ old.from - (p.many - 1) → new.sites ≡ old.sites → new.window ≡ old.window
+    → IsPiece old.sites old.window old.lead.given old.first text p × AreOf (drop (p.many - 1) text) new
+of_rest text old new p h items lead first from sites window =
+    let given = subst (λ ps. AreGiven old.sites old.window old.lead.given old.first text ps) items h.pieces in
+    let far = ap passed items in
+    let n = ap (λ (l : LeadState Reading). l.next) lead in
+    let long = ap length items in (
+      given.0,
+      record {
+        pieces = rw (lead, first, sites, window) given.1;
+        next = omega (arith, n, h.next, long, first);
+        fits = rw lead h.fits;
+        from = omega (arith, from, h.from, far);
+      },
+    )

@@ -1,7 +1,0 @@
-use Rattle.rubis_reading.proofs.parts.+fn-read_parts-join+arg3+read_parts.Given as goal
-
-abbrev pub decreases-read_parts : goal.decreases-read_parts
-decreases-read_parts g l = l.readers
-
-abbrev pub decreases-join+arg3 : goal.decreases-join+arg3
-decreases-join+arg3 g l = l.fewer

@@ -1,0 +1,82 @@
+"""How a run is written as a list of the model's steps."""
+
+import unittest
+
+from scripts.simulation.model import UNREACHED, WENT_ON, Slot
+from scripts.simulation.world import Rules, World
+
+SEED = next(str(seed) for seed in range(100) if World(str(seed), Rules()).is_over_server)
+MESSAGE = "m", 0, 1, 1
+SAID = b"reply,1,ok,0.1\nsend,msg,1,0,1,1,0:0,user,ann\n"
+
+
+class Written(unittest.TestCase):
+    """Site 0 has sent a message."""
+
+    def setUp(self) -> None:
+        self.world = World(SEED, Rules())
+        self.steps = self.world.steps
+        self.folder = next(machine.folders[0] for machine in self.world.machines if 0 in machine.folders)
+        self.steps.starts(self.folder, "1 a")
+        self.steps.opens(self.folder)
+        self.slot = self.steps.slots[0]
+        self.steps.known[SAID.split(b"\n")[1][5:]] = MESSAGE
+        self.slot.packets.append(MESSAGE)
+        self.steps.list.clear()
+
+    def test_a_late_packet_is_appended_by_a_folder_of_its_own(self) -> None:
+        self.steps.supervisor_ended(self.folder, None)
+        self.steps.gone(self.folder)
+        self.steps.appends(self.folder.machine, SAID.split(b"\n")[1][5:])
+        made = self.steps.slots[-1].number
+        self.assertEqual(self.steps.lines()[1:], ["IsKilled,0", f"Rebuilds,{made},m:0:1:1", "IsLost,0", f"Starts,{made}", f"Appends,{made},m:0:1:1",
+                                                  f"IsKilled,{made}", f"IsLost,{made}"])
+
+    def test_a_site_that_opens_behind_a_stopped_folder_is_known(self) -> None:
+        made = self.folder.copied(self.folder.machine)
+        self.steps.supervisor_ended(self.folder, None)
+        self.steps.copied(self.folder, made)
+        self.slot.packets.clear()
+        self.steps.machine_starts(self.folder.machine)
+        self.steps.starts(self.folder, "2 b")
+        self.steps.opens(self.folder)
+        self.assertEqual(list(self.steps.none().values()), [UNREACHED])
+        self.assertEqual(self.steps.lines()[list(self.steps.none())[0]], "Opens,0")
+
+    def test_a_site_that_lost_nothing_opens(self) -> None:
+        self.steps.supervisor_ended(self.folder, None)
+        self.steps.starts(self.folder, "2 b")
+        self.steps.opens(self.folder)
+        self.assertEqual(self.steps.none(), {})
+
+    def test_what_was_passed_before_the_token_came_is_no_news(self) -> None:
+        slot = Slot(0, 0)
+        slot.packets.append(("p", 1, 8, 0, 0))
+        passed = [("p", 0, turn, 1, 0) for turn in (7, 9)]
+        self.assertEqual(slot.behind()(passed), passed[1:])
+
+
+class WentOn(unittest.TestCase):
+    """A copy of a folder was opened, and the process of the folder goes on."""
+
+    def setUp(self) -> None:
+        self.steps = World(SEED, Rules()).steps
+        self.slot, self.other = Slot(0, 0), Slot(5, 0)
+        self.steps.slots[:] = [self.slot, self.other]
+        for slot in self.steps.slots:
+            slot.has_opened = True
+            self.steps._open(slot, None)
+        self.steps.list.clear()
+
+    def test_it_opens_again_where_the_copy_has_nothing_more(self) -> None:
+        self.steps._open_again(self.slot)
+        self.assertEqual((self.steps.lines()[1:], self.steps.none()), (["Closes,5", "Opens,0"], {}))
+
+    def test_where_both_send_it_is_known(self) -> None:
+        self.other.packets.append(MESSAGE)
+        self.steps._open_again(self.slot)
+        self.assertEqual((self.steps.lines()[1:], self.steps.none()), (["Closes,5", "Opens,0"], {2: WENT_ON}))
+
+    def test_one_that_is_open_opens_once(self) -> None:
+        self.steps._open_again(self.other)
+        self.assertEqual(self.steps.lines()[1:], [])
