@@ -11,7 +11,7 @@ use std::marker::Model;
 
 /// An item that is offered: `stock` pieces of it, bids from `start` on, and `price` for a piece at once (0: no
 /// buy-now).
-#[derive(Drop, Clone, PartialEq, Eq)]
+#[derive(Clone, PartialEq, Eq)]
 pub struct NewItem {
     pub seller: Id,
     pub name: Name,
@@ -21,11 +21,24 @@ pub struct NewItem {
     pub price: u64,
 }
 
+impl Drop for NewItem {
+    // Proved here, once: a derived drop is proved anew in each crate that lets an offer go.
+    fn drop(self) {
+        let NewItem { seller: _, name: _, cat: _, stock: _, start: _, price: _ } = self;
+    }
+}
+
 /// The name of an offered item. It is one more owner of the offer, so an item's row and the message that brought it have
 /// the name's bytes once. Contracts see the name.
-#[derive(Drop)]
 pub struct OfferedName {
     offer: Shared<NewItem>,
+}
+
+impl Drop for OfferedName {
+    // Proved here, once: a derived drop is proved anew in each crate that lets such a name go.
+    fn drop(self) {
+        let OfferedName { offer: _ } = self;
+    }
 }
 
 impl Model for OfferedName {
