@@ -24,7 +24,14 @@ pub struct NewItem {
 impl Drop for NewItem {
     // Proved here, once: a derived drop is proved anew in each crate that lets an offer go.
     fn drop(self) {
-        let NewItem { seller: _, name: _, cat: _, stock: _, start: _, price: _ } = self;
+        let NewItem {
+            seller: _,
+            name: _,
+            cat: _,
+            stock: _,
+            start: _,
+            price: _,
+        } = self;
     }
 }
 

@@ -178,7 +178,13 @@ pub struct CommentRow {
 impl Drop for CommentRow {
     // Proved here, once: a derived drop is proved anew in each crate that lets a comment go.
     fn drop(self) {
-        let CommentRow { item: _, from: _, to: _, rating: _, text: _ } = self;
+        let CommentRow {
+            item: _,
+            from: _,
+            to: _,
+            rating: _,
+            text: _,
+        } = self;
     }
 }
 
