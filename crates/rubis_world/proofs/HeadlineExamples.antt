@@ -1,5 +1,5 @@
 -- What a run of several sites says of them, worked out on two records: site 0 passes the token to site 1, which then takes it.
-use Rattle.std.proofs.Common.{◌≡◌, ◌∙◌, ◌+◌, ◌^◌, ◌≤◌, ◌<◌, ◌++◌, ◌∷◌, [], ℕ, zero, suc, List, Option, Some, None, ap, arith, inl, inr, length, refl, subst}
+use Rattle.std.proofs.Common.{◌≡◌, ◌∙◌, ◌^◌, ◌≤◌, ◌<◌, ◌++◌, ◌∷◌, [], ℕ, zero, suc, List, Option, Some, None, ap, arith, inl, inr, length, refl, subst}
 use Rattle.std.proofs.Common.{sym, take}
 use Rattle.std.specs.Prelude.{codes, decimal, is_some, map, nat_lt, option_and_then, unwrap_or, IfOk, Ok, Err, Result, ⊤}
 use Rattle.std.specs.Option.{option_or}

@@ -6,7 +6,7 @@ use Rattle.std.specs.Prelude.{Result, Ok, Err}
 use Rattle.std.specs.Io.KnownBytes.{Appends}
 use Rattle.rubis_schema.specs.declared.limits.TheConstants.{COUNTED_MAX, KEEP_MAX}
 use Rattle.rubis_message.specs.WorldReadings.{world_input}
-use Rattle.rubis_model.specs.RecordedRuns.{IsTextOfARun, world_after}
+use Rattle.rubis_model.specs.RecordedRuns.{world_after}
 use Rattle.rubis_model.specs.System.{World}
 use Rattle.rubis_model.specs.WorldRecords.{world_output_of, world_step}
 use Rattle.rubis_engine.specs.Progress.{IsRun}

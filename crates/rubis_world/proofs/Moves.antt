@@ -1,8 +1,8 @@
 -- One site of several changes: what its step is in the world.
 use Rattle.std.proofs.Common.{◌≡◌, ℕ, ◌<◌, ◌≤◌, List, [], ◌∷◌, ◌++◌, length, length-append, get_or, set, refl, sym, ap, ◌∙◌, subst, ⊎_elim, arith}
-use Rattle.std.specs.Prelude.{map, slice_get, slice_set, IfSome, IsErr, Some, nat_lt, Result, Ok, Err}
+use Rattle.std.specs.Prelude.{map, slice_get, slice_set, IfSome, IsErr, Some, Result, Ok, Err}
 use Rattle.std.specs.Result.{IsErrAnd}
-use Rattle.std.proofs.lemmas.Bool.{cases_eq, cases_lt, cond-true, lt-ltb}
+use Rattle.std.proofs.lemmas.Bool.{cases_eq, cases_lt}
 use Rattle.std.proofs.lemmas.List.{get_or-map, get_or-set_other, get_or-set_same, length-map, length-set, map-set}
 use Rattle.std.proofs.lemmas.Option.{slice_get-get_or, slice_get_past}
 use Rattle.rubis_schema.specs.declared.listings.Listing.{Listing}
@@ -13,7 +13,7 @@ use Rattle.rubis_message.specs.declared.answers.Happened.TheVariants as happened
 use Rattle.rubis_message.specs.declared.tokens.Packet.{Packet}
 use Rattle.rubis_model.specs.Site.{Place, Replica, opening_at}
 use Rattle.rubis_model.specs.Sound.{AllDeliverable, IsDeliverable}
-use Rattle.rubis_model.specs.System.{World, site, place, sends, takes, saying, sending, next_number, shown, at_site, coming, packet_at}
+use Rattle.rubis_model.specs.System.{World, site, place, sends, takes, saying, sending, next_number, shown, packet_at}
 use Rattle.rubis_model.specs.Log.{cores, fold_of}
 use Rattle.rubis_model.specs.Runs.{listed, listing_rows}
 use Rattle.rubis_laws.proofs.Runs.SoundSteps.{has_packet, same_sites}

@@ -1,17 +1,15 @@
 -- How a run of several sites over chunks goes on, and how it ends.
-use Rattle.std.proofs.Common.{◌≡◌, ◌∙◌, ◌≤◌, ◌+◌, ◌++◌, ◌∷◌, [], ℕ, List, Option, Some, None, ap, arith, length, refl, subst, sym, take, true}
+use Rattle.std.proofs.Common.{◌≡◌, ◌∙◌, ◌+◌, ◌++◌, ◌∷◌, [], ℕ, List, Option, Some, None, ap, arith, length, subst, sym, take, true}
 use Rattle.std.specs.Prelude.{IfSome, Result, Ok, Err}
 use Rattle.rubis_message.specs.WorldReadings.{world_input}
 use Rattle.rubis_model.specs.WorldRecords.{world_step}
-use Rattle.rubis_engine.specs.Accounts.Ending.{AtEnd}
-use Rattle.rubis_engine.specs.Progress.{AppendsFront, IsDone, IsRun, IsWrittenOrWaits, WrotePrefix}
+use Rattle.rubis_engine.specs.Progress.{IsRun}
 use Rattle.rubis_engine.specs.Reading.{Advances, Gives, fields_now}
 use Rattle.rubis_engine.specs.Text.{input_records}
 use Rattle.rubis_engine.specs.declared.fault.Count.{Count}
 use Rattle.rubis_engine.specs.declared.fault.RunFault.{RunFault}
 use Rattle.rubis_engine.specs.declared.fault.RunFault.TheVariants as fault
 use Rattle.rubis_engine.specs.declared.record_list.Records.{Records}
-use Rattle.rubis_engine.proofs.FrontFacts.{front-longer}
 use Rattle.rubis_reading.specs.Chunked.{HasCome, HasPending, IsLast, KeepsCome, TakesOff, held_text}
 use Rattle.rubis_reading.specs.declared.chunks.Chunks.{Chunks}
 use Rattle.rubis_script.specs.Headline.{OfRead}
@@ -22,7 +20,7 @@ use Rattle.rubis_reading.specs.Chunked.{HasAll}
 use Rattle.rubis_serving.specs.declared.pieces.Served.{Served}
 use Rattle.rubis_serving.proofs.ServedFacts.{reader_run, served-last, served-starts, yet-one, yet-too_long}
 use Rattle.rubis_reading.proofs.ChunkFacts.{pending-front}
-use Rattle.rubis_serving.proofs.StandFacts.{stands-front, stands-step, stands-waited}
+use Rattle.rubis_serving.proofs.StandFacts.{stands-step}
 use Rattle.rubis_world.specs.Headline.{Lead, WorldAnswersAll, WorldAnswersFirst, WorldEndsWhole}
 use Rattle.rubis_world.specs.Running.{IsTold, told_by_world}
 use Rattle.rubis_world.specs.SitesWorlds.{WorldState}

@@ -54,6 +54,16 @@ pub record Asks (i : ℕ) (old new : WorldState) (result : Result Happened World
   pub waits : 0 < left_at old i → (result ≡ Err (Site fault.Behind)) × (new ≡ old)
   pub says : result ≡ Err (Site fault.Behind) → 0 < left_at new i
 
+-- site i is there and isn't behind
+pub record IsUpToDate (i : ℕ) (s : WorldState) : Type 0 where
+  pub there : i < length s.world.sites
+  pub none_left : left_at s i ≡ 0
+
+-- site i alone takes the step: the call answers as the step says, and the tables of the others are as far as they were
+pub record StepsAlone (i : ℕ) (old new : WorldState) (step : World × Result Happened Refusal) (result : Result Happened WorldFault) : Type 0 where
+  pub answers : Steps old new step result
+  pub tables : Asks i old new result
+
 -- a request at a site is answered as the step says, and only that site changes; if there is no such site, nothing does
 pub record AnswersRequest (site : ℕ) (request : Request) (old new : WorldState) (result : Result Happened WorldFault) : Type 0 where
   pub step : Steps old new (happens old.keep old.world (At site request)) result

@@ -58,17 +58,16 @@ fn log<R: Threads + Wait + Sync>(
     rt: &R,
     pool: &mut MessagePool,
     sites: &mut Sites,
-    site: usize,
+    site: u8,
 ) -> Result<Log, WorldFault>
-    requires site { site < length sites.old.world.sites }
-    requires few { length sites.old.world.sites ≤ SITES_MAX }
+    requires { site < length sites.old.world.sites }
     ensures same { ComesTo sites.old sites.new sites.old.world }
     ensures log { IfOk result (λ log. log ≡ log_of sites.old.world site) }
     ensures faults { IfErr result (IsCheckFault sites.new) }
 {
-    let rows = tables(rt, sites, site)?;
-    let messages = pool.share_all(sites.history(site))?;
-    Ok(Log::new(site as u8, messages, Some(rows)))
+    let rows = tables(rt, sites, usize::from(site))?;
+    let messages = pool.share_all(sites.history(usize::from(site)))?;
+    Ok(Log::new(site, messages, Some(rows)))
 }
 
 // The logs of all sites, each with its tables.
@@ -84,7 +83,7 @@ fn logs<R: Threads + Wait + Sync>(
 {
     let mut pool = MessagePool::new(alloc);
     let mut logs = Vec::new(alloc);
-    'places: for site in 0..sites.len() {
+    'places: for site in 0..sites.len() as u8 {
         logs.push(log(rt, &mut pool, sites, site)?)?;
     }
     Ok(logs)

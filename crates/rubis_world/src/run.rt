@@ -3,6 +3,7 @@
 ghost use Rattle.std.specs.Prelude.{◌≡◌, ◌≤◌, ◌<◌, ◌+◌, ◌^◌, ℕ, List};
 ghost use Rattle.rubis_engine.specs.Accounts.Ending.{AtEnd};
 ghost use Rattle.rubis_engine.specs.Progress.{IsRun, WrotePrefix};
+ghost use Rattle.rubis_engine.specs.Reading.{Gives};
 ghost use Rattle.rubis_engine.specs.Text.{input_records};
 ghost use Rattle.rubis_reading.specs.Chunked.{IsLast};
 ghost use Rattle.rubis_schema.specs.declared.limits.TheConstants.{COUNTED_MAX, KEEP_MAX, RECORDS_MAX};
@@ -59,11 +60,12 @@ fn answer_records<T: Threads + Wait + Sync, R: Read, W: Write>(
     writer: &mut W,
     limit: u64,
 ) -> Result<(), RunFault>
-    requires { run.old.answered ≤ limit }
+    requires within { run.old.answered ≤ limit }
+    requires known { (rows : List (List (List ℕ))) × Gives R.remaining piece.old rows }
     ensures { WorldPieceEnds limit desk.new.world run.new (OfEachWorldYet R.remaining piece.old desk.old.world run.old (W.contents writer.old))
         (W.contents writer.new) result }
 {
-    'records: for _ in 0..u64::MAX {
+    'records: loop {
         let Ok(found) = piece.advance() else {
             return Err(RunFault::Memory);
         };
@@ -76,7 +78,6 @@ fn answer_records<T: Threads + Wait + Sync, R: Read, W: Write>(
         }
         answer_record(rt, piece.fields(), desk, run, writer)?;
     }
-    Err(RunFault::Memory)
 }
 
 // The same of the records of a text.
@@ -154,12 +155,12 @@ fn serve<T: Threads + Wait + Sync, R: Read, W: Write>(
         (λ count. OfEachWorld R.remaining chunks.old desk.old.world run.old (W.contents writer.old) (λ first old input.
         WorldAnswersAll limit first desk.new.world old (W.contents writer.new) (input_records input) count.records)) result }
 {
-    'pieces: for _ in 0..u64::MAX {
+    for _ in rt.forever() {
         if let Some(count) = turn(rt, chunks, desk, run, writer, limit)? {
             return Ok(count);
         }
     }
-    Err(RunFault::Memory)
+    unreachable!()
 }
 
 /// Runs the desk of several sites over chunks of text, as `run_world_desk` does over a reader. They are lent: where their reader failed,

@@ -12,7 +12,7 @@ ghost use Rattle.rubis_model.specs.System.Event.{At, Deliver};
 ghost use Rattle.rubis_model.specs.System.{site as site_of};
 ghost use Rattle.rubis_script.specs.Replica.{IsCount};
 ghost use Rattle.rubis_script.specs.Replica.fault_variants as Fault;
-ghost use Rattle.rubis_world.specs.SitesWorlds.{Asks, Steps, left_at, opening_world};
+ghost use Rattle.rubis_world.specs.SitesWorlds.{Asks, IsUpToDate, Steps, StepsAlone, left_at, opening_world};
 ghost use Rattle.rubis_world.specs.declared.faults.WorldFault.TheVariants as WorldFault;
 
 use crate::config::WorldConfig;
@@ -97,11 +97,9 @@ impl Sites {
         site: usize,
         ask: Ask,
     ) -> Result<Happened, WorldFault>
-        requires site { site < length self.old.world.sites }
-        requires ready { left_at self.old site ≡ 0 }
+        requires ready { IsUpToDate site self.old }
         requires ask { IsAsk (length self.old.world.sites) ask }
-        ensures step { Steps self.old self.new (requested self.old.keep self.old.world site (Request.Ask ask)) result }
-        ensures tables { Asks site self.old self.new result }
+        ensures { StepsAlone site self.old self.new (requested self.old.keep self.old.world site (Request.Ask ask)) result }
     {
         self.packets.reserve(1)?;
         let message = self.sites[site].request(rt, ask)?;
@@ -111,10 +109,8 @@ impl Sites {
 
     // A site hands the token on.
     fn pass(&mut self, site: usize, to: u8) -> Result<Happened, WorldFault>
-        requires site { site < length self.old.world.sites }
-        requires ready { left_at self.old site ≡ 0 }
-        ensures step { Steps self.old self.new (requested self.old.keep self.old.world site (Request.Pass to)) result }
-        ensures tables { Asks site self.old self.new result }
+        requires { IsUpToDate site self.old }
+        ensures step { StepsAlone site self.old self.new (requested self.old.keep self.old.world site (Request.Pass to)) result }
         ensures never { result ≡ Err (WorldFault.Site Fault.Behind) → ⊥ }
     {
         self.packets.reserve(1)?;
@@ -181,11 +177,9 @@ impl Sites {
         site: usize,
         packet: Packet,
     ) -> Result<Happened, WorldFault>
-        requires site { site < length self.old.world.sites }
-        requires ready { left_at self.old site ≡ 0 }
+        requires ready { IsUpToDate site self.old }
         requires fits { IsDeliverable (length self.old.world.sites) packet }
-        ensures step { Steps self.old self.new (coming self.old.keep self.old.world site (Some packet)) result }
-        ensures tables { Asks site self.old self.new result }
+        ensures step { StepsAlone site self.old self.new (coming self.old.keep self.old.world site (Some packet)) result }
         ensures never { result ≡ Err (WorldFault.Site Fault.Behind) → ⊥ }
     {
         match packet {

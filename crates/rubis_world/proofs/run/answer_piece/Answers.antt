@@ -14,3 +14,6 @@ returns g c =
     (record { rows = rows; gives = c.new-piece.ensures; stands = stands }, led)) absurd
     (λ prefix first old records rest (stands, led). prefix first old records rest
     (record { rows = rows; gives = c.new-piece.ensures; stands = stands }, led)) c.answer_records.ensures
+
+pub answer_records-requires-clause-known : goal.answer_records-requires-clause-known
+answer_records-requires-clause-known g c κs within = (input_records c.args.text.now, c.new-piece.ensures)

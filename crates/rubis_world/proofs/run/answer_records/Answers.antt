@@ -1,5 +1,5 @@
-use Rattle.std.proofs.Common.{◌≡◌, ◌+◌, ◌++◌, arith, false, refl, rules, subst, sym, true}
-use Rattle.rubis_engine.specs.Reading.{Advances, fields_now}
+use Rattle.std.proofs.Common.{◌≡◌, ◌+◌, ◌++◌, arith, false, refl, rules, subst, true}
+use Rattle.rubis_engine.specs.Reading.{Advances}
 use Rattle.rubis_engine.proofs.EndFacts.{ends_on}
 use Rattle.rubis_serving.proofs.ServedFacts.{yet-none, yet-prefix}
 use Rattle.rubis_serving.proofs.StandFacts.{stands-front}
@@ -7,7 +7,7 @@ use Rattle.rubis_world.proofs.StepFacts.{world-one, world-too_long}
 use Rattle.rubis_world.proofs.run.answer_records.Goals as goal
 
 pub records-init : goal.records-init
-records-init g c = record { within = c.requires; stands = λ first old records rest h. h }
+records-init g c = record { within = c.requires.within; known = c.requires.known; stands = λ first old records rest h. h }
 
 pub returns-in_default : goal.returns-in_default
 returns-in_default g c first old records rest h =
@@ -58,6 +58,10 @@ records-preserved g c =
     let (next, goes) = c.in_ok-answer_record.ensures in
     record {
       within = omega (arith, next, c.if-run-limit.false);
+      known =
+          let (rows, gives) = c.records.invariant.known in
+          let (left, first, rest) = takes rows gives in
+          (left, rest);
       stands = λ first old records rest h.
           let (left, gives, one) = world-one g.R.Read.remaining c.records.piece c.advance.new.self c.records.desk.world c.records.run first old _ records rest
           _ takes c.fields.ensures (c.records.invariant.stands first old records rest h) in
@@ -65,6 +69,8 @@ records-preserved g c =
           (record { rows = left; gives = gives; stands = stands }, led);
     }
 
-pub returns : goal.returns
-returns g c first old records rest h =
-    yet-prefix _ _ _ _ old _ _ _ _ records rest refl (c.records.invariant.stands first old records rest h).0
+pub records-smaller : goal.records-smaller
+records-smaller g c =
+    let some : c.in-Ok.found ≡ true = search rules in
+    let (rows, gives) = c.records.invariant.known in
+    c.in-Ok.ensures.nearer some rows gives
