@@ -17,6 +17,11 @@ use rubis_reading::Chunks;
 use std::alloc::Global;
 use std::io::{Read, Write};
 
+// The fault of a run that took as many pieces of its text as can be counted. Nothing says that a run ends before: empty lines are no
+// records, so `limit` doesn't count them, and a reader may give them for ever. A loop without an end would need a runtime that may
+// wait, which an audit doesn't have.
+const PAST_ALL_PIECES: RunFault = RunFault::Memory;
+
 // Answers a record. `None` if the run goes on, otherwise how many records were read.
 #[inline(always)]
 fn answer_record<T, S: Answering<T>, W: Write>(
@@ -172,7 +177,7 @@ fn serve<T, S: Answering<T>, R: Read, W: Write>(
             return Ok(count);
         }
     }
-    Err(RunFault::Memory)
+    Err(PAST_ALL_PIECES)
 }
 
 /// Has a service answer the records of a text until its end, or until a record ends the run, or up to `limit` of them, and appends the
@@ -183,8 +188,8 @@ fn serve<T, S: Answering<T>, R: Read, W: Write>(
 /// # Errors
 ///
 /// `Read` if the reader failed: the records that came whole are answered then, as if there were no more. `Write` if the writer failed,
-/// and `Memory` if memory ran out: what was written is a prefix of the whole text. `TooLong` if the text has more than `limit` records
-/// and none of the first `limit` ends the run: these are answered then.
+/// and `Memory` if memory ran out, or once 2^64 pieces of the text were taken: what was written is a prefix of the whole text. `TooLong`
+/// if the text has more than `limit` records and none of the first `limit` ends the run: these are answered then.
 pub fn run_service<T, S: Answering<T>, R: Read, W: Write>(
     rt: &T,
     alloc: Global,
