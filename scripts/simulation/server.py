@@ -20,7 +20,7 @@ if TYPE_CHECKING:
     from .world import Process
 
 PAGE = 50
-place_of = operator.itemgetter(0)
+place_of = number_of = operator.itemgetter(0)
 WRITES = (Append, Rewrite, SeeLife, Adopt, SayYields)
 
 
@@ -101,7 +101,7 @@ class Server:
                     self.said[site] = self.clock.now + STATUS_SECONDS, said
                 return [stream.last[0] for stream in self.streams], list(self.marks)
             case Hear(after):
-                return [(b"%d" % number, fields) for number, fields in self.wants if number > int(after)]
+                return [(b"%d" % number, fields) for number, fields in self.wants[bisect_right(self.wants, int(after), key=number_of):]]
             case Owner(site):
                 return self.owners[site]
             case Sites(_):

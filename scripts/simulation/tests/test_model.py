@@ -1,10 +1,14 @@
 """How a run is written as a list of the model's steps."""
 
+import pathlib
+import re
 import unittest
 
+from scripts.simulation import model
 from scripts.simulation.model import UNREACHED, WENT_ON, Slot
 from scripts.simulation.world import Rules, World
 
+READ = pathlib.Path(__file__).resolve().parents[3] / "crates/rubis_decider/stdin"      # what the program that decides reads in its stored run
 SEED = next(str(seed) for seed in range(100) if World(str(seed), Rules()).is_over_server)
 MESSAGE = "m", 0, 1, 1
 SAID = b"reply,1,ok,0.1\nsend,msg,1,0,1,1,0:0,user,ann\n"
@@ -80,3 +84,10 @@ class WentOn(unittest.TestCase):
     def test_one_that_is_open_opens_once(self) -> None:
         self.steps._open_again(self.other)
         self.assertEqual(self.steps.lines()[1:], [])
+
+
+class Kinds(unittest.TestCase):
+    def test_each_kind_of_line_is_read_in_the_stored_run(self) -> None:
+        written = set(re.findall(r'(?:_add\(|word = |else )"(\w+)"', pathlib.Path(model.__file__).read_text()))
+        self.assertLessEqual({"Starts", "TellsPublished", "TellsOk", "WritesAnew"}, written)
+        self.assertLessEqual(written, {line.split(",")[0] for line in READ.read_text().split("\n")})
