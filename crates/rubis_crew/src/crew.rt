@@ -20,7 +20,7 @@ use std::alloc::{AllocError, Global};
 use std::marker::Model;
 use std::sync::Wait;
 use std::thread;
-use std::thread::{Threads, join};
+use std::thread::{Threads, join, join_mut};
 
 type Jobs<J> = RuledArrayQueue<Item<J>, PassView<J>, JobRule>;
 
@@ -446,9 +446,29 @@ impl<J: Job> Crew<J> {
     pub fn stay_all<R: Threads + Wait + Sync>(&self, rt: &R, first: &mut Helper<J>)
         requires crew { first.old.crew ≡ self.now.id }
         requires owes { first.old.paid ≡ first.old.taken }
+        ensures crew { first.new.crew ≡ first.old.crew }
+        ensures owes { first.new.paid ≡ first.new.taken }
     {
-        if self.helpers > 0 {
-            stay_with(rt, self, first, self.helpers - 1);
+        if self.helpers == 0 {
+            return;
         }
+        if self.helpers == 1 {
+            self.stay(rt, first);
+            return;
+        }
+        let crew = self;
+        let mut next = crew.another(first);
+        let other = &mut next;
+        let more = self.helpers - 2;
+        join_mut(
+            rt,
+            &mut ||
+                requires { (first.now.crew ≡ crew.now.id) × (first.now.paid ≡ first.now.taken) }
+                ensures { (first.exit.now.crew ≡ first.entry.now.crew) × (first.exit.now.paid ≡ first.exit.now.taken) }
+            { crew.stay(rt, first) },
+            &mut ||
+                requires { IsSync R.row × (other.now.crew ≡ crew.now.id) × (other.now.paid ≡ other.now.taken) }
+            { stay_with(rt, crew, other, more) },
+        );
     }
 }
