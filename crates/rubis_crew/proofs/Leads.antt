@@ -9,7 +9,7 @@ use Rattle.rubis_crew.specs.declared.rule.PassView.{PassView}
 use Rattle.rubis_crew.specs.declared.results.ResultView.{ResultView}
 use Rattle.rubis_crew.specs.declared.results.Slip.{Slip}
 use Rattle.rubis_crew.specs.Rule.{HoldsAGivenOne, without, settled, together}
-use Rattle.rubis_crew.specs.States.{AreALead}
+use Rattle.rubis_crew.specs.States.{AreALead, Settles}
 
 -- the pass came to hold one job, and what it gave is as before
 pub record CameToHold {J : Type 0} (v w : PassView J) (x : Given J) : Type 0 where
@@ -54,9 +54,11 @@ fewer {J} v w x held owns is =
 module _ {J R : Type 0} (next count : ℕ) (told : Bool) (seat holding after : Pass (Item J) (PassView J)) (desk later : Pass (Slip J R) (ResultView J))
     (x : Given J) where
   pub still_leads : AreALead next count told seat desk → IsSamePass seat holding → CameToHold (view seat) (view holding) x
-      → HoldsAGivenOne (view holding) → IsSamePass holding after → view after ≡ settled (view holding) → later.me.1 ≡ []
-      → (view later).of ≡ (view desk).of → AreALead next (count - 1) told after later
-  still_leads lead same came owns kept is free of =
+      → Settles holding after → later.me.1 ≡ [] → (view later).of ≡ (view desk).of → AreALead next (count - 1) told after later
+  still_leads lead same came settles free of =
+      let owns = settles.given in
+      let kept = settles.same in
+      let is = settles.back in
       let many = lead.many in
       let given = ap length came.given in
       let less = fewer (view after) (view holding) x came.held owns is in

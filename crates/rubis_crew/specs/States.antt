@@ -1,11 +1,12 @@
 -- What a contract sees of a crew, of the one who gives jobs, and of a helper; and how each call changes it.
 use Rattle.std.specs.Prelude.{◌≡◌, ℕ, ◌+◌, ◌≤◌, ◌⊎◌, Bool, true, false, List, [], ◌∷◌, ◌++◌, length, Some}
 use Rattle.atomic_table.specs.Seated.{TableId}
-use Rattle.crossbeam_queue.specs.Passes.{Pass, view}
+use Rattle.crossbeam_queue.specs.Passes.{Pass, view, IsSamePass}
 use Rattle.rubis_crew.specs.declared.job.Given.{Given}
 use Rattle.rubis_crew.specs.declared.job.Back.{Back}
 use Rattle.rubis_crew.specs.declared.rule.Item.{Item}
 use Rattle.rubis_crew.specs.declared.rule.PassView.{PassView}
+use Rattle.rubis_crew.specs.Rule.{HoldsAGivenOne, settled}
 use Rattle.rubis_crew.specs.declared.results.ResultView.{ResultView}
 use Rattle.rubis_crew.specs.declared.results.Slip.{Slip}
 use Rattle.rubis_crew.specs.declared.crew.Found.{Found}
@@ -92,10 +93,28 @@ pub record AreAPair {J R : Type 0} (seat : Pass (Item J) (PassView J)) (desk : P
   pub holds_none : (view seat).held ≡ []
   pub told : (view desk).of ≡ Some seat.table_id
 
--- they are those of the one who gives jobs, which are so many
+-- they are those of the one who gives jobs: `count` are given and not back, and the next number is `next`
 pub record AreALead {J R : Type 0} (next count : ℕ) (told : Bool) (seat : Pass (Item J) (PassView J)) (desk : Pass (Slip J R) (ResultView J)) : Type 0 where
   pub pair : AreAPair seat desk
   pub leads : (view seat).leads ≡ true
   pub none_over : told ≡ false → (view seat).overs ≡ 0
   pub number : next ≡ (view seat).next
   pub many : count ≡ length (view seat).given
+
+-- ---- what the one who gives jobs does with its pass
+
+module _ {J : Type 0} where
+  -- a job that was given and that the pass holds is back
+  pub record Settles (old new : Pass (Item J) (PassView J)) : Type 0 where
+    pub same : IsSamePass old new
+    pub given : HoldsAGivenOne (view old)
+    pub back : view new ≡ settled (view old)
+
+  -- all jobs are back, and it wasn't said that no more come
+  abbrev pub HasAllBack : PassView J → Type 0
+  HasAllBack v = (v.leads ≡ true) × (v.given ≡ []) × (v.overs ≡ 0)
+
+  -- each of that many helpers is told that no more jobs come
+  pub record TellsAll (helpers : ℕ) (old new : Pass (Item J) (PassView J)) : Type 0 where
+    pub same : IsSamePass old new
+    pub said : view new ≡ record (view old) { overs = helpers }

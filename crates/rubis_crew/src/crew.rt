@@ -5,8 +5,9 @@ ghost use Rattle.crossbeam_queue.specs.Passes.{view, ruled_capacity, IsPassOf, I
 ghost use Rattle.rubis_crew.specs.declared.job.Given.{Given};
 ghost use Rattle.rubis_crew.specs.Results.{IsPaid, holds};
 ghost use Rattle.atomic_table.specs.Seated.{TableId};
-ghost use Rattle.rubis_crew.specs.Rule.{AreBelow, HoldsAGivenOne, settled};
-ghost use Rattle.rubis_crew.specs.States.{ended, new_lead, new_helper, given_too, HasNoRoom, IsBack, HasHelped, ComesBack};
+ghost use Rattle.rubis_crew.specs.Rule.{AreBelow};
+ghost use Rattle.rubis_crew.specs.States.{ended, new_lead, new_helper, given_too, HasNoRoom, IsBack, HasHelped, ComesBack, Settles, HasAllBack, TellsAll};
+ghost use Rattle.std.specs.Thread.{IsSync};
 
 use crate::job::{Back, Given, Job};
 use crate::results::{Collecting, Joining, Naming, Paying, Payment, ResultRule, ResultView, Slip};
@@ -19,6 +20,7 @@ use std::alloc::{AllocError, Global};
 use std::marker::Model;
 use std::sync::Wait;
 use std::thread;
+use std::thread::{Threads, join, join_mut};
 
 type Jobs<J> = RuledArrayQueue<Item<J>, PassView<J>, JobRule>;
 
@@ -118,9 +120,7 @@ fn settle<J: Job>(jobs: &Jobs<J>, seat: &mut Seat<J>)
     requires queue { IsPassOf jobs.now seat.old }
     requires leads { (view seat.old).leads ≡ true }
     requires one { (x : Given J) × ((view seat.old).held ≡ x ∷ []) }
-    ensures queue { IsSamePass seat.old seat.new }
-    ensures given { HoldsAGivenOne (view seat.old) }
-    ensures back { view seat.new ≡ settled (view seat.old) }
+    ensures { Settles seat.old seat.new }
 {
     jobs.learn_as::<Owning>(seat);
     let _ = jobs.another::<Settling>(seat);
@@ -149,13 +149,12 @@ fn pay<J: Job, R: Wait>(
     unreachable!()
 }
 
-// Says so often that no more jobs come.
+// Tells each helper that no more jobs come.
 fn say_over<J: Job, R: Wait>(rt: &R, jobs: &Jobs<J>, seat: &mut Seat<J>, helpers: usize)
     requires queue { IsPassOf jobs.now seat.old }
-    requires leads { ((view seat.old).leads ≡ true) × ((view seat.old).given ≡ []) × ((view seat.old).overs ≡ 0) }
+    requires back { HasAllBack (view seat.old) }
     requires room { helpers ≤ ruled_capacity jobs.now }
-    ensures queue { IsSamePass seat.old seat.new }
-    ensures said { view seat.new ≡ record (view seat.old) { overs = helpers } }
+    ensures { TellsAll helpers seat.old seat.new }
 {
     for _ in 0..helpers {
         match jobs.push_as::<Giving, R>(rt, seat, Item::Over) {
@@ -163,6 +162,33 @@ fn say_over<J: Job, R: Wait>(rt: &R, jobs: &Jobs<J>, seat: &mut Seat<J>, helpers
             Err(_) => unreachable!(),
         }
     }
+}
+
+// A helper and `more` others, each in a thread of its own and the first in this one, until no more jobs come.
+fn stay_with<J: Job, R: Threads + Wait + Sync>(
+    rt: &R,
+    crew: &Crew<J>,
+    helper: &mut Helper<J>,
+    more: usize,
+)
+    requires crew { helper.old.crew ≡ crew.now.id }
+    requires owes { helper.old.paid ≡ helper.old.taken }
+{
+    if more == 0 {
+        crew.stay(rt, helper);
+        return;
+    }
+    let mut next = crew.another(helper);
+    let fewer = more - 1;
+    join(
+        rt,
+        move ||
+            requires { (helper.now.crew ≡ crew.now.id) × (helper.now.paid ≡ helper.now.taken) }
+        { crew.stay(rt, helper) },
+        move ||
+            requires { IsSync R.row × (next.crew ≡ crew.now.id) × (next.paid ≡ next.taken) }
+        { stay_with(rt, crew, &mut next, fewer) },
+    );
 }
 
 impl<J: Job> Lead<J> {
@@ -413,5 +439,36 @@ impl<J: Job> Crew<J> {
                 return;
             }
         }
+    }
+
+    /// All helpers of the crew, each in a thread of its own and the first in this one, until no more jobs come. A thread that can't be
+    /// started leaves its work to the others.
+    pub fn stay_all<R: Threads + Wait + Sync>(&self, rt: &R, first: &mut Helper<J>)
+        requires crew { first.old.crew ≡ self.now.id }
+        requires owes { first.old.paid ≡ first.old.taken }
+        ensures crew { first.new.crew ≡ first.old.crew }
+        ensures owes { first.new.paid ≡ first.new.taken }
+    {
+        if self.helpers == 0 {
+            return;
+        }
+        if self.helpers == 1 {
+            self.stay(rt, first);
+            return;
+        }
+        let crew = self;
+        let mut next = crew.another(first);
+        let other = &mut next;
+        let more = self.helpers - 2;
+        join_mut(
+            rt,
+            &mut ||
+                requires { (first.now.crew ≡ crew.now.id) × (first.now.paid ≡ first.now.taken) }
+                ensures { (first.exit.now.crew ≡ first.entry.now.crew) × (first.exit.now.paid ≡ first.exit.now.taken) }
+            { crew.stay(rt, first) },
+            &mut ||
+                requires { IsSync R.row × (other.now.crew ≡ crew.now.id) × (other.now.paid ≡ other.now.taken) }
+            { stay_with(rt, crew, other, more) },
+        );
     }
 }

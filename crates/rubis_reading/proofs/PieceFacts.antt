@@ -151,24 +151,23 @@ items_put sites window before after x number text ps qs result given worked (inr
       ap passed there ∙ passed_put ps k p result,
     )
 
-pub of_put : (text : List ℕ) (old mid new : Pieces) (back : Back (Result (Vec Stretch) OutOfMemory)) (job : Reading) → AreOf text old
-    → IsBack old.lead (record { number = back.number; job = job }) mid.lead
+pub of_put : (text : List ℕ) (old new : Pieces) (back : Back (Result (Vec Stretch) OutOfMemory)) (job : Reading) → AreOf text old
+    → IsBack old.lead (record { number = back.number; job = job }) new.lead
     → IfOk back.result (λ list. AreRead job.sites job.window job.text.items list.items)
-    → mid.given.items ≡ old.given.items → mid.first ≡ old.first → mid.from ≡ old.from → mid.sites ≡ old.sites → mid.window ≡ old.window
-    → IsPut mid back new → AreOf text new
-of_put text old mid new back job h (before, after, was, now) worked items first from sites window (lead2, first2, from2, sites2, window2, puts) =
+    → new.first ≡ old.first → new.from ≡ old.from → new.sites ≡ old.sites → new.window ≡ old.window
+    → IsPut old.first old.given.items back new.given.items → AreOf text new
+of_put text old new back job h (before, after, was, now) worked first from sites window puts =
     let x : Given Reading = record { number = back.number; job = job } in
-    let given : AreGiven mid.sites mid.window (before ++ x ∷ after) mid.first text mid.given.items =
-    rw (sites, window, first, items, sym was) h.pieces in
-    let (all, long, far) = items_put mid.sites mid.window before after x mid.first text mid.given.items new.given.items back.result given worked puts in
-    let jobs : new.lead.given ≡ before ++ after = ap (λ (l : LeadState Reading). l.given) (lead2 ∙ now) in
-    let next : new.lead.next ≡ old.lead.next = ap (λ (l : LeadState Reading). l.next) (lead2 ∙ now) in
-    let size = ap length items in
+    let given : AreGiven old.sites old.window (before ++ x ∷ after) old.first text old.given.items =
+    subst (λ jobs. AreGiven old.sites old.window jobs old.first text old.given.items) was h.pieces in
+    let (all, long, far) = items_put old.sites old.window before after x old.first text old.given.items new.given.items back.result given worked puts in
+    let jobs : new.lead.given ≡ before ++ after = ap (λ (l : LeadState Reading). l.given) now in
+    let next : new.lead.next ≡ old.lead.next = ap (λ (l : LeadState Reading). l.next) now in
     record {
-      pieces = rw (sites2, window2, jobs, first2) all;
-      next = omega (arith, next, h.next, first2, first, long, size);
+      pieces = rw (sites, window, jobs, first) all;
+      next = omega (arith, next, h.next, first, long);
       fits = omega (arith, next, h.fits);
-      from = from2 ∙ from ∙ h.from ∙ sym (ap passed items) ∙ sym far;
+      from = from ∙ h.from ∙ sym far;
     }
 
 -- ---- the first piece

@@ -6,3 +6,4 @@ pub mod Inputs
 pub mod Steps
 pub mod Runs
 pub mod Readings
+pub mod Feeding

@@ -5,7 +5,7 @@ use Rattle.rubis_engine.specs.Text.{input_records}
 use Rattle.rubis_engine.specs.declared.fault.OutOfMemory.{OutOfMemory}
 use Rattle.rubis_crew.specs.declared.job.Back.{Back}
 use Rattle.rubis_crew.specs.declared.job.Given.{Given}
-use Rattle.rubis_crew.specs.States.{CrewId}
+use Rattle.rubis_crew.specs.States.{CrewId, LeadState}
 use Rattle.rubis_reading.specs.Chunked.{IsChunk}
 use Rattle.rubis_reading.specs.Inputs.{AreInputs}
 use Rattle.rubis_reading.specs.Runs.{FitWindow, flat}
@@ -52,30 +52,25 @@ pub record AreOf (text : List ℕ) (p : Pieces) : Type 0 where
   pub fits : p.lead.next < 18446744073709551616
   pub from : p.from ≡ passed p.given.items
 
--- they are given to that crew, and may be read by it
-abbrev pub AreFor : CrewId → Pieces → Type 0
-AreFor crew p = (p.lead.crew ≡ crew) × (p.sites ≤ 16)
-
--- their records are read so
-abbrev pub AreReadFor : ℕ → ℕ → Pieces → Type 0
-AreReadFor sites window p = (p.sites ≡ sites) × (p.window ≡ window)
+-- they are given to that crew, and their records are read so
+abbrev pub AreFor : CrewId → ℕ → ℕ → Pieces → Type 0
+AreFor crew sites window p = (p.lead.crew ≡ crew) × (p.sites ≡ sites) × (p.window ≡ window)
 
 -- they are given to the same crew, and read alike
 abbrev pub KeepFor : Pieces → Pieces → Type 0
-KeepFor old new = (new.lead.crew ≡ old.lead.crew) × (new.sites ≡ old.sites) × (new.window ≡ old.window)
+KeepFor old new = AreFor old.lead.crew old.sites old.window new
 
--- all are back, and no more come
-abbrev pub AreOver : Pieces → Type 0
-AreOver p = (p.lead.ended ≡ true) × (p.lead.given ≡ [])
+-- the lead of that crew has all back, and said that no more come
+abbrev pub IsOver : CrewId → LeadState Reading → Type 0
+IsOver crew l = (l.crew ≡ crew) × (l.ended ≡ true) × (l.given ≡ [])
 
 -- the first piece was taken off, with its records, or there is none
 abbrev pub TakesFirst : List ℕ → Option ReadPiece → Pieces → Type 0
 TakesFirst text None s = (other : List ℕ) → AreOf other s
 TakesFirst text (Some p) s = IsChunk p.many text × AreRead s.sites s.window (take p.many text) p.list.items × AreOf (drop (p.many - 1) text) s
 
--- a result is with its piece, if that is waited for
-abbrev pub IsPut : Pieces → Back (Result (Vec Stretch) OutOfMemory) → Pieces → Type 0
-IsPut old back new =
-    (new.lead ≡ old.lead) × (new.first ≡ old.first) × (new.from ≡ old.from) × (new.sites ≡ old.sites) × (new.window ≡ old.window)
-    × ((new.given.items ≡ old.given.items) ⊎ ((k : ℕ) × (p : Piece) × (old.first + k ≡ back.number) × (k < length old.given.items)
-    × (p ≡ slice_index_or old.given.items k p) × (new.given.items ≡ slice_set old.given.items k (record { many = p.many; read = Some back.result }))))
+-- a result is with its piece, the first of which has that number, if that is waited for
+abbrev pub IsPut : ℕ → List Piece → Back (Result (Vec Stretch) OutOfMemory) → List Piece → Type 0
+IsPut first old back new =
+    (new ≡ old) ⊎ ((k : ℕ) × (p : Piece) × (first + k ≡ back.number) × (k < length old)
+    × (p ≡ slice_index_or old k p) × (new ≡ slice_set old k (record { many = p.many; read = Some back.result })))

@@ -1,15 +1,14 @@
 //! Pieces of a text that are given to a crew, and what it reads in them, in order.
 
 ghost use Rattle.std.specs.Prelude.{◌≡◌, ◌≤◌, ◌<◌, ℕ, List, IfOk};
-ghost use Rattle.rubis_crew.specs.States.{new_lead};
+ghost use Rattle.rubis_crew.specs.States.{new_helper, new_lead};
 ghost use Rattle.rubis_reading.specs.Chunked.{IsChunk};
-ghost use Rattle.rubis_reading.specs.Readings.{AreFor, AreOf, AreOver, AreReadFor, IsPut, KeepFor, TakesFirst};
 
 use crate::cuts::whole_end;
 use crate::readings::Reading;
 use crate::stretches::Stretch;
 use crate::worth::Worth;
-use rubis_crew::{Back, Crew, Lead};
+use rubis_crew::{Back, Crew, Helper, Lead};
 use rubis_engine::OutOfMemory;
 use std::alloc::Global;
 use std::collections::VecDeque;
@@ -35,9 +34,9 @@ pub struct ReadPiece {
     pub list: Vec<Stretch>,
 }
 
-/// The pieces of a text that were given, in order, and the permission to give more.
-#[derive(Drop)]
-pub struct Pieces {
+/// The pieces of a text that were given to a crew, in order, and the permission to give more.
+pub struct Pieces<'a> {
+    crew: &'a Crew<Reading>,
     lead: Lead<Reading>,
     given: VecDeque<Piece>,
     // The number of the first of them.
@@ -47,6 +46,8 @@ pub struct Pieces {
     sites: u8,
     window: usize,
     worth: Worth,
+    ghost same: { lead.crew ≡ crew.now.id },
+    ghost few: { sites ≤ 16 },
 }
 
 // How many of the first bytes are whole records: as many as lie within `most` bytes, if a record ends there.
@@ -57,15 +58,24 @@ fn first_records(text: &[u8], most: usize) -> usize
     if front > 1 { front } else { whole_end(text) }
 }
 
-impl Pieces {
-    /// None yet.
-    pub fn new(alloc: Global, lead: Lead<Reading>, sites: u8, window: usize) -> Pieces
-        requires fresh { lead ≡ new_lead lead.crew }
+impl<'a> Pieces<'a> {
+    ghost use Rattle.rubis_reading.specs.Readings.{AreFor, AreOf, IsOver, IsPut, KeepFor, TakesFirst};
+
+    /// None yet, of a crew to which nothing was given.
+    pub fn new(
+        alloc: Global,
+        crew: &'a Crew<Reading>,
+        lead: Lead<Reading>,
+        sites: u8,
+        window: usize,
+    ) -> Pieces<'a>
+        requires fresh { lead ≡ new_lead crew.now.id }
         requires few { sites ≤ 16 }
         ensures none { (text : List ℕ) → AreOf text result }
-        ensures setup { AreFor lead.crew result × AreReadFor sites window result }
+        ensures setup { AreFor crew.now.id sites window result }
     {
         Pieces {
+            crew,
             lead,
             given: VecDeque::new(alloc),
             first: 0,
@@ -76,16 +86,26 @@ impl Pieces {
         }
     }
 
+    /// The crew to which they are given.
+    pub fn crew(&self) -> &'a Crew<Reading>
+        ensures { result.now.id ≡ self.now.lead.crew }
+    {
+        self.crew
+    }
+
+    /// What the first helper needs.
+    pub fn helper(&mut self) -> Helper<Reading>
+        ensures helper { result ≡ new_helper self.old.lead.crew }
+        ensures setup { KeepFor self.old self.new }
+        ensures pieces { (text : List ℕ) → AreOf text self.old → AreOf text self.new }
+    {
+        self.crew.helper(&mut self.lead)
+    }
+
     // Gives the next piece of a text, if a record ends in what is left of it and there is room.
-    fn give<T: Wait>(
-        &mut self,
-        rt: &T,
-        crew: &Crew<Reading>,
-        text: &[u8],
-    ) -> Result<bool, OutOfMemory>
-        requires crew { AreFor crew.now.id self.old }
-        requires pieces { AreOf text.now self.old }
-        ensures crew { KeepFor self.old self.new }
+    fn give<T: Wait>(&mut self, rt: &T, text: &[u8]) -> Result<bool, OutOfMemory>
+        requires { AreOf text.now self.old }
+        ensures setup { KeepFor self.old self.new }
         ensures pieces { AreOf text.now self.new }
     {
         let (_, rest) = text.split_at(self.from);
@@ -102,7 +122,7 @@ impl Pieces {
             sites: self.sites,
             window: self.window,
         };
-        let Ok(_) = crew.give(rt, &mut self.lead, reading) else {
+        let Ok(_) = self.crew.give(rt, &mut self.lead, reading) else {
             return Ok(false);
         };
         self.given.push_back_reserved(Piece { many, read: None });
@@ -111,39 +131,33 @@ impl Pieces {
     }
 
     /// Gives further pieces of a text, while there is room and records end in what is left of it, if helpers are worth it.
-    pub fn give_all<T: Wait>(
-        &mut self,
-        rt: &T,
-        crew: &Crew<Reading>,
-        text: &[u8],
-    ) -> Result<(), OutOfMemory>
-        requires crew { AreFor crew.now.id self.old }
-        requires pieces { AreOf text.now self.old }
-        ensures crew { KeepFor self.old self.new }
+    pub fn give_all<T: Wait>(&mut self, rt: &T, text: &[u8]) -> Result<(), OutOfMemory>
+        requires { AreOf text.now self.old }
+        ensures setup { KeepFor self.old self.new }
         ensures pieces { AreOf text.now self.new }
     {
         if !self.worth.feeds() {
             return Ok(());
         }
         for _ in rt.forever() {
-            if !self.give(rt, crew, text)? {
+            if !self.give(rt, text)? {
                 return Ok(());
             }
         }
         unreachable!()
     }
 
-    // Puts a result where its piece is.
-    fn put(&mut self, back: Back<Result<Vec<Stretch>, OutOfMemory>>)
-        ensures { IsPut self.old back self.new }
+    // Puts a result where its piece is, of those the first of which has that number.
+    fn put(given: &mut VecDeque<Piece>, first: u64, back: Back<Result<Vec<Stretch>, OutOfMemory>>)
+        ensures { IsPut first given.old.items back given.new.items }
     {
-        let Some(place) = back.number.checked_sub(self.first) else {
+        let Some(place) = back.number.checked_sub(first) else {
             return;
         };
         let place = place as usize;
-        if place < self.given.len() {
-            let many = self.given[place].many;
-            self.given[place] = Piece {
+        if place < given.len() {
+            let many = given[place].many;
+            given[place] = Piece {
                 many,
                 read: Some(back.result),
             };
@@ -151,34 +165,28 @@ impl Pieces {
     }
 
     // Takes a result back, or reads the first piece that no helper has taken, if there is one.
-    fn work<T: Wait>(&mut self, rt: &T, crew: &Crew<Reading>)
-        requires crew { AreFor crew.now.id self.old }
-        ensures crew { KeepFor self.old self.new }
+    fn work<T: Wait>(&mut self, rt: &T)
+        ensures setup { KeepFor self.old self.new }
         ensures pieces { (text : List ℕ) → AreOf text self.old → AreOf text self.new }
     {
-        if let Some(back) = crew.take_back(rt, &mut self.lead) {
+        if let Some(back) = self.crew.take_back(rt, &mut self.lead) {
             self.worth.count(false);
-            self.put(back);
+            Pieces::put(&mut self.given, self.first, back);
             return;
         }
-        match crew.work(rt, &mut self.lead) {
+        match self.crew.work(rt, &mut self.lead) {
             Some(back) => {
                 self.worth.count(true);
-                self.put(back);
+                Pieces::put(&mut self.given, self.first, back);
             }
             None => thread::yield_now(),
         }
     }
 
     /// What the records of the first piece are, once it is read. `None` where no piece is given.
-    pub fn next<T: Wait>(
-        &mut self,
-        rt: &T,
-        crew: &Crew<Reading>,
-    ) -> Result<Option<ReadPiece>, OutOfMemory>
-        requires crew { AreFor crew.now.id self.old }
-        requires pieces { (text : List ℕ) × AreOf text self.old }
-        ensures crew { KeepFor self.old self.new }
+    pub fn next<T: Wait>(&mut self, rt: &T) -> Result<Option<ReadPiece>, OutOfMemory>
+        requires { (text : List ℕ) × AreOf text self.old }
+        ensures setup { KeepFor self.old self.new }
         ensures first { IfOk result (λ piece. (text : List ℕ) → AreOf text self.old → TakesFirst text piece self.new) }
     {
         for _ in rt.forever() {
@@ -191,26 +199,25 @@ impl Pieces {
                 return Ok(Some(ReadPiece { many, list: list? }));
             }
             self.given.push_front_reserved(Piece { many, read: None });
-            self.work(rt, crew);
+            self.work(rt);
         }
         unreachable!()
     }
 
     /// Lets all go that is given, and tells the helpers that no more comes.
-    pub fn end<T: Wait>(&mut self, rt: &T, crew: &Crew<Reading>)
-        requires { AreFor crew.now.id self.old }
-        ensures { AreFor crew.now.id self.new × AreOver self.new }
+    pub fn end<T: Wait>(&mut self, rt: &T)
+        ensures { IsOver self.old.lead.crew self.new.lead }
     {
-        crew.drain(rt, &mut self.lead);
-        crew.end(rt, &mut self.lead);
+        self.crew.drain(rt, &mut self.lead);
+        self.crew.end(rt, &mut self.lead);
     }
 
-    /// Lets a crew go that was ended. Returns how many pieces were given: all of them are back.
-    pub fn close(self, crew: Crew<Reading>) -> u64
-        requires { AreFor crew.id self × AreOver self }
-        ensures { result ≡ self.lead.next }
+    /// Lets the pieces go, and gives the permission back.
+    pub fn into_lead(self) -> Lead<Reading>
+        ensures { result ≡ self.entry.lead }
     {
         let Pieces {
+            crew: _,
             lead,
             given: _,
             first: _,
@@ -219,6 +226,6 @@ impl Pieces {
             window: _,
             worth: _,
         } = self;
-        crew.close(lead)
+        lead
     }
 }

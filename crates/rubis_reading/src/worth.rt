@@ -1,5 +1,8 @@
 //! Whether helpers are worth their threads.
 
+ghost use Rattle.std.specs.Prelude.{◌≡◌, ◌<◌, ◌≤◌, ◌-◌, ◌==◌};
+ghost use Rattle.rubis_reading.specs.declared.worth.TheConstants.{ALONE_MAX, COUNTED};
+
 // Of how many pieces it is counted who read them.
 const COUNTED: u32 = 64;
 
@@ -16,11 +19,18 @@ pub struct Worth {
     // How many pieces are still to be read alone, and how many were when it last came to that.
     alone: u32,
     last: u32,
+    ghost few: { pieces < COUNTED },
+    ghost some: { mine ≤ pieces },
+    ghost most: { last ≤ ALONE_MAX },
 }
 
 impl Worth {
+    ghost use Rattle.rubis_reading.specs.Feeding.{Counts, HasCounted, ReadsAlone, alone_after};
+
     /// Nothing was read yet.
-    pub fn new() -> Worth {
+    pub fn new() -> Worth
+        ensures { Counts 0 0 result × ReadsAlone 0 0 result }
+    {
         Worth {
             pieces: 0,
             mine: 0,
@@ -30,7 +40,11 @@ impl Worth {
     }
 
     /// Whether the next piece is given to helpers.
-    pub fn feeds(&mut self) -> bool {
+    pub fn feeds(&mut self) -> bool
+        ensures fed { result ≡ (self.old.alone == 0) }
+        ensures counted { Counts self.old.pieces self.old.mine self.new }
+        ensures left { ReadsAlone (self.old.alone - 1) self.old.last self.new }
+    {
         if self.alone == 0 {
             return true;
         }
@@ -38,20 +52,35 @@ impl Worth {
         false
     }
 
+    // How many pieces are read alone, where the caller's thread read `mine` of those that were counted.
+    fn alone_after(&self, mine: u32) -> u32
+        ensures known { result ≡ alone_after mine self.now.last }
+        ensures most { result ≤ ALONE_MAX }
+    {
+        if mine > COUNTED / 8 * 7 {
+            (self.last * 2).max(ALONE_MIN).min(ALONE_MAX)
+        } else {
+            0
+        }
+    }
+
     /// A piece was read, by the caller's thread or by a helper. Where helpers read less than an eighth, they aren't fed for a while.
-    pub fn count(&mut self, mine: bool) {
-        self.pieces = self.pieces.saturating_add(1);
-        self.mine = self.mine.saturating_add(u32::from(mine));
-        if self.pieces < COUNTED {
+    pub fn count(&mut self, mine: bool)
+        ensures { HasCounted mine self.old self.new }
+    {
+        let pieces = self.pieces + 1;
+        let mine = self.mine + u32::from(mine);
+        if pieces < COUNTED {
+            self.pieces = pieces;
+            self.mine = mine;
             return;
         }
-        if self.mine > COUNTED / 8 * 7 {
-            self.last = self.last.saturating_mul(2).max(ALONE_MIN).min(ALONE_MAX);
-            self.alone = self.last;
-        } else {
-            self.last = 0;
-        }
-        self.pieces = 0;
-        self.mine = 0;
+        let alone = self.alone_after(mine);
+        *self = Worth {
+            pieces: 0,
+            mine: 0,
+            alone,
+            last: alone,
+        };
     }
 }

@@ -1,7 +1,8 @@
 //! One thread reads a piece of text and answers each record where it was read.
 
-ghost use Rattle.std.specs.Prelude.{◌≤◌, ◌<◌, ◌+◌, ◌^◌};
+ghost use Rattle.std.specs.Prelude.{◌≤◌, ◌<◌, ◌+◌, ◌^◌, List, ℕ};
 ghost use Rattle.rubis_engine.specs.Endings.{ByEnd};
+ghost use Rattle.rubis_engine.specs.Reading.{Gives};
 ghost use Rattle.rubis_script.specs.Runs.{LeavesRecord, OfEachPiece, OfEachYet, PieceEnds, TakesRecord};
 
 use crate::answering::settle;
@@ -41,10 +42,11 @@ fn answer_records<G: Gate, T: Threads + Wait + Sync, R: Read, W: Write>(
     writer: &mut W,
     limit: u64,
 ) -> Result<(), RunFault>
-    requires { desk.old.answered ≤ limit }
+    requires within { desk.old.answered ≤ limit }
+    requires known { (rows : List (List (List ℕ))) × Gives R.remaining piece.old rows }
     ensures { PieceEnds limit desk.old desk.new (OfEachYet R.remaining piece.old desk.old (W.contents writer.old)) (W.contents writer.new) result }
 {
-    'records: for _ in 0..u64::MAX {
+    'records: loop {
         let Ok(found) = piece.advance() else {
             return Err(RunFault::Memory);
         };
@@ -58,7 +60,6 @@ fn answer_records<G: Gate, T: Threads + Wait + Sync, R: Read, W: Write>(
         answer_record(rt, piece.fields(), desk, writer)?;
         desk.reply.sink.drain_full(writer)?;
     }
-    Err(RunFault::Memory)
 }
 
 /// Answers or holds the records of a text, unless that makes more than `limit` of them: the first `limit` are answered then.

@@ -1,12 +1,11 @@
 //! The records that answer a record.
 
-ghost use Rattle.std.specs.Prelude.{◌≡◌, ◌≤◌, ◌+◌, ◌∷◌, ◌++◌, [], ℕ, List, Ok, OnOk, codes, decimal, length, true};
+ghost use Rattle.std.specs.Prelude.{◌≡◌, ◌≤◌, ◌+◌, ◌∷◌, ◌++◌, [], ℕ, List, Ok, OnOk, codes, decimal};
 ghost use Rattle.rubis_message.specs.Grammar.{message_record};
 ghost use Rattle.rubis_message.specs.declared.answers.Arrival.TheVariants.{Released};
-ghost use Rattle.rubis_schema.specs.FieldList.{is_plain};
 ghost use Rattle.rubis_model.specs.Answers.{arrived_rows, asked_rows, listed_rows, passed_rows, refused_row, reply, send_row, took_rows};
 ghost use Rattle.rubis_script.specs.declared.replies.TheConstants.{REPLY_ROOM};
-ghost use Rattle.rubis_script.specs.Replies.{HasRows};
+ghost use Rattle.rubis_script.specs.Replies.{HasRows, IsWord};
 ghost use Rattle.rubis_engine.specs.Text.{rows_text};
 
 use rubis_engine::{Draft, PlainSink, Sink};
@@ -20,8 +19,7 @@ const REPLY_ROOM: usize = 36;
 // Puts the beginning of the reply to the record with that number first.
 #[inline(always)]
 fn put_reply(row: &mut PlainRow, number: u64, word: &[u8])
-    requires plain { is_plain word.now ≡ true }
-    requires short { length word.now ≤ 8 }
+    requires word { IsWord word.now }
     requires room { REPLY_ROOM ≤ row.old.left }
     ensures fields { row.new.fields ≡ reply number (word.now ∷ row.old.fields) }
     ensures left { row.old.left ≤ row.new.left + REPLY_ROOM }
@@ -108,8 +106,7 @@ fn write_word<S: PlainSink>(
     number: u64,
     word: &[u8],
 ) -> Result<(), AllocError>
-    requires plain { is_plain word.now ≡ true }
-    requires short { length word.now ≤ 8 }
+    requires { IsWord word.now }
     ensures { OnOk result (S.adds (reply number (word.now ∷ []) ∷ []) sink.old sink.new) }
 {
     row.clear();
@@ -126,8 +123,7 @@ pub(crate) fn write_number<S: PlainSink>(
     word: &[u8],
     value: u64,
 ) -> Result<(), AllocError>
-    requires plain { is_plain word.now ≡ true }
-    requires short { length word.now ≤ 8 }
+    requires { IsWord word.now }
     ensures { OnOk result (S.adds (reply number (word.now ∷ decimal value ∷ []) ∷ []) sink.old sink.new) }
 {
     row.clear();

@@ -8,6 +8,7 @@ ghost use Rattle.rubis_engine.specs.Endings.{ByEnd};
 use rubis_engine::{RunFault, Sink};
 use rubis_replica::ListingRows;
 use std::io::Write;
+use std::sync::Wait;
 use std::thread::Threads;
 
 /// Adds the rows of a listing that are left, and writes out what comes to much: at the end the last of the text waits in the sink.
@@ -15,7 +16,7 @@ use std::thread::Threads;
 /// # Errors
 ///
 /// `Write` where the writer failed, and `Memory` if memory ran out: the first of the text was written then.
-pub(crate) fn write_rows<T: Threads + Sync, W: Write>(
+pub(crate) fn write_rows<T: Threads + Wait + Sync, W: Write>(
     rt: &T,
     rows: &mut ListingRows<'_>,
     sink: &mut Sink,
@@ -25,12 +26,12 @@ pub(crate) fn write_rows<T: Threads + Sync, W: Write>(
         ByEnd result (λ _. WritesOff text sink.new (W.contents writer.old) (W.contents writer.new)) ⊥ ⊥
         (WritesFront text (W.contents writer.old) (W.contents writer.new)) }
 {
-    'parts: for _ in 0..u64::MAX {
+    for _ in rt.forever() {
         let more = rows.put_next(rt, sink)?;
         sink.drain_full(writer)?;
         if !more {
             return Ok(());
         }
     }
-    Err(RunFault::Memory)
+    unreachable!()
 }

@@ -188,12 +188,12 @@ fn serve<G: Gate, T: Threads + Wait + Sync, R: Read, W: Write>(
     requires within { desk.old.answered ≤ limit }
     ensures { RunEnds limit R.remaining chunks.old desk.old (W.contents writer.old) chunks.new desk.new (W.contents writer.new) result }
 {
-    'steps: for _ in 0..u64::MAX {
+    for _ in rt.forever() {
         if let Some(count) = turn(rt, chunks, desk, writer, usize::MAX, limit)? {
             return Ok(count);
         }
     }
-    Err(RunFault::Memory)
+    unreachable!()
 }
 
 /// Runs the desk of a site over chunks of text, as `run_desk` does over a reader. They are lent: where their reader failed, they have

@@ -9,7 +9,7 @@ use Rattle.rubis_script.proofs.StepFacts.{setup-on}
 use Rattle.rubis_script.proofs.alone.answer_records.Goals as goal
 
 pub records-init : goal.records-init
-records-init g c = record { within = c.requires; setup = (refl, refl); stands = λ first start records rest h. h }
+records-init g c = record { within = c.requires.within; known = c.requires.known; setup = (refl, refl); stands = λ first start records rest h. h }
 
 pub returns-in_default : goal.returns-in_default
 returns-in_default g c first start records rest h =
@@ -80,6 +80,9 @@ records-preserved g c =
     let now2 = g.W.Write.contents c.answer_record.new.writer in
     let took = subst (λ fields. TakesRecord fields d d2 now now2) c.fields.ensures c.in_ok-answer_record.ensures in record {
       within = omega (arith, took.count, c.if-desk-limit.false);
+      known =
+          (let (rows, gives) = i.known in
+          let (more, split, later) = takes rows gives in (more, later));
       setup = setup-on c.args.desk.now d d2 i.setup took.setup;
       stands = λ first start records rest h.
           let (more, gives, one) = yet-one g.R.Read.remaining c.records.piece c.advance.new.self d first start now records rest takes
@@ -92,6 +95,8 @@ records-preserved g c =
           };
     }
 
-pub returns : goal.returns
-returns g c first start records rest h =
-    yet-prefix _ _ c.records.desk first start _ _ records rest refl (c.records.invariant.stands first start records rest h)
+pub records-smaller : goal.records-smaller
+records-smaller g c =
+    let some : c.in-Ok.found ≡ true = search rules in
+    let (rows, gives) = c.records.invariant.known in
+    c.in-Ok.ensures.nearer some rows gives

@@ -6,17 +6,14 @@ use Rattle.rubis_reading.specs.Readings.{AreOf}
 use Rattle.rubis_script.proofs.ChunkFacts.{prefix-stays, waited}
 use Rattle.rubis_script.proofs.DrainFacts.{stands_broken}
 use Rattle.rubis_engine.proofs.EndFacts.{ends_memory, ends_on, ends_write}
-use Rattle.rubis_script.proofs.HelpFacts.{for-kept, kept-more, none-so, read-for, read-kept, takes-none, takes-one}
+use Rattle.rubis_script.proofs.HelpFacts.{held-on, if-on, kept-more, read-held, takes-none, takes-one}
 use Rattle.rubis_script.proofs.helped.helped_turn.Goals as goal
 
-pub give_all-requires-clause-pieces : goal.give_all-requires-clause-pieces
-give_all-requires-clause-pieces g c = subst (λ t. AreOf t c.args.pieces.now) (sym c.held.ensures) c.requires.pieces
+pub give_all-requires : goal.give_all-requires
+give_all-requires g c = subst (λ t. AreOf t c.args.pieces.now) (sym c.held.ensures) c.requires.held.pieces
 
-pub next-requires-clause-crew : goal.next-requires-clause-crew
-next-requires-clause-crew g c = for-kept c.args.crew.now.id c.args.pieces.now c.give_all.new.self c.requires.crew.0 c.give_all.ensures.crew
-
-pub next-requires-clause-pieces : goal.next-requires-clause-pieces
-next-requires-clause-pieces g c = (c.held.result.now, c.give_all.ensures.pieces)
+pub next-requires : goal.next-requires
+next-requires g c = (c.held.result.now, c.give_all.ensures.pieces)
 
 pub returns-in_err-give_all-clause-run : goal.returns-in_err-give_all-clause-run
 returns-in_err-give_all-clause-run g c =
@@ -28,11 +25,16 @@ returns-in_err-piece-clause-run g c =
     ends_memory _ _ _ c.from_residual-in_err-piece.result c.from_residual-in_err-piece.ensures
     (prefix-stays g.R.Read.remaining c.args.chunks.now c.args.desk.now [] _ _ refl)
 
-pub returns-in_default-clause-pieces : goal.returns-in_default-clause-pieces
-returns-in_default-clause-pieces g c =
+pub returns-in_default-clause-held : goal.returns-in_default-clause-held
+returns-in_default-clause-held g c =
     let text = held_text c.args.chunks.now in
     let given = subst (λ t. AreOf t c.give_all.new.self) c.held.ensures c.give_all.ensures.pieces in
-    none-so c.turn.result (takes-none text c.in_ok-piece.field-0 c.next.new.self (c.in_ok-piece.ensures.first text given) c.in_default.is _)
+    let kept = kept-more c.args.pieces.now c.give_all.new.self c.next.new.self c.give_all.ensures.setup c.in_ok-piece.ensures.setup in (
+      kept.0,
+      if-on c.args.limit g.R.Read.remaining _ _ c.args.desk.now c.turn.new.desk _ _ _ c.turn.result c.turn.ensures
+          (λ setup. held-on c.args.chunks.now c.turn.new.chunks c.args.desk.now c.turn.new.desk c.args.pieces.now c.next.new.self c.requires.held kept setup
+          (takes-none text c.in_ok-piece.field-0 c.next.new.self (c.in_ok-piece.ensures.first text given) c.in_default.is (held_text c.turn.new.chunks))),
+    )
 
 pub answer_read-requires-clause-chunk : goal.answer_read-requires-clause-chunk
 answer_read-requires-clause-chunk g c κs within =
@@ -45,9 +47,8 @@ answer_read-requires-clause-read g c κs within =
     let text = held_text c.args.chunks.now in
     let given = subst (λ t. AreOf t c.give_all.new.self) c.held.ensures c.give_all.ensures.pieces in
     let one = takes-one text c.in_ok-piece.field-0 c.in-Some.piece c.next.new.self (c.in_ok-piece.ensures.first text given) c.in-Some.is in
-    read-for c.args.desk.now.site.place.sites c.args.desk.now.plan.window c.next.new.self (take c.in-Some.piece.many text) c.in-Some.piece.list.items
-    (read-kept c.args.desk.now.site.place.sites c.args.desk.now.plan.window c.args.pieces.now c.next.new.self c.requires.crew.1
-    (kept-more c.args.pieces.now c.give_all.new.self c.next.new.self c.give_all.ensures.crew c.in_ok-piece.ensures.crew)) one.1
+    read-held c.args.chunks.now c.args.desk.now c.args.pieces.now c.next.new.self (take c.in-Some.piece.many text) c.in-Some.piece.list.items c.requires.held
+    (kept-more c.args.pieces.now c.give_all.new.self c.next.new.self c.give_all.ensures.setup c.in_ok-piece.ensures.setup) one.1
 
 pub returns-in_err-answer_read-clause-run : goal.returns-in_err-answer_read-clause-run
 returns-in_err-answer_read-clause-run g c =
@@ -75,9 +76,14 @@ returns-clause-run g c =
       setup,
     )
 
-pub returns-clause-pieces : goal.returns-clause-pieces
-returns-clause-pieces g c =
+pub returns-clause-held : goal.returns-clause-held
+returns-clause-held g c =
     let text = held_text c.args.chunks.now in
     let given = subst (λ t. AreOf t c.give_all.new.self) c.held.ensures c.give_all.ensures.pieces in
     let one = takes-one text c.in_ok-piece.field-0 c.in-Some.piece c.next.new.self (c.in_ok-piece.ensures.first text given) c.in-Some.is in
-    subst (λ t. AreOf t c.next.new.self) (sym c.in_ok-answer_read.ensures.held) one.2
+    let kept = kept-more c.args.pieces.now c.give_all.new.self c.next.new.self c.give_all.ensures.setup c.in_ok-piece.ensures.setup in
+    let (goes, few, setup) = c.in_ok-answer_read.ensures.run in (
+      kept.0,
+      held-on c.args.chunks.now c.answer_read.new.chunks c.args.desk.now _ c.args.pieces.now c.next.new.self c.requires.held kept setup
+          (subst (λ t. AreOf t c.next.new.self) (sym c.in_ok-answer_read.ensures.held) one.2),
+    )

@@ -1,4 +1,4 @@
-use Rattle.std.proofs.Common.{[], refl}
+use Rattle.std.proofs.Common.{◌∙◌, [], refl}
 use Rattle.rubis_reading.specs.Chunked.{held_text}
 use Rattle.rubis_script.proofs.ChunkFacts.{prefix-stays}
 use Rattle.rubis_engine.proofs.EndFacts.{ends_memory}
@@ -9,5 +9,11 @@ returns-in_err-crew g c =
     ends_memory _ _ _ c.from_residual.result c.from_residual.ensures
     (prefix-stays g.R.Read.remaining c.args.chunks.now c.args.desk.now [] _ _ refl)
 
-pub serve_helped-served-requires-clause-pieces : goal.serve_helped-served-requires-clause-pieces
-serve_helped-served-requires-clause-pieces g c κs within = (c.new-pieces.ensures.none (held_text c.args.chunks.now), c.requires.within)
+pub serve_helped-served-requires-clause-held : goal.serve_helped-served-requires-clause-held
+serve_helped-served-requires-clause-held g c κs within =
+    let (crew, sites, window) = c.new-pieces.ensures.setup in
+    record {
+      pieces = c.new-pieces.ensures.none (held_text c.args.chunks.now);
+      sites = sites ∙ c.sites.ensures.same;
+      window = window;
+    }

@@ -2,8 +2,10 @@ use Rattle.std.proofs.Common.{◌≤◌, []}
 use Rattle.rubis_script.specs.Runs.{HasReadAhead, OfEachAhead}
 use Rattle.rubis_script.proofs.run.serve.Given as goal
 
-abbrev pub invariant-steps : goal.invariant-steps
-invariant-steps g l = record {
+abbrev pub invariant-loop : goal.invariant-loop
+invariant-loop g l = record {
+  next : (goal.iterator-loop g).can_next l.iterator';
+  ends : (goal.iterator-loop g).is_finite l.iterator';
   within : l.desk.answered ≤ l.limit;
   stands : OfEachAhead g.R.Read.remaining l.fn.chunks l.fn.desk [] (g.W.Write.contents l.fn.writer)
       (λ first old input. HasReadAhead g.R.Read.remaining l.chunks l.desk [] first old (g.W.Write.contents l.writer) input);

@@ -39,6 +39,5 @@ invariant_of-lead g c =
     after_receiving (view c.lead.inside.seat) (view c.absorb.new.pass) x c.lead.invariant.pair.holds_none (view c.in-Some-Pay.payment.token)
     paid.held c.absorb.ensures.rule in
     still_leads c.lead.inside.next c.lead.inside.count c.lead.inside.ended c.lead.inside.seat c.absorb.new.pass c.settle.new.seat c.lead.inside.desk
-    c.pop_as.new.pass x c.lead.invariant c.absorb.ensures.queue came c.settle.ensures.given c.settle.ensures.queue
-    c.settle.ensures.back (c.in-Some-Pay.ensures.queue.2 ∙ c.lead.invariant.pair.desk_free)
+    c.pop_as.new.pass x c.lead.invariant c.absorb.ensures.queue came c.settle.ensures (c.in-Some-Pay.ensures.queue.2 ∙ c.lead.invariant.pair.desk_free)
     (ap (λ (v : ResultView g.row.J.Denot). v.of) told)

@@ -29,5 +29,4 @@ invariant_of-lead g c =
     let came =
     after_taking (view c.lead.inside.seat) (view c.pop_as.new.pass) x c.lead.invariant.pair.holds_none taken.1 in
     still_leads c.lead.inside.next c.lead.inside.count c.lead.inside.ended c.lead.inside.seat c.pop_as.new.pass c.settle.new.seat c.lead.inside.desk
-    c.lead.inside.desk x c.lead.invariant c.in-Some-Work.ensures.queue came c.settle.ensures.given c.settle.ensures.queue
-    c.settle.ensures.back c.lead.invariant.pair.desk_free refl
+    c.lead.inside.desk x c.lead.invariant c.in-Some-Work.ensures.queue came c.settle.ensures c.lead.invariant.pair.desk_free refl

@@ -9,7 +9,7 @@ use Rattle.rubis_reading.proofs.pieces.Pieces.give.Goals as goal
 
 pub split_at-requires : goal.split_at-requires
 split_at-requires g c =
-    let h = c.requires.pieces in
+    let h = c.requires in
     omega (arith, passed_within _ _ _ _ _ _ h.pieces, h.from)
 
 pub returns-clause-pieces : goal.returns-clause-pieces
@@ -21,7 +21,7 @@ returns-clause-pieces g c =
     c.in_ok-from_slice.ensures.items ∙ c.split_at-2.ensures.front ∙ ap (take many) rest in
     let lead = c.in-Ok.ensures.given.1 in
     let p : Piece = record { many = many; read = None } in
-    of_more c.args.text.now c.args.self.now _ _ many c.requires.pieces chunk (text, refl, refl)
+    of_more c.args.text.now c.args.self.now _ _ many c.requires chunk (text, refl, refl)
     (let (number, few, below) = c.in-Ok.ensures.number in omega (arith, number, few))
     (ap (λ (l : LeadState Reading). l.given) lead) (ap (λ (l : LeadState Reading). l.next) lead)
     (c.push_back_reserved.ensures.items ∙ ap (λ l. l ++ p ∷ []) c.in_ok-try_reserve.ensures.items) refl refl refl refl
