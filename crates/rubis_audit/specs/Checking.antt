@@ -1,6 +1,7 @@
 -- What is written of the records of an input.
-use Rattle.std.specs.Prelude.{◌≡◌, ℕ, ◌+◌, Bool, true, false, unwrap_or, List, [], ◌∷◌, ◌++◌, codes, decimal, drop, get_or, Option, Some, None}
+use Rattle.std.specs.Prelude.{◌≡◌, ◌<◌, ◌≤◌, ℕ, ◌+◌, Bool, true, false, unwrap_or, List, [], ◌∷◌, ◌++◌, codes, decimal, drop, get_or, Option, Some, None}
 use Rattle.std.specs.Io.KnownBytes.{Appends}
+use Rattle.rubis_schema.specs.declared.limits.TheConstants.{COUNTED_MAX, RECORDS_MAX}
 use Rattle.rubis_engine.specs.Reading.{HasToGive}
 use Rattle.rubis_engine.specs.Text.{rows_text}
 use Rattle.rubis_audit.specs.Readings.{is_event, is_site_record}
@@ -75,6 +76,12 @@ tally_from grammar sites place tally (fields ∷ more) =
 abbrev pub none_so_far : Tally
 none_so_far = record { records = 0; bad = 0 }
 
+-- a checker that can check one record more
+pub record CanCheckOneMore (c : Checker) : Type 0 where
+  pub few : c.sites ≤ COUNTED_MAX
+  pub room : c.tally.records < RECORDS_MAX
+  pub fewer : c.tally.bad ≤ c.tally.records
+
 -- what is known after one record more
 abbrev pub checker_after : Checker → List (List ℕ) → Checker
 checker_after c fields =
@@ -85,6 +92,16 @@ checker_after c fields =
 abbrev pub HasRowOf : Checker → List (List ℕ) → List ℕ → List ℕ → Type 0
 HasRowOf c fields before after =
     (lines : Lines) × (after ≡ before ++ rows_text (row_for c.sites (c.tally.records + 1) lines fields (fault_for c.grammar c.sites c.place fields)))
+
+-- the record that was read last was checked: it is counted, and its row is written, if there is one
+pub record ChecksRow {R : Type 0} (old new : Check R) : Type 0 where
+  pub checker : new.checker ≡ checker_after old.checker old.records.row
+  pub rows : HasRowOf old.checker old.records.row old.sink new.sink
+
+-- a record that was found is counted, and no more records are bad than there are
+pub record CountsNext (found : Bool) (old new : Tally) : Type 0 where
+  pub counted : found ≡ true → new.records ≡ old.records + 1
+  pub fewer : new.bad ≤ new.records
 
 -- a check of all these records stands there, with `old` in its writer before and `now` by now: whatever lines the records to come stand
 -- in, the rows of all records for some lines are what was written and what is still to be

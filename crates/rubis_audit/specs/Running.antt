@@ -4,6 +4,7 @@ use Rattle.rubis_schema.specs.declared.limits.TheConstants.{COUNTED_MAX}
 use Rattle.rubis_message.specs.Message.{Message, sites_of}
 use Rattle.rubis_message.specs.declared.answers.Verdict.{Verdict}
 use Rattle.rubis_message.specs.declared.answers.Verdict.TheVariants.{Agree, Found}
+use Rattle.rubis_model.specs.Audit.{AreFaultless}
 use Rattle.rubis_model.specs.AuditRecords.{audit_record, line_of, logs_after, with_line}
 use Rattle.rubis_model.specs.Lack.{lacked}
 use Rattle.rubis_model.specs.LackRecords.{lack_rows_read, made_at}
@@ -13,6 +14,7 @@ use Rattle.rubis_model.specs.Verdict.{verdict}
 use Rattle.rubis_engine.specs.Accounts.{Account, Ending}
 use Rattle.rubis_engine.specs.Accounts.Ending.{AtEnd, Cut}
 use Rattle.rubis_engine.specs.Text.{rows_text}
+use Rattle.rubis_audit.specs.Walks.{HaveMessagesAmong}
 use Rattle.rubis_audit.specs.declared.questions.LogQuestion.{LogQuestion}
 use Rattle.rubis_audit.specs.declared.questions.LogQuestion.TheVariants.{Agreement, Lacks}
 
@@ -41,6 +43,13 @@ pub record AreRead (sites : ℕ) (ended : List Log) (current : Option Log) : Typ
   pub few : sites ≤ COUNTED_MAX
   pub ended_among : (log : Log) → Has log ended → HasMessagesAmong sites log
   pub current_among : IsCurrentAmong sites current
+
+-- these logs of `sites` sites were audited, and that was found
+pub record AreAudited (sites : ℕ) (logs : List Log) (found : Verdict) : Type 0 where
+  pub few : sites ≤ COUNTED_MAX
+  pub among : HaveMessagesAmong sites logs
+  pub verdict_is : found ≡ verdict logs
+  pub faultless : found ≡ Agree → AreFaultless logs
 
 -- ---- what is made of records
 

@@ -9,12 +9,8 @@ ghost use Rattle.rubis_schema.specs.declared.limits.TheConstants.{COUNTED_MAX};
 ghost use Rattle.rubis_model.specs.AuditRecords.{with_line};
 ghost use Rattle.rubis_model.specs.AuditRecords.Line.{Begin, Claim, Next};
 ghost use Rattle.rubis_audit.specs.Lines.{IsAmongLine, line_as};
-ghost use Rattle.rubis_message.specs.declared.answers.Verdict.TheVariants.{Agree};
-ghost use Rattle.rubis_model.specs.Audit.{AreFaultless};
-ghost use Rattle.rubis_model.specs.Verdict.{verdict as verdict_of};
 ghost use Rattle.rubis_engine.specs.Text.{rows_text};
-ghost use Rattle.rubis_audit.specs.Walks.{HaveMessagesAmong};
-ghost use Rattle.rubis_audit.specs.Running.{HasFound, IsCurrentAmong, account_from, is_well, logs_so_far, rows_for};
+ghost use Rattle.rubis_audit.specs.Running.{AreAudited, HasFound, IsCurrentAmong, account_from, is_well, logs_so_far, rows_for};
 
 use crate::audits::audit_hashed;
 use crate::lacks::write_lacks;
@@ -119,10 +115,7 @@ fn write_answer(
     logs: &[Log],
     verdict: Verdict,
 ) -> Result<bool, AllocError>
-    requires few { sites ≤ COUNTED_MAX }
-    requires among { HaveMessagesAmong sites logs.now }
-    requires verdict { verdict ≡ verdict_of logs.now }
-    requires faultless { verdict ≡ Agree → AreFaultless logs.now }
+    requires { AreAudited sites logs.now verdict }
     ensures rows { OnOk result (sink.new ≡ sink.old ++ rows_text (rows_for asked (Ok (reverse logs.now)))) }
     ensures well { IfOk result (λ well. well ≡ is_well asked logs.now verdict) }
 {

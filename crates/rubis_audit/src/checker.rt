@@ -1,11 +1,11 @@
 //! The check of an input: a row for each record that is outside the grammar.
 
-ghost use Rattle.std.specs.Prelude.{◌≡◌, ◌≤◌, ◌<◌, ◌+◌, ◌∷◌, ◌++◌, ℕ, List, [], IfOk, IfSome, OnOk, Option, true, unwrap_or};
+ghost use Rattle.std.specs.Prelude.{◌≡◌, ◌≤◌, ◌∷◌, ◌++◌, ℕ, List, [], IfOk, IfSome, OnOk, Option, unwrap_or};
 ghost use Rattle.std.specs.Bool.{MatchBool};
-ghost use Rattle.rubis_schema.specs.declared.limits.TheConstants.{COUNTED_MAX, RECORDS_MAX};
+ghost use Rattle.rubis_schema.specs.declared.limits.TheConstants.{COUNTED_MAX};
 ghost use Rattle.rubis_engine.specs.Reading.{ReadsNext};
 ghost use Rattle.rubis_engine.specs.Text.{input_records, rows_text};
-ghost use Rattle.rubis_audit.specs.Checking.{HasChecked, HasCheckedAll, HasRowOf, IsChecked, OfEachCheck, bad_row, checked_row};
+ghost use Rattle.rubis_audit.specs.Checking.{CanCheckOneMore, ChecksRow, CountsNext, HasChecked, HasCheckedAll, IsChecked, OfEachCheck, bad_row, checked_row};
 ghost use Rattle.rubis_audit.specs.Checking.{checker_after, fault_for, none_so_far, recent};
 ghost use Rattle.rubis_audit.specs.RecordFaults.{fault};
 ghost use Rattle.rubis_audit.specs.declared.record_faults.Reason.TheVariants.{Other};
@@ -91,9 +91,7 @@ impl Checker {
         alloc: Global,
         fields: &F,
     ) -> Result<Option<RecordFault>, AllocError>
-        requires few { self.old.sites ≤ COUNTED_MAX }
-        requires room { self.old.tally.records < RECORDS_MAX }
-        requires fewer { self.old.tally.bad ≤ self.old.tally.records }
+        requires { CanCheckOneMore self.old }
         ensures fault { IfOk result (λ fault. fault ≡ fault_for self.old.grammar self.old.sites self.old.place (F.fields fields.now)) }
         ensures state { OnOk result (self.new ≡ checker_after self.old (F.fields fields.now)) }
         ensures sites { self.new.sites ≡ self.old.sites }
@@ -156,13 +154,10 @@ struct Check<R> {
 impl<R: Read> Check<R> {
     // Writes what is wrong with the record that was read last, if anything is.
     fn check_row(&mut self) -> Result<(), AllocError>
-        requires few { self.old.checker.sites ≤ COUNTED_MAX }
-        requires room { self.old.checker.tally.records < RECORDS_MAX }
-        requires fewer { self.old.checker.tally.bad ≤ self.old.checker.tally.records }
+        requires { CanCheckOneMore self.old.checker }
+        ensures checks { OnOk result (ChecksRow self.old self.new) }
         ensures records { self.new.records ≡ self.old.records }
-        ensures checker { OnOk result (self.new.checker ≡ checker_after self.old.checker self.old.records.row) }
         ensures sites { self.new.checker.sites ≡ self.old.checker.sites }
-        ensures rows { OnOk result (HasRowOf self.old.checker self.old.records.row self.old.sink self.new.sink) }
     {
         let row = self.records.row();
         let Some(fault) = self.checker.check(self.alloc, row)? else {
@@ -195,14 +190,11 @@ impl<R: Read> Check<R> {
 
     // Checks the next record, if there is one, and says whether there was.
     fn check_next<W: Write>(&mut self, writer: &mut W) -> Result<bool, RunFault>
-        requires few { self.old.checker.sites ≤ COUNTED_MAX }
-        requires room { self.old.checker.tally.records < RECORDS_MAX }
-        requires fewer { self.old.checker.tally.bad ≤ self.old.checker.tally.records }
+        requires { CanCheckOneMore self.old.checker }
         ensures goes { IfOk result (λ found. OfEachCheck R.remaining self.old (W.contents writer.old) (λ grammar sites old all. MatchBool found
             (HasChecked R.remaining grammar sites self.new old (W.contents writer.new) all)
             (HasCheckedAll grammar sites self.new.checker.tally self.new.sink old (W.contents writer.new) all))) }
-        ensures counted { IfOk result (λ found. found ≡ true → self.new.checker.tally.records ≡ self.old.checker.tally.records + 1) }
-        ensures fewer { OnOk result (self.new.checker.tally.bad ≤ self.new.checker.tally.records) }
+        ensures counted { IfOk result (λ found. CountsNext found self.old.checker.tally self.new.checker.tally) }
         ensures sites { self.new.checker.sites ≡ self.old.checker.sites }
     {
         if !self.advance(writer)? {

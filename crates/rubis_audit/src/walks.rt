@@ -1,17 +1,15 @@
 //! The walk over a log, entry by entry.
 
-ghost use Rattle.std.specs.Prelude.{◌≡◌, ◌<◌, ◌≤◌, [], List, Some, None, IfOk, OnOk, cond, length, option_copied, option_map, take};
+ghost use Rattle.std.specs.Prelude.{◌≡◌, ◌<◌, ◌≤◌, [], List, None, IfOk, OnOk, length, option_copied, option_map, take};
 ghost use Rattle.rubis_schema.specs.declared.limits.TheConstants.{COUNTED_MAX};
-ghost use Rattle.rubis_shadow.specs.Shadows.{is_red};
-ghost use Rattle.rubis_clock.specs.Clocks.{IsReady, advanced, opening_clock};
+ghost use Rattle.rubis_clock.specs.Clocks.{IsReady, opening_clock};
 ghost use Rattle.rubis_message.specs.Message as model;
 ghost use Rattle.rubis_message.specs.Message.{IsMessage, sites_of};
-ghost use Rattle.rubis_model.specs.Log.{core};
 ghost use Rattle.rubis_model.specs.Verdict.{first_of};
-ghost use Rattle.rubis_shard.specs.Holdings.{HoldsLog, TakesOn, union};
+ghost use Rattle.rubis_shard.specs.Holdings.{HoldsLog, union};
 ghost use Rattle.rubis_audit.specs.Past.{checks_by};
 ghost use Rattle.rubis_audit.specs.Seen.{Sees, id_in};
-ghost use Rattle.rubis_audit.specs.Walks.{HaveMessagesAmong, IsWalked, Walked};
+ghost use Rattle.rubis_audit.specs.Walks.{HaveMessagesAmong, IsWalked, TakesEntry, Walked};
 
 use crate::contents::{nick_taken, stock_short, wrong_reference, wrong_winner};
 use crate::logs::Log;
@@ -80,9 +78,7 @@ impl<'a> Past<'a> {
         requires origin { v.now.stamp.id.site < length self.old.clock.counts }
         requires ready { IsReady self.old.clock v.now.stamp }
         requires some { 0 < length self.old.tables }
-        ensures clock { OnOk result (self.new.clock ≡ advanced self.old.clock v.now.stamp) }
-        ensures last { OnOk result (option_copied self.new.last_red ≡ cond (is_red v.now.shadow) (Some v.now) (option_copied self.old.last_red)) }
-        ensures tables { OnOk result (TakesOn (core v.now) entry self.old.tables self.new.tables) }
+        ensures { OnOk result (TakesEntry v.now entry self.old self.new) }
     {
         self.tables.apply_message(&LogEntry::new(entry, v))?;
         v.count_in(&mut self.clock);

@@ -9,7 +9,7 @@ ghost use Rattle.rubis_model.specs.Logs as model;
 ghost use Rattle.rubis_model.specs.Order.{Released};
 ghost use Rattle.rubis_model.specs.Settle.{Has};
 ghost use Rattle.rubis_release.specs.Release.{AllAmong, clock_of};
-ghost use Rattle.rubis_audit.specs.Lacks.{IsMerged};
+ghost use Rattle.rubis_audit.specs.Lacks.{HavePassed, IsMerged};
 ghost use Rattle.rubis_audit.specs.Walks.{HaveMessagesAmong};
 
 use crate::logs::Log;
@@ -46,8 +46,7 @@ fn merge_log<'a>(
     merged: &mut Vec<&'a Message>,
 ) -> Result<(), AllocError>
     requires place { at < length logs.now }
-    requires among { HaveMessagesAmong sites logs.now }
-    requires faultless { AreFaultless logs.now }
+    requires passed { HavePassed sites logs.now }
     requires so_far { IsMerged sites logs.now at (map (λ m. m.now) merged.old.items) clock.old }
     ensures { OnOk result (IsMerged sites logs.now (at + 1) (map (λ m. m.now) merged.new.items) clock.new) }
 {

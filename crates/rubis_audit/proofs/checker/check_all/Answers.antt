@@ -4,6 +4,9 @@ use Rattle.rubis_engine.proofs.RunFacts.{if_ok_so}
 use Rattle.rubis_audit.specs.Checking.{HasChecked, HasCheckedAll, OfEachCheck}
 use Rattle.rubis_audit.proofs.checker.check_all.Goals as goal
 
+pub check_next-requires : goal.check_next-requires
+check_next-requires g c = record { few = c.steps.invariant.0; room = search rules; fewer = c.steps.invariant.2 }
+
 pub returns-then-not-branch : goal.returns-then-not-branch
 returns-then-not-branch g c =
     let rem = g.R.Read.remaining in

@@ -30,7 +30,7 @@ pub is_new-requires : goal.is_new-requires
 is_new-requires c =
     let inv = c.loop-shared.invariant c.index-logs-at.result c.index-logs-at.is in
     counts_same c.args.sites c.args.logs.now c.args.at c.index-logs-at.result c.loop-shared.shared-index c.deref-message.result.now _ c.loop-shared.clock
-    c.requires.among c.requires.place
+    c.requires.passed.among c.requires.place
     c.index-logs-at.is (subst (λ xs. c.loop-shared.shared-index < length xs) inv.0 c.loop-shared-test.true)
     (entry_is _ c.index-logs-at.result.messages c.loop-shared.shared-index c.shared-item.result c.deref-message.result.now inv.0 c.shared-item.is
     c.deref-message.ensures) inv.1
@@ -39,14 +39,14 @@ pub count_in-requires-clause-origin : goal.count_in-requires-clause-origin
 count_in-requires-clause-origin c =
     let p = (goal.at.count_in-requires-clause-origin c).After-is_new in
     origin_within c.args.sites c.args.logs.now c.args.at c.index-logs-at.result c.loop-shared.shared-index c.deref-message.result.now _ c.loop-shared.clock
-    c.requires.faultless c.requires.among
+    c.requires.passed.faultless c.requires.passed.among
     c.requires.place c.index-logs-at.is (within p) (entry p) c.is_new.ensures.conditions (merges p)
 
 pub count_in-requires-clause-ready : goal.count_in-requires-clause-ready
 count_in-requires-clause-ready c =
     let p = (goal.at.count_in-requires-clause-ready c).After-is_new in
     is_ready c.args.sites c.args.logs.now c.args.at c.index-logs-at.result c.loop-shared.shared-index c.deref-message.result.now _ c.loop-shared.clock
-    c.requires.faultless c.requires.among
+    c.requires.passed.faultless c.requires.passed.among
     c.requires.place c.index-logs-at.is (within p) (entry p) c.is_new.ensures.conditions (merges p) (sym c.if-is_new.true ∙ c.is_new.ensures.new)
 
 pub loop-shared-preserved : goal.loop-shared-preserved
@@ -63,13 +63,13 @@ loop-shared-preserved c log e =
         | then-is_new+in_ok-put_last w ↦
             subst (λ q. Merges c.args.sites c.args.logs.now c.args.at log (n + 1) (map (λ m. m.now) q.items) c.if-is_new.clock) (sym w.merged-is)
             (subst (λ q. Merges c.args.sites c.args.logs.now c.args.at log (n + 1) q c.if-is_new.clock) (sym w.in_ok-put_last.ensures)
-            (merges_take c.args.sites c.args.logs.now c.args.at log n v messages clock c.requires.faultless c.requires.among c.requires.place e k i
+            (merges_take c.args.sites c.args.logs.now c.args.at log n v messages clock c.requires.passed.faultless c.requires.passed.among c.requires.place e k i
             c.is_new.ensures.conditions inv.1 (sym w.if-is_new.true ∙ c.is_new.ensures.new) c.if-is_new.clock
             (w.clock-is ∙ w.count_in.ensures)))
         | else-is_new w ↦
             subst (λ q. Merges c.args.sites c.args.logs.now c.args.at log (n + 1) (map (λ m. m.now) q.items) c.if-is_new.clock) (sym w.merged-is)
             (subst (λ q. Merges c.args.sites c.args.logs.now c.args.at log (n + 1) messages q) (sym w.clock-is)
-            (merges_skip c.args.sites c.args.logs.now c.args.at log n v messages clock c.requires.faultless c.requires.among c.requires.place e k i
+            (merges_skip c.args.sites c.args.logs.now c.args.at log n v messages clock c.requires.passed.faultless c.requires.passed.among c.requires.place e k i
             c.is_new.ensures.conditions inv.1 (sym w.if-is_new.false ∙ c.is_new.ensures.new)))
       ],
     )

@@ -1,4 +1,4 @@
-use Rattle.std.proofs.Common.{◌∙◌}
+use Rattle.std.proofs.Common.{◌∙◌, rules}
 use Rattle.rubis_audit.proofs.Collecting.{all_ended, read_among}
 use Rattle.rubis_audit.proofs.auditor.AuditorService.answer_end.Goals as goal
 
@@ -12,10 +12,15 @@ audit_hashed-requires-clause-among g c =
     read_among c.self.inside.sites c.self.inside.ended.items c.deref.result.now c.self.inside.current c.self.invariant
     (c.deref.ensures.value ∙ rw c.take-current.ensures.value at c.in_ok-end_log.ensures.ok)
 
-pub write_answer-requires-clause-among : goal.write_answer-requires-clause-among
-write_answer-requires-clause-among g c =
-    read_among c.self.inside.sites c.self.inside.ended.items c.deref-2.result.now c.self.inside.current c.self.invariant
-    (c.deref-2.ensures.value ∙ rw c.take-current.ensures.value at c.in_ok-end_log.ensures.ok)
+pub write_answer-requires : goal.write_answer-requires
+write_answer-requires g c = record {
+  few = search rules;
+  among =
+      read_among c.self.inside.sites c.self.inside.ended.items c.deref-2.result.now c.self.inside.current c.self.invariant
+      (c.deref-2.ensures.value ∙ rw c.take-current.ensures.value at c.in_ok-end_log.ensures.ok);
+  verdict_is = search rules;
+  faultless = search rules;
+}
 
 pub invariant_of-self-in_err-verdict : goal.invariant_of-self-in_err-verdict
 invariant_of-self-in_err-verdict g c =

@@ -31,7 +31,7 @@ returns-else-is_full-clause-goes g c =
     λ grammar sites old all h.
     subst (λ w. HasChecked rem grammar sites last old (g.W.Write.contents w) all) (sym kept.1)
     (one_more rem grammar sites was new last old (g.W.Write.contents c.args.writer.now) all h takes c.in_ok-advance.ensures.checker kept.0 row.records
-    row.checker row.rows)
+    row.checks.checker row.checks.rows)
 
 pub returns-in_ok-drain-clause-goes : goal.returns-in_ok-drain-clause-goes
 returns-in_ok-drain-clause-goes g c =
@@ -48,5 +48,5 @@ returns-in_ok-drain-clause-goes g c =
     drained rem grammar sites last _ old (g.W.Write.contents c.advance.new.writer) all
     (subst (λ w. HasChecked rem grammar sites last old (g.W.Write.contents w) all) (sym kept.1)
     (one_more rem grammar sites was new last old (g.W.Write.contents c.args.writer.now) all h takes c.in_ok-advance.ensures.checker kept.0 row.records
-    row.checker row.rows))
+    row.checks.checker row.checks.rows))
     (g.W.Write.contents c.drain.new.writer) c.in_ok-drain.ensures.ok refl refl c.in_ok-drain.ensures.empty
