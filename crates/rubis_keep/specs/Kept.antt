@@ -48,7 +48,7 @@ left_of unread input = prepend_known unread input
 abbrev pub Puts : Option (List ℕ) → Option (List ℕ) → Option (List ℕ) → Option (List ℕ) → List ℕ → Type 0
 Puts before before2 out out2 text = (n : ℕ) × Found before before2 text n × Appends out out2 (drop n text)
 
--- nothing was appended, or a front of the text was put
+-- nothing was appended, or a prefix of the text was put
 abbrev pub PutsFront : Option (List ℕ) → Option (List ℕ) → Option (List ℕ) → Option (List ℕ) → List ℕ → Type 0
 PutsFront before before2 out out2 text = Keeps out out2 ⊎ ((k : ℕ) × (k ≤ length text) × Puts before before2 out out2 (take k text))
 
@@ -116,7 +116,7 @@ abbrev pub Finished : Account → Account → List ℕ → Option (List ℕ) →
 Finished old new sink before before2 out out2 =
     (held : List ℕ) × TextStays old new sink held × Puts before before2 out out2 held
 
--- or a front of it
+-- or a prefix of it
 abbrev pub FinishedFront : Account → Account → List ℕ → Option (List ℕ) → Option (List ℕ) → Option (List ℕ) → Option (List ℕ) → Type 0
 FinishedFront old new sink before before2 out out2 =
     Keeps out out2 ⊎ ((held : List ℕ) × TextStays old new sink held × PutsFront before before2 out out2 held)

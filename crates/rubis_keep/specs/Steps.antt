@@ -25,7 +25,7 @@ pub record IsIdle (held : List Message) (sink : List ℕ) : Type 0 where
   pub window : held ≡ []
   pub empty : sink ≡ []
 
--- the messages that a clerk holds are taken in, and the answers are put; at a fault a front of them
+-- the messages that a clerk holds are taken in, and the answers are put; at a fault only a prefix of them is
 pub record Finishes {T E O F G : Type 0} (before : O → Option (List ℕ)) (history : F → Option History) (old new : Clerk G) (answers answers2 : Answers O F)
     (r : Result T E) : Type 0 where
   pub ok : OnOk r (Finished (left_at old.desk) (told_by new.desk.site (old.desk.answered + 1)) old.desk.reply.sink

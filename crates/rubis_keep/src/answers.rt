@@ -12,6 +12,7 @@ use rubis_engine::Sink;
 use std::alloc::Global;
 use std::io;
 use std::io::{ErrorKind, Read};
+use std::sync::Wait;
 
 /// Where answers go: those of before, with which they are compared as far as these go, and the files that they are appended to.
 #[derive(Drop)]
@@ -73,23 +74,29 @@ fn tell_once<F: SiteFiles>(files: &mut F, is_live: bool, text: &[u8]) -> Result<
     Ok(taken)
 }
 
-// Appends a text to `out`, and shows it if answers are shown.
-fn tell_all<F: SiteFiles>(files: &mut F, is_live: bool, text: &[u8]) -> Result<(), KeepFault>
+// Appends a text to `out`, and shows it if answers are shown. What a signal interrupted is written again, however often that happens.
+fn tell_all<T: Wait, F: SiteFiles>(
+    rt: &T,
+    files: &mut F,
+    is_live: bool,
+    text: &[u8],
+) -> Result<(), KeepFault>
     ensures { MatchResult result (λ _. Tells is_live (F.history files.old) (F.history files.new) text.now [])
         (λ _. TellsFront is_live (F.history files.old) (F.history files.new) text.now) }
 {
     let mut at = 0;
-    for _turn in 0..u64::MAX {
+    for _turn in rt.forever() {
         if at >= text.len() {
             return Ok(());
         }
         at += tell_once(files, is_live, &text[at..])?;
     }
-    Err(KeepFault::WriteOut(io::Error::from(ErrorKind::Interrupted)))
+    unreachable!()
 }
 
 // Finds a text in what stands there before, as far as that goes, and appends the rest. That many whole lines come before the text.
-fn put<O: Read, F: SiteFiles>(
+fn put<T: Wait, O: Read, F: SiteFiles>(
+    rt: &T,
     alloc: Global,
     before: &mut O,
     files: &mut F,
@@ -104,12 +111,12 @@ fn put<O: Read, F: SiteFiles>(
 {
     let found = compare(alloc, before, text, *lines)?;
     *lines = lines.saturating_add(ends_in(&text[..found]));
-    tell_all(files, is_live, &text[found..])
+    tell_all(rt, files, is_live, &text[found..])
 }
 
 impl<O: Read, F: SiteFiles> Answers<O, F> {
     /// Puts the text of a sink, which is empty then.
-    pub(crate) fn put_sink(&mut self, sink: &mut Sink) -> Result<(), KeepFault>
+    pub(crate) fn put_sink<T: Wait>(&mut self, rt: &T, sink: &mut Sink) -> Result<(), KeepFault>
         ensures ok { OnOk result (Puts (O.remaining self.old.before) (O.remaining self.new.before) (out_in (F.history self.old.files))
             (out_in (F.history self.new.files)) sink.old) }
         ensures sink { sink.new ≡ [] }
@@ -127,7 +134,7 @@ impl<O: Read, F: SiteFiles> Answers<O, F> {
         } = self;
         text.clear();
         match sink.drain(text) {
-            Ok(()) => put(*alloc, before, files, *is_live, text, lines),
+            Ok(()) => put(rt, *alloc, before, files, *is_live, text, lines),
             Err(_) => Err(KeepFault::Memory),
         }
     }

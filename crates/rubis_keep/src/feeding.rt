@@ -52,7 +52,7 @@ fn finish<G: Gate, T: Threads + Wait + Sync, O: Read, F: SiteFiles>(
     ensures { Finishes O.remaining F.history clerk.old clerk.new answers.old answers.new result }
 {
     clerk.desk.flush(rt)?;
-    answers.put_sink(&mut clerk.desk.reply.sink)
+    answers.put_sink(rt, &mut clerk.desk.reply.sink)
 }
 
 // Ends a run that has answered as many records as it takes, unless there are no more.
@@ -100,7 +100,7 @@ fn feed_records<G: Gate, T: Threads + Wait + Sync, R: Read, O: Read, F: SiteFile
             return Ok(());
         }
         if clerk.desk.reply.sink.is_full() {
-            answers.put_sink(&mut clerk.desk.reply.sink)?;
+            answers.put_sink(rt, &mut clerk.desk.reply.sink)?;
         }
     }
     stop(rt, records, clerk, answers)

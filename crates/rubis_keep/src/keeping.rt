@@ -14,6 +14,7 @@ use crate::unread::Unread;
 use std::alloc::{AllocError, Global};
 use std::io;
 use std::io::{ErrorKind, Read};
+use std::sync::Wait;
 
 /// The lines of an input that are kept: the line that is begun, and those that came last.
 #[derive(Drop)]
@@ -55,7 +56,8 @@ pub(crate) struct Came {
 }
 
 // Keeps these lines, and returns once they are as safe as they are to be. A run that answers what was kept before keeps none.
-pub(crate) fn keep_chunk<F: SiteFiles>(
+pub(crate) fn keep_chunk<T: Wait, F: SiteFiles>(
+    rt: &T,
     files: &mut F,
     keeps: bool,
     chunk: &[u8],
@@ -65,18 +67,18 @@ pub(crate) fn keep_chunk<F: SiteFiles>(
     if !keeps || chunk.is_empty() {
         return Ok(());
     }
-    match keep_lines(files, chunk) {
+    match keep_lines(rt, files, chunk) {
         Ok(()) => Ok(()),
         Err(e) => Err(KeepFault::WriteKept(e)),
     }
 }
 
-// Keeps these lines, and flushes them.
-fn keep_lines<F: SiteFiles>(files: &mut F, chunk: &[u8]) -> io::Result<()>
+// Keeps these lines, and flushes them. What a signal interrupted is written again, however often that happens.
+fn keep_lines<T: Wait, F: SiteFiles>(rt: &T, files: &mut F, chunk: &[u8]) -> io::Result<()>
     ensures { HasKept true (F.history files.old) (F.history files.new) result chunk.now }
 {
     let mut at = 0;
-    for _turn in 0..u64::MAX {
+    for _turn in rt.forever() {
         if at >= chunk.len() {
             return files.flush_kept();
         }
@@ -90,7 +92,7 @@ fn keep_lines<F: SiteFiles>(files: &mut F, chunk: &[u8]) -> io::Result<()>
             }
         }
     }
-    Err(io::Error::from(ErrorKind::Interrupted))
+    unreachable!()
 }
 
 /// Takes what comes next of an input, up to the end of its first question if it asks questions. `chunk` has then what is kept of

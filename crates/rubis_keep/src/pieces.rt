@@ -37,7 +37,7 @@ fn next_lines<G: Gate, T: Threads + Wait + Sync, R: Read, O: Read, F: SiteFiles>
     ensures question { IfOk result (λ came. came.is_asked ≡ true → keeps ≡ true) }
 {
     let came = read_next(live, lines, keeps)?;
-    keep_chunk(&mut answers.files, keeps, &lines.chunk)?;
+    keep_chunk(rt, &mut answers.files, keeps, &lines.chunk)?;
     let Some(len) = lines.kept.checked_add(lines.chunk.len() as u64) else {
         return Err(KeepFault::TooLong);
     };

@@ -137,7 +137,7 @@ fn take_line<G: Gate, T: Threads + Wait + Sync>(
 {
     let mut records = Records::new(alloc, line);
     let mut changed = false;
-    for _turn in 0..u64::MAX {
+    'turns: loop {
         if !records.advance()? {
             return Ok(changed);
         }
@@ -145,7 +145,6 @@ fn take_line<G: Gate, T: Threads + Wait + Sync>(
             changed = true;
         }
     }
-    Err(KeepFault::TooLong)
 }
 
 // Adds a byte to a line.

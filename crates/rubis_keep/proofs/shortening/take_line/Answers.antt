@@ -1,29 +1,34 @@
 use Rattle.std.proofs.Common.{false, true}
 use Rattle.rubis_engine.proofs.RunFacts.{takes-at}
-use Rattle.rubis_keep.proofs.shortening.take_line.Goals.{then-branch, else-branch}
 use Rattle.rubis_keep.proofs.ShortenFacts.{line-ends, line-more, line-starts}
 use Rattle.rubis_keep.proofs.shortening.take_line.Goals as goal
 
-pub loop-turn-init : goal.loop-turn-init
-loop-turn-init g c = line-starts _ _ _ _ c.new-records.ensures
+pub turns-init : goal.turns-init
+turns-init g c = line-starts _ _ _ _ c.new-records.ensures
 
 pub returns-then-not-branch-clause-takes : goal.returns-then-not-branch-clause-takes
 returns-then-not-branch-clause-takes g c =
-    line-ends _ c.loop-turn.records c.advance.new.self _ _ _ _ c.loop-turn.invariant
-    (takes-at _ c.loop-turn.records c.advance.new.self _ false c.if-not-branch.true c.in_ok-advance.ensures.takes)
+    line-ends _ c.turns.records c.advance.new.self _ _ _ _ c.turns.invariant
+    (takes-at _ c.turns.records c.advance.new.self _ false c.if-not-branch.true c.in_ok-advance.ensures.takes)
 
-pub loop-turn-preserved : goal.loop-turn-preserved
-loop-turn-preserved g c =
-    let found = takes-at _ c.loop-turn.records c.advance.new.self _ true c.if-not-branch.false c.in_ok-advance.ensures.takes in
+pub turns-preserved-then-branch : goal.turns-preserved-then-branch
+turns-preserved-then-branch g c =
+    let found = takes-at _ c.turns.records c.advance.new.self _ true c.if-not-branch.false c.in_ok-advance.ensures.takes in
     let takes = rw c.fields.ensures at c.in_ok-take_record.ensures.takes in
-    let place = c.in_ok-take_record.ensures.place in
-    elim c.if-branch.branch [
-      | then-branch w ↦
-          rw w.changed-is (line-more _ c.loop-turn.records c.advance.new.self _ c.args.desk.now.site c.loop-turn.desk.site c.take_record.new.desk.site
-          c.loop-turn.changed c.in_ok-take_record.field-0 true
-          c.loop-turn.invariant found place takes (λ no_more. absurd (cc no_more)) (λ no_more. absurd (cc no_more)))
-      | else-branch w ↦
-          rw w.changed-is (line-more _ c.loop-turn.records c.advance.new.self _ c.args.desk.now.site c.loop-turn.desk.site c.take_record.new.desk.site
-          c.loop-turn.changed c.in_ok-take_record.field-0 c.loop-turn.changed
-          c.loop-turn.invariant found place takes (λ same. same) (λ same. w.if-branch.false))
-    ]
+    line-more _ c.turns.records c.advance.new.self _ c.args.desk.now.site c.turns.desk.site c.take_record.new.desk.site
+    c.turns.changed c.in_ok-take_record.field-0 true
+    c.turns.invariant found c.in_ok-take_record.ensures.place takes (λ no_more. absurd (cc no_more)) (λ no_more. absurd (cc no_more))
+
+pub turns-preserved : goal.turns-preserved
+turns-preserved g c =
+    let found = takes-at _ c.turns.records c.advance.new.self _ true c.if-not-branch.false c.in_ok-advance.ensures.takes in
+    let takes = rw c.fields.ensures at c.in_ok-take_record.ensures.takes in
+    line-more _ c.turns.records c.advance.new.self _ c.args.desk.now.site c.turns.desk.site c.take_record.new.desk.site
+    c.turns.changed c.in_ok-take_record.field-0 c.turns.changed
+    c.turns.invariant found c.in_ok-take_record.ensures.place takes (λ same. same) (λ same. c.if-branch.false)
+
+pub turns-smaller-then-branch : goal.turns-smaller-then-branch
+turns-smaller-then-branch g c = c.in_ok-advance.ensures.nearer c.if-not-branch.false c.turns.invariant.rest c.turns.invariant.gives
+
+pub turns-smaller : goal.turns-smaller
+turns-smaller g c = c.in_ok-advance.ensures.nearer c.if-not-branch.false c.turns.invariant.rest c.turns.invariant.gives

@@ -1,7 +1,11 @@
+use Rattle.rubis_engine.specs.Reading.{bytes_left}
 use Rattle.rubis_engine.specs.Text.{input_records}
 use Rattle.std.specs.Prelude.{Some}
 use Rattle.rubis_keep.proofs.ShortenFacts.{SoFar}
 use Rattle.rubis_keep.proofs.shortening.take_line.Given as goal
 
-abbrev pub invariant-loop-turn : goal.invariant-loop-turn
-invariant-loop-turn g l = SoFar (λ s. Some s.now) l.records (input_records l.line) l.fn.desk.site l.desk.site l.changed
+abbrev pub invariant-turns : goal.invariant-turns
+invariant-turns g l = SoFar (λ s. Some s.now) l.records (input_records l.line) l.fn.desk.site l.desk.site l.changed
+
+abbrev pub decreases-turns : goal.decreases-turns
+decreases-turns g l = bytes_left (λ s. Some s.now) l.records
