@@ -14,7 +14,7 @@ use Rattle.rubis_engine.specs.Accounts.Ending.{AtEnd}
 use Rattle.rubis_engine.specs.Progress.{IsDone}
 use Rattle.rubis_engine.specs.Text.{input_records, rows_text}
 use Rattle.rubis_engine.proofs.ReadBack.{HasNoMark, no_mark, rows_back}
-use Rattle.rubis_audit.specs.declared.questions.LogQuestion.TheVariants.{Agreement}
+use Rattle.rubis_audit.specs.declared.auditor.LogQuestion.TheVariants.{Agreement}
 use Rattle.rubis_audit.specs.Running.{AuditorState, account_from}
 use Rattle.rubis_audit.specs.Soundness.{AgreesOnSoundLogs, agreed_text}
 

@@ -11,8 +11,8 @@ use Rattle.rubis_engine.specs.Accounts.Ending.{AtEnd}
 use Rattle.rubis_engine.specs.Text.{rows_text}
 use Rattle.rubis_engine.specs.declared.service.Course.TheVariants.{GoesOn, Ends}
 use Rattle.rubis_audit.specs.Walks.{HaveMessagesAmong}
-use Rattle.rubis_audit.specs.declared.questions.LogQuestion.{LogQuestion}
-use Rattle.rubis_audit.specs.declared.questions.LogQuestion.TheVariants.{Agreement, Lacks}
+use Rattle.rubis_audit.specs.declared.auditor.LogQuestion.{LogQuestion}
+use Rattle.rubis_audit.specs.declared.auditor.LogQuestion.TheVariants.{Agreement, Lacks}
 use Rattle.rubis_audit.specs.Running.{AreRead, HasMessagesAmong, IsCurrentAmong, account_from, answer_text, logs_so_far, read_behind, rows_for}
 
 some_same : {X : Type 0} (a b : X) → Some a ≡ Some b → a ≡ b

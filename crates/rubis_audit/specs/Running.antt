@@ -15,8 +15,8 @@ use Rattle.rubis_engine.specs.Accounts.{Account, Ending}
 use Rattle.rubis_engine.specs.Accounts.Ending.{AtEnd, Cut}
 use Rattle.rubis_engine.specs.Text.{rows_text}
 use Rattle.rubis_audit.specs.Walks.{HaveMessagesAmong}
-use Rattle.rubis_audit.specs.declared.questions.LogQuestion.{LogQuestion}
-use Rattle.rubis_audit.specs.declared.questions.LogQuestion.TheVariants.{Agreement, Lacks}
+use Rattle.rubis_audit.specs.declared.auditor.LogQuestion.{LogQuestion}
+use Rattle.rubis_audit.specs.declared.auditor.LogQuestion.TheVariants.{Agreement, Lacks}
 
 -- among how many sites, what is asked of the logs, the logs so far, newest first, and whether that was answered and nothing wrong was
 -- found

@@ -17,13 +17,21 @@ use crate::lacks::write_lacks;
 use crate::lines::{Line, read_line};
 use crate::logs::Log;
 use crate::pools::MessagePool;
-use crate::questions::LogQuestion;
 use crate::verdicts::{write_bad_record, write_verdict};
 use rubis_engine::{Answering, Course, InputRecord, OutOfMemory, Reply, Service, Sink};
 use rubis_message::{Message, Verdict};
 use rubis_schema::{Fields, Hashes, Items, Shared};
 use std::alloc::{AllocError, Global};
 use std::marker::Model;
+
+/// What is answered once all logs are read.
+#[derive(Clone, Copy, PartialEq, Eq)]
+pub enum LogQuestion {
+    /// Whether they agree.
+    Agreement,
+    /// What each log lacks of the others.
+    Lacks,
+}
 
 /// An auditor of the logs of `sites` sites, as far as it has read them. Contracts see what is asked, the logs, newest first, and
 /// whether nothing wrong was found in them.

@@ -1,24 +1,32 @@
-//! A service that widens the records of an audit: a record in, one out.
+//! A service that widens the records of an audit, a record in, one out; and its run over a reader and a writer.
 
 ghost use Rattle.std.proofs.Common.{rules};
 ghost use Rattle.std.specs.Prelude.{◌≡◌, ◌++◌, ◌∷◌, ◌≤◌, [], ℕ, List, OnOk, ⊤, refl};
-ghost use Rattle.rubis_schema.specs.declared.limits.TheConstants.{COUNTED_MAX};
+ghost use Rattle.rubis_schema.specs.declared.limits.TheConstants.{COUNTED_MAX, RECORDS_MAX};
 ghost use Rattle.rubis_message.specs.Grammar.{message_record};
 ghost use Rattle.rubis_message.specs.Message.{sites_of};
 ghost use Rattle.rubis_message.specs.Widening.{widened};
 ghost use Rattle.rubis_model.specs.AuditRecords.{line_record};
 ghost use Rattle.rubis_model.specs.WidenedRecords.{widened_line};
+ghost use Rattle.rubis_engine.specs.Progress.{IsRun};
 ghost use Rattle.rubis_engine.specs.Text.{rows_text};
+ghost use Rattle.rubis_reading.specs.Chunked.{HasAll};
+ghost use Rattle.rubis_serving.specs.Whole.{EndsWhole};
 ghost use Rattle.rubis_audit.specs.Lines.{IsAmongLine, line_as};
 ghost use Rattle.rubis_audit.specs.Places.{logs_at, place_after};
 ghost use Rattle.rubis_audit.specs.declared.widener.LinePlace.TheVariants.{BeforeLogs};
-ghost use Rattle.rubis_audit.specs.Widening.{bad_record, widening_from};
+ghost use Rattle.rubis_audit.specs.Widening.{bad_record, widening_account, widening_from};
 
 use crate::lines::{Line, read_line};
-use rubis_engine::{Answering, Course, InputRecord, OutOfMemory, Reply, Service, Sink};
+use rubis_engine::{
+    Answering, Count, Course, InputRecord, OutOfMemory, Reply, RunFault, Service, Sink,
+};
 use rubis_message::{Message, append_message};
-use rubis_schema::{Fields, push_number};
+use rubis_reading::Chunks;
+use rubis_schema::{Fields, RECORDS_MAX, push_number};
+use rubis_serving::{BLOCK, run_service};
 use std::alloc::{AllocError, Global};
+use std::io::{Read, Write};
 use std::marker::Model;
 
 /// Where the next record stands.
@@ -178,4 +186,49 @@ impl<T> Answering<T> for Widener {
         write_bad_record(&mut reply.draft.fields, &mut reply.sink, reply.number)?;
         Ok(Course::Ends)
     }
+}
+
+/// Has a widener widen the records of a text as `run_widen` does over a reader. Widener and chunks are lent: where the reader failed,
+/// the records that came whole are widened, and the chunks have what came since, in which no record ends.
+///
+/// # Errors
+///
+/// Those of `run_widen`.
+pub fn run_widen_chunks<R: Read, W: Write>(
+    alloc: Global,
+    chunks: &mut Chunks<R>,
+    writer: &mut W,
+    widener: &mut Widener,
+) -> Result<Count, RunFault>
+    ensures { (input : List ℕ) → HasAll R.remaining chunks.old input
+        → EndsWhole R.remaining chunks.new (widening_from widener.old.from widener.old.to 1 (logs_at widener.old.place))
+        (λ n. widening_from widener.new.from widener.new.to n (logs_at widener.new.place))
+        RECORDS_MAX (W.contents writer.old) (W.contents writer.new) input result }
+{
+    run_service(&(), alloc, chunks, writer, widener, RECORDS_MAX)
+}
+
+/// Widens the records of an audit from `from` sites to `to`: reads at most 4,000,000 records of `reader`, and appends each
+/// to `writer` as it is read, a message with counts of 0 for the further sites, and a site or a row as it is. The first
+/// record `n` that is not in the grammar ends the run with `widen,BadRecord,n`.
+///
+/// # Errors
+///
+/// `Read` if the reader failed and `TooLong` if the input has more records, all of the first 4,000,000 in the grammar: the
+/// records before are written. `Write` if the writer failed, and `Memory` if memory ran out: what was written is a prefix of
+/// the whole text.
+pub fn run_widen<R: Read + Drop, W: Write>(
+    alloc: Global,
+    reader: R,
+    writer: &mut W,
+    from: u8,
+    to: u8,
+) -> Result<Count, RunFault>
+    requires up { from ≤ to }
+    requires few { to ≤ COUNTED_MAX }
+    ensures { IsRun (widening_account from to) RECORDS_MAX (R.remaining reader) (W.contents writer.old) (W.contents writer.new) result }
+{
+    let mut widener = Widener::new(alloc, from, to);
+    let mut chunks = Chunks::new(alloc, reader, BLOCK);
+    run_widen_chunks(alloc, &mut chunks, writer, &mut widener)
 }

@@ -6,9 +6,7 @@ mod checks;
 mod config;
 mod desk;
 mod faults;
-mod packets;
 mod run;
-mod site_rows;
 mod sites;
 mod waiting;
 mod world;
@@ -16,13 +14,12 @@ mod world;
 pub use config::WorldConfig;
 pub use desk::WorldDesk;
 pub use faults::WorldFault;
-pub use packets::packet;
 pub use rubis_message::Happened;
 pub use rubis_script::{
     Arrived, Config, Count, Desk, Fault, Free, Gate, RunFault, Site, run_desk, run_site,
     run_site_upto,
 };
 pub use run::{run_world, run_world_chunks, run_world_desk};
-pub use sites::Sites;
+pub use sites::{Sites, packet};
 pub use waiting::run_waiting;
 pub use world::World;

@@ -1,6 +1,6 @@
 //! Several sites, and all packets that they sent: each call is one step of the model.
 
-ghost use Rattle.std.specs.Prelude.{◌≡◌, ◌<◌, ◌≤◌, IfOk, Err, None, Some, ℕ, length, nat_lt};
+ghost use Rattle.std.specs.Prelude.{◌≡◌, ◌<◌, ◌≤◌, IfOk, Err, None, Some, ℕ, length, nat_lt, option_map};
 ghost use Rattle.rubis_schema.specs.declared.limits.TheConstants.{KEEP_MAX, SITES_MAX};
 ghost use Rattle.rubis_shadow.specs.Shadows.{IsAsk};
 ghost use Rattle.rubis_message.specs.declared.requests.Request.TheVariants as Request;
@@ -17,7 +17,6 @@ ghost use Rattle.rubis_world.specs.declared.faults.WorldFault.TheVariants as Wor
 
 use crate::config::WorldConfig;
 use crate::faults::WorldFault;
-use crate::packets::{packet, packet_copy};
 use rubis_message::{Happened, Message, Packet, Request};
 use rubis_schema::Listing;
 use rubis_script::{Fault, Free, Site};
@@ -26,6 +25,26 @@ use std::alloc::{AllocError, Global};
 use std::marker::Model;
 use std::sync::Wait;
 use std::thread::Threads;
+
+/// The packet with that number, counted from 1, if it was sent.
+pub fn packet(sent: &[Packet], number: u64) -> Option<&Packet>
+    ensures { option_map (λ p. p.now) result ≡ packet_at sent.now number }
+{
+    if number == 0 {
+        return None;
+    }
+    sent.get(number as usize - 1)
+}
+
+// A copy of the packet.
+fn packet_copy(packet: &Packet) -> Result<Packet, AllocError>
+    ensures { IfOk result (λ copy. copy ≡ packet.now) }
+{
+    match packet {
+        Packet::Msg(message) => Ok(Packet::Msg(message.copy()?)),
+        Packet::Token(token) => Ok(Packet::Token(*token)),
+    }
+}
 
 /// Sites, and all packets that they ever sent.
 #[derive(Drop)]

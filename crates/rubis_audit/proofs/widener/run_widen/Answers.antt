@@ -4,7 +4,7 @@ use Rattle.rubis_schema.specs.declared.limits.TheConstants.{RECORDS_MAX}
 use Rattle.rubis_serving.proofs.ServedFacts.{reader_run}
 use Rattle.rubis_audit.specs.Places.{logs_at}
 use Rattle.rubis_audit.specs.Widening.{WidenerState, widening_from}
-use Rattle.rubis_audit.proofs.widening.run_widen.Goals as goal
+use Rattle.rubis_audit.proofs.widener.run_widen.Goals as goal
 
 pub returns : goal.returns
 returns g c =

@@ -3,7 +3,7 @@ use Rattle.std.specs.Prelude.{slice_index}
 use Rattle.rubis_clock.specs.Clocks.{MessageCounts}
 use Rattle.rubis_message.specs.Message.{dep, sites_of}
 use Rattle.rubis_audit.proofs.Merging.{awaited_none, awaited_some}
-use Rattle.rubis_audit.proofs.waits.awaited.Goals as goal
+use Rattle.rubis_audit.proofs.waiting.awaited.Goals as goal
 
 pub returns-then-count : goal.returns-then-count
 returns-then-count c log e =
