@@ -7,8 +7,9 @@ comes. Some things happen otherwise than the model has them, and are written as 
 - What a keeper was given is written where it was given, if it was kept, and the answer settled it: an ask that was answered NoToken or
   RedBehind, or that died on its way, still waits for the model.
 - A life ends when its supervisor and its keeper have both ended: a keeper answers what stands in its pipe. What happens to the files of a
-  folder that runs is written when its life ends, since the site goes on in files that nobody finds again. Of a folder that loses its end,
-  or is changed, what its site sent stands on as far as it is in `out`.
+  folder that runs is written when its life ends, since the site goes on in files that nobody finds again; that it lost its end before a
+  keeper of this life had its files, in front of its start. Of a folder that loses its end, or is changed, what its site sent stands on as
+  far as it is in `out`.
 - An ask that is asked again under its key is another one. Its answer, if another one got it, is told of that one; and of an earlier life
   it is no news, and written as unknown.
 - Where a standby takes the place of a site, the folder of that site is lost: what it does from then on counts for nothing. Where a second
@@ -139,6 +140,7 @@ class Steps:
         self.last: dict[Packet, tuple[Step, dict[Slot, int]]] = {}      # where each was last before it was lost, and what folders had then
         self.lost_by: dict[Packet, Step] = {}           # by which step each was lost last in a folder
         self.unseen: dict[Slot, tuple[Step, list[Packet], Step]] = {}   # stored copies that are as good as lost, what they had, and what opened
+        self.place: Step | None = None                  # before which steps are written, if not at the end
         for site, folder in sorted((site, folder) for machine in world.machines for site, folder in machine.folders.items()):
             folder.slot = Slot(site, site)
             self.slots.append(folder.slot)
@@ -154,14 +156,14 @@ class Steps:
         return [step for step in self.list if not step.is_void]
 
     def _add(self, word: str, *fields: object, is_void: bool = False, before: Step | None = None) -> Step:
-        step = Step(",".join(map(str, (word, *fields))), is_void)
+        step, before = Step(",".join(map(str, (word, *fields))), is_void), before or self.place
         self.list.insert(self.list.index(before) if before else len(self.list), step)
         return step
 
-    def _note_gone(self, packets: Iterable[Packet]) -> None:
-        """These packets are lost by the last step."""
+    def _note_gone(self, step: Step, packets: Iterable[Packet]) -> None:
+        """These packets are lost by this step."""
         had = {slot: len(slot.packets) for slot in self.slots}
-        self.last.update((packet, (self.list[-1], had)) for packet in packets)
+        self.last.update((packet, (step, had)) for packet in packets)
 
     def _is_offered(self, packet: Packet) -> bool:
         if self.world.is_over_server:
@@ -489,8 +491,7 @@ class Steps:
         stream = self.streams[site]
         same = next((at for at, (one, other) in enumerate(zip(stream, packets)) if one != other), min(len(stream), len(packets)))
         if same < len(stream):
-            self._add("StreamLosesEnd", site, same)
-            self._note_gone(stream[same:])
+            self._note_gone(self._add("StreamLosesEnd", site, same), stream[same:])
             del stream[same:]
         for packet in packets[same:]:
             self._append(packet, [])
@@ -501,13 +502,11 @@ class Steps:
             left = {self.known.get(text) for text in texts}
             count = next((at for at, packet in enumerate(self.streams[site]) if packet not in left), len(self.streams[site]))
             if count < len(self.streams[site]):
-                self._add("StreamLosesEnd", site, count)
-                self._note_gone(self.streams[site][count:])
+                self._note_gone(self._add("StreamLosesEnd", site, count), self.streams[site][count:])
                 del self.streams[site][count:]
 
     def server_lost_all(self) -> None:
-        self._add("ServerLosesAll")
-        self._note_gone(packet for stream in self.streams for packet in stream)
+        self._note_gone(self._add("ServerLosesAll"), (packet for stream in self.streams for packet in stream))
         self.streams = [[] for _ in self.streams]
 
     # What happens to files.
@@ -517,6 +516,14 @@ class Steps:
             slot.harms.append(harm)
         else:
             harm()
+
+    def _harm_before_start(self, slot: Slot, harm: Callable[[], object]) -> None:
+        """Nothing is read or sent by this life yet, and no keeper has the files open: the next one finds them so."""
+        assert slot.start
+        self.place, _, passes = slot.start
+        harm()
+        slot.start = self.place, list(slot.packets), passes
+        self.place = None
 
     def copied(self, folder: "Folder", made: "Folder", is_stored: bool = False) -> None:
         """There is another folder with what this one has."""
@@ -565,7 +572,10 @@ class Steps:
     def lost_end(self, folder: "Folder") -> None:
         """Of a folder no more is left than its files have: what it sent may stand in `out` alone."""
         del folder.packets[len(folder.whole_lines()):]
-        if slot := folder.slot:
+        slot = folder.slot
+        if slot and slot.start and slot.life and not slot.has_opened and not folder.keeper:
+            self._harm_before_start(slot, partial(self._lose_end, slot, folder))
+        elif slot:
             self._harm(slot, partial(self._lose_end, slot, folder))
 
     def _lose_end(self, slot: Slot, folder: "Folder") -> None:
@@ -574,8 +584,9 @@ class Steps:
         if left + len(sent) == len(slot.packets):
             return
         if not sent:
-            self._note_lost(self._add("LosesEnd", slot.number, left), slot)
-            self._note_gone(slot.packets[left:])
+            step = self._add("LosesEnd", slot.number, left)
+            self._note_lost(step, slot)
+            self._note_gone(step, slot.packets[left:])
             del slot.packets[left:]
         else:
             copy = self._copy_of(slot)
@@ -646,7 +657,8 @@ class Steps:
                 folder.slot = None
                 self.replaced.add(folder)
                 self._end_life(slot)
-                elsewhere = {packet for its in [*(its.packets for its in self.slots if its is not slot), *self.streams] for packet in its}
+                others = [its.packets for its in self.slots if its is not slot and not its.is_stored]
+                elsewhere = {packet for its in [*others, *self.streams] for packet in its}
                 self.gone_on.update(packet for packet in slot.packets if packet[1] == site and packet not in elsewhere)
                 self._lose(slot)
 

@@ -53,6 +53,22 @@ class Written(unittest.TestCase):
         self.steps.opens(self.folder)
         self.assertEqual(self.steps.none(), {})
 
+    def test_what_is_lost_before_a_keeper_runs_is_lost_before_the_start(self) -> None:
+        self.steps.supervisor_ended(self.folder, None)
+        self.steps.starts(self.folder, "2 b")
+        self.folder.keeper = None
+        self.steps.lost_end(self.folder)
+        self.assertEqual(self.steps.lines()[1:], ["IsKilled,0", "LosesEnd,0,0", "Starts,0"])
+        self.assertEqual(self.slot.packets, [])
+
+    def test_what_only_a_stored_copy_has_goes_on_with_the_process(self) -> None:
+        """A standby takes the place of a site, of whose last message there is a copy that is put back later, if ever."""
+        stored, made = self.folder.copied(self.folder.machine), self.folder.copied(self.folder.machine)
+        self.steps.copied(self.folder, stored, is_stored=True)
+        made.packets = []
+        self.steps.takes_over(made, 0, [self.folder])
+        self.assertEqual(self.steps.gone_on, {MESSAGE})
+
     def test_what_was_passed_before_the_token_came_is_no_news(self) -> None:
         slot = Slot(0, 0)
         slot.packets.append(("p", 1, 8, 0, 0))
