@@ -16,7 +16,8 @@ import threading
 import workloads
 from busiest import messages
 
-PROCESSORS, LOOPS, WORKERS, MESSAGES, LONGEST = 4, 4, 16, 12_000, 120
+ALL = sorted(os.sched_getaffinity(0))[:4]       # the processors
+LOOPS, WORKERS, MESSAGES, LONGEST = 4, 16, 12_000, 120
 PIECES = [1_000, 4_096, 16_384, 65_536, 1_048_576]
 
 
@@ -42,13 +43,12 @@ def texts(dice: random.Random) -> list[tuple[list[str], bytes]]:
     lines = ordered.splitlines(keepends=True)
     other = ["site", "--site", "1", "--sites", "2"]
     asks = workloads.requests(MESSAGES // 4, 5)
-    renumbered = workloads.requests(MESSAGES // 8, 5).text
     return [
         (other, ordered + b"list,tables\nlist,log\n"),
         (other, b"".join(dice.sample(lines, len(lines))) + b"list,tables\n"),
         (other, b"".join(reversed(lines[:2_000])) + b"list,tables\nlist,misfits\n"),
         (asks.command, asks.text),
-        (other, in_turn(ordered, renumbered, dice) + b"list,tables\nlist,log\n"),
+        (other, in_turn(ordered, asks.text, dice) + b"list,tables\nlist,log\n"),
     ]
 
 
@@ -82,7 +82,7 @@ def answers(program: str, command: list[str], text: bytes, processors: str, size
 def fault(program: str, dice: random.Random, known: list[tuple[list[str], bytes, bytes]]) -> str | None:
     """What is wrong with one run."""
     command, text, right = dice.choice(known)
-    processors = ",".join(map(str, dice.sample(range(os.cpu_count() or 1), dice.randint(1, min(PROCESSORS, os.cpu_count() or 1)))))
+    processors = ",".join(map(str, dice.sample(ALL, dice.randint(1, len(ALL)))))
     chosen, size, busy = settings(dice), dice.choice([0, 0, *PIECES]), dice.randint(0, LOOPS)
     loops = [subprocess.Popen(["taskset", "-c", processors, sys.executable, "-c", "while True: pass"]) for _ in range(busy)]
     try:
@@ -100,7 +100,7 @@ def main() -> int:
     program = os.path.abspath(sys.argv[1])
     many = int(sys.argv[2]) if len(sys.argv) > 2 else 250
     dice = random.Random(int(sys.argv[3]) if len(sys.argv) > 3 else 78)
-    known = [(command, text, answers(program, [*command, "--workers", "1"], text, "0", 0)) for command, text in texts(dice)]
+    known = [(command, text, answers(program, [*command, "--workers", "1"], text, str(ALL[0]), 0)) for command, text in texts(dice)]
     faults = [said for said in (fault(program, dice, known) for _ in range(many)) if said]
     for said in faults:
         print(said)
