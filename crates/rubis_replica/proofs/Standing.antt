@@ -17,8 +17,8 @@ use Rattle.rubis_workers.proofs.Pieces.{fewer_behind}
 use Rattle.rubis_workers.specs.Logs.{AppliesTo, AppliesWhole, parts_between}
 use Rattle.rubis_workers.proofs.Applied.{cores_front, cores_slice}
 use Rattle.rubis_workers.proofs.Between.{between_inside, slice_inside}
-use Rattle.rubis_replica.specs.Follow.{CanFollow, Follower, FollowsLog, HasStops, IsTriedTo}
-use Rattle.rubis_replica.specs.Progress.{IsProgress, IsStage, end_of, keeping, left_of, resting_at}
+use Rattle.rubis_replica.specs.Follow.{CanFollow, ComesTo, Follower, FollowsLog, HasStops, IsTriedTo}
+use Rattle.rubis_replica.specs.Progress.{BatchBegins, IsProgress, IsStage, end_of, keeping, left_of, resting_at, short}
 use Rattle.rubis_replica.specs.declared.progress.Progress.{Progress}
 use Rattle.rubis_replica.specs.declared.progress.Stage.{Stage}
 use Rattle.rubis_replica.specs.declared.progress.Stage.TheVariants.{Level, Keeping, Begun}
@@ -201,4 +201,13 @@ tried log upto f stops ts (Err e) h ok err = record {
   some = (let many = err.many in let some = h.follows.some in omega (arith, many, some));
   ok = tt;
   err = (err.within, subst (λ n. HoldsTo n (cores log) stops ts) (sym err.many) (err.holds (h.follows.rests h.rests)));
+}
+
+-- and noted it is what it was, from the same progress
+pub comes_from : (log : List Message) (upto : ℕ) (old mid new : Follower) (result : Result (Unit {0}) AllocError) → mid.progress ≡ old.progress
+    → ComesTo log upto mid new result → ComesTo log upto old new result
+comes_from log upto old mid new result same h = record {
+  follows = h.follows;
+  ok = h.ok;
+  err = subst (λ (p : Progress). OnErr result ((new.progress ≡ short p) ⊎ BatchBegins log p.applied upto new.progress)) same h.err;
 }

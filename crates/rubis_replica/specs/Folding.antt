@@ -44,8 +44,8 @@ pub record IsBatch (b : SharedBatch) (shards : ℕ) : Type 0 where
   pub homes : AreHomes shards (cores_of b) b.homes.items
 
 -- it is a part of the log of that intake, and its messages are well formed
-pub record IsShared (intake : Intake) (s : Span) (shards : ℕ) (b : SharedBatch) : Type 0 where
-  pub intake : b.intake ≡ intake
+pub record IsShared (i : Intake) (s : Span) (shards : ℕ) (b : SharedBatch) : Type 0 where
+  pub intake : b.intake ≡ i
   pub span : b.span ≡ s
   pub batch : IsBatch b shards
   pub conditions : All IsMessage (messages_of b)

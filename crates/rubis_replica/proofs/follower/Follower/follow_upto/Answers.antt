@@ -1,7 +1,7 @@
-use Rattle.std.proofs.Common.{◌≡◌, sym, subst}
+use Rattle.std.proofs.Common.{◌≡◌, ◌≤◌, ap, sym, subst}
 use Rattle.rubis_replica.specs.Follow.{ComesTo, Follower, FollowsLog}
 use Rattle.rubis_replica.specs.Progress.{left_of}
-use Rattle.rubis_replica.proofs.Standing.{tried}
+use Rattle.rubis_replica.proofs.Standing.{comes_from, tried}
 use Rattle.rubis_replica.proofs.follower.Follower.follow_upto.Goals as goal
 
 pub note-requires : goal.note-requires
@@ -17,3 +17,9 @@ note-requires g c =
       within = c.requires.within;
       few = c.requires.few;
     }) c.apply_batch-ended.ensures.ok c.apply_batch-ended.ensures.err
+
+pub returns : goal.returns
+returns g c =
+    comes_from c.args.log.now c.args.upto c.args.self.now
+    (record { progress = c.self.inside.progress; stops = c.apply_batch-ended.new.stops.items; tables = c.apply_batch-ended.new.tables }) _ c.note.result
+    (ap (λ (f : Follower). f.progress) c.self.view_is) c.note.ensures
