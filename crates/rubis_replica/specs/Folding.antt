@@ -1,5 +1,5 @@
 -- A batch of an intake's log, folded on the shards of a set by a crew.
-use Rattle.std.specs.Prelude.{◌≡◌, ℕ, ◌+◌, ◌<◌, ◌≤◌, ◌×◌, List, [], ◌∷◌, ◌++◌, None, Option, Some, Ok, Err, OnOk, OnErr, Result, length, map, slice_index, slice_range}
+use Rattle.std.specs.Prelude.{◌≡◌, ℕ, ◌+◌, ◌<◌, ◌≤◌, ⊤, List, [], ◌∷◌, ◌++◌, None, Option, Some, Ok, Err, OnOk, OnErr, Result, length, map, slice_index, slice_range}
 use Rattle.std.specs.Arc.{arc_value}
 use Rattle.std.specs.Global.{Vec}
 use Rattle.std.specs.Vec.{vec_capacity}
@@ -44,8 +44,8 @@ pub record IsBatch (b : SharedBatch) (shards : ℕ) : Type 0 where
   pub homes : AreHomes shards (cores_of b) b.homes.items
 
 -- it is a part of the log of that intake, and its messages are well formed
-pub record IsShared (intake : Intake) (s : Span) (shards : ℕ) (b : SharedBatch) : Type 0 where
-  pub intake : b.intake ≡ intake
+pub record IsShared (i : Intake) (s : Span) (shards : ℕ) (b : SharedBatch) : Type 0 where
+  pub intake : b.intake ≡ i
   pub span : b.span ≡ s
   pub batch : IsBatch b shards
   pub conditions : All IsMessage (messages_of b)
@@ -88,6 +88,11 @@ module _ {G : Type 0} where
   abbrev pub IsOf : SharedBatch → Given (Folding G) → Type 0
   IsOf b x = arc_value x.job.batch ≡ b
 
+  -- and so is each of them
+  abbrev pub AreOf : SharedBatch → List (Given (Folding G)) → Type 0
+  AreOf b [] = ⊤
+  AreOf b (x ∷ xs) = IsOf b x × AreOf b xs
+
   -- a shard was given, for that batch to be folded on it; or the batch was folded on it at once
   abbrev pub IsGiven : SharedBatch → ShardState → LeadState (Folding G) → Option Done → LeadState (Folding G) → Type 0
   IsGiven b s old None new = (x : Given (Folding G)) × (x.job.shard ≡ s) × IsOf b x × (new.crew ≡ old.crew) × (new.given ≡ old.given ++ x ∷ [])
@@ -98,7 +103,7 @@ module _ {G : Type 0} where
     pub done : List ShardState
     pub moved : IsPermutation all (left ++ (shards_of l.given ++ done))
     pub folded : AllZip (IsFoldedOn b) done list
-    pub given : All (IsOf b) l.given
+    pub given : AreOf b l.given
 
   -- what was given and is folded goes into the list
   pub record GoesOn (old : LeadState (Folding G)) (before : List Done) (new : LeadState (Folding G)) (after : List Done) : Type 0 where
@@ -110,8 +115,8 @@ abbrev pub HasRoomFor : ℕ → Vec Done → Type 0
 HasRoomFor many list = length list.items + many ≤ vec_capacity list
 
 -- and there is room for all of them
-pub record AreOut {G : Type 0} (crew : CrewId) (b : SharedBatch) (all left : List ShardState) (l : LeadState (Folding G)) (list : Vec Done) : Type 0 where
-  pub crew : l.crew ≡ crew
+pub record AreOut {G : Type 0} (id : CrewId) (b : SharedBatch) (all left : List ShardState) (l : LeadState (Folding G)) (list : Vec Done) : Type 0 where
+  pub crew : l.crew ≡ id
   pub folding : IsFolding b all left l list.items
   pub room : HasRoomFor (length left + length l.given) list
 

@@ -5,7 +5,7 @@ use rubis_pieces::{Done, follow};
 use rubis_release::Intake;
 use rubis_schema::Items;
 use rubis_shard::{PartHomes, Shard, Share};
-use rubis_workers::{Gate, Told};
+use rubis_workers::Gate;
 use std::alloc::Global;
 use std::sync::Arc;
 
@@ -53,10 +53,10 @@ impl<G: Gate + Drop> Drop for Folding<G> {
 }
 
 impl SharedBatch {
-    ghost use Rattle.rubis_replica.specs.Folding.{FitsBatch, FollowsBatch};
+    ghost use Rattle.rubis_replica.specs.Folding.{FitsBatch, FollowsBatch, IsFoldedOn};
 
     // Folds on a shard its parts of the batch, as far as memory goes. Returns how many of the messages are done.
-    fn follow(&self, shard: &mut Shard, _told: Told) -> usize
+    fn follow(&self, shard: &mut Shard) -> usize
         requires { FitsBatch self.now shard.old }
         ensures { FollowsBatch self.now shard.old result shard.new }
     {
@@ -77,13 +77,13 @@ impl SharedBatch {
         intake
     }
 
-    /// Tells the gate of a shard, and folds on it its parts of the batch, as far as memory goes.
-    pub fn fold<G: Gate>(&self, mut shard: Shard, gate: &G) -> Done
+    /// Folds on a shard its parts of the batch, as far as memory goes.
+    pub fn fold(&self, mut shard: Shard) -> Done
         requires { FitsBatch self.now shard }
-        ensures { FollowsBatch self.now shard result.done result.shard }
+        ensures { IsFoldedOn self.now shard result }
     {
         let number = shard.number();
-        let done = self.follow(&mut shard, Told::tell(gate, number));
+        let done = self.follow(&mut shard);
         let effects = Items::new(*self.homes.allocator());
         Done {
             shard,
@@ -104,6 +104,7 @@ impl<G: Gate + Drop> Job for Folding<G> {
 
     fn work(self) -> Done {
         let Folding { shard, batch, gate } = self;
-        batch.fold(shard, &*gate)
+        gate.taken(shard.number());
+        batch.fold(shard)
     }
 }

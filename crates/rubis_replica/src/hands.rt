@@ -58,7 +58,10 @@ fn give<G: Gate + Drop, R: Wait>(
             Ok(_) => None,
             Err(job) => Some(job.work()),
         },
-        Err(shard) => Some(batch.fold(shard, &**gate)),
+        Err(shard) => {
+            gate.taken(shard.number());
+            Some(batch.fold(shard))
+        }
     }
 }
 
@@ -81,8 +84,9 @@ fn give_all<G: Gate + Drop, R: Wait>(
         let Some(shard) = shards.pop() else {
             unreachable!()
         };
-        if let Some(done) = give(rt, crew, lead, batch, gate, shard) {
-            list.push_reserved(done);
+        match give(rt, crew, lead, batch, gate, shard) {
+            Some(done) => list.push_reserved(done),
+            None => {}
         }
     }
 }

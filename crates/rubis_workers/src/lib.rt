@@ -17,7 +17,7 @@ pub use applying::{again, apply_alone, apply_batch, stop_all, stop_each};
 pub use batches::{TeamResult, Unstarted, Worked, apply_all, apply_beside, apply_by_team};
 pub use folding::{apply_upto, count_parts};
 pub use following::{Followed, follow_by_team};
-pub use gate::{Free, Gate, Told};
+pub use gate::{Free, Gate};
 pub use pace::Pace;
 pub use rubis_pieces::{count_behind, follow_rest, misfits};
 pub use rubis_shard::Tables;
