@@ -110,6 +110,39 @@ fn serve_to_end<G: Gate + Drop, T: Threads + Wait + Sync, R: Read, W: Write>(
     served
 }
 
+// The run, beside what the helpers do.
+fn serve_beside<
+    F: FnMut() + Send,
+    G: Gate + Drop,
+    T: Threads + Wait + Sync,
+    R: Read,
+    W: Write,
+>(
+    rt: &T,
+    stay: &mut F,
+    helpers: &mut Helpers<'_, G>,
+    chunks: &mut Chunks<R>,
+    desk: &mut Desk<G>,
+    writer: &mut W,
+    limit: u64,
+) -> Result<Count, RunFault>
+    requires stay { F.pre stay.old }
+    requires held { AreHeld chunks.old desk.old helpers.old.pieces × (desk.old.answered ≤ limit) }
+    ensures run { RunEnds limit R.remaining chunks.old desk.old (W.contents writer.old) chunks.new desk.new (W.contents writer.new) result }
+    ensures over { AreOver helpers.old helpers.new }
+{
+    let ((), served) = join_mut(
+        rt,
+        stay,
+        &mut || -> Result<Count, RunFault>
+            requires { IsSync T.row × AreHeld chunks.now desk.now helpers.now.pieces × (desk.now.answered ≤ limit) }
+            ensures { RunEnds limit R.remaining chunks.entry.now desk.entry.now (W.contents writer.entry.now) chunks.exit.now desk.exit.now (W.contents writer.exit.now) result
+                × AreOver helpers.entry.now helpers.exit.now }
+        { serve_to_end(rt, helpers, chunks, desk, writer, limit) },
+    );
+    served
+}
+
 // The run, beside the helpers.
 fn serve_helped<G: Gate + Drop, T: Threads + Wait + Sync, R: Read, W: Write>(
     rt: &T,
@@ -128,18 +161,17 @@ fn serve_helped<G: Gate + Drop, T: Threads + Wait + Sync, R: Read, W: Write>(
     let reading = helpers.pieces.crew();
     let mut first = Both::new(helpers.hands.helper(), helpers.pieces.helper());
     let helper = &mut first;
-    let ((), served) = join_mut(
+    serve_beside(
         rt,
         &mut ||
             requires { IsSync T.row × IsAt folding.now.id reading.now.id helper.now }
         { helper.stay_all(rt, folding, reading) },
-        &mut || -> Result<Count, RunFault>
-            requires { IsSync T.row × AreHeld chunks.now desk.now helpers.now.pieces × (desk.now.answered ≤ limit) }
-            ensures { RunEnds limit R.remaining chunks.entry.now desk.entry.now (W.contents writer.entry.now) chunks.exit.now desk.exit.now (W.contents writer.exit.now) result
-                × AreOver helpers.entry.now helpers.exit.now }
-        { serve_to_end(rt, helpers, chunks, desk, writer, limit) },
-    );
-    served
+        helpers,
+        chunks,
+        desk,
+        writer,
+        limit,
+    )
 }
 
 /// Runs the desk of a site over chunks of text, whose records are read, and whose messages are folded, by a crew of helpers and by the
