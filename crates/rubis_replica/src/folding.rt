@@ -53,6 +53,7 @@ impl<G: Gate + Drop> Drop for Folding<G> {
 }
 
 impl SharedBatch {
+    ghost use Rattle.std.specs.Prelude.{◌≡◌};
     ghost use Rattle.rubis_replica.specs.Folding.{FitsBatch, FollowsBatch, IsFoldedOn};
 
     // Folds on a shard its parts of the batch, as far as memory goes. Returns how many of the messages are done.

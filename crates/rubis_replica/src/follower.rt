@@ -255,7 +255,7 @@ impl<G: Gate> Follower<G> {
         upto: usize,
         ended: Result<(), AllocError>,
     ) -> Result<(), AllocError>
-        requires { IsTriedTo log.now upto self.old ended }
+        requires tried { IsTriedTo log.now upto self.old ended }
         ensures { ComesTo log.now upto self.old self.new result }
     {
         if ended.is_ok() {

@@ -6,7 +6,7 @@ use Rattle.rubis_replica.proofs.GivenOut.{all_are_followed, all_come_back, all_f
 use Rattle.rubis_replica.proofs.hands.fold_all.Goals as goal
 
 pub give_all-requires-clause-fits : goal.give_all-requires-clause-fits
-give_all-requires-clause-fits g c = all_fit (arc_value c.args.batch.now) c.args.shards.items c.requires.set
+give_all-requires-clause-fits g c κs within = all_fit (arc_value c.args.batch.now) c.args.shards.items c.requires.set
 
 pub unreachable-requires : goal.unreachable-requires
 unreachable-requires g c =

@@ -4,8 +4,8 @@ use Rattle.rubis_replica.specs.Progress.{left_of}
 use Rattle.rubis_replica.proofs.Standing.{comes_from, tried}
 use Rattle.rubis_replica.proofs.follower.Follower.follow_upto.Goals as goal
 
-pub note-requires : goal.note-requires
-note-requires g c =
+pub note-requires-clause-tried : goal.note-requires-clause-tried
+note-requires-clause-tried g c κs within =
     let log = c.args.log.now in
     let h = subst (FollowsLog log) (sym c.self.view_is) c.requires.follows in
     tried log c.args.upto (record { progress = c.self.inside.progress; stops = c.self.inside.stops.items; tables = c.self.inside.tables })
@@ -21,5 +21,5 @@ note-requires g c =
 pub returns : goal.returns
 returns g c =
     comes_from c.args.log.now c.args.upto c.args.self.now
-    (record { progress = c.self.inside.progress; stops = c.apply_batch-ended.new.stops.items; tables = c.apply_batch-ended.new.tables }) _ c.note.result
+    (record { progress = c.self.inside.progress; stops = c.apply_batch-ended.new.stops.items; tables = c.apply_batch-ended.new.tables }) c.note.new.self c.note.result
     (ap (λ (f : Follower). f.progress) c.self.view_is) c.note.ensures

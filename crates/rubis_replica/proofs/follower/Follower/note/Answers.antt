@@ -22,7 +22,7 @@ stopped : (g : given.Over) (c : After-count_behind-left g)
 stopped g c =
     let log = c.args.log.now in
     let upto = c.args.upto in
-    let h = subst (λ (f : Follower). IsTriedTo log upto f c.args.ended) (sym c.self.view_is) c.requires in
+    let h = subst (λ (f : Follower). IsTriedTo log upto f c.args.ended) (sym c.self.view_is) c.requires.tried in
     let stops = c.self.inside.stops.items in
     let ts = c.self.inside.tables in
     let stand : StandWithin log upto (record { progress = c.self.inside.progress; stops = stops; tables = ts }) = err_of _ c.args.ended (search rules) h.err in
@@ -37,7 +37,7 @@ stopped g c =
 pub returns-then-left-eq0 : goal.returns-then-left-eq0
 returns-then-left-eq0 g c =
     let log = c.args.log.now in
-    let h = subst (λ (f : Follower). IsTriedTo log c.args.upto f c.args.ended) (sym c.self.view_is) c.requires in
+    let h = subst (λ (f : Follower). IsTriedTo log c.args.upto f c.args.ended) (sym c.self.view_is) c.requires.tried in
     let stops = c.self.inside.stops.items in
     let ts = c.self.inside.tables in
     let is = c.resting_at-self-inside-then-left-eq0.ensures in
@@ -52,7 +52,7 @@ returns-then-left-eq0 g c =
 pub returns-then-left-count_parts : goal.returns-then-left-count_parts
 returns-then-left-count_parts g c =
     let log = c.args.log.now in
-    let h = subst (λ (f : Follower). IsTriedTo log c.args.upto f c.args.ended) (sym c.self.view_is) c.requires in
+    let h = subst (λ (f : Follower). IsTriedTo log c.args.upto f c.args.ended) (sym c.self.view_is) c.requires.tried in
     let stops = c.self.inside.stops.items in
     let ts = c.self.inside.tables in
     let p = c.self.inside.progress in
@@ -69,7 +69,7 @@ pub returns : goal.returns
 returns g c =
     let log = c.args.log.now in
     let upto = c.args.upto in
-    let h = subst (λ (f : Follower). IsTriedTo log upto f c.args.ended) (sym c.self.view_is) c.requires in
+    let h = subst (λ (f : Follower). IsTriedTo log upto f c.args.ended) (sym c.self.view_is) c.requires.tried in
     let left = c.count_behind-left.result in
     let stops = c.self.inside.stops.items in
     let ts = c.self.inside.tables in
