@@ -11,7 +11,9 @@ crew_id_code =
     (λ c. record { jobs = c.0; results = c.1 }) (λ _. refl)
 
 abbrev pub crew_code : Coded CrewState
-crew_code = code_by (CrewId × ℕ) (coded× crew_id_code coded_ℕ) (λ c. (c.id, c.room)) (λ c. record { id = c.0; room = c.1 }) (λ _. refl)
+crew_code =
+    code_by (CrewId × (ℕ × ℕ)) (coded× crew_id_code (coded× coded_ℕ coded_ℕ)) (λ c. (c.id, (c.room, c.helpers)))
+    (λ c. record { id = c.0; room = c.1.0; helpers = c.1.1 }) (λ _. refl)
 
 module _ {J : Type 0} (job : Coded J) where
   abbrev pub given_code : Coded (Given J)

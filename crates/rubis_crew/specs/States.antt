@@ -17,10 +17,11 @@ pub record CrewId : Type 0 where
   pub jobs : TableId
   pub results : TableId
 
--- a crew, and how many jobs may be given and not back
+-- a crew, how many jobs may be given and not back, and how many helpers it has
 pub record CrewState : Type 0 where
   pub id : CrewId
   pub room : ℕ
+  pub helpers : ℕ
 
 -- the one who gives jobs: the next number, the jobs that are given and not back, and whether it said that no more come
 pub record LeadState (J : Type 0) : Type 0 where

@@ -7,7 +7,6 @@ ghost use Rattle.rubis_crew.specs.Results.{IsPaid, holds};
 ghost use Rattle.atomic_table.specs.Seated.{TableId};
 ghost use Rattle.rubis_crew.specs.Rule.{AreBelow};
 ghost use Rattle.rubis_crew.specs.States.{ended, new_lead, new_helper, given_too, HasNoRoom, IsBack, HasHelped, ComesBack, Settles, HasAllBack, TellsAll};
-ghost use Rattle.std.specs.Thread.{IsSync};
 
 use crate::job::{Back, Given, Job};
 use crate::results::{Collecting, Joining, Naming, Paying, Payment, ResultRule, ResultView, Slip};
@@ -15,12 +14,11 @@ use crate::rule::{
     Giving, Handing, Item, JobRule, Owning, PassView, Receiving, Settling, Sharing, Taking,
 };
 use crossbeam_queue::{Pass, RuledArrayQueue};
-use crossbeam_utils::sync::EventCount;
+use crossbeam_utils::sync::{EventCount, Key};
 use std::alloc::{AllocError, Global};
 use std::marker::Model;
-use std::sync::Wait;
+use std::sync::{Arc, Wait};
 use std::thread;
-use std::thread::{Threads, join, join_mut};
 
 type Jobs<J> = RuledArrayQueue<Item<J>, PassView<J>, JobRule>;
 
@@ -31,15 +29,15 @@ type Results<J> = RuledArrayQueue<Slip<J, <J as Job>::Output>, ResultView<J>, Re
 type Desk<J> = Pass<Slip<J, <J as Job>::Output>, ResultView<J>>;
 
 /// Jobs and results, shared by the one who gives jobs and the helpers. It ends by `close`, and can't be let go before. To a contract it
-/// is its identity, and how many jobs may be given and not back.
+/// is its identity, how many jobs may be given and not back, and how many helpers it has.
 pub struct Crew<J: Job> {
     jobs: Jobs<J>,
     results: Results<J>,
     room: usize,
     // How many helpers are told that no more jobs come.
     helpers: usize,
-    // By which helpers that sleep are told of a job, and that no more come.
-    calls: EventCount,
+    // By which helpers that sleep are told of a job, and that no more come. A crew beside this one has the same.
+    calls: Arc<EventCount>,
 }
 
 impl<J: Job> Model for Crew<J> {
@@ -55,6 +53,7 @@ impl<J: Job> Model for Crew<J> {
     ghost view = { λ c. record {
       id = record { jobs = c.jobs.table.shared.table_id; results = c.results.table.shared.table_id };
       room = c.room;
+      helpers = c.helpers;
     } };
 
     ghost invariant = { λ c. c.room + c.helpers ≤ ruled_capacity c.jobs };
@@ -164,33 +163,6 @@ fn say_over<J: Job, R: Wait>(rt: &R, jobs: &Jobs<J>, seat: &mut Seat<J>, helpers
     }
 }
 
-// A helper and `more` others, each in a thread of its own and the first in this one, until no more jobs come.
-fn stay_with<J: Job, R: Threads + Wait + Sync>(
-    rt: &R,
-    crew: &Crew<J>,
-    helper: &mut Helper<J>,
-    more: usize,
-)
-    requires crew { helper.old.crew ≡ crew.now.id }
-    requires owes { helper.old.paid ≡ helper.old.taken }
-{
-    if more == 0 {
-        crew.stay(rt, helper);
-        return;
-    }
-    let mut next = crew.another(helper);
-    let fewer = more - 1;
-    join(
-        rt,
-        move ||
-            requires { (helper.now.crew ≡ crew.now.id) × (helper.now.paid ≡ helper.now.taken) }
-        { crew.stay(rt, helper) },
-        move ||
-            requires { IsSync R.row × (next.crew ≡ crew.now.id) × (next.paid ≡ next.taken) }
-        { stay_with(rt, crew, &mut next, fewer) },
-    );
-}
-
 impl<J: Job> Lead<J> {
     /// How many jobs are given and not back.
     pub fn out(&self) -> usize
@@ -201,15 +173,17 @@ impl<J: Job> Lead<J> {
 }
 
 impl<J: Job> Crew<J> {
-    /// A crew for `helpers` helpers, with room for `room` jobs that are given and not back. None is given yet.
-    pub fn new<R: Wait>(
+    // A crew whose helpers are called so.
+    fn called_by<R: Wait>(
         rt: &R,
         alloc: Global,
         room: usize,
         helpers: usize,
+        calls: Arc<EventCount>,
     ) -> Result<(Crew<J>, Lead<J>), AllocError>
         requires { (0 < room) × (room + helpers < 2 ^ 63) }
         ensures room { IfOk result (λ made. made.0.room ≡ room) }
+        ensures helpers { IfOk result (λ made. made.0.helpers ≡ helpers) }
         ensures lead { IfOk result (λ made. made.1 ≡ new_lead made.0.id) }
     {
         let (jobs, mut seat) = Jobs::<J>::ruled(alloc, room + helpers)?;
@@ -225,7 +199,7 @@ impl<J: Job> Crew<J> {
             results,
             room,
             helpers,
-            calls: EventCount::new(),
+            calls,
         };
         let lead = Lead {
             seat,
@@ -235,6 +209,50 @@ impl<J: Job> Crew<J> {
             ended: false,
         };
         Ok((crew, lead))
+    }
+
+    /// A crew for `helpers` helpers, with room for `room` jobs that are given and not back. None is given yet.
+    pub fn new<R: Wait>(
+        rt: &R,
+        alloc: Global,
+        room: usize,
+        helpers: usize,
+    ) -> Result<(Crew<J>, Lead<J>), AllocError>
+        requires { (0 < room) × (room + helpers < 2 ^ 63) }
+        ensures room { IfOk result (λ made. made.0.room ≡ room) }
+        ensures helpers { IfOk result (λ made. made.0.helpers ≡ helpers) }
+        ensures lead { IfOk result (λ made. made.1 ≡ new_lead made.0.id) }
+    {
+        let calls = Arc::new(alloc, EventCount::new())?;
+        Crew::called_by(rt, alloc, room, helpers, calls)
+    }
+
+    /// A crew for the helpers of another one: as many, and one that sleeps at both is called by a job of either. `Both` is such a helper.
+    pub fn beside<K: Job, R: Wait>(
+        rt: &R,
+        alloc: Global,
+        room: usize,
+        other: &Crew<K>,
+    ) -> Result<(Crew<J>, Lead<J>), AllocError>
+        requires { (0 < room) × (room + other.now.helpers < 2 ^ 63) }
+        ensures room { IfOk result (λ made. made.0.room ≡ room) }
+        ensures helpers { IfOk result (λ made. made.0.helpers ≡ other.now.helpers) }
+        ensures lead { IfOk result (λ made. made.1 ≡ new_lead made.0.id) }
+    {
+        let calls = other.calls.clone()?;
+        Crew::called_by(rt, alloc, room, other.helpers, calls)
+    }
+
+    /// How many helpers it has.
+    pub fn helpers(&self) -> usize
+        ensures { result ≡ self.now.helpers }
+    {
+        self.helpers
+    }
+
+    // Announces that the caller looks for a job, and sleeps then if there is none.
+    pub(crate) fn prepare_wait(&self) -> Key<'_> {
+        self.calls.prepare_wait()
     }
 
     /// What a new helper needs, for its thread.
@@ -415,7 +433,7 @@ impl<J: Job> Crew<J> {
         requires { me.old.crew ≡ self.now.id }
         ensures { HasHelped result me.old me.new }
     {
-        let call = self.calls.prepare_wait();
+        let call = self.prepare_wait();
         let found = self.help(rt, me);
         if found == Found::Nothing {
             call.wait(rt);
@@ -439,36 +457,5 @@ impl<J: Job> Crew<J> {
                 return;
             }
         }
-    }
-
-    /// All helpers of the crew, each in a thread of its own and the first in this one, until no more jobs come. A thread that can't be
-    /// started leaves its work to the others.
-    pub fn stay_all<R: Threads + Wait + Sync>(&self, rt: &R, first: &mut Helper<J>)
-        requires crew { first.old.crew ≡ self.now.id }
-        requires owes { first.old.paid ≡ first.old.taken }
-        ensures crew { first.new.crew ≡ first.old.crew }
-        ensures owes { first.new.paid ≡ first.new.taken }
-    {
-        if self.helpers == 0 {
-            return;
-        }
-        if self.helpers == 1 {
-            self.stay(rt, first);
-            return;
-        }
-        let crew = self;
-        let mut next = crew.another(first);
-        let other = &mut next;
-        let more = self.helpers - 2;
-        join_mut(
-            rt,
-            &mut ||
-                requires { (first.now.crew ≡ crew.now.id) × (first.now.paid ≡ first.now.taken) }
-                ensures { (first.exit.now.crew ≡ first.entry.now.crew) × (first.exit.now.paid ≡ first.exit.now.taken) }
-            { crew.stay(rt, first) },
-            &mut ||
-                requires { IsSync R.row × (other.now.crew ≡ crew.now.id) × (other.now.paid ≡ other.now.taken) }
-            { stay_with(rt, crew, other, more) },
-        );
     }
 }

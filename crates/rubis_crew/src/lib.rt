@@ -1,14 +1,17 @@
 //! A crew: jobs that are given out while others are worked, those who take them, and the results that come back.
 #![tactic(auto)]
 
+mod both;
 mod crew;
 mod job;
 mod laws;
+mod post;
 mod results;
 mod rule;
 #[cfg(test)]
 mod tests;
 
+pub use both::Both;
 pub use crew::{Crew, Found, Helper, Lead};
 pub use job::{Back, Given, Job};
 pub use laws::{every_list_of_steps_accounts, every_step_keeps_the_rules, steps_move_the_waiting};

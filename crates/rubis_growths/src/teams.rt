@@ -20,7 +20,7 @@ use rubis_shard::{Shard, Share, Tables};
 use rubis_workers::{Free, LogBatch, Pace, Worked, Workers, apply_all, apply_batch, apply_beside};
 use std::alloc::{AllocError, Global};
 use std::io::Print;
-use std::sync::Wait;
+use std::sync::{Arc, Wait};
 use std::thread::Threads;
 
 // The key of purchase 0.1, whose home is shard 0 of 2, or 0.2, whose home is shard 1.
@@ -227,7 +227,7 @@ fn apply_shared<R: Print + AllocGlobal + Threads + Wait + Sync>(
     let mut workers = Workers {
         most: 4,
         pace: Pace::new(),
-        gate: Free,
+        gate: again!(rt, "Arc::new", Arc::new(alloc, Free)),
         alloc,
     };
     let batch = LogBatch {

@@ -6,4 +6,7 @@ pub mod Extending
 pub mod Comings
 pub mod Kept
 pub mod Trying
+mod Moving
+mod GivenOut
+mod SharedFacts
 mod TryExamples

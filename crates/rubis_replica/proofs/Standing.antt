@@ -14,11 +14,11 @@ use Rattle.rubis_workers.specs.Shard.{ShardState}
 use Rattle.rubis_workers.specs.Pieces.{AreFurther, HoldsTo, StopWithin, parts_behind}
 use Rattle.rubis_workers.proofs.Pieces.{behind_few, holds_none, holds_whole}
 use Rattle.rubis_workers.proofs.Pieces.{fewer_behind}
-use Rattle.rubis_workers.specs.Logs.{parts_between}
+use Rattle.rubis_workers.specs.Logs.{AppliesTo, AppliesWhole, parts_between}
 use Rattle.rubis_workers.proofs.Applied.{cores_front, cores_slice}
 use Rattle.rubis_workers.proofs.Between.{between_inside, slice_inside}
-use Rattle.rubis_replica.specs.Follow.{Follower, FollowsLog, HasStops}
-use Rattle.rubis_replica.specs.Progress.{IsProgress, IsStage, end_of, keeping, left_of, resting_at}
+use Rattle.rubis_replica.specs.Follow.{CanFollow, ComesTo, Follower, FollowsLog, HasStops, IsTriedTo}
+use Rattle.rubis_replica.specs.Progress.{BatchBegins, IsProgress, IsStage, end_of, keeping, left_of, resting_at, short}
 use Rattle.rubis_replica.specs.declared.progress.Progress.{Progress}
 use Rattle.rubis_replica.specs.declared.progress.Stage.{Stage}
 use Rattle.rubis_replica.specs.declared.progress.Stage.TheVariants.{Level, Keeping, Begun}
@@ -178,3 +178,36 @@ pub written_back : (len : ℕ) (new old : List ℕ) → length new ≡ length ol
     → take len (new ++ drop (length new) old) ≡ new
 written_back len new old many is =
     take-append-le len new (drop (length new) old) (omega (arith, many, is)) ∙ take_all len new (omega (arith, many, is))
+
+-- ---- a batch was applied, and isn't noted yet
+pub tried : (log : List Message) (upto : ℕ) (f : Follower) (stops : List ℕ) (ts : List ShardState) (ended : Result (Unit {0}) AllocError)
+    → CanFollow log upto f → OnOk ended (AppliesWhole log f.progress.applied upto f.tables ts)
+    → OnErr ended (AppliesTo log f.progress.applied upto f.tables ts stops)
+    → IsTriedTo log upto (record { progress = f.progress; stops = stops; tables = ts }) ended
+tried log upto f stops ts (Ok x) h ok err = record {
+  can = (h.follows.progress, h.rests);
+  on = h.on;
+  within = h.within;
+  few = h.few;
+  some = (let many = ok.many in let some = h.follows.some in omega (arith, many, some));
+  ok = subst (λ n. HoldsLog n (cores (take upto log)) ts) (sym ok.many) (ok.holds (h.follows.rests h.rests));
+  err = tt;
+}
+tried log upto f stops ts (Err e) h ok err = record {
+  can = (h.follows.progress, h.rests);
+  on = h.on;
+  within = h.within;
+  few = h.few;
+  some = (let many = err.many in let some = h.follows.some in omega (arith, many, some));
+  ok = tt;
+  err = (err.within, subst (λ n. HoldsTo n (cores log) stops ts) (sym err.many) (err.holds (h.follows.rests h.rests)));
+}
+
+-- and noted it is what it was, from the same progress
+pub comes_from : (log : List Message) (upto : ℕ) (old mid new : Follower) (result : Result (Unit {0}) AllocError) → mid.progress ≡ old.progress
+    → ComesTo log upto mid new result → ComesTo log upto old new result
+comes_from log upto old mid new result same h = record {
+  follows = h.follows;
+  ok = h.ok;
+  err = subst (λ (p : Progress). OnErr result ((new.progress ≡ short p) ⊎ BatchBegins log p.applied upto new.progress)) same h.err;
+}

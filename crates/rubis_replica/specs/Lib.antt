@@ -3,6 +3,7 @@ pub mod State
 pub mod Arrivals
 pub mod Counts
 pub mod Faults
+pub mod Folding
 pub mod Follow
 pub mod Progress
 pub mod Lengths

@@ -1,5 +1,5 @@
 -- A site's state, and what its calls answer.
-use Rattle.std.specs.Prelude.{◌≡◌, ◌-◌, ◌<◌, ◌⊎◌, ℕ, List, length, Result, Ok, Err, MatchResult, ⊤}
+use Rattle.std.specs.Prelude.{◌≡◌, ◌-◌, ◌<◌, ◌⊎◌, ℕ, List, length, Result, Ok, Err, MatchResult, OnOk, ⊤}
 use Rattle.rubis_schema.specs.declared.listings.Listing.{Listing}
 use Rattle.rubis_schema.specs.declared.listings.Listing.TheVariants.{Log}
 use Rattle.rubis_schema.specs.declared.refusals.Refusal.{Refusal}
@@ -75,6 +75,13 @@ abbrev pub IsCutFault : SiteState → SiteState → Fault → Type 0
 IsCutFault old new (Refused r) = ⊥
 IsCutFault old new Behind = left_of old.progress ≡ 0 → HasBegun old.state.log old.progress new.progress
 IsCutFault old new Memory = (new ≡ with_none_applied old) ⊎ (new ≡ with_kept_applied old)
+
+-- all that was pending is applied, or was tried to be; nothing else changed
+pub record IsRefreshed (old new : SiteState) (result : Result (Unit {0}) Fault) : Type 0 where
+  pub place : new.place ≡ old.place
+  pub batch : new.batch ≡ old.batch
+  pub state : new.state ≡ old.state
+  pub ok : OnOk result (new ≡ with_all_applied old)
 
 -- why a call that reads the tables gives no answer. It applies all that is pending first: without memory for that a batch of it
 -- has begun and isn't whole, or nothing of the next one is done; where it comes to nothing later, all stays applied

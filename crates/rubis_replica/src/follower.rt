@@ -6,12 +6,15 @@ ghost use Rattle.rubis_message.specs.Message.{sites_of};
 ghost use Rattle.rubis_model.specs.Listings.{log_rows, misfit_rows, table_rows};
 ghost use Rattle.rubis_workers.specs.Shard.{HoldsLog, union};
 ghost use Rattle.rubis_replica.specs.Arrivals.{IsStop, TakesFirst};
-ghost use Rattle.rubis_replica.specs.Follow.{ComesTo, FollowsLog, GoesOnTo};
+ghost use Rattle.rubis_replica.specs.Follow.{CanFollow, ComesTo, FollowsLog, GoesOnTo, IsTriedTo};
 ghost use Rattle.rubis_replica.specs.Progress.{HasBegun, IsAhead, IsBetween, is_behind, left_of, resting_at};
 ghost use Rattle.rubis_replica.specs.Counts.{IsCount};
 
 use crate::arriving::{Arrived, take_all};
+use crate::folding::Span;
+use crate::hands::Hands;
 use crate::progress::{Progress, Stage};
+use crate::shared_batches::apply_by_hands;
 use rubis_listing::ListingRows;
 use rubis_message::Message;
 use rubis_release::Intake;
@@ -22,7 +25,7 @@ use rubis_workers::{
 };
 use std::alloc::{AllocError, Global};
 use std::marker::Model;
-use std::sync::Wait;
+use std::sync::{Arc, Wait};
 use std::thread::Threads;
 
 /// The tables, and how much of the log they have. Pending messages are applied in batches: a batch that has begun and
@@ -90,12 +93,66 @@ impl<G: Gate + Drop> Follower<G> {
             workers: Workers {
                 most: workers,
                 pace: Pace::new(),
-                gate,
+                gate: Arc::new(alloc, gate)?,
                 alloc,
             },
             progress: Progress::resting_at(0),
             stops: Vec::with_capacity(alloc, usize::from(shards))?,
         })
+    }
+
+    // The same as `follow_upto` for the log of an intake, by helpers that stay for a run.
+    fn follow_upto_by<R: Wait>(
+        &mut self,
+        rt: &R,
+        hands: &mut Hands<'_, G>,
+        intake: &mut Intake,
+        upto: usize,
+    ) -> Result<(), AllocError>
+        requires { CanFollow intake.old.state.log upto self.old }
+        ensures follows { ComesTo intake.old.state.log upto self.old self.new result }
+        ensures intake { intake.new ≡ intake.old }
+        ensures crew { hands.new.lead.crew ≡ hands.old.lead.crew }
+    {
+        let span = Span {
+            from: self.progress.applied,
+            upto,
+        };
+        if span.from == upto {
+            self.progress = Progress::resting_at(upto);
+            return Ok(());
+        }
+        let ended = apply_by_hands(
+            rt,
+            hands,
+            &self.workers,
+            &mut self.tables,
+            intake,
+            &span,
+            &mut self.stops,
+        );
+        self.note(intake.log(), upto, ended)
+    }
+
+    /// Applies all that is pending of an intake's log, as `follow` does, by helpers that stay for a run.
+    pub fn follow_by<R: Wait>(
+        &mut self,
+        rt: &R,
+        hands: &mut Hands<'_, G>,
+        intake: &mut Intake,
+    ) -> Result<(), AllocError>
+        requires rests { left_of self.old.progress ≡ 0 }
+        requires follows { FollowsLog intake.old.state.log self.old }
+        ensures follows { FollowsLog intake.old.state.log self.new }
+        ensures ok { OnOk result (self.new.progress ≡ resting_at (length intake.old.state.log)) }
+        ensures err { OnErr result (HasBegun intake.old.state.log self.old.progress self.new.progress ⊎ IsBetween self.old.progress self.new.progress) }
+        ensures intake { intake.new ≡ intake.old }
+        ensures crew { hands.new.lead.crew ≡ hands.old.lead.crew }
+    {
+        let end = self.progress.end();
+        let upto = intake.log().len();
+        self.follow_upto_by(rt, hands, intake, end)?;
+        self.follow_upto_by(rt, hands, intake, upto)
     }
 }
 
@@ -188,10 +245,24 @@ impl<G: Gate> Follower<G> {
             &batch,
             &mut self.stops,
         );
+        self.note(log, upto, ended)
+    }
+
+    // Notes how far the batch came that ends with message `upto` and was applied.
+    fn note(
+        &mut self,
+        log: &[Message],
+        upto: usize,
+        ended: Result<(), AllocError>,
+    ) -> Result<(), AllocError>
+        requires tried { IsTriedTo log.now upto self.old ended }
+        ensures { ComesTo log.now upto self.old self.new result }
+    {
         if ended.is_ok() {
             self.progress = Progress::resting_at(upto);
             return Ok(());
         }
+        let from = self.progress.applied;
         let left = count_behind(&log[from..upto], from, &self.stops);
         if left == 0 {
             self.progress = Progress::resting_at(upto);

@@ -4,16 +4,21 @@
 mod arriving;
 mod config;
 mod faults;
+mod folding;
 mod follower;
+mod hands;
 mod lengths;
 mod progress;
+mod shared_batches;
 mod site;
 mod tries;
 
 pub use arriving::Arrived;
 pub use config::Config;
 pub use faults::Fault;
+pub use folding::Folding;
 pub use follower::Follower;
+pub use hands::Hands;
 pub use progress::{Progress, Stage};
 pub use rubis_listing::{ListingRows, put_record};
 pub use rubis_workers::{Free, Gate};

@@ -11,13 +11,14 @@ ghost use Rattle.rubis_replica.specs.Arrivals.{IsStop, TakesFirst};
 ghost use Rattle.rubis_replica.specs.Lengths.{looks_long};
 ghost use Rattle.rubis_replica.specs.Progress.{BatchGoesOn, IsAhead, IsBatched, IsProgress, end_of, is_behind, left_of, resting_at};
 ghost use Rattle.rubis_replica.specs.Setup.{setup_place};
-ghost use Rattle.rubis_replica.specs.State.{AddsRows, AnswersAsTheStep, IsCutFault, IsReadFault, IsReadyFor, Lists};
+ghost use Rattle.rubis_replica.specs.State.{AddsRows, AnswersAsTheStep, IsCutFault, IsReadFault, IsReadyFor, IsRefreshed, Lists};
 ghost use Rattle.rubis_replica.specs.State.{NeedsNoTables, TakesIn, WaitsBehind, pending, with_all_applied};
 
 use crate::arriving::Arrived;
 use crate::config::Config;
 use crate::faults::Fault;
 use crate::follower::Follower;
+use crate::hands::Hands;
 use crate::lengths::is_long;
 use rubis_generate::decide;
 use rubis_listing::ListingRows;
@@ -89,6 +90,40 @@ impl<G: Gate + Drop> Site<G> {
             batch: config.batch(),
             alloc,
         })
+    }
+
+    // Applies all that is pending, by helpers that stay for a run.
+    fn refresh_by<R: Wait>(&mut self, rt: &R, hands: &mut Hands<'_, G>) -> Result<(), Fault>
+        ensures site { IsRefreshed self.old self.new result }
+        ensures waits { WaitsBehind self.old self.new result }
+        ensures fault { IfErr result (IsCutFault self.old self.new) }
+        ensures crew { hands.new.lead.crew ≡ hands.old.lead.crew }
+    {
+        if self.follower.is_behind() {
+            return Err(Fault::Behind);
+        }
+        if self.follower.follow_by(rt, hands, &mut self.intake).is_ok() {
+            return Ok(());
+        }
+        if self.follower.is_behind() {
+            return Err(Fault::Behind);
+        }
+        Err(Fault::Memory)
+    }
+
+    /// Applies all that is pending as `cut` does, by helpers that stay for a run, to which its shards are given.
+    pub fn cut_by_crew<R: Wait>(&mut self, rt: &R, hands: &mut Hands<'_, G>) -> Result<u32, Fault>
+        ensures place { self.new.place ≡ self.old.place }
+        ensures batch { self.new.batch ≡ self.old.batch }
+        ensures state { self.new.state ≡ self.old.state }
+        ensures waits { WaitsBehind self.old self.new result }
+        ensures ok { IfOk result (λ count. (count ≡ pending self.old) × (self.new ≡ with_all_applied self.old)) }
+        ensures fault { IfErr result (IsCutFault self.old self.new) }
+        ensures crew { hands.new.lead.crew ≡ hands.old.lead.crew }
+    {
+        let pending = self.intake.log().len() - self.follower.applied();
+        self.refresh_by(rt, hands)?;
+        Ok(pending as u32)
     }
 }
 

@@ -1,5 +1,5 @@
 -- A run whose text is read by helpers.
-use Rattle.std.proofs.Common.{◌≡◌, ◌∙◌, ◌-◌, ℕ, List, Option, ap, drop, subst, sym, take}
+use Rattle.std.proofs.Common.{◌≡◌, ◌∙◌, ◌+◌, ◌-◌, ◌++◌, ℕ, [], List, Option, ap, drop, subst, sym, take}
 use Rattle.std.specs.Prelude.{Err, IfNone, IfOk, None, Ok, Result, Some}
 use Rattle.rubis_engine.specs.declared.fault.Count.{Count}
 use Rattle.rubis_engine.specs.declared.fault.RunFault.{RunFault}
@@ -9,10 +9,16 @@ use Rattle.rubis_reading.specs.declared.chunks.Chunks.{Chunks}
 use Rattle.rubis_reading.specs.declared.pieces.Pieces.{Pieces}
 use Rattle.rubis_reading.specs.declared.pieces.ReadPiece.{ReadPiece}
 use Rattle.rubis_reading.specs.declared.stretches.Stretch.{Stretch}
-use Rattle.rubis_script.specs.Desks.{KeepsSetup}
-use Rattle.rubis_script.specs.Helped.{AreHeld}
-use Rattle.rubis_script.specs.Runs.{RunEnds, TurnEnds}
+use Rattle.rubis_engine.specs.Text.{input_records}
+use Rattle.rubis_replica.specs.State.{SiteState}
+use Rattle.rubis_replica.specs.Arrivals.{after_all}
+use Rattle.rubis_script.specs.Desks.{KeepsSetup, left_at}
+use Rattle.rubis_script.specs.Windows.{held_by}
+use Rattle.rubis_script.proofs.StepFacts.{takes-held}
+use Rattle.rubis_script.specs.Helped.{AreHeld, StayWith}
+use Rattle.rubis_script.specs.Runs.{HasReadAhead, RunEnds, TakesAll, TurnEnds}
 use Rattle.rubis_script.specs.declared.desk.Desk.{Desk}
+use Rattle.rubis_script.specs.declared.helpers.Helpers.{Helpers}
 
 pub kept-more : (old mid new : Pieces) → KeepFor old mid → KeepFor mid new → KeepFor old new
 kept-more old mid new one two = (two.0 ∙ one.0, two.1 ∙ one.1, two.2 ∙ one.2)
@@ -33,6 +39,11 @@ pub read-held : {R G : Type 0} (chunks : Chunks R) (d : Desk G) (old new : Piece
 read-held chunks d old new text list held keeps is =
     subst (λ k. AreRead k d.plan.window text list) (keeps.1 ∙ held.sites)
     (subst (λ k. AreRead new.sites k text list) (keeps.2 ∙ held.window) is)
+
+pub read-on : {G : Type 0} (d d2 : Desk G) (text : List ℕ) (list : List Stretch) → KeepsSetup d d2
+    → AreRead d.site.place.sites d.plan.window text list → AreRead d2.site.place.sites d2.plan.window text list
+read-on d d2 text list setup is =
+    subst (λ p. AreRead p.sites d2.plan.window text list) (sym setup.0) (subst (λ q. AreRead d.site.place.sites q.window text list) (sym setup.1) is)
 
 -- a piece was taken off
 pub takes-one : (text : List ℕ) (o : Option ReadPiece) (p : ReadPiece) (s : Pieces) → TakesFirst text o s → o ≡ Some p
@@ -59,3 +70,34 @@ ends-at limit rem chunks c1 c2 d d1 d2 before after1 after2 result c_is d_is aft
     subst (λ a. RunEnds limit rem chunks d before c2 d2 a result) after_is
     (subst (λ x. RunEnds limit rem chunks d before c2 x after1 result) d_is
     (subst (λ x. RunEnds limit rem chunks d before x d1 after1 result) c_is h))
+
+-- wherever the run stands, it stands there once messages are folded
+pub folded-on : {R G : Type 0} (rem : R → Option (List ℕ)) (chunks : Chunks R) (d d2 : Desk G) → TakesAll [] d d2 → (first : SiteState)
+    (old now : Option (List ℕ)) (input : List ℕ) → HasReadAhead rem chunks d [] first old now input → HasReadAhead rem chunks d2 [] first old now input
+folded-on rem chunks d d2 takes first old now input h =
+    record {
+      later = h.later;
+      stands = (takes now).goes [] first old (input_records input) h.later h.stands;
+      pending = h.pending;
+      come = h.come;
+    }
+
+pub kept-on : {G : Type 0} (d d2 d3 : Desk G) → KeepsSetup d d2 → KeepsSetup d2 d3 → KeepsSetup d d3
+kept-on d d2 d3 one two = (two.0 ∙ one.0, two.1 ∙ one.1)
+
+-- of the desk nothing changed but how far the site's tables are
+pub folded : {G : Type 0} (d d2 : Desk G) → d2.site.place ≡ d.site.place → d2.site.state ≡ d.site.state → d2.plan ≡ d.plan
+    → d2.window.items ≡ d.window.items → d2.reply.sink ≡ d.reply.sink → d2.answered ≡ d.answered → TakesAll [] d d2
+folded d d2 place state plan held sink answered =
+    let same : left_at d ≡ left_at d2 =
+    λ i. held_by (record { place = sym place i; state = sym state i; progress = d.site.progress; batch = d.site.batch }) (sym held i)
+        (ap (λ (n : ℕ). n + 1) (sym answered) i) in
+    takes-held d d2 (place, plan)
+    (record {
+      count = answered;
+      text = λ more. (λ ending i. sym sink i ++ (same i).text ending more, ap (λ a. a.read more) same);
+      leads = (place, λ i. after_all (place i) (state i) (held i));
+    })
+
+pub with-more : {G : Type 0} {old mid new : Helpers G} → StayWith mid new → StayWith old mid → StayWith old new
+with-more two one = (two.0 ∙ one.0, two.1 ∙ one.1)

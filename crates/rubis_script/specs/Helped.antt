@@ -1,5 +1,6 @@
--- A run whose text is read by helpers.
-use Rattle.std.specs.Prelude.{◌≡◌, IfNone, IfOk, Option, Result}
+-- A run for which helpers stay.
+use Rattle.std.specs.Prelude.{◌≡◌, [], IfNone, IfOk, Option, Result, true}
+use Rattle.rubis_crew.specs.States.{CrewId, LeadState}
 use Rattle.rubis_engine.specs.declared.fault.Count.{Count}
 use Rattle.rubis_engine.specs.declared.fault.RunFault.{RunFault}
 use Rattle.rubis_reading.specs.Chunked.{held_text}
@@ -7,6 +8,7 @@ use Rattle.rubis_reading.specs.Readings.{AreOf}
 use Rattle.rubis_reading.specs.declared.chunks.Chunks.{Chunks}
 use Rattle.rubis_reading.specs.declared.pieces.Pieces.{Pieces}
 use Rattle.rubis_script.specs.declared.desk.Desk.{Desk}
+use Rattle.rubis_script.specs.declared.helpers.Helpers.{Helpers}
 
 -- the pieces are of the text that is held, and read as at this desk
 pub record AreHeld {R G : Type 0} (chunks : Chunks R) (d : Desk G) (p : Pieces) : Type 0 where
@@ -14,7 +16,18 @@ pub record AreHeld {R G : Type 0} (chunks : Chunks R) (d : Desk G) (p : Pieces) 
   pub sites : p.sites ≡ d.site.place.sites
   pub window : p.window ≡ d.plan.window
 
--- after a step of the run they are given to the same crew, and are of what is held then, if the run goes on
-abbrev pub StayHeld : {R G : Type 0} → Pieces → Chunks R → Desk G → Pieces → Result (Option Count) RunFault → Type 0
-StayHeld old chunks d new result =
-    (new.lead.crew ≡ old.lead.crew) × IfOk result (λ over. IfNone over (AreHeld chunks d new))
+-- they are those of the same two crews
+abbrev pub StayWith : {G : Type 0} → Helpers G → Helpers G → Type 0
+StayWith old new = (new.pieces.lead.crew ≡ old.pieces.lead.crew) × (new.hands.lead.crew ≡ old.hands.lead.crew)
+
+-- after a step of the run they are, and the pieces are of what is held then, if the run goes on
+abbrev pub StayHeld : {R G : Type 0} → Helpers G → Chunks R → Desk G → Helpers G → Result (Option Count) RunFault → Type 0
+StayHeld old chunks d new result = StayWith old new × IfOk result (λ over. IfNone over (AreHeld chunks d new.pieces))
+
+-- the lead of that crew has all back, and said that no more come
+abbrev pub HasEnded : {J : Type 0} → CrewId → LeadState J → Type 0
+HasEnded crew l = (l.crew ≡ crew) × (l.ended ≡ true) × (l.given ≡ [])
+
+-- both crews are told that no more come
+abbrev pub AreOver : {G : Type 0} → Helpers G → Helpers G → Type 0
+AreOver old new = HasEnded old.pieces.lead.crew new.pieces.lead × HasEnded old.hands.lead.crew new.hands.lead

@@ -1,6 +1,6 @@
 //! A site as a service: a record in, its answers out.
 
-ghost use Rattle.std.specs.Prelude.{◌≡◌, ◌≤◌, ◌<◌, ◌+◌, ◌++◌, ◌∷◌, ◌^◌, [], All, IfOk, OnOk, length};
+ghost use Rattle.std.specs.Prelude.{◌≡◌, ◌≤◌, ◌<◌, ◌+◌, ◌++◌, ◌∷◌, ◌^◌, [], All, IfOk, OnOk, length, max};
 ghost use Rattle.rubis_schema.specs.declared.limits.TheConstants.{COUNTED_MAX};
 ghost use Rattle.rubis_message.specs.Grammar.{IsPacket, IsRequest};
 ghost use Rattle.rubis_message.specs.Message.{sites_of};
@@ -12,6 +12,7 @@ ghost use Rattle.rubis_message.specs.declared.inputs.Input.TheVariants.{Asked, C
 ghost use Rattle.rubis_model.specs.Site.{opening_at};
 ghost use Rattle.rubis_replica.specs.Setup.{setup_place};
 ghost use Rattle.rubis_script.specs.Drains.{WritesFront, WritesOff, listed_behind};
+ghost use Rattle.rubis_script.specs.declared.plan.TheConstants.{WINDOW_MIN};
 ghost use Rattle.rubis_script.specs.Inputs.{IsAnswered, IsRefusedBy};
 ghost use Rattle.rubis_engine.specs.Endings.{ByEnd};
 ghost use Rattle.rubis_engine.specs.Text.{rows_text};
@@ -219,7 +220,7 @@ impl<G: Gate + Drop> Desk<G> {
     /// A site with nothing done, set up so, whose batches are applied under the gate.
     pub fn new(alloc: Global, config: &Config, gate: G) -> Result<Desk<G>, AllocError>
         ensures site { IfOk result (λ desk. (desk.site.place ≡ setup_place config.now) × (desk.site.state ≡ opening_at config.now.site)) }
-        ensures window { IfOk result (λ desk. desk.plan.window ≡ config.now.batch) }
+        ensures window { IfOk result (λ desk. desk.plan.window ≡ max config.now.batch WINDOW_MIN) }
         ensures fresh { IfOk result (λ desk. IsFresh desk) }
     {
         Ok(Desk {

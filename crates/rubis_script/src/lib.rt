@@ -6,6 +6,7 @@ mod alone;
 mod answering;
 mod desk;
 mod helped;
+mod helpers;
 mod laws;
 mod plan;
 mod replies;

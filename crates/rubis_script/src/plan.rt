@@ -1,8 +1,12 @@
 //! How a site reads ahead.
 
-ghost use Rattle.std.specs.Prelude.{◌≡◌, ◌<◌};
+ghost use Rattle.std.specs.Prelude.{◌≡◌, ◌<◌, max};
+ghost use Rattle.rubis_script.specs.declared.plan.TheConstants.{WINDOW_MIN};
 
 use rubis_replica::Config;
+
+// How many messages are taken in together at least, where a text has so many: all of a piece. Fewer would be as many turns more.
+const WINDOW_MIN: usize = 4096;
 
 /// How a text is read ahead.
 #[derive(Clone, Copy)]
@@ -15,14 +19,14 @@ pub struct Plan {
 
 impl Plan {
     /// How a site of that configuration reads ahead: all of its workers but one are helpers, and a window has at most as many
-    /// messages as a batch.
+    /// messages as a batch, or as a piece of the text.
     pub fn of(config: &Config) -> Plan
-        ensures window { result.window ≡ config.now.batch }
+        ensures window { result.window ≡ max config.now.batch WINDOW_MIN }
         ensures some { 0 < result.window }
     {
         Plan {
             helpers: config.workers() - 1,
-            window: config.batch() as usize,
+            window: (config.batch() as usize).max(WINDOW_MIN),
         }
     }
 }

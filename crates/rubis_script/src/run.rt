@@ -202,7 +202,7 @@ fn serve<G: Gate, T: Threads + Wait + Sync, R: Read, W: Write>(
 /// # Errors
 ///
 /// Those of `run_desk`.
-pub fn run_chunks<G: Gate, T: Threads + Wait + Sync, R: Read, W: Write>(
+pub fn run_chunks<G: Gate + Drop, T: Threads + Wait + Sync, R: Read, W: Write>(
     rt: &T,
     alloc: Global,
     chunks: &mut Chunks<R>,
@@ -230,7 +230,7 @@ pub fn run_chunks<G: Gate, T: Threads + Wait + Sync, R: Read, W: Write>(
 /// `Read` if the reader failed: the records that came whole before are answered then, as if there were no more. `Write` if the writer
 /// failed, and `Memory` if memory ran out: what was written is a prefix of the whole text. `TooLong` if the input has more
 /// than `limit` records: the first `limit` are answered then.
-pub fn run_desk<G: Gate, T: Threads + Wait + Sync, R: Read + Drop, W: Write>(
+pub fn run_desk<G: Gate + Drop, T: Threads + Wait + Sync, R: Read + Drop, W: Write>(
     rt: &T,
     alloc: Global,
     reader: R,

@@ -20,7 +20,7 @@ use std::sync::Wait;
 use std::thread::Threads;
 
 // Runs the desk of a site with which nothing was done yet.
-fn run_opened<G: Gate, T: Threads + Wait + Sync, R: Read + Drop, W: Write>(
+fn run_opened<G: Gate + Drop, T: Threads + Wait + Sync, R: Read + Drop, W: Write>(
     rt: &T,
     alloc: Global,
     reader: R,

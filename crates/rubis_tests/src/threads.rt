@@ -9,8 +9,8 @@ use crate::transcripts::add_line;
 use rubis_workers::{LogBatch, Pace, Tables, Workers, apply_batch};
 use rubis_world::{Config, Count, Gate, Site, run_site_upto};
 use std::alloc::Global;
-use std::sync::Wait;
 use std::sync::atomic::{AtomicU64, Ordering};
+use std::sync::{Arc, Wait};
 use std::test::Fail;
 use std::thread::Threads;
 
@@ -191,7 +191,7 @@ fn rest_after<R: Threads + Wait + Sync>(rt: &R, alloc: Global, count: u32) -> Re
     let mut workers = Workers {
         most: 4,
         pace: Pace::new(),
-        gate,
+        gate: Arc::new(alloc, gate)?,
         alloc,
     };
     let batch = LogBatch {

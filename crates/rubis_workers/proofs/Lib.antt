@@ -4,6 +4,6 @@ pub mod Applied
 mod Lists
 mod Moved
 mod Folded
-mod Counts
+pub mod Counts
 pub mod Shard
 pub mod Pieces

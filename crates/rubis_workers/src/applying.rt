@@ -19,8 +19,8 @@ use std::alloc::AllocError;
 use std::sync::Wait;
 use std::thread::Threads;
 
-// Tables of shards that came from tables.
-fn again(shards: Items<Shard>) -> Tables
+/// Tables of shards that came from tables.
+pub fn again(shards: Items<Shard>) -> Tables
     requires { IsSet shards }
     ensures { result ≡ shards }
 {
@@ -30,8 +30,8 @@ fn again(shards: Items<Shard>) -> Tables
     }
 }
 
-// Each of the shards stands there.
-fn stop_all(stops: &mut Vec<usize>, shards: usize, at: usize)
+/// Notes that each of the shards stands at message `at`.
+pub fn stop_all(stops: &mut Vec<usize>, shards: usize, at: usize)
     requires room { shards ≤ vec_capacity stops.old }
     ensures many { length stops.new.items ≡ shards }
     ensures at { (k : ℕ) → k < shards → slice_index stops.new.items k ≡ at }
@@ -43,8 +43,9 @@ fn stop_all(stops: &mut Vec<usize>, shards: usize, at: usize)
     }
 }
 
-// Each shard stands where it came to in a batch after message `from`; whether each did all `messages` of it.
-fn stop_each(stops: &mut Vec<usize>, dones: &[usize], from: usize, messages: usize) -> bool
+/// Notes where each shard stands that did so many messages of a batch after message `from`. Returns whether each did all `messages` of
+/// it.
+pub fn stop_each(stops: &mut Vec<usize>, dones: &[usize], from: usize, messages: usize) -> bool
     requires room { length dones.now ≤ vec_capacity stops.old }
     requires within { (k : ℕ) → k < length dones.now → slice_index dones.now k ≤ messages }
     requires few { from + messages ≤ KEEP_MAX }
@@ -63,8 +64,9 @@ fn stop_each(stops: &mut Vec<usize>, dones: &[usize], from: usize, messages: usi
     whole
 }
 
-// Applies a batch of a log on the caller's thread, the one worker, which first takes each shard.
-fn apply_alone<G: Gate>(
+/// Applies a batch of a log on the caller's thread, which takes each shard first, as far as memory goes. On an error `stops` says how
+/// far each shard stands.
+pub fn apply_alone<G: Gate>(
     tables: &mut Tables,
     batch: &LogBatch,
     stops: &mut Vec<usize>,
@@ -124,7 +126,7 @@ fn apply_together<G: Gate, R: Threads + Wait + Sync>(
     };
     let setup = TeamSetup {
         most: threads,
-        gate: &workers.gate,
+        gate: &*workers.gate,
         alloc: workers.alloc,
     };
     let taken = tables.take();
@@ -184,7 +186,7 @@ pub fn apply_batch<G: Gate, R: Threads + Wait + Sync>(
     let threads = workers.pace.threads(most, tables.len(), messages);
     if threads == 1 {
         workers.pace.rest(messages);
-        return apply_alone(tables, batch, stops, &workers.gate);
+        return apply_alone(tables, batch, stops, &*workers.gate);
     }
     apply_together(rt, workers, threads, tables, batch, stops)
 }

@@ -4,7 +4,7 @@ ghost use Rattle.std.specs.Prelude.{◌≡◌};
 
 /// Called by a worker with the number of each shard that it takes, before it folds the shard's parts: each shard of a batch
 /// is taken once. It may hold the worker up; it has no part in what is done.
-pub trait Gate: Sync {
+pub trait Gate: Sync + Send {
     fn taken(&self, piece: usize);
 }
 

@@ -13,7 +13,7 @@ mod task;
 mod team;
 mod workers;
 
-pub use applying::apply_batch;
+pub use applying::{again, apply_alone, apply_batch, stop_all, stop_each};
 pub use batches::{TeamResult, Unstarted, Worked, apply_all, apply_beside, apply_by_team};
 pub use folding::{apply_upto, count_parts};
 pub use following::{Followed, follow_by_team};

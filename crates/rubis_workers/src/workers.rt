@@ -3,6 +3,7 @@
 use crate::pace::Pace;
 use rubis_message::Message;
 use std::alloc::Global;
+use std::sync::Arc;
 
 /// Who applies batches, and what they need for it.
 #[derive(Drop)]
@@ -12,7 +13,7 @@ pub struct Workers<G> {
     /// How many of them the next batch is worth.
     pub pace: Pace,
     /// What each of them calls for a shard that it takes.
-    pub gate: G,
+    pub gate: Arc<G, Global>,
     pub alloc: Global,
 }
 

@@ -1,6 +1,6 @@
 use Rattle.std.proofs.Common.{◌≡◌, ap, rules}
 use Rattle.rubis_script.proofs.HelpFacts.{ends-at}
-use Rattle.rubis_script.proofs.helped.serve_helped.Goals as goal
+use Rattle.rubis_script.proofs.helped.serve_beside.Goals as goal
 
 pub returns-clause-run : goal.returns-clause-run
 returns-clause-run g c =

@@ -2,7 +2,7 @@ use Rattle.crossbeam_queue.specs.Passes.{view}
 use Rattle.rubis_crew.proofs.Giving.{begins}
 use Rattle.rubis_crew.proofs.Handing.{shares}
 use Rattle.rubis_crew.proofs.Paying.{collects}
-use Rattle.rubis_crew.proofs.crew.Crew.new.Goals as goal
+use Rattle.rubis_crew.proofs.crew.Crew.called_by.Goals as goal
 
 pub ruled-requires-clause-rule : goal.ruled-requires-clause-rule
 ruled-requires-clause-rule g c = begins g.J.Job.Fits
