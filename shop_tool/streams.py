@@ -336,7 +336,7 @@ STEPS = {State: "state", Owner: "owner", Sites: "count_of_first", Adopt: "adopt"
 
 
 def status_in(key: str, text: bytes) -> dict[str, Any]:
-    """The status of a site; a fault where a key has none, since the site may run all the same: nobody takes its place, nor opens it."""
+    """The status of a site; a fault where a key has none, since the site may run all the same: nobody takes its place."""
     try:
         said = json.loads(text)
     except (ValueError, RecursionError):
