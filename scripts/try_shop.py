@@ -1845,6 +1845,27 @@ def test_limits(at: Folder) -> None:
     expect(line == "", "nothing was asked")
 
 
+def test_no_more_files(at: Folder) -> None:
+    """A shop has as many files as its user may have at most. Where there are more connections than that it says so once, takes no processor
+    time for it, and goes on when some have gone."""
+    at.run("ulimit -S -n 40; ./shop start other --sites 12")
+    expect(at.shop("ask 11 user,ann", folder="other") == "ok,11.1\n", "a shop with more sites than the soft limit has room for")
+    at.start("sh -c 'ulimit -n 40; exec ./shop run auction'")
+    at.wait("the shop", lambda: (at.path / "auction/sock").exists())
+    at.shop("ask 0 user,ann")
+    process = at.status()["pid"]
+    lines = [to_socket(str(at.path / "auction"))() for _ in range(60)]
+    at.wait("what it says", lambda: "no more connections" in at.text("auction/events"))
+    before = processor_seconds(process)
+    time.sleep(3)
+    expect(processor_seconds(process) - before < 0.5, "the processor time of three seconds")
+    for line in lines:
+        line.close()
+    expect(at.shop("ask 0 user,bob") == "ok,0.2\n", "it goes on")
+    events = at.text("auction/events")
+    expect(events.count("Too many open files") == 1 and "Traceback" not in events, f"what it says: {events}")
+
+
 def test_one_record_a_request(at: Folder) -> None:
     """What comes over the socket is one record of the kind that its request is for, or nothing is given to a site."""
     at.run("./shop start auction --sites 2")

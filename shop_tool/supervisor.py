@@ -19,6 +19,7 @@ from .folders import put_in_place
 from .grid import waits_of
 from .lives import begin_life, lives_of
 from .lock import take_lock
+from .open_files import Faults, take_more
 from .program import answers_questions
 from .reads import STATE
 from .render import shown
@@ -239,6 +240,7 @@ class Supervisor(Shop):
 
     async def run(self) -> None:
         loop = asyncio.get_running_loop()
+        loop.set_exception_handler(Faults(lambda text: self.event(f"supervisor: {text}")).tell)
         for number in (signal.SIGTERM, signal.SIGINT):
             loop.add_signal_handler(number, self._signalled, signal.Signals(number).name)
         here = ", ".join(map(str, self.sites))
@@ -349,6 +351,7 @@ def they_have(silent: list[int]) -> str:
 def run(folder: str, settings: Settings, program: str, is_alone: bool, upgrades: bool) -> None:
     """Runs the shop until it is stopped."""
     os.umask(0o077)
+    take_more()
     take_lock(folder)
     for site in range(settings.sites):
         put_in_place(folder, site)      # a rebuild was cut
