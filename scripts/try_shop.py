@@ -919,6 +919,26 @@ def test_changed_word(at: Folder) -> None:
     expect(at.shop("audit") == "audit,Agree\n", "the audit")
 
 
+def test_changed_word_while_it_runs(at: Folder) -> None:
+    """The same of a word that is changed in place while the shop runs, once the keeper is started again: it never reads that line."""
+    at.run("./shop start auction --sites 2")
+    at.shop("ask 0 user,ann item,0.1,white,7,1,100,0")
+    at.shop("wait 1")
+    with open(at.path / "auction/1/kept", "r+b") as kept:
+        kept.seek(kept.read().index(b"white"))
+        kept.write(b"black")
+    os.kill(at.site(1)["pid"], signal.SIGKILL)
+    at.wait("its end", lambda: at.site(1)["state"] == "fenced")
+    expect("line 2 of its file `kept` was changed" in at.site(1)["fault"], f"why: {at.site(1)}")
+    at.shop("list 1 items 7", 3, "line 2 of its file `kept` was changed")
+    expect(at.shop("ask 0 user,bob") == "ok,0.3\n", "site 0 goes on")
+    at.shop("stop")
+    changed(at, "auction/1/kept", "black", "white")
+    at.run("./shop start auction")
+    at.shop("wait 1")
+    at.shop("audit")
+
+
 def test_changed_word_over_a_server(at: Folder) -> None:
     """The same over a server, where a shop that was killed has sums that lag behind; what was asked is answered as it was kept."""
     server = Server(at).start_shop()

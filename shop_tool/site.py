@@ -14,7 +14,7 @@ from .carrier.answers import Answer
 from .carrier.files import File
 from .carrier.records import text_of
 from .carrier.site import FIRST_WAIT, LAST_WAIT, Disagreement, Site, State
-from .carrier.sums import LINE_BYTES, compared
+from .carrier.sums import LINE_BYTES, compared, why_changed
 from .folders import put, synced
 from .settings import Settings
 from .signals import done, waited
@@ -63,7 +63,7 @@ class KeptSite(Site):
         while not self.shop.stopping.is_set and not self.has_lost_files():
             began, self.starts, faults = time.monotonic(), self.starts + 1, self.fault
             self.become(State.STARTING)
-            status = await self._live() if self.shop.begins(self) else "none"
+            status = await self._live() if self.shop.begins(self) and self.is_unchanged() else "none"
             self.up.clear()
             if self.shop.stopping.is_set or self.fenced_by:
                 break
@@ -172,6 +172,19 @@ class KeptSite(Site):
             os.lseek(self._sums, 0, os.SEEK_END)
         os.fsync(self._sums)        # a power failure takes none that a start has compared
         return changed
+
+    def is_unchanged(self) -> bool:
+        """Whether the lines of `kept` are as their sums say, which a keeper that is started again will read; else the site is fenced. Before
+        the first one they were compared when the sums were opened."""
+        if self.starts > 1:
+            try:
+                if line := checked(self.folder)[1]:
+                    self.is_changed = True
+                    self.fence(why_changed(self.number, line))
+            except OSError as fault:
+                self.note_fault(f"{fault.filename or self.folder}: {fault.strerror or fault}")
+                return False
+        return not self.is_changed
 
     def write_sums(self, lines: bytes) -> None:
         if os.write(self._sums, lines) < len(lines):
