@@ -332,6 +332,31 @@ def test_reads_leave_nothing(at: Folder) -> None:
     expect(at.shop("audit") == "audit,Agree\n", "the audit")
 
 
+FULL = """
+import tempfile
+made = tempfile.mkdtemp
+
+def mkdtemp(suffix=None, prefix=None, dir=None):
+    if dir is None:
+        raise FileNotFoundError(2, "No usable temporary directory found")
+    return made(suffix, prefix, dir)
+tempfile.mkdtemp = mkdtemp
+"""
+
+
+def test_reads_where_temporary_folders_are_full(at: Folder) -> None:
+    """Where no temporary folder can be made, a start still sees that the program answers questions, and reads leave nothing."""
+    if not answers_questions(str(at.path / "rubis")):
+        raise Skipped("this program keeps listings as records")
+    (at.path / "sitecustomize.py").write_text(FULL)
+    at.run(f"PYTHONPATH={at.path} ./shop start auction --sites 2")
+    at.shop("ask 0 user,ann")
+    at.shop("list 0 users")
+    at.shop("audit")
+    expect(at.text("auction/0/kept") == "user,ann\n", "what is kept")
+    expect(sorted(os.listdir(at.path / "auction")) == sorted("0 1 events lives lock shop.json sock".split()), "nothing else is left")
+
+
 def test_several(at: Folder) -> None:
     """A connection that is kept has many requests at once, each answered under its number; one can be left."""
     at.run("./shop start auction --sites 2")
@@ -772,6 +797,85 @@ def test_removed_files(at: Folder) -> None:
     at.shop("audit")
 
 
+CUT = """
+import os, signal, sys
+rename, count = os.rename, 0
+
+def renamed(*words, **named):
+    global count
+    count += 1
+    if count == int(os.environ.get("CUT", 0)):
+        os.kill(os.getpid(), signal.SIGKILL)
+    rename(*words, **named)
+os.rename = renamed
+"""
+
+
+def test_rebuild_that_is_cut(at: Folder) -> None:
+    """A rebuild is killed at each of its renames, and said again, at once or behind a start: what only that folder has is there still."""
+    (at.path / "sitecustomize.py").write_text(CUT)
+    at.run("./shop start auction --sites 2")
+    at.shop("ask 0 user,ann item,0.1,lamp,7,1,100,0")
+    at.shop("wait 1")
+    status = at.status()
+    os.kill(status["site"][1]["pid"], signal.SIGSTOP)
+    expect(at.shop("ask 0 item,0.1,vase,7,1,100,0") == "ok,0.3\n", "what site 1 doesn't get")
+    at.kill(status["pid"])
+    at.kill(status["site"][1]["pid"])
+    at.run("cp -a auction before")
+    for number in itertools.count(1):
+        at.run("rm -rf auction && cp -a before auction")
+        command = f"PYTHONPATH={at.path} CUT={number} ./shop -C auction rebuild 0"
+        if subprocess.run(["sh", "-c", command], cwd=at.path, capture_output=True).returncode == 0:
+            break
+        if number % 2:
+            at.run("./shop start auction; ./shop stop auction")
+        expect("site 0: 3 packets" in at.shop("rebuild 0"), f"what is made, cut at rename {number}")
+        at.run("./shop start auction")
+        expect(at.shop("ask 0 item,0.1,bowl,7,1,100,0") == "ok,0.4\n", f"the next one, cut at rename {number}")
+        expect("vase" in at.shop("list 0 items 7"), f"what was accepted, cut at rename {number}")
+        at.shop("stop")
+    expect(number > 3, f"it has renames: {number}")
+
+
+def test_files_that_are_none(at: Folder) -> None:
+    """Where files of a site are folders, or its folder is a file, its start is tried again, and the others go on; what is no life, or says
+    nothing of why it was stopped, isn't taken for less than it may have been."""
+    at.run("./shop start auction --sites 4")
+    at.shop(f"ask 0 {SALE}")
+    for site in range(4):
+        at.shop(f"wait {site}")
+    at.shop("stop")
+    at.run("mv auction/0/life aside; mkdir auction/0/life auction/1/keys; mv auction/2 two; touch auction/2")
+    said = at.run("./shop start auction 2>&1", 3)
+    for site, name in ((0, "0/life: Is a directory"), (1, "1/keys: Is a directory"), (2, "2: File exists")):
+        expect(f"auction/{name}" in said, f"what the start says of site {site}: {said}")
+        expect(at.site(site)["state"] in ("down", "starting"), f"site {site}")
+    expect(at.shop("ask 3 comment,0.3,0.2,0.1,3,good") == "ok,3.1\n", "the last one goes on")
+    at.run("rmdir auction/0/life auction/1/keys; rm auction/2; mv aside auction/0/life; mv two auction/2")
+    for site in range(4):
+        at.wait(f"site {site}", lambda: at.site(site)["state"] == "up")
+        at.shop(f"wait {site}")
+    expect(len(at.text("auction/0/life").split()) == 2, "a start that is tried again begins no more lives")
+    expect(at.shop("ask 0 user,cat") == "ok,0.4\n", "site 0 goes on")
+    at.shop("audit")
+    at.shop("stop")
+    (at.path / "auction/1/life").write_bytes(b"\0\377" * 17)
+    at.run("echo > auction/2/fenced; mv auction/3/kept aside; mkdir auction/3/kept; echo '[1]' > auction/lives")
+    said = at.run("./shop start auction 2>&1", 3)
+    for what in ("site 2: its file `fenced` doesn't say why", "site 3: "):
+        expect(what in said, f"what the start says: {said}")
+    expect(at.shop("ask 0 user,dan") == "ok,0.5\n", "site 0 lacks nothing, and goes on")
+    at.shop("stop")
+    at.run("rm -r auction/1; touch auction/1; rmdir auction/3/kept; mv aside auction/3/kept")
+    for site in (1, 2):
+        at.shop(f"rebuild {site}")
+    at.run("./shop start auction")
+    for site in range(4):
+        at.shop(f"wait {site}")
+    at.shop("audit")
+
+
 def changed(at: Folder, path: str, old: str, new: str) -> None:
     """Changes a word in a file."""
     text = at.text(path)
@@ -813,6 +917,26 @@ def test_changed_word(at: Folder) -> None:
     at.shop("rebuild 0; ./shop -C auction rebuild 1; ./shop start auction")
     expect("bob" in at.shop("list 1 users") and "vase" not in at.shop("list 0 items 7"), "what was in front of the line")
     expect(at.shop("audit") == "audit,Agree\n", "the audit")
+
+
+def test_changed_word_while_it_runs(at: Folder) -> None:
+    """The same of a word that is changed in place while the shop runs, once the keeper is started again: it never reads that line."""
+    at.run("./shop start auction --sites 2")
+    at.shop("ask 0 user,ann item,0.1,white,7,1,100,0")
+    at.shop("wait 1")
+    with open(at.path / "auction/1/kept", "r+b") as kept:
+        kept.seek(kept.read().index(b"white"))
+        kept.write(b"black")
+    os.kill(at.site(1)["pid"], signal.SIGKILL)
+    at.wait("its end", lambda: at.site(1)["state"] == "fenced")
+    expect("line 2 of its file `kept` was changed" in at.site(1)["fault"], f"why: {at.site(1)}")
+    at.shop("list 1 items 7", 3, "line 2 of its file `kept` was changed")
+    expect(at.shop("ask 0 user,bob") == "ok,0.3\n", "site 0 goes on")
+    at.shop("stop")
+    changed(at, "auction/1/kept", "black", "white")
+    at.run("./shop start auction")
+    at.shop("wait 1")
+    at.shop("audit")
 
 
 def test_changed_word_over_a_server(at: Folder) -> None:
@@ -1741,6 +1865,27 @@ def test_limits(at: Folder) -> None:
     expect(line == "", "nothing was asked")
 
 
+def test_no_more_files(at: Folder) -> None:
+    """A shop has as many files as its user may have at most. Where there are more connections than that it says so once, takes no processor
+    time for it, and goes on when some have gone."""
+    at.run("ulimit -S -n 40; ./shop start other --sites 12")
+    expect(at.shop("ask 11 user,ann", folder="other") == "ok,11.1\n", "a shop with more sites than the soft limit has room for")
+    at.start("sh -c 'ulimit -n 40; exec ./shop run auction'")
+    at.wait("the shop", lambda: (at.path / "auction/sock").exists())
+    at.shop("ask 0 user,ann")
+    process = at.status()["pid"]
+    lines = [to_socket(str(at.path / "auction"))() for _ in range(60)]
+    at.wait("what it says", lambda: "no more connections" in at.text("auction/events"))
+    before = processor_seconds(process)
+    time.sleep(3)
+    expect(processor_seconds(process) - before < 0.5, "the processor time of three seconds")
+    for line in lines:
+        line.close()
+    expect(at.shop("ask 0 user,bob") == "ok,0.2\n", "it goes on")
+    events = at.text("auction/events")
+    expect(events.count("Too many open files") == 1 and "Traceback" not in events, f"what it says: {events}")
+
+
 def test_one_record_a_request(at: Folder) -> None:
     """What comes over the socket is one record of the kind that its request is for, or nothing is given to a site."""
     at.run("./shop start auction --sites 2")
@@ -1814,6 +1959,27 @@ def test_forged_packets(at: Folder) -> None:
     expect(at.text("a/0/kept") == "user,cat\n", f"what it was given: {at.text('a/0/kept')!r}")
 
 
+def test_statuses_that_are_none(at: Folder) -> None:
+    """Where a key of the server has no status of a site, it is said which, that site isn't made again meanwhile, and the others go on."""
+    server = Server(at).start_shop()
+    at.shop(f"ask 0 {SALE}", folder="a")
+    at.shop("wait 2", folder="b")
+    at.shop("stop", folder="b")
+    for text in ("nothing", '\\\'{"x": 1}\\\'', '\\\'{"state": "up", "turn": 1, "has": {"0": null}}\\\''):
+        server.say(f"set auction:status:2 {text}")
+        why = "the key auction:status:2 has something else than the status of a site (redis-cli del auction:status:2)"
+        at.run("./shop start b", 3, why)
+        at.shop("status", 1, folder="a")
+        at.shop("stop", folder="b")
+        at.shop("rebuild 2", 3, why, folder="b")
+    expect(at.shop("ask 1 user,cat", folder="a") == "ok,1.1\n", "the others go on")
+    at.run("./shop start b", 3, why)
+    server.say("del auction:status:2")
+    at.wait("site 2", lambda: at.site(2, "a")["state"] == "up")
+    expect(at.shop("ask 2 bid,0.3,0.2,500", folder="a") == "ok,2.1\n", "it goes on")
+    expect("fault of its own" not in at.text("a/events") + at.text("b/events"), "no fault of its own")
+
+
 def test_asked_from_elsewhere(at: Folder) -> None:
     """A site elsewhere is asked in the folder that has it: neither a copy of that answers, nor one that has lost it and is being stopped."""
     Server(at).start_shop()
@@ -1876,8 +2042,13 @@ def stands_where_it_stood(at: Folder, folder: str, rows: str) -> None:
 
 
 def test_shorten(at: Folder) -> None:
-    """A recording without what changed nothing gives the same packets and tables."""
+    """A recording without what changed nothing gives the same packets and tables. One that can't be shortened is said so, also where whoever
+    runs the command ignores SIGCHLD; what was changed in `out` is told by its log."""
     rows = recorded(at)
+    at.run("cp auction/0/out aside; echo strange >> auction/0/out")
+    at.run("env --ignore-signal=CHLD ./shop -C auction shorten 0", 1, "out differs")
+    at.shop("log 0", 1, "auction/0/out was changed: not an answer: b'strange'")
+    at.run("mv aside auction/0/out")
     at.run("cp -r auction short; ./shop -C short shorten 0 > said")
     expect(at.text("said") == "site 0: 5 of 8 records are left\n", at.text("said"))
     left = "user,ann\nuser,bob\nitem,0.1,lamp,7,3,100,80\npass,1\nmsg,1,1,1,3,3:0,bid,0.3,0.2,500\n"
@@ -2002,6 +2173,11 @@ def test_small_things(at: Folder) -> None:
     expect(at.text("faults").count("the record isn't in the grammar") == 5000, "all are told")
     for closed in ("<&-", ">&-", "2>&-", "<&- >&- 2>&-"):
         at.run(f"./shop -C auction status {closed} && ./shop -C auction ask 0 list,users {closed} && ./shop -C auction ask 0 - {closed} < /dev/null")
+    most = "9" * 5000
+    expect(at.shop(f"log -n {most[:40]}").count("started") == 1, "more lines than a number of the machine")
+    at.shop(f"log 0 -n {most[:40]}")
+    at.shop(f"ask {most[:40]} user,ann", 2, "there is no site")
+    at.shop(f"ask {most} user,ann", 2, "argument SITE: invalid")
     at.run("./shop start other --workers 0", 2, "0 is not in 1..=16")
     expect(not (at.path / "other").exists(), "nothing is left of a start that is refused")
     if os.getuid() == 0 and shutil.which("setpriv"):

@@ -58,7 +58,7 @@ def plan_of(words: list[str]) -> tuple[str, bytes, float] | None:
             return None
         else:
             rest.append(word)
-    if len(rest) < 2 or not (rest[0].isascii() and rest[0].isdecimal()) or not 0 < seconds < 1e6 or not folder:
+    if len(rest) < 2 or not (rest[0].isascii() and rest[0].isdecimal() and len(rest[0]) < 10) or not 0 < seconds < 1e6 or not folder:
         return None
     if key is not None and len(rest) > 2:
         return None

@@ -10,6 +10,7 @@ from typing import Any
 from shop_ask.quick import Begun
 
 from . import client
+from .carrier.keys import KEY_BYTES, is_key
 from .ends import Fault, Status
 from .carrier.records import BYTES_OF_A_RECORD, COLUMNS, REFUSALS, row_of, text_of, why_not_one_record
 from .render import shown
@@ -33,7 +34,7 @@ def ask(args: argparse.Namespace) -> int:
                 if not answer.get("end"):
                     printer.show(answer["record"], answer["lines"])
     except Fault as fault:
-        raise Fault(fault.status, fault.text + _how_far(args, printer.count)) from None
+        raise Fault(fault.status, fault.text + _how_far(args, printer.count, fault.status != Status.MISUSE)) from None
     return printer.status
 
 
@@ -42,8 +43,7 @@ def _request(args: argparse.Namespace, records: list[bytes], before: int) -> dic
     for number, record in enumerate(records, before + 1):
         if why := why_not_one_record(record):
             where = f"line {number}: " if args.records == ["-"] else ""
-            asked = "nothing more was asked" if before else "nothing was asked"
-            raise Fault(Status.MISUSE, f"{where}{text_of(record[:80])!r}: {why}; {asked}")
+            raise Fault(Status.MISUSE, f"{where}{text_of(record[:80])!r}: {why}; {asked_before(before)}")
     request = {
         "op": "ask", "site": args.site, "records": [text_of(record) for record in records], "timeout": args.timeout,
         "fetch": not args.no_wait, "published": args.published}
@@ -53,14 +53,21 @@ def _request(args: argparse.Namespace, records: list[bytes], before: int) -> dic
         request["keys"] = [args.key]
     if args.keys is not None:
         request["keys"] = [f"{args.keys}.{number}" for number in range(before + 1, before + 1 + len(records))]
+    if "keys" in request and not is_key(os.fsencode(key := request["keys"][-1])):
+        raise Fault(Status.MISUSE, f"{key[:80]!r}: a key has 1 to {KEY_BYTES} printable ASCII characters; {asked_before(before)}")
     return request
 
 
-def _how_far(args: argparse.Namespace, answered: int) -> str:
+def asked_before(before: int) -> str:
+    """What is said where a record isn't asked, behind others or none."""
+    return "nothing more was asked" if before else "nothing was asked"
+
+
+def _how_far(args: argparse.Namespace, answered: int, goes_on: bool) -> str:
     """How far an ask of several records came that was cut."""
     if not answered:
         return ""
-    return f" (answered: the first {answered})" + ("; the same command again goes on" if args.keys is not None else "")
+    return f" (answered: the first {answered})" + ("; the same command again goes on" if goes_on and args.keys is not None else "")
 
 
 def _pieces_of(file: int) -> Iterator[list[bytes]]:

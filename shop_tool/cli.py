@@ -2,6 +2,7 @@
 
 import argparse
 import os
+import signal
 import sys
 from collections.abc import Callable
 from typing import NoReturn
@@ -265,6 +266,7 @@ def command_of(name: str) -> Callable[[argparse.Namespace], int]:
 
 def main(begun: Begun | None = None) -> NoReturn:
     """Does what the command line says; of an ask, the rest of what was begun."""
+    signal.signal(signal.SIGCHLD, signal.SIG_DFL)       # where it is ignored, no process that is run has a status
     for name, mode in (("stdin", "r"), ("stdout", "w"), ("stderr", "w")):
         if getattr(sys, name) is None:      # it was closed, as by a daemon
             setattr(sys, name, open(os.devnull, mode))

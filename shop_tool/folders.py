@@ -1,6 +1,8 @@
-"""Which folder a folder is, and files in it that a crash leaves whole."""
+"""Which folder a folder is, and files and folders in it that a crash leaves whole."""
 
 import os
+import shutil
+import sys
 
 
 def identity(folder: str) -> str:
@@ -34,3 +36,32 @@ def synced(path: str) -> None:
     file = os.open(path, os.O_RDONLY)
     os.fsync(file)
     os.close(file)
+
+
+def swapped(folder: str, site: int) -> str | None:
+    """Puts the folder SITE.new in the place of SITE, as `put_in_place` does. From the first rename on it is SITE.made, so whoever holds the
+    shop's folder next knows that it is whole, and brings this to its end."""
+    os.rename(f"{folder}/{site}.new", f"{folder}/{site}.made")
+    synced(folder)
+    return put_in_place(folder, site)
+
+
+def put_in_place(folder: str, site: int) -> str | None:
+    """Puts SITE.made, if there is one, in the place of the folder SITE, which is kept under another name, if it has records."""
+    made, old, lost = f"{folder}/{site}.made", f"{folder}/{site}", None
+    if not os.path.isdir(made):
+        return None
+    if os.path.isdir(old) and not os.path.islink(old) and not has_records(old):
+        shutil.rmtree(old)
+    elif os.path.lexists(old):
+        lost = next(name for at in range(1, sys.maxsize) if not os.path.lexists(name := f"{old}.lost.{at}"))
+        os.rename(old, lost)
+    os.rename(made, old)
+    synced(folder)
+    return lost
+
+
+def has_records(folder: str) -> bool:
+    """Whether a site's folder has records."""
+    kept = f"{folder}/kept"
+    return os.path.exists(kept) and os.path.getsize(kept) > 0

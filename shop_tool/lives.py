@@ -10,11 +10,11 @@ LIVES = "lives"
 
 
 def lives_of(folder: str) -> list[str]:
-    """The lives that a site's folder has had."""
+    """The lives that a site's folder has had. What is no text is none that anybody saw."""
     try:
-        with open(f"{folder}/life") as file:
+        with open(f"{folder}/life", errors="backslashreplace") as file:
             return file.read().split()
-    except FileNotFoundError:
+    except (FileNotFoundError, NotADirectoryError):
         return []
 
 
@@ -39,9 +39,11 @@ class Seen:
         self._path = f"{folder}/{LIVES}"
         try:
             with open(self._path) as file:
-                self._lives: dict[str, str] = json.load(file)
+                lives = json.load(file)
         except (FileNotFoundError, ValueError):
-            self._lives = {}
+            lives = {}
+        is_one = isinstance(lives, dict) and all(isinstance(life, str) for life in lives.values())
+        self._lives: dict[str, str] = lives if is_one else {}
 
     def __getitem__(self, site: int) -> str | None:
         return self._lives.get(str(site))

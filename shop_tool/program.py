@@ -41,14 +41,21 @@ def version(args: argparse.Namespace) -> int:
     return Status.WELL
 
 
-def answers_questions(program: str) -> bool:
-    """Whether the program answers questions, lines that begin with `?`. An older one keeps them as records."""
-    try:
-        with tempfile.TemporaryDirectory() as folder:
-            done = subprocess.run([program, "keep", f"{folder}/0"], input=b"?state\n", capture_output=True)
-    except OSError:
-        return False
-    return b"\n?state," in done.stdout
+def answers_questions(program: str, *places: str) -> bool:
+    """Whether the program answers questions, lines that begin with `?`. An older one keeps them as records, so it has to be seen: in a
+    temporary folder, or where those are full in one of these places."""
+    why = ""
+    for place in (None, *places):
+        try:
+            with tempfile.TemporaryDirectory(dir=place) as folder:
+                done = subprocess.run([program, "keep", f"{folder}/0"], input=b"?state\n", capture_output=True)
+        except OSError as fault:
+            why = why or fault.strerror or str(fault)
+            continue
+        if done.stdout.startswith(b"kept,"):
+            return b"\n?state," in done.stdout
+        why = why or done.stderr.decode("utf-8", "replace").strip()
+    raise Fault(Status.AWAY, f"it can't be tried whether {program} answers questions: {why}")
 
 
 def refuses(program: str, options: list[str]) -> str | None:

@@ -6,7 +6,6 @@ import contextlib
 import os
 import shutil
 import subprocess
-import sys
 from typing import Any
 
 from . import program, settings
@@ -16,7 +15,7 @@ from .carrier.lives import count_of, life_text
 from .carrier.rebuilding import UNCHANGED, Given, Rebuild, adopted
 from .carrier.steps import CallAll, KeptOf, Replay, Result, SeenHere, SentHere, Steps, Swap, TakeOver, TakePlace
 from .ends import Fault, Status
-from .folders import synced
+from .folders import swapped, synced
 from .kept_keys import has_keys, put_fixed_keys
 from .link import kept_of
 from .lives import Seen, lives_of, take_place
@@ -128,16 +127,3 @@ def keep_keys(folder: str) -> None:
     with contextlib.suppress(OSError, ValueError):      # it lost what it takes to know them
         if has_keys(folder):
             put_fixed_keys(folder, f"{folder}.new", {text for _, text in sends_of(lines_of(f"{folder}.new/out"))})
-
-
-def swapped(folder: str, site: int) -> str | None:
-    """Puts SITE.new in the place of the folder SITE, which is kept under another name, if it has records."""
-    lost, kept = None, f"{folder}/{site}/kept"
-    if not os.path.exists(kept) or not os.path.getsize(kept):
-        shutil.rmtree(f"{folder}/{site}", ignore_errors=True)
-    else:
-        lost = next(name for at in range(1, sys.maxsize) if not os.path.exists(name := f"{folder}/{site}.lost.{at}"))
-        os.rename(f"{folder}/{site}", lost)
-    os.rename(f"{folder}/{site}.new", f"{folder}/{site}")
-    synced(folder)
-    return lost

@@ -217,7 +217,7 @@ def _last_lines(args: argparse.Namespace, stood: int) -> "collections.deque[str]
 
 
 def _last_events(args: argparse.Namespace, stood: int) -> "collections.deque[str]":
-    last: collections.deque[str] = collections.deque((), args.lines)
+    last: collections.deque[str] = collections.deque((), min(args.lines, sys.maxsize))
     try:
         with open(f"{args.folder}/events", "rb") as events:
             for line in events:
@@ -231,7 +231,7 @@ def _last_events(args: argparse.Namespace, stood: int) -> "collections.deque[str
 
 
 def _last_answers(args: argparse.Namespace, stood: int) -> "collections.deque[str]":
-    last: collections.deque[str] = collections.deque((), args.lines)
+    last: collections.deque[str] = collections.deque((), min(args.lines, sys.maxsize))
     folder = f"{args.folder}/{args.site}"
     reader = AnswerReader()
     try:
@@ -244,6 +244,9 @@ def _last_answers(args: argparse.Namespace, stood: int) -> "collections.deque[st
                     last.extend("> " + text_of(line) for line in answer.lines)
     except FileNotFoundError:
         raise Fault(Status.AWAY, f"site {args.site} doesn't run in {args.folder}") from None
+    except (ValueError, IndexError) as fault:
+        _print_lines(args, last)
+        raise Fault(Status.REFUSED, f"{folder}/out was changed: {fault}") from None
     return last
 
 

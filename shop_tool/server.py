@@ -6,6 +6,7 @@ import asyncio
 import functools
 import json
 import os
+import socket
 import time
 from collections.abc import Awaitable, Callable
 from typing import Any
@@ -28,6 +29,7 @@ from .site import KeptSite
 from .supervisor import Supervisor
 
 CONNECTIONS = 500
+WAITING = 100               # how many connections may wait until they are taken
 REFUSE_SECONDS = 2.0        # how long one that is too many has to say what it wants
 SEVERAL = b'{"op": "several"}\n'
 AUDITED = [b"list,log", b"list,tables"]
@@ -53,7 +55,11 @@ class Server:
 
             def made() -> asyncio.StreamReaderProtocol:
                 return asyncio.StreamReaderProtocol(Reader(limit=REQUEST_BYTES, loop=loop), self._connected, loop=loop)
-            self.server = await loop.create_unix_server(made, f"/proc/self/fd/{folder}/sock")
+            listening = socket.socket(socket.AF_UNIX)
+            listening.bind(f"/proc/self/fd/{folder}/sock")
+            # The loop takes one connection at a time: where there are no more files, it tries again once for each that it would take.
+            self.server = await loop.create_unix_server(made, sock=listening, backlog=1)
+            listening.listen(WAITING)
         finally:
             os.close(folder)
 

@@ -43,13 +43,25 @@ class Settings:
         return [word for name, value in named if value is not None for word in (f"--{name}", str(value))]
 
 
+# Of which types the values are.
+KINDS: dict[str, tuple[type, ...]] = {
+    "sites": (int,), "here": (tuple,), "over": (str,), "sync": (bool,), "keep": (int,), "standby": (tuple,), "after": (int, float),
+    **dict.fromkeys(("batch", "shards", "workers"), (int, type(None)))}
+
+
 def path_of(folder: str) -> str:
     return f"{folder}/shop.json"
 
 
 def from_text(text: str) -> Settings:
+    """The settings that a text has; a ValueError or TypeError if it has others, or values that are none of theirs."""
     has = json.loads(text)
-    return Settings(**(has | {name: tuple(has[name]) for name in ("here", "standby") if name in has}))
+    settings = Settings(**(has | {name: tuple(has[name]) for name in ("here", "standby") if name in has}))
+    for name, kinds in KINDS.items():
+        value = getattr(settings, name)
+        if type(value) not in kinds or isinstance(value, tuple) and not all(type(number) is int for number in value):
+            raise TypeError(f"`{name}` can't be {json.dumps(has[name])}")
+    return settings
 
 
 def to_text(settings: Settings) -> str:
@@ -78,6 +90,7 @@ def read(folder: str) -> Settings | None:
 
 def existing(folder: str) -> Settings:
     if settings := read(folder):
+        check(settings)
         return settings
     raise Fault(Status.AWAY, f"{folder}: there is no shop (shop start)")
 
@@ -129,6 +142,11 @@ def check_new(folder: str, settings: Settings, program: str) -> None:
         return
     if why := program_refuses(program, settings.site_options()):
         raise Fault(Status.MISUSE, why)
+    check_setups(folder, settings)
+
+
+def check_setups(folder: str, settings: Settings) -> None:
+    """Refuses settings where the folder of a site here is another site's, or of a shop with other numbers."""
     for site in settings.here:
         try:
             with open(f"{folder}/{site}/setup") as file:

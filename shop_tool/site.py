@@ -12,8 +12,9 @@ from typing import TYPE_CHECKING, Any
 
 from .carrier.answers import Answer
 from .carrier.files import File
+from .carrier.records import text_of
 from .carrier.site import FIRST_WAIT, LAST_WAIT, Disagreement, Site, State
-from .carrier.sums import LINE_BYTES, compared
+from .carrier.sums import LINE_BYTES, compared, why_changed
 from .folders import put, synced
 from .settings import Settings
 from .signals import done, waited
@@ -47,6 +48,7 @@ class KeptSite(Site):
         self._keys: int | None = None       # the file of keys, once there was one to write
         self._sums = -1                     # the file of sums, once it is open
         self.is_changed = False             # a line of `kept` isn't as its sum says
+        self.has_begun = False              # the life of its folder has, that is this supervisor's
 
     def _read_out(self, pieces: Sequence[tuple[int, int]]) -> list[bytes]:
         return read_pieces(f"{self.folder}/out", pieces)
@@ -61,7 +63,7 @@ class KeptSite(Site):
         while not self.shop.stopping.is_set and not self.has_lost_files():
             began, self.starts, faults = time.monotonic(), self.starts + 1, self.fault
             self.become(State.STARTING)
-            status = await self._live()
+            status = await self._live() if self.shop.begins(self) and self.is_unchanged() else "none"
             self.up.clear()
             if self.shop.stopping.is_set or self.fenced_by:
                 break
@@ -162,12 +164,27 @@ class KeptSite(Site):
     def open_sums(self) -> int | None:
         """Opens the file of sums, before the keeper is started; the number of a line of `kept` that was changed."""
         self.sums.count, changed = checked(self.folder)
+        if self._sums >= 0:
+            os.close(self._sums)    # it was tried before
         self._sums = os.open(f"{self.folder}/{SUMS}", os.O_WRONLY | os.O_CREAT, 0o600)
         if changed is None:
             os.ftruncate(self._sums, self.sums.count * LINE_BYTES)
             os.lseek(self._sums, 0, os.SEEK_END)
         os.fsync(self._sums)        # a power failure takes none that a start has compared
         return changed
+
+    def is_unchanged(self) -> bool:
+        """Whether the lines of `kept` are as their sums say, which a keeper that is started again will read; else the site is fenced. Before
+        the first one they were compared when the sums were opened."""
+        if self.starts > 1:
+            try:
+                if line := checked(self.folder)[1]:
+                    self.is_changed = True
+                    self.fence(why_changed(self.number, line))
+            except OSError as fault:
+                self.note_fault(f"{fault.filename or self.folder}: {fault.strerror or fault}")
+                return False
+        return not self.is_changed
 
     def write_sums(self, lines: bytes) -> None:
         if os.write(self._sums, lines) < len(lines):
@@ -235,10 +252,17 @@ def unchanged(folder: str) -> Iterator[bytes]:
     return itertools.islice(lines_of(f"{folder}/kept"), None if changed is None else count)
 
 
+def fence_of(folder: str) -> str | None:
+    """Why a site's folder is stopped for good, or None. One whose file says nothing more, as after a power failure, is stopped too."""
+    if not os.path.lexists(f"{folder}/{FENCED}"):
+        return None
+    return text_of(next(lines_of(f"{folder}/{FENCED}"), b"").strip()) or f"its file `{FENCED}` doesn't say why"
+
+
 def lines_of(path: str) -> Iterator[bytes]:
     """The lines of a file; none if it isn't there."""
     try:
         with open(path, "rb") as file:
             yield from file
-    except FileNotFoundError:
+    except (FileNotFoundError, NotADirectoryError):
         pass

@@ -3,8 +3,9 @@
 import argparse
 
 from .ends import Fault, Status
+from .folders import put_in_place
 from .lock import take_lock
-from .settings import Settings, existing
+from .settings import Settings, check_setups, existing
 
 
 def stopped_shop(args: argparse.Namespace) -> Settings:
@@ -13,4 +14,7 @@ def stopped_shop(args: argparse.Namespace) -> Settings:
     if args.site not in now.here:
         raise Fault(Status.MISUSE, f"site {args.site} isn't one of {args.folder}: it has --here {','.join(map(str, now.here))}")
     take_lock(args.folder, "stop it first")
+    for site in range(now.sites):
+        put_in_place(args.folder, site)     # a rebuild was cut
+    check_setups(args.folder, now)
     return now

@@ -295,7 +295,7 @@ class Streams:
 
     async def statuses(self) -> dict[int, dict[str, Any]]:
         found = await self.redis.mget([self.key(f"status:{site}") for site in range(self.sites)])
-        return {site: json.loads(text) for site, text in enumerate(found) if text}
+        return {site: status_in(self.key(f"status:{site}"), text) for site, text in enumerate(found) if text}
 
     # Wants and requests.
 
@@ -333,6 +333,18 @@ class Streams:
 STEPS = {State: "state", Owner: "owner", Sites: "count_of_first", Adopt: "adopt", Statuses: "statuses", Tell: "tell", SeeLife: "see_life",
          Append: "append", Rewrite: "rewrite", StandBy: "stand_by", SayYields: "say_yields", PageOf: "page", Entries: "entries", Marks: "marks", Read: "read",
          Hear: "hear"}
+
+
+def status_in(key: str, text: bytes) -> dict[str, Any]:
+    """The status of a site; a fault where a key has none, since the site may run all the same: nobody takes its place."""
+    try:
+        said = json.loads(text)
+    except (ValueError, RecursionError):
+        said = None
+    if isinstance(said, dict) and isinstance(said.get("state"), str) and isinstance(said.get("turn"), int) and isinstance(has := said.get("has"), dict):
+        if all(isinstance(count, int) for count in has.values()):
+            return said
+    raise OSError(f"the key {key} has something else than the status of a site (redis-cli del {key})")
 
 
 def no_life() -> str:

@@ -15,17 +15,19 @@ from .carrier.site import Site, State
 from .carrier.steps import Steps
 from .carrier.sums import why_changed
 from .ends import Fault, Status
+from .folders import put_in_place
 from .grid import waits_of
 from .lives import begin_life, lives_of
 from .lock import take_lock
+from .open_files import Faults, take_more
 from .program import answers_questions
 from .reads import STATE
 from .render import shown
 from .settings import FILES, Settings, moved_here, write
 from .signals import done, is_over_within, waited
-from .site import FENCED, KEYS, YIELDS, KeptSite, lines_of
+from .site import KEYS, YIELDS, KeptSite, fence_of, lines_of
 from .times import changed, stamp
-from .witness import Witness, forget, has_all, witnessed
+from .witness import MEMORY, Witness, forget, has_all, witnessed
 
 if TYPE_CHECKING:
     from .link import Carrying
@@ -61,7 +63,7 @@ class Supervisor(Shop):
     def __init__(self, folder: str, settings: Settings, program: str, is_alone: bool, upgrades: bool = False) -> None:
         super().__init__(settings.sites, is_alone)
         self.folder, self.settings, self.program, self.upgrades = os.path.realpath(folder), settings, program, upgrades
-        self.asks_questions = answers_questions(program)
+        self.asks_questions = answers_questions(program, MEMORY, self.folder)
         self.prints_events = "SHOP_READY" not in os.environ     # it runs in the foreground, or for systemd
         self.since = stamp()
         self.tasks: set[asyncio.Task[None]] = set()
@@ -200,24 +202,32 @@ class Supervisor(Shop):
                 site.stop()
 
     def _begin(self, site: KeptSite) -> None:
-        """Begins the next life of a site's folder, before its keeper is started."""
+        """Begins the next life of a site's folder, before its keeper is started; an OSError where the folder can't be read or written now. The
+        life comes last of what may fail, so one that is tried again and again has no more of them."""
+        os.makedirs(site.folder, mode=0o700, exist_ok=True)
         before, kept = lives_of(site.folder), f"{site.folder}/kept"
         answered = witnessed(site.folder, before)
-        try:
-            site.lives = begin_life(site.folder)
-        except OSError as fault:
-            return site.fence(f"{site.folder}/life: {fault.strerror}")
-        try:
-            if line := site.open_sums():
-                site.is_changed = True
-                site.fence(why_changed(site.number, line))
-        except OSError as fault:
-            site.fence(f"{fault.filename}: {fault.strerror}")
+        keys, why_fenced, line = [*lines_of(f"{site.folder}/{KEYS}")], fence_of(site.folder), site.open_sums()
+        site.lives = begin_life(site.folder)
+        site.has_begun = True
+        if line:
+            site.is_changed = True
+            site.fence(why_changed(site.number, line))
         site.yields = os.path.exists(f"{site.folder}/{YIELDS}")
-        site.keys.read(lines_of(f"{site.folder}/{KEYS}"), self.unix_time())
-        if why := next(lines_of(f"{site.folder}/{FENCED}"), b""):
-            site.fence(text_of(why.rstrip()))
+        site.keys.read(keys, self.unix_time())
+        if why_fenced:
+            site.fence(why_fenced)
         self.begin_site(site, answered if has_all(kept, answered) else None)
+
+    def begins(self, site: KeptSite) -> bool:
+        """Whether the next life of a site's folder has begun. Where its disk is full, or its files can't be read, the others go on, and that is
+        tried again."""
+        try:
+            if not site.has_begun:
+                self._begin(site)
+        except OSError as fault:
+            site.note_fault(f"{fault.filename or site.folder}: {fault.strerror or fault}")
+        return site.has_begun
 
     def _signalled(self, name: str) -> None:
         """A signal stops the shop; a further one ends this process at once, whatever it waits for."""
@@ -230,12 +240,14 @@ class Supervisor(Shop):
 
     async def run(self) -> None:
         loop = asyncio.get_running_loop()
+        loop.set_exception_handler(Faults(lambda text: self.event(f"supervisor: {text}")).tell)
         for number in (signal.SIGTERM, signal.SIGINT):
             loop.add_signal_handler(number, self._signalled, signal.Signals(number).name)
         here = ", ".join(map(str, self.sites))
         self.event(f"supervisor: started, process {os.getpid()}, sites {here} of {self.settings.sites} over {self.settings.shown_over}")
         for site in self.sites.values():
-            self._begin(site)
+            with contextlib.suppress(OSError):      # the start of its keeper tries it again, and says so
+                self._begin(site)
         await self.server.listen()
         self.site_tasks += [self.task(site.run()) for site in self.sites.values()]
         self.others += [self.task(work) for work in (self.link.run(), self._look_after_folder(), self._get_ready())]
@@ -266,7 +278,8 @@ class Supervisor(Shop):
             self.event(f"{self.folder}/shop.json: {fault.strerror}; say --here {','.join(map(str, self.settings.here))} to the next start")
         taken = KeptSite(self, site)
         self.sites = self.sites | {site: taken}     # not into the one that others are going through
-        self._begin(taken)
+        with contextlib.suppress(OSError):
+            self._begin(taken)
         self.site_tasks.append(self.task(taken.run()))
         self.others.append(self.task(self.link.run_site(taken)))
 
@@ -338,7 +351,10 @@ def they_have(silent: list[int]) -> str:
 def run(folder: str, settings: Settings, program: str, is_alone: bool, upgrades: bool) -> None:
     """Runs the shop until it is stopped."""
     os.umask(0o077)
+    take_more()
     take_lock(folder)
+    for site in range(settings.sites):
+        put_in_place(folder, site)      # a rebuild was cut
     write(folder, settings)
 
     async def main() -> None:

@@ -36,7 +36,7 @@ def witnessed(of: str, lives: Sequence[str]) -> int | None:
             said = file.read()
         if said[BYTES:] != name_of(of) or said[:LIFE_BYTES] != lives[-1].encode():
             return None
-    except OSError:
+    except (OSError, ValueError):
         return None
     return int.from_bytes(said[LIFE_BYTES:BYTES], "little")
 

@@ -1,8 +1,6 @@
 """Connections: one on which no request comes to its end, or no answer is read, is closed; and what is no request is told as a problem."""
 
 import asyncio
-import errno
-import sys
 from typing import Any
 
 from aiohttp import HttpVersion11, web
@@ -11,7 +9,6 @@ from .problems import Problem
 
 IDLE_SECONDS = 60.0
 LOOK_SECONDS = 5.0
-TELL_SECONDS = 60.0
 MOST_WAITING = 100          # requests of one connection, beyond which no more are read
 HEADERS = {"Server": "shop", "X-Content-Type-Options": "nosniff"}      # of every response
 
@@ -68,21 +65,6 @@ class Connections:
                     transport.abort()       # a close would wait for what isn't read
                 else:
                     each.force_close()
-
-
-class Faults:
-    """What the loop says went wrong: that there are no more files for connections at most once a minute, since it says so of each try."""
-
-    def __init__(self) -> None:
-        self._said_at = -TELL_SECONDS
-
-    def tell(self, loop: asyncio.AbstractEventLoop, context: dict[str, Any]) -> None:
-        fault = context.get("exception")
-        if not isinstance(fault, OSError) or fault.errno not in (errno.EMFILE, errno.ENFILE):
-            return loop.default_exception_handler(context)
-        if loop.time() - self._said_at >= TELL_SECONDS:
-            self._said_at = loop.time()
-            print(f"shop serve: no more connections for now: {fault.strerror}", file=sys.stderr, flush=True)
 
 
 async def expected(request: web.Request) -> None:

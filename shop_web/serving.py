@@ -22,13 +22,14 @@ from shop_tool import settings
 from shop_tool.asks import EXPLAINED
 from shop_tool.carrier.records import Row
 from shop_tool.ends import Fault, Status
+from shop_tool.open_files import Faults, take_more
 from shop_tool.reading import audited
 from shop_tool.reasons import meaning_of
 from shop_tool.render import shown
 
 from . import access
 from .asks import One, Options, Told, asked, check, of_csv, of_json, place_of
-from .connections import HEADERS, Connections, Faults, expected
+from .connections import HEADERS, Connections, expected
 from .line import Line
 from .live import Watch, events, status_of, told
 from .metrics import Metrics
@@ -450,7 +451,9 @@ def serve(args: argparse.Namespace) -> int:
 
 async def _serve(server: Server, host: str, port: int, tls: ssl.SSLContext | None) -> None:
     logging.getLogger("aiohttp.server").setLevel(logging.CRITICAL)     # no traceback for each request that is malformed or left
-    asyncio.get_running_loop().set_exception_handler(Faults().tell)
+    take_more()
+    faults = Faults(lambda text: print(f"shop serve: {text}", file=sys.stderr, flush=True))
+    asyncio.get_running_loop().set_exception_handler(faults.tell)
     runner = web.AppRunner(server.app, access_log=None, handle_signals=False, keepalive_timeout=server.connections.idle_seconds)
     await runner.setup()
     assert runner.server

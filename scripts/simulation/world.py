@@ -268,6 +268,9 @@ class SimulatedSite(Site):
         while not self.shop.stopping.is_set and not self.has_lost_files():
             began, self.starts, faults = self.shop.now(), self.starts + 1, self.fault
             self.become(State.STARTING)
+            if self.starts > 1 and (changed := self.folder.checked()[1]):
+                self.fence(why_changed(self.number, changed))
+                break
             status = yield from self._live()
             self.up.clear()
             if self.shop.stopping.is_set or self.fenced_by:

@@ -28,7 +28,9 @@ class FileLink(Link):
         try:
             why = yield from self._why_fenced(site)
         except OSError as fault:
-            return site.fence(f"{fault.filename}: {fault.strerror}")
+            if site.answered is None:
+                return site.fence(f"{fault.filename}: {fault.strerror}")
+            why = None      # it lacks nothing, whatever the others have
         if why:
             return site.fence(why, outlasts=True)
         try:

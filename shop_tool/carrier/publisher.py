@@ -165,15 +165,15 @@ class Publisher:
         """Why the end of the stream can't be what the folder has sent."""
         site, sends = self.site, self.site.ledger.sends
         if state.greatest > sends.last:
-            return (f"{self.link.over} had its packet %d-%d, and its folder ends with %d-%d " % (state.greatest + sends.last)
-                    + f"(shop rebuild {site.number})")
+            return (f"{self.link.over} had its packet {shown(state.greatest)}, and its folder ends with {shown(sends.last)} "
+                    f"(shop rebuild {site.number})")
         if state.last != NOWHERE and sends.at(state.last) != state.packet:
             return self._other_packet(state.last)
         return None
 
     def _other_packet(self, place: Place) -> str:
-        return (f"{self.link.over} has another packet %d-%d of it: two processes were this site " % place
-                + f"(shop rebuild {self.site.number})")
+        return (f"{self.link.over} has another packet {shown(place)} of it: two processes were this site "
+                f"(shop rebuild {self.site.number})")
 
     def _why_behind(self, state: StreamState) -> Steps[str | None]:
         """Why its folder can't be the one that the other sites know: one of them has more of it. Notes which of them have to say first what
@@ -226,6 +226,10 @@ class Publisher:
                 if place := strange_packet(entries, sends.at):
                     return place
             after = page.last
+
+
+def shown(place: Place) -> str:
+    return "%d-%d" % place
 
 
 def hash_of(packets: Packets) -> bytes:

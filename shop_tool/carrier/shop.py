@@ -281,11 +281,12 @@ class Shop(abc.ABC):
 
     def _hand_to(self, holder: Site, to: int) -> Steps[None]:
         pending, stays = self.pass_to(holder, to), self.stays
-        self.stays = f"the token goes to site {to}, which hasn't taken it yet"
+        self.stays = f"it isn't known whether the token goes to site {to}, since site {holder.number} doesn't answer"
         yield Wait(pending.done)
         if pending.result().refusal:
             self.stays = stays
             raise Fault(Status.REFUSED, "it was the last turn")
+        self.stays = f"the token goes to site {to}, which hasn't taken it yet"
         while (yield from self._turns_at([to], HAND_OVER_SECONDS)).get(to, 0) < holder.ledger.turn:
             yield Wait(None, LOOK_SECONDS)
 

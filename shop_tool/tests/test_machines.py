@@ -248,6 +248,9 @@ class HandingOver(unittest.TestCase):
         self.assertIsInstance(steps.send({1}), CallAll)
         steps.send({1: [{"shop": {"stopping": False, "site": [{"site": 1, "turn": 0}]}}]})
         self.assertEqual(self.shop.sites[0].given, b"pass,1\n")
+        self.assertEqual(self.shop.stays, "it isn't known whether the token goes to site 1, since site 0 doesn't answer")
+        self.shop.sites[0].take(b"reply,1,passed,1\nsend,token,1,1,1,0\n")
+        self.assertIsInstance(steps.send(True), CallAll)
         self.assertEqual(self.shop.stays, "the token goes to site 1, which hasn't taken it yet")
 
     def test_it_stays_where_nobody_takes_it(self) -> None:

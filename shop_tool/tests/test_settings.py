@@ -1,5 +1,7 @@
 """What a shop is stays what it was."""
 
+import json
+import os
 import tempfile
 import unittest
 from typing import Any
@@ -67,6 +69,26 @@ class Starts(unittest.TestCase):
         self.assertEqual(settings.from_text(settings.to_text(now)), now)
 
     def test_a_spoilt_file_is_a_fault(self) -> None:
-        with open(settings.path_of(self.folder), "w") as file:
-            file.write("{")
-        self.assertRaises(Fault, settings.read, self.folder)
+        """So is one in which a value isn't of its type, as after an edit by hand."""
+        now = json.loads(settings.to_text(settings.Settings(sites=2, here=(0, 1))))
+        spoilt = [{"sites": "2"}, {"sites": 2.0}, {"sites": True}, {"here": ["0", "1"]}, {"here": 1}, {"over": None}, {"sync": "no"}, {"keep": "x"},
+                  {"batch": "; ls"}, {"after": "x"}, {"standby": [None]}, {"colour": 1}]
+        for text in ["{", "[]", "null", *(json.dumps(now | said) for said in spoilt)]:
+            with open(settings.path_of(self.folder), "w") as file:
+                file.write(text)
+            with self.subTest(text=text):
+                self.assertRaises(Fault, settings.read, self.folder)
+
+    def test_what_is_no_shop_is_a_fault_for_each_command(self) -> None:
+        for said in ('{"sites": 17, "here": [0]}', '{"sites": 2, "here": [0]}', '{"here": [1]}'):
+            with open(settings.path_of(self.folder), "w") as file:
+                file.write(said)
+            with self.subTest(said=said):
+                self.assertRaises(Fault, settings.existing, self.folder)
+
+    def test_a_folder_of_another_shop_is_a_fault_for_each_command(self) -> None:
+        os.mkdir(f"{self.folder}/0")
+        with open(f"{self.folder}/0/setup", "w") as file:
+            file.write("setup,0,3,1000,1\n")
+        settings.check_setups(self.folder, settings.Settings(sites=3, here=(0, 1, 2), keep=1000))
+        self.assertRaises(Fault, settings.check_setups, self.folder, settings.Settings(sites=1, here=(0,), keep=1000))

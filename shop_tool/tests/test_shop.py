@@ -65,6 +65,16 @@ class Opening(unittest.TestCase):
         self.assertIn(SeeLife(0, "", "1 a", (0, 0)), steps)
         self.assertTrue(shop.sites[0].opened.is_set)
 
+    def test_why_has_the_name_of_the_server_as_it_is(self) -> None:
+        """An address of IPv6 may have a zone, and a percent sign before it."""
+        shop = Supervisor(OverServer, 1)
+        assert isinstance(shop.link, OverServer)
+        shop.link.over = "redis://[fe80::1%25eth0]/auction"
+        publisher = Publisher(shop.link, shop.sites[0])
+        self.assertIn("%25eth0]/auction has another packet 3-0 of it", publisher._other_packet((3, 0)))
+        done(publisher.run(), self.answers(greatest=(3, 0)) | {type(None): None})
+        self.assertIn("%25eth0]/auction had its packet 3-0, and its folder ends with 0-0", shop.sites[0].fenced_by or "")
+
     def test_what_others_know_stops_each_later_start_too(self) -> None:
         site = self.published(self.answers(greatest=(3, 0)))
         assert isinstance(site, Known)
