@@ -499,7 +499,7 @@ def test_keys(at: Folder) -> None:
 def test_asks_that_are_cut(at: Folder) -> None:
     """An ask of many that is cut says how far it came, and the same command goes on, by the keys of its asks."""
     at.run("./shop start auction")
-    asker = at.start("sh -c '(echo user,ann; echo user,bob; sleep 2; echo user,cat) | ./shop -C auction ask 0 - --keys m --timeout 0.5 > said 2>&1'")
+    asker = at.start("sh -c '(echo user,ann; echo user,bob; sleep 4; echo user,cat) | ./shop -C auction ask 0 - --keys m --timeout 2 > said 2>&1'")
     at.wait("the first two", lambda: "bob" in at.shop("list 0 users"))
     keeper = at.site(0)["pid"]
     os.kill(keeper, signal.SIGSTOP)
