@@ -10,7 +10,7 @@ use Rattle.std.proofs.lemmas.Bool.{both_ways, ne_eqb, not-true}
 use Rattle.std.proofs.lemmas.List.{append-nil}
 use Rattle.csv.proofs.WriteFacts.{blank-more, row-more}
 use Rattle.csv.specs.Machine.{line_feed}
-use Rattle.csv.specs.Writing.{field_text, fields_text, fields_written, has_written, is_blank, needs_byte, needs_quotes, next_sep, row_body, row_text, tail_text}
+use Rattle.csv.specs.Writing.{field_text, fields_text, fields_written, has_written, is_blank, needs_byte, needs_quotes, next_sep, row_body, row_text}
 use Rattle.csv.specs.Writing.{writer_setup}
 use Rattle.csv.specs.declared.writer.Writer.{Writer}
 use Rattle.std.specs.List.{list_any}

@@ -1,8 +1,6 @@
 -- How the text of rows goes on, for the proofs of services.
-use Rattle.std.specs.Prelude.{Err, Ok, OnOk, Result}
-use Rattle.std.proofs.Common.{◌≡◌, ◌∙◌, ◌+◌, ◌++◌, ◌∷◌, [], ℕ, List, ap, append_assoc, sym}
+use Rattle.std.proofs.Common.{◌≡◌, ◌∙◌, ◌++◌, ℕ, List, ap, append_assoc, sym}
 use Rattle.std.proofs.lemmas.Grind.{flat_map-append}
-use Rattle.std.proofs.lemmas.List.{append-nil}
 use Rattle.rubis_engine.specs.Text.{plain_writer, row_text, rows_text}
 
 -- rows, and then others

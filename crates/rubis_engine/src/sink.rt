@@ -85,24 +85,15 @@ fn push_first(text: &mut Vec<u8>, first: &[&[u8]]) -> Result<(), AllocError>
     Ok(())
 }
 
-// Adds a plain row.
-#[inline(always)]
-fn push_line(text: &mut Vec<u8>, plain: &[u8]) -> Result<(), AllocError>
-    requires { 0 < length plain.now }
-    ensures { OnOk result (text.new.items ≡ text.old.items ++ plain_row [] plain.now) }
-{
-    text.extend_from_slice(&plain[1..])?;
-    text.push(b'\n')?;
-    Ok(())
-}
-
 // Adds a plain row that begins with the fields `first`.
 fn push_plain(text: &mut Vec<u8>, first: &[&[u8]], plain: &[u8]) -> Result<(), AllocError>
     requires { 0 < length plain.now }
     ensures { OnOk result (text.new.items ≡ text.old.items ++ plain_row (map (λ f. f.now) first.now) plain.now) }
 {
     push_first(text, first)?;
-    push_line(text, plain)
+    text.extend_from_slice(&plain[1..])?;
+    text.push(b'\n')?;
+    Ok(())
 }
 
 // Adds a row in which some field calls for quotes, by what is kept for such rows.
@@ -177,14 +168,7 @@ impl Sink {
         ensures ok { OnOk result (self.new ≡ self.old ++ row_text plain_writer fields.now) }
         ensures err { OnErr result (self.new ≡ []) }
     {
-        let added = match plain_text(&[], fields) {
-            Some(text) => push_line(&mut self.text, text),
-            None => push_quoted(&mut self.text, &mut self.quoted, &[], fields),
-        };
-        if added.is_err() {
-            self.clear();
-        }
-        added
+        self.write_after(&[], fields)
     }
 
     /// Adds a row of two fields or more that was made in place. Without memory for it no text is left.
@@ -194,11 +178,12 @@ impl Sink {
         ensures ok { OnOk result (self.new ≡ self.old ++ row_text plain_writer row.now.fields) }
         ensures err { OnErr result (self.new ≡ []) }
     {
-        let added = push_line(&mut self.text, row.text());
-        if added.is_err() {
+        let fields = &row.text()[1..];
+        if self.text.extend_from_slice(fields).is_err() || self.text.push(b'\n').is_err() {
             self.clear();
+            return Err(AllocError);
         }
-        added
+        Ok(())
     }
 
     /// Adds a row that begins with the fields `first` and goes on with those of a record. Without memory for it no

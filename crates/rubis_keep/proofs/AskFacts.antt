@@ -7,18 +7,22 @@ use Rattle.std.specs.Io.KnownBytes.{Consumes, IsAtEnd}
 use Rattle.rubis_message.specs.Message.{Message}
 use Rattle.rubis_message.specs.declared.requests.Request.TheVariants as request
 use Rattle.rubis_message.specs.declared.tokens.Packet.TheVariants as packet
-use Rattle.rubis_message.specs.Inputs.{input_of}
+use Rattle.rubis_message.specs.Inputs.{IsInput, input_of}
 use Rattle.rubis_message.specs.declared.inputs.Input.{Input}
 use Rattle.rubis_message.specs.declared.inputs.Input.TheVariants.{Asked as ByUser, Came, Neither}
 use Rattle.rubis_model.specs.Runs.{input_step}
 use Rattle.rubis_model.specs.Site.{Place, Replica}
 use Rattle.rubis_replica.specs.Arrivals.{after_all}
 use Rattle.rubis_replica.specs.State.{SiteState}
+use Rattle.rubis_engine.specs.Accounts.{AnswersRecord}
 use Rattle.rubis_engine.specs.Reading.{Advances, Gives, fields_now}
 use Rattle.rubis_engine.specs.Text.{input_records}
 use Rattle.rubis_engine.specs.declared.record_list.Records.{Records}
+use Rattle.rubis_engine.specs.declared.service.Course.TheVariants.{GoesOn}
+use Rattle.rubis_script.specs.Desks.{TakesNext, left_at}
 use Rattle.rubis_script.specs.Headline.{Settles, StepsOn}
-use Rattle.rubis_keep.specs.Asking.{AreFirst, Asks, AsksFirst, GoesOnAsking, LeadsHeld, LedBy, OfEachAsking, RepliesTo, Reply, owed, replied_in, replies, reply_to}
+use Rattle.rubis_script.specs.declared.desk.Desk.{Desk}
+use Rattle.rubis_keep.specs.Asking.{AreFirst, Asks, AsksFirst, GoesOnAsking, LeadsHeld, LedBy, OfEachAsking, RepliesTo, Reply, StepsDesk, owed, replied_in, replies, reply_to}
 use Rattle.rubis_keep.specs.Cuts.{asked_by}
 use Rattle.rubis_keep.specs.History.{Answers, Event, Grows, HasTold, History, KeepsLines, Tells}
 use Rattle.rubis_keep.specs.History.Event.{Began, CutTo, Flushed, Kept, Replied, Settled, Shown, Told}
@@ -50,9 +54,16 @@ step-any p s n m (Came (packet.Msg x)) = refl
 step-any p s n m (Came (packet.Token t)) = refl
 step-any p s n m Neither = refl
 
-pub steps-settle : (n : ℕ) (input : Input) (old mid new : SiteState) (w w1 w2 : List Message) → StepsOn n input old w mid w1 → Settles mid w1 new w2
-    → StepsOn n input old w new w2
-steps-settle n input old mid new w w1 w2 (p, s) (q, t) = (q ∙ p, t ∙ s)
+-- a record that was read leads from one desk to the next
+pub reads-next : {G : Type 0} (d d2 : Desk G) (read : Input) (fields fields2 : List (List ℕ)) → IsInput d.site.place.sites fields read → fields ≡ fields2
+    → TakesNext read d d2
+    → AnswersRecord GoesOn (left_at d) (left_at d2) d.reply.sink d2.reply.sink fields2 × (d2.answered ≡ d.answered + 1) × StepsDesk d d2 fields2
+reads-next d d2 read fields fields2 is same took =
+    let means = ap (input_of d.site.place.sites) (sym same) ∙ is.means in (
+      took.text fields2 means,
+      took.count,
+      subst (λ i. StepsOn (d.answered + 1) i d.site d.window.items d2.site d2.window.items) (sym means) took.leads,
+    )
 
 pub led-step : (p : Place) (s0 : Replica) (mid new : SiteState) (w w2 : List Message) (n : ℕ) (fields : List (List ℕ)) (done : List (List (List ℕ)))
     → mid.place ≡ p → after_all mid.place mid.state w ≡ state_after p s0 done → StepsOn n (input_of mid.place.sites fields) mid w new w2

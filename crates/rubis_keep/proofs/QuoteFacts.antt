@@ -1,11 +1,18 @@
 -- A line without quotes.
-use Rattle.std.proofs.Common.{◌≡◌, ◌||◌, ◌∷◌, [], ℕ, Bool, true, false, List, not, refl, ap, rules}
+use Rattle.std.proofs.Common.{◌≡◌, ◌==◌, ◌||◌, ◌∷◌, [], ℕ, Bool, true, false, List, not, refl, ap, rules}
+use Rattle.std.specs.List.{list_any}
 use Rattle.csv.specs.Machine.{step}
 use Rattle.csv.specs.Reading.{default_config}
 use Rattle.csv.specs.declared.parser.State.{State}
 use Rattle.csv.specs.declared.parser.State.TheVariants as st
 use Rattle.rubis_keep.specs.Lines.{closes, is_quoted, state_after}
-use Rattle.rubis_keep.specs.Places.{has_quote, is_quote}
+
+-- a quote, and whether one is among these bytes
+abbrev is_quote : ℕ → Bool
+is_quote c = c == 34
+
+abbrev pub has_quote : List ℕ → Bool
+has_quote line = list_any is_quote line
 
 -- the machine stands outside of quotes, and met none in the field
 abbrev is_outside : State → Bool

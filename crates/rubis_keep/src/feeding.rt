@@ -1,12 +1,10 @@
 //! The answers of a site to a text of whole records.
 
-ghost use Rattle.std.specs.Prelude.{◌≡◌, ◌<◌, ◌+◌, ◌^◌, ℕ, List, IfOk, MatchBool, OnErr, OnOk, false, true};
-ghost use Rattle.rubis_engine.specs.Accounts.{AnswersRecord};
-ghost use Rattle.rubis_engine.specs.declared.service.Course.TheVariants.{GoesOn};
-ghost use Rattle.rubis_engine.specs.Reading.{Advances, Gives, fields_now};
+ghost use Rattle.std.specs.Prelude.{◌≡◌, ◌<◌, ◌+◌, ◌^◌, ℕ, List, OnErr, OnOk, false, true};
+ghost use Rattle.rubis_engine.specs.Reading.{Advances, Gives};
 ghost use Rattle.rubis_script.specs.Desks.{left_at};
 ghost use Rattle.rubis_script.specs.SiteRuns.{told_by};
-ghost use Rattle.rubis_keep.specs.Asking.{LeadsOn, StepsDesk};
+ghost use Rattle.rubis_keep.specs.Asking.{LeadsOn};
 ghost use Rattle.rubis_keep.specs.History.{HasTold, out_in};
 ghost use Rattle.rubis_keep.specs.Kept.{FeedEnds, FinishedFront, InEachFeed, OutEnds};
 ghost use Rattle.rubis_keep.specs.Steps.{FeedsChunk, Finishes, IsIdle};
@@ -21,27 +19,6 @@ use rubis_script::Gate;
 use std::io::Read;
 use std::sync::Wait;
 use std::thread::Threads;
-
-// Answers or holds the next record, if there is one.
-fn answer_next<G: Gate, T: Threads + Wait + Sync, R: Read>(
-    rt: &T,
-    records: &mut Records<R>,
-    clerk: &mut Clerk<G>,
-) -> Result<bool, KeepFault>
-    requires { clerk.old.desk.answered + 1 < 2 ^ 64 }
-    ensures { IfOk result (λ found. MatchBool found
-        (Advances R.remaining records.old records.new true × AnswersRecord GoesOn
-        (left_at clerk.old.desk) (left_at clerk.new.desk) clerk.old.desk.reply.sink clerk.new.desk.reply.sink (fields_now records.new)
-        × (clerk.new.desk.answered ≡ clerk.old.desk.answered + 1) × StepsDesk clerk.old.desk clerk.new.desk (fields_now records.new))
-        (Advances R.remaining records.old records.new false × (clerk.new ≡ clerk.old))) }
-{
-    if !records.advance()? {
-        return Ok(false);
-    }
-    clerk.desk.take(rt, records.fields())?;
-    clerk.desk.make_room(rt)?;
-    Ok(true)
-}
 
 // Takes in the messages that are held, and puts the answers.
 fn finish<G: Gate, T: Threads + Wait + Sync, O: Read, F: SiteFiles>(
@@ -96,9 +73,11 @@ fn feed_records<G: Gate, T: Threads + Wait + Sync, R: Read, O: Read, F: SiteFile
     ensures leads { OnOk result ((all : List (List (List ℕ))) → Gives R.remaining records.old all → LeadsOn clerk.old.desk clerk.new.desk all) }
 {
     for _turn in clerk.desk.answered..clerk.limit {
-        if !answer_next(rt, records, clerk)? {
+        if !records.advance()? {
             return Ok(());
         }
+        let read = clerk.desk.read(records.fields())?;
+        clerk.desk.take_read(rt, read)?;
         if clerk.desk.reply.sink.is_full() {
             answers.put_sink(rt, &mut clerk.desk.reply.sink)?;
         }

@@ -4,7 +4,7 @@ ghost use Rattle.std.specs.Prelude.{◌≡◌, ◌≤◌, ◌++◌, ◌∷◌, [
 ghost use Rattle.csv.specs.Writing.{row_text};
 ghost use Rattle.rubis_engine.specs.Text.{input_records, plain_writer};
 
-use crate::lines::is_marked;
+use crate::lines::MARK;
 use rubis_schema::Fields;
 use std::alloc::{AllocError, Global};
 
@@ -46,7 +46,7 @@ fn is_written(fields: &Fields, line: &[u8]) -> bool
 pub(crate) fn read_plain(alloc: Global, line: &[u8]) -> Result<Option<Fields>, AllocError>
     ensures { IfOk result (λ found. IfSome found (λ fields. input_records (line.now ++ 10 ∷ []) ≡ fields ∷ [])) }
 {
-    if is_marked(line) {
+    if line.first() == Some(&MARK) {
         return Ok(None);
     }
     let fields = split(alloc, line)?;

@@ -1,16 +1,29 @@
-use Rattle.std.proofs.Common.{◌++◌, ◌∙◌, [], ap, append_assoc, refl, sym}
+use Rattle.std.proofs.Common.{◌≡◌, ◌++◌, ◌∙◌, ◌∷◌, ◌-◌, [], ap, append_assoc, arith, drop, length, refl, sym}
+use Rattle.std.proofs.lemmas.List.{length-drop, take_all}
 use Rattle.csv.specs.Writing.{row_text}
 use Rattle.rubis_engine.specs.Text.{plain_writer}
-use Rattle.rubis_engine.proofs.RowFacts.{on_ok, text-makes}
+use Rattle.rubis_engine.proofs.RowFacts.{text-makes}
 use Rattle.rubis_engine.proofs.sink.Sink.write_plain.Goals as goal
 
-pub push_line-added-requires : goal.push_line-added-requires
-push_line-added-requires c = (text-makes [] c.args.row.now.fields _ c.text.ensures.text refl c.text.ensures.plain c.requires).1
+pub slice_bounds-fields-count : goal.slice_bounds-fields-count
+slice_bounds-fields-count c =
+    let makes = text-makes [] c.args.row.now.fields _ c.text.ensures.text refl c.text.ensures.plain c.requires in omega (arith, makes.1)
 
-pub returns-else-is_err-clause-ok : goal.returns-else-is_err-clause-ok
-returns-else-is_err-clause-ok c =
+pub slice_bounds-fields-start : goal.slice_bounds-fields-start
+slice_bounds-fields-start c =
+    let makes = text-makes [] c.args.row.now.fields _ c.text.ensures.text refl c.text.ensures.plain c.requires in omega (arith, makes.1)
+
+pub returns-clause-ok : goal.returns-clause-ok
+returns-clause-ok c =
     let row = row_text plain_writer c.args.row.now.fields in
     let makes = text-makes [] c.args.row.now.fields _ c.text.ensures.text refl c.text.ensures.plain c.requires in
-    on_ok c.push_line-added.result (λ added.
-    ap (λ t. c.self.inside.before.items ++ t) (added ∙ ap (λ t. c.self.inside.text.items ++ t) (sym makes.0))
-    ∙ sym (append_assoc c.self.inside.before.items c.self.inside.text.items row) ∙ ap (λ t. t ++ row) c.self.view_is) c.push_line-added.ensures
+    let before = c.self.inside.before.items in
+    let text = c.self.inside.text.items in
+    let more = drop 1 c.text.result.now in
+    let size = length-drop 1 c.text.result.now in
+    let some : c.extend_from_slice.new.self.items ≡ text ++ more =
+    (rw c.if-is_err.ensures.negation at c.extend_from_slice.ensures.items)
+    ∙ ap (λ t. text ++ t) (take_all (length c.text.result.now - 1) more (omega (arith, size))) in
+    let all : c.push.new.self.items ≡ c.extend_from_slice.new.self.items ++ 10 ∷ [] = rw c.if-is_err-2.ensures.negation at c.push.ensures.items in
+    ap (λ t. before ++ t) (all ∙ ap (λ t. t ++ 10 ∷ []) some ∙ append_assoc text more (10 ∷ []) ∙ ap (λ t. text ++ t) (sym makes.0))
+    ∙ sym (append_assoc before text row) ∙ ap (λ t. t ++ row) c.self.view_is
