@@ -1,7 +1,6 @@
 -- Shards of a set that are given to be folded, and come back.
-use Rattle.std.proofs.Common.{◌≡◌, ◌≤◌, ◌<◌, ◌+◌, ℕ, zero, suc, List, [], ◌∷◌, ◌++◌, length, map, refl, sym, ap, ◌∙◌, subst, append-nil, arith}
+use Rattle.std.proofs.Common.{◌≡◌, ◌+◌, ℕ, suc, List, [], ◌∷◌, ◌++◌, length, map, refl, sym, ap, ◌∙◌, subst, append-nil, arith}
 use Rattle.std.specs.Prelude.{None, Some, slice_get}
-use Rattle.std.specs.Arc.{arc_value}
 use Rattle.std.specs.Global.{Vec}
 use Rattle.std.specs.Vec.{vec_capacity}
 use Rattle.std.specs.List.{All, AllZip}
@@ -10,7 +9,7 @@ use Rattle.std.proofs.lemmas.List.{length-append, map-append}
 use Rattle.std.proofs.lemmas.List.Elements.{All-cons, All-nil}
 use Rattle.std.proofs.lemmas.Option.{slice_get_within}
 use Rattle.std.proofs.lemmas.List.Sorted.{IsPermutation-map, IsPermutation-refl}
-use Rattle.rubis_shard.specs.Holdings.{AreInOrder, IsSet}
+use Rattle.rubis_shard.specs.Holdings.{AreInOrder}
 use Rattle.rubis_shard.specs.States.{ShardState}
 use Rattle.rubis_pieces.specs.Faults.{IsFault, numbers_of}
 use Rattle.rubis_pieces.specs.Following.{AreFollowed}
@@ -21,7 +20,7 @@ use Rattle.rubis_pieces.specs.declared.pieces.Done.{Done}
 use Rattle.rubis_pieces.specs.declared.pieces.Piece.{Piece}
 use Rattle.rubis_workers.specs.Following.{bare}
 use Rattle.rubis_workers.proofs.Counts.{followed, no_fault}
-use Rattle.rubis_crew.specs.States.{ComesBack, CrewId, IsBack, LeadState}
+use Rattle.rubis_crew.specs.States.{ComesBack, CrewId, LeadState}
 use Rattle.rubis_crew.specs.declared.job.Back.{Back}
 use Rattle.rubis_crew.specs.declared.job.Given.{Given}
 use Rattle.rubis_replica.specs.Folding.{AreOf, AreOut, FitsBatch, FitsSet, GoesOn, HasFolded, IsFoldedOn, IsFolding, IsGiven, IsBatch, IsOf, cores_of, shards_of}

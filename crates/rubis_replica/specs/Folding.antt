@@ -1,5 +1,5 @@
 -- A batch of an intake's log, folded on the shards of a set by a crew.
-use Rattle.std.specs.Prelude.{◌≡◌, ℕ, ◌+◌, ◌<◌, ◌≤◌, ⊤, List, [], ◌∷◌, ◌++◌, None, Option, Some, Ok, Err, OnOk, OnErr, Result, length, map, slice_index, slice_range}
+use Rattle.std.specs.Prelude.{◌≡◌, ℕ, ◌+◌, ◌<◌, ◌≤◌, ⊤, List, [], ◌∷◌, ◌++◌, None, Option, Some, Ok, Err, OnOk, OnErr, Result, length, map, slice_range}
 use Rattle.std.specs.Arc.{arc_value}
 use Rattle.std.specs.Global.{Vec}
 use Rattle.std.specs.Vec.{vec_capacity}
@@ -33,7 +33,7 @@ messages_of b = slice_range b.intake.state.log b.span.from b.span.upto
 abbrev pub cores_of : SharedBatch → List Core
 cores_of b = cores (messages_of b)
 
--- messages are those of a log, in order
+-- there are such messages in the log
 pub record IsSpan (log : List Message) (s : Span) : Type 0 where
   pub on : s.from ≤ s.upto
   pub within : s.upto ≤ length log
@@ -43,14 +43,14 @@ pub record IsBatch (b : SharedBatch) (shards : ℕ) : Type 0 where
   pub span : IsSpan b.intake.state.log b.span
   pub homes : AreHomes shards (cores_of b) b.homes.items
 
--- it is a part of the log of that intake, and its messages are well formed
+-- the batch is these messages of that intake's log, which are well formed
 pub record IsShared (i : Intake) (s : Span) (shards : ℕ) (b : SharedBatch) : Type 0 where
   pub intake : b.intake ≡ i
   pub span : b.span ≡ s
   pub batch : IsBatch b shards
   pub conditions : All IsMessage (messages_of b)
 
--- and the shard is one of these
+-- the shard is one of a set among which the parts of the batch have their homes
 pub record FitsBatch (b : SharedBatch) (s : ShardState) : Type 0 where
   pub number : s.number < s.shards
   pub batch : IsBatch b s.shards
@@ -59,7 +59,7 @@ pub record FitsBatch (b : SharedBatch) (s : ShardState) : Type 0 where
 abbrev pub FollowsBatch : SharedBatch → ShardState → ℕ → ShardState → Type 0
 FollowsBatch b old done new = IsFollowed (b.span.from + 1) (cores_of b) old done new
 
--- the same, as it is told of a shard that was taken
+-- the same, as what was done says it
 abbrev pub IsFoldedOn : SharedBatch → ShardState → Done → Type 0
 IsFoldedOn b s d = FollowsBatch b s d.done d.shard
 
@@ -114,7 +114,7 @@ module _ {G : Type 0} where
 abbrev pub HasRoomFor : ℕ → Vec Done → Type 0
 HasRoomFor many list = length list.items + many ≤ vec_capacity list
 
--- and there is room for all of them
+-- the same of that crew's lead, and there is room in the list for those that are left and given
 pub record AreOut {G : Type 0} (id : CrewId) (b : SharedBatch) (all left : List ShardState) (l : LeadState (Folding G)) (list : Vec Done) : Type 0 where
   pub crew : l.crew ≡ id
   pub folding : IsFolding b all left l list.items

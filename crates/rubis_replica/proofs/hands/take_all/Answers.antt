@@ -1,4 +1,4 @@
-use Rattle.std.proofs.Common.{◌≡◌, [], ◌∷◌, ◌++◌, ◌+◌, length, subst, sym, ap, arith}
+use Rattle.std.proofs.Common.{subst, sym, arith}
 use Rattle.rubis_replica.specs.Folding.{GoesOn}
 use Rattle.rubis_replica.proofs.GivenOut.{goes_on, one_back, one_fewer}
 use Rattle.rubis_replica.proofs.hands.take_all.Goals as goal

@@ -1,4 +1,4 @@
-use Rattle.std.proofs.Common.{◌≡◌, ◌∙◌, ◌<◌, refl, arith}
+use Rattle.std.proofs.Common.{◌∙◌, refl, arith}
 use Rattle.rubis_replica.proofs.SharedFacts.{none_is_applied}
 use Rattle.rubis_replica.proofs.shared_batches.apply_by_hands.Goals as goal
 

@@ -1,12 +1,11 @@
-use Rattle.std.proofs.Common.{rules, true, ◌≡◌, ◌<◌, ◌≤◌, ap, refl, sym, ◌∙◌, subst, arith, inl, inr}
+use Rattle.std.proofs.Common.{rules, true, ◌<◌, ap, refl, sym, ◌∙◌, subst, arith, inl, inr}
 use Rattle.std.specs.Prelude.{Err, length, slice_range}
 use Rattle.rubis_model.specs.Log.{cores}
-use Rattle.rubis_workers.specs.Pieces.{HoldsTo}
 use Rattle.rubis_replica.specs.Follow.{ComesTo, Follower, FollowsLog, HasStops, IsTriedTo, StandWithin}
-use Rattle.rubis_replica.specs.Progress.{left_of, short}
+use Rattle.rubis_replica.specs.Progress.{short}
 use Rattle.rubis_replica.specs.declared.progress.Progress.{Progress}
 use Rattle.rubis_replica.specs.declared.progress.Stage.TheVariants.{Begun}
-use Rattle.rubis_replica.proofs.Standing.{counted_by, err_of, follows_begun, follows_none, follows_whole, ok_of, rests_follow}
+use Rattle.rubis_replica.proofs.Standing.{counted_by, err_of, follows_begun, follows_none, follows_whole}
 use Rattle.rubis_replica.proofs.follower.Follower.note.Given as given
 use Rattle.rubis_replica.proofs.follower.Follower.note.Goals as goal
 use Rattle.rubis_replica.proofs.follower.Follower.note.Goals.{After-count_behind-left}
