@@ -1,13 +1,11 @@
 //! The lines of an input that comes in pieces.
 
 ghost use Rattle.std.specs.Prelude.{◌≡◌, [], ◌<◌, ◌≤◌, ℕ, List, IfOk, false, length, take, true};
-ghost use Rattle.csv.specs.Reading.{default_config};
-ghost use Rattle.csv.specs.Machine.{step};
-ghost use Rattle.csv.specs.declared.parser.State.{State};
 ghost use Rattle.rubis_keep.specs.Lines.{closes, is_sound};
 ghost use Rattle.rubis_keep.specs.Cuts.{CutsLines};
-ghost use Rattle.rubis_keep.specs.Places.{StandsIn, begun_bytes, plain_place};
+ghost use Rattle.rubis_keep.specs.Places.{begun_bytes};
 
+use rubis_reading::{CsvState, after};
 use std::alloc::{AllocError, Global};
 use std::marker::Model;
 
@@ -17,70 +15,16 @@ pub const LINE_MAX: usize = 4096;
 /// The first byte of a byte order mark, with which no record begins.
 pub(crate) const MARK: u8 = 0xEF;
 
-// Where a reader of CSV stands in a line.
-#[derive(Clone, Copy, PartialEq, Eq)]
-pub(crate) enum Place {
-    // Before the first byte of a field.
-    FieldStart,
-    // In a field without quotes.
-    Plain,
-    // In a field with quotes.
-    Quoted,
-    // After a quote in such a field, which is its last unless another one follows.
-    QuoteMet,
-}
-
-// The place after a byte that doesn't open, close or double a quote.
-fn plain_after(byte: u8) -> Place
-    ensures { result ≡ plain_place byte }
-{
-    if byte == b',' || byte == b'\r' || byte == b'\n' {
-        Place::FieldStart
-    } else {
-        Place::Plain
-    }
-}
-
-// The place after one more byte.
-fn place_after(place: Place, byte: u8) -> Place
-    ensures { (s : State) → StandsIn place s → StandsIn result (step default_config s byte).0 }
-{
-    match place {
-        Place::Quoted => {
-            if byte == b'"' {
-                Place::QuoteMet
-            } else {
-                Place::Quoted
-            }
-        }
-        Place::FieldStart => {
-            if byte == b'"' {
-                Place::Quoted
-            } else {
-                plain_after(byte)
-            }
-        }
-        Place::QuoteMet => {
-            if byte == b'"' {
-                Place::Quoted
-            } else {
-                plain_after(byte)
-            }
-        }
-        Place::Plain => plain_after(byte),
-    }
-}
-
 // Whether the quotes of a line close.
 #[tactic(auto, using(crate::proofs::LineFacts::state_take_more))]
 pub(crate) fn closes(line: &[u8]) -> bool
     ensures { result ≡ closes line.now }
 {
-    let mut place = Place::FieldStart;
+    let mut at = CsvState::Start;
     for byte in line {
-        place = place_after(place, *byte);
+        at = after(at, *byte);
     }
-    place != Place::Quoted
+    !matches!(at, CsvState::Quoted)
 }
 
 /// Whether a line is kept as it is.

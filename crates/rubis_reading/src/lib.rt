@@ -14,6 +14,7 @@ mod worth;
 pub use ahead::Ahead;
 pub use buffer::ChunkFault;
 pub use chunks::Chunks;
+pub use csv_state::{CsvState, after};
 pub use cuts::whole_end;
 pub use pieces::{Pieces, ReadPiece};
 pub use readings::Reading;
