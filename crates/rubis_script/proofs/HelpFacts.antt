@@ -91,7 +91,7 @@ pub folded : {G : Type 0} (d d2 : Desk G) → d2.site.place ≡ d.site.place →
 folded d d2 place state plan held sink answered =
     let same : left_at d ≡ left_at d2 =
     λ i. held_by (record { place = sym place i; state = sym state i; progress = d.site.progress; batch = d.site.batch }) (sym held i)
-        (ap (λ (n : ℕ). n + 1) (sym answered) i) in
+    (ap (λ (n : ℕ). n + 1) (sym answered) i) in
     takes-held d d2 (place, plan)
     (record {
       count = answered;

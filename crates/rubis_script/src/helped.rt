@@ -111,13 +111,7 @@ fn serve_to_end<G: Gate + Drop, T: Threads + Wait + Sync, R: Read, W: Write>(
 }
 
 // The run, beside what the helpers do.
-fn serve_beside<
-    F: FnMut() + Send,
-    G: Gate + Drop,
-    T: Threads + Wait + Sync,
-    R: Read,
-    W: Write,
->(
+fn serve_beside<F: FnMut() + Send, G: Gate + Drop, T: Threads + Wait + Sync, R: Read, W: Write>(
     rt: &T,
     stay: &mut F,
     helpers: &mut Helpers<'_, G>,

@@ -4,10 +4,13 @@ use Rattle.rubis_script.proofs.ChunkFacts.{prefix-stays}
 use Rattle.rubis_engine.proofs.EndFacts.{ends_memory}
 use Rattle.rubis_script.proofs.helped.run_helped.Goals as goal
 
-pub returns-in_err-crew : goal.returns-in_err-crew
-returns-in_err-crew g c =
+pub returns-in_err-reading : goal.returns-in_err-reading
+returns-in_err-reading g c =
     ends_memory _ _ _ c.from_residual.result c.from_residual.ensures
     (prefix-stays g.R.Read.remaining c.args.chunks.now c.args.desk.now [] _ _ refl)
+
+pub returns-in_default : goal.returns-in_default
+returns-in_default g c = prefix-stays g.R.Read.remaining c.args.chunks.now c.args.desk.now [] _ _ refl
 
 pub serve_helped-served-requires-clause-held : goal.serve_helped-served-requires-clause-held
 serve_helped-served-requires-clause-held g c κs within =
