@@ -98,6 +98,3 @@ folded d d2 place state plan held sink answered =
       text = λ more. (λ ending i. sym sink i ++ (same i).text ending more, ap (λ a. a.read more) same);
       leads = (place, λ i. after_all (place i) (state i) (held i));
     })
-
-pub with-more : {G : Type 0} {old mid new : Helpers G} → StayWith mid new → StayWith old mid → StayWith old new
-with-more two one = (two.0 ∙ one.0, two.1 ∙ one.1)

@@ -16,7 +16,7 @@ list_out-requires g c =
     let few = taken-few _ _ _ _ _ _ i.taken in
     let one : length (left_ahead c.listings.next c.listings.ahead) ≡ length (flat c.listings.ahead) + 1 =
     ap (λ n. length (left_ahead n c.listings.ahead)) c.in-Some.is ∙ omega arith in
-    (search rules, (search rules, omega (arith, few, one, c.requires.room)))
+    (search rules, (search rules, (search rules, omega (arith, few, one, c.requires.room))))
 
 pub returns-in_err-list_out : goal.returns-in_err-list_out
 returns-in_err-list_out g c =

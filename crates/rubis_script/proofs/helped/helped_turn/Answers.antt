@@ -97,10 +97,12 @@ returns-clause-held g c =
     let old = c.args.helpers.now.pieces in
     let kept = kept-more old c.give_all.new.self c.next.new.self c.give_all.ensures.setup c.in_ok-piece.ensures.setup in
     let same = (c.fold.ensures.takes (g.W.Write.contents c.args.writer.now)).setup in
-    let (goes, few, setup) = c.in_ok-answer_read.ensures.run in (
+    let (goes, few, setup) = c.in_ok-answer_read.ensures.run in
+    let held =
+    subst (λ p. AreHeld c.answer_read.new.chunks c.answer_read.new.desk p) (sym c.fold.ensures.pieces)
+    (held-on c.args.chunks.now c.answer_read.new.chunks c.args.desk.now c.answer_read.new.desk old c.next.new.self c.requires.held kept
+    (kept-on c.args.desk.now c.fold.new.desk c.answer_read.new.desk same setup)
+    (subst (λ t. AreOf t c.next.new.self) (sym c.in_ok-answer_read.ensures.held) one.2)) in (
       (ap (λ p. p.lead.crew) c.fold.ensures.pieces ∙ kept.0, c.fold.ensures.crew),
-      subst (λ p. AreHeld c.answer_read.new.chunks c.answer_read.new.desk p) (sym c.fold.ensures.pieces)
-          (held-on c.args.chunks.now c.answer_read.new.chunks c.args.desk.now c.answer_read.new.desk old c.next.new.self c.requires.held kept
-          (kept-on c.args.desk.now c.fold.new.desk c.answer_read.new.desk same setup)
-          (subst (λ t. AreOf t c.next.new.self) (sym c.in_ok-answer_read.ensures.held) one.2)),
+      record { pieces = held.pieces; sites = held.sites; window = held.window },
     )

@@ -1,9 +1,8 @@
-use Rattle.std.proofs.Common.{refl}
+use Rattle.std.proofs.Common.{◌∙◌, refl}
 use Rattle.rubis_engine.proofs.EndFacts.{ends_on}
 use Rattle.rubis_engine.proofs.RunFacts.{if_none}
 use Rattle.rubis_reading.proofs.AheadFacts.{match-some}
 use Rattle.rubis_script.proofs.ChunkFacts.{match-none}
-use Rattle.rubis_script.proofs.HelpFacts.{with-more}
 use Rattle.rubis_script.proofs.helped.serve.Goals as goal
 
 pub loop-init : goal.loop-init
@@ -25,14 +24,16 @@ returns-in_err-count-clause-run g c =
     (λ prefix first old input h. prefix first old input (stands first old input h)) c.in_err-count.ensures.run
 
 pub returns-in_err-count-clause-crews : goal.returns-in_err-count-clause-crews
-returns-in_err-count-clause-crews g c = with-more c.in_err-count.ensures.held.0 c.loop.invariant.crews
+returns-in_err-count-clause-crews g c =
+    (c.in_err-count.ensures.held.0.0 ∙ c.loop.invariant.crews.0, c.in_err-count.ensures.held.0.1 ∙ c.loop.invariant.crews.1)
 
 pub returns-in-Some-2-clause-run : goal.returns-in-Some-2-clause-run
 returns-in-Some-2-clause-run g c first old input h =
     match-some c.in_ok-count.field-0 _ _ c.in-Some-2.count c.in_ok-count.ensures.run c.in-Some-2.is first old input (c.loop.invariant.stands first old input h)
 
 pub returns-in-Some-2-clause-crews : goal.returns-in-Some-2-clause-crews
-returns-in-Some-2-clause-crews g c = with-more c.in_ok-count.ensures.held.0 c.loop.invariant.crews
+returns-in-Some-2-clause-crews g c =
+    (c.in_ok-count.ensures.held.0.0 ∙ c.loop.invariant.crews.0, c.in_ok-count.ensures.held.0.1 ∙ c.loop.invariant.crews.1)
 
 pub loop-preserved : goal.loop-preserved
 loop-preserved g c =
@@ -40,7 +41,7 @@ loop-preserved g c =
     record {
       next = tt;
       ends = tt;
-      crews = with-more c.in_ok-count.ensures.held.0 c.loop.invariant.crews;
+      crews = (c.in_ok-count.ensures.held.0.0 ∙ c.loop.invariant.crews.0, c.in_ok-count.ensures.held.0.1 ∙ c.loop.invariant.crews.1);
       held = if_none c.in_ok-count.field-0 c.in_ok-count.ensures.held.1 c.in_default.is;
       within = within;
       stands = λ first old input h. goes first old input (c.loop.invariant.stands first old input h);

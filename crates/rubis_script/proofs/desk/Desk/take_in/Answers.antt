@@ -13,9 +13,11 @@ arrive_all-arrived-requires g c = (
   search rules,
   (
     search rules,
-    search rules,
-    subst (λ w. All (λ m. sites_of m ≡ c.args.self.now.site.place.sites) w.items) (sym c.replace-messages.ensures.value)
-        (subst (λ k. All (λ m. sites_of m ≡ k) c.args.self.now.window.items) c.args.self.now.same c.args.self.now.held),
+    (
+      search rules,
+      subst (λ w. All (λ m. sites_of m ≡ c.args.self.now.site.place.sites) w.items) (sym c.replace-messages.ensures.value)
+          (subst (λ k. All (λ m. sites_of m ≡ k) c.args.self.now.window.items) c.args.self.now.same c.args.self.now.held),
+    ),
   ),
 )
 
