@@ -16,6 +16,7 @@ except ImportError:
 CONNECT_SECONDS = 5.0
 MARGIN = 2.0        # seconds beyond its time-out that a request has, since the supervisor knows more of it when that is over
 SECONDS = 10.0      # its time-out, if no other is said
+KEY_BYTES = 255     # how long a key is at most
 PIECE = 1 << 16
 
 # What was begun: the connection, what has come of the answers to it that aren't printed, how many are, and until when it waits.
@@ -60,7 +61,7 @@ def plan_of(words: list[str]) -> tuple[str, bytes, float] | None:
             rest.append(word)
     if len(rest) < 2 or not (rest[0].isascii() and rest[0].isdecimal() and len(rest[0]) < 10) or not 0 < seconds < 1e6 or not folder:
         return None
-    if key is not None and len(rest) > 2:
+    if key is not None and (len(rest) > 2 or not (0 < len(key) <= KEY_BYTES and key.isascii() and key.isprintable())):
         return None
     return folder, request_of(int(rest[0]), rest[1:], seconds, key, options), seconds
 

@@ -15,8 +15,7 @@ class Plans(unittest.TestCase):
         for words in (["ask", "0", "user,ann"], ["-C", "a b", "ask", "3", 'item,0.1,"vase, blue",7,1,100,0', "user,bob"],
                       ["ask", "1", "--timeout", "0.5", "bid,0.3,0.2,500", "--no-wait"], ["ask", "0", "user,\udcff\u00e9\u20ac\n\x07"],
                       ["ask", "0", "--published", "user,ann", "--key", 'order "17"'], ["ask", "12", "user,ann", "user,ann", "--timeout", "1e3"],
-                      ["ask", "0", "--key", "k", "user,ann", "--no-wait", "--published", "--timeout", "7"], ["ask", "007", "", "x"],
-                      ["ask", "0", "x", "--key", ""]):
+                      ["ask", "0", "--key", "k", "user,ann", "--no-wait", "--published", "--timeout", "7"], ["ask", "007", "", "x"]):
             with self.subTest(words=words):
                 plan = plan_of(words)
                 assert plan
@@ -37,7 +36,8 @@ class Plans(unittest.TestCase):
             ["ask", "one", "x"], ["ask", "-1", "x"], ["ask", "\u0663", "x"], ["ask", "0", "x", "--json"], ["ask", "0", "x", "--raw"],
             ["ask", "0", "x", "--time", "1"], ["ask", "0", "x", "--timeout=1"], ["ask", "0", "x", "--timeout"], ["ask", "0", "x", "--timeout", "x"],
             ["ask", "0", "x", "--timeout", "0"], ["ask", "0", "x", "--timeout", "nan"], ["ask", "0", "x", "--timeout", "1e6"],
-            ["ask", "0", "x", "y", "--key", "k"], ["ask", "0", "x", "--key", "-k"], ["ask", "0", "x", "--keys", "k"], ["--help"],
+            ["ask", "0", "x", "y", "--key", "k"], ["ask", "0", "x", "--key", "-k"], ["ask", "0", "x", "--key", ""], ["ask", "0", "x", "--key", "k" * 256],
+            ["ask", "0", "x", "--keys", "k"], ["--help"],
             ["ask", "0", "x", "--help"], ["ask", "0", "--", "x"]]
         for words in left:
             with self.subTest(words=words):
