@@ -180,7 +180,7 @@ def lines_of_function(lines: list[str], name: str) -> tuple[int, int] | str:
         first -= 1
     while lines[last].strip() not in ("{", "{}") and not lines[last].endswith((" {", ";")):
         last += 1
-    if not any(line.strip().startswith(("requires", "ensures")) for line in lines[at:last]):
+    if not any(line.strip().startswith("ensures") for line in lines[at:last]):
         return "has no contract there"
     return first + 1, last
 

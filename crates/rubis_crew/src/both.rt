@@ -112,14 +112,16 @@ impl<J: Job, K: Job> Both<J, K> {
         }
     }
 
-    /// This helper and the others of the crews, each in a thread of its own and this one in the caller's, until no more jobs come. A
-    /// thread that can't be started leaves its work to the others.
+    /// All helpers of the crews, made from this one, each in a thread of its own and the first in the caller's, until no more jobs come. A
+    /// thread that can't be started leaves its work to the others. This one takes no job, and stays a helper of both.
     pub fn stay_all<R: Threads + Wait + Sync>(&mut self, rt: &R, first: &Crew<J>, second: &Crew<K>)
         requires { IsAt first.now.id second.now.id self.old }
+        ensures { IsAt first.now.id second.now.id self.new }
     {
         let helpers = first.helpers();
         if helpers > 0 {
-            stay_with(rt, first, second, self, helpers - 1);
+            let mut one = self.another(first, second);
+            stay_with(rt, first, second, &mut one, helpers - 1);
         }
     }
 }

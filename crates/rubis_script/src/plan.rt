@@ -5,7 +5,8 @@ ghost use Rattle.rubis_script.specs.declared.plan.TheConstants.{WINDOW_MIN};
 
 use rubis_replica::Config;
 
-// How many messages are taken in together at least, where a text has so many: all of a piece. Fewer would be as many turns more.
+// The least number of messages that are taken in together, where the text has them: all of a piece. With fewer a piece would take several
+// turns.
 const WINDOW_MIN: usize = 4096;
 
 /// How a text is read ahead.

@@ -43,8 +43,8 @@ pub fn stop_all(stops: &mut Vec<usize>, shards: usize, at: usize)
     }
 }
 
-/// Notes where each shard stands that did so many messages of a batch after message `from`. Returns whether each did all `messages` of
-/// it.
+/// Notes where each shard stands in a batch after message `from`, by how many of its messages are done there. Returns whether all
+/// `messages` of it are done on each.
 pub fn stop_each(stops: &mut Vec<usize>, dones: &[usize], from: usize, messages: usize) -> bool
     requires room { length dones.now ≤ vec_capacity stops.old }
     requires within { (k : ℕ) → k < length dones.now → slice_index dones.now k ≤ messages }
