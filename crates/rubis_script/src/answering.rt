@@ -31,10 +31,10 @@ pub fn answer_first<G: Gate, T: Threads + Wait + Sync>(
 {
     'steps: for _taken in 0..many {
         let Some(stretch) = ahead.next_stretch() else {
-            return Err(OutOfMemory);
+            unreachable!()
         };
         let Stretch::One(read) = stretch else {
-            return Err(OutOfMemory);
+            unreachable!()
         };
         desk.take_read(rt, read)?;
     }

@@ -316,8 +316,8 @@ impl<G: Gate> Desk<G> {
         Ok(())
     }
 
-    /// Takes in the messages that are held, if there is no room for one more.
-    pub fn make_room<R: Threads + Wait + Sync>(&mut self, rt: &R) -> Result<(), OutOfMemory>
+    // Takes in the messages that are held, if there is no room for one more.
+    fn make_room<R: Threads + Wait + Sync>(&mut self, rt: &R) -> Result<(), OutOfMemory>
         ensures same { KeepsSetup self.old self.new }
         ensures room { length self.new.window.items < self.new.plan.window }
         ensures kept { OnOk result (TakesHeld self.old self.new) }
@@ -371,20 +371,6 @@ impl<G: Gate> Desk<G> {
                 Ok(())
             }
         }
-    }
-
-    /// The same, of a record that wasn't read.
-    pub fn take<R: Threads + Wait + Sync>(
-        &mut self,
-        rt: &R,
-        fields: &InputRecord,
-    ) -> Result<(), OutOfMemory>
-        requires { self.old.answered + 1 < 2 ^ 64 }
-        ensures same { KeepsSetup self.old self.new }
-        ensures takes { OnOk result (TakesNext (input_of self.old.site.place.sites fields.now) self.old self.new) }
-    {
-        let read = self.read(fields)?;
-        self.take_read(rt, read)
     }
 
     /// Takes in the messages that are held, and answers a request for a listing, the next record. Its rows are written out while they
