@@ -108,13 +108,19 @@ class Shop(abc.ABC):
         """A life of the site begins whose folder is known to have all that it answered, so many bytes of `kept`, or isn't."""
         site.answered = answered
         if self.is_alone or answered is not None and self.link.is_here:
-            self.open_unseen(site)
+            self._opened(site, answered or 0)
 
     def open_unseen(self, site: Site) -> None:
-        """The site takes asks before it is compared: what the others have can't be seen, and its folder lacks nothing, or its operator takes
-        the risk."""
-        if not site.opened.is_set and may_open_unseen(self.is_alone, site.answered is not None):
+        """What the others have of the site can't be seen. It takes asks all the same, before it is compared, if its folder lacks nothing, as far
+        as the sites here know, or if its operator takes the risk."""
+        has_all = site.answered is not None and site.known.is_set and self._has_all_of(site)
+        if not site.opened.is_set and may_open_unseen(self.is_alone, has_all):
             self._opened(site, site.answered or 0)
+
+    def _has_all_of(self, site: Site) -> bool:
+        """Whether the sites here have no more of the site than its folder. They may have read what a copy of that sent."""
+        others = [other for other in self.sites.values() if other is not site]
+        return all(other.tried.is_set and other.ledger.have[site.number].greatest <= site.ledger.sends.messages for other in others)
 
     def _opened(self, site: Site, answered: int) -> None:
         site.witness = self.witness_of(site, answered)

@@ -27,9 +27,29 @@ class Opening(unittest.TestCase):
         self.assertEqual([site.opened.is_set for site in shop.sites.values()], [False, False])
         shop.link.fail("hear", "broke")
         self.assertFalse(shop.sites[0].opened.is_set)
+        self.away(shop)
+        self.assertFalse(shop.sites[0].opened.is_set)
+        for site in shop.sites.values():
+            site.known.set()
+            site.tried.set()
+        self.away(shop)
+        self.assertEqual([site.opened.is_set for site in shop.sites.values()], [True, False])
+
+    def test_one_of_which_a_site_here_has_more_does_not_open_unseen(self) -> None:
+        """It has read what a clone of the folder sent, which ran meanwhile."""
+        shop = Supervisor(OverServer, 2)
+        shop.begin_site(shop.sites[0], 100)
+        for site in shop.sites.values():
+            site.known.set()
+            site.tried.set()
+        shop.sites[1].ledger.have[0].add(1)
+        self.away(shop)
+        self.assertFalse(shop.sites[0].opened.is_set)
+
+    def away(self, shop: Supervisor) -> None:
+        assert isinstance(shop.link, OverServer)
         for site in shop.sites:
             shop.link.fail(f"publish {site}", "away")
-        self.assertEqual([site.opened.is_set for site in shop.sites.values()], [True, False])
 
     def test_one_that_has_seen_another_process_of_it_opens_unseen_no_more(self) -> None:
         """A clone of the folder ran meanwhile, or runs, and the server goes away before the site is stopped for that."""
