@@ -25,7 +25,7 @@ each with the function that it changes. The prover has to refuse every one of th
 """
 
 IMPL = re.compile(r"^impl\b")
-FUNCTION = re.compile(r"^(\s*)((?:pub )?)fn (\w+)")
+FUNCTION = re.compile(r"^(\s*)((?:pub )?)(?:pub\(\w+\) )?fn (\w+)")
 CLAUSE = re.compile(r"^\s*(requires|ensures)\b")
 
 

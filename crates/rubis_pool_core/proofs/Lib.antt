@@ -9,3 +9,5 @@ pub mod Hands
 pub mod Threads
 pub mod ThreadExamples
 pub mod Teams
+pub mod Crews
+pub mod CrewExamples

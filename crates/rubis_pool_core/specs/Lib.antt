@@ -6,3 +6,4 @@ pub mod Threads
 pub mod Batches
 pub mod Codes
 pub mod Teams
+pub mod Crews
