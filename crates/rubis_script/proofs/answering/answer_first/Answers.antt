@@ -1,11 +1,18 @@
-use Rattle.std.proofs.Common.{◌≡◌, ◌∙◌, ◌+◌, ◌++◌, ◌∷◌, [], None, All, ap, arith, subst, zero}
+use Rattle.std.proofs.Common.{◌≡◌, ◌∙◌, ◌+◌, ◌++◌, ◌∷◌, [], None, All, ap, arith, length, subst, zero}
 use Rattle.rubis_message.specs.Inputs.{FitsIn}
 use Rattle.rubis_reading.specs.Runs.{AreSingle, flat, of_stretch}
-use Rattle.rubis_script.proofs.StepFacts.{sound-front, sound-kept, taken-more, taken-none, takes-next}
+use Rattle.rubis_script.proofs.StepFacts.{sound-front, sound-kept, taken-few, taken-more, taken-none, takes-next}
 use Rattle.rubis_script.proofs.answering.answer_first.Goals as goal
 
 pub steps-init : goal.steps-init
 steps-init g c = record { sound = c.requires.sound.0; single = c.requires.sound.1; number = omega arith; taken = taken-none _ _ }
+
+-- as many as were taken are all that there were, and more are wanted
+pub unreachable-requires : goal.unreachable-requires
+unreachable-requires g c =
+    let few = taken-few (flat c.args.ahead.now) (flat c.steps.ahead) c.args.desk.now c.steps.desk None None (c.steps.invariant.taken None) in
+    let none : length (flat c.steps.ahead) ≡ 0 = ap (λ a. length (flat a)) c.in_default.ensures.none in
+    omega (arith, few, none, c.steps.invariant.number, c.requires.more, c.steps-test.true)
 
 pub take_read-requires-clause-fits : goal.take_read-requires-clause-fits
 take_read-requires-clause-fits g c κs within =
