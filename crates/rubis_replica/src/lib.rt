@@ -24,6 +24,6 @@ pub use rubis_listing::{ListingRows, put_record};
 pub use rubis_workers::{Free, Gate};
 pub use site::Site;
 pub use tries::{
-    refused_memory_changes_no_answer, try_arrive, try_arrive_all, try_catch_up, try_cut, try_list,
-    try_list_into, try_pass, try_prepare, try_request, try_token,
+    refused_memory_changes_no_answer, try_arrive, try_arrive_all, try_arrive_within, try_catch_up,
+    try_cut, try_list, try_list_into, try_pass, try_prepare, try_request, try_token,
 };

@@ -14,7 +14,7 @@ ghost use Rattle.rubis_replica.specs.Setup.{setup_place};
 ghost use Rattle.rubis_replica.specs.State.{AddsRows, AnswersAsTheStep, IsCutFault, IsReadFault, IsReadyFor, IsRefreshed, Lists};
 ghost use Rattle.rubis_replica.specs.State.{NeedsNoTables, TakesIn, WaitsBehind, pending, with_all_applied};
 
-use crate::arriving::Arrived;
+use crate::arriving::{Arrived, take_all};
 use crate::config::Config;
 use crate::faults::Fault;
 use crate::follower::Follower;
@@ -232,6 +232,33 @@ impl<G: Gate> Site<G> {
             };
         }
         self.follower.take_in(rt, &mut self.intake, messages)
+    }
+
+    /// The same, but what is pending is applied before only where that is at least `most` messages: fewer of them wait, with what is
+    /// released by the messages.
+    pub fn arrive_within<R: Threads + Wait + Sync>(
+        &mut self,
+        rt: &R,
+        messages: Vec<Message>,
+        most: usize,
+    ) -> Arrived
+        requires { All (λ m. sites_of m ≡ self.old.place.sites) messages.items }
+        ensures place { self.new.place ≡ self.old.place }
+        ensures batch { self.new.batch ≡ self.old.batch }
+        ensures waits { 0 < left_of self.old.progress → (self.new ≡ self.old) × (result.answers ≡ []) × (result.rest ≡ messages.items)
+            × (result.fault ≡ Some Fault.Behind) }
+        ensures first { TakesFirst self.old.place self.old.state self.new.state messages.items result.answers result.rest }
+        ensures none { IfNone result.fault (result.rest ≡ []) }
+        ensures fault { IfSome result.fault (IsStop (left_of self.old.progress) result.rest) }
+        ensures few { left_of self.old.progress ≡ 0 → pending self.old < most → self.new.progress ≡ self.old.progress }
+        ensures many { left_of self.old.progress ≡ 0 → most ≤ pending self.old
+            → IsAhead self.old.state.log self.new.state.log self.old.progress self.new.progress }
+    {
+        let pending = self.intake.log().len() - self.follower.applied();
+        if pending >= most || self.follower.is_behind() {
+            return self.arrive_all(rt, messages);
+        }
+        take_all(self.alloc, &mut self.intake, messages)
     }
 
     /// Takes a token that arrived.

@@ -64,6 +64,20 @@ pub fn try_arrive_all<G: Gate, R: Threads + Wait + Sync>(
     site.arrive_all(rt, messages)
 }
 
+/// So they are where what is pending waits on.
+pub fn try_arrive_within<G: Gate, R: Threads + Wait + Sync>(
+    site: &mut Site<G>,
+    rt: &R,
+    messages: Vec<Message>,
+    most: usize,
+) -> Arrived
+    requires { All (λ m. sites_of m ≡ site.old.place.sites) messages.items }
+    ensures place { site.new.place ≡ site.old.place }
+    ensures tried { ComeTogether site.old.place site.old.state messages.items result.answers result.rest site.new.state }
+{
+    site.arrive_within(rt, messages, most)
+}
+
 /// A token that arrives is a try.
 pub fn try_token<G: Gate>(site: &mut Site<G>, token: Token) -> Result<Taken, Fault>
     ensures place { site.new.place ≡ site.old.place }

@@ -196,6 +196,8 @@ pub struct Desk<G: Gate = Free> {
     sites: u8,
     // How many messages are taken in together, where they are read one by one.
     together: usize,
+    // How many messages may wait to be applied where others are taken in: in a run fewer than a window, which its helpers fold.
+    may_wait: usize,
     /// How it reads ahead.
     pub plan: Plan,
     /// The messages that it holds, the last of the records so far, to take them in together.
@@ -227,6 +229,7 @@ impl<G: Gate + Drop> Desk<G> {
             site: Site::new(alloc, config, gate)?,
             sites: config.sites(),
             together: window_of(config),
+            may_wait: 0,
             plan: Plan::of(config),
             window: Vec::new(alloc),
             reply: Reply::new(alloc),
@@ -253,6 +256,7 @@ impl<G: Gate> Desk<G> {
         ensures plan { self.new.plan ≡ self.old.plan }
         ensures fresh { IsFresh self.new }
     {
+        self.may_wait = self.plan.window;
         self.window = Vec::new(self.alloc);
         self.reply = Reply::new(self.alloc);
         self.answered = 0;
@@ -303,7 +307,7 @@ impl<G: Gate> Desk<G> {
     {
         let first = self.answered - self.window.len() as u64 + 1;
         let messages = mem::replace(&mut self.window, Vec::new(self.alloc));
-        let arrived = self.site.arrive_all(rt, messages);
+        let arrived = self.site.arrive_within(rt, messages, self.may_wait);
         write_arrivals(
             &mut self.reply.draft.row,
             &mut self.reply.sink,

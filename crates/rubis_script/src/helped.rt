@@ -27,17 +27,15 @@ const SHARDS: usize = 256;
 // How long a piece is at most that the caller's thread reads and answers alone.
 const PIECE_ALONE: usize = 65_536;
 
-// How many messages are given to be folded, at least.
-const FOLD_MIN: usize = 256;
-
-// Has the messages folded that are pending at the site, where they are many. If that fails, the site's next call says so.
+// Has the messages folded that are pending at the site, where they are at least half as many as a window has: of fewer the caller's
+// thread folds most, since a helper that reads a piece takes a shard only after that. If it fails, the site's next call says so.
 fn fold<G: Gate + Drop, T: Wait>(rt: &T, helpers: &mut Helpers<'_, G>, desk: &mut Desk<G>)
     ensures takes { TakesAll [] desk.old desk.new }
     ensures pieces { helpers.new.pieces ≡ helpers.old.pieces }
     ensures crew { helpers.new.hands.lead.crew ≡ helpers.old.hands.lead.crew }
 {
     let released = desk.site.history().len();
-    if released.saturating_sub(helpers.folded) < FOLD_MIN {
+    if released.saturating_sub(helpers.folded) < desk.plan.window / 2 {
         return;
     }
     let _ = desk.site.cut_by_crew(rt, &mut helpers.hands);

@@ -26,7 +26,7 @@ use std::sync::Wait;
 use std::thread::Threads;
 
 // How many bytes there is room for when the reader is asked for more.
-const BLOCK: usize = 4_194_304;
+const BLOCK: usize = 1_048_576;
 
 // The same where one thread reads and answers: few enough that they are still in its cache.
 const BLOCK_ALONE: usize = 98_304;

@@ -99,6 +99,39 @@ fn four_messages_arrive_together_where_two_are_kept(rt: HostRuntime) -> Result<(
     Ok(())
 }
 
+// Has the four arrive twice, while fewer than `most` may be pending, and cuts. Returns the number of messages that the cut applied.
+fn take_twice_and_cut<R: Threads + Wait + Sync>(
+    rt: &R,
+    site: &mut Site,
+    alloc: Global,
+    most: usize,
+) -> Result<u32, Fail>
+    requires { site.old.place.sites ≡ 2 }
+{
+    let first = four_users(alloc, site)?;
+    site.arrive_within(rt, first, most);
+    let second = four_users(alloc, site)?;
+    site.arrive_within(rt, second, most);
+    let pending = site.cut(rt)?;
+    Ok(pending)
+}
+
+#[test]
+fn pending_messages_wait_where_they_are_fewer_than_may(rt: HostRuntime) -> Result<(), Fail> {
+    let mut site = site_of_two(rt.alloc(), 1, 64, 2)?;
+    assert_eq!(rt; take_twice_and_cut(&rt, &mut site, rt.alloc(), 3)?, 2);
+    Ok(())
+}
+
+#[test]
+fn pending_messages_are_applied_before_where_they_are_as_many_as_may(
+    rt: HostRuntime,
+) -> Result<(), Fail> {
+    let mut site = site_of_two(rt.alloc(), 1, 64, 2)?;
+    assert_eq!(rt; take_twice_and_cut(&rt, &mut site, rt.alloc(), 2)?, 0);
+    Ok(())
+}
+
 #[test]
 fn a_batch_is_applied_at_the_third_arrival(rt: HostRuntime) -> Result<(), Fail> {
     let mut site = site_of_two(rt.alloc(), 1, 3, 1_000_000)?;
