@@ -21,8 +21,10 @@ module _ {J : Type 0} (job : Coded J) where
 
   abbrev pub lead_code : Coded (LeadState J)
   lead_code =
-      code_by (CrewId × (ℕ × (List (Given J) × Bool))) (coded× crew_id_code (coded× coded_ℕ (coded× (coded_list given_code) coded_bool)))
-      (λ s. (s.crew, (s.next, (s.given, s.ended)))) (λ c. record { crew = c.0; next = c.1.0; given = c.1.1.0; ended = c.1.1.1 }) (λ _. refl)
+      code_by (CrewId × (ℕ × (List (Given J) × (Bool × ℕ))))
+      (coded× crew_id_code (coded× coded_ℕ (coded× (coded_list given_code) (coded× coded_bool coded_ℕ))))
+      (λ s. (s.crew, (s.next, (s.given, (s.ended, s.told)))))
+      (λ c. record { crew = c.0; next = c.1.0; given = c.1.1.0; ended = c.1.1.1.0; told = c.1.1.1.1 }) (λ _. refl)
 
   abbrev pub helper_code : Coded (HelperState J)
   helper_code =

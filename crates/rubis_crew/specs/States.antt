@@ -23,12 +23,14 @@ pub record CrewState : Type 0 where
   pub room : ℕ
   pub helpers : ℕ
 
--- the one who gives jobs: the next number, the jobs that are given and not back, and whether it said that no more come
+-- the one who gives jobs: the next number, the jobs that are given and not back, whether it said that no more come, and to how many
+-- helpers
 pub record LeadState (J : Type 0) : Type 0 where
   pub crew : CrewId
   pub next : ℕ
   pub given : List (Given J)
   pub ended : Bool
+  pub told : ℕ
 
 -- a helper: the jobs that it ever took, and those for whose results it paid
 pub record HelperState (J : Type 0) : Type 0 where
@@ -39,7 +41,7 @@ pub record HelperState (J : Type 0) : Type 0 where
 module _ {J : Type 0} where
   -- nothing was given yet
   abbrev pub new_lead : CrewId → LeadState J
-  new_lead crew = record { crew = crew; next = 0; given = []; ended = false }
+  new_lead crew = record { crew = crew; next = 0; given = []; ended = false; told = 0 }
 
   abbrev pub new_helper : CrewId → HelperState J
   new_helper crew = record { crew = crew; taken = []; paid = [] }
@@ -48,9 +50,9 @@ module _ {J : Type 0} where
   abbrev pub given_too : LeadState J → J → LeadState J
   given_too s job = record s { next = s.next + 1; given = s.given ++ record { number = s.next; job = job } ∷ [] }
 
-  -- it said that no more come
-  abbrev pub ended : LeadState J → LeadState J
-  ended s = record s { ended = true }
+  -- it said that no more come, to that many helpers
+  abbrev pub ended : ℕ → LeadState J → LeadState J
+  ended helpers s = record s { ended = true; told = helpers }
 
   -- no more come, all jobs for which there is room are given, or all numbers are
   abbrev pub HasNoRoom : ℕ → LeadState J → Type 0
@@ -85,7 +87,8 @@ module _ {J R : Type 0} (seat : Pass (Item J) (PassView J)) (desk : Pass (Slip J
   helper_of = record { crew = crew_of; taken = (view seat).taken; paid = (view desk).paid }
 
 abbrev pub lead_of : {J R : Type 0} → Bool → Pass (Item J) (PassView J) → Pass (Slip J R) (ResultView J) → LeadState J
-lead_of told seat desk = record { crew = crew_of seat desk; next = (view seat).next; given = (view seat).given; ended = told }
+lead_of told seat desk =
+    record { crew = crew_of seat desk; next = (view seat).next; given = (view seat).given; ended = told; told = (view seat).overs }
 
 -- a pass of the jobs that holds nothing, with one of their results
 pub record AreAPair {J R : Type 0} (seat : Pass (Item J) (PassView J)) (desk : Pass (Slip J R) (ResultView J)) : Type 0 where

@@ -1,6 +1,6 @@
 //! The crew: how jobs are given and taken, and how their results come back.
 
-ghost use Rattle.std.specs.Prelude.{◌≡◌, ◌+◌, ◌-◌, ◌<◌, ◌≤◌, ◌^◌, [], ◌∷◌, ◌++◌, length, true, Some, IfOk, IfErr, OnOk, IfSome, IfNone};
+ghost use Rattle.std.specs.Prelude.{◌≡◌, ◌+◌, ◌-◌, ◌<◌, ◌≤◌, ◌^◌, [], ◌∷◌, ◌++◌, length, true, false, Some, IfOk, IfErr, OnOk, IfSome, IfNone};
 ghost use Rattle.crossbeam_queue.specs.Passes.{view, ruled_capacity, IsPassOf, IsSamePass};
 ghost use Rattle.rubis_crew.specs.declared.job.Given.{Given};
 ghost use Rattle.rubis_crew.specs.Results.{IsPaid, holds};
@@ -375,11 +375,12 @@ impl<J: Job> Crew<J> {
         unreachable!()
     }
 
-    /// Tells the helpers that no more jobs come. All that was given is back.
+    /// Tells each of the helpers that no more jobs come, once. All that was given is back.
     pub fn end<R: Wait>(&self, rt: &R, lead: &mut Lead<J>)
         requires crew { lead.old.crew ≡ self.now.id }
         requires none { lead.old.given ≡ [] }
-        ensures { lead.new ≡ ended lead.old }
+        ensures ended { lead.new ≡ ended lead.new.told lead.old }
+        ensures told { lead.old.ended ≡ false → lead.new.told ≡ self.now.helpers }
     {
         if lead.ended {
             return;
