@@ -5,7 +5,7 @@ import random
 from collections.abc import Iterable
 
 from shop_tool.carrier.rebuilding import Rebuild
-from shop_tool.carrier.records import Message, why_not_one_record
+from shop_tool.carrier.records import Message, Token, why_not_one_record
 from shop_tool.carrier.site import State
 from shop_tool.carrier.steps import Broken
 from shop_tool.ends import Fault
@@ -270,7 +270,8 @@ class Run:
         self.is_token_lost = self.is_token_lost or any(text not in held for text in self.world.passes.values())
 
     def _is_past_lost(self) -> bool:
-        """Whether a message is lost that others count, so that what counts it can't be released."""
+        """Whether a message is lost that others count, so that what counts it can't be released, or a red one that was issued before a pass, so that
+        no red ask after it can be accepted."""
         world = self.world
         lost = {name for name, text in world.made.items() if text in world.lost}
 
@@ -278,7 +279,9 @@ class Run:
             packet = packet_of(text)
             return isinstance(packet, Message) and any((site, number) in lost for site, count in enumerate(packet.deps)
                                                        for number in range(1, count + 1))
-        return bool(lost) and any(counts(text) for text in world.made.values() if text not in world.lost)
+        reds = {packet.red for text in world.made.values() if text in world.lost and isinstance(packet := packet_of(text), Message)} - {0}
+        issued = max((packet.issued for text in world.passes.values() if isinstance(packet := packet_of(text), Token)), default=0)
+        return bool(lost) and any(counts(text) for text in world.made.values() if text not in world.lost) or any(red <= issued for red in reds)
 
     # The end.
 
