@@ -1,7 +1,8 @@
-//! The tests that cross crates: batches in shares, schedules, a board, a site's packets and tables, workers and their gate;
-//! runs over streams, of a service, of a site, of the auditor, of what widens logs, and of several sites; and inputs that no
-//! line of text can write down. They are one crate, since each crate of tests links all that it reaches. Whole conversations
-//! are no code: they lie in `conversations/`. What the scenarios of `rubis_growths` print of a call isn't tested here once more.
+//! The tests that cross crates: batches in shares, schedules, a board, a site's packets and tables, workers and their gate,
+//! helpers of two crews; runs over streams, of a service, of a site, of the auditor, of what widens logs, and of several sites;
+//! and inputs that no line of text can write down. They are one crate, since each crate of tests links all that it reaches. Whole
+//! conversations are no code: they lie in `conversations/`. What the scenarios of `rubis_growths` print of a call isn't tested
+//! here once more.
 #![tactic(auto)]
 
 #[cfg(test)]
@@ -48,6 +49,8 @@ mod tables;
 mod threads;
 #[cfg(test)]
 mod transcripts;
+#[cfg(test)]
+mod two_crews;
 #[cfg(test)]
 mod waiting;
 #[cfg(test)]
