@@ -51,7 +51,7 @@ pub returns-in_err-keep_chunk-clause-goes : goal.returns-in_err-keep_chunk-claus
 returns-in_err-keep_chunk-clause-goes g c =
     let begun = c.requires.begun in
     let t = (c.in_ok-came.ensures.ok begun.0 begun.2).0 in
-    let torn = rw c.deref.ensures.value at c.in_err-keep_chunk.ensures in
+    let torn = rw c.deref-2.ensures.value at c.in_err-keep_chunk.ensures in
     let bad = c.from_residual-in_err-keep_chunk.ensures.0 in
     record {
       rests = ok-of-err _ c.from_residual-in_err-keep_chunk.result bad;
@@ -71,7 +71,7 @@ pub returns-in_default-clause-goes : goal.returns-in_default-clause-goes
 returns-in_default-clause-goes g c =
     let begun = c.requires.begun in
     let t = (c.in_ok-came.ensures.ok begun.0 begun.2).0 in
-    let kept = rw c.deref.ensures.value at c.in_ok-keep_chunk.ensures in
+    let kept = rw c.deref-2.ensures.value at c.in_ok-keep_chunk.ensures in
     record {
       rests = tt;
       ok = tt;
@@ -89,7 +89,7 @@ returns-in_default-clause-goes g c =
 pub feed_chunk-requires-clause-whole : goal.feed_chunk-requires-clause-whole
 feed_chunk-requires-clause-whole g c κs within =
     let begun = c.requires.begun in
-    rw c.deref-3.ensures.value (took-whole _ begun.0 [] _ _ _ _ _ _ _ (c.in_ok-came.ensures.ok begun.0 begun.2).0)
+    rw c.deref-4.ensures.value (took-whole _ begun.0 [] _ _ _ _ _ _ _ (c.in_ok-came.ensures.ok begun.0 begun.2).0)
 
 pub feed_chunk-requires-clause-idle : goal.feed_chunk-requires-clause-idle
 feed_chunk-requires-clause-idle g c κs within = record { window = c.requires.window; empty = c.requires.empty }
@@ -105,7 +105,7 @@ pub returns-in_err-feed_chunk-clause-goes : goal.returns-in_err-feed_chunk-claus
 returns-in_err-feed_chunk-clause-goes g c =
     let begun = c.requires.begun in
     let t = (c.in_ok-came.ensures.ok begun.0 begun.2).0 in
-    let kept = rw c.deref.ensures.value at c.in_ok-keep_chunk.ensures in
+    let kept = rw c.deref-2.ensures.value at c.in_ok-keep_chunk.ensures in
     let bad = c.from_residual-in_err-feed_chunk.ensures.0 in
     record {
       rests = ok-of-err _ c.from_residual-in_err-feed_chunk.result bad;
@@ -113,15 +113,15 @@ returns-in_err-feed_chunk-clause-goes g c =
       err = on_err _ (each-unanswered _ _ _ _ _ _ _ _ _ _ _ c.read_next.new.lines.chunk.items _ _ _
           (λ line e. took-kept _ line _ _ _ _ _ _ _ (c.in_ok-came.ensures.ok line e).0
           (appends-kept _ _ _ _ (kept-log _ _ _ _ kept) (told-log _ _ _ _ _ c.feed_chunk.result c.feed_chunk.ensures.told)))
-          (each-kept _ _ _ _ _ _ (kept-out _ _ _ _ kept) (rw c.deref-3.ensures.value at c.in_err-feed_chunk.ensures.err)));
+          (each-kept _ _ _ _ _ _ (kept-out _ _ _ _ kept) (rw c.deref-4.ensures.value at c.in_err-feed_chunk.ensures.err)));
       live = c.feed_chunk.ensures.told.0;
       readers = c.feed_chunk.ensures.read.0 ∙ c.give_chunk.ensures.0 ∙ ap readers c.read_next.ensures.others.2;
       told = λ off. told-after _ _ _ _ _ c.from_residual-in_err-feed_chunk.result (rw off at c.in_ok-keep_chunk.ensures)
           (told-failed _ _ _ _ c.from_residual-in_err-feed_chunk.result bad c.in_err-feed_chunk.ensures.told);
       safe = λ keeps live. lives-err _ _ _ _ _ _ _ _ c.feed_chunk.result c.from_residual-in_err-feed_chunk.result bad
           (piece-safe _ _ _ _ _ _ _ _ _ c.read_next.new.lines.chunk.items _ _ c.feed_chunk.result live (piece-lines _ begun.0 t.bytes _ begun.1 t.holds)
-          (rw keeps at kept) c.feed_chunk.ensures.told (rw c.deref-3.ensures.value at c.feed_chunk.ensures.ok)
-          (rw c.deref-3.ensures.value at c.feed_chunk.ensures.err));
+          (rw keeps at kept) c.feed_chunk.ensures.told (rw c.deref-4.ensures.value at c.feed_chunk.ensures.ok)
+          (rw c.deref-4.ensures.value at c.feed_chunk.ensures.err));
       asked = on_fault _ c.from_residual-in_err-feed_chunk.result bad (each-fails _ _ _ _ _ _ _ _ _ _ _ _ _ c.in_ok-came.ensures.ok
           (silent-more _ _ _ (kept-silent _ _ _ _ c.in_ok-keep_chunk.ensures) (told-silent _ _ _ _ c.feed_chunk.result c.feed_chunk.ensures.told)));
     }
@@ -131,8 +131,8 @@ pub returns-clause-goes : goal.returns-clause-goes
 returns-clause-goes g c =
     let begun = c.requires.begun in
     let t = (c.in_ok-came.ensures.ok begun.0 begun.2).0 in
-    let kept = rw c.deref.ensures.value at c.in_ok-keep_chunk.ensures in
-    let led = rw c.deref-3.ensures.value at c.in_ok-feed_chunk.ensures.leads in
+    let kept = rw c.deref-2.ensures.value at c.in_ok-keep_chunk.ensures in
+    let led = rw c.deref-4.ensures.value at c.in_ok-feed_chunk.ensures.leads in
     record {
       rests = record {
         window = c.in_ok-feed_chunk.ensures.idle.window;
@@ -140,14 +140,14 @@ returns-clause-goes g c =
         begun = (begun_after begun.0 t.bytes, begun-no-end begun.0 t.bytes begun.1, t.begun);
         listed = listed-after c.args.clerk.now.desk.site.place c.args.clerk.now.desk.site.state _ c.read_next.new.lines.chunk.items _ _
             (subst (AreListed c.args.clerk.now.desk.site.state) (sym c.read_next.ensures.others.1) c.requires.listed)
-            (rw c.deref-2.ensures.value at c.let_go.ensures) led.state;
+            (rw c.deref-3.ensures.value at c.let_go.ensures) led.state;
         free = c.in_ok-feed_chunk.ensures.read.1;
         fits = read-on _ _ c.args.lines.now.pieces _ (c.feed_chunk.ensures.read.0 ∙ c.give_chunk.ensures.0 ∙ ap readers c.read_next.ensures.others.2) (ap (λ p. p.sites) led.place) c.requires.fits;
       };
       ok = each-more _ _ _ _ _ _ _ _ _ _ _ _ _ c.read_next.new.lines.chunk.items _ _ _ _ _
           (λ line e. took-kept _ line _ _ _ _ _ _ _ (c.in_ok-came.ensures.ok line e).0
           (appends-kept _ _ _ _ (kept-log _ _ _ _ kept) (told-log _ _ _ _ _ c.feed_chunk.result c.feed_chunk.ensures.told)))
-          (each-kept _ _ _ _ _ _ (kept-out _ _ _ _ kept) (rw c.deref-3.ensures.value at c.in_ok-feed_chunk.ensures.ok))
+          (each-kept _ _ _ _ _ _ (kept-out _ _ _ _ kept) (rw c.deref-4.ensures.value at c.in_ok-feed_chunk.ensures.ok))
           (search rules);
       err = tt;
       live = c.feed_chunk.ensures.told.0;
@@ -157,8 +157,8 @@ returns-clause-goes g c =
           (told.0, (told.1.0, tells-after _ _ _ _ told.1.0 [] (rw off at c.in_ok-keep_chunk.ensures) told.1.1));
       safe = λ keeps live. lives-known _ _ _ _ _ _ _ _ c.feed_chunk.result _ c.in_ok-feed_chunk.was
           (piece-safe _ _ _ _ _ _ _ _ _ c.read_next.new.lines.chunk.items _ _ c.feed_chunk.result live (piece-lines _ begun.0 t.bytes _ begun.1 t.holds)
-          (rw keeps at kept) c.feed_chunk.ensures.told (rw c.deref-3.ensures.value at c.feed_chunk.ensures.ok)
-          (rw c.deref-3.ensures.value at c.feed_chunk.ensures.err));
+          (rw keeps at kept) c.feed_chunk.ensures.told (rw c.deref-4.ensures.value at c.feed_chunk.ensures.ok)
+          (rw c.deref-4.ensures.value at c.feed_chunk.ensures.err));
       asked = each-asks _ _ _ _ _ _ _ _ _ _ _ _ _ _ _ c.in_ok-came.ensures.ok
           (silent-more _ _ _ (kept-silent _ _ _ _ c.in_ok-keep_chunk.ensures) (told-silent _ _ _ _ c.feed_chunk.result c.feed_chunk.ensures.told)) led;
     }
