@@ -1,10 +1,10 @@
 -- Helpers that read pieces, from one step of a run to the next.
 use Rattle.std.proofs.Common.{◌≡◌, ◌∙◌, ◌≤◌, ◌+◌, ◌-◌, ◌++◌, [], ◌∷◌, ℕ, List, Option, Some, None, ap, append_assoc, append-nil, arith, drop, length, refl, subst, sym, take}
-use Rattle.std.specs.Prelude.{Result, Ok, Err, OnOk}
+use Rattle.std.specs.Prelude.{IfSome, Result, Ok, Err, OnOk}
 use Rattle.std.specs.Io.KnownBytes.{prepend_known}
 use Rattle.rubis_engine.specs.Text.{input_records}
 use Rattle.rubis_reading.specs.Chunked.{IsChunk}
-use Rattle.rubis_reading.specs.Readings.{AreGiven as GivenAs, AreOf, AreRead, KeepFor, TakesFirst}
+use Rattle.rubis_reading.specs.Readings.{AreGiven as GivenAs, AreOf, AreRead, IsOver, KeepFor, TakesFirst}
 use Rattle.rubis_reading.specs.declared.pieces.ReadPiece.{ReadPiece}
 use Rattle.rubis_reading.specs.declared.pieces.Piece.{Piece}
 use Rattle.rubis_reading.specs.declared.pieces.Pieces.{Pieces}
@@ -14,7 +14,8 @@ use Rattle.rubis_message.specs.declared.inputs.Input.{Input}
 use Rattle.rubis_reading.specs.Inputs.{AreInputs}
 use Rattle.rubis_keep.specs.Fed.{FailsFed, FeedsRows, HasFed}
 use Rattle.rubis_keep.specs.History.{History}
-use Rattle.rubis_keep.specs.Reading.{AreFree, AreGiven, HasFedFront, ReadFor, Readers, readers, readers_of}
+use Rattle.rubis_crew.specs.States.{CrewId}
+use Rattle.rubis_keep.specs.Reading.{AreFree, AreGiven, AreOver, HasFedFront, ReadFor, Readers, crew, readers, readers_of}
 use Rattle.rubis_keep.specs.declared.answers.Answers.{Answers}
 use Rattle.rubis_keep.specs.declared.site.Clerk.{Clerk}
 use Rattle.rubis_keep.proofs.FedFacts.{fails-later, fails-sooner, fed-both, fed-fails, fed-none, feeds-on}
@@ -126,3 +127,22 @@ kept-more old mid new one two = (two.0 ∙ one.0, two.1 ∙ one.1, two.2 ∙ one
 
 pub given-on : (passed many : ℕ) (text : List ℕ) (p : Pieces) → AreOf (drop (many - 1) (drop passed text)) p → AreOf (drop (passed + (many - 1)) text) p
 given-on passed many text p given = subst (λ t. AreOf t p) (drop-drop (many - 1) passed text) given
+
+-- ---- the end
+
+-- they are pieces of the crew of before
+pub crew-kept : (old new : Option Pieces) → readers new ≡ readers old → crew new ≡ crew old
+crew-kept None None same = refl
+crew-kept None (Some q) same = absurd (cc same)
+crew-kept (Some p) None same = absurd (cc same)
+crew-kept (Some p) (Some q) same =
+    let r : readers_of q ≡ readers_of p = cc same in
+    ap (λ t. Some t.crew) r
+
+-- the crew is told that no more comes
+pub over-some : (old mid : Option Pieces) (p q : Pieces) → readers mid ≡ readers old → mid ≡ Some p → IsOver p.lead.crew q.lead → AreOver old (Some q)
+over-some old mid p q same is over = (ap Some over.0 ∙ subst (λ m. crew m ≡ crew old) is (crew-kept old mid same), refl, over.1, over.2)
+
+-- there is none
+pub over-none : (old mid : Option Pieces) → readers mid ≡ readers old → mid ≡ None → AreOver old mid
+over-none old mid same is = (crew-kept old mid same, subst (λ m. IfSome m (λ p. IsOver p.lead.crew p.lead)) (sym is) tt)

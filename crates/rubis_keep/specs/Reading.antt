@@ -57,6 +57,13 @@ abbrev pub FeedsFront : {E O F G : Type 0} → (O → Option (List ℕ)) → (F 
 FeedsFront before history text old new answers answers2 r = MatchResult r (λ passed. HasFedFront before history text passed old new answers answers2)
     (λ _. FailsFed before history (input_records text) old answers answers2)
 
+-- the crew that reads the pieces
+abbrev pub crew_of : Pieces → CrewId
+crew_of p = p.lead.crew
+
+abbrev pub crew : Option Pieces → Option CrewId
+crew pieces = option_map crew_of pieces
+
 -- the helpers of before are told that no more comes
 abbrev pub AreOver : Option Pieces → Option Pieces → Type 0
-AreOver old new = (readers new ≡ readers old) × IfSome new (λ p. IsOver p.lead.crew p.lead)
+AreOver old new = (crew new ≡ crew old) × IfSome new (λ p. IsOver p.lead.crew p.lead)
