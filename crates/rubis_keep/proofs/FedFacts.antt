@@ -1,28 +1,25 @@
 -- How records are answered, one after the other and many together.
-use Rattle.std.proofs.Common.{◌≡◌, ◌∙◌, ◌+◌, ◌++◌, ◌∷◌, [], ℕ, Bool, List, Option, Result, Ok, Err, arith, length, length-append, inr, refl, sym, ap, subst, append_assoc, true, false}
+use Rattle.std.proofs.Common.{◌≡◌, ◌∙◌, ◌+◌, ◌++◌, ◌∷◌, [], ℕ, Bool, List, Option, Result, Ok, Err, arith, length-append, inr, refl, sym, ap, subst, append_assoc, true, false}
 use Rattle.std.proofs.lemmas.List.{append-nil}
 use Rattle.std.proofs.lemmas.Result.{on_ok_weaker}
 use Rattle.std.specs.Prelude.{IsErr, OnErr, OnOk}
-use Rattle.rubis_engine.specs.Accounts.{Account, AnswersRecord}
+use Rattle.rubis_engine.specs.Accounts.{Account}
 use Rattle.rubis_engine.specs.Text.{input_records}
 use Rattle.rubis_engine.specs.Reading.{Advances, Gives, fields_now}
 use Rattle.rubis_engine.specs.declared.record_list.Records.{Records}
-use Rattle.rubis_engine.specs.declared.service.Course.TheVariants.{GoesOn}
 use Rattle.rubis_message.specs.Inputs.{FitsIn, IsInput}
 use Rattle.rubis_message.specs.Message.{Message}
 use Rattle.rubis_message.specs.declared.inputs.Input.{Input}
-use Rattle.rubis_model.specs.Site.{Place, Replica}
 use Rattle.rubis_reading.specs.Inputs.{AreInputs}
-use Rattle.rubis_reading.proofs.InputFacts.{inputs-none}
 use Rattle.rubis_replica.specs.Arrivals.{after_all}
 use Rattle.rubis_replica.specs.State.{SiteState}
 use Rattle.rubis_script.specs.Desks.{TakesNext, left_at}
 use Rattle.rubis_script.specs.SiteRuns.{told_by}
 use Rattle.rubis_script.specs.declared.desk.Desk.{Desk}
-use Rattle.rubis_keep.specs.Asking.{LeadsHeld, LeadsOn, StepsDesk}
+use Rattle.rubis_keep.specs.Asking.{LeadsHeld, LeadsOn}
 use Rattle.rubis_keep.specs.Fed.{FailsFed, Feeds, FeedsAt, FeedsInputs, FeedsRows, HasFed}
 use Rattle.rubis_keep.specs.History.{HasTold, History, Tells, out_in}
-use Rattle.rubis_keep.specs.Kept.{FinishedFront, OutEnds, Puts, PutsFront, Rests}
+use Rattle.rubis_keep.specs.Kept.{FinishedFront, Puts, PutsFront, Rests}
 use Rattle.rubis_keep.specs.Shortened.{state_after}
 use Rattle.rubis_keep.specs.Steps.{FeedsChunk, Finishes, IsIdle}
 use Rattle.rubis_keep.specs.Whole.{IsWhole}
