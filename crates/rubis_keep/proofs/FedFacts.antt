@@ -1,28 +1,25 @@
 -- How records are answered, one after the other and many together.
-use Rattle.std.proofs.Common.{◌≡◌, ◌∙◌, ◌+◌, ◌++◌, ◌∷◌, [], ℕ, Bool, List, Option, Result, Ok, Err, arith, length, length-append, refl, sym, ap, subst, append_assoc, true, false}
+use Rattle.std.proofs.Common.{◌≡◌, ◌∙◌, ◌+◌, ◌++◌, ◌∷◌, [], ℕ, Bool, List, Option, Result, Ok, Err, arith, length-append, inr, refl, sym, ap, subst, append_assoc, true, false}
 use Rattle.std.proofs.lemmas.List.{append-nil}
 use Rattle.std.proofs.lemmas.Result.{on_ok_weaker}
 use Rattle.std.specs.Prelude.{IsErr, OnErr, OnOk}
-use Rattle.rubis_engine.specs.Accounts.{Account, AnswersRecord}
+use Rattle.rubis_engine.specs.Accounts.{Account}
 use Rattle.rubis_engine.specs.Text.{input_records}
 use Rattle.rubis_engine.specs.Reading.{Advances, Gives, fields_now}
 use Rattle.rubis_engine.specs.declared.record_list.Records.{Records}
-use Rattle.rubis_engine.specs.declared.service.Course.TheVariants.{GoesOn}
 use Rattle.rubis_message.specs.Inputs.{FitsIn, IsInput}
 use Rattle.rubis_message.specs.Message.{Message}
 use Rattle.rubis_message.specs.declared.inputs.Input.{Input}
-use Rattle.rubis_model.specs.Site.{Place, Replica}
 use Rattle.rubis_reading.specs.Inputs.{AreInputs}
-use Rattle.rubis_reading.proofs.InputFacts.{inputs-none}
 use Rattle.rubis_replica.specs.Arrivals.{after_all}
 use Rattle.rubis_replica.specs.State.{SiteState}
 use Rattle.rubis_script.specs.Desks.{TakesNext, left_at}
 use Rattle.rubis_script.specs.SiteRuns.{told_by}
 use Rattle.rubis_script.specs.declared.desk.Desk.{Desk}
-use Rattle.rubis_keep.specs.Asking.{LeadsHeld, LeadsOn, StepsDesk}
+use Rattle.rubis_keep.specs.Asking.{LeadsHeld, LeadsOn}
 use Rattle.rubis_keep.specs.Fed.{FailsFed, Feeds, FeedsAt, FeedsInputs, FeedsRows, HasFed}
 use Rattle.rubis_keep.specs.History.{HasTold, History, Tells, out_in}
-use Rattle.rubis_keep.specs.Kept.{FinishedFront, OutEnds, Puts, PutsFront, Rests}
+use Rattle.rubis_keep.specs.Kept.{FinishedFront, Puts, PutsFront, Rests}
 use Rattle.rubis_keep.specs.Shortened.{state_after}
 use Rattle.rubis_keep.specs.Steps.{FeedsChunk, Finishes, IsIdle}
 use Rattle.rubis_keep.specs.Whole.{IsWhole}
@@ -31,6 +28,7 @@ use Rattle.rubis_keep.specs.declared.site.Clerk.{Clerk}
 use Rattle.rubis_keep.proofs.AskFacts.{chunk-led, led-step, reads-next}
 use Rattle.rubis_keep.proofs.EachFacts.{on_err, on_err_weaker, on_ok_both}
 use Rattle.rubis_keep.proofs.HistoryFacts.{tells-later, tells-more, tells-none, told-failed, told-more}
+use Rattle.rubis_keep.proofs.PutFacts.{puts-all}
 use Rattle.rubis_keep.proofs.RestFacts.{feeds-ends, feeds-finish, feeds-finish-ends, feeds-put, feeds-put-ends, feeds-rest, feeds-start, feeds-step}
 use Rattle.rubis_keep.proofs.SafeFacts.{ok-of-err}
 use Rattle.rubis_keep.proofs.ShortenFacts.{after-append}
@@ -181,6 +179,15 @@ finish-fails before history c more a a2 front told = record {
       (out_in (history a.files)) (out_in (history a2.files)) c.desk.reply.sink (c.desk.answered + 1) kept f front;
   told = told;
 }
+
+-- what a clerk holds is answered, and nothing more is
+pub finish-ends : {T E O F G : Type 0} (before : O → Option (List ℕ)) (history : F → Option History) (c c2 : Clerk G) (a a2 : Answers O F) (r : Result T E)
+    → Finishes before history c c2 a a2 r → FailsFed before history [] c a a2
+finish-ends before history c c2 a a2 (Ok x) f =
+    finish-fails before history c (told_by c2.desk.site (c.desk.answered + 1)) a a2
+    (inr (f.ok.0, f.ok.1, puts-all (before a.before) (before a2.before) (out_in (history a.files)) (out_in (history a2.files)) f.ok.0 f.ok.2))
+    (f.told.0, (f.told.1.0, [], f.told.1.1))
+finish-ends before history c c2 a a2 (Err e) f = finish-fails before history c (told_by c2.desk.site (c.desk.answered + 1)) a a2 f.err f.told
 
 -- ---- many records, some of which are answered
 

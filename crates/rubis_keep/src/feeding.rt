@@ -73,7 +73,7 @@ fn feed_input<G: Gate, T: Threads + Wait + Sync, O: Read, F: SiteFiles>(
     clerk: &mut Clerk<G>,
     answers: &mut Answers<O, F>,
 ) -> Result<(), KeepFault>
-    requires { FitsIn clerk.old.desk.site.place.sites read }
+    requires fits { FitsIn clerk.old.desk.site.place.sites read }
     ensures { FeedsInputs O.remaining F.history (read ∷ []) clerk.old clerk.new answers.old answers.new result }
 {
     stop(rt, clerk, answers)?;
@@ -88,7 +88,7 @@ fn feed_messages<G: Gate, T: Threads + Wait + Sync, O: Read, F: SiteFiles>(
     clerk: &mut Clerk<G>,
     answers: &mut Answers<O, F>,
 ) -> Result<(), KeepFault>
-    requires { (rows : List (List (List ℕ))) × AreInputs clerk.old.desk.site.place.sites rows (all_came messages.items) }
+    requires inputs { (rows : List (List (List ℕ))) × AreInputs clerk.old.desk.site.place.sites rows (all_came messages.items) }
     ensures { FeedsInputs O.remaining F.history (all_came messages.items) clerk.old clerk.new answers.old answers.new result }
 {
     let mut rest = messages.into_iter();
@@ -105,7 +105,7 @@ fn feed_stretch<G: Gate, T: Threads + Wait + Sync, O: Read, F: SiteFiles>(
     clerk: &mut Clerk<G>,
     answers: &mut Answers<O, F>,
 ) -> Result<(), KeepFault>
-    requires { (rows : List (List (List ℕ))) × AreInputs clerk.old.desk.site.place.sites rows (of_stretch stretch) }
+    requires inputs { (rows : List (List (List ℕ))) × AreInputs clerk.old.desk.site.place.sites rows (of_stretch stretch) }
     ensures { FeedsInputs O.remaining F.history (of_stretch stretch) clerk.old clerk.new answers.old answers.new result }
 {
     match stretch {
@@ -121,7 +121,7 @@ pub(crate) fn feed_read<G: Gate, T: Threads + Wait + Sync, O: Read, F: SiteFiles
     clerk: &mut Clerk<G>,
     answers: &mut Answers<O, F>,
 ) -> Result<(), KeepFault>
-    requires { (rows : List (List (List ℕ))) × AreInputs clerk.old.desk.site.place.sites rows (flat list.items) }
+    requires inputs { (rows : List (List (List ℕ))) × AreInputs clerk.old.desk.site.place.sites rows (flat list.items) }
     ensures { FeedsInputs O.remaining F.history (flat list.items) clerk.old clerk.new answers.old answers.new result }
 {
     let mut rest = list.into_iter();

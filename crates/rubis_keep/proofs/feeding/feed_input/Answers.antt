@@ -8,7 +8,7 @@ returns-in_err-stop g c rows inputs =
     feeds-failed _ _ rows _ _ _ _ c.from_residual.result c.from_residual.ensures.0 (fails-sooner _ _ [] rows _ _ _ c.in_err-stop.ensures.fed)
 
 pub take_read-requires-clause-fits : goal.take_read-requires-clause-fits
-take_read-requires-clause-fits g c κs within = subst (λ p. FitsIn p.sites c.args.read) (sym c.in_ok-stop.ensures.fed.leads.place) c.requires
+take_read-requires-clause-fits g c κs within = subst (λ p. FitsIn p.sites c.args.read) (sym c.in_ok-stop.ensures.fed.leads.place) c.requires.fits
 
 pub returns-in_err-take_read : goal.returns-in_err-take_read
 returns-in_err-take_read g c rows inputs =
