@@ -141,7 +141,7 @@ crew-kept (Some p) (Some q) same =
 
 -- the crew is told that no more comes
 pub over-some : (old mid : Option Pieces) (p q : Pieces) → readers mid ≡ readers old → mid ≡ Some p → IsOver p.lead.crew q.lead → AreOver old (Some q)
-over-some old mid p q same is over = (ap Some over.0 ∙ subst (λ m. crew m ≡ crew old) is (crew-kept old mid same), refl, over.1, over.2)
+over-some old mid p q same is over = (ap Some over.0 ∙ subst (λ m. crew m ≡ crew old) is (crew-kept old mid same), (refl, over.1, over.2))
 
 -- there is none
 pub over-none : (old mid : Option Pieces) → readers mid ≡ readers old → mid ≡ None → AreOver old mid

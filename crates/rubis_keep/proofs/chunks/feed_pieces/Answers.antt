@@ -16,8 +16,8 @@ loop-turn-init g c = record {
   given = c.requires.given;
 }
 
-pub next-2-requires : goal.next-2-requires
-next-2-requires g c = (drop c.loop-turn.passed c.args.chunk.now, c.loop-turn.invariant.given)
+pub next-requires-in-loop-turn : goal.next-requires-in-loop-turn
+next-requires-in-loop-turn g c = (drop c.loop-turn.passed c.args.chunk.now, c.loop-turn.invariant.given)
 
 pub returns-in_err-piece-clause-fed : goal.returns-in_err-piece-clause-fed
 returns-in_err-piece-clause-fed g c =
@@ -25,53 +25,53 @@ returns-in_err-piece-clause-fed g c =
 
 pub returns-in_err-piece-clause-read : goal.returns-in_err-piece-clause-read
 returns-in_err-piece-clause-read g c = (
-  kept-more c.args.pieces.now c.loop-turn.pieces c.next-2.new.self c.loop-turn.invariant.kept c.next-2.ensures.setup,
+  kept-more c.args.pieces.now c.loop-turn.pieces c.next-in-loop-turn.new.self c.loop-turn.invariant.kept c.next-in-loop-turn.ensures.setup,
   ok-of-err _ c.from_residual.result c.from_residual.ensures.0,
 )
 
 pub returns-in_default-clause-read : goal.returns-in_default-clause-read
 returns-in_default-clause-read g c =
     let text = drop c.loop-turn.passed c.args.chunk.now in (
-      kept-more c.args.pieces.now c.loop-turn.pieces c.next-2.new.self c.loop-turn.invariant.kept c.in_ok-piece.ensures.setup,
-      takes-none text c.in_ok-piece.field-0 c.next-2.new.self (c.in_ok-piece.ensures.first text c.loop-turn.invariant.given) c.in_default.is,
+      kept-more c.args.pieces.now c.loop-turn.pieces c.next-in-loop-turn.new.self c.loop-turn.invariant.kept c.in_ok-piece.ensures.setup,
+      takes-none text c.in_ok-piece.field-0 c.next-in-loop-turn.new.self (c.in_ok-piece.ensures.first text c.loop-turn.invariant.given) c.in_default.is,
     )
 
-pub feed_read-requires : goal.feed_read-requires
-feed_read-requires g c =
+pub feed_read-requires-clause-inputs : goal.feed_read-requires-clause-inputs
+feed_read-requires-clause-inputs g c κs within =
     let text = drop c.loop-turn.passed c.args.chunk.now in
-    let one = takes-one text c.in_ok-piece.field-0 c.in-Some-2.piece c.next-2.new.self (c.in_ok-piece.ensures.first text c.loop-turn.invariant.given) c.in-Some-2.is in
-    let kept = kept-more c.args.pieces.now c.loop-turn.pieces c.next-2.new.self c.loop-turn.invariant.kept c.in_ok-piece.ensures.setup in (
+    let one = takes-one text c.in_ok-piece.field-0 c.in-Some-2.piece c.next-in-loop-turn.new.self (c.in_ok-piece.ensures.first text c.loop-turn.invariant.given) c.in-Some-2.is in
+    let kept = kept-more c.args.pieces.now c.loop-turn.pieces c.next-in-loop-turn.new.self c.loop-turn.invariant.kept c.in_ok-piece.ensures.setup in (
       input_records (take c.in-Some-2.piece.many text),
-      front-read _ _ _ c.loop-turn.passed _ _ _ _ c.args.pieces.now c.next-2.new.self _ _ c.loop-turn.invariant.fed kept c.requires.fits one.1.0,
+      front-read _ _ _ c.loop-turn.passed _ _ _ _ c.args.pieces.now c.next-in-loop-turn.new.self _ _ c.loop-turn.invariant.fed kept c.requires.fits one.1.0,
     )
 
 pub returns-in_err-feed_read-clause-fed : goal.returns-in_err-feed_read-clause-fed
 returns-in_err-feed_read-clause-fed g c =
     let text = drop c.loop-turn.passed c.args.chunk.now in
-    let one = takes-one text c.in_ok-piece.field-0 c.in-Some-2.piece c.next-2.new.self (c.in_ok-piece.ensures.first text c.loop-turn.invariant.given) c.in-Some-2.is in
-    let kept = kept-more c.args.pieces.now c.loop-turn.pieces c.next-2.new.self c.loop-turn.invariant.kept c.in_ok-piece.ensures.setup in
+    let one = takes-one text c.in_ok-piece.field-0 c.in-Some-2.piece c.next-in-loop-turn.new.self (c.in_ok-piece.ensures.first text c.loop-turn.invariant.given) c.in-Some-2.is in
+    let kept = kept-more c.args.pieces.now c.loop-turn.pieces c.next-in-loop-turn.new.self c.loop-turn.invariant.kept c.in_ok-piece.ensures.setup in
     on_fault _ c.from_residual-in_err-feed_read.result c.from_residual-in_err-feed_read.ensures.0
     (front-broken _ _ _ c.loop-turn.passed c.in-Some-2.piece.many _ _ _ _ _ c.loop-turn.invariant.fed one.0
     (c.in_err-feed_read.ensures (input_records (take c.in-Some-2.piece.many text))
-    (front-read _ _ _ c.loop-turn.passed _ _ _ _ c.args.pieces.now c.next-2.new.self _ _ c.loop-turn.invariant.fed kept c.requires.fits one.1.0)))
+    (front-read _ _ _ c.loop-turn.passed _ _ _ _ c.args.pieces.now c.next-in-loop-turn.new.self _ _ c.loop-turn.invariant.fed kept c.requires.fits one.1.0)))
 
 pub returns-in_err-feed_read-clause-read : goal.returns-in_err-feed_read-clause-read
 returns-in_err-feed_read-clause-read g c = (
-  kept-more c.args.pieces.now c.loop-turn.pieces c.next-2.new.self c.loop-turn.invariant.kept c.in_ok-piece.ensures.setup,
+  kept-more c.args.pieces.now c.loop-turn.pieces c.next-in-loop-turn.new.self c.loop-turn.invariant.kept c.in_ok-piece.ensures.setup,
   ok-of-err _ c.from_residual-in_err-feed_read.result c.from_residual-in_err-feed_read.ensures.0,
 )
 
 pub loop-turn-preserved : goal.loop-turn-preserved
 loop-turn-preserved g c =
     let text = drop c.loop-turn.passed c.args.chunk.now in
-    let one = takes-one text c.in_ok-piece.field-0 c.in-Some-2.piece c.next-2.new.self (c.in_ok-piece.ensures.first text c.loop-turn.invariant.given) c.in-Some-2.is in
-    let kept = kept-more c.args.pieces.now c.loop-turn.pieces c.next-2.new.self c.loop-turn.invariant.kept c.in_ok-piece.ensures.setup in
+    let one = takes-one text c.in_ok-piece.field-0 c.in-Some-2.piece c.next-in-loop-turn.new.self (c.in_ok-piece.ensures.first text c.loop-turn.invariant.given) c.in-Some-2.is in
+    let kept = kept-more c.args.pieces.now c.loop-turn.pieces c.next-in-loop-turn.new.self c.loop-turn.invariant.kept c.in_ok-piece.ensures.setup in
     record {
       next = tt;
       ends = tt;
       fed = front-more _ _ _ c.loop-turn.passed c.in-Some-2.piece.many _ _ _ _ _ _ c.loop-turn.invariant.fed one.0
           (c.in_ok-feed_read.ensures (input_records (take c.in-Some-2.piece.many text))
-          (front-read _ _ _ c.loop-turn.passed _ _ _ _ c.args.pieces.now c.next-2.new.self _ _ c.loop-turn.invariant.fed kept c.requires.fits one.1.0));
+          (front-read _ _ _ c.loop-turn.passed _ _ _ _ c.args.pieces.now c.next-in-loop-turn.new.self _ _ c.loop-turn.invariant.fed kept c.requires.fits one.1.0));
       kept = kept;
-      given = given-on c.loop-turn.passed c.in-Some-2.piece.many c.args.chunk.now c.next-2.new.self one.2;
+      given = given-on c.loop-turn.passed c.in-Some-2.piece.many c.args.chunk.now c.next-in-loop-turn.new.self one.2;
     }

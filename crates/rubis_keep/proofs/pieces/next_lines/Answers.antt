@@ -112,18 +112,18 @@ returns-in_err-feed_chunk-clause-goes g c =
       ok = ok-of-err _ c.from_residual-in_err-feed_chunk.result bad;
       err = on_err _ (each-unanswered _ _ _ _ _ _ _ _ _ _ _ c.read_next.new.lines.chunk.items _ _ _
           (λ line e. took-kept _ line _ _ _ _ _ _ _ (c.in_ok-came.ensures.ok line e).0
-          (appends-kept _ _ _ _ (kept-log _ _ _ _ kept) (told-log _ _ _ _ _ c.feed_chunk.result c.feed_chunk.ensures.told)))
-          (each-kept _ _ _ _ _ _ (kept-out _ _ _ _ kept) (rw c.deref-4.ensures.value at c.in_err-feed_chunk.ensures.err)));
-      live = c.feed_chunk.ensures.told.0;
+          (appends-kept _ _ _ _ (kept-log _ _ _ _ kept) (told-log _ _ _ _ _ c.feed_chunk.result c.feed_chunk.ensures.chunk.told)))
+          (each-kept _ _ _ _ _ _ (kept-out _ _ _ _ kept) (rw c.deref-4.ensures.value at c.in_err-feed_chunk.ensures.chunk.err)));
+      live = c.feed_chunk.ensures.chunk.told.0;
       readers = c.feed_chunk.ensures.read.0 ∙ c.give_chunk.ensures.0 ∙ ap readers c.read_next.ensures.others.2;
       told = λ off. told-after _ _ _ _ _ c.from_residual-in_err-feed_chunk.result (rw off at c.in_ok-keep_chunk.ensures)
-          (told-failed _ _ _ _ c.from_residual-in_err-feed_chunk.result bad c.in_err-feed_chunk.ensures.told);
+          (told-failed _ _ _ _ c.from_residual-in_err-feed_chunk.result bad c.in_err-feed_chunk.ensures.chunk.told);
       safe = λ keeps live. lives-err _ _ _ _ _ _ _ _ c.feed_chunk.result c.from_residual-in_err-feed_chunk.result bad
           (piece-safe _ _ _ _ _ _ _ _ _ c.read_next.new.lines.chunk.items _ _ c.feed_chunk.result live (piece-lines _ begun.0 t.bytes _ begun.1 t.holds)
-          (rw keeps at kept) c.feed_chunk.ensures.told (rw c.deref-4.ensures.value at c.feed_chunk.ensures.ok)
-          (rw c.deref-4.ensures.value at c.feed_chunk.ensures.err));
+          (rw keeps at kept) c.feed_chunk.ensures.chunk.told (rw c.deref-4.ensures.value at c.feed_chunk.ensures.chunk.ok)
+          (rw c.deref-4.ensures.value at c.feed_chunk.ensures.chunk.err));
       asked = on_fault _ c.from_residual-in_err-feed_chunk.result bad (each-fails _ _ _ _ _ _ _ _ _ _ _ _ _ c.in_ok-came.ensures.ok
-          (silent-more _ _ _ (kept-silent _ _ _ _ c.in_ok-keep_chunk.ensures) (told-silent _ _ _ _ c.feed_chunk.result c.feed_chunk.ensures.told)));
+          (silent-more _ _ _ (kept-silent _ _ _ _ c.in_ok-keep_chunk.ensures) (told-silent _ _ _ _ c.feed_chunk.result c.feed_chunk.ensures.chunk.told)));
     }
 
 -- it was
@@ -132,11 +132,11 @@ returns-clause-goes g c =
     let begun = c.requires.begun in
     let t = (c.in_ok-came.ensures.ok begun.0 begun.2).0 in
     let kept = rw c.deref-2.ensures.value at c.in_ok-keep_chunk.ensures in
-    let led = rw c.deref-4.ensures.value at c.in_ok-feed_chunk.ensures.leads in
+    let led = rw c.deref-4.ensures.value at c.in_ok-feed_chunk.ensures.chunk.leads in
     record {
       rests = record {
-        window = c.in_ok-feed_chunk.ensures.idle.window;
-        empty = c.in_ok-feed_chunk.ensures.idle.empty;
+        window = c.in_ok-feed_chunk.ensures.chunk.idle.window;
+        empty = c.in_ok-feed_chunk.ensures.chunk.idle.empty;
         begun = (begun_after begun.0 t.bytes, begun-no-end begun.0 t.bytes begun.1, t.begun);
         listed = listed-after c.args.clerk.now.desk.site.place c.args.clerk.now.desk.site.state _ c.read_next.new.lines.chunk.items _ _
             (subst (AreListed c.args.clerk.now.desk.site.state) (sym c.read_next.ensures.others.1) c.requires.listed)
@@ -146,21 +146,21 @@ returns-clause-goes g c =
       };
       ok = each-more _ _ _ _ _ _ _ _ _ _ _ _ _ c.read_next.new.lines.chunk.items _ _ _ _ _
           (λ line e. took-kept _ line _ _ _ _ _ _ _ (c.in_ok-came.ensures.ok line e).0
-          (appends-kept _ _ _ _ (kept-log _ _ _ _ kept) (told-log _ _ _ _ _ c.feed_chunk.result c.feed_chunk.ensures.told)))
-          (each-kept _ _ _ _ _ _ (kept-out _ _ _ _ kept) (rw c.deref-4.ensures.value at c.in_ok-feed_chunk.ensures.ok))
+          (appends-kept _ _ _ _ (kept-log _ _ _ _ kept) (told-log _ _ _ _ _ c.feed_chunk.result c.feed_chunk.ensures.chunk.told)))
+          (each-kept _ _ _ _ _ _ (kept-out _ _ _ _ kept) (rw c.deref-4.ensures.value at c.in_ok-feed_chunk.ensures.chunk.ok))
           (search rules);
       err = tt;
-      live = c.feed_chunk.ensures.told.0;
+      live = c.feed_chunk.ensures.chunk.told.0;
       readers = c.feed_chunk.ensures.read.0 ∙ c.give_chunk.ensures.0 ∙ ap readers c.read_next.ensures.others.2;
       told = λ off.
-          let told = c.in_ok-feed_chunk.ensures.told in
+          let told = c.in_ok-feed_chunk.ensures.chunk.told in
           (told.0, (told.1.0, tells-after _ _ _ _ told.1.0 [] (rw off at c.in_ok-keep_chunk.ensures) told.1.1));
       safe = λ keeps live. lives-known _ _ _ _ _ _ _ _ c.feed_chunk.result _ c.in_ok-feed_chunk.was
           (piece-safe _ _ _ _ _ _ _ _ _ c.read_next.new.lines.chunk.items _ _ c.feed_chunk.result live (piece-lines _ begun.0 t.bytes _ begun.1 t.holds)
-          (rw keeps at kept) c.feed_chunk.ensures.told (rw c.deref-4.ensures.value at c.feed_chunk.ensures.ok)
-          (rw c.deref-4.ensures.value at c.feed_chunk.ensures.err));
+          (rw keeps at kept) c.feed_chunk.ensures.chunk.told (rw c.deref-4.ensures.value at c.feed_chunk.ensures.chunk.ok)
+          (rw c.deref-4.ensures.value at c.feed_chunk.ensures.chunk.err));
       asked = each-asks _ _ _ _ _ _ _ _ _ _ _ _ _ _ _ c.in_ok-came.ensures.ok
-          (silent-more _ _ _ (kept-silent _ _ _ _ c.in_ok-keep_chunk.ensures) (told-silent _ _ _ _ c.feed_chunk.result c.feed_chunk.ensures.told)) led;
+          (silent-more _ _ _ (kept-silent _ _ _ _ c.in_ok-keep_chunk.ensures) (told-silent _ _ _ _ c.feed_chunk.result c.feed_chunk.ensures.chunk.told)) led;
     }
 
 pub returns-clause-end : goal.returns-clause-end
