@@ -14,7 +14,6 @@ use Rattle.rubis_message.specs.declared.inputs.Input.{Input}
 use Rattle.rubis_reading.specs.Inputs.{AreInputs}
 use Rattle.rubis_keep.specs.Fed.{FailsFed, FeedsRows, HasFed}
 use Rattle.rubis_keep.specs.History.{History}
-use Rattle.rubis_crew.specs.States.{CrewId}
 use Rattle.rubis_keep.specs.Reading.{AreFree, AreGiven, AreOver, HasFedFront, ReadFor, Readers, crew, readers, readers_of}
 use Rattle.rubis_keep.specs.declared.answers.Answers.{Answers}
 use Rattle.rubis_keep.specs.declared.site.Clerk.{Clerk}

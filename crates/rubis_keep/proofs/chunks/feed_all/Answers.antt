@@ -1,6 +1,3 @@
-use Rattle.std.proofs.Common.{subst}
-use Rattle.rubis_engine.specs.Text.{input_records}
-use Rattle.rubis_keep.specs.Fed.{FeedsRows}
 use Rattle.rubis_keep.proofs.ReadersFacts.{front-rest}
 use Rattle.rubis_keep.proofs.chunks.feed_all.Goals as goal
 
