@@ -74,42 +74,6 @@ led-step p s0 mid new w w2 n fields done same reached (place, step) = (
       ∙ step-any p (state_after p s0 done) n 1 (input_of p.sites fields) ∙ sym (after-more p s0 done fields),
 )
 
--- the records so far, of those that are given
-pub record LedFeed {R : Type 0} (rem : R → Option (List ℕ)) (records : Records R) (old : SiteState) (held : List Message) (n : ℕ) (new : SiteState)
-    (held2 : List Message) (n2 : ℕ) (all : List (List (List ℕ))) : Type 0 where
-  pub done : List (List (List ℕ))
-  pub rest : List (List (List ℕ))
-  pub parts : all ≡ done ++ rest
-  pub gives : Gives rem records rest
-  pub leads : LeadsHeld old held n new held2 n2 done
-
-pub feed-starts : {R : Type 0} (rem : R → Option (List ℕ)) (records : Records R) (s : SiteState) (w : List Message) (n : ℕ) (all : List (List (List ℕ)))
-    → Gives rem records all → LedFeed rem records s w n s w n all
-feed-starts rem records s w n all gives =
-    record { done = []; rest = all; parts = refl; gives = gives; leads = record { place = refl; state = refl; count = omega arith } }
-
-pub feed-more : {R : Type 0} (rem : R → Option (List ℕ)) (a b : Records R) (old : SiteState) (held : List Message) (n : ℕ) (mid new : SiteState)
-    (held1 held2 : List Message) (n1 n2 : ℕ) (all : List (List (List ℕ))) → LedFeed rem a old held n mid held1 n1 all → Advances rem a b true
-    → StepsOn (n1 + 1) (input_of mid.place.sites (fields_now b)) mid held1 new held2 → n2 ≡ n1 + 1 → LedFeed rem b old held n new held2 n2 all
-feed-more rem a b old held n mid new held1 held2 n1 n2 all f takes steps count =
-    let next = takes f.rest f.gives in
-    let fields = fields_now b in
-    let step = led-step old.place (after_all old.place old.state held) mid new held1 held2 (n1 + 1) fields f.done f.leads.place f.leads.state steps in
-    let size = length-append f.done (fields ∷ []) in
-    record {
-      done = f.done ++ fields ∷ [];
-      rest = next.0;
-      parts = f.parts ∙ ap (λ t. f.done ++ t) next.1 ∙ sym (append_assoc f.done (fields ∷ []) next.0);
-      gives = next.2;
-      leads = record { place = step.0; state = step.1; count = omega (arith, count, f.leads.count, size) };
-    }
-
-pub feed-ends : {R : Type 0} (rem : R → Option (List ℕ)) (a b : Records R) (old : SiteState) (held : List Message) (n : ℕ) (new : SiteState)
-    (held2 : List Message) (n2 : ℕ) (all : List (List (List ℕ))) → LedFeed rem a old held n new held2 n2 all → Advances rem a b false
-    → LeadsHeld old held n new held2 n2 all
-feed-ends rem a b old held n new held2 n2 all f end =
-    subst (LeadsHeld old held n new held2 n2) (sym (f.parts ∙ ap (λ t. f.done ++ t) (end f.rest f.gives) ∙ append-nil f.done)) f.leads
-
 -- what was held is taken in
 pub chunk-led : (s0 s1 s2 : SiteState) (w0 w1 w2 : List Message) (n0 n1 n2 : ℕ) (records : List (List (List ℕ))) → w0 ≡ []
     → LeadsHeld s0 w0 n0 s1 w1 n1 records → (n2 ≡ n1) × Settles s1 w1 s2 w2 → w2 ≡ [] → LedBy s0.place s0.state n0 s2 n2 records

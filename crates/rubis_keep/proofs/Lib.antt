@@ -20,6 +20,8 @@ pub mod HistoryFacts
 pub mod SafeFacts
 pub mod StartFacts
 pub mod AskFacts
+pub mod FedFacts
+pub mod ReadersFacts
 pub mod ReplyFacts
 pub mod QuestionFacts
 pub mod PlainFacts

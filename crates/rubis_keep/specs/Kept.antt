@@ -3,9 +3,6 @@ use Rattle.std.specs.Prelude.{◌≡◌, ◌≢◌, ◌≤◌, ◌+◌, ◌++◌
 use Rattle.std.specs.Io.KnownBytes.{Appends, Consumes, IsAtEnd, Keeps, prepend_known}
 use Rattle.rubis_engine.specs.Accounts.{Account, Ending, Keeps as TextStays}
 use Rattle.rubis_engine.specs.Accounts.Ending.{AtEnd, Cut}
-use Rattle.rubis_engine.specs.declared.record_list.Records.{Records}
-use Rattle.rubis_engine.specs.Progress.{HasComeSoFar}
-use Rattle.rubis_engine.specs.Reading.{Advances}
 use Rattle.rubis_engine.specs.Text.{input_records}
 use Rattle.rubis_keep.specs.Cuts.{asked_by}
 use Rattle.rubis_keep.specs.Files.{AppendsFront, Found}
@@ -77,13 +74,6 @@ pub record Rests (all more : Account) (told old : List ℕ) (before out0 out : O
   pub answered : HasAnswered all more (told ++ since) number kept
   pub wrote : Wrote old before out0 out since
 
--- within a piece
-pub record Feeds {R : Type 0} (rem : R → Option (List ℕ)) (records : Records R) (all more : Account) (told old : List ℕ)
-    (before out0 out : Option (List ℕ)) (sink : List ℕ) (number : ℕ) (kept : List ℕ) : Type 0 where
-  pub since : List ℕ
-  pub come : HasComeSoFar rem records all more (Some []) (Some (told ++ since)) sink number kept
-  pub wrote : Wrote old before out0 out since
-
 -- the answers of before weren't all compared yet, and nothing was appended
 abbrev pub IsUnread : List ℕ → List ℕ → Type 0
 IsUnread old added = (added ≡ []) × (since left : List ℕ) × (old ≡ since ++ left) × (left ≢ [])
@@ -98,18 +88,6 @@ OutEnds all told old out0 out kept = (added : List ℕ) × Appends out0 out adde
 abbrev pub InEachRest : Account → Option (List ℕ) → Option (List ℕ) → ℕ → (Account → List ℕ → List ℕ → Option (List ℕ) → List ℕ → Type 0) → Type 0
 InEachRest more before out number holds = (all : Account) (told old : List ℕ) (out0 : Option (List ℕ)) (kept : List ℕ)
     → Rests all more told old before out0 out number kept → holds all told old out0 kept
-
--- of every run that has come so far within a piece this holds
-abbrev pub InEachFeed : {R : Type 0} → (R → Option (List ℕ)) → Records R → Account → Option (List ℕ) → Option (List ℕ) → List ℕ → ℕ
-    → (Account → List ℕ → List ℕ → Option (List ℕ) → List ℕ → Type 0) → Type 0
-InEachFeed rem records more before out sink number holds = (all : Account) (told old : List ℕ) (out0 : Option (List ℕ)) (kept : List ℕ)
-    → Feeds rem records all more told old before out0 out sink number kept → holds all told old out0 kept
-
--- there are no more records
-abbrev pub FeedEnds : {R : Type 0} → (R → Option (List ℕ)) → Records R → Account → Option (List ℕ) → Option (List ℕ) → List ℕ → ℕ
-    → Account → List ℕ → List ℕ → Option (List ℕ) → List ℕ → Type 0
-FeedEnds {R} rem records more before out sink number all told old out0 kept =
-    (mid : Records R) × Advances rem mid records false × Feeds rem mid all more told old before out0 out sink number kept
 
 -- what was held was answered and put
 abbrev pub Finished : Account → Account → List ℕ → Option (List ℕ) → Option (List ℕ) → Option (List ℕ) → Option (List ℕ) → Type 0

@@ -13,5 +13,7 @@ pub mod Showing
 pub mod Pages
 pub mod Questions
 pub mod Asking
+pub mod Fed
+pub mod Reading
 pub mod Standing
 pub mod Steps

@@ -8,6 +8,8 @@ use Rattle.rubis_keep.specs.History.{HasTold, History, log_of, out_in}
 use Rattle.rubis_keep.specs.Kept.{CameOrEnded, Fails, InEachStand, IsBegun, Stands, left_of}
 use Rattle.rubis_keep.specs.Lives.{LivesSafe}
 use Rattle.rubis_keep.specs.Pages.{AreListed}
+use Rattle.rubis_keep.specs.Reading.{AreFree, ReadFor, readers}
+use Rattle.rubis_reading.specs.declared.pieces.Pieces.{Pieces}
 use Rattle.rubis_keep.specs.declared.answers.Answers.{Answers}
 use Rattle.rubis_keep.specs.declared.site.Clerk.{Clerk}
 use Rattle.rubis_keep.specs.declared.keeping.Came.{Came}
@@ -15,7 +17,7 @@ use Rattle.rubis_keep.specs.declared.keeping.KeptLines.{KeptLines}
 use Rattle.rubis_keep.specs.declared.pages.Listed.{Listed}
 
 -- the site at its desk, with what is held there and waits to be put; what is left of the input and of the answers of before; what happened to
--- the files; and of the lines that are kept, which one is begun, how long they are, and what is held of a listing
+-- the files; of the lines that are kept, which one is begun, how long they are, and what is held of a listing; and what helpers read
 pub record Standing : Type 0 where
   pub site : SiteState
   pub answered : ℕ
@@ -28,6 +30,7 @@ pub record Standing : Type 0 where
   pub begun : List ℕ
   pub kept : ℕ
   pub listed : Option Listed
+  pub pieces : Option Pieces
 
 abbrev pub standing : {R O F G : Type 0} → (R → Option (List ℕ)) → (O → Option (List ℕ)) → (F → Option History) → R → KeptLines → Clerk G → Answers O F → Standing
 standing input before history live lines clerk answers = record {
@@ -42,6 +45,7 @@ standing input before history live lines clerk answers = record {
   begun = lines.cutter;
   kept = lines.kept;
   listed = lines.listed;
+  pieces = lines.pieces;
 }
 
 -- what came of an input: a question, only if it asks them; and some bytes, or it is at its end
@@ -49,12 +53,15 @@ pub record HasCome (asks : Bool) (came : Came) (input input2 : Option (List ℕ)
   pub question : came.is_asked ≡ true → asks ≡ true
   pub end : CameOrEnded came.more input input2
 
--- nothing is held, and nothing waits to be put; some line is begun; and what is held of a listing is that of this moment
+-- nothing is held, and nothing waits to be put; some line is begun; what is held of a listing is that of this moment; and helpers, of whom
+-- messages are read as at this site, have nothing to read
 pub record IsAtRest (s : Standing) : Type 0 where
   pub window : s.held ≡ []
   pub empty : s.sink ≡ []
   pub begun : IsBegun s.begun
   pub listed : AreListed s.site.state s.listed
+  pub free : AreFree s.pieces
+  pub fits : ReadFor s.site.place.sites s.pieces
 
 -- a run went on from the one to the other, or failed there. It keeps what it reads, or doesn't; `owes` is what it then owes to a question
 pub record GoesOn {T E : Type 0} (keeps : Bool) (old new : Standing) (owes : T → List Reply) (r : Result T E) : Type 0 where
@@ -66,6 +73,7 @@ pub record GoesOn {T E : Type 0} (keeps : Bool) (old new : Standing) (owes : T �
       (old.answered + 1) old.kept (λ all told was base line input0 log0 out0 len0. Fails keeps all told was base line input0 new.input log0
       (log_of keeps new.history) out0 (out_in new.history)))
   pub live : new.is_live ≡ old.is_live
+  pub readers : readers new.pieces ≡ readers old.pieces
   pub told : keeps ≡ false → HasTold old.is_live new.is_live old.history new.history r
   pub safe : keeps ≡ true → old.is_live ≡ true → LivesSafe (told_by old.site (old.answered + 1)) old.before (old.answered + 1) old.history
       (told_by new.site (new.answered + 1)) new.before (new.answered + 1) new.history r

@@ -1,5 +1,5 @@
 -- What the steps of a run leave, by how they end.
-use Rattle.std.specs.Prelude.{◌≡◌, ◌+◌, ◌++◌, [], ℕ, List, OnErr, OnOk, Option, Result, Some}
+use Rattle.std.specs.Prelude.{◌≡◌, ◌+◌, ◌++◌, [], ℕ, Bool, List, OnErr, OnOk, Option, Result, Some, false}
 use Rattle.rubis_message.specs.Message.{Message}
 use Rattle.rubis_engine.specs.Accounts.{Account}
 use Rattle.rubis_engine.specs.Accounts.Ending.{AtEnd}
@@ -7,13 +7,15 @@ use Rattle.rubis_engine.specs.Text.{input_records}
 use Rattle.rubis_model.specs.Site.{Place, Replica}
 use Rattle.rubis_script.specs.Desks.{left_at}
 use Rattle.rubis_script.specs.Headline.{Settles}
+use Rattle.rubis_replica.specs.State.{SiteState}
 use Rattle.rubis_script.specs.SiteRuns.{told_by}
 use Rattle.rubis_keep.specs.Asking.{IsUnmoved, LedBy, RepliesTo}
 use Rattle.rubis_keep.specs.History.{HasTold, History, StaysSafe, kept_in, now, out_in}
-use Rattle.rubis_keep.specs.Kept.{Begins, Ended, Finished, FinishedFront, InEachRest, Lived, OutEnds, Replayed, Rests}
+use Rattle.rubis_keep.specs.Kept.{Begins, Ended, Finished, FinishedFront, InEachRest, Lived, OutEnds, Opens, Replayed, Rests}
 use Rattle.rubis_keep.specs.Lines.{AreSound, whole_lines}
-use Rattle.rubis_keep.specs.Lives.{Found}
+use Rattle.rubis_keep.specs.Lives.{Found, IsOpened}
 use Rattle.rubis_keep.specs.Pages.{AreListed}
+use Rattle.rubis_keep.specs.Reading.{AreFree, ReadFor, readers}
 use Rattle.rubis_keep.specs.Standing.{Standing}
 use Rattle.rubis_keep.specs.declared.answers.Answers.{Answers}
 use Rattle.rubis_keep.specs.declared.site.Clerk.{Clerk}
@@ -67,6 +69,8 @@ pub record Replays {T E : Type 0} (past : Option (List ℕ)) (old new : Standing
   pub ok : OnOk r ((kept was : List ℕ) → Begins kept was past (Some kept) old.before (out_in old.history)
       → Replayed (told_by old.site 1) (told_by new.site (new.answered + 1)) kept was new.before (out_in new.history) (new.answered + 1) new.kept)
   pub idle : OnOk r (IsIdle new.held new.sink)
+  pub free : OnOk r (AreFree new.pieces × ReadFor new.site.place.sites new.pieces)
+  pub readers : readers new.pieces ≡ readers old.pieces
   pub err : OnErr r ((kept was : List ℕ) (input : Option (List ℕ)) → Begins kept was past (Some kept) old.before (out_in old.history)
       → Ended (told_by old.site 1) kept was input input (Some kept) (out_in new.history))
   pub told : HasTold old.is_live new.is_live old.history new.history r
@@ -87,3 +91,16 @@ pub record LivesOn {T E : Type 0} (input input2 : Option (List ℕ)) (old : Stan
   pub asked : (p : Place) (s : Replica) (kept : List ℕ) → AreSound [] kept
       → LedBy p s 0 old.site old.answered (input_records (whole_lines kept))
       → RepliesTo p s kept input input2 old.history history2 r
+
+-- a run goes on where an earlier one was cut off, and comes to the end of its input, or ends with a fault: what it leaves, that its files are
+-- safe at each moment, and what it replies to questions
+pub record Runs {T E : Type 0} (s : SiteState) (first past before : Option (List ℕ)) (is_live : Bool) (input input2 : Option (List ℕ))
+    (old new : Option History) (r : Result T E) : Type 0 where
+  pub ok : OnOk r ((kept was : List ℕ) → Opens kept was first past (kept_in old) before (out_in old)
+      → Lived (told_by s 1) kept was input input2 (kept_in new) (out_in new))
+  pub err : OnErr r ((kept was : List ℕ) → Opens kept was first past (kept_in old) before (out_in old)
+      → Ended (told_by s 1) kept was input input2 (kept_in new) (out_in new))
+  pub safe : is_live ≡ false → (h : History) (kept was : List ℕ) → old ≡ Some h → Opens kept was first past (kept_in (Some h)) before (out_in (Some h))
+      → IsOpened ((told_by s 1).text AtEnd) (now h) → StaysSafe ((told_by s 1).text AtEnd) (Some h) new
+  pub asked : (kept was : List ℕ) → Opens kept was first past (kept_in old) before (out_in old)
+      → RepliesTo s.place s.state kept input input2 old new r

@@ -1,27 +1,28 @@
-//! The answers of a site to a text of whole records.
+//! The answers of a site to records.
 
-ghost use Rattle.std.specs.Prelude.{◌≡◌, ◌<◌, ◌+◌, ◌^◌, ℕ, List, OnErr, OnOk, false, true};
-ghost use Rattle.rubis_engine.specs.Reading.{Advances, Gives};
-ghost use Rattle.rubis_script.specs.Desks.{left_at};
-ghost use Rattle.rubis_script.specs.SiteRuns.{told_by};
-ghost use Rattle.rubis_keep.specs.Asking.{LeadsOn};
-ghost use Rattle.rubis_keep.specs.History.{HasTold, out_in};
-ghost use Rattle.rubis_keep.specs.Kept.{FeedEnds, FinishedFront, InEachFeed, OutEnds};
-ghost use Rattle.rubis_keep.specs.Steps.{FeedsChunk, Finishes, IsIdle};
-ghost use Rattle.rubis_keep.specs.Whole.{IsWhole};
+ghost use Rattle.std.specs.Prelude.{◌≡◌, ◌<◌, ◌+◌, ◌^◌, ◌∷◌, [], ℕ, List, OnOk};
+ghost use Rattle.rubis_engine.specs.Reading.{Gives};
+ghost use Rattle.rubis_engine.specs.Text.{input_records};
+ghost use Rattle.rubis_message.specs.Inputs.{FitsIn};
+ghost use Rattle.rubis_reading.specs.Inputs.{AreInputs};
+ghost use Rattle.rubis_reading.specs.Runs.{all_came, flat, of_stretch};
+ghost use Rattle.rubis_keep.specs.Fed.{FeedsInputs, FeedsRows};
+ghost use Rattle.rubis_keep.specs.Steps.{Finishes};
 
 use crate::answers::Answers;
 use crate::fault::KeepFault;
 use crate::site::Clerk;
 use crate::site_files::SiteFiles;
 use rubis_engine::Records;
+use rubis_message::{Input, Message, Packet};
+use rubis_reading::Stretch;
 use rubis_script::Gate;
 use std::io::Read;
 use std::sync::Wait;
 use std::thread::Threads;
 
-// Takes in the messages that are held, and puts the answers.
-fn finish<G: Gate, T: Threads + Wait + Sync, O: Read, F: SiteFiles>(
+/// Takes in the messages that are held, and puts the answers.
+pub(crate) fn finish<G: Gate, T: Threads + Wait + Sync, O: Read, F: SiteFiles>(
     rt: &T,
     clerk: &mut Clerk<G>,
     answers: &mut Answers<O, F>,
@@ -32,75 +33,135 @@ fn finish<G: Gate, T: Threads + Wait + Sync, O: Read, F: SiteFiles>(
     answers.put_sink(rt, &mut clerk.desk.reply.sink)
 }
 
-// Ends a run that has answered as many records as it takes, unless there are no more.
-#[tactic(auto, using(crate::proofs::HistoryFacts::told_none))]
-fn stop<G: Gate, T: Threads + Wait + Sync, R: Read, O: Read, F: SiteFiles>(
+// Puts the answers, where there is much of them.
+#[inline(always)]
+fn put_full<G: Gate, T: Wait, O: Read, F: SiteFiles>(
     rt: &T,
-    records: &mut Records<R>,
     clerk: &mut Clerk<G>,
     answers: &mut Answers<O, F>,
 ) -> Result<(), KeepFault>
-    ensures ok { OnOk result (Advances R.remaining records.old records.new false × (clerk.new ≡ clerk.old) × (answers.new ≡ answers.old)) }
-    ensures err { OnErr result (FinishedFront (left_at clerk.old.desk)
-        (told_by clerk.new.desk.site
-        (clerk.old.desk.answered + 1)) clerk.old.desk.reply.sink (O.remaining answers.old.before) (O.remaining answers.new.before)
-        (out_in (F.history answers.old.files)) (out_in (F.history answers.new.files))) }
-    ensures told { HasTold answers.old.is_live answers.new.is_live (F.history answers.old.files) (F.history answers.new.files) result }
+    ensures { FeedsRows O.remaining F.history [] clerk.old clerk.new answers.old answers.new result }
 {
-    if records.advance()? {
-        finish(rt, clerk, answers)?;
-        return Err(KeepFault::TooLong);
+    if !clerk.desk.reply.sink.is_full() {
+        return Ok(());
+    }
+    answers.put_sink(rt, &mut clerk.desk.reply.sink)
+}
+
+// Ends a run that has answered as many records as the clerk answers, where there is one more.
+#[inline(always)]
+fn stop<G: Gate, T: Threads + Wait + Sync, O: Read, F: SiteFiles>(
+    rt: &T,
+    clerk: &mut Clerk<G>,
+    answers: &mut Answers<O, F>,
+) -> Result<(), KeepFault>
+    ensures fed { FeedsRows O.remaining F.history [] clerk.old clerk.new answers.old answers.new result }
+    ensures room { OnOk result (clerk.new.desk.answered + 1 < 2 ^ 64) }
+{
+    if clerk.desk.answered < clerk.limit {
+        return Ok(());
+    }
+    finish(rt, clerk, answers)?;
+    Err(KeepFault::TooLong)
+}
+
+// Answers what the next record was read as.
+#[inline(always)]
+fn feed_input<G: Gate, T: Threads + Wait + Sync, O: Read, F: SiteFiles>(
+    rt: &T,
+    read: Input,
+    clerk: &mut Clerk<G>,
+    answers: &mut Answers<O, F>,
+) -> Result<(), KeepFault>
+    requires fits { FitsIn clerk.old.desk.site.place.sites read }
+    ensures { FeedsInputs O.remaining F.history (read ∷ []) clerk.old clerk.new answers.old answers.new result }
+{
+    stop(rt, clerk, answers)?;
+    clerk.desk.take_read(rt, read)?;
+    put_full(rt, clerk, answers)
+}
+
+// Answers messages that came one after the other.
+fn feed_messages<G: Gate, T: Threads + Wait + Sync, O: Read, F: SiteFiles>(
+    rt: &T,
+    messages: Vec<Message>,
+    clerk: &mut Clerk<G>,
+    answers: &mut Answers<O, F>,
+) -> Result<(), KeepFault>
+    requires inputs { (rows : List (List (List ℕ))) × AreInputs clerk.old.desk.site.place.sites rows (all_came messages.items) }
+    ensures { FeedsInputs O.remaining F.history (all_came messages.items) clerk.old clerk.new answers.old answers.new result }
+{
+    let mut rest = messages.into_iter();
+    'messages: while let Some(message) = rest.next() {
+        feed_input(rt, Input::Came(Packet::Msg(message)), clerk, answers)?;
     }
     Ok(())
 }
 
-// Answers records until there are no more, or as many as the clerk answers, and puts the answers where there is much of them.
-#[tactic(auto, using(crate::proofs::HistoryFacts::told_none))]
+// Answers the records of a stretch.
+fn feed_stretch<G: Gate, T: Threads + Wait + Sync, O: Read, F: SiteFiles>(
+    rt: &T,
+    stretch: Stretch,
+    clerk: &mut Clerk<G>,
+    answers: &mut Answers<O, F>,
+) -> Result<(), KeepFault>
+    requires inputs { (rows : List (List (List ℕ))) × AreInputs clerk.old.desk.site.place.sites rows (of_stretch stretch) }
+    ensures { FeedsInputs O.remaining F.history (of_stretch stretch) clerk.old clerk.new answers.old answers.new result }
+{
+    match stretch {
+        Stretch::Messages(messages) => feed_messages(rt, messages, clerk, answers),
+        Stretch::One(read) => feed_input(rt, read, clerk, answers),
+    }
+}
+
+/// Answers records that were read.
+pub(crate) fn feed_read<G: Gate, T: Threads + Wait + Sync, O: Read, F: SiteFiles>(
+    rt: &T,
+    list: Vec<Stretch>,
+    clerk: &mut Clerk<G>,
+    answers: &mut Answers<O, F>,
+) -> Result<(), KeepFault>
+    requires inputs { (rows : List (List (List ℕ))) × AreInputs clerk.old.desk.site.place.sites rows (flat list.items) }
+    ensures { FeedsInputs O.remaining F.history (flat list.items) clerk.old clerk.new answers.old answers.new result }
+{
+    let mut rest = list.into_iter();
+    'stretches: while let Some(stretch) = rest.next() {
+        feed_stretch(rt, stretch, clerk, answers)?;
+    }
+    Ok(())
+}
+
+// Reads and answers records until there are no more.
 fn feed_records<G: Gate, T: Threads + Wait + Sync, R: Read, O: Read, F: SiteFiles>(
     rt: &T,
     records: &mut Records<R>,
     clerk: &mut Clerk<G>,
     answers: &mut Answers<O, F>,
 ) -> Result<(), KeepFault>
-    ensures ok { OnOk result (InEachFeed R.remaining records.old (left_at clerk.old.desk)
-        (O.remaining answers.old.before) (out_in (F.history answers.old.files)) clerk.old.desk.reply.sink (clerk.old.desk.answered + 1)
-        (FeedEnds R.remaining records.new (left_at clerk.new.desk)
-        (O.remaining answers.new.before) (out_in (F.history answers.new.files)) clerk.new.desk.reply.sink (clerk.new.desk.answered + 1))) }
-    ensures err { OnErr result (InEachFeed R.remaining records.old (left_at clerk.old.desk)
-        (O.remaining answers.old.before) (out_in (F.history answers.old.files)) clerk.old.desk.reply.sink (clerk.old.desk.answered + 1)
-        (λ all told old out0 kept. OutEnds all told old out0 (out_in (F.history answers.new.files)) kept)) }
-    ensures told { HasTold answers.old.is_live answers.new.is_live (F.history answers.old.files) (F.history answers.new.files) result }
-    ensures leads { OnOk result ((all : List (List (List ℕ))) → Gives R.remaining records.old all → LeadsOn clerk.old.desk clerk.new.desk all) }
+    ensures { (rows : List (List (List ℕ))) → Gives R.remaining records.old rows
+        → FeedsRows O.remaining F.history rows clerk.old clerk.new answers.old answers.new result }
 {
-    for _turn in clerk.desk.answered..clerk.limit {
+    for _turn in rt.forever() {
         if !records.advance()? {
             return Ok(());
         }
+        stop(rt, clerk, answers)?;
         let read = clerk.desk.read(records.fields())?;
         clerk.desk.take_read(rt, read)?;
-        if clerk.desk.reply.sink.is_full() {
-            answers.put_sink(rt, &mut clerk.desk.reply.sink)?;
-        }
+        put_full(rt, clerk, answers)?;
     }
-    stop(rt, records, clerk, answers)
+    unreachable!()
 }
 
-/// Answers a text of whole records.
-pub(crate) fn feed_chunk<G: Gate, T: Threads + Wait + Sync, O: Read, F: SiteFiles>(
+/// Reads and answers the records of a text.
+pub(crate) fn feed_text<G: Gate, T: Threads + Wait + Sync, O: Read, F: SiteFiles>(
     rt: &T,
-    chunk: &[u8],
+    text: &[u8],
     clerk: &mut Clerk<G>,
     answers: &mut Answers<O, F>,
 ) -> Result<(), KeepFault>
-    requires whole { IsWhole chunk.now }
-    requires idle { IsIdle clerk.old.desk.window.items clerk.old.desk.reply.sink }
-    ensures { FeedsChunk O.remaining F.history chunk.now clerk.old clerk.new answers.old answers.new result }
+    ensures { FeedsRows O.remaining F.history (input_records text.now) clerk.old clerk.new answers.old answers.new result }
 {
-    // Between two questions no record stands, and a reader takes longer to make than most questions to answer.
-    if chunk.is_empty() {
-        return Ok(());
-    }
-    let mut records = Records::new(clerk.alloc, chunk);
-    feed_records(rt, &mut records, clerk, answers)?;
-    finish(rt, clerk, answers)
+    let mut records = Records::new(clerk.alloc, text);
+    feed_records(rt, &mut records, clerk, answers)
 }

@@ -4,12 +4,13 @@ ghost use Rattle.std.specs.Prelude.{◌≡◌, [], IfOk, OnOk, true};
 ghost use Rattle.std.specs.Io.KnownBytes.{IsAtEnd};
 ghost use Rattle.rubis_keep.specs.Asking.{owed};
 ghost use Rattle.rubis_keep.specs.Kept.{CameOrEnded, IsBegun, left_of};
+ghost use Rattle.rubis_keep.specs.Reading.{AreFree, ReadFor};
 ghost use Rattle.rubis_keep.specs.Standing.{GoesOn, IsAtRest, standing};
 ghost use Rattle.rubis_keep.specs.Steps.{IsIdle};
 
 use crate::answers::Answers;
+use crate::chunks::{feed_chunk, give_chunk};
 use crate::fault::KeepFault;
-use crate::feeding::feed_chunk;
 use crate::keeping::{Came, KeptLines, keep_chunk, read_next};
 use crate::pages::let_go;
 use crate::replying::reply_if;
@@ -25,7 +26,7 @@ fn next_lines<G: Gate, T: Threads + Wait + Sync, R: Read, O: Read, F: SiteFiles>
     rt: &T,
     live: &mut R,
     keeps: bool,
-    lines: &mut KeptLines,
+    lines: &mut KeptLines<'_>,
     clerk: &mut Clerk<G>,
     answers: &mut Answers<O, F>,
 ) -> Result<Came, KeepFault>
@@ -37,12 +38,13 @@ fn next_lines<G: Gate, T: Threads + Wait + Sync, R: Read, O: Read, F: SiteFiles>
     ensures question { IfOk result (λ came. came.is_asked ≡ true → keeps ≡ true) }
 {
     let came = read_next(live, lines, keeps)?;
+    give_chunk(rt, &lines.chunk, &mut lines.pieces)?;
     keep_chunk(rt, &mut answers.files, keeps, &lines.chunk)?;
     let Some(len) = lines.kept.checked_add(lines.chunk.len() as u64) else {
         return Err(KeepFault::TooLong);
     };
     let_go(&mut lines.listed, &lines.chunk);
-    feed_chunk(rt, &lines.chunk, clerk, answers)?;
+    feed_chunk(rt, &lines.chunk, &mut lines.pieces, clerk, answers)?;
     lines.kept = len;
     Ok(came)
 }
@@ -53,7 +55,7 @@ fn next_piece<G: Gate, T: Threads + Wait + Sync, R: Read, O: Read, F: SiteFiles>
     rt: &T,
     live: &mut R,
     keeps: bool,
-    lines: &mut KeptLines,
+    lines: &mut KeptLines<'_>,
     clerk: &mut Clerk<G>,
     answers: &mut Answers<O, F>,
 ) -> Result<bool, KeepFault>
@@ -80,12 +82,12 @@ pub(crate) fn answer_pieces<G: Gate, T: Threads + Wait + Sync, R: Read, O: Read,
     rt: &T,
     live: &mut R,
     keeps: bool,
-    lines: &mut KeptLines,
+    lines: &mut KeptLines<'_>,
     clerk: &mut Clerk<G>,
     answers: &mut Answers<O, F>,
 ) -> Result<(), KeepFault>
     requires idle { IsIdle clerk.old.desk.window.items clerk.old.desk.reply.sink }
-    requires begun { IsBegun lines.old.cutter }
+    requires begun { IsBegun lines.old.cutter × AreFree lines.old.pieces × ReadFor clerk.old.desk.site.place.sites lines.old.pieces }
     ensures goes { GoesOn keeps (standing R.remaining O.remaining F.history live.old lines.old clerk.old answers.old)
         (standing R.remaining O.remaining F.history live.new lines.new clerk.new answers.new)
         (λ over. []) result }

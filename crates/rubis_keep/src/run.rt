@@ -10,18 +10,21 @@ ghost use Rattle.rubis_keep.specs.History.{Grows, HasDone, History, StaysSafe, k
 ghost use Rattle.rubis_keep.specs.History.Event.{Began, CutTo, Flushed, Settled};
 ghost use Rattle.rubis_keep.specs.Kept.{Ended, Lived, Opens};
 ghost use Rattle.rubis_keep.specs.Lives.{IsOpened};
+ghost use Rattle.rubis_keep.specs.Reading.{AreFree, ReadFor, readers};
 ghost use Rattle.rubis_keep.specs.Standing.{standing};
-ghost use Rattle.rubis_keep.specs.Steps.{HasReadNone, IsIdle, LivesOn, Replays};
+ghost use Rattle.rubis_keep.specs.Steps.{HasReadNone, IsIdle, LivesOn, Replays, Runs};
 
 use crate::answers::Answers;
 use crate::checking::check_kept;
 use crate::counts::counts_of;
 use crate::fault::KeepFault;
+use crate::helped::run_helped;
 use crate::keeping::KeptLines;
 use crate::lines::LineCutter;
 use crate::pieces::answer_pieces;
 use crate::site::Clerk;
 use crate::site_files::SiteFiles;
+use crate::unread::{PIECE, Unread};
 use rubis_script::Gate;
 use std::io::Read;
 use std::sync::Wait;
@@ -46,12 +49,13 @@ fn of_kept(fault: KeepFault) -> KeepFault {
 fn replay<G: Gate, T: Threads + Wait + Sync, P: Read, O: Read, F: SiteFiles>(
     rt: &T,
     past: &mut P,
-    lines: &mut KeptLines,
+    lines: &mut KeptLines<'_>,
     clerk: &mut Clerk<G>,
     answers: &mut Answers<O, F>,
 ) -> Result<(), KeepFault>
     requires idle { IsIdle clerk.old.desk.window.items clerk.old.desk.reply.sink }
     requires fresh { HasReadNone lines.old × (clerk.old.desk.answered ≡ 0) }
+    requires free { AreFree lines.old.pieces × ReadFor clerk.old.desk.site.place.sites lines.old.pieces }
     ensures { Replays (P.remaining past.old) (standing P.remaining O.remaining F.history past.old lines.old clerk.old answers.old)
         (standing P.remaining O.remaining F.history past.new lines.new clerk.new answers.new) result }
 {
@@ -103,20 +107,74 @@ fn cut_and_flush<F: SiteFiles>(files: &mut F, len: u64) -> Result<(), KeepFault>
 fn go_on<G: Gate, T: Threads + Wait + Sync, O: Read, F: SiteFiles, R: Read>(
     rt: &T,
     live: &mut R,
-    lines: &mut KeptLines,
+    lines: &mut KeptLines<'_>,
     clerk: &mut Clerk<G>,
     answers: &mut Answers<O, F>,
 ) -> Result<(), KeepFault>
-    requires { IsIdle clerk.old.desk.window.items clerk.old.desk.reply.sink }
-    ensures { LivesOn (R.remaining live.old) (R.remaining live.new) (standing R.remaining O.remaining F.history live.old lines.old clerk.old answers.old)
+    requires idle { IsIdle clerk.old.desk.window.items clerk.old.desk.reply.sink }
+    requires free { AreFree lines.old.pieces × ReadFor clerk.old.desk.site.place.sites lines.old.pieces }
+    ensures lives { LivesOn (R.remaining live.old) (R.remaining live.new) (standing R.remaining O.remaining F.history live.old lines.old clerk.old answers.old)
         (F.history answers.new.files) result }
+    ensures readers { readers lines.new.pieces ≡ readers lines.old.pieces }
 {
     cut_and_flush(&mut answers.files, lines.kept)?;
     lines.cutter = LineCutter::new(clerk.alloc);
-    lines.unread.clear();
+    lines.unread.restart(PIECE);
     tell_replayed(clerk, &mut answers.files)?;
     answers.is_live = true;
     answer_pieces(rt, live, true, lines, clerk, answers)
+}
+
+/// The run, over lines of which none came yet.
+pub(crate) fn run_lines<
+    G: Gate,
+    T: Threads + Wait + Sync,
+    C: Read,
+    P: Read,
+    O: Read,
+    F: SiteFiles,
+    R: Read,
+>(
+    rt: &T,
+    recording: &mut Recording<C, P>,
+    live: &mut R,
+    lines: &mut KeptLines<'_>,
+    clerk: &mut Clerk<G>,
+    answers: &mut Answers<O, F>,
+) -> Result<(), KeepFault>
+    requires idle { IsIdle clerk.old.desk.window.items clerk.old.desk.reply.sink }
+    requires fresh { HasReadNone lines.old × (clerk.old.desk.answered ≡ 0) }
+    requires free { AreFree lines.old.pieces × ReadFor clerk.old.desk.site.place.sites lines.old.pieces }
+    ensures runs { Runs clerk.old.desk.site (C.remaining recording.old.first) (P.remaining recording.old.past) (O.remaining answers.old.before) answers.old.is_live
+        (R.remaining live.old) (R.remaining live.new) (F.history answers.old.files) (F.history answers.new.files) result }
+    ensures readers { readers lines.new.pieces ≡ readers lines.old.pieces }
+{
+    check_kept(rt, clerk.alloc, &mut recording.first)?;
+    flush(&mut answers.files)?;
+    replay(rt, &mut recording.past, lines, clerk, answers)?;
+    go_on(rt, live, lines, clerk, answers)
+}
+
+// The run, with no helpers.
+fn run_alone<G: Gate, T: Threads + Wait + Sync, C: Read, P: Read, O: Read, F: SiteFiles, R: Read>(
+    rt: &T,
+    recording: &mut Recording<C, P>,
+    live: &mut R,
+    clerk: &mut Clerk<G>,
+    answers: &mut Answers<O, F>,
+) -> Result<(), KeepFault>
+    requires idle { IsIdle clerk.old.desk.window.items clerk.old.desk.reply.sink }
+    requires answered { clerk.old.desk.answered ≡ 0 }
+    ensures { Runs clerk.old.desk.site (C.remaining recording.old.first) (P.remaining recording.old.past) (O.remaining answers.old.before) answers.old.is_live
+        (R.remaining live.old) (R.remaining live.new) (F.history answers.old.files) (F.history answers.new.files) result }
+{
+    let unread = Unread::new(clerk.alloc, PIECE)?;
+    let mut lines = KeptLines::new(clerk.alloc, unread, None);
+    let ended = run_lines(rt, recording, live, &mut lines, clerk, answers);
+    if let Some(pieces) = lines.into_pieces() {
+        let _lead = pieces.into_lead();
+    }
+    ended
 }
 
 /// Answers what was kept before, as far as it isn't answered yet, and then keeps and answers an input to its end: each line is
@@ -165,9 +223,9 @@ pub fn run_kept<
         → RepliesTo clerk.old.desk.site.place clerk.old.desk.site.state kept (R.remaining live.old) (R.remaining live.new) (F.history answers.old.files)
         (F.history answers.new.files) result }
 {
-    let mut lines = KeptLines::new(clerk.alloc)?;
-    check_kept(rt, clerk.alloc, &mut recording.first)?;
-    flush(&mut answers.files)?;
-    replay(rt, &mut recording.past, &mut lines, clerk, answers)?;
-    go_on(rt, live, &mut lines, clerk, answers)
+    if clerk.desk.plan.helpers > 0 {
+        run_helped(rt, recording, live, clerk, answers)
+    } else {
+        run_alone(rt, recording, live, clerk, answers)
+    }
 }

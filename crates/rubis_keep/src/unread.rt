@@ -10,8 +10,8 @@ use std::alloc::{AllocError, Global};
 use std::io::Read;
 use std::marker::Model;
 
-// How many bytes are read at once.
-const PIECE: usize = 65_536;
+/// How many bytes are read at once.
+pub(crate) const PIECE: usize = 65_536;
 
 /// Bytes of an input that were read at once, of which some first ones were looked at. Contracts see the others.
 #[derive(Drop)]
@@ -33,12 +33,13 @@ impl Model for Unread {
 }
 
 impl Unread {
-    /// Nothing was read.
-    pub(crate) fn new(alloc: Global) -> Result<Unread, AllocError>
+    /// Nothing was read. At most `most` bytes are read at once.
+    pub(crate) fn new(alloc: Global, most: usize) -> Result<Unread, AllocError>
+        requires { 0 < most }
         ensures { IfOk result (λ unread. unread ≡ []) }
     {
         let mut piece = Vec::new(alloc);
-        piece.resize(PIECE, 0)?;
+        piece.resize(most, 0)?;
         Ok(Unread {
             piece,
             at: 0,
@@ -52,6 +53,16 @@ impl Unread {
     {
         self.at = 0;
         self.end = 0;
+    }
+
+    /// Lets the bytes go. From now on at most `most` are read at once, and no more than before.
+    pub(crate) fn restart(&mut self, most: usize)
+        requires { 0 < most }
+        ensures { self.new ≡ [] }
+    {
+        self.at = 0;
+        self.end = 0;
+        self.piece.truncate(most);
     }
 
     /// Reads the next bytes of an input, if all are looked at. Whether there are any.

@@ -4,6 +4,7 @@ use Rattle.rubis_keep.specs.History.{Tells, log_of, out_in}
 use Rattle.rubis_keep.specs.Lives.{Lives}
 use Rattle.rubis_keep.specs.Standing.{IsAtRest, standing}
 use Rattle.rubis_keep.specs.Kept.{InEachStand, Stands, left_of}
+use Rattle.rubis_keep.specs.Reading.{readers}
 use Rattle.rubis_keep.specs.Asking.{Asks, OfEachAsking}
 use Rattle.rubis_keep.proofs.pieces.answer_pieces.Given as goal
 
@@ -23,6 +24,7 @@ invariant-loop-turn g l =
           (λ all told old base line input0 log0 out0 len0. Stands l.keeps all (told_by new.desk.site (new.desk.answered + 1)) told old base line input0 (left_of l.lines.unread (input l.live)) log0
           (log_of l.keeps (history l.answers.files)) (before l.answers.before) out0 (out_in (history l.answers.files)) l.lines.cutter (new.desk.answered + 1) len0 l.lines.kept);
       live : l.answers.is_live ≡ l.fn.answers.is_live;
+      readers : readers l.lines.pieces ≡ readers l.fn.lines.pieces;
       told : l.keeps ≡ false → (l.answers.is_live ≡ l.fn.answers.is_live) × ((text : List ℕ)
           × Tells l.fn.answers.is_live (history l.fn.answers.files) (history l.answers.files) text []);
       safe : l.keeps ≡ true → l.fn.answers.is_live ≡ true

@@ -18,6 +18,7 @@ returns-in_err-came-clause-goes g c =
       ok = ok-of-err _ c.from_residual.result bad;
       err = on_err _ failed.err;
       live = failed.live;
+      readers = failed.readers;
       told = λ off. told-failed _ _ _ _ c.from_residual.result bad (failed.told off);
       safe = λ keeps live. lives-err _ _ _ _ _ _ _ _ c.next_lines.result c.from_residual.result bad (c.next_lines.ensures.goes.safe keeps live);
       asked = on_fault _ c.from_residual.result bad failed.asked;
@@ -36,6 +37,7 @@ returns-in_err-reply_if-clause-goes g c =
       ok = ok-of-err _ c.from_residual-in_err-reply_if.result bad;
       err = on_err _ (each-late _ _ _ _ _ _ _ _ _ _ _ _ _ _ _ _ _ _ _ went.ok (still-log _ _ _ still) still.1);
       live = c.reply_if.ensures.still.before.1 ∙ went.live;
+      readers = went.readers;
       told = λ off. absurd (cc (off, c.in_ok-came.ensures.question c.in_err-reply_if.ensures.replied.0));
       safe = λ keeps live. lives-more _ _ _ _ _ _ _ _ _ _ _ _ c.from_residual-in_err-reply_if.result
           (lives-known _ _ _ _ _ _ _ _ c.next_lines.result _ c.in_ok-came.was (c.next_lines.ensures.goes.safe keeps live))
@@ -60,6 +62,8 @@ returns-clause-goes g c =
         empty = same.sink ∙ went.rests.empty;
         begun = went.rests.begun;
         listed = rw same.state c.reply_if.ensures.still.listed;
+        free = went.rests.free;
+        fits = rw same.place went.rests.fits;
       };
       ok = rw (
         told-same mid.site c.reply_if.new.clerk.desk.site mid.answered c.reply_if.new.clerk.desk.answered same.place same.state same.answered,
@@ -69,6 +73,7 @@ returns-clause-goes g c =
           (each-still _ _ _ _ _ _ _ _ _ _ _ _ _ _ _ _ _ _ _ went.ok (still-log _ _ _ still) still.1);
       err = tt;
       live = c.reply_if.ensures.still.before.1 ∙ went.live;
+      readers = went.readers;
       told = λ off. told-on _ _ _ _ _ _ c.in_ok-came.came.is_asked _ _ (not-asked _ _ c.in_ok-came.ensures.question off) (went.told off)
           c.reply_if.ensures.still.before.1 c.in_ok-reply_if.ensures.replied;
       safe = λ keeps live. lives-join _ _ _ _ _ _ _ _ _ _ _ _

@@ -1,4 +1,4 @@
-use Rattle.std.proofs.Common.{◌+◌, refl}
+use Rattle.std.proofs.Common.{◌+◌, [], refl}
 use Rattle.rubis_keep.proofs.AskFacts.{go-replies, replies-none, silent-begun, silent-cut, silent-more, silent-unbegun, silent-uncut}
 use Rattle.rubis_keep.proofs.EachFacts.{on_err, on_err_weaker, on_ok_both}
 use Rattle.rubis_keep.proofs.LifeFacts.{go-err-read, go-ok-read, none-unread}
@@ -8,8 +8,8 @@ use Rattle.rubis_keep.proofs.TellingFacts.{none-told-at-end}
 use Rattle.rubis_keep.proofs.run.go_on.Goals as goal
 
 -- what was kept could not be cut off
-pub returns-in_err-cut_and_flush : goal.returns-in_err-cut_and_flush
-returns-in_err-cut_and_flush g c =
+pub returns-in_err-cut_and_flush-clause-lives : goal.returns-in_err-cut_and_flush-clause-lives
+returns-in_err-cut_and_flush-clause-lives g c =
     let bad = c.from_residual.ensures.0 in
     let cut = c.in_err-cut_and_flush.ensures.err in
     record {
@@ -20,8 +20,8 @@ returns-in_err-cut_and_flush g c =
     }
 
 -- it could not be said
-pub returns-in_err-tell_replayed : goal.returns-in_err-tell_replayed
-returns-in_err-tell_replayed g c =
+pub returns-in_err-tell_replayed-clause-lives : goal.returns-in_err-tell_replayed-clause-lives
+returns-in_err-tell_replayed-clause-lives g c =
     let bad = c.from_residual-in_err-tell_replayed.ensures.0 in
     let cut = c.in_ok-cut_and_flush.ensures.ok in
     let untold = c.in_err-tell_replayed.ensures.err in
@@ -34,12 +34,12 @@ returns-in_err-tell_replayed g c =
           (silent-more _ _ _ (silent-cut _ _ _ cut) (silent-unbegun _ _ untold));
     }
 
-pub returns : goal.returns
-returns g c =
+pub returns-clause-lives : goal.returns-clause-lives
+returns-clause-lives g c =
     let flushed = c.in_ok-cut_and_flush.ensures.ok in
     let told = c.in_ok-tell_replayed.ensures.ok in
     let cut = begun-cut _ _ _ _ _ _ flushed told in
-    let unread = none-unread _ _ c.clear.ensures in
+    let unread = none-unread _ _ c.restart.ensures in
     record {
       ok = on_ok_both c.answer_pieces.result (go-ok-read _ _ _ _ _ _ _ _ _ _ _ _ _ _ _ _ _ _ _ _ unread cut.0 c.new.ensures cut.1)
           c.answer_pieces.ensures.goes.ok c.answer_pieces.ensures.end;
@@ -52,3 +52,9 @@ returns g c =
           (silent-more _ _ _ (silent-cut _ _ _ flushed) (silent-begun _ _ _ _ told))
           c.answer_pieces.ensures.goes.asked c.answer_pieces.ensures.end c.new.ensures sound led;
     }
+
+pub returns-clause-readers : goal.returns-clause-readers
+returns-clause-readers g c = c.answer_pieces.ensures.goes.readers
+
+pub answer_pieces-requires-clause-begun : goal.answer_pieces-requires-clause-begun
+answer_pieces-requires-clause-begun g c κs within = (([], tt, c.new.ensures), c.requires.free.0, c.requires.free.1)

@@ -23,6 +23,8 @@ returns-in-Ok g c =
           (none-told c.args.clerk.now.desk.site 1) lines.cutter answered lines.kept went c.in-Ok.ensures.end end.0 end.1))
           c.check_end.ensures.end;
       idle = on_ok c.check_end.result (record { window = c.in-Ok.ensures.goes.rests.window; empty = c.in-Ok.ensures.goes.rests.empty });
+      free = on_ok c.check_end.result (c.in-Ok.ensures.goes.rests.free, c.in-Ok.ensures.goes.rests.fits);
+      readers = c.in-Ok.ensures.goes.readers;
       err = on_err _ (replay-unfound (told_by c.args.clerk.now.desk.site) (told_by c.answer_pieces.new.clerk.desk.site) _ _ _ _ _ _ _ _ _ _ _ _ _
           (none-told c.args.clerk.now.desk.site 1) lines.cutter answered lines.kept
           (ap (λ files. out_in (g.F.SiteFiles.history files)) c.check_end.ensures.files) went);
@@ -38,6 +40,8 @@ returns-in-Err g c =
     record {
       ok = tt;
       idle = tt;
+      free = tt;
+      readers = c.in-Err.ensures.goes.readers;
       err = replay-err (told_by c.args.clerk.now.desk.site) _ _ _ _ _ _ _ _ _ _
           (none-told c.args.clerk.now.desk.site 1) lines.cutter c.requires.fresh.1 lines.kept
           (rw (none-unread c.args.lines.now.unread (g.P.Read.remaining c.args.past.now) lines.unread) at c.in-Err.ensures.goes.err);
@@ -46,4 +50,4 @@ returns-in-Err g c =
     }
 
 pub answer_pieces-requires-clause-begun : goal.answer_pieces-requires-clause-begun
-answer_pieces-requires-clause-begun g c κs within = ([], tt, c.requires.fresh.0.cutter)
+answer_pieces-requires-clause-begun g c κs within = (([], tt, c.requires.fresh.0.cutter), c.requires.free.0, c.requires.free.1)

@@ -1,0 +1,395 @@
+-- How records are answered, one after the other and many together.
+use Rattle.std.proofs.Common.{◌≡◌, ◌∙◌, ◌+◌, ◌++◌, ◌∷◌, [], ℕ, Bool, List, Option, Result, Ok, Err, arith, length-append, inr, refl, sym, ap, subst, append_assoc, true, false}
+use Rattle.std.proofs.lemmas.List.{append-nil}
+use Rattle.std.proofs.lemmas.Result.{on_ok_weaker}
+use Rattle.std.specs.Prelude.{IsErr, OnErr, OnOk}
+use Rattle.rubis_engine.specs.Accounts.{Account}
+use Rattle.rubis_engine.specs.Text.{input_records}
+use Rattle.rubis_engine.specs.Reading.{Advances, Gives, fields_now}
+use Rattle.rubis_engine.specs.declared.record_list.Records.{Records}
+use Rattle.rubis_message.specs.Inputs.{FitsIn, IsInput}
+use Rattle.rubis_message.specs.Message.{Message}
+use Rattle.rubis_message.specs.declared.inputs.Input.{Input}
+use Rattle.rubis_reading.specs.Inputs.{AreInputs}
+use Rattle.rubis_replica.specs.Arrivals.{after_all}
+use Rattle.rubis_replica.specs.State.{SiteState}
+use Rattle.rubis_script.specs.Desks.{TakesNext, left_at}
+use Rattle.rubis_script.specs.SiteRuns.{told_by}
+use Rattle.rubis_script.specs.declared.desk.Desk.{Desk}
+use Rattle.rubis_keep.specs.Asking.{LeadsHeld, LeadsOn}
+use Rattle.rubis_keep.specs.Fed.{FailsFed, Feeds, FeedsAt, FeedsInputs, FeedsRows, HasFed}
+use Rattle.rubis_keep.specs.History.{HasTold, History, Tells, out_in}
+use Rattle.rubis_keep.specs.Kept.{FinishedFront, Puts, PutsFront, Rests}
+use Rattle.rubis_keep.specs.Shortened.{state_after}
+use Rattle.rubis_keep.specs.Steps.{FeedsChunk, Finishes, IsIdle}
+use Rattle.rubis_keep.specs.Whole.{IsWhole}
+use Rattle.rubis_keep.specs.declared.answers.Answers.{Answers}
+use Rattle.rubis_keep.specs.declared.site.Clerk.{Clerk}
+use Rattle.rubis_keep.proofs.AskFacts.{chunk-led, led-step, reads-next}
+use Rattle.rubis_keep.proofs.EachFacts.{on_err, on_err_weaker, on_ok_both}
+use Rattle.rubis_keep.proofs.HistoryFacts.{tells-later, tells-more, tells-none, told-failed, told-more}
+use Rattle.rubis_keep.proofs.PutFacts.{puts-all}
+use Rattle.rubis_keep.proofs.RestFacts.{feeds-ends, feeds-finish, feeds-finish-ends, feeds-put, feeds-put-ends, feeds-rest, feeds-start, feeds-step}
+use Rattle.rubis_keep.proofs.SafeFacts.{ok-of-err}
+use Rattle.rubis_keep.proofs.ShortenFacts.{after-append}
+use Rattle.rubis_keep.proofs.TellingFacts.{none-told, rests-told}
+use Rattle.rubis_keep.proofs.WholeFacts.{whole-append}
+
+-- ---- where records lead
+
+leads-none : {G : Type 0} (d d2 : Desk G) → d2 ≡ d → LeadsOn d d2 []
+leads-none d d2 same = rw same (record { place = refl; state = refl; count = omega arith })
+
+pub leads-both : (s0 s1 s2 : SiteState) (w0 w1 w2 : List Message) (n0 n1 n2 : ℕ) (rows rows2 : List (List (List ℕ)))
+    → LeadsHeld s0 w0 n0 s1 w1 n1 rows → LeadsHeld s1 w1 n1 s2 w2 n2 rows2 → LeadsHeld s0 w0 n0 s2 w2 n2 (rows ++ rows2)
+leads-both s0 s1 s2 w0 w1 w2 n0 n1 n2 rows rows2 one two =
+    let size = length-append rows rows2 in
+    record {
+      place = two.place ∙ one.place;
+      state = two.state ∙ (λ i. state_after (one.place i) (one.state i) rows2)
+          ∙ sym (after-append s0.place (after_all s0.place s0.state w0) rows rows2);
+      count = omega (arith, one.count, two.count, size);
+    }
+
+-- ---- what is told
+
+told-on : (live live2 live3 : Bool) (a b c : Option History) → (live2 ≡ live) × ((text : List ℕ) × Tells live a b text [])
+    → (live3 ≡ live2) × ((text : List ℕ) × (due : List ℕ) × Tells live2 b c text due)
+    → (live3 ≡ live) × ((text : List ℕ) × (due : List ℕ) × Tells live a c text due)
+told-on live live2 live3 a b c (e, (text, f)) (g, (text2, due, t)) =
+    (g ∙ e, (text ++ text2, due, tells-more live a b c text text2 due f (subst (λ l. Tells l b c text2 due) e t)))
+
+pub told-of-err : {T E : Type 0} (live live2 : Bool) (a b : Option History) (r : Result T E) → IsErr r → HasTold live live2 a b r
+    → (live2 ≡ live) × ((text : List ℕ) × (due : List ℕ) × Tells live a b text due)
+told-of-err live live2 a b (Ok x) bad t = absurd (cc bad)
+told-of-err live live2 a b (Err e) bad t = t
+
+-- ---- records that are answered
+
+pub fed-none : {O F G : Type 0} (before : O → Option (List ℕ)) (history : F → Option History) (c : Clerk G) (a : Answers O F) → HasFed before history [] c c a a
+fed-none before history c a = record {
+  goes = λ rest all told was out0 kept f. f;
+  told = (refl, ([], tells-none a.is_live (history a.files)));
+  leads = leads-none c.desk c.desk refl;
+}
+
+pub fed-both : {O F G : Type 0} (before : O → Option (List ℕ)) (history : F → Option History) (rows rows2 : List (List (List ℕ))) (c c1 c2 : Clerk G)
+    (a a1 a2 : Answers O F) → HasFed before history rows c c1 a a1 → HasFed before history rows2 c1 c2 a1 a2
+    → HasFed before history (rows ++ rows2) c c2 a a2
+fed-both before history rows rows2 c c1 c2 a a1 a2 one two = record {
+  goes = λ rest all told was out0 kept f. two.goes rest all told was out0 kept (one.goes (rows2 ++ rest) all told was out0 kept
+      (subst (λ t. FeedsAt before history t c a all told was out0 kept) (append_assoc rows rows2 rest) f));
+  told = tells-later a.is_live a1.is_live a2.is_live (history a.files) (history a1.files) (history a2.files) one.told.0 one.told.1.0 one.told.1.1 two.told;
+  leads = leads-both c.desk.site c1.desk.site c2.desk.site _ _ _ _ _ _ rows rows2 one.leads two.leads;
+}
+
+pub fed-fails : {O F G : Type 0} (before : O → Option (List ℕ)) (history : F → Option History) (rows : List (List (List ℕ))) (c c1 : Clerk G)
+    (a a1 : Answers O F) → HasFed before history rows c c1 a a1 → FailsFed before history rows c a a1
+fed-fails before history rows c c1 a a1 h = record {
+  ends = λ rest all told was out0 kept f. feeds-ends rest all (left_at c1.desk) told was (before a1.before) out0 (out_in (history a1.files))
+      c1.desk.reply.sink (c1.desk.answered + 1) kept (h.goes rest all told was out0 kept f);
+  told = (h.told.0, (h.told.1.0, [], h.told.1.1));
+}
+
+pub fails-later : {O F G : Type 0} (before : O → Option (List ℕ)) (history : F → Option History) (rows rows2 : List (List (List ℕ))) (c c1 : Clerk G)
+    (a a1 a2 : Answers O F) → HasFed before history rows c c1 a a1 → FailsFed before history rows2 c1 a1 a2
+    → FailsFed before history (rows ++ rows2) c a a2
+fails-later before history rows rows2 c c1 a a1 a2 one two = record {
+  ends = λ rest all told was out0 kept f. two.ends rest all told was out0 kept (one.goes (rows2 ++ rest) all told was out0 kept
+      (subst (λ t. FeedsAt before history t c a all told was out0 kept) (append_assoc rows rows2 rest) f));
+  told = told-on a.is_live a1.is_live a2.is_live (history a.files) (history a1.files) (history a2.files) one.told two.told;
+}
+
+pub fails-sooner : {O F G : Type 0} (before : O → Option (List ℕ)) (history : F → Option History) (rows rows2 : List (List (List ℕ))) (c : Clerk G)
+    (a a2 : Answers O F) → FailsFed before history rows c a a2 → FailsFed before history (rows ++ rows2) c a a2
+fails-sooner before history rows rows2 c a a2 h = record {
+  ends = λ rest all told was out0 kept f. h.ends (rows2 ++ rest) all told was out0 kept
+      (subst (λ t. FeedsAt before history t c a all told was out0 kept) (append_assoc rows rows2 rest) f);
+  told = h.told;
+}
+
+pub feeds-on : {T E O F G : Type 0} (before : O → Option (List ℕ)) (history : F → Option History) (rows rows2 : List (List (List ℕ))) (c c1 c2 : Clerk G)
+    (a a1 a2 : Answers O F) (r : Result T E) → HasFed before history rows c c1 a a1 → FeedsRows before history rows2 c1 c2 a1 a2 r
+    → FeedsRows before history (rows ++ rows2) c c2 a a2 r
+feeds-on before history rows rows2 c c1 c2 a a1 a2 (Ok x) one two = fed-both before history rows rows2 c c1 c2 a a1 a2 one two
+feeds-on before history rows rows2 c c1 c2 a a1 a2 (Err e) one two = fails-later before history rows rows2 c c1 a a1 a2 one two
+
+pub feeds-failed : {T E O F G : Type 0} (before : O → Option (List ℕ)) (history : F → Option History) (rows : List (List (List ℕ))) (c c2 : Clerk G)
+    (a a2 : Answers O F) (r : Result T E) → IsErr r → FailsFed before history rows c a a2 → FeedsRows before history rows c c2 a a2 r
+feeds-failed before history rows c c2 a a2 (Ok x) bad h = absurd (cc bad)
+feeds-failed before history rows c c2 a a2 (Err e) bad h = h
+
+-- ---- one record
+
+-- it was answered
+pub step-fed : {O F G : Type 0} (before : O → Option (List ℕ)) (history : F → Option History) (fields : List (List ℕ)) (p : Input) (c c2 : Clerk G)
+    (a : Answers O F) → IsInput c.desk.site.place.sites fields p → TakesNext p c.desk c2.desk → HasFed before history (fields ∷ []) c c2 a a
+step-fed before history fields p c c2 a is takes =
+    let next = reads-next c.desk c2.desk p fields fields is refl takes in
+    let led = led-step c.desk.site.place (after_all c.desk.site.place c.desk.site.state c.desk.window.items) c.desk.site c2.desk.site
+    c.desk.window.items c2.desk.window.items (c.desk.answered + 1) fields [] refl refl next.2 in
+    record {
+      goes = λ rest all told was out0 kept f. subst
+          (λ n. Feeds rest all (left_at c2.desk) told was (before a.before) out0 (out_in (history a.files)) c2.desk.reply.sink n kept)
+          (ap (λ n. n + 1) (sym next.1))
+          (feeds-step fields rest all (left_at c.desk) (left_at c2.desk) told was (before a.before) out0 (out_in (history a.files)) c.desk.reply.sink
+          c2.desk.reply.sink (c.desk.answered + 1) kept f next.0);
+      told = (refl, ([], tells-none a.is_live (history a.files)));
+      leads = record { place = led.0; state = led.1; count = omega (arith, next.1) };
+    }
+
+-- what was answered so far was put
+pub put-fed : {O F G : Type 0} (before : O → Option (List ℕ)) (history : F → Option History) (c c2 : Clerk G) (a a2 : Answers O F)
+    → c2.desk.site ≡ c.desk.site → c2.desk.window ≡ c.desk.window → c2.desk.answered ≡ c.desk.answered → c2.desk.reply.sink ≡ []
+    → Puts (before a.before) (before a2.before) (out_in (history a.files)) (out_in (history a2.files)) c.desk.reply.sink
+    → (a2.is_live ≡ a.is_live) × ((text : List ℕ) × Tells a.is_live (history a.files) (history a2.files) text [])
+    → HasFed before history [] c c2 a a2
+put-fed before history c c2 a a2 site window answered empty puts told = record {
+  goes = λ rest all told was out0 kept f. rw (site, window, answered, empty)
+      (feeds-put rest all (left_at c.desk) told was (before a.before) (before a2.before) out0 (out_in (history a.files)) (out_in (history a2.files))
+      c.desk.reply.sink (c.desk.answered + 1) kept f puts);
+  told = told;
+  leads = rw (site, window, answered) (record { place = refl; state = refl; count = omega arith });
+}
+
+pub put-fails : {O F G : Type 0} (before : O → Option (List ℕ)) (history : F → Option History) (c : Clerk G) (a a2 : Answers O F)
+    → PutsFront (before a.before) (before a2.before) (out_in (history a.files)) (out_in (history a2.files)) c.desk.reply.sink
+    → (a2.is_live ≡ a.is_live) × ((text : List ℕ) × (due : List ℕ) × Tells a.is_live (history a.files) (history a2.files) text due)
+    → FailsFed before history [] c a a2
+put-fails before history c a a2 front told = record {
+  ends = λ rest all told was out0 kept f. feeds-put-ends rest all (left_at c.desk) told was (before a.before) (before a2.before) out0
+      (out_in (history a.files)) (out_in (history a2.files)) c.desk.reply.sink (c.desk.answered + 1) kept f front;
+  told = told;
+}
+
+pub put-rows : {T E O F G : Type 0} (before : O → Option (List ℕ)) (history : F → Option History) (c c2 : Clerk G) (a a2 : Answers O F) (r : Result T E)
+    → c2.desk.site ≡ c.desk.site → c2.desk.window ≡ c.desk.window → c2.desk.answered ≡ c.desk.answered → c2.desk.reply.sink ≡ []
+    → OnOk r (Puts (before a.before) (before a2.before) (out_in (history a.files)) (out_in (history a2.files)) c.desk.reply.sink)
+    → OnErr r (PutsFront (before a.before) (before a2.before) (out_in (history a.files)) (out_in (history a2.files)) c.desk.reply.sink)
+    → HasTold a.is_live a2.is_live (history a.files) (history a2.files) r → FeedsRows before history [] c c2 a a2 r
+put-rows before history c c2 a a2 (Ok x) site window answered empty puts front told = put-fed before history c c2 a a2 site window answered empty puts told
+put-rows before history c c2 a a2 (Err e) site window answered empty puts front told = put-fails before history c a a2 front told
+
+pub finish-fails : {O F G : Type 0} (before : O → Option (List ℕ)) (history : F → Option History) (c : Clerk G) (more : Account) (a a2 : Answers O F)
+    → FinishedFront (left_at c.desk) more c.desk.reply.sink (before a.before) (before a2.before) (out_in (history a.files)) (out_in (history a2.files))
+    → (a2.is_live ≡ a.is_live) × ((text : List ℕ) × (due : List ℕ) × Tells a.is_live (history a.files) (history a2.files) text due)
+    → FailsFed before history [] c a a2
+finish-fails before history c more a a2 front told = record {
+  ends = λ rest all told was out0 kept f. feeds-finish-ends rest all (left_at c.desk) more told was (before a.before) (before a2.before) out0
+      (out_in (history a.files)) (out_in (history a2.files)) c.desk.reply.sink (c.desk.answered + 1) kept f front;
+  told = told;
+}
+
+-- what a clerk holds is answered, and nothing more is
+pub finish-ends : {T E O F G : Type 0} (before : O → Option (List ℕ)) (history : F → Option History) (c c2 : Clerk G) (a a2 : Answers O F) (r : Result T E)
+    → Finishes before history c c2 a a2 r → FailsFed before history [] c a a2
+finish-ends before history c c2 a a2 (Ok x) f =
+    finish-fails before history c (told_by c2.desk.site (c.desk.answered + 1)) a a2
+    (inr (f.ok.0, f.ok.1, puts-all (before a.before) (before a2.before) (out_in (history a.files)) (out_in (history a2.files)) f.ok.0 f.ok.2))
+    (f.told.0, (f.told.1.0, [], f.told.1.1))
+finish-ends before history c c2 a a2 (Err e) f = finish-fails before history c (told_by c2.desk.site (c.desk.answered + 1)) a a2 f.err f.told
+
+-- ---- many records, some of which are answered
+
+-- of these records the first were answered, and the others are these inputs
+pub record HasFedSome {O F G : Type 0} (before : O → Option (List ℕ)) (history : F → Option History) (rows : List (List (List ℕ))) (ps : List Input)
+    (c c2 : Clerk G) (a a2 : Answers O F) : Type 0 where
+  pub done : List (List (List ℕ))
+  pub left : List (List (List ℕ))
+  pub parts : rows ≡ done ++ left
+  pub inputs : AreInputs c2.desk.site.place.sites left ps
+  pub fed : HasFed before history done c c2 a a2
+
+pub some-starts : {O F G : Type 0} (before : O → Option (List ℕ)) (history : F → Option History) (rows : List (List (List ℕ))) (ps all : List Input)
+    (c : Clerk G) (a : Answers O F) → all ≡ ps → AreInputs c.desk.site.place.sites rows ps → HasFedSome before history rows all c c a a
+some-starts before history rows ps all c a is inputs =
+    record { done = []; left = rows; parts = refl; inputs = subst (AreInputs c.desk.site.place.sites rows) (sym is) inputs; fed = fed-none before history c a }
+
+pub record IsSplit (sites : ℕ) (rows : List (List (List ℕ))) (ps qs : List Input) : Type 0 where
+  pub first : List (List (List ℕ))
+  pub later : List (List (List ℕ))
+  pub parts : rows ≡ first ++ later
+  pub ones : AreInputs sites first ps
+  pub others : AreInputs sites later qs
+
+pub inputs-split : (sites : ℕ) (rows : List (List (List ℕ))) (ps qs : List Input) → AreInputs sites rows (ps ++ qs) → IsSplit sites rows ps qs
+unfolding AreInputs
+inputs-split sites rows [] qs h = record { first = []; later = rows; parts = refl; ones = tt; others = h }
+inputs-split sites [] (p ∷ ps) qs h = absurd h
+inputs-split sites (r ∷ rows) (p ∷ ps) qs h =
+    let s = inputs-split sites rows ps qs h.1 in
+    record { first = r ∷ s.first; later = s.later; parts = ap (λ t. r ∷ t) s.parts; ones = (h.0, s.ones); others = s.others }
+
+pub some-known : {O F G : Type 0} (before : O → Option (List ℕ)) (history : F → Option History) (rows : List (List (List ℕ))) (all ps qs : List Input)
+    (c c2 : Clerk G) (a a2 : Answers O F) → HasFedSome before history rows all c c2 a a2 → all ≡ ps ++ qs
+    → (first : List (List (List ℕ))) × AreInputs c2.desk.site.place.sites first ps
+some-known before history rows all ps qs c c2 a a2 h is =
+    let s = inputs-split c2.desk.site.place.sites h.left ps qs (subst (AreInputs c2.desk.site.place.sites h.left) is h.inputs) in (s.first, s.ones)
+
+one-fits : (sites : ℕ) (rows : List (List (List ℕ))) (p : Input) (qs : List Input) → AreInputs sites rows (p ∷ qs) → FitsIn sites p
+unfolding AreInputs
+one-fits sites [] p qs h = absurd h
+one-fits sites (fields ∷ rows) p qs h = h.0.fits
+
+pub some-fits : {O F G : Type 0} (before : O → Option (List ℕ)) (history : F → Option History) (rows : List (List (List ℕ))) (all : List Input) (p : Input)
+    (qs : List Input) (c c2 : Clerk G) (a a2 : Answers O F) → HasFedSome before history rows all c c2 a a2 → all ≡ p ∷ qs → FitsIn c2.desk.site.place.sites p
+some-fits before history rows all p qs c c2 a a2 h is =
+    one-fits c2.desk.site.place.sites h.left p qs (subst (AreInputs c2.desk.site.place.sites h.left) is h.inputs)
+
+pub first-fits : (sites : ℕ) (rows : List (List (List ℕ))) (p : Input) → AreInputs sites rows (p ∷ []) → FitsIn sites p
+first-fits sites rows p h = one-fits sites rows p [] h
+
+pub some-next : {O F G : Type 0} (before : O → Option (List ℕ)) (history : F → Option History) (rows : List (List (List ℕ))) (all ps qs : List Input)
+    (c c1 c2 : Clerk G) (a a1 a2 : Answers O F) → HasFedSome before history rows all c c1 a a1 → all ≡ ps ++ qs
+    → ((first : List (List (List ℕ))) → AreInputs c1.desk.site.place.sites first ps → HasFed before history first c1 c2 a1 a2)
+    → HasFedSome before history rows qs c c2 a a2
+some-next before history rows all ps qs c c1 c2 a a1 a2 h is next =
+    let s = inputs-split c1.desk.site.place.sites h.left ps qs (subst (AreInputs c1.desk.site.place.sites h.left) is h.inputs) in
+    let more = next s.first s.ones in
+    record {
+      done = h.done ++ s.first;
+      left = s.later;
+      parts = h.parts ∙ ap (λ t. h.done ++ t) s.parts ∙ sym (append_assoc h.done s.first s.later);
+      inputs = subst (λ p. AreInputs p.sites s.later qs) (sym more.leads.place) s.others;
+      fed = fed-both before history h.done s.first c c1 c2 a a1 a2 h.fed more;
+    }
+
+pub some-fails : {O F G : Type 0} (before : O → Option (List ℕ)) (history : F → Option History) (rows : List (List (List ℕ))) (all ps qs : List Input)
+    (c c1 : Clerk G) (a a1 a2 : Answers O F) → HasFedSome before history rows all c c1 a a1 → all ≡ ps ++ qs
+    → ((first : List (List (List ℕ))) → AreInputs c1.desk.site.place.sites first ps → FailsFed before history first c1 a1 a2)
+    → FailsFed before history rows c a a2
+some-fails before history rows all ps qs c c1 a a1 a2 h is next =
+    let s = inputs-split c1.desk.site.place.sites h.left ps qs (subst (AreInputs c1.desk.site.place.sites h.left) is h.inputs) in
+    subst (λ t. FailsFed before history t c a a2)
+    (append_assoc h.done s.first s.later ∙ ap (λ t. h.done ++ t) (sym s.parts) ∙ sym h.parts)
+    (fails-sooner before history (h.done ++ s.first) s.later c a a2
+    (fails-later before history h.done s.first c c1 a a1 a2 h.fed (next s.first s.ones)))
+
+none-of : (sites : ℕ) (rows : List (List (List ℕ))) → AreInputs sites rows [] → rows ≡ []
+unfolding AreInputs
+none-of sites [] h = refl
+none-of sites (fields ∷ rows) h = absurd h
+
+pub some-all : {O F G : Type 0} (before : O → Option (List ℕ)) (history : F → Option History) (rows : List (List (List ℕ))) (ps : List Input)
+    (c c2 : Clerk G) (a a2 : Answers O F) → ps ≡ [] → HasFedSome before history rows ps c c2 a a2 → HasFed before history rows c c2 a a2
+some-all before history rows ps c c2 a a2 none h =
+    let last = none-of c2.desk.site.place.sites h.left (subst (AreInputs c2.desk.site.place.sites h.left) none h.inputs) in
+    subst (λ t. HasFed before history t c c2 a a2) (sym (h.parts ∙ ap (λ t. h.done ++ t) last ∙ append-nil h.done)) h.fed
+
+-- of one record
+pub one-fed : {T E O F G : Type 0} (before : O → Option (List ℕ)) (history : F → Option History) (p : Input) (c c2 : Clerk G) (a a2 : Answers O F)
+    (r : Result T E) → ((fields : List (List ℕ)) → IsInput c.desk.site.place.sites fields p → FeedsRows before history (fields ∷ []) c c2 a a2 r)
+    → FeedsInputs before history (p ∷ []) c c2 a a2 r
+unfolding AreInputs
+one-fed before history p c c2 a a2 r h [] inputs = absurd inputs
+one-fed before history p c c2 a a2 r h (fields ∷ []) inputs = h fields inputs.0
+one-fed before history p c c2 a a2 r h (fields ∷ (more ∷ rows)) inputs = absurd inputs.1
+
+pub one-input : (sites : ℕ) (fields : List (List ℕ)) (p : Input) → IsInput sites fields p → AreInputs sites (fields ∷ []) (p ∷ [])
+unfolding AreInputs
+one-input sites fields p is = (is, tt)
+
+-- ---- the records that a reader gives
+
+pub record HasFedGiven {R O F G : Type 0} (before : O → Option (List ℕ)) (history : F → Option History) (rem : R → Option (List ℕ)) (records : Records R)
+    (rows : List (List (List ℕ))) (c c2 : Clerk G) (a a2 : Answers O F) : Type 0 where
+  pub done : List (List (List ℕ))
+  pub left : List (List (List ℕ))
+  pub parts : rows ≡ done ++ left
+  pub gives : Gives rem records left
+  pub fed : HasFed before history done c c2 a a2
+
+pub given-starts : {R O F G : Type 0} (before : O → Option (List ℕ)) (history : F → Option History) (rem : R → Option (List ℕ)) (records : Records R)
+    (rows : List (List (List ℕ))) (c : Clerk G) (a : Answers O F) → Gives rem records rows → HasFedGiven before history rem records rows c c a a
+given-starts before history rem records rows c a gives =
+    record { done = []; left = rows; parts = refl; gives = gives; fed = fed-none before history c a }
+
+pub given-next : {R O F G : Type 0} (before : O → Option (List ℕ)) (history : F → Option History) (rem : R → Option (List ℕ)) (r r2 : Records R)
+    (rows : List (List (List ℕ))) (c c1 c2 : Clerk G) (a a1 a2 : Answers O F) → HasFedGiven before history rem r rows c c1 a a1 → Advances rem r r2 true
+    → HasFed before history (fields_now r2 ∷ []) c1 c2 a1 a2 → HasFedGiven before history rem r2 rows c c2 a a2
+given-next before history rem r r2 rows c c1 c2 a a1 a2 h takes more =
+    let next = takes h.left h.gives in
+    record {
+      done = h.done ++ fields_now r2 ∷ [];
+      left = next.0;
+      parts = h.parts ∙ ap (λ t. h.done ++ t) next.1 ∙ sym (append_assoc h.done (fields_now r2 ∷ []) next.0);
+      gives = next.2;
+      fed = fed-both before history h.done (fields_now r2 ∷ []) c c1 c2 a a1 a2 h.fed more;
+    }
+
+-- a fault came before the next record was read
+pub given-stops : {R O F G : Type 0} (before : O → Option (List ℕ)) (history : F → Option History) (rem : R → Option (List ℕ)) (r : Records R)
+    (rows : List (List (List ℕ))) (c c1 : Clerk G) (a a1 : Answers O F) → HasFedGiven before history rem r rows c c1 a a1
+    → FailsFed before history rows c a a1
+given-stops before history rem r rows c c1 a a1 h =
+    subst (λ t. FailsFed before history t c a a1) (sym h.parts)
+    (fails-sooner before history h.done h.left c a a1 (fed-fails before history h.done c c1 a a1 h.fed))
+
+-- or while it was answered
+pub given-fails : {R O F G : Type 0} (before : O → Option (List ℕ)) (history : F → Option History) (rem : R → Option (List ℕ)) (r r2 : Records R)
+    (rows : List (List (List ℕ))) (c c1 : Clerk G) (a a1 a2 : Answers O F) → HasFedGiven before history rem r rows c c1 a a1 → Advances rem r r2 true
+    → FailsFed before history (fields_now r2 ∷ []) c1 a1 a2 → FailsFed before history rows c a a2
+given-fails before history rem r r2 rows c c1 a a1 a2 h takes more =
+    let next = takes h.left h.gives in
+    subst (λ t. FailsFed before history t c a a2)
+    (append_assoc h.done (fields_now r2 ∷ []) next.0 ∙ ap (λ t. h.done ++ t) (sym next.1) ∙ sym h.parts)
+    (fails-sooner before history (h.done ++ fields_now r2 ∷ []) next.0 c a a2
+    (fails-later before history h.done (fields_now r2 ∷ []) c c1 a a1 a2 h.fed more))
+
+pub given-all : {R O F G : Type 0} (before : O → Option (List ℕ)) (history : F → Option History) (rem : R → Option (List ℕ)) (r r2 : Records R)
+    (rows : List (List (List ℕ))) (c c2 : Clerk G) (a a2 : Answers O F) → HasFedGiven before history rem r rows c c2 a a2 → Advances rem r r2 false
+    → HasFed before history rows c c2 a a2
+given-all before history rem r r2 rows c c2 a a2 h end =
+    subst (λ t. HasFed before history t c c2 a a2) (sym (h.parts ∙ ap (λ t. h.done ++ t) (end h.left h.gives) ∙ append-nil h.done)) h.fed
+
+-- ---- a text of whole records
+
+chunk-starts : {O F G : Type 0} (before : O → Option (List ℕ)) (history : F → Option History) (chunk : List ℕ) (c : Clerk G) (a : Answers O F)
+    → IsIdle c.desk.window.items c.desk.reply.sink → IsWhole chunk → (all : Account) (told was : List ℕ) (out0 : Option (List ℕ)) (kept : List ℕ)
+    → Rests all (left_at c.desk) told was (before a.before) out0 (out_in (history a.files)) (c.desk.answered + 1) kept
+    → FeedsAt before history (input_records chunk ++ []) c a all told was out0 (kept ++ chunk)
+chunk-starts before history chunk c a idle whole all told was out0 kept rests =
+    subst (λ t. Feeds t all (left_at c.desk) told was (before a.before) out0 (out_in (history a.files)) c.desk.reply.sink (c.desk.answered + 1) (kept ++ chunk))
+    (sym (append-nil (input_records chunk)))
+    (subst (λ t. Feeds (input_records chunk) all (left_at c.desk) told was (before a.before) out0 (out_in (history a.files)) t (c.desk.answered + 1) (kept ++ chunk))
+    (sym idle.empty)
+    (feeds-start all (left_at c.desk) told was (before a.before) out0 (out_in (history a.files)) (c.desk.answered + 1) kept chunk rests whole))
+
+-- its records are answered, and then what is held is
+pub chunk-done : {T E O F G : Type 0} (before : O → Option (List ℕ)) (history : F → Option History) (chunk : List ℕ) (c c1 c2 : Clerk G) (a a1 a2 : Answers O F)
+    (r : Result T E) → IsIdle c.desk.window.items c.desk.reply.sink → IsWhole chunk → HasFed before history (input_records chunk) c c1 a a1
+    → Finishes before history c1 c2 a1 a2 r → FeedsChunk before history chunk c c2 a a2 r
+chunk-done before history chunk c c1 c2 a a1 a2 r idle whole fed ends =
+    let starts = λ (all : Account) (told was : List ℕ) (out0 : Option (List ℕ)) (kept : List ℕ)
+    (rests : Rests all (left_at c.desk) told was (before a.before) out0 (out_in (history a.files)) (c.desk.answered + 1) kept).
+    fed.goes [] all told was out0 (kept ++ chunk) (chunk-starts before history chunk c a idle whole all told was out0 kept rests) in
+    record {
+      ok = on_ok_both r (λ f same. rests-told c.desk.site c.desk.window.items (c.desk.answered + 1) _ _ _ _ idle.window (λ all told was out0 kept rests.
+          subst (λ n. Rests all (told_by c2.desk.site (n + 1)) told was (before a2.before) out0 (out_in (history a2.files)) (n + 1) (kept ++ chunk)) (sym same.0)
+          (feeds-rest all (told_by c2.desk.site (c1.desk.answered + 1)) told was (before a2.before) out0 (out_in (history a2.files)) (c1.desk.answered + 1) (kept ++ chunk)
+          (feeds-finish [] all (left_at c1.desk) (told_by c2.desk.site (c1.desk.answered + 1)) told was (before a1.before) (before a2.before) out0
+          (out_in (history a1.files)) (out_in (history a2.files)) c1.desk.reply.sink (c1.desk.answered + 1) (kept ++ chunk)
+          (starts all told was out0 kept rests) f)
+          (none-told c2.desk.site (c1.desk.answered + 1)) (whole-append kept chunk rests.answered.whole whole)))) ends.ok ends.same;
+      idle = ends.idle;
+      err = on_err_weaker r (λ f. rests-told c.desk.site c.desk.window.items (c.desk.answered + 1) _ _ _ _ idle.window (λ all told was out0 kept rests.
+          feeds-finish-ends [] all (left_at c1.desk) (told_by c2.desk.site (c1.desk.answered + 1)) told was (before a1.before) (before a2.before) out0
+          (out_in (history a1.files)) (out_in (history a2.files)) c1.desk.reply.sink (c1.desk.answered + 1) (kept ++ chunk)
+          (starts all told was out0 kept rests) f)) ends.err;
+      told = told-more a.is_live a1.is_live a2.is_live (history a.files) (history a1.files) (history a2.files) r fed.told.0 fed.told.1.0 fed.told.1.1 ends.told;
+      leads = on_ok_both r (chunk-led c.desk.site c1.desk.site c2.desk.site c.desk.window.items c1.desk.window.items c2.desk.window.items c.desk.answered
+          c1.desk.answered c2.desk.answered (input_records chunk) idle.window fed.leads) ends.same (on_ok_weaker r (λ i. i.window) ends.idle);
+    }
+
+-- they could not all be
+pub chunk-failed : {T E O F G : Type 0} (before : O → Option (List ℕ)) (history : F → Option History) (chunk : List ℕ) (c c2 : Clerk G) (a a2 : Answers O F)
+    (r : Result T E) → IsErr r → IsIdle c.desk.window.items c.desk.reply.sink → IsWhole chunk → FailsFed before history (input_records chunk) c a a2
+    → FeedsChunk before history chunk c c2 a a2 r
+chunk-failed before history chunk c c2 a a2 r bad idle whole fails = record {
+  ok = ok-of-err _ r bad;
+  idle = ok-of-err _ r bad;
+  err = on_err r (rests-told c.desk.site c.desk.window.items (c.desk.answered + 1) _ _ _ _ idle.window (λ all told was out0 kept rests.
+      fails.ends [] all told was out0 (kept ++ chunk) (chunk-starts before history chunk c a idle whole all told was out0 kept rests)));
+  told = told-failed a.is_live a2.is_live (history a.files) (history a2.files) r bad fails.told;
+  leads = ok-of-err _ r bad;
+}

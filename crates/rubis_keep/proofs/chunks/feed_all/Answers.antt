@@ -1,0 +1,7 @@
+use Rattle.rubis_keep.proofs.ReadersFacts.{front-rest}
+use Rattle.rubis_keep.proofs.chunks.feed_all.Goals as goal
+
+pub returns-clause-fed : goal.returns-clause-fed
+returns-clause-fed g c =
+    front-rest _ _ c.args.chunk.now c.in_ok-passed.passed _ _ _ _ _ _ c.feed_text-2.result c.in_ok-passed.ensures.fed
+    (rw c.split_at.ensures.back at c.feed_text-2.ensures)

@@ -1,0 +1,22 @@
+use Rattle.rubis_keep.proofs.AskFacts.{replies-none, silent-none}
+use Rattle.rubis_keep.proofs.EachFacts.{on_err}
+use Rattle.rubis_keep.proofs.HistoryFacts.{stays-none}
+use Rattle.rubis_keep.proofs.LifeFacts.{run-unread}
+use Rattle.rubis_keep.proofs.SafeFacts.{ok-of-err}
+use Rattle.rubis_keep.proofs.helped.run_helped.Goals as goal
+
+pub returns-in_err-unread : goal.returns-in_err-unread
+returns-in_err-unread g c = record {
+  ok = ok-of-err _ c.from_residual.result c.from_residual.ensures.0;
+  err = on_err _ (run-unread _ _ _ _ _ _ _);
+  safe = λ off h kept old is o opened. rw is (stays-none _ h opened.safe);
+  asked = λ kept old o. replies-none _ _ kept _ _ _ c.from_residual.result c.from_residual.ensures.0 (silent-none _);
+}
+
+pub returns-in_err-crew : goal.returns-in_err-crew
+returns-in_err-crew g c = record {
+  ok = ok-of-err _ c.from_residual-in_err-crew.result c.from_residual-in_err-crew.ensures.0;
+  err = on_err _ (run-unread _ _ _ _ _ _ _);
+  safe = λ off h kept old is o opened. rw is (stays-none _ h opened.safe);
+  asked = λ kept old o. replies-none _ _ kept _ _ _ c.from_residual-in_err-crew.result c.from_residual-in_err-crew.ensures.0 (silent-none _);
+}

@@ -1,0 +1,64 @@
+use Rattle.std.proofs.Common.{◌∙◌, refl}
+use Rattle.std.proofs.lemmas.Result.{on_ok_weaker}
+use Rattle.rubis_keep.proofs.EachFacts.{on_err, on_err_weaker}
+use Rattle.rubis_keep.proofs.HistoryFacts.{stays-none, still-flushed, still-none, told-kept}
+use Rattle.rubis_keep.proofs.LifeFacts.{run-begins, run-ended, run-lived, run-unflushed, run-unread, run-unreplayed}
+use Rattle.rubis_keep.proofs.AskFacts.{replies-after, replies-none, silent-flushed, silent-more, silent-none, silent-still, told-silent}
+use Rattle.rubis_keep.proofs.SafeFacts.{ok-of-err}
+use Rattle.rubis_keep.proofs.StartFacts.{run-safe, run-safe-start, run-safe-unreplayed}
+use Rattle.rubis_keep.proofs.run.run_lines.Goals as goal
+
+pub returns-in_err-check_kept-clause-runs : goal.returns-in_err-check_kept-clause-runs
+returns-in_err-check_kept-clause-runs g c = record {
+  ok = ok-of-err _ c.from_residual.result c.from_residual.ensures.0;
+  err = on_err _ (run-unread _ _ _ _ _ _ _);
+  safe = λ off h kept old is o opened. rw is (stays-none _ h opened.safe);
+  asked = λ kept old o. replies-none _ _ kept _ _ _ c.from_residual.result c.from_residual.ensures.0 (silent-none _);
+}
+
+pub returns-in_err-flush-clause-runs : goal.returns-in_err-flush-clause-runs
+returns-in_err-flush-clause-runs g c = record {
+  ok = ok-of-err _ c.from_residual-in_err-flush.result c.from_residual-in_err-flush.ensures.0;
+  err = let still = still-none _ _ c.in_err-flush.ensures in
+      on_err _ (run-unflushed _ _ _ _ _ _ _ _ _ still.0 still.1);
+  safe = λ off h kept old is o opened. run-safe-start _ h _ opened (rw is at c.in_err-flush.ensures);
+  asked = λ kept old o. replies-none _ _ kept _ _ _ c.from_residual-in_err-flush.result c.from_residual-in_err-flush.ensures.0 (silent-still _ _ c.in_err-flush.ensures);
+}
+
+pub returns-in_err-replay-clause-runs : goal.returns-in_err-replay-clause-runs
+returns-in_err-replay-clause-runs g c = record {
+  ok = ok-of-err _ c.from_residual-in_err-replay.result c.from_residual-in_err-replay.ensures.0;
+  err = let still = still-flushed _ _ c.in_ok-flush.ensures in
+      on_err _ (run-unreplayed _ _ _ _ _ _ _ _ _ _ _ c.in_ok-check_kept.ensures still.0 still.1 (told-kept _ _ _ _ c.replay.result c.replay.ensures.told)
+      c.in_err-replay.ensures.err);
+  safe = λ off h kept old is o opened. run-safe-unreplayed _ _ _ _ h _ _ _ _ c.replay.result kept old off c.in_ok-check_kept.ensures o opened (rw is at c.in_ok-flush.ensures) c.replay.ensures.told
+      c.in_err-replay.ensures.err;
+  asked = λ kept old o. replies-none _ _ kept _ _ _ c.from_residual-in_err-replay.result c.from_residual-in_err-replay.ensures.0
+      (silent-more _ _ _ (silent-flushed _ _ c.in_ok-flush.ensures) (told-silent _ _ _ _ c.replay.result c.replay.ensures.told));
+}
+
+pub returns-clause-runs : goal.returns-clause-runs
+returns-clause-runs g c = record {
+  ok = let still = still-flushed _ _ c.in_ok-flush.ensures in
+      on_ok_weaker c.go_on.result (run-lived _ _ _ _ _ _ _ _ _ _ _ _ _ _ _ _ _ _ c.in_ok-check_kept.ensures still.0 still.1
+      (told-kept _ _ _ _ c.replay.result c.replay.ensures.told) c.in_ok-replay.ensures.ok) c.go_on.ensures.lives.ok;
+  err = let still = still-flushed _ _ c.in_ok-flush.ensures in
+      on_err_weaker c.go_on.result (run-ended _ _ _ _ _ _ _ _ _ _ _ _ _ _ _ _ _ _ c.in_ok-check_kept.ensures still.0 still.1
+      (told-kept _ _ _ _ c.replay.result c.replay.ensures.told) c.in_ok-replay.ensures.ok) c.go_on.ensures.lives.err;
+  safe = λ off h kept old is o opened. run-safe _ _ _ _ _ _ h _ _ _ _ _ _ _ kept old off c.in_ok-check_kept.ensures o opened (rw is at c.in_ok-flush.ensures) c.in_ok-replay.ensures.told
+      c.in_ok-replay.ensures.ok c.go_on.ensures.lives.safe;
+  asked = λ kept old o. let still = still-flushed _ _ c.in_ok-flush.ensures in
+      let b = run-begins _ _ _ _ _ _ _ c.in_ok-check_kept.ensures still.0 still.1 kept old o in
+      replies-after _ _ kept _ _ _ _ _ c.go_on.result
+      (silent-more _ _ _ (silent-flushed _ _ c.in_ok-flush.ensures) (told-silent _ _ _ _ c.replay.result c.replay.ensures.told))
+      (c.go_on.ensures.lives.asked _ _ kept b.sound (c.in_ok-replay.ensures.led kept old b));
+}
+
+pub returns-in_err-replay-clause-readers : goal.returns-in_err-replay-clause-readers
+returns-in_err-replay-clause-readers g c = c.replay.ensures.readers
+
+pub returns-clause-readers : goal.returns-clause-readers
+returns-clause-readers g c = c.go_on.ensures.readers ∙ c.replay.ensures.readers
+
+pub go_on-requires-clause-free : goal.go_on-requires-clause-free
+go_on-requires-clause-free g c κs within = c.in_ok-replay.ensures.free
