@@ -10,20 +10,6 @@ use Rattle.rubis_engine.specs.Accounts.Ending.{AtEnd, Cut}
 use Rattle.rubis_engine.specs.Reading.{Gives}
 use Rattle.rubis_engine.specs.Text.{input_records}
 
--- the records that were answered, those to come, and what was written: `all` is the account of all records, `more` that
--- of those to come, and `number` is that of the next record
-pub record HasComeSoFar {R : Type 0} (rem : R → Option (List ℕ)) (records : Records R) (all more : Account)
-    (old now : Option (List ℕ)) (sink : List ℕ) (number : ℕ) (input : List ℕ) : Type 0 where
-  pub done : List (List (List ℕ))
-  pub rest : List (List (List ℕ))
-  pub written : List ℕ
-  pub parts : input_records input ≡ done ++ rest
-  pub count : length done + 1 ≡ number
-  pub gives : Gives rem records rest
-  pub appended : Appends old now written
-  pub told : (ending : Ending) (to_come : List (List (List ℕ))) → all.text ending (done ++ to_come) ≡ written ++ (sink ++ more.text ending to_come)
-  pub counted : (to_come : List (List (List ℕ))) → all.read (done ++ to_come) ≡ length done + more.read to_come
-
 -- what was held is written out, and the text stays what it was
 pub record Drained (old new : Account) (held : List ℕ) (before after : Option (List ℕ)) : Type 0 where
   pub out : List ℕ

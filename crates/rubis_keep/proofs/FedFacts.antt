@@ -59,11 +59,6 @@ told-on : (live live2 live3 : Bool) (a b c : Option History) → (live2 ≡ live
 told-on live live2 live3 a b c (e, (text, f)) (g, (text2, due, t)) =
     (g ∙ e, (text ++ text2, due, tells-more live a b c text text2 due f (subst (λ l. Tells l b c text2 due) e t)))
 
-pub told-of-err : {T E : Type 0} (live live2 : Bool) (a b : Option History) (r : Result T E) → IsErr r → HasTold live live2 a b r
-    → (live2 ≡ live) × ((text : List ℕ) × (due : List ℕ) × Tells live a b text due)
-told-of-err live live2 a b (Ok x) bad t = absurd (cc bad)
-told-of-err live live2 a b (Err e) bad t = t
-
 -- ---- records that are answered
 
 pub fed-none : {O F G : Type 0} (before : O → Option (List ℕ)) (history : F → Option History) (c : Clerk G) (a : Answers O F) → HasFed before history [] c c a a

@@ -342,11 +342,6 @@ pub tells-later : (live live2 live3 : Bool) (a b c : Option History) → live2 �
 tells-later live live2 live3 a b c e text f (g, (text2, t)) =
     (g ∙ e, (text ++ text2, tells-more live a b c text text2 [] f (subst (λ l. Tells l b c text2 []) e t)))
 
--- a fault after all that was told was shown
-pub told-late : {T E : Type 0} (live live2 : Bool) (a b : Option History) (r : Result T E) → IsErr r
-    → (live2 ≡ live) × ((text : List ℕ) × Tells live a b text []) → HasTold live live2 a b r
-told-late live live2 a b r e (same, (text, t)) = told-failed live live2 a b r e (same, (text, [], t))
-
 -- ---- bytes that are written one part after the other
 
 map-append : (event : ℕ → Event) (xs ys : List ℕ) → map event (xs ++ ys) ≡ map event xs ++ map event ys

@@ -19,10 +19,6 @@ use Rattle.rubis_keep.specs.declared.answers.Answers.{Answers}
 use Rattle.rubis_keep.specs.declared.site.Clerk.{Clerk}
 use Rattle.rubis_keep.proofs.FedFacts.{fails-later, fails-sooner, fed-both, fed-fails, fed-none, feeds-on}
 
--- they read as before
-pub readers-kept : (old new : Pieces) → KeepFor old new → readers_of new ≡ readers_of old
-readers-kept old new keeps = rw (keeps.0, keeps.1) refl
-
 -- the number of sites is that of before
 pub read-on : (sites sites2 : ℕ) (old new : Option Pieces) → readers new ≡ readers old → sites2 ≡ sites → ReadFor sites old → ReadFor sites2 new
 read-on sites sites2 None None same is fits = tt
@@ -141,7 +137,3 @@ crew-kept (Some p) (Some q) same =
 -- the crew is told that no more comes
 pub over-some : (old mid : Option Pieces) (p q : Pieces) → readers mid ≡ readers old → mid ≡ Some p → IsOver p.lead.crew q.lead → AreOver old (Some q)
 over-some old mid p q same is over = (ap Some over.0 ∙ subst (λ m. crew m ≡ crew old) is (crew-kept old mid same), (refl, over.1, over.2))
-
--- there is none
-pub over-none : (old mid : Option Pieces) → readers mid ≡ readers old → mid ≡ None → AreOver old mid
-over-none old mid same is = (crew-kept old mid same, subst (λ m. IfSome m (λ p. IsOver p.lead.crew p.lead)) (sym is) tt)
