@@ -1,14 +1,11 @@
 -- How a run goes on.
-use Rattle.std.proofs.Common.{◌≡◌, ◌+◌, ◌∷◌, [], ◌++◌, ◌∙◌, ℕ, List, length, Option, Bool, true, false, sym, ap, subst, arith}
-use Rattle.std.proofs.Common.{append_assoc, length-append}
+use Rattle.std.proofs.Common.{◌≡◌, ◌∙◌, ℕ, List, Option, Bool, false, sym, subst}
 use Rattle.std.specs.Prelude.{IfNone, IfOk, IfSome, IsErr, IsErrAnd, IsErrOf, OnOk, None, Some, Result, Ok, Err, is_some}
 use Rattle.rubis_engine.specs.declared.record_list.Records.{Records}
-use Rattle.rubis_engine.specs.declared.service.Course.TheVariants.{GoesOn}
-use Rattle.csv.proofs.WriteFacts.{appends-more}
-use Rattle.rubis_engine.specs.Accounts.{Account, AnswersRecord, Keeps}
-use Rattle.rubis_engine.specs.Reading.{Advances, fields_now}
+use Rattle.rubis_engine.specs.Accounts.{Account}
+use Rattle.rubis_engine.specs.Reading.{Advances}
 use Rattle.rubis_engine.specs.Text.{input_records}
-use Rattle.rubis_engine.specs.Progress.{Drained, HasComeSoFar, IsDone, IsRun, WrotePrefix}
+use Rattle.rubis_engine.specs.Progress.{IsDone, IsRun, WrotePrefix}
 use Rattle.rubis_engine.specs.declared.fault.Count.{Count}
 use Rattle.rubis_engine.specs.declared.fault.RunFault.{RunFault}
 
