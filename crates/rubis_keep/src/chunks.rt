@@ -92,8 +92,7 @@ pub(crate) fn feed_chunk<G: Gate, T: Threads + Wait + Sync, O: Read, F: SiteFile
     clerk: &mut Clerk<G>,
     answers: &mut Answers<O, F>,
 ) -> Result<(), KeepFault>
-    requires whole { IsWhole chunk.now }
-    requires idle { IsIdle clerk.old.desk.window.items clerk.old.desk.reply.sink }
+    requires text { IsWhole chunk.now × IsIdle clerk.old.desk.window.items clerk.old.desk.reply.sink }
     requires given { AreGiven chunk.now pieces.old × ReadFor clerk.old.desk.site.place.sites pieces.old }
     ensures chunk { FeedsChunk O.remaining F.history chunk.now clerk.old clerk.new answers.old answers.new result }
     ensures read { HaveReadAll pieces.old pieces.new result }

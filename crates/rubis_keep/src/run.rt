@@ -142,8 +142,7 @@ pub(crate) fn run_lines<
     clerk: &mut Clerk<G>,
     answers: &mut Answers<O, F>,
 ) -> Result<(), KeepFault>
-    requires idle { IsIdle clerk.old.desk.window.items clerk.old.desk.reply.sink }
-    requires fresh { HasReadNone lines.old × (clerk.old.desk.answered ≡ 0) }
+    requires idle { IsIdle clerk.old.desk.window.items clerk.old.desk.reply.sink × HasReadNone lines.old × (clerk.old.desk.answered ≡ 0) }
     requires free { AreFree lines.old.pieces × ReadFor clerk.old.desk.site.place.sites lines.old.pieces }
     ensures runs { Runs clerk.old.desk.site (C.remaining recording.old.first) (P.remaining recording.old.past) (O.remaining answers.old.before) answers.old.is_live
         (R.remaining live.old) (R.remaining live.new) (F.history answers.old.files) (F.history answers.new.files) result }

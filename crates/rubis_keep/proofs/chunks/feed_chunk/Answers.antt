@@ -11,7 +11,7 @@ returns-then-is_empty-clause-chunk g c =
     let none = no-bytes c.args.chunk.now (sym c.is_empty.ensures ∙ c.if-is_empty.true) in
     record {
       ok = rest-stays _ _ _ _ c.args.chunk.now none;
-      idle = c.requires.idle;
+      idle = c.requires.text.1;
       err = tt;
       told = (refl, ([], tells-none _ _));
       leads = led-nowhere c.args.clerk.now.desk.site _ c.args.chunk.now none;
@@ -24,8 +24,8 @@ returns-then-is_empty-clause-read g c =
 
 pub returns-in_err-feed_all-clause-chunk : goal.returns-in_err-feed_all-clause-chunk
 returns-in_err-feed_all-clause-chunk g c =
-    chunk-failed _ _ c.args.chunk.now _ _ _ _ c.from_residual.result c.from_residual.ensures.0 c.requires.idle c.requires.whole c.in_err-feed_all.ensures.fed
+    chunk-failed _ _ c.args.chunk.now _ _ _ _ c.from_residual.result c.from_residual.ensures.0 c.requires.text.1 c.requires.text.0 c.in_err-feed_all.ensures.fed
 
 pub returns-clause-chunk : goal.returns-clause-chunk
 returns-clause-chunk g c =
-    chunk-done _ _ c.args.chunk.now _ _ _ _ _ _ c.finish.result c.requires.idle c.requires.whole c.in_ok-feed_all.ensures.fed c.finish.ensures
+    chunk-done _ _ c.args.chunk.now _ _ _ _ _ _ c.finish.result c.requires.text.1 c.requires.text.0 c.in_ok-feed_all.ensures.fed c.finish.ensures

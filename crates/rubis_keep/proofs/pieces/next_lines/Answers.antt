@@ -86,13 +86,12 @@ returns-in_default-clause-goes g c =
       asked = each-fails _ _ _ _ _ _ _ _ _ _ _ _ _ c.in_ok-came.ensures.ok (kept-silent _ _ _ _ c.in_ok-keep_chunk.ensures);
     }
 
-pub feed_chunk-requires-clause-whole : goal.feed_chunk-requires-clause-whole
-feed_chunk-requires-clause-whole g c κs within =
-    let begun = c.requires.begun in
-    rw c.deref-4.ensures.value (took-whole _ begun.0 [] _ _ _ _ _ _ _ (c.in_ok-came.ensures.ok begun.0 begun.2).0)
-
-pub feed_chunk-requires-clause-idle : goal.feed_chunk-requires-clause-idle
-feed_chunk-requires-clause-idle g c κs within = record { window = c.requires.window; empty = c.requires.empty }
+pub feed_chunk-requires-clause-text : goal.feed_chunk-requires-clause-text
+feed_chunk-requires-clause-text g c κs within =
+    let begun = c.requires.begun in (
+      rw c.deref-4.ensures.value (took-whole _ begun.0 [] _ _ _ _ _ _ _ (c.in_ok-came.ensures.ok begun.0 begun.2).0),
+      record { window = c.requires.window; empty = c.requires.empty },
+    )
 
 pub feed_chunk-requires-clause-given : goal.feed_chunk-requires-clause-given
 feed_chunk-requires-clause-given g c κs within = (
