@@ -33,7 +33,7 @@ use std::sync::Wait;
 use std::thread::Threads;
 
 /// One site: what it has taken in, and its tables, which follow its log. Released shadows are pending until they are
-/// applied to the tables: as one batch once at least `batch` are pending, and before any decision or listing.
+/// applied to the tables: as one batch once `batch` are pending, or more if `arrive_within` lets them wait, and before any decision or listing.
 pub struct Site<G: Gate = Free> {
     intake: Intake,
     follower: Follower<G>,
