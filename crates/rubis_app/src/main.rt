@@ -15,7 +15,7 @@ ghost use Rattle.rubis_app.specs.Statuses.{status_of};
 
 use rubis_audit::{Auditor, Grammar, LogQuestion, Tally, run_auditor, run_check, run_widen};
 use rubis_command::{
-    CheckOptions, FAULT, Invocation, KeepOptions, LackOptions, MISUSE, NOT_WELL, Options, Reading,
+    CheckOptions, FAULT, Invocation, KeepOptions, LackOptions, MISUSE, NOT_WELL, Options, ReadAs,
     SetupOptions, Widening, end, fail, misuse, read_site, read_words, words_of,
 };
 use rubis_keep::{FolderFault, Setup as Place, Wanted, keep_folder};
@@ -185,11 +185,11 @@ fn run_lack<R: Print + Eprint + Input + AllocGlobal + RandomSource + Threads + W
 }
 
 // The command whose records are checked.
-fn grammar_of(reading: Reading) -> Grammar {
+fn grammar_of(reading: ReadAs) -> Grammar {
     match reading {
-        Reading::Site => Grammar::Site,
-        Reading::World => Grammar::World,
-        Reading::Audit => Grammar::Audit,
+        ReadAs::Site => Grammar::Site,
+        ReadAs::World => Grammar::World,
+        ReadAs::Audit => Grammar::Audit,
     }
 }
 

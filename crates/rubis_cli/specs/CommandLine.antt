@@ -14,8 +14,8 @@ use Rattle.rubis_cli.specs.declared.keep_options.KeepOptions.{KeepOptions}
 use Rattle.rubis_cli.specs.declared.options.AuditOptions.{AuditOptions}
 use Rattle.rubis_cli.specs.declared.options.CheckOptions.{CheckOptions}
 use Rattle.rubis_cli.specs.declared.options.LackOptions.{LackOptions}
-use Rattle.rubis_cli.specs.declared.options.Reading.{Reading}
-use Rattle.rubis_cli.specs.declared.options.Reading.TheVariants as reading
+use Rattle.rubis_cli.specs.declared.options.ReadAs.{ReadAs}
+use Rattle.rubis_cli.specs.declared.options.ReadAs.TheVariants as reading
 use Rattle.rubis_cli.specs.declared.options.OptionFault.{OptionFault}
 use Rattle.rubis_cli.specs.declared.options.OptionFault.TheVariants.{Memory, Words}
 use Rattle.rubis_cli.specs.declared.options.Options.{Options}
@@ -156,14 +156,14 @@ pub record AreLackOptionsIn (rows : List Row) (l : LackOptions) : Type 0 where
   pub site : IsGivenNumber 8 (one_of (codes "site") rows) l.site
   pub keep : IsGivenNumber 32 (one_of (codes "keep") rows) l.keep
 
-abbrev pub reading_named : Text → Option Reading
+abbrev pub reading_named : Text → Option ReadAs
 reading_named name =
     if bytes_eq name (codes "site") then Some reading.Site
     else if bytes_eq name (codes "world") then Some reading.World
     else if bytes_eq name (codes "audit") then Some reading.Audit
     else None
 
-abbrev pub IsReading : Option Text → Option Reading → Type 0
+abbrev pub IsReading : Option Text → Option ReadAs → Type 0
 IsReading found r = (t : Text) → found ≡ Some t → r ≡ reading_named t
 
 pub record AreCheckOptionsIn (rows : List Row) (c : CheckOptions) : Type 0 where

@@ -7,6 +7,6 @@ mod options;
 
 pub use keep_options::KeepOptions;
 pub use options::{
-    AuditOptions, CheckOptions, Invocation, LackOptions, OptionFault, Options, Reading,
+    AuditOptions, CheckOptions, Invocation, LackOptions, OptionFault, Options, ReadAs,
     SetupOptions, Widening, read_options,
 };

@@ -108,7 +108,7 @@ pub struct LackOptions {
 
 /// As what records are read.
 #[derive(Clone, Copy, PartialEq, Eq)]
-pub enum Reading {
+pub enum ReadAs {
     Site,
     World,
     Audit,
@@ -117,7 +117,7 @@ pub enum Reading {
 /// As what records are checked, if it is one of the three, and of how many sites they are.
 #[derive(Clone, Copy)]
 pub struct CheckOptions {
-    pub reading: Option<Reading>,
+    pub reading: Option<ReadAs>,
     pub sites: u8,
 }
 
@@ -465,28 +465,28 @@ fn lack_options(matches: &ArgMatches<'_>) -> LackOptions
     }
 }
 
-impl Reading {
+impl ReadAs {
     // What the name of a command says, if it is one of the three.
-    fn named(name: &str) -> Option<Reading>
+    fn named(name: &str) -> Option<ReadAs>
         ensures { result ≡ reading_named name.now }
     {
         if name == "site" {
-            Some(Reading::Site)
+            Some(ReadAs::Site)
         } else if name == "world" {
-            Some(Reading::World)
+            Some(ReadAs::World)
         } else if name == "audit" {
-            Some(Reading::Audit)
+            Some(ReadAs::Audit)
         } else {
             None
         }
     }
 }
 
-fn read_reading(matches: &ArgMatches<'_>) -> Option<Reading>
+fn read_reading(matches: &ArgMatches<'_>) -> Option<ReadAs>
     ensures { IsReading (first_of (codes "reading") (rows_of (found_of matches.now))) result }
 {
     match matches.get_str("reading") {
-        Some(name) => Reading::named(name),
+        Some(name) => ReadAs::named(name),
         None => None,
     }
 }

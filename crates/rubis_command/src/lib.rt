@@ -8,7 +8,7 @@ mod site;
 pub use command_line::{read_words, words_of};
 pub use ends::{FAULT, MISUSE, NOT_WELL, end, fail, misuse};
 pub use rubis_cli::{
-    AuditOptions, CheckOptions, Invocation, KeepOptions, LackOptions, Options, Reading,
+    AuditOptions, CheckOptions, Invocation, KeepOptions, LackOptions, Options, ReadAs,
     SetupOptions, Widening,
 };
 pub use rubis_engine::{Count, RunFault};

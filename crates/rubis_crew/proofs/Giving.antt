@@ -5,8 +5,8 @@ use mathlib.Core.Option.{some, some-ne-none}
 use lib.ListN.{get_elem?}
 use Rattle.crossbeam_queue.specs.Fifo.{Pushes, Learns}
 use Rattle.rubis_crew.specs.declared.job.Given.{Given}
-use Rattle.rubis_crew.specs.declared.rule.PassView.{PassView}
-use Rattle.rubis_crew.specs.declared.rule.Item.TheVariants.{Work, Over}
+use Rattle.rubis_crew.specs.declared.rule.JobView.{JobView}
+use Rattle.rubis_crew.specs.declared.rule.JobEntry.TheVariants.{Work, Over}
 use Rattle.rubis_crew.specs.Rule.{AreBelow, weigh, waiting, overs_in, first_view, AgreesWith, Ruled, HasPut, AreFew}
 use Rattle.rubis_crew.proofs.Numbers.{weigh-append, weigh_ones, rising_below, rising_more}
 use Rattle.rubis_crew.proofs.Views.{sum_set, each_set}
@@ -31,16 +31,16 @@ module _ {J : Type 0} (Fits : J → Type 0) where
             (λ j u apart e. only j u apart e);
       }
     where
-      only : (j : ℕ) (u : PassView J) → (j ≡ 0 → ⊥) → get_elem? (first_view ∷ []) j ≡ some u → AgreesWith 0 [] 0 0 j u
+      only : (j : ℕ) (u : JobView J) → (j ≡ 0 → ⊥) → get_elem? (first_view ∷ []) j ≡ some u → AgreesWith 0 [] 0 0 j u
       only zero u apart e = absurd (apart refl)
       only (suc j) u apart e = absurd (some-ne-none u (sym e))
 
-  module _ (place : ℕ) (v : PassView J) (leads : v.leads ≡ true) where
+  module _ (place : ℕ) (v : JobView J) (leads : v.leads ≡ true) where
     pub gives : (room : ℕ) (x : Given J) → x.number ≡ v.next → Fits x.job → Pushes (Ruled Fits) room place v (Work x) (HasPut v (Work x))
     gives room x number fits items views _ ruled at =
         let mine = (ruled.each place v at).leads leads in
         let given : List (Given J) = ruled.given ++ x ∷ [] in
-        let w : PassView J = record v { next = v.next + 1; given = v.given ++ x ∷ [] } in
+        let w : JobView J = record v { next = v.next + 1; given = v.given ++ x ∷ [] } in
         let same : waiting (items ++ Work x ∷ []) ≡ waiting items ++ x ∷ [] = waiting_append items (Work x ∷ []) in
         let overs : overs_in (items ++ Work x ∷ []) ≡ overs_in items = (let sum = overs_append items (Work x ∷ []) in omega arith) in
         let below : AreBelow x.number v.given =
@@ -56,7 +56,7 @@ module _ {J : Type 0} (Fits : J → Type 0) where
                 let a = weigh-append h ruled.given (x ∷ []) in
                 let b = weigh-append h (waiting items) (x ∷ []) in
                 let c = ap (weigh h) same in
-                let d = sum_set (λ (u : PassView J). weigh h u.held) views place v w at in
+                let d = sum_set (λ (u : JobView J). weigh h u.held) views place v w at in
                 omega arith);
             waits = λ y h.
                 ⊎_elim (λ (l : Contains (waiting items) y). Contains-append_left ruled.given (x ∷ []) y (ruled.waits y l))
@@ -86,7 +86,7 @@ module _ {J : Type 0} (Fits : J → Type 0) where
     pub says : (room : ℕ) → Pushes (Ruled Fits) room place v Over (HasPut v Over)
     says room items views _ ruled at =
         let mine = (ruled.each place v at).leads leads in
-        let w : PassView J = record v { overs = v.overs + 1 } in
+        let w : JobView J = record v { overs = v.overs + 1 } in
         let same : waiting (items ++ Over ∷ []) ≡ waiting items = waiting_over items in
         let overs : overs_in (items ++ Over ∷ []) ≡ overs_in items + 1 = (let sum = overs_append items (Over ∷ []) in omega arith) in (
           w,
@@ -97,7 +97,7 @@ module _ {J : Type 0} (Fits : J → Type 0) where
             once = λ h.
                 (let old = ruled.once h in
                 let c = ap (weigh h) same in
-                let d = sum_set (λ (u : PassView J). weigh h u.held) views place v w at in
+                let d = sum_set (λ (u : JobView J). weigh h u.held) views place v w at in
                 omega arith);
             waits = λ y h. ruled.waits y (subst (λ (l : List (Given J)). Contains l y) same h);
             fits = subst (All (λ (y : Given J). Fits y.job)) (sym same) ruled.fits;

@@ -5,24 +5,24 @@ use mathlib.Core.Option.{some}
 use lib.ListN.{get_elem?}
 use Rattle.crossbeam_queue.specs.Fifo.{Forks, Merges}
 use Rattle.crossbeam_queue.proofs.Lists.{at_set}
-use Rattle.rubis_crew.specs.declared.rule.PassView.{PassView}
+use Rattle.rubis_crew.specs.declared.rule.JobView.{JobView}
 use Rattle.rubis_crew.specs.Rule.{weigh, overs_in, idle, AgreesWith, Ruled, emptied, token_view, together}
 use Rattle.rubis_crew.proofs.Numbers.{none_in, weigh-append}
 use Rattle.rubis_crew.proofs.Views.{sum_set, sum_snoc, each_set, each_snoc}
 use Rattle.rubis_crew.proofs.Jobs.{agrees_idle}
 
-module _ {J : Type 0} (Fits : J → Type 0) (place : ℕ) (v : PassView J) where
+module _ {J : Type 0} (Fits : J → Type 0) (place : ℕ) (v : JobView J) where
   pub shares : Forks (Ruled Fits) place v v idle
   shares items views ruled at =
-      let F : ℕ → PassView J → Type 0 = AgreesWith ruled.lead ruled.given ruled.next (overs_in items) in
+      let F : ℕ → JobView J → Type 0 = AgreesWith ruled.lead ruled.given ruled.next (overs_in items) in
       record {
         given = ruled.given;
         next = ruled.next;
         numbers = ruled.numbers;
         once = λ h.
             (let old = ruled.once h in
-            let d = sum_set (λ (u : PassView J). weigh h u.held) views place v v at in
-            let s = sum_snoc (λ (u : PassView J). weigh h u.held) (set views place v) idle in
+            let d = sum_set (λ (u : JobView J). weigh h u.held) views place v v at in
+            let s = sum_snoc (λ (u : JobView J). weigh h u.held) (set views place v) idle in
             omega arith);
         waits = ruled.waits;
         fits = ruled.fits;
@@ -34,7 +34,7 @@ module _ {J : Type 0} (Fits : J → Type 0) (place : ℕ) (v : PassView J) where
 
   pub hands : Forks (Ruled Fits) place v (emptied v) (token_view v)
   hands items views ruled at =
-      let F : ℕ → PassView J → Type 0 = AgreesWith ruled.lead ruled.given ruled.next (overs_in items) in
+      let F : ℕ → JobView J → Type 0 = AgreesWith ruled.lead ruled.given ruled.next (overs_in items) in
       let mine = ruled.each place v at in
       record {
         given = ruled.given;
@@ -42,8 +42,8 @@ module _ {J : Type 0} (Fits : J → Type 0) (place : ℕ) (v : PassView J) where
         numbers = ruled.numbers;
         once = λ h.
             (let old = ruled.once h in
-            let d = sum_set (λ (u : PassView J). weigh h u.held) views place v (emptied v) at in
-            let s = sum_snoc (λ (u : PassView J). weigh h u.held) (set views place (emptied v)) (token_view v) in
+            let d = sum_set (λ (u : JobView J). weigh h u.held) views place v (emptied v) at in
+            let s = sum_snoc (λ (u : JobView J). weigh h u.held) (set views place (emptied v)) (token_view v) in
             omega arith);
         waits = ruled.waits;
         fits = ruled.fits;
@@ -64,10 +64,10 @@ module _ {J : Type 0} (Fits : J → Type 0) (place : ℕ) (v : PassView J) where
             (λ j. record { held = mine.held; leads = λ is. absurd (true≢false (sym is)) });
       }
 
-  module _ (other : ℕ) (u : PassView J) where
+  module _ (other : ℕ) (u : JobView J) where
     pub receives : Merges (Ruled Fits) place v other u (together v u) idle
     receives items views ruled at apart there =
-        let F : ℕ → PassView J → Type 0 = AgreesWith ruled.lead ruled.given ruled.next (overs_in items) in
+        let F : ℕ → JobView J → Type 0 = AgreesWith ruled.lead ruled.given ruled.next (overs_in items) in
         let mine = ruled.each place v at in
         let was : get_elem? views other ≡ some u =
         ⊎_elim (λ (x : (other ≡ place) × (together v u ≡ u)). absurd (apart x.0))
@@ -80,8 +80,8 @@ module _ {J : Type 0} (Fits : J → Type 0) (place : ℕ) (v : PassView J) where
           once = λ h.
               (let old = ruled.once h in
               let a = weigh-append h v.held u.held in
-              let d = sum_set (λ (y : PassView J). weigh h y.held) views place v (together v u) at in
-              let s = sum_set (λ (y : PassView J). weigh h y.held) (set views place (together v u)) other u idle there in
+              let d = sum_set (λ (y : JobView J). weigh h y.held) views place v (together v u) at in
+              let s = sum_set (λ (y : JobView J). weigh h y.held) (set views place (together v u)) other u idle there in
               omega arith);
           waits = ruled.waits;
           fits = ruled.fits;

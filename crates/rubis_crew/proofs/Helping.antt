@@ -2,15 +2,15 @@
 use Rattle.std.proofs.Common.{◌≡◌, List, [], ◌∷◌, ◌++◌, ap, ◌∙◌}
 use Rattle.crossbeam_queue.specs.Passes.{Pass, view, IsSamePass}
 use Rattle.rubis_crew.specs.declared.job.Given.{Given}
-use Rattle.rubis_crew.specs.declared.rule.Item.{Item}
-use Rattle.rubis_crew.specs.declared.rule.PassView.{PassView}
+use Rattle.rubis_crew.specs.declared.rule.JobEntry.{JobEntry}
+use Rattle.rubis_crew.specs.declared.rule.JobView.{JobView}
 use Rattle.rubis_crew.specs.declared.results.ResultView.{ResultView}
 use Rattle.rubis_crew.specs.declared.results.Slip.{Slip}
 use Rattle.rubis_crew.specs.Results.{holds}
 use Rattle.rubis_crew.specs.Rule.{emptied, token_view}
 use Rattle.rubis_crew.specs.States.{HelperState, helper_of, served}
 
-module _ {J R : Type 0} (seat taking after token : Pass (Item J) (PassView J)) (desk later : Pass (Slip J R) (ResultView J)) (x : Given J) where
+module _ {J R : Type 0} (seat taking after token : Pass (JobEntry J) (JobView J)) (desk later : Pass (Slip J R) (ResultView J)) (x : Given J) where
   -- the job is taken, handed to the token, and paid for with it
   pub record Helped : Type 0 where
     pub none : (view seat).held ≡ []
@@ -23,8 +23,8 @@ module _ {J R : Type 0} (seat taking after token : Pass (Item J) (PassView J)) (
       → Helped → helper_of after later ≡ served s x
   helped s is same kept written h =
       let one =
-      ap (λ (v : PassView J). v.held) h.handed ∙ ap (λ (v : PassView J). v.held) h.taken ∙ ap (λ (l : List (Given J)). l ++ x ∷ []) h.none in
-      let taken = ap (λ (v : PassView J). v.taken) h.left ∙ ap (λ (v : PassView J). v.taken) h.taken in
+      ap (λ (v : JobView J). v.held) h.handed ∙ ap (λ (v : JobView J). v.held) h.taken ∙ ap (λ (l : List (Given J)). l ++ x ∷ []) h.none in
+      let taken = ap (λ (v : JobView J). v.taken) h.left ∙ ap (λ (v : JobView J). v.taken) h.taken in
       let paid = ap (λ (v : ResultView J). v.paid) h.paid ∙ ap (λ (l : List (Given J)). (view desk).paid ++ l) one in
       (λ i. record {
         crew = record { jobs = (kept.0 ∙ same.0) i; results = written.0 i };

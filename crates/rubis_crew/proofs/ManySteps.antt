@@ -4,9 +4,9 @@ use Rattle.std.proofs.lemmas.List.Elements.{Contains-append_cases}
 use mathlib.Core.Option.{some}
 use lib.ListN.{get_elem?}
 use Rattle.rubis_crew.specs.declared.job.Given.{Given}
-use Rattle.rubis_crew.specs.declared.rule.PassView.{PassView}
-use Rattle.rubis_crew.specs.declared.rule.Item.{Item}
-use Rattle.rubis_crew.specs.declared.rule.Item.TheVariants.{Work, Over}
+use Rattle.rubis_crew.specs.declared.rule.JobView.{JobView}
+use Rattle.rubis_crew.specs.declared.rule.JobEntry.{JobEntry}
+use Rattle.rubis_crew.specs.declared.rule.JobEntry.TheVariants.{Work, Over}
 use Rattle.rubis_crew.specs.Rule.{weigh, waiting, sum_over, Ruled, HasTaken}
 use Rattle.rubis_crew.specs.Laws.{QueueStep, QueueStepsAll, moves_of, MovesAll, JobState, Step, Steps, StepsAll, opening, held_if, held_by, out}
 use Rattle.rubis_crew.specs.Laws.{coming_back, IsAccounted}
@@ -20,7 +20,7 @@ use Rattle.rubis_crew.proofs.Handing.{shares, hands, receives}
 use Rattle.rubis_crew.proofs.Settling.{settles}
 
 module _ {J : Type 0} where
-  pub moves : (before : List (Item J)) (steps : List (QueueStep J)) (after : List (Item J)) → QueueStepsAll before steps after
+  pub moves : (before : List (JobEntry J)) (steps : List (QueueStep J)) (after : List (JobEntry J)) → QueueStepsAll before steps after
       → MovesAll (waiting before) (moves_of steps) (waiting after)
   moves before [] after is = ap waiting is
   moves before (Pushed (Work x) ∷ steps) after is =
@@ -36,7 +36,7 @@ module _ {J : Type 0} (Fits : J → Type 0) where
   abbrev IsRuled : JobState J → Type 0
   IsRuled s = Ruled Fits s.items s.views
 
-  put_one : (s : JobState J) (i : ℕ) (item : Item J) (t : JobState J) → IsRuled s → Steps Fits s (Puts i item) t → IsRuled t
+  put_one : (s : JobState J) (i : ℕ) (item : JobEntry J) (t : JobState J) → IsRuled s → Steps Fits s (Puts i item) t → IsRuled t
   put_one s i (Work x) t ruled step =
       let r = gives Fits i step.0 step.3.0 (suc (length s.items)) x step.3.1 step.3.2 s.items s.views (omega arith) ruled step.2 in
       subst IsRuled (sym (step.5 ∙ ap (λ w. record { items = s.items ++ Work x ∷ []; views = set s.views i w }) (step.4.0 ∙ sym r.2.0))) r.1
@@ -44,7 +44,7 @@ module _ {J : Type 0} (Fits : J → Type 0) where
       let r = says Fits i step.0 step.3 (suc (length s.items)) s.items s.views (omega arith) ruled step.2 in
       subst IsRuled (sym (step.5 ∙ ap (λ w. record { items = s.items ++ Over ∷ []; views = set s.views i w }) (step.4 ∙ sym r.2))) r.1
 
-  took : (v : PassView J) (item : Item J) (w u : PassView J) → HasTaken Fits v item w → HasTaken Fits v item u → w ≡ u
+  took : (v : JobView J) (item : JobEntry J) (w u : JobView J) → HasTaken Fits v item w → HasTaken Fits v item u → w ≡ u
   took v (Work x) w u a b = a.1 ∙ sym b.1
   took v Over w u a b = a ∙ sym b
 
@@ -73,7 +73,7 @@ module _ {J : Type 0} (Fits : J → Type 0) where
   weigh_if h true held = omega arith
   weigh_if h false held = omega arith
 
-  weigh_held : (h : ℕ → ℕ) (views : List (PassView J))
+  weigh_held : (h : ℕ → ℕ) (views : List (JobView J))
       → weigh h (out views) + weigh h (coming_back views) ≡ sum_over (λ v. weigh h v.held) views
   weigh_held h [] = omega arith
   weigh_held h (v ∷ views) =
@@ -89,8 +89,8 @@ module _ {J : Type 0} (Fits : J → Type 0) where
   in_if false true held x h = absurd (none_in x h)
   in_if false false held x h = h
 
-  held_in : (which : Bool) (views : List (PassView J)) (x : Given J) (A : Type 0)
-      → ((j : ℕ) (v : PassView J) → get_elem? views j ≡ some v → Contains v.held x → A) → Contains (held_by which views) x → A
+  held_in : (which : Bool) (views : List (JobView J)) (x : Given J) (A : Type 0)
+      → ((j : ℕ) (v : JobView J) → get_elem? views j ≡ some v → Contains v.held x → A) → Contains (held_by which views) x → A
   held_in which [] x A go h = absurd (none_in x h)
   held_in which (v ∷ views) x A go h =
       ⊎_elim (λ (l : Contains (held_if which v.pays v.held) x). go 0 v refl (in_if which v.pays v.held x l))

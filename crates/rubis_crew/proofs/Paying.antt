@@ -8,8 +8,8 @@ use Rattle.atomic_table.specs.Seated.{TableId}
 use Rattle.crossbeam_queue.specs.Fifo.{Pushes, Pops, Forks, Learns}
 use Rattle.crossbeam_queue.specs.Passes.{Pass}
 use Rattle.crossbeam_queue.proofs.Lists.{at_set, at_snoc}
-use Rattle.rubis_crew.specs.declared.rule.Item.{Item}
-use Rattle.rubis_crew.specs.declared.rule.PassView.{PassView}
+use Rattle.rubis_crew.specs.declared.rule.JobEntry.{JobEntry}
+use Rattle.rubis_crew.specs.declared.rule.JobView.{JobView}
 use Rattle.rubis_crew.specs.declared.results.Payment.{Payment}
 use Rattle.rubis_crew.specs.declared.results.ResultView.{ResultView}
 use Rattle.rubis_crew.specs.declared.results.Slip.{Slip}
@@ -48,7 +48,7 @@ module _ {J R : Type 0} (Worked : J → R → Type 0) where
         ⊎_elim (λ (x : (j ≡ place) × (w ≡ u)). subst (λ (y : ResultView J). y.of ≡ Some queue) x.1 mine)
         (λ (x : (j ≡ place → ⊥) × (get_elem? views j ≡ some u)). others j u x.0 x.1) (at_set views place j w u e)
 
-    pub names : (room : ℕ) (token : Pass (Item J) (PassView J)) → v ≡ unnamed
+    pub names : (room : ℕ) (token : Pass (JobEntry J) (JobView J)) → v ≡ unnamed
         → Pushes (AreResults Worked) room place v (Name token) (HasNamed {R = R} v (Name token))
     names room token is slips views _ ruled at =
         ⊎_elim

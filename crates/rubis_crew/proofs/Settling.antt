@@ -4,14 +4,14 @@ use mathlib.Core.Option.{some}
 use lib.ListN.{get_elem?}
 use Rattle.crossbeam_queue.specs.Fifo.{Forks, Learns}
 use Rattle.rubis_crew.specs.declared.job.Given.{Given}
-use Rattle.rubis_crew.specs.declared.rule.PassView.{PassView}
-use Rattle.rubis_crew.specs.declared.rule.Item.{Item}
+use Rattle.rubis_crew.specs.declared.rule.JobView.{JobView}
+use Rattle.rubis_crew.specs.declared.rule.JobEntry.{JobEntry}
 use Rattle.rubis_crew.specs.Rule.{AreRising, weigh, taken_off, without, waiting, overs_in, sum_over, idle, AgreesWith, Ruled, HoldsAGivenOne, settled}
 use Rattle.rubis_crew.proofs.Numbers.{none_in, first_in, parted, beside_in, weigh-append, rising_less, off_taken, one_at, times_in, times_most}
 use Rattle.rubis_crew.proofs.Views.{sum_one, sum_two, sum_set, sum_snoc, each_set, each_snoc}
 use Rattle.rubis_crew.proofs.Jobs.{agrees_idle}
 
-module _ {J : Type 0} (Fits : J → Type 0) (place : ℕ) (v : PassView J) (leads : v.leads ≡ true) where
+module _ {J : Type 0} (Fits : J → Type 0) (place : ℕ) (v : JobView J) (leads : v.leads ≡ true) where
   -- where the given jobs are cut, and what they are without the one that it holds
   record Cut (given : List (Given J)) (x : Given J) : Type 0 where
     before : List (Given J)
@@ -19,7 +19,7 @@ module _ {J : Type 0} (Fits : J → Type 0) (place : ℕ) (v : PassView J) (lead
     whole : given ≡ before ++ x ∷ after
     off : taken_off x.number given ≡ before ++ after
 
-  module _ (items : List (Item J)) (views : List (PassView J)) (ruled : Ruled Fits items views) (at : get_elem? views place ≡ some v)
+  module _ (items : List (JobEntry J)) (views : List (JobView J)) (ruled : Ruled Fits items views) (at : get_elem? views place ≡ some v)
       (x : Given J) (held : v.held ≡ x ∷ []) where
     cut : Cut ruled.given x
     cut =
@@ -33,7 +33,7 @@ module _ {J : Type 0} (Fits : J → Type 0) (place : ℕ) (v : PassView J) (lead
         }
 
     -- no other job that waits or is held has its number
-    once_there : weigh (one_at x.number) (waiting items) + sum_over (λ (u : PassView J). weigh (one_at x.number) u.held) views ≤ 1
+    once_there : weigh (one_at x.number) (waiting items) + sum_over (λ (u : JobView J). weigh (one_at x.number) u.held) views ≤ 1
     once_there =
         let once = ruled.once (one_at x.number) in let most = times_most x.number 0 ruled.next ruled.given ruled.numbers in omega arith
 
@@ -47,16 +47,16 @@ module _ {J : Type 0} (Fits : J → Type 0) (place : ℕ) (v : PassView J) (lead
     waits_apart y h e =
         let more = same_number y (waiting items) e h in
         let mine = here_once in
-        let one = sum_one (λ (u : PassView J). weigh (one_at x.number) u.held) views place v at in
+        let one = sum_one (λ (u : JobView J). weigh (one_at x.number) u.held) views place v at in
         let most = once_there in
         omega arith
 
-    held_apart : (j : ℕ) (u : PassView J) → (j ≡ place → ⊥) → get_elem? views j ≡ some u → (y : Given J) → Contains u.held y
+    held_apart : (j : ℕ) (u : JobView J) → (j ≡ place → ⊥) → get_elem? views j ≡ some u → (y : Given J) → Contains u.held y
         → y.number ≡ x.number → ⊥
     held_apart j u apart e y h is =
         let more = same_number y u.held is h in
         let mine = here_once in
-        let two = sum_two (λ (u : PassView J). weigh (one_at x.number) u.held) views place j v u apart at e in
+        let two = sum_two (λ (u : JobView J). weigh (one_at x.number) u.held) views place j v u apart at e in
         let most = once_there in
         omega arith
 
@@ -66,9 +66,9 @@ module _ {J : Type 0} (Fits : J → Type 0) (place : ℕ) (v : PassView J) (lead
     ruled_after : Ruled Fits items (set views place (settled v) ++ idle ∷ [])
     ruled_after =
         let given : List (Given J) = cut.before ++ cut.after in
-        let w : PassView J = settled v in
+        let w : JobView J = settled v in
         let mine = (ruled.each place v at).leads leads in
-        let F : ℕ → PassView J → Type 0 = AgreesWith ruled.lead given ruled.next (overs_in items) in
+        let F : ℕ → JobView J → Type 0 = AgreesWith ruled.lead given ruled.next (overs_in items) in
         record {
           given = given;
           next = ruled.next;
@@ -79,8 +79,8 @@ module _ {J : Type 0} (Fits : J → Type 0) (place : ℕ) (v : PassView J) (lead
               let b = weigh-append h cut.before (x ∷ cut.after) in
               let c = weigh-append h cut.before cut.after in
               let k = ap (weigh h) held in
-              let d = sum_set (λ (u : PassView J). weigh h u.held) views place v w at in
-              let s = sum_snoc (λ (u : PassView J). weigh h u.held) (set views place w) idle in
+              let d = sum_set (λ (u : JobView J). weigh h u.held) views place v w at in
+              let s = sum_snoc (λ (u : JobView J). weigh h u.held) (set views place w) idle in
               omega arith);
           waits = λ y h. left_in y (waits_apart y h) (ruled.waits y h);
           fits = ruled.fits;

@@ -5,18 +5,18 @@ use mathlib.Core.Option.{some}
 use lib.ListN.{get_elem?}
 use Rattle.crossbeam_queue.specs.Fifo.{Pops}
 use Rattle.rubis_crew.specs.declared.job.Given.{Given}
-use Rattle.rubis_crew.specs.declared.rule.PassView.{PassView}
-use Rattle.rubis_crew.specs.declared.rule.Item.{Item}
-use Rattle.rubis_crew.specs.declared.rule.Item.TheVariants.{Work, Over}
+use Rattle.rubis_crew.specs.declared.rule.JobView.{JobView}
+use Rattle.rubis_crew.specs.declared.rule.JobEntry.{JobEntry}
+use Rattle.rubis_crew.specs.declared.rule.JobEntry.TheVariants.{Work, Over}
 use Rattle.rubis_crew.specs.Rule.{weigh, waiting, overs_in, AgreesWith, Ruled, HasTaken}
 use Rattle.rubis_crew.proofs.Numbers.{first_in, later_in, weigh-append}
 use Rattle.rubis_crew.proofs.Views.{sum_set, each_set}
 
-module _ {J : Type 0} (Fits : J → Type 0) (place : ℕ) (v : PassView J) where
-  takes_work : (x : Given J) (items : List (Item J)) (views : List (PassView J)) → Ruled Fits (Work x ∷ items) views
-      → get_elem? views place ≡ some v → (w : PassView J) × Ruled Fits items (set views place w) × HasTaken Fits v (Work x) w
+module _ {J : Type 0} (Fits : J → Type 0) (place : ℕ) (v : JobView J) where
+  takes_work : (x : Given J) (items : List (JobEntry J)) (views : List (JobView J)) → Ruled Fits (Work x ∷ items) views
+      → get_elem? views place ≡ some v → (w : JobView J) × Ruled Fits items (set views place w) × HasTaken Fits v (Work x) w
   takes_work x items views ruled at =
-      let w : PassView J = record v { held = v.held ++ x ∷ []; taken = v.taken ++ x ∷ [] } in
+      let w : JobView J = record v { held = v.held ++ x ∷ []; taken = v.taken ++ x ∷ [] } in
       let mine = ruled.each place v at in
       let first : Contains ruled.given x = ruled.waits x (first_in x (waiting items)) in (
         w,
@@ -27,7 +27,7 @@ module _ {J : Type 0} (Fits : J → Type 0) (place : ℕ) (v : PassView J) where
           once = λ h.
               (let old = ruled.once h in
               let a = weigh-append h v.held (x ∷ []) in
-              let d = sum_set (λ (u : PassView J). weigh h u.held) views place v w at in
+              let d = sum_set (λ (u : JobView J). weigh h u.held) views place v w at in
               omega arith);
           waits = λ y h. ruled.waits y (later_in x (waiting items) y h);
           fits = All-tail (λ (y : Given J). Fits y.job) x (waiting items) ruled.fits;
@@ -49,7 +49,7 @@ module _ {J : Type 0} (Fits : J → Type 0) (place : ℕ) (v : PassView J) where
         (All-head (λ (y : Given J). Fits y.job) x (waiting items) ruled.fits, refl),
       )
 
-  fewer_overs : (lead : ℕ) (given : List (Given J)) (next overs j : ℕ) (u : PassView J) → AgreesWith lead given next (overs + 1) j u
+  fewer_overs : (lead : ℕ) (given : List (Given J)) (next overs j : ℕ) (u : JobView J) → AgreesWith lead given next (overs + 1) j u
       → AgreesWith lead given next overs j u
   fewer_overs lead given next overs j u agrees =
       record {
@@ -62,15 +62,15 @@ module _ {J : Type 0} (Fits : J → Type 0) (place : ℕ) (v : PassView J) where
         };
       }
 
-  takes_over : (items : List (Item J)) (views : List (PassView J)) → Ruled Fits (Over ∷ items) views → get_elem? views place ≡ some v
-      → (w : PassView J) × Ruled Fits items (set views place w) × HasTaken Fits v Over w
+  takes_over : (items : List (JobEntry J)) (views : List (JobView J)) → Ruled Fits (Over ∷ items) views → get_elem? views place ≡ some v
+      → (w : JobView J) × Ruled Fits items (set views place w) × HasTaken Fits v Over w
   takes_over items views ruled at = (
     v,
     record {
       given = ruled.given;
       next = ruled.next;
       numbers = ruled.numbers;
-      once = λ h. (let old = ruled.once h in let d = sum_set (λ (u : PassView J). weigh h u.held) views place v v at in omega arith);
+      once = λ h. (let old = ruled.once h in let d = sum_set (λ (u : JobView J). weigh h u.held) views place v v at in omega arith);
       waits = ruled.waits;
       fits = ruled.fits;
       lead = ruled.lead;

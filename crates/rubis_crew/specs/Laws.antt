@@ -8,9 +8,9 @@ use Rattle.atomic_table.specs.Seated.{TableId}
 use Rattle.crossbeam_queue.specs.Fifo.{Pushes, Pops, Forks, Merges}
 use Rattle.crossbeam_queue.specs.Passes.{Pass}
 use Rattle.rubis_crew.specs.declared.job.Given.{Given}
-use Rattle.rubis_crew.specs.declared.rule.PassView.{PassView}
-use Rattle.rubis_crew.specs.declared.rule.Item.{Item}
-use Rattle.rubis_crew.specs.declared.rule.Item.TheVariants.{Work, Over}
+use Rattle.rubis_crew.specs.declared.rule.JobView.{JobView}
+use Rattle.rubis_crew.specs.declared.rule.JobEntry.{JobEntry}
+use Rattle.rubis_crew.specs.declared.rule.JobEntry.TheVariants.{Work, Over}
 use Rattle.rubis_crew.specs.declared.results.Payment.{Payment}
 use Rattle.rubis_crew.specs.declared.results.ResultView.{ResultView}
 use Rattle.rubis_crew.specs.declared.results.Slip.TheVariants.{Name, Pay}
@@ -21,19 +21,19 @@ use Rattle.rubis_crew.specs.Results.{IsPaid, AreResults, unnamed, newcomer, HasN
 
 pub record JobStepsKeepTheRule {J : Type 0} (Fits : J → Type 0) : Type 0 where
   pub opening : Ruled Fits [] (first_view ∷ [])
-  pub give : (room place : ℕ) (v : PassView J) (x : Given J) → v.leads ≡ true → x.number ≡ v.next → Fits x.job
+  pub give : (room place : ℕ) (v : JobView J) (x : Given J) → v.leads ≡ true → x.number ≡ v.next → Fits x.job
       → Pushes (Ruled Fits) room place v (Work x) (HasPut v (Work x))
-  pub say_over : (room place : ℕ) (v : PassView J) → v.leads ≡ true → Pushes (Ruled Fits) room place v Over (HasPut v Over)
-  pub take : (place : ℕ) (v : PassView J) → Pops (Ruled Fits) place v (HasTaken Fits v)
-  pub share : (place : ℕ) (v : PassView J) → Forks (Ruled Fits) place v v idle
-  pub hand : (place : ℕ) (v : PassView J) → Forks (Ruled Fits) place v (emptied v) (token_view v)
-  pub receive : (place : ℕ) (v : PassView J) (other : ℕ) (u : PassView J) → Merges (Ruled Fits) place v other u (together v u) idle
-  pub settle : (place : ℕ) (v : PassView J) (x : Given J) → v.leads ≡ true → v.held ≡ x ∷ []
+  pub say_over : (room place : ℕ) (v : JobView J) → v.leads ≡ true → Pushes (Ruled Fits) room place v Over (HasPut v Over)
+  pub take : (place : ℕ) (v : JobView J) → Pops (Ruled Fits) place v (HasTaken Fits v)
+  pub share : (place : ℕ) (v : JobView J) → Forks (Ruled Fits) place v v idle
+  pub hand : (place : ℕ) (v : JobView J) → Forks (Ruled Fits) place v (emptied v) (token_view v)
+  pub receive : (place : ℕ) (v : JobView J) (other : ℕ) (u : JobView J) → Merges (Ruled Fits) place v other u (together v u) idle
+  pub settle : (place : ℕ) (v : JobView J) (x : Given J) → v.leads ≡ true → v.held ≡ x ∷ []
       → Forks (Ruled Fits) place v (settled v) idle
 
 pub record ResultStepsKeepTheRule {J R : Type 0} (Worked : J → R → Type 0) : Type 0 where
   pub opening : AreResults Worked [] (unnamed ∷ [])
-  pub name : (room place : ℕ) (v : ResultView J) (token : Pass (Item J) (PassView J)) → v ≡ unnamed
+  pub name : (room place : ℕ) (v : ResultView J) (token : Pass (JobEntry J) (JobView J)) → v ≡ unnamed
       → Pushes (AreResults Worked) room place v (Name token) (HasNamed {R = R} v (Name token))
   pub pay : (room place : ℕ) (v : ResultView J) (queue : TableId) (p : Payment J R) → v.of ≡ Some queue → IsPaid Worked queue p
       → Pushes (AreResults Worked) room place v (Pay p) (HasPaid v (Pay p))
@@ -49,8 +49,8 @@ pub data Move (J : Type 0) : Type 0 where
 
 -- what is done to the queue: an item is pushed, and is then its last, or the first is popped
 pub data QueueStep (J : Type 0) : Type 0 where
-  Pushed : Item J → QueueStep J
-  Popped : Item J → QueueStep J
+  Pushed : JobEntry J → QueueStep J
+  Popped : JobEntry J → QueueStep J
 
 module _ {J : Type 0} where
   -- a job that is given is put last, and one that is taken was the first
@@ -62,14 +62,14 @@ module _ {J : Type 0} where
   MovesAll before [] after = before ≡ after
   MovesAll before (move ∷ moves) after = (between : List (Given J)) × Moves before move between × MovesAll between moves after
 
-  abbrev pub QueueSteps : List (Item J) → QueueStep J → List (Item J) → Type 0
+  abbrev pub QueueSteps : List (JobEntry J) → QueueStep J → List (JobEntry J) → Type 0
   QueueSteps before (Pushed item) after = after ≡ before ++ item ∷ []
   QueueSteps before (Popped item) after = before ≡ item ∷ after
 
-  abbrev pub QueueStepsAll : List (Item J) → List (QueueStep J) → List (Item J) → Type 0
+  abbrev pub QueueStepsAll : List (JobEntry J) → List (QueueStep J) → List (JobEntry J) → Type 0
   QueueStepsAll before [] after = before ≡ after
   QueueStepsAll before (step ∷ steps) after =
-      (between : List (Item J)) × QueueSteps before step between × QueueStepsAll between steps after
+      (between : List (JobEntry J)) × QueueSteps before step between × QueueStepsAll between steps after
 
   -- how it moves what waits: what says that no more come doesn't
   abbrev pub moves_of : List (QueueStep J) → List (Move J)
@@ -82,20 +82,20 @@ module _ {J : Type 0} where
 -- whatever is pushed and popped, one after the other
 abbrev pub StepsMoveTheWaiting : Type 0 → Type 0
 StepsMoveTheWaiting J =
-    (before : List (Item J)) (steps : List (QueueStep J)) (after : List (Item J)) → QueueStepsAll before steps after
+    (before : List (JobEntry J)) (steps : List (QueueStep J)) (after : List (JobEntry J)) → QueueStepsAll before steps after
     → MovesAll (waiting before) (moves_of steps) (waiting after)
 
 -- ---- many steps of many passes
 
 -- what is in the queue of jobs, and what each pass knows
 pub record JobState (J : Type 0) : Type 0 where
-  pub items : List (Item J)
-  pub views : List (PassView J)
+  pub items : List (JobEntry J)
+  pub views : List (JobView J)
 
 -- the step of a pass, which is known by its place
 pub data Step (J : Type 0) : Type 0 where
   -- it gives a job, or says that no more come
-  Puts : ℕ → Item J → Step J
+  Puts : ℕ → JobEntry J → Step J
   -- it takes what is first
   Takes : ℕ → Step J
   -- a new pass is made
@@ -112,31 +112,31 @@ module _ {J : Type 0} where
   opening = record { items = []; views = first_view ∷ [] }
 
   -- where its view changes, and where a new pass comes too
-  abbrev pub with_view : List (Item J) → JobState J → ℕ → PassView J → JobState J
+  abbrev pub with_view : List (JobEntry J) → JobState J → ℕ → JobView J → JobState J
   with_view items s i w = record { items = items; views = slice_set s.views i w }
 
-  abbrev pub with_new : JobState J → ℕ → PassView J → PassView J → JobState J
+  abbrev pub with_new : JobState J → ℕ → JobView J → JobView J → JobState J
   with_new s i w new = record { items = s.items; views = slice_set s.views i w ++ new ∷ [] }
 
-  abbrev pub MayPut : (J → Type 0) → PassView J → Item J → Type 0
+  abbrev pub MayPut : (J → Type 0) → JobView J → JobEntry J → Type 0
   MayPut Fits v (Work x) = (v.leads ≡ true) × (x.number ≡ v.next) × Fits x.job
   MayPut Fits v Over = v.leads ≡ true
 
   abbrev pub Steps : (J → Type 0) → JobState J → Step J → JobState J → Type 0
   Steps Fits s (Puts i item) t =
-      (v : PassView J) × (w : PassView J) × (get_elem? s.views i ≡ some v) × MayPut Fits v item × HasPut v item w
+      (v : JobView J) × (w : JobView J) × (get_elem? s.views i ≡ some v) × MayPut Fits v item × HasPut v item w
       × (t ≡ with_view (s.items ++ item ∷ []) s i w)
   Steps Fits s (Takes i) t =
-      (v : PassView J) × (w : PassView J) × (item : Item J) × (get_elem? s.views i ≡ some v) × (s.items ≡ item ∷ t.items)
+      (v : JobView J) × (w : JobView J) × (item : JobEntry J) × (get_elem? s.views i ≡ some v) × (s.items ≡ item ∷ t.items)
       × HasTaken Fits v item w × (t ≡ with_view t.items s i w)
-  Steps Fits s (Shares i) t = (v : PassView J) × (get_elem? s.views i ≡ some v) × (t ≡ with_new s i v idle)
-  Steps Fits s (Hands i) t = (v : PassView J) × (get_elem? s.views i ≡ some v) × (t ≡ with_new s i (emptied v) (token_view v))
+  Steps Fits s (Shares i) t = (v : JobView J) × (get_elem? s.views i ≡ some v) × (t ≡ with_new s i v idle)
+  Steps Fits s (Hands i) t = (v : JobView J) × (get_elem? s.views i ≡ some v) × (t ≡ with_new s i (emptied v) (token_view v))
   Steps Fits s (Receives i j) t =
-      (v : PassView J) × (u : PassView J) × (get_elem? s.views i ≡ some v) × (j ≡ i → ⊥)
+      (v : JobView J) × (u : JobView J) × (get_elem? s.views i ≡ some v) × (j ≡ i → ⊥)
       × (get_elem? (slice_set s.views i (together v u)) j ≡ some u)
       × (t ≡ record { items = s.items; views = slice_set (slice_set s.views i (together v u)) j idle })
   Steps Fits s (Settles i) t =
-      (v : PassView J) × (x : Given J) × (get_elem? s.views i ≡ some v) × (v.leads ≡ true) × (v.held ≡ x ∷ [])
+      (v : JobView J) × (x : Given J) × (get_elem? s.views i ≡ some v) × (v.leads ≡ true) × (v.held ≡ x ∷ [])
       × (t ≡ with_new s i (settled v) idle)
 
   abbrev pub StepsAll : (J → Type 0) → JobState J → List (Step J) → JobState J → Type 0
@@ -151,14 +151,14 @@ module _ {J : Type 0} where
   held_if false false held = held
 
   -- what is held by the passes that go back with a result, or by the others
-  abbrev pub held_by : Bool → List (PassView J) → List (Given J)
+  abbrev pub held_by : Bool → List (JobView J) → List (Given J)
   held_by pays [] = []
   held_by pays (v ∷ views) = held_if pays v.pays v.held ++ held_by pays views
 
-  abbrev pub out : List (PassView J) → List (Given J)
+  abbrev pub out : List (JobView J) → List (Given J)
   out views = held_by false views
 
-  abbrev pub coming_back : List (PassView J) → List (Given J)
+  abbrev pub coming_back : List (JobView J) → List (Given J)
   coming_back views = held_by true views
 
 -- each job that is given waits, is out or comes back, once, and under its own number

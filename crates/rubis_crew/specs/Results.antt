@@ -6,15 +6,15 @@ use lib.ListN.{get_elem?}
 use Rattle.atomic_table.specs.Seated.{TableId}
 use Rattle.crossbeam_queue.specs.Passes.{Pass, view}
 use Rattle.rubis_crew.specs.declared.job.Given.{Given}
-use Rattle.rubis_crew.specs.declared.rule.Item.{Item}
-use Rattle.rubis_crew.specs.declared.rule.PassView.{PassView}
+use Rattle.rubis_crew.specs.declared.rule.JobEntry.{JobEntry}
+use Rattle.rubis_crew.specs.declared.rule.JobView.{JobView}
 use Rattle.rubis_crew.specs.declared.results.Payment.{Payment}
 use Rattle.rubis_crew.specs.declared.results.ResultView.{ResultView}
 use Rattle.rubis_crew.specs.declared.results.Slip.{Slip}
 use Rattle.rubis_crew.specs.declared.results.Slip.TheVariants.{Name, Pay}
 
 -- the jobs that a pass holds
-abbrev pub holds : {J : Type 0} → Pass (Item J) (PassView J) → List (Given J)
+abbrev pub holds : {J : Type 0} → Pass (JobEntry J) (JobView J) → List (Given J)
 holds token = (view token).held
 
 -- it is the result of the one job that its token holds, under that job's number; and the token is one of that queue of jobs

@@ -4,9 +4,9 @@ use Rattle.std.specs.List.{All, Contains}
 use mathlib.Core.Option.{some}
 use lib.ListN.{get_elem?}
 use Rattle.rubis_crew.specs.declared.job.Given.{Given}
-use Rattle.rubis_crew.specs.declared.rule.PassView.{PassView}
-use Rattle.rubis_crew.specs.declared.rule.Item.{Item}
-use Rattle.rubis_crew.specs.declared.rule.Item.TheVariants.{Work, Over}
+use Rattle.rubis_crew.specs.declared.rule.JobView.{JobView}
+use Rattle.rubis_crew.specs.declared.rule.JobEntry.{JobEntry}
+use Rattle.rubis_crew.specs.declared.rule.JobEntry.TheVariants.{Work, Over}
 
 module _ {J : Type 0} where
   -- ---- jobs under their numbers
@@ -38,12 +38,12 @@ module _ {J : Type 0} where
   -- ---- the queue
 
   -- the jobs that wait
-  abbrev pub waiting : List (Item J) → List (Given J)
+  abbrev pub waiting : List (JobEntry J) → List (Given J)
   waiting [] = []
   waiting (Work x ∷ items) = x ∷ waiting items
   waiting (Over ∷ items) = waiting items
 
-  abbrev pub overs_in : List (Item J) → ℕ
+  abbrev pub overs_in : List (JobEntry J) → ℕ
   overs_in [] = 0
   overs_in (Work x ∷ items) = overs_in items
   overs_in (Over ∷ items) = overs_in items + 1
@@ -51,37 +51,37 @@ module _ {J : Type 0} where
   -- ---- all passes
 
   -- what a number of each pass adds up to
-  abbrev pub sum_over : (PassView J → ℕ) → List (PassView J) → ℕ
+  abbrev pub sum_over : (JobView J → ℕ) → List (JobView J) → ℕ
   sum_over f [] = 0
   sum_over f (v ∷ views) = f v + sum_over f views
 
-  abbrev pub EachAt : (ℕ → PassView J → Type 0) → List (PassView J) → Type 0
-  EachAt F views = (place : ℕ) (v : PassView J) → get_elem? views place ≡ some v → F place v
+  abbrev pub EachAt : (ℕ → JobView J → Type 0) → List (JobView J) → Type 0
+  EachAt F views = (place : ℕ) (v : JobView J) → get_elem? views place ≡ some v → F place v
 
   -- the pass that gives jobs, when none is given
-  abbrev pub first_view : PassView J
+  abbrev pub first_view : JobView J
   first_view = record { leads = true; next = 0; given = []; overs = 0; held = []; taken = []; pays = false }
 
   -- a pass that holds nothing
-  abbrev pub idle : PassView J
+  abbrev pub idle : JobView J
   idle = record { leads = false; next = 0; given = []; overs = 0; held = []; taken = []; pays = false }
 
 -- ---- the rule
 
 -- the pass gives the jobs: no other does, and it knows which are given, the next number, and how often no more come
-pub record GivesThem {J : Type 0} (lead : ℕ) (given : List (Given J)) (next overs place : ℕ) (v : PassView J) : Type 0 where
+pub record GivesThem {J : Type 0} (lead : ℕ) (given : List (Given J)) (next overs place : ℕ) (v : JobView J) : Type 0 where
   pub alone : place ≡ lead
   pub same : v.given ≡ given
   pub number : v.next ≡ next
   pub said : overs ≤ v.overs
 
 -- a pass fits the jobs that are given
-pub record AgreesWith {J : Type 0} (lead : ℕ) (given : List (Given J)) (next overs place : ℕ) (v : PassView J) : Type 0 where
+pub record AgreesWith {J : Type 0} (lead : ℕ) (given : List (Given J)) (next overs place : ℕ) (v : JobView J) : Type 0 where
   -- what it holds is given
   pub held : (x : Given J) → Contains v.held x → Contains given x
   pub leads : v.leads ≡ true → GivesThem lead given next overs place v
 
-pub record Ruled {J : Type 0} (Fits : J → Type 0) (items : List (Item J)) (views : List (PassView J)) : Type 0 where
+pub record Ruled {J : Type 0} (Fits : J → Type 0) (items : List (JobEntry J)) (views : List (JobView J)) : Type 0 where
   -- the jobs that are given and aren't back, under numbers that differ
   pub given : List (Given J)
   pub next : ℕ
@@ -99,37 +99,37 @@ pub record Ruled {J : Type 0} (Fits : J → Type 0) (items : List (Item J)) (vie
 
 module _ {J : Type 0} where
   -- a job is given under the next number, which none of those that are given has; or no more come
-  abbrev pub HasPut : PassView J → Item J → PassView J → Type 0
+  abbrev pub HasPut : JobView J → JobEntry J → JobView J → Type 0
   HasPut v (Work x) w = (w ≡ record v { next = v.next + 1; given = v.given ++ x ∷ [] }) × AreBelow x.number v.given
   HasPut v Over w = w ≡ record v { overs = v.overs + 1 }
 
   -- no more lies in the queue than is given, and was said
-  abbrev pub AreFew : PassView J → List (Item J) → Type 0
+  abbrev pub AreFew : JobView J → List (JobEntry J) → Type 0
   AreFew v items = length items ≤ length v.given + v.overs
 
   -- the pass holds the job that it took; or no more come
-  abbrev pub HasTaken : (J → Type 0) → PassView J → Item J → PassView J → Type 0
+  abbrev pub HasTaken : (J → Type 0) → JobView J → JobEntry J → JobView J → Type 0
   HasTaken Fits v (Work x) w = Fits x.job × (w ≡ record v { held = v.held ++ x ∷ []; taken = v.taken ++ x ∷ [] })
   HasTaken Fits v Over w = w ≡ v
 
   -- a pass that gives away what it holds, and the one that then holds it and goes back with the result
-  abbrev pub emptied : PassView J → PassView J
+  abbrev pub emptied : JobView J → JobView J
   emptied v = record v { held = [] }
 
-  abbrev pub token_view : PassView J → PassView J
+  abbrev pub token_view : JobView J → JobView J
   token_view v = record { leads = false; next = 0; given = []; overs = 0; held = v.held; taken = []; pays = true }
 
   -- the first pass holds what both did
-  abbrev pub together : PassView J → PassView J → PassView J
+  abbrev pub together : JobView J → JobView J → JobView J
   together v u = record v { held = v.held ++ u.held }
 
   -- what the pass holds is one of the jobs that it gave, and taken off leaves the others
-  abbrev pub HoldsAGivenOne : PassView J → Type 0
+  abbrev pub HoldsAGivenOne : JobView J → Type 0
   HoldsAGivenOne v =
       (x : Given J) → v.held ≡ x ∷ []
       → (before : List (Given J)) × (after : List (Given J)) × (v.given ≡ before ++ x ∷ after)
       × (taken_off x.number v.given ≡ before ++ after)
 
   -- the job that it holds is given no more
-  abbrev pub settled : PassView J → PassView J
+  abbrev pub settled : JobView J → JobView J
   settled v = record v { given = without v.held v.given; held = [] }

@@ -4,8 +4,8 @@ use Rattle.atomic_table.specs.Seated.{TableId}
 use Rattle.crossbeam_queue.specs.Passes.{Pass, view, IsSamePass}
 use Rattle.rubis_crew.specs.declared.job.Given.{Given}
 use Rattle.rubis_crew.specs.declared.job.Back.{Back}
-use Rattle.rubis_crew.specs.declared.rule.Item.{Item}
-use Rattle.rubis_crew.specs.declared.rule.PassView.{PassView}
+use Rattle.rubis_crew.specs.declared.rule.JobEntry.{JobEntry}
+use Rattle.rubis_crew.specs.declared.rule.JobView.{JobView}
 use Rattle.rubis_crew.specs.Rule.{HoldsAGivenOne, settled}
 use Rattle.rubis_crew.specs.declared.results.ResultView.{ResultView}
 use Rattle.rubis_crew.specs.declared.results.Slip.{Slip}
@@ -79,26 +79,26 @@ ComesBack {J} Worked s back t = (job : J) × IsBack s (record { number = back.nu
 
 -- ---- what the passes say
 
-module _ {J R : Type 0} (seat : Pass (Item J) (PassView J)) (desk : Pass (Slip J R) (ResultView J)) where
+module _ {J R : Type 0} (seat : Pass (JobEntry J) (JobView J)) (desk : Pass (Slip J R) (ResultView J)) where
   abbrev pub crew_of : CrewId
   crew_of = record { jobs = seat.table_id; results = desk.table_id }
 
   abbrev pub helper_of : HelperState J
   helper_of = record { crew = crew_of; taken = (view seat).taken; paid = (view desk).paid }
 
-abbrev pub lead_of : {J R : Type 0} → Bool → Pass (Item J) (PassView J) → Pass (Slip J R) (ResultView J) → LeadState J
+abbrev pub lead_of : {J R : Type 0} → Bool → Pass (JobEntry J) (JobView J) → Pass (Slip J R) (ResultView J) → LeadState J
 lead_of told seat desk =
     record { crew = crew_of seat desk; next = (view seat).next; given = (view seat).given; ended = told; told = (view seat).overs }
 
 -- a pass of the jobs that holds nothing, with one of their results
-pub record AreAPair {J R : Type 0} (seat : Pass (Item J) (PassView J)) (desk : Pass (Slip J R) (ResultView J)) : Type 0 where
+pub record AreAPair {J R : Type 0} (seat : Pass (JobEntry J) (JobView J)) (desk : Pass (Slip J R) (ResultView J)) : Type 0 where
   pub seat_free : seat.me.1 ≡ []
   pub desk_free : desk.me.1 ≡ []
   pub holds_none : (view seat).held ≡ []
   pub told : (view desk).of ≡ Some seat.table_id
 
 -- they are those of the one who gives jobs: `count` are given and not back, and the next number is `next`
-pub record AreALead {J R : Type 0} (next count : ℕ) (told : Bool) (seat : Pass (Item J) (PassView J)) (desk : Pass (Slip J R) (ResultView J)) : Type 0 where
+pub record AreALead {J R : Type 0} (next count : ℕ) (told : Bool) (seat : Pass (JobEntry J) (JobView J)) (desk : Pass (Slip J R) (ResultView J)) : Type 0 where
   pub pair : AreAPair seat desk
   pub leads : (view seat).leads ≡ true
   pub none_over : told ≡ false → (view seat).overs ≡ 0
@@ -109,16 +109,16 @@ pub record AreALead {J R : Type 0} (next count : ℕ) (told : Bool) (seat : Pass
 
 module _ {J : Type 0} where
   -- a job that was given and that the pass holds is back
-  pub record Settles (old new : Pass (Item J) (PassView J)) : Type 0 where
+  pub record Settles (old new : Pass (JobEntry J) (JobView J)) : Type 0 where
     pub same : IsSamePass old new
     pub given : HoldsAGivenOne (view old)
     pub back : view new ≡ settled (view old)
 
   -- all jobs are back, and it wasn't said that no more come
-  abbrev pub HasAllBack : PassView J → Type 0
+  abbrev pub HasAllBack : JobView J → Type 0
   HasAllBack v = (v.leads ≡ true) × (v.given ≡ []) × (v.overs ≡ 0)
 
   -- each of that many helpers is told that no more jobs come
-  pub record TellsAll (helpers : ℕ) (old new : Pass (Item J) (PassView J)) : Type 0 where
+  pub record TellsAll (helpers : ℕ) (old new : Pass (JobEntry J) (JobView J)) : Type 0 where
     pub same : IsSamePass old new
     pub said : view new ≡ record (view old) { overs = helpers }

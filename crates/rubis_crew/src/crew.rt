@@ -11,7 +11,7 @@ ghost use Rattle.rubis_crew.specs.States.{ended, new_lead, new_helper, given_too
 use crate::job::{Back, Given, Job};
 use crate::results::{Collecting, Joining, Naming, Paying, Payment, ResultRule, ResultView, Slip};
 use crate::rule::{
-    Giving, Handing, Item, JobRule, Owning, PassView, Receiving, Settling, Sharing, Taking,
+    Fetching, Giving, Handing, Hiring, JobEntry, JobRule, JobView, Owning, Receiving, Settling,
 };
 use crossbeam_queue::{Pass, RuledArrayQueue};
 use crossbeam_utils::sync::{EventCount, Key};
@@ -20,13 +20,11 @@ use std::marker::Model;
 use std::sync::{Arc, Wait};
 use std::thread;
 
-type Jobs<J> = RuledArrayQueue<Item<J>, PassView<J>, JobRule>;
-
-type Seat<J> = Pass<Item<J>, PassView<J>>;
+type Jobs<J> = RuledArrayQueue<JobEntry<J>, JobView<J>, JobRule>;
 
 type Results<J> = RuledArrayQueue<Slip<J, <J as Job>::Output>, ResultView<J>, ResultRule>;
 
-type Desk<J> = Pass<Slip<J, <J as Job>::Output>, ResultView<J>>;
+type ResultPass<J> = Pass<Slip<J, <J as Job>::Output>, ResultView<J>>;
 
 /// Jobs and results, shared by the one who gives jobs and the helpers. It ends by `close`, and can't be let go before. To a contract it
 /// is its identity, how many jobs may be given and not back, and how many helpers it has.
@@ -62,8 +60,8 @@ impl<J: Job> Model for Crew<J> {
 /// What the one who gives jobs knows of a crew, and its permission to give them.
 #[derive(Drop)]
 pub struct Lead<J: Job> {
-    seat: Seat<J>,
-    desk: Desk<J>,
+    seat: JobPass<J>,
+    desk: ResultPass<J>,
     next: u64,
     // How many jobs are given and not back.
     count: usize,
@@ -86,8 +84,8 @@ impl<J: Job> Model for Lead<J> {
 /// What a helper knows of a crew, and its permission to take jobs.
 #[derive(Drop)]
 pub struct Helper<J: Job> {
-    seat: Seat<J>,
-    desk: Desk<J>,
+    seat: JobPass<J>,
+    desk: ResultPass<J>,
 }
 
 impl<J: Job> Model for Helper<J> {
@@ -115,7 +113,7 @@ pub enum Found {
 }
 
 // The job that the pass holds is back: it is one of those that the pass gave, and given no more.
-fn settle<J: Job>(jobs: &Jobs<J>, seat: &mut Seat<J>)
+fn settle<J: Job>(jobs: &Jobs<J>, seat: &mut JobPass<J>)
     requires queue { IsPassOf jobs.now seat.old }
     requires leads { (view seat.old).leads ≡ true }
     requires one { (x : Given J) × ((view seat.old).held ≡ x ∷ []) }
@@ -129,7 +127,7 @@ fn settle<J: Job>(jobs: &Jobs<J>, seat: &mut Seat<J>)
 fn pay<J: Job, R: Wait>(
     rt: &R,
     results: &Results<J>,
-    desk: &mut Desk<J>,
+    desk: &mut ResultPass<J>,
     payment: Payment<J, J::Output>,
 )
     requires queue { IsPassOf results.now desk.old }
@@ -149,14 +147,14 @@ fn pay<J: Job, R: Wait>(
 }
 
 // Tells each helper that no more jobs come.
-fn say_over<J: Job, R: Wait>(rt: &R, jobs: &Jobs<J>, seat: &mut Seat<J>, helpers: usize)
+fn say_over<J: Job, R: Wait>(rt: &R, jobs: &Jobs<J>, seat: &mut JobPass<J>, helpers: usize)
     requires queue { IsPassOf jobs.now seat.old }
     requires back { HasAllBack (view seat.old) }
     requires room { helpers ≤ ruled_capacity jobs.now }
     ensures { TellsAll helpers seat.old seat.new }
 {
     for _ in 0..helpers {
-        match jobs.push_as::<Giving, R>(rt, seat, Item::Over) {
+        match jobs.push_as::<Giving, R>(rt, seat, JobEntry::Over) {
             Ok(()) => {}
             Err(_) => unreachable!(),
         }
@@ -188,7 +186,7 @@ impl<J: Job> Crew<J> {
     {
         let (jobs, mut seat) = Jobs::<J>::ruled(alloc, room + helpers)?;
         let (results, mut desk) = Results::<J>::ruled(alloc, room)?;
-        let token = jobs.another::<Sharing>(&mut seat);
+        let token = jobs.another::<Hiring>(&mut seat);
         match results.push_as::<Naming, R>(rt, &mut desk, Slip::Name(token)) {
             Ok(()) => {}
             Err(_) => unreachable!(),
@@ -261,7 +259,7 @@ impl<J: Job> Crew<J> {
         ensures helper { result ≡ new_helper self.now.id }
         ensures same { lead.new ≡ lead.old }
     {
-        let seat = self.jobs.another::<Sharing>(&mut lead.seat);
+        let seat = self.jobs.another::<Hiring>(&mut lead.seat);
         let desk = self.results.another::<Joining>(&mut lead.desk);
         Helper { seat, desk }
     }
@@ -272,7 +270,7 @@ impl<J: Job> Crew<J> {
         ensures helper { result ≡ new_helper self.now.id }
         ensures same { helper.new ≡ helper.old }
     {
-        let seat = self.jobs.another::<Sharing>(&mut helper.seat);
+        let seat = self.jobs.another::<Hiring>(&mut helper.seat);
         let desk = self.results.another::<Joining>(&mut helper.desk);
         Helper { seat, desk }
     }
@@ -290,7 +288,7 @@ impl<J: Job> Crew<J> {
             return Err(job);
         }
         let number = lead.next;
-        let item = Item::Work(Given { number, job });
+        let item = JobEntry::Work(Given { number, job });
         match self.jobs.push_as::<Giving, R>(rt, &mut lead.seat, item) {
             Ok(()) => {
                 self.calls.notify_one();
@@ -335,13 +333,13 @@ impl<J: Job> Crew<J> {
         if lead.count == 0 {
             return None;
         }
-        match self.jobs.pop_as::<Taking, R>(rt, &mut lead.seat) {
-            Some(Item::Work(given)) => {
+        match self.jobs.pop_as::<Fetching, R>(rt, &mut lead.seat) {
+            Some(JobEntry::Work(given)) => {
                 settle(&self.jobs, &mut lead.seat);
                 lead.count -= 1;
                 Some(given)
             }
-            Some(Item::Over) | None => None,
+            Some(JobEntry::Over) | None => None,
         }
     }
 
@@ -411,8 +409,8 @@ impl<J: Job> Crew<J> {
         requires { me.old.crew ≡ self.now.id }
         ensures { HasHelped result me.old me.new }
     {
-        match self.jobs.pop_as::<Taking, R>(rt, &mut me.seat) {
-            Some(Item::Work(given)) => {
+        match self.jobs.pop_as::<Fetching, R>(rt, &mut me.seat) {
+            Some(JobEntry::Work(given)) => {
                 let Given { number, job } = given;
                 let result = job.work();
                 let token = self.jobs.another::<Handing>(&mut me.seat);
@@ -424,7 +422,7 @@ impl<J: Job> Crew<J> {
                 pay(rt, &self.results, &mut me.desk, payment);
                 Found::AJob
             }
-            Some(Item::Over) => Found::Over,
+            Some(JobEntry::Over) => Found::Over,
             None => Found::Nothing,
         }
     }

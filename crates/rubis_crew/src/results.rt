@@ -2,28 +2,28 @@
 ghost use Rattle.std.specs.Prelude.{◌≡◌};
 
 use crate::job::{Given, Job};
-use crate::rule::{Item, PassView};
+use crate::rule::{JobEntry, JobView};
 use crossbeam_queue::Pass;
 use crossbeam_queue::protocol::{Lesson, Outcome, Protocol, Split};
 use std::collections::LinkedList;
 use std::marker::Model;
 
 /// The pass that goes back with a result: it holds the job.
-pub type Token<J> = Pass<Item<J>, PassView<J>>;
+pub type JobPass<J> = Pass<JobEntry<J>, JobView<J>>;
 
 /// A result on its way back.
 #[derive(Drop)]
 pub struct Payment<J, R> {
     pub number: u64,
     pub result: R,
-    pub token: Token<J>,
+    pub token: JobPass<J>,
 }
 
 /// What lies in the queue of results.
 #[derive(Drop)]
 pub enum Slip<J, R> {
     /// A token of the jobs whose results come back here. It is put in first.
-    Name(Token<J>),
+    Name(JobPass<J>),
     /// A result.
     Pay(Payment<J, R>),
 }

@@ -1,4 +1,4 @@
-//! The rule of the jobs that are given to a crew, and the steps that passes take under it. No value of any type but `Item` is ever made.
+//! The rule of the jobs that are given to a crew, and the steps that passes take under it. No value of any type but `JobEntry` is ever made.
 ghost use Rattle.std.specs.Prelude.{◌≡◌};
 
 use crate::job::{Given, Job};
@@ -7,7 +7,7 @@ use std::collections::LinkedList;
 
 /// What lies in the queue of jobs.
 #[derive(Drop)]
-pub enum Item<J> {
+pub enum JobEntry<J> {
     /// A job that no pass has taken yet.
     Work(Given<J>),
     /// No more jobs come.
@@ -15,7 +15,7 @@ pub enum Item<J> {
 }
 
 /// What a pass knows.
-pub struct PassView<J> {
+pub struct JobView<J> {
     /// Whether it is the one that gives jobs.
     pub leads: bool,
     /// The number of the next job that it gives.
@@ -35,7 +35,7 @@ pub struct PassView<J> {
 /// The rule.
 pub struct JobRule;
 
-impl<J: Job> Protocol<Item<J>, PassView<J>> for JobRule {
+impl<J: Job> Protocol<JobEntry<J>, JobView<J>> for JobRule {
     ghost use Rattle.rubis_crew.specs.Rule.{Ruled, first_view};
 
     ghost holds = { Ruled J.Fits };
@@ -46,37 +46,37 @@ impl<J: Job> Protocol<Item<J>, PassView<J>> for JobRule {
 /// A job is given.
 pub struct Giving;
 
-impl<J> Outcome<Item<J>, PassView<J>> for Giving {
+impl<J> Outcome<JobEntry<J>, JobView<J>> for Giving {
     ghost use Rattle.rubis_crew.specs.Rule.{HasPut};
 
     ghost then = { HasPut };
 }
 
-impl<J> Lesson<Item<J>, PassView<J>> for Giving {
+impl<J> Lesson<JobEntry<J>, JobView<J>> for Giving {
     ghost use Rattle.rubis_crew.specs.Rule.{AreFew};
 
     ghost fact = { AreFew };
 }
 
 /// What is first in the queue is taken.
-pub struct Taking;
+pub struct Fetching;
 
-impl<J: Job> Outcome<Item<J>, PassView<J>> for Taking {
+impl<J: Job> Outcome<JobEntry<J>, JobView<J>> for Fetching {
     ghost use Rattle.rubis_crew.specs.Rule.{HasTaken};
 
     ghost then = { HasTaken J.Fits };
 }
 
-impl<J> Lesson<Item<J>, PassView<J>> for Taking {
+impl<J> Lesson<JobEntry<J>, JobView<J>> for Fetching {
     ghost use Rattle.std.specs.Prelude.{⊤};
 
     ghost fact = { λ v items. ⊤ };
 }
 
 /// A new pass is made, for a helper.
-pub struct Sharing;
+pub struct Hiring;
 
-impl<J> Split<PassView<J>> for Sharing {
+impl<J> Split<JobView<J>> for Hiring {
     ghost use Rattle.rubis_crew.specs.Rule.{idle};
 
     ghost left = { λ v. v };
@@ -87,7 +87,7 @@ impl<J> Split<PassView<J>> for Sharing {
 /// What a pass holds goes to a new pass, which goes back with the result.
 pub struct Handing;
 
-impl<J> Split<PassView<J>> for Handing {
+impl<J> Split<JobView<J>> for Handing {
     ghost use Rattle.rubis_crew.specs.Rule.{emptied, token_view};
 
     ghost left = { emptied };
@@ -98,7 +98,7 @@ impl<J> Split<PassView<J>> for Handing {
 /// What came back with a result is held by the pass that takes it back.
 pub struct Receiving;
 
-impl<J> Join<PassView<J>> for Receiving {
+impl<J> Join<JobView<J>> for Receiving {
     ghost use Rattle.rubis_crew.specs.Rule.{together, idle};
 
     ghost both = { together };
@@ -109,7 +109,7 @@ impl<J> Join<PassView<J>> for Receiving {
 /// A pass looks at the jobs that it gave, where it holds one.
 pub struct Owning;
 
-impl<J> Lesson<Item<J>, PassView<J>> for Owning {
+impl<J> Lesson<JobEntry<J>, JobView<J>> for Owning {
     ghost use Rattle.rubis_crew.specs.Rule.{HoldsAGivenOne};
 
     ghost fact = { λ v items. HoldsAGivenOne v };
@@ -118,7 +118,7 @@ impl<J> Lesson<Item<J>, PassView<J>> for Owning {
 /// The job that it holds is back.
 pub struct Settling;
 
-impl<J> Split<PassView<J>> for Settling {
+impl<J> Split<JobView<J>> for Settling {
     ghost use Rattle.rubis_crew.specs.Rule.{settled, idle};
 
     ghost left = { settled };

@@ -1,9 +1,9 @@
 -- A step of a shop as it stands on a line.
 use Rattle.std.specs.Prelude.{ℕ, ◌++◌, List, [], ◌∷◌, codes, decimal}
-use Rattle.rubis_steps.specs.declared.packets.Packet.{Packet}
-use Rattle.rubis_steps.specs.declared.packets.Packet.TheVariants as packet
-use Rattle.rubis_steps.specs.declared.events.Event.{Event}
-use Rattle.rubis_steps.specs.declared.events.Event.TheVariants as event
+use Rattle.rubis_steps.specs.declared.packets.ShopPacket.{ShopPacket}
+use Rattle.rubis_steps.specs.declared.packets.ShopPacket.TheVariants as packet
+use Rattle.rubis_steps.specs.declared.events.ShopEvent.{ShopEvent}
+use Rattle.rubis_steps.specs.declared.events.ShopEvent.TheVariants as event
 
 -- a number behind a mark
 abbrev pub colon : ℕ → List ℕ
@@ -13,16 +13,16 @@ abbrev pub comma : ℕ → List ℕ
 comma n = codes "," ++ decimal n
 
 -- a packet behind a comma
-abbrev pub packet_text : Packet → List ℕ
+abbrev pub packet_text : ShopPacket → List ℕ
 packet_text (packet.Message site number ask) = codes ",m" ++ colon site ++ colon number ++ colon ask
 packet_text (packet.Pass site turn to after) = codes ",p" ++ colon site ++ colon turn ++ colon to ++ colon after
 
-abbrev pub packets_text : List Packet → List ℕ
+abbrev pub packets_text : List ShopPacket → List ℕ
 packets_text [] = []
 packets_text (x ∷ xs) = packet_text x ++ packets_text xs
 
 -- its kind, and then its numbers and packets in the order of the model's event
-abbrev pub step_text : Event → List ℕ
+abbrev pub step_text : ShopEvent → List ℕ
 step_text (event.Starts k) = codes "Starts" ++ comma k
 step_text (event.Opens k) = codes "Opens" ++ comma k
 step_text (event.Closes k) = codes "Closes" ++ comma k

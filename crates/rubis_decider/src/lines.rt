@@ -4,17 +4,17 @@ ghost use Rattle.std.specs.Prelude.{◌≡◌, IfOk, IfSome};
 ghost use Rattle.rubis_decider.specs.Written.{step_text};
 
 use crate::written::is_text_of;
-use rubis_steps::{Event, Packet};
+use rubis_steps::{ShopEvent, ShopPacket};
 use std::alloc::{AllocError, Global};
 
-fn packet_of(kind: &str, numbers: &[u64]) -> Option<Packet> {
+fn packet_of(kind: &str, numbers: &[u64]) -> Option<ShopPacket> {
     match (kind, numbers) {
-        ("m", [site, number, ask]) => Some(Packet::Message {
+        ("m", [site, number, ask]) => Some(ShopPacket::Message {
             site: *site,
             number: *number,
             ask: *ask,
         }),
-        ("p", [site, turn, to, after]) => Some(Packet::Pass {
+        ("p", [site, turn, to, after]) => Some(ShopPacket::Pass {
             site: *site,
             turn: *turn,
             to: *to,
@@ -25,7 +25,7 @@ fn packet_of(kind: &str, numbers: &[u64]) -> Option<Packet> {
 }
 
 // The packet that a word is.
-fn read_packet(alloc: Global, word: &str) -> Result<Option<Packet>, AllocError> {
+fn read_packet(alloc: Global, word: &str) -> Result<Option<ShopPacket>, AllocError> {
     let mut numbers = Vec::new(alloc);
     let mut kind = "";
     for part in word.split(':') {
@@ -38,36 +38,36 @@ fn read_packet(alloc: Global, word: &str) -> Result<Option<Packet>, AllocError> 
 }
 
 // The events that have a folder, or a stream, and no other number.
-fn event_of_one(kind: &str, folder: u64) -> Option<Event> {
+fn event_of_one(kind: &str, folder: u64) -> Option<ShopEvent> {
     match kind {
-        "Starts" => Some(Event::Starts { folder }),
-        "Opens" => Some(Event::Opens { folder }),
-        "Closes" => Some(Event::Closes { folder }),
-        "KeeperStarts" => Some(Event::KeeperStarts { folder }),
-        "IsKilled" => Some(Event::IsKilled { folder }),
-        "MachineStarts" => Some(Event::MachineStarts { folder }),
-        "IsLost" => Some(Event::IsLost { folder }),
-        "WritesAnew" => Some(Event::WritesAnew { folder }),
+        "Starts" => Some(ShopEvent::Starts { folder }),
+        "Opens" => Some(ShopEvent::Opens { folder }),
+        "Closes" => Some(ShopEvent::Closes { folder }),
+        "KeeperStarts" => Some(ShopEvent::KeeperStarts { folder }),
+        "IsKilled" => Some(ShopEvent::IsKilled { folder }),
+        "MachineStarts" => Some(ShopEvent::MachineStarts { folder }),
+        "IsLost" => Some(ShopEvent::IsLost { folder }),
+        "WritesAnew" => Some(ShopEvent::WritesAnew { folder }),
         _ => None,
     }
 }
 
 // Those that have two.
-fn event_of_two(kind: &str, folder: u64, other: u64) -> Option<Event> {
+fn event_of_two(kind: &str, folder: u64, other: u64) -> Option<ShopEvent> {
     match kind {
-        "Serves" => Some(Event::Serves { folder, ask: other }),
-        "Gives" => Some(Event::Gives { folder, ask: other }),
-        "Accepts" => Some(Event::Accepts { folder, ask: other }),
-        "Refuses" => Some(Event::Refuses { folder, ask: other }),
-        "TellsNothing" => Some(Event::TellsNothing { folder, ask: other }),
-        "TellsUnknown" => Some(Event::TellsUnknown { folder, ask: other }),
-        "Passes" => Some(Event::Passes { folder, to: other }),
-        "LosesEnd" => Some(Event::LosesEnd {
+        "Serves" => Some(ShopEvent::Serves { folder, ask: other }),
+        "Gives" => Some(ShopEvent::Gives { folder, ask: other }),
+        "Accepts" => Some(ShopEvent::Accepts { folder, ask: other }),
+        "Refuses" => Some(ShopEvent::Refuses { folder, ask: other }),
+        "TellsNothing" => Some(ShopEvent::TellsNothing { folder, ask: other }),
+        "TellsUnknown" => Some(ShopEvent::TellsUnknown { folder, ask: other }),
+        "Passes" => Some(ShopEvent::Passes { folder, to: other }),
+        "LosesEnd" => Some(ShopEvent::LosesEnd {
             folder,
             count: other,
         }),
-        "IsCopied" => Some(Event::IsCopied { folder, other }),
-        "StreamLosesEnd" => Some(Event::StreamLosesEnd {
+        "IsCopied" => Some(ShopEvent::IsCopied { folder, other }),
+        "StreamLosesEnd" => Some(ShopEvent::StreamLosesEnd {
             site: folder,
             count: other,
         }),
@@ -76,19 +76,19 @@ fn event_of_two(kind: &str, folder: u64, other: u64) -> Option<Event> {
 }
 
 // Those that have three.
-fn event_of_three(kind: &str, first: u64, second: u64, third: u64) -> Option<Event> {
+fn event_of_three(kind: &str, first: u64, second: u64, third: u64) -> Option<ShopEvent> {
     match kind {
-        "IsAsked" => Some(Event::IsAsked {
+        "IsAsked" => Some(ShopEvent::IsAsked {
             ask: first,
             life: second,
             records: third,
         }),
-        "TellsOk" => Some(Event::TellsOk {
+        "TellsOk" => Some(ShopEvent::TellsOk {
             folder: first,
             ask: second,
             number: third,
         }),
-        "TellsPublished" => Some(Event::TellsPublished {
+        "TellsPublished" => Some(ShopEvent::TellsPublished {
             folder: first,
             ask: second,
             number: third,
@@ -98,26 +98,26 @@ fn event_of_three(kind: &str, first: u64, second: u64, third: u64) -> Option<Eve
 }
 
 // Those of a packet.
-fn event_of_packet(kind: &str, folder: u64, packet: Packet) -> Option<Event> {
+fn event_of_packet(kind: &str, folder: u64, packet: ShopPacket) -> Option<ShopEvent> {
     match kind {
-        "Appends" => Some(Event::Appends { folder, packet }),
-        "Reads" => Some(Event::Reads { folder, packet }),
+        "Appends" => Some(ShopEvent::Appends { folder, packet }),
+        "Reads" => Some(ShopEvent::Reads { folder, packet }),
         _ => None,
     }
 }
 
 // Those of any packets.
-fn event_of_packets(kind: &str, folder: u64, packets: Vec<Packet>) -> Option<Event> {
+fn event_of_packets(kind: &str, folder: u64, packets: Vec<ShopPacket>) -> Option<ShopEvent> {
     match kind {
-        "IsChanged" => Some(Event::IsChanged { folder, packets }),
-        "Rebuilds" => Some(Event::Rebuilds { folder, packets }),
+        "IsChanged" => Some(ShopEvent::IsChanged { folder, packets }),
+        "Rebuilds" => Some(ShopEvent::Rebuilds { folder, packets }),
         _ => None,
     }
 }
 
-fn event_of(kind: &str, numbers: &[u64], packets: Vec<Packet>) -> Option<Event> {
+fn event_of(kind: &str, numbers: &[u64], packets: Vec<ShopPacket>) -> Option<ShopEvent> {
     match (kind, numbers, packets.as_slice()) {
-        ("ServerLosesAll", [], []) => Some(Event::ServerLosesAll),
+        ("ServerLosesAll", [], []) => Some(ShopEvent::ServerLosesAll),
         ("Appends" | "Reads", [folder], [packet]) => event_of_packet(kind, *folder, *packet),
         ("IsChanged" | "Rebuilds", [folder], _) => event_of_packets(kind, *folder, packets),
         (_, [folder], []) => event_of_one(kind, *folder),
@@ -128,7 +128,7 @@ fn event_of(kind: &str, numbers: &[u64], packets: Vec<Packet>) -> Option<Event> 
 }
 
 // The event that the words of a line name, if they name one.
-fn event_in(alloc: Global, line: &str) -> Result<Option<Event>, AllocError> {
+fn event_in(alloc: Global, line: &str) -> Result<Option<ShopEvent>, AllocError> {
     let mut numbers = Vec::new(alloc);
     let mut packets = Vec::new(alloc);
     let mut kind = "";
@@ -145,7 +145,7 @@ fn event_in(alloc: Global, line: &str) -> Result<Option<Event>, AllocError> {
 }
 
 /// The event that a line is: it is written so, and not otherwise. None where the line isn't one of those that this reads.
-pub(crate) fn read_event(alloc: Global, line: &str) -> Result<Option<Event>, AllocError>
+pub(crate) fn read_event(alloc: Global, line: &str) -> Result<Option<ShopEvent>, AllocError>
     ensures { IfOk result (λ found. IfSome found (λ event. step_text event ≡ line.now)) }
 {
     let found = event_in(alloc, line)?;

@@ -7,12 +7,12 @@ mod written;
 
 use anyhow::{Result, bail};
 use lines::read_event;
-use rubis_steps::{Carrier, Event, decide};
+use rubis_steps::{Carrier, ShopEvent, decide};
 use std::alloc::Global;
 use std::io::{BufRead, BufReader};
 
 // Says what a list is.
-fn tell(rt: &impl Print, alloc: Global, carrier: Carrier, events: &[Event]) -> Result<()> {
+fn tell(rt: &impl Print, alloc: Global, carrier: Carrier, events: &[ShopEvent]) -> Result<()> {
     match decide(alloc, carrier, events)? {
         None => println!(rt; "run")?,
         Some(at) => println!(rt; "{}", at as u64 + 1)?,
@@ -32,7 +32,7 @@ fn carrier_of(line: &str) -> Option<Carrier> {
 #[derive(Drop)]
 struct Run {
     carrier: Carrier,
-    events: Vec<Event>,
+    events: Vec<ShopEvent>,
 }
 
 impl Run {

@@ -4,16 +4,16 @@
 ghost use Rattle.std.specs.Prelude.{◌≡◌, ◌++◌, IfOk, OnOk, codes, string_bytes, true};
 ghost use Rattle.rubis_decider.specs.Written.{comma, packet_text, packets_text, step_text};
 
-use rubis_steps::{Event, Packet};
+use rubis_steps::{ShopEvent, ShopPacket};
 use std::alloc::{AllocError, Global};
 
 // Puts a packet behind the text.
-fn push_packet(text: &mut String, packet: Packet) -> Result<(), AllocError>
+fn push_packet(text: &mut String, packet: ShopPacket) -> Result<(), AllocError>
     ensures { OnOk result (string_bytes text.new ≡ string_bytes text.old ++ packet_text packet) }
 {
     match packet {
-        Packet::Message { site, number, ask } => write!(text, ",m:{site}:{number}:{ask}"),
-        Packet::Pass {
+        ShopPacket::Message { site, number, ask } => write!(text, ",m:{site}:{number}:{ask}"),
+        ShopPacket::Pass {
             site,
             turn,
             to,
@@ -48,7 +48,12 @@ fn three(
     Ok(text)
 }
 
-fn of_packet(alloc: Global, kind: &str, folder: u64, packet: Packet) -> Result<String, AllocError>
+fn of_packet(
+    alloc: Global,
+    kind: &str,
+    folder: u64,
+    packet: ShopPacket,
+) -> Result<String, AllocError>
     ensures { IfOk result (λ text. string_bytes text ≡ kind.now ++ comma folder ++ packet_text packet) }
 {
     let mut text = one(alloc, kind, folder)?;
@@ -60,7 +65,7 @@ fn of_packets(
     alloc: Global,
     kind: &str,
     folder: u64,
-    packets: &[Packet],
+    packets: &[ShopPacket],
 ) -> Result<String, AllocError>
     ensures { IfOk result (λ text. string_bytes text ≡ kind.now ++ comma folder ++ packets_text packets.now) }
 {
@@ -72,49 +77,54 @@ fn of_packets(
 }
 
 /// The line that the step is.
-pub(crate) fn text_of(alloc: Global, event: &Event) -> Result<String, AllocError>
+pub(crate) fn text_of(alloc: Global, event: &ShopEvent) -> Result<String, AllocError>
     ensures { IfOk result (λ text. string_bytes text ≡ step_text event.now) }
 {
     match event {
-        Event::Starts { folder } => one(alloc, "Starts", *folder),
-        Event::Opens { folder } => one(alloc, "Opens", *folder),
-        Event::Closes { folder } => one(alloc, "Closes", *folder),
-        Event::KeeperStarts { folder } => one(alloc, "KeeperStarts", *folder),
-        Event::IsKilled { folder } => one(alloc, "IsKilled", *folder),
-        Event::MachineStarts { folder } => one(alloc, "MachineStarts", *folder),
-        Event::IsAsked { ask, life, records } => three(alloc, "IsAsked", *ask, *life, *records),
-        Event::Serves { folder, ask } => two(alloc, "Serves", *folder, *ask),
-        Event::Gives { folder, ask } => two(alloc, "Gives", *folder, *ask),
-        Event::Accepts { folder, ask } => two(alloc, "Accepts", *folder, *ask),
-        Event::Refuses { folder, ask } => two(alloc, "Refuses", *folder, *ask),
-        Event::TellsOk {
+        ShopEvent::Starts { folder } => one(alloc, "Starts", *folder),
+        ShopEvent::Opens { folder } => one(alloc, "Opens", *folder),
+        ShopEvent::Closes { folder } => one(alloc, "Closes", *folder),
+        ShopEvent::KeeperStarts { folder } => one(alloc, "KeeperStarts", *folder),
+        ShopEvent::IsKilled { folder } => one(alloc, "IsKilled", *folder),
+        ShopEvent::MachineStarts { folder } => one(alloc, "MachineStarts", *folder),
+        ShopEvent::IsAsked { ask, life, records } => three(alloc, "IsAsked", *ask, *life, *records),
+        ShopEvent::Serves { folder, ask } => two(alloc, "Serves", *folder, *ask),
+        ShopEvent::Gives { folder, ask } => two(alloc, "Gives", *folder, *ask),
+        ShopEvent::Accepts { folder, ask } => two(alloc, "Accepts", *folder, *ask),
+        ShopEvent::Refuses { folder, ask } => two(alloc, "Refuses", *folder, *ask),
+        ShopEvent::TellsOk {
             folder,
             ask,
             number,
         } => three(alloc, "TellsOk", *folder, *ask, *number),
-        Event::TellsPublished {
+        ShopEvent::TellsPublished {
             folder,
             ask,
             number,
         } => three(alloc, "TellsPublished", *folder, *ask, *number),
-        Event::TellsNothing { folder, ask } => two(alloc, "TellsNothing", *folder, *ask),
-        Event::TellsUnknown { folder, ask } => two(alloc, "TellsUnknown", *folder, *ask),
-        Event::Passes { folder, to } => two(alloc, "Passes", *folder, *to),
-        Event::Appends { folder, packet } => of_packet(alloc, "Appends", *folder, *packet),
-        Event::Reads { folder, packet } => of_packet(alloc, "Reads", *folder, *packet),
-        Event::LosesEnd { folder, count } => two(alloc, "LosesEnd", *folder, *count),
-        Event::IsChanged { folder, packets } => of_packets(alloc, "IsChanged", *folder, packets),
-        Event::IsLost { folder } => one(alloc, "IsLost", *folder),
-        Event::IsCopied { folder, other } => two(alloc, "IsCopied", *folder, *other),
-        Event::StreamLosesEnd { site, count } => two(alloc, "StreamLosesEnd", *site, *count),
-        Event::ServerLosesAll => String::from_str(alloc, "ServerLosesAll"),
-        Event::Rebuilds { folder, packets } => of_packets(alloc, "Rebuilds", *folder, packets),
-        Event::WritesAnew { folder } => one(alloc, "WritesAnew", *folder),
+        ShopEvent::TellsNothing { folder, ask } => two(alloc, "TellsNothing", *folder, *ask),
+        ShopEvent::TellsUnknown { folder, ask } => two(alloc, "TellsUnknown", *folder, *ask),
+        ShopEvent::Passes { folder, to } => two(alloc, "Passes", *folder, *to),
+        ShopEvent::Appends { folder, packet } => of_packet(alloc, "Appends", *folder, *packet),
+        ShopEvent::Reads { folder, packet } => of_packet(alloc, "Reads", *folder, *packet),
+        ShopEvent::LosesEnd { folder, count } => two(alloc, "LosesEnd", *folder, *count),
+        ShopEvent::IsChanged { folder, packets } => of_packets(
+            alloc,
+            "IsChanged",
+            *folder,
+            packets,
+        ),
+        ShopEvent::IsLost { folder } => one(alloc, "IsLost", *folder),
+        ShopEvent::IsCopied { folder, other } => two(alloc, "IsCopied", *folder, *other),
+        ShopEvent::StreamLosesEnd { site, count } => two(alloc, "StreamLosesEnd", *site, *count),
+        ShopEvent::ServerLosesAll => String::from_str(alloc, "ServerLosesAll"),
+        ShopEvent::Rebuilds { folder, packets } => of_packets(alloc, "Rebuilds", *folder, packets),
+        ShopEvent::WritesAnew { folder } => one(alloc, "WritesAnew", *folder),
     }
 }
 
 /// Whether the line is that step.
-pub(crate) fn is_text_of(alloc: Global, line: &str, event: &Event) -> Result<bool, AllocError>
+pub(crate) fn is_text_of(alloc: Global, line: &str, event: &ShopEvent) -> Result<bool, AllocError>
     ensures { IfOk result (λ is. is ≡ true → step_text event.now ≡ line.now) }
 {
     let text = text_of(alloc, event)?;

@@ -6,7 +6,7 @@ use Rattle.rubis_engine.specs.Text.{input_records}
 use Rattle.rubis_reading.specs.Chunked.{IsChunk}
 use Rattle.rubis_reading.specs.Readings.{AreGiven as GivenAs, AreOf, AreRead, IsOver, KeepFor, TakesFirst}
 use Rattle.rubis_reading.specs.declared.pieces.ReadPiece.{ReadPiece}
-use Rattle.rubis_reading.specs.declared.pieces.Piece.{Piece}
+use Rattle.rubis_reading.specs.declared.pieces.GivenPiece.{GivenPiece}
 use Rattle.rubis_reading.specs.declared.pieces.Pieces.{Pieces}
 use Rattle.rubis_reading.proofs.ChunkFacts.{taken}
 use Rattle.std.proofs.lemmas.List.{drop-drop, length-drop}
@@ -38,7 +38,7 @@ free-of-none (Some p) given = λ text. record {
   from = given.from;
 }
   where
-    go : (text : List ℕ) (ps : List Piece) → GivenAs p.sites p.window p.lead.given p.first [] ps → GivenAs p.sites p.window p.lead.given p.first text ps
+    go : (text : List ℕ) (ps : List GivenPiece) → GivenAs p.sites p.window p.lead.given p.first [] ps → GivenAs p.sites p.window p.lead.given p.first text ps
     go text [] g = g
     go text (q ∷ ps) g = let chunk = g.0.chunk in absurd (omega (arith, chunk.0, chunk.1))
 

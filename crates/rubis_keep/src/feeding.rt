@@ -1,6 +1,6 @@
 //! The answers of a site to records.
 
-ghost use Rattle.std.specs.Prelude.{◌≡◌, ◌<◌, ◌+◌, ◌^◌, ◌∷◌, [], ℕ, List, OnOk};
+ghost use Rattle.std.specs.Prelude.{◌∷◌, ℕ, List};
 ghost use Rattle.rubis_engine.specs.Reading.{Gives};
 ghost use Rattle.rubis_engine.specs.Text.{input_records};
 ghost use Rattle.rubis_message.specs.Inputs.{FitsIn};
@@ -33,39 +33,8 @@ pub(crate) fn finish<G: Gate, T: Threads + Wait + Sync, O: Read, F: SiteFiles>(
     answers.put_sink(rt, &mut clerk.desk.reply.sink)
 }
 
-// Puts the answers, where there is much of them.
-#[inline(always)]
-fn put_full<G: Gate, T: Wait, O: Read, F: SiteFiles>(
-    rt: &T,
-    clerk: &mut Clerk<G>,
-    answers: &mut Answers<O, F>,
-) -> Result<(), KeepFault>
-    ensures { FeedsRows O.remaining F.history [] clerk.old clerk.new answers.old answers.new result }
-{
-    if !clerk.desk.reply.sink.is_full() {
-        return Ok(());
-    }
-    answers.put_sink(rt, &mut clerk.desk.reply.sink)
-}
-
-// Ends a run that has answered as many records as the clerk answers, where there is one more.
-#[inline(always)]
-fn stop<G: Gate, T: Threads + Wait + Sync, O: Read, F: SiteFiles>(
-    rt: &T,
-    clerk: &mut Clerk<G>,
-    answers: &mut Answers<O, F>,
-) -> Result<(), KeepFault>
-    ensures fed { FeedsRows O.remaining F.history [] clerk.old clerk.new answers.old answers.new result }
-    ensures room { OnOk result (clerk.new.desk.answered + 1 < 2 ^ 64) }
-{
-    if clerk.desk.answered < clerk.limit {
-        return Ok(());
-    }
-    finish(rt, clerk, answers)?;
-    Err(KeepFault::TooLong)
-}
-
-// Answers what the next record was read as.
+// Answers what the next record was read as, and puts the answers where there is much of them. If as many are answered as the clerk
+// answers, that ends the run.
 #[inline(always)]
 fn feed_input<G: Gate, T: Threads + Wait + Sync, O: Read, F: SiteFiles>(
     rt: &T,
@@ -76,9 +45,15 @@ fn feed_input<G: Gate, T: Threads + Wait + Sync, O: Read, F: SiteFiles>(
     requires fits { FitsIn clerk.old.desk.site.place.sites read }
     ensures { FeedsInputs O.remaining F.history (read ∷ []) clerk.old clerk.new answers.old answers.new result }
 {
-    stop(rt, clerk, answers)?;
+    if clerk.desk.answered >= clerk.limit {
+        finish(rt, clerk, answers)?;
+        return Err(KeepFault::TooLong);
+    }
     clerk.desk.take_read(rt, read)?;
-    put_full(rt, clerk, answers)
+    if !clerk.desk.reply.sink.is_full() {
+        return Ok(());
+    }
+    answers.put_sink(rt, &mut clerk.desk.reply.sink)
 }
 
 // Answers messages that came one after the other.
@@ -145,10 +120,8 @@ fn feed_records<G: Gate, T: Threads + Wait + Sync, R: Read, O: Read, F: SiteFile
         if !records.advance()? {
             return Ok(());
         }
-        stop(rt, clerk, answers)?;
         let read = clerk.desk.read(records.fields())?;
-        clerk.desk.take_read(rt, read)?;
-        put_full(rt, clerk, answers)?;
+        feed_input(rt, read, clerk, answers)?;
     }
     unreachable!()
 }

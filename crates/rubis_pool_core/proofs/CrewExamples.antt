@@ -2,9 +2,9 @@
 use Rattle.std.proofs.Common.{◌≡◌, ℕ, ◌<◌, List, [], ◌∷◌, ◌++◌, true, false, refl, sym, ap, ◌∙◌, arith}
 use Rattle.std.proofs.lemmas.List.Elements.{All-cons, All-nil}
 use Rattle.rubis_crew.specs.declared.job.Given.{Given}
-use Rattle.rubis_crew.specs.declared.rule.Item.{Item}
-use Rattle.rubis_crew.specs.declared.rule.Item.TheVariants.{Work, Over}
-use Rattle.rubis_crew.specs.declared.rule.PassView.{PassView}
+use Rattle.rubis_crew.specs.declared.rule.JobEntry.{JobEntry}
+use Rattle.rubis_crew.specs.declared.rule.JobEntry.TheVariants.{Work, Over}
+use Rattle.rubis_crew.specs.declared.rule.JobView.{JobView}
 use Rattle.rubis_crew.specs.Rule.{AreBelow, idle, token_view, waiting}
 use Rattle.rubis_crew.specs.Laws.{JobState, MovesAll, Step, StepsAll, opening}
 use Rattle.rubis_crew.specs.Laws.Step.{Puts, Takes, Shares, Hands, Receives, Settles}
@@ -20,14 +20,14 @@ module _ {J : Type 0} (Fits : J → Type 0) (a b : J) (a_fits : Fits a) (b_fits 
   second = record { number = 1; job = b }
 
   -- the caller's pass, and the helper's
-  abbrev caller : ℕ → List (Given J) → List (Given J) → List (Given J) → PassView J
+  abbrev caller : ℕ → List (Given J) → List (Given J) → List (Given J) → JobView J
   caller next given held taken =
       record { leads = true; next = next; given = given; overs = 0; held = held; taken = taken; pays = false }
 
-  abbrev helper : List (Given J) → PassView J
+  abbrev helper : List (Given J) → JobView J
   helper held = record { leads = false; next = 0; given = []; overs = 0; held = held; taken = first ∷ []; pays = false }
 
-  abbrev at : List (Item J) → List (PassView J) → JobState J
+  abbrev at : List (JobEntry J) → List (JobView J) → JobState J
   at items views = record { items = items; views = views }
 
   -- the helper takes the first job; the caller gives the second and does it, while the first is out; then the helper hands its result on,
@@ -42,7 +42,7 @@ module _ {J : Type 0} (Fits : J → Type 0) (a b : J) (a_fits : Fits a) (b_fits 
   these_jobs = refl
 
   -- the caller's pass, once it said that no more come
-  abbrev over : PassView J
+  abbrev over : JobView J
   over = record (caller 2 [] [] (second ∷ [])) { overs = 1 }
 
   abbrev end : JobState J

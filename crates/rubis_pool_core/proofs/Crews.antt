@@ -18,9 +18,9 @@ use Rattle.rubis_pieces.specs.declared.pieces.Piece.{Piece}
 use Rattle.rubis_pieces.specs.declared.pieces.Done.{Done}
 use Rattle.rubis_pieces.specs.Posted as pieces
 use Rattle.rubis_crew.specs.declared.job.Given.{Given}
-use Rattle.rubis_crew.specs.declared.rule.Item.{Item}
-use Rattle.rubis_crew.specs.declared.rule.Item.TheVariants.{Work, Over}
-use Rattle.rubis_crew.specs.declared.rule.PassView.{PassView}
+use Rattle.rubis_crew.specs.declared.rule.JobEntry.{JobEntry}
+use Rattle.rubis_crew.specs.declared.rule.JobEntry.TheVariants.{Work, Over}
+use Rattle.rubis_crew.specs.declared.rule.JobView.{JobView}
 use Rattle.rubis_crew.specs.Rule.{waiting}
 use Rattle.rubis_crew.specs.Laws.{JobState, Moves, MovesAll, Step, Steps, StepsAll, opening}
 use Rattle.rubis_crew.specs.Laws.Step.{Puts, Takes, Shares, Hands, Receives, Settles}
@@ -50,17 +50,17 @@ use Rattle.rubis_pool_core.proofs.Threads.{scheduled, schedules}
 -- ---- the steps of passes, as they move what waits
 module _ {J : Type 0} where
   -- what waits moves by steps that follow, to what waits in the end
-  abbrev MovesOn : List (Given J) → List (Item J) → List (Step J) → JobState J → Type 0
+  abbrev MovesOn : List (Given J) → List (JobEntry J) → List (Step J) → JobState J → Type 0
   MovesOn waits items steps t = MovesAll waits (job_moves (job_steps items steps)) (waiting t.items)
 
-  put_moves : (items : List (Item J)) (item : Item J) (steps : List (Step J)) (t : JobState J)
+  put_moves : (items : List (JobEntry J)) (item : JobEntry J) (steps : List (Step J)) (t : JobState J)
       → MovesOn (waiting (items ++ item ∷ [])) (items ++ item ∷ []) steps t
       → MovesAll (waiting items) (job_moves (giving item ++ job_steps (items ++ item ∷ []) steps)) (waiting t.items)
   put_moves items (Work x) steps t rest = (waiting (items ++ Work x ∷ []), waiting_append items (Work x ∷ []), rest)
   put_moves items Over steps t rest =
       subst (λ (l : List (Given J)). MovesAll l (job_moves (job_steps (items ++ Over ∷ []) steps)) (waiting t.items)) (waiting_over items) rest
 
-  take_moves : (item : Item J) (items : List (Item J)) (i : ℕ) (steps : List (Step J)) (t : JobState J) → MovesOn (waiting items) items steps t
+  take_moves : (item : JobEntry J) (items : List (JobEntry J)) (i : ℕ) (steps : List (Step J)) (t : JobState J) → MovesOn (waiting items) items steps t
       → MovesAll (waiting (item ∷ items)) (job_moves (getting i (item ∷ items) ++ job_steps items steps)) (waiting t.items)
   take_moves (Work x) items i steps t rest = (waiting items, refl, rest)
   take_moves Over items i steps t rest = rest
@@ -68,15 +68,15 @@ module _ {J : Type 0} where
   module _ (Fits : J → Type 0) where
     kept : (s u : JobState J) (steps : List (Step J)) (t : JobState J) → u.items ≡ s.items → MovesOn (waiting u.items) u.items steps t
         → MovesOn (waiting s.items) s.items steps t
-    kept s u steps t same rest = subst (λ (l : List (Item J)). MovesOn (waiting l) l steps t) same rest
+    kept s u steps t same rest = subst (λ (l : List (JobEntry J)). MovesOn (waiting l) l steps t) same rest
 
     pub passes_move : PassesMoveTheWaiting Fits
     passes_move s [] t h = ap (λ (u : JobState J). waiting u.items) h
     passes_move s (Puts i item ∷ steps) t h =
         put_moves s.items item steps t
-        (subst (λ (l : List (Item J)). MovesOn (waiting l) l steps t) (ap (λ (u : JobState J). u.items) h.1.5) (passes_move h.0 steps t h.2))
+        (subst (λ (l : List (JobEntry J)). MovesOn (waiting l) l steps t) (ap (λ (u : JobState J). u.items) h.1.5) (passes_move h.0 steps t h.2))
     passes_move s (Takes i ∷ steps) t h =
-        subst (λ (l : List (Item J)). MovesAll (waiting l) (job_moves (getting i l ++ job_steps (after_first l) steps)) (waiting t.items))
+        subst (λ (l : List (JobEntry J)). MovesAll (waiting l) (job_moves (getting i l ++ job_steps (after_first l) steps)) (waiting t.items))
         (sym h.1.4) (take_moves h.1.2 h.0.items i steps t (passes_move h.0 steps t h.2))
     passes_move s (Shares i ∷ steps) t h = kept s h.0 steps t (ap (λ (u : JobState J). u.items) h.1.2) (passes_move h.0 steps t h.2)
     passes_move s (Hands i ∷ steps) t h = kept s h.0 steps t (ap (λ (u : JobState J). u.items) h.1.2) (passes_move h.0 steps t h.2)
@@ -85,7 +85,7 @@ module _ {J : Type 0} where
 
     -- ---- no pass goes away
 
-    more_views : (views : List (PassView J)) (i : ℕ) (w new : PassView J) → length (set views i w ++ new ∷ []) ≡ length views + 1
+    more_views : (views : List (JobView J)) (i : ℕ) (w new : JobView J) → length (set views i w ++ new ∷ []) ≡ length views + 1
     more_views views i w new = let a = length-append (set views i w) (new ∷ []) in let b = length-set views i w in omega arith
 
     as_many : (s : JobState J) (step : Step J) (t : JobState J) → Steps Fits s step t → length s.views ≤ length t.views
@@ -112,7 +112,7 @@ module _ {J : Type 0} where
     all_stay s [] t h = let is : length s.views ≡ length t.views = ap (λ (u : JobState J). length u.views) h in omega arith
     all_stay s (step ∷ steps) t h = let a = as_many s step h.0 h.1 in let b = all_stay h.0 steps t h.2 in omega arith
 
-  there : (views : List (PassView J)) (i : ℕ) (v : PassView J) → get_elem? views i ≡ some v → i < length views
+  there : (views : List (JobView J)) (i : ℕ) (v : JobView J) → get_elem? views i ≡ some v → i < length views
   there [] i v e = absurd (some-ne-none v (sym e))
   there (x ∷ views) zero v e = omega arith
   there (x ∷ views) (suc i) v e = let h = there views i v e in omega arith
@@ -150,12 +150,12 @@ module _ {G : Type 0} where
 
   -- ---- each pass that takes is a worker
 
-  put_taken : (workers : ℕ) (item : Item (Folding G)) (steps : List (JobStep (Folding G))) → AreTakenBy workers (board_steps steps)
+  put_taken : (workers : ℕ) (item : JobEntry (Folding G)) (steps : List (JobStep (Folding G))) → AreTakenBy workers (board_steps steps)
       → AreTakenBy workers (board_steps (giving item ++ steps))
   put_taken workers (Work x) steps by = by
   put_taken workers Over steps by = by
 
-  got_taken : (workers i : ℕ) (items : List (Item (Folding G))) (steps : List (JobStep (Folding G))) → i < workers
+  got_taken : (workers i : ℕ) (items : List (JobEntry (Folding G))) (steps : List (JobStep (Folding G))) → i < workers
       → AreTakenBy workers (board_steps steps) → AreTakenBy workers (board_steps (getting i items ++ steps))
   got_taken workers i [] steps less by = by
   got_taken workers i (Work x ∷ items) steps less by = (less, by)
@@ -164,14 +164,14 @@ module _ {G : Type 0} where
   module _ (Fits : Folding G → Type 0) (workers : ℕ) where
     kept_taken : (s u : JobState (Folding G)) (steps : List (Step (Folding G))) → u.items ≡ s.items
         → AreTakenBy workers (board_steps (job_steps u.items steps)) → AreTakenBy workers (board_steps (job_steps s.items steps))
-    kept_taken s u steps same by = subst (λ (l : List (Item (Folding G))). AreTakenBy workers (board_steps (job_steps l steps))) same by
+    kept_taken s u steps same by = subst (λ (l : List (JobEntry (Folding G))). AreTakenBy workers (board_steps (job_steps l steps))) same by
 
     taken_by : (s : JobState (Folding G)) (steps : List (Step (Folding G))) (t : JobState (Folding G)) → StepsAll Fits s steps t
         → length t.views ≤ workers → AreTakenBy workers (board_steps (job_steps s.items steps))
     taken_by s [] t h few = tt
     taken_by s (Puts i item ∷ steps) t h few =
         put_taken workers item (job_steps (s.items ++ item ∷ []) steps)
-        (subst (λ (l : List (Item (Folding G))). AreTakenBy workers (board_steps (job_steps l steps)))
+        (subst (λ (l : List (JobEntry (Folding G))). AreTakenBy workers (board_steps (job_steps l steps)))
         (ap (λ (u : JobState (Folding G)). u.items) h.1.5) (taken_by h.0 steps t h.2 few))
     taken_by s (Takes i ∷ steps) t h few =
         let here = there s.views i h.1.0 h.1.3 in
@@ -179,7 +179,7 @@ module _ {G : Type 0} where
         let others = all_stay Fits h.0 steps t h.2 in
         let less : i < workers = omega arith in
         got_taken workers i s.items (job_steps (after_first s.items) steps) less
-        (subst (λ (l : List (Item (Folding G))). AreTakenBy workers (board_steps (job_steps l steps)))
+        (subst (λ (l : List (JobEntry (Folding G))). AreTakenBy workers (board_steps (job_steps l steps)))
         (ap after_first (sym h.1.4)) (taken_by h.0 steps t h.2 few))
     taken_by s (Shares i ∷ steps) t h few =
         kept_taken s h.0 steps (ap (λ (u : JobState (Folding G)). u.items) h.1.2) (taken_by h.0 steps t h.2 few)

@@ -11,8 +11,8 @@ use Rattle.rubis_pieces.specs.Work.{IsWorked}
 use Rattle.rubis_pieces.specs.declared.pieces.Piece.{Piece}
 use Rattle.rubis_pieces.specs.declared.pieces.Done.{Done}
 use Rattle.rubis_crew.specs.declared.job.Given.{Given}
-use Rattle.rubis_crew.specs.declared.rule.Item.{Item}
-use Rattle.rubis_crew.specs.declared.rule.Item.TheVariants.{Work, Over}
+use Rattle.rubis_crew.specs.declared.rule.JobEntry.{JobEntry}
+use Rattle.rubis_crew.specs.declared.rule.JobEntry.TheVariants.{Work, Over}
 use Rattle.rubis_crew.specs.Rule.{waiting}
 use Rattle.rubis_crew.specs.Laws.{JobState, Move, MovesAll, Step, StepsAll, opening}
 use Rattle.rubis_crew.specs.Laws.Move.{Put, Taken}
@@ -51,22 +51,22 @@ module _ {J : Type 0} where
   all_given (Gets w x ∷ steps) = all_given steps
 
   -- what is given with an item that is put into the queue: one that says that no more come is no job
-  abbrev pub giving : Item J → List (JobStep J)
+  abbrev pub giving : JobEntry J → List (JobStep J)
   giving (Work x) = Gives x ∷ []
   giving Over = []
 
   -- what a pass gets that takes the first item, and what is left then
-  abbrev pub getting : ℕ → List (Item J) → List (JobStep J)
+  abbrev pub getting : ℕ → List (JobEntry J) → List (JobStep J)
   getting i [] = []
   getting i (Work x ∷ items) = Gets i x ∷ []
   getting i (Over ∷ items) = []
 
-  abbrev pub after_first : List (Item J) → List (Item J)
+  abbrev pub after_first : List (JobEntry J) → List (JobEntry J)
   after_first [] = []
   after_first (item ∷ items) = items
 
   -- which jobs are given and got, where passes take these steps, from what is in the queue on
-  abbrev pub job_steps : List (Item J) → List (Step J) → List (JobStep J)
+  abbrev pub job_steps : List (JobEntry J) → List (Step J) → List (JobStep J)
   job_steps items [] = []
   job_steps items (Puts i item ∷ steps) = giving item ++ job_steps (items ++ item ∷ []) steps
   job_steps items (Takes i ∷ steps) = getting i items ++ job_steps (after_first items) steps

@@ -8,7 +8,7 @@ use Rattle.rubis_crew.specs.declared.job.Given.{Given}
 use Rattle.rubis_crew.specs.States.{IsBack, LeadState}
 use Rattle.rubis_reading.specs.Chunked.{IsChunk}
 use Rattle.rubis_reading.specs.Readings.{AreGiven, AreOf, AreRead, EachGiven, IsPiece, IsPut, IsReading, passed}
-use Rattle.rubis_reading.specs.declared.pieces.Piece.{Piece}
+use Rattle.rubis_reading.specs.declared.pieces.GivenPiece.{GivenPiece}
 use Rattle.rubis_reading.specs.declared.pieces.Pieces.{Pieces}
 use Rattle.rubis_reading.specs.declared.readings.Reading.{Reading}
 use Rattle.rubis_reading.specs.declared.stretches.Stretch.{Stretch}
@@ -34,7 +34,7 @@ each_at P (y ∷ before) after x all = each_at P before after x all.1
 
 -- ---- a piece more
 
-pub given_more : (sites window : ℕ) (jobs : List (Given Reading)) (x : Given Reading) (number many : ℕ) (text : List ℕ) (ps : List Piece)
+pub given_more : (sites window : ℕ) (jobs : List (Given Reading)) (x : Given Reading) (number many : ℕ) (text : List ℕ) (ps : List GivenPiece)
     → AreGiven sites window jobs number text ps → x.number ≡ number + length ps → IsChunk many (drop (passed ps) text)
     → IsReading sites window (take many (drop (passed ps) text)) x.job
     → AreGiven sites window (jobs ++ x ∷ []) number text (ps ++ record { many = many; read = None } ∷ [])
@@ -63,14 +63,14 @@ given_more sites window jobs x number many text (q ∷ ps) given is chunk readin
     )
 
 -- they lie within the text
-pub passed_within : (sites window : ℕ) (jobs : List (Given Reading)) (number : ℕ) (text : List ℕ) (ps : List Piece)
+pub passed_within : (sites window : ℕ) (jobs : List (Given Reading)) (number : ℕ) (text : List ℕ) (ps : List GivenPiece)
     → AreGiven sites window jobs number text ps → passed ps ≤ length text
 passed_within sites window jobs number text [] given = omega arith
 passed_within sites window jobs number text (q ∷ ps) given =
     let rest = passed_within sites window jobs (number + 1) (drop (q.many - 1) text) ps given.1 in
     omega (arith, rest, length-drop (q.many - 1) text, given.0.chunk.1)
 
-pub passed_more : (ps : List Piece) (many : ℕ) → passed (ps ++ record { many = many; read = None } ∷ []) ≡ passed ps + (many - 1)
+pub passed_more : (ps : List GivenPiece) (many : ℕ) → passed (ps ++ record { many = many; read = None } ∷ []) ≡ passed ps + (many - 1)
 passed_more [] many = omega arith
 passed_more (q ∷ ps) many = let rest = passed_more ps many in omega (arith, rest)
 
@@ -81,7 +81,7 @@ pub of_more : (text : List ℕ) (old new : Pieces) (job : Reading) (many : ℕ) 
     → new.sites ≡ old.sites → new.window ≡ old.window → AreOf text new
 of_more text old new job many h chunk reading few jobs next items first from sites window =
     let x : Given Reading = record { number = old.lead.next; job = job } in
-    let p : Piece = record { many = many; read = None } in
+    let p : GivenPiece = record { many = many; read = None } in
     let all = given_more old.sites old.window old.lead.given x old.first many text old.given.items h.pieces h.next
     (subst (λ k. IsChunk many (drop k text)) h.from chunk) (subst (λ k. IsReading old.sites old.window (take many (drop k text)) job) h.from reading) in
     record {
@@ -93,8 +93,8 @@ of_more text old new job many h chunk reading few jobs next items first from sit
 
 -- ---- a result
 
-pub given_put : (sites window : ℕ) (before after : List (Given Reading)) (x : Given Reading) (number : ℕ) (text : List ℕ) (ps : List Piece) (k : ℕ)
-    (d : Piece) (result : Result (Vec Stretch) OutOfMemory) → AreGiven sites window (before ++ x ∷ after) number text ps → number + k ≡ x.number
+pub given_put : (sites window : ℕ) (before after : List (Given Reading)) (x : Given Reading) (number : ℕ) (text : List ℕ) (ps : List GivenPiece) (k : ℕ)
+    (d : GivenPiece) (result : Result (Vec Stretch) OutOfMemory) → AreGiven sites window (before ++ x ∷ after) number text ps → number + k ≡ x.number
     → IfOk result (λ list. AreRead x.job.sites x.job.window x.job.text.items list.items)
     → AreGiven sites window (before ++ x ∷ after) number text (slice_set ps k (record { many = (slice_index_or ps k d).many; read = Some result }))
 given_put sites window before after x number text [] k d result given is worked = given
@@ -112,13 +112,13 @@ given_put sites window before after x number text (p ∷ ps) zero d result given
 given_put sites window before after x number text (p ∷ ps) (suc k) d result given is worked =
     (given.0, given_put sites window before after x (number + 1) (drop (p.many - 1) text) ps k d result given.1 (omega (arith, is)) worked)
 
-pub passed_put : (ps : List Piece) (k : ℕ) (d : Piece) (result : Result (Vec Stretch) OutOfMemory)
+pub passed_put : (ps : List GivenPiece) (k : ℕ) (d : GivenPiece) (result : Result (Vec Stretch) OutOfMemory)
     → passed (slice_set ps k (record { many = (slice_index_or ps k d).many; read = Some result })) ≡ passed ps
 passed_put [] k d result = refl
 passed_put (p ∷ ps) zero d result = refl
 passed_put (p ∷ ps) (suc k) d result = ap (λ n. (p.many - 1) + n) (passed_put ps k d result)
 
-pub given_without : (sites window : ℕ) (before after : List (Given Reading)) (x : Given Reading) (number : ℕ) (text : List ℕ) (ps : List Piece)
+pub given_without : (sites window : ℕ) (before after : List (Given Reading)) (x : Given Reading) (number : ℕ) (text : List ℕ) (ps : List GivenPiece)
     → AreGiven sites window (before ++ x ∷ after) number text ps → AreGiven sites window (before ++ after) number text ps
 given_without sites window before after x number text [] given = each_without (λ y. y.number < number) before after x given
 given_without sites window before after x number text (p ∷ ps) given = (
@@ -131,10 +131,10 @@ given_without sites window before after x number text (p ∷ ps) given = (
 )
 
 -- a job is back, and its result is with its piece, if that is waited for
-items_put : (sites window : ℕ) (before after : List (Given Reading)) (x : Given Reading) (number : ℕ) (text : List ℕ) (ps qs : List Piece)
+items_put : (sites window : ℕ) (before after : List (Given Reading)) (x : Given Reading) (number : ℕ) (text : List ℕ) (ps qs : List GivenPiece)
     (result : Result (Vec Stretch) OutOfMemory) → AreGiven sites window (before ++ x ∷ after) number text ps
     → IfOk result (λ list. AreRead x.job.sites x.job.window x.job.text.items list.items)
-    → (qs ≡ ps) ⊎ ((k : ℕ) × (p : Piece) × (number + k ≡ x.number) × (k < length ps) × (p ≡ slice_index_or ps k p)
+    → (qs ≡ ps) ⊎ ((k : ℕ) × (p : GivenPiece) × (number + k ≡ x.number) × (k < length ps) × (p ≡ slice_index_or ps k p)
     × (qs ≡ slice_set ps k (record { many = p.many; read = Some result })))
     → AreGiven sites window (before ++ after) number text qs × (length qs ≡ length ps) × (passed qs ≡ passed ps)
 items_put sites window before after x number text ps qs result given worked (inl same) = (
@@ -143,8 +143,8 @@ items_put sites window before after x number text ps qs result given worked (inl
   ap passed same,
 )
 items_put sites window before after x number text ps qs result given worked (inr (k, p, at, within, is, set)) =
-    let v : Piece = record { many = (slice_index_or ps k p).many; read = Some result } in
-    let there : qs ≡ slice_set ps k v = set ∙ ap (λ (q : Piece). slice_set ps k (record { many = q.many; read = Some result })) is in (
+    let v : GivenPiece = record { many = (slice_index_or ps k p).many; read = Some result } in
+    let there : qs ≡ slice_set ps k v = set ∙ ap (λ (q : GivenPiece). slice_set ps k (record { many = q.many; read = Some result })) is in (
       subst (λ l. AreGiven sites window (before ++ after) number text l) (sym there)
           (given_without sites window before after x number text (slice_set ps k v) (given_put sites window before after x number text ps k p result given at worked)),
       ap length there ∙ length-set ps k v,
@@ -173,7 +173,7 @@ of_put text old new back job h (before, after, was, now) worked first from sites
 -- ---- the first piece
 
 -- it is taken off
-pub of_rest : (text : List ℕ) (old new : Pieces) (p : Piece) → AreOf text old → old.given.items ≡ p ∷ new.given.items → new.lead ≡ old.lead
+pub of_rest : (text : List ℕ) (old new : Pieces) (p : GivenPiece) → AreOf text old → old.given.items ≡ p ∷ new.given.items → new.lead ≡ old.lead
     → new.first ≡ old.first + 1 → new.from ≡ old.from - (p.many - 1) → new.sites ≡ old.sites → new.window ≡ old.window
     → IsPiece old.sites old.window old.lead.given old.first text p × AreOf (drop (p.many - 1) text) new
 of_rest text old new p h items lead first from sites window =

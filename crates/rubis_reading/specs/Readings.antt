@@ -9,7 +9,7 @@ use Rattle.rubis_crew.specs.States.{CrewId, LeadState}
 use Rattle.rubis_reading.specs.Chunked.{IsChunk}
 use Rattle.rubis_reading.specs.Inputs.{AreInputs}
 use Rattle.rubis_reading.specs.Runs.{FitWindow, flat}
-use Rattle.rubis_reading.specs.declared.pieces.Piece.{Piece}
+use Rattle.rubis_reading.specs.declared.pieces.GivenPiece.{GivenPiece}
 use Rattle.rubis_reading.specs.declared.pieces.Pieces.{Pieces}
 use Rattle.rubis_reading.specs.declared.pieces.ReadPiece.{ReadPiece}
 use Rattle.rubis_reading.specs.declared.readings.Reading.{Reading}
@@ -29,19 +29,19 @@ EachGiven P [] = ⊤
 EachGiven P (x ∷ xs) = P x × EachGiven P xs
 
 -- a piece is the front of a text, has that number, and what was read of it are its records
-pub record IsPiece (sites window : ℕ) (jobs : List (Given Reading)) (number : ℕ) (text : List ℕ) (p : Piece) : Type 0 where
+pub record IsPiece (sites window : ℕ) (jobs : List (Given Reading)) (number : ℕ) (text : List ℕ) (p : GivenPiece) : Type 0 where
   pub chunk : IsChunk p.many text
   pub read : IfSome p.read (λ result. IfOk result (λ list. AreRead sites window (take p.many text) list.items))
   pub job : EachGiven (λ x. x.number ≡ number → IsReading sites window (take p.many text) x.job) jobs
 
 -- the pieces that are given, the first of which has that number: each begins with the end of the one before, and no job has a later number
-abbrev pub AreGiven : ℕ → ℕ → List (Given Reading) → ℕ → List ℕ → List Piece → Type 0
+abbrev pub AreGiven : ℕ → ℕ → List (Given Reading) → ℕ → List ℕ → List GivenPiece → Type 0
 AreGiven sites window jobs number text [] = EachGiven (λ x. x.number < number) jobs
 AreGiven sites window jobs number text (p ∷ ps) =
     IsPiece sites window jobs number text p × AreGiven sites window jobs (number + 1) (drop (p.many - 1) text) ps
 
 -- how many bytes they are, the last of each left aside
-abbrev pub passed : List Piece → ℕ
+abbrev pub passed : List GivenPiece → ℕ
 passed [] = 0
 passed (p ∷ ps) = (p.many - 1) + passed ps
 
@@ -70,7 +70,7 @@ TakesFirst text None s = (other : List ℕ) → AreOf other s
 TakesFirst text (Some p) s = IsChunk p.many text × AreRead s.sites s.window (take p.many text) p.list.items × AreOf (drop (p.many - 1) text) s
 
 -- a result is with its piece, the first of which has that number, if that is waited for
-abbrev pub IsPut : ℕ → List Piece → Back (Result (Vec Stretch) OutOfMemory) → List Piece → Type 0
+abbrev pub IsPut : ℕ → List GivenPiece → Back (Result (Vec Stretch) OutOfMemory) → List GivenPiece → Type 0
 IsPut first old back new =
-    (new ≡ old) ⊎ ((k : ℕ) × (p : Piece) × (first + k ≡ back.number) × (k < length old)
+    (new ≡ old) ⊎ ((k : ℕ) × (p : GivenPiece) × (first + k ≡ back.number) × (k < length old)
     × (p ≡ slice_index_or old k p) × (new ≡ slice_set old k (record { many = p.many; read = Some back.result })))

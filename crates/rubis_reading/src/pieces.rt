@@ -22,7 +22,7 @@ const PIECE_MAX: usize = 65_536;
 
 /// A piece that was given: how many bytes of the text it is, and what its records are, once they are read.
 #[derive(Drop)]
-pub struct Piece {
+pub struct GivenPiece {
     many: usize,
     read: Option<Result<Vec<Stretch>, OutOfMemory>>,
 }
@@ -38,7 +38,7 @@ pub struct ReadPiece {
 pub struct Pieces<'a> {
     crew: &'a Crew<Reading>,
     lead: Lead<Reading>,
-    given: VecDeque<Piece>,
+    given: VecDeque<GivenPiece>,
     // The number of the first of them.
     first: u64,
     // Where in the text the next piece begins.
@@ -125,7 +125,8 @@ impl<'a> Pieces<'a> {
         let Ok(_) = self.crew.give(rt, &mut self.lead, reading) else {
             return Ok(false);
         };
-        self.given.push_back_reserved(Piece { many, read: None });
+        self.given
+            .push_back_reserved(GivenPiece { many, read: None });
         self.from += many - 1;
         Ok(true)
     }
@@ -148,7 +149,11 @@ impl<'a> Pieces<'a> {
     }
 
     // Puts a result where its piece is, of those the first of which has that number.
-    fn put(given: &mut VecDeque<Piece>, first: u64, back: Back<Result<Vec<Stretch>, OutOfMemory>>)
+    fn put(
+        given: &mut VecDeque<GivenPiece>,
+        first: u64,
+        back: Back<Result<Vec<Stretch>, OutOfMemory>>,
+    )
         ensures { IsPut first given.old.items back given.new.items }
     {
         let Some(place) = back.number.checked_sub(first) else {
@@ -157,7 +162,7 @@ impl<'a> Pieces<'a> {
         let place = place as usize;
         if place < given.len() {
             let many = given[place].many;
-            given[place] = Piece {
+            given[place] = GivenPiece {
                 many,
                 read: Some(back.result),
             };
@@ -190,7 +195,7 @@ impl<'a> Pieces<'a> {
         ensures first { IfOk result (λ piece. (text : List ℕ) → AreOf text self.old → TakesFirst text piece self.new) }
     {
         for _ in rt.forever() {
-            let Some(Piece { many, read }) = self.given.pop_front() else {
+            let Some(GivenPiece { many, read }) = self.given.pop_front() else {
                 return Ok(None);
             };
             if let Some(list) = read {
@@ -198,7 +203,8 @@ impl<'a> Pieces<'a> {
                 self.from -= many - 1;
                 return Ok(Some(ReadPiece { many, list: list? }));
             }
-            self.given.push_front_reserved(Piece { many, read: None });
+            self.given
+                .push_front_reserved(GivenPiece { many, read: None });
             self.work(rt);
         }
         unreachable!()

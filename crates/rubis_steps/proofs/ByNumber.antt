@@ -11,9 +11,9 @@ use Rattle.rubis_carrier.specs.Packets.{Packet}
 use Rattle.rubis_carrier.specs.Shops.{Folder, Request, empty, put}
 use Rattle.rubis_carrier.specs.Events.{forgotten}
 use Rattle.rubis_carrier.proofs.PutFacts.{put_cases}
-use Rattle.rubis_steps.specs.declared.packets.Packet.{Packet as CodePacket}
+use Rattle.rubis_steps.specs.declared.packets.ShopPacket.{ShopPacket}
 use Rattle.rubis_steps.specs.declared.folders.Folder.{Folder as CodeFolder}
-use Rattle.rubis_steps.specs.declared.events.Request.{Request as CodeRequest}
+use Rattle.rubis_steps.specs.declared.events.ShopRequest.{ShopRequest}
 use Rattle.rubis_steps.specs.Finite.{folder_at, folder_of, request_at, request_of, stream_at, stream_of}
 
 -- ---- one in the place of another, in any list
@@ -71,16 +71,16 @@ forget_step init ls i at f g lt read e before rest = (
 
 -- ---- streams
 
-pub stream_read : (xs : List (Vec CodePacket)) (i : ℕ) (v : Vec CodePacket) → i < length xs → v ≡ get_or xs i v → stream_at xs i ≡ stream_of v
+pub stream_read : (xs : List (Vec ShopPacket)) (i : ℕ) (v : Vec ShopPacket) → i < length xs → v ≡ get_or xs i v → stream_at xs i ≡ stream_of v
 stream_read xs i v lt read = get_or-map stream_of xs i v [] lt ∙ ap stream_of (sym read)
 
-pub stream_put : (xs : List (Vec CodePacket)) (at : ℕ → List Packet) (i : ℕ) (v : Vec CodePacket) (h : List Packet) → ((j : ℕ) → at j ≡ stream_at xs j)
+pub stream_put : (xs : List (Vec ShopPacket)) (at : ℕ → List Packet) (i : ℕ) (v : Vec ShopPacket) (h : List Packet) → ((j : ℕ) → at j ≡ stream_at xs j)
     → i < length xs → stream_of v ≡ h → (j : ℕ) → put i h at j ≡ stream_at (set xs i v) j
 stream_put xs at i v h same lt e =
     put_cases (λ j x. x ≡ stream_at (set xs i v) j) i h at (sym e ∙ sym (put_same stream_of xs i v [] lt))
     (λ j n. same j ∙ sym (put_other stream_of xs i j v [] n))
 
-pub stream_more : (xs : List (Vec CodePacket)) (v : Vec CodePacket) → stream_of v ≡ [] → (j : ℕ) → stream_at (xs ++ v ∷ []) j ≡ stream_at xs j
+pub stream_more : (xs : List (Vec ShopPacket)) (v : Vec ShopPacket) → stream_of v ≡ [] → (j : ℕ) → stream_at (xs ++ v ∷ []) j ≡ stream_at xs j
 stream_more xs v e = push_same stream_of xs v (λ i. []) e
 
 -- ---- asks
@@ -88,18 +88,18 @@ stream_more xs v e = push_same stream_of xs v (λ i. []) e
 abbrev none : Request
 none = record { life = 0; records = 0 }
 
-pub request_read : (rs : List CodeRequest) (r : ℕ) (q : CodeRequest) → r ≢ 0 → r - 1 < length rs → q ≡ get_or rs (r - 1) q → request_of q ≡ request_at rs r
+pub request_read : (rs : List ShopRequest) (r : ℕ) (q : ShopRequest) → r ≢ 0 → r - 1 < length rs → q ≡ get_or rs (r - 1) q → request_of q ≡ request_at rs r
 request_read rs zero q n lt read = absurd (n refl)
 request_read rs (suc r) q n lt read =
     let e : suc r - 1 ≡ r = omega arith in
     let near : r < length rs = omega (arith, lt, e) in
     sym (get_or-map request_of rs r q none near ∙ ap request_of (sym (read ∙ ap (λ k. get_or rs k q) e)))
 
-pub request_past : (rs : List CodeRequest) (r : ℕ) → length rs ≤ r - 1 → none ≡ request_at rs r
+pub request_past : (rs : List ShopRequest) (r : ℕ) → length rs ≤ r - 1 → none ≡ request_at rs r
 request_past rs zero out = refl
 request_past rs (suc r) out = sym (get_or_past (map request_of rs) r none (omega (arith, length-map rs request_of, out)))
 
-pub request_put : (rs : List CodeRequest) (at : ℕ → Request) (r : ℕ) (q : CodeRequest) → ((j : ℕ) → at j ≡ request_at rs j) → r ≡ length rs + 1
+pub request_put : (rs : List ShopRequest) (at : ℕ → Request) (r : ℕ) (q : ShopRequest) → ((j : ℕ) → at j ≡ request_at rs j) → r ≡ length rs + 1
     → (j : ℕ) → put r (request_of q) at j ≡ request_at (rs ++ q ∷ []) j
 request_put rs at r q same next =
     let last : suc (length rs) ≡ r = omega (arith, next) in

@@ -9,9 +9,9 @@ use Rattle.rubis_carrier.specs.Events.{accepting, answering, closed, forgotten, 
 use Rattle.rubis_carrier.specs.Events.Event.{Accepts, Appends, Gives, IsAsked, IsChanged, IsCopied, IsKilled, IsLost, LosesEnd}
 use Rattle.rubis_carrier.specs.Events.Event.{MachineStarts, Opens, Passes, Reads, Rebuilds, Refuses, Serves, ServerLosesAll, Starts, StreamLosesEnd}
 use Rattle.rubis_carrier.specs.Events.Event.{Closes, TellsNothing, TellsOk, TellsPublished, TellsUnknown, WritesAnew}
-use Rattle.rubis_steps.specs.declared.events.Request.{Request as CodeRequest}
+use Rattle.rubis_steps.specs.declared.events.ShopRequest.{ShopRequest}
 use Rattle.rubis_steps.specs.declared.folders.Folder.{Folder as CodeFolder}
-use Rattle.rubis_steps.specs.declared.packets.Packet.{Packet as CodePacket}
+use Rattle.rubis_steps.specs.declared.packets.ShopPacket.{ShopPacket}
 use Rattle.rubis_steps.specs.declared.shops.Shop.{Shop as CodeShop}
 use Rattle.rubis_steps.specs.Answers.{Leads}
 use Rattle.rubis_steps.specs.Finite.{IsAs, folder_at, folder_of, packet_of, packets_of, request_at, request_of, serving, stream_at, stream_of}
@@ -88,7 +88,7 @@ module _ (old new : CodeShop) (k : ℕ) (f g : CodeFolder) (c : Changed old new 
   leads_rebuilds ps e = changes_by (λ x. replaced x ps) old new k f g c e
 
   -- as many records as its text has
-  pub leads_gives : (r : ℕ) (q : CodeRequest) → request_of q ≡ request_at old.requests.items r → folder_of g ≡ giving (folder_of f) r q.records
+  pub leads_gives : (r : ℕ) (q : ShopRequest) → request_of q ≡ request_at old.requests.items r → folder_of g ≡ giving (folder_of f) r q.records
       → Leads (Gives k r) old new
   leads_gives r q a e s is =
       subst (λ (n : ℕ). IsAs new (with_folder k (giving (s.folder k) r n) s)) (ap (λ (x : Request). x.records) (a ∙ sym (is.requests r)))
@@ -141,7 +141,7 @@ leads_copied old new k j f g lt near read e fs xs rest s is =
     with_folders old new s j g (unknown (s.folder k)) is near (e ∙ ap unknown (sym (its_folder old s k f is lt read))) fs xs rest
 
 -- only the first n packets are left
-pub cut_is : (m old : CodeFolder) (kept : List CodePacket) (n : ℕ) → folder_of m ≡ unknown (folder_of old) → kept ≡ take n m.kept.items
+pub cut_is : (m old : CodeFolder) (kept : List ShopPacket) (n : ℕ) → folder_of m ≡ unknown (folder_of old) → kept ≡ take n m.kept.items
     → record (folder_of m) { kept = packets_of kept } ≡ replaced (folder_of old) (take n (packets_of old.kept.items))
 cut_is m old kept n e k =
     ap (λ (x : Folder). record x { kept = packets_of kept }) e
@@ -149,7 +149,7 @@ cut_is m old kept n e k =
     (ap packets_of k ∙ sym (take-map packet_of n m.kept.items) ∙ ap (take n) (ap (λ (x : Folder). x.kept) e))
 
 -- those in front of the first that is another one
-pub change_is : (m old : CodeFolder) (kept found : List CodePacket) (n : ℕ) → folder_of m ≡ unknown (folder_of old) → kept ≡ take n m.kept.items
+pub change_is : (m old : CodeFolder) (kept found : List ShopPacket) (n : ℕ) → folder_of m ≡ unknown (folder_of old) → kept ≡ take n m.kept.items
     → packets_of (take n old.kept.items) ≡ unchanged (packets_of old.kept.items) (packets_of found)
     → record (folder_of m) { kept = packets_of kept } ≡ replaced (folder_of old) (unchanged (packets_of old.kept.items) (packets_of found))
 change_is m old kept found n e k u =
@@ -159,25 +159,25 @@ change_is m old kept found n e k u =
 -- ---- streams
 
 -- one stream was changed, and nothing else
-pub record StreamChanged (old new : CodeShop) (i : ℕ) (v w : Vec CodePacket) : Type 0 where
+pub record StreamChanged (old new : CodeShop) (i : ℕ) (v w : Vec ShopPacket) : Type 0 where
   pub listed : i < length old.streams.items
   pub read : v ≡ get_or old.streams.items i v
   pub streams : new.streams.items ≡ set old.streams.items i w
   pub folders : new.folders.items ≡ old.folders.items
   pub rest : IsElse old new
 
-streams_by : (F : List Packet → List Packet) (old new : CodeShop) (i : ℕ) (v w : Vec CodePacket) → StreamChanged old new i v w → stream_of w ≡ F (stream_of v)
+streams_by : (F : List Packet → List Packet) (old new : CodeShop) (i : ℕ) (v w : Vec ShopPacket) → StreamChanged old new i v w → stream_of w ≡ F (stream_of v)
     → (s : Shop) → IsAs old s → IsAs new (with_stream i (F (s.stream i)) s)
 streams_by F old new i v w c e s is =
     with_streams old new s i w (F (s.stream i)) is c.listed (e ∙ ap F (sym (is.streams i ∙ stream_read old.streams.items i v c.listed c.read)))
     c.streams c.folders c.rest
 
-pub leads_appends : (old new : CodeShop) (k : ℕ) (x : CodePacket) (v w : Vec CodePacket) → StreamChanged old new (sender (packet_of x)) v w
+pub leads_appends : (old new : CodeShop) (k : ℕ) (x : ShopPacket) (v w : Vec ShopPacket) → StreamChanged old new (sender (packet_of x)) v w
     → w.items ≡ v.items ++ x ∷ [] → Leads (Appends k (packet_of x)) old new
 leads_appends old new k x v w c e =
     streams_by (λ xs. xs ++ packet_of x ∷ []) old new (sender (packet_of x)) v w c (ap packets_of e ∙ map_push packet_of v.items x)
 
-pub leads_stream_loses : (old new : CodeShop) (i n : ℕ) (v w : Vec CodePacket) → StreamChanged old new i v w → w.items ≡ take n v.items
+pub leads_stream_loses : (old new : CodeShop) (i n : ℕ) (v w : Vec ShopPacket) → StreamChanged old new i v w → w.items ≡ take n v.items
     → Leads (StreamLosesEnd i n) old new
 leads_stream_loses old new i n v w c e = streams_by (take n) old new i v w c (ap packets_of e ∙ sym (take-map packet_of n v.items))
 
@@ -191,7 +191,7 @@ leads_lost_all old new e f rest s is = record {
 }
 
 -- the stream of a folder's site becomes what that folder has of it
-pub leads_writes_anew : (old new : CodeShop) (k : ℕ) (f : CodeFolder) (w : Vec CodePacket) → k < length old.folders.items
+pub leads_writes_anew : (old new : CodeShop) (k : ℕ) (f : CodeFolder) (w : Vec ShopPacket) → k < length old.folders.items
     → f ≡ get_or old.folders.items k f → f.site < length old.streams.items → stream_of w ≡ own f.site (packets_of f.kept.items)
     → new.streams.items ≡ set old.streams.items f.site w → new.folders.items ≡ old.folders.items → IsElse old new → Leads (WritesAnew k) old new
 leads_writes_anew old new k f w lt read near e xs fs rest s is =
@@ -200,7 +200,7 @@ leads_writes_anew old new k f w lt read near e xs fs rest s is =
 
 -- ---- asks
 
-pub leads_asked : (old new : CodeShop) (r life n : ℕ) (q : CodeRequest) → request_of q ≡ record { life = life; records = n }
+pub leads_asked : (old new : CodeShop) (r life n : ℕ) (q : ShopRequest) → request_of q ≡ record { life = life; records = n }
     → r ≡ length old.requests.items + 1 → new.requests.items ≡ old.requests.items ++ q ∷ [] → new.folders.items ≡ old.folders.items
     → new.streams.items ≡ old.streams.items → new.begun ≡ old.begun → Leads (IsAsked r life n) old new
 leads_asked old new r life n q e next rs fs xs b s is = record {

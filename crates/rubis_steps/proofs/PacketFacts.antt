@@ -8,7 +8,7 @@ use Rattle.std.proofs.lemmas.List.{at_drop_more, drop_all}
 use Rattle.rubis_model.specs.Settle.{Has}
 use Rattle.rubis_carrier.specs.Packets.{IsReached, Packet, highest, last_turn, own, passed, same_packet, sender, taken, unchanged}
 use Rattle.rubis_carrier.specs.Packets.Packet.{Message, Pass}
-use Rattle.rubis_steps.specs.declared.packets.Packet.{Packet as CodePacket}
+use Rattle.rubis_steps.specs.declared.packets.ShopPacket.{ShopPacket}
 use Rattle.rubis_steps.specs.Finite.{packet_of, packets_of}
 use Rattle.rubis_steps.specs.Tests.{are_own, are_reached, has_packet, is_reached, passed_in, taken_in}
 use Rattle.rubis_steps.proofs.Lists.{all_decides, in_decides}
@@ -27,13 +27,13 @@ passed_first : (i : ℕ) (x : Packet) (xs : List Packet) → passed i (x ∷ xs)
 passed_first i (Message j n r) xs = omega arith
 passed_first i (Pass j t k a) xs = by_test (eqb j i) t (passed i xs)
 
-pub taken_more : (i : ℕ) (xs : List CodePacket) (k : ℕ) (x : CodePacket) → x ≡ get_or xs k x → k < length xs
+pub taken_more : (i : ℕ) (xs : List ShopPacket) (k : ℕ) (x : ShopPacket) → x ≡ get_or xs k x → k < length xs
     → taken i (packets_of (drop k xs)) ≡ max (taken_in i (packet_of x)) (taken i (packets_of (drop (k + 1) xs)))
 taken_more i xs k x e h =
     at_drop_more (λ ys. taken i (packets_of ys)) xs k x h
     ∙ ap (λ y. taken i (packets_of (y ∷ drop (k + 1) xs))) (sym e) ∙ taken_first i (packet_of x) (packets_of (drop (k + 1) xs))
 
-pub passed_more : (i : ℕ) (xs : List CodePacket) (k : ℕ) (x : CodePacket) → x ≡ get_or xs k x → k < length xs
+pub passed_more : (i : ℕ) (xs : List ShopPacket) (k : ℕ) (x : ShopPacket) → x ≡ get_or xs k x → k < length xs
     → passed i (packets_of (drop k xs)) ≡ max (passed_in i (packet_of x)) (passed i (packets_of (drop (k + 1) xs)))
 passed_more i xs k x e h =
     at_drop_more (λ ys. passed i (packets_of ys)) xs k x h
@@ -71,7 +71,7 @@ same_itself (Pass i t j a) =
 pub same_decides : (x y : Packet) → Decides (same_packet x y) (x ≡ y)
 same_decides x y = (same_is x y, λ e. subst (λ z. same_packet x z ≡ true) e (same_itself x))
 
-pub has_decides : (x : Packet) (ys : List CodePacket) → Decides (has_packet x ys) (Has x (packets_of ys))
+pub has_decides : (x : Packet) (ys : List ShopPacket) → Decides (has_packet x ys) (Has x (packets_of ys))
 has_decides x ys = in_decides packet_of (λ y. same_packet x (packet_of y)) x (λ y. same_decides x (packet_of y)) ys
 
 -- ---- what is of a site
@@ -98,12 +98,12 @@ reached_decides i kept (Pass j t k a) = (
   λ h. not_or (j == i) (nat_le t (last_turn i kept)) (λ e. le-leb t (last_turn i kept) (h (eqb-true j i e))),
 )
 
-pub are_reached_decides : (i : ℕ) (kept : List Packet) (xs : List CodePacket)
+pub are_reached_decides : (i : ℕ) (kept : List Packet) (xs : List ShopPacket)
     → Decides (are_reached i (highest i kept) (last_turn i kept) xs) ((x : Packet) → Has x (packets_of xs) → IsBehind i kept x)
 are_reached_decides i kept xs =
     all_decides packet_of (λ x. is_reached i (highest i kept) (last_turn i kept) (packet_of x)) (IsBehind i kept) (λ x. reached_decides i kept (packet_of x)) xs
 
-pub own_is : (i : ℕ) (xs : List CodePacket) → packets_of (filter (λ x. sender (packet_of x) == i) xs) ≡ own i (packets_of xs)
+pub own_is : (i : ℕ) (xs : List ShopPacket) → packets_of (filter (λ x. sender (packet_of x) == i) xs) ≡ own i (packets_of xs)
 own_is i [] = refl
 own_is i (x ∷ xs) = elim (sender (packet_of x) == i) as
     (λ b. packets_of (cond b (x ∷ filter (λ y. sender (packet_of y) == i) xs) (filter (λ y. sender (packet_of y) == i) xs))
@@ -129,7 +129,7 @@ own_has i x (y ∷ ys) e (inr h) = elim (sender y == i) as (λ b. Has x (cond b 
   | false ↦ own_has i x ys e h
 ]
 
-pub are_own_decides : (i : ℕ) (kept stream : List CodePacket)
+pub are_own_decides : (i : ℕ) (kept stream : List ShopPacket)
     → Decides (are_own i kept stream) ((x : Packet) → Has x (packets_of stream) → Has x (own i (packets_of kept)))
 are_own_decides i kept stream =
     all_decides packet_of (λ x. (sender (packet_of x) == i) && has_packet (packet_of x) kept) (λ x. Has x (own i (packets_of kept)))
@@ -143,5 +143,5 @@ unchanged_nil : (xs : List Packet) → unchanged xs [] ≡ []
 unchanged_nil [] = refl
 unchanged_nil (x ∷ xs) = refl
 
-pub unchanged_past : (xs : List Packet) (ys : List CodePacket) (k : ℕ) → length ys ≤ k → unchanged xs (packets_of (drop k ys)) ≡ []
+pub unchanged_past : (xs : List Packet) (ys : List ShopPacket) (k : ℕ) → length ys ≤ k → unchanged xs (packets_of (drop k ys)) ≡ []
 unchanged_past xs ys k out = ap (λ zs. unchanged xs (packets_of zs)) (drop_all k ys out) ∙ unchanged_nil xs

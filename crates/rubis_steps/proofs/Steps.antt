@@ -16,10 +16,10 @@ use Rattle.rubis_carrier.specs.Shops.Place.{InFolder, InStream}
 use Rattle.rubis_carrier.specs.Events.{AreSteps, Event, IsOffered, May, MayRebuild, MayServe, run}
 use Rattle.rubis_carrier.specs.Events.Event.{Appends, Reads, TellsPublished, WritesAnew}
 use Rattle.rubis_carrier.proofs.Whole.{steps_append, steps_right}
-use Rattle.rubis_steps.specs.declared.events.Event.{Event as CodeEvent}
-use Rattle.rubis_steps.specs.declared.events.Request.{Request as CodeRequest}
+use Rattle.rubis_steps.specs.declared.events.ShopEvent.{ShopEvent}
+use Rattle.rubis_steps.specs.declared.events.ShopRequest.{ShopRequest}
 use Rattle.rubis_steps.specs.declared.folders.Folder.{Folder as CodeFolder}
-use Rattle.rubis_steps.specs.declared.packets.Packet.{Packet as CodePacket}
+use Rattle.rubis_steps.specs.declared.packets.ShopPacket.{ShopPacket}
 use Rattle.rubis_steps.specs.declared.faults.DeciderFault.{DeciderFault}
 use Rattle.rubis_steps.specs.declared.shops.Shop.{Shop as CodeShop}
 use Rattle.rubis_steps.specs.Answers.{DecidesMay, IsDone, IsDoneOver, IsMet, Keeps, Leads, events_of}
@@ -53,11 +53,11 @@ pub any_carrier : (c : Carrier) (e : Event) (old new : CodeShop) (result : Resul
 any_carrier c e old new (Ok may) d = d c
 any_carrier c e old new (Err fault) d = d
 
-pub happens_at : (v : Carrier) (ev its : CodeEvent) (old new : CodeShop) (result : Result Bool DeciderFault) → ev ≡ its
+pub happens_at : (v : Carrier) (ev its : ShopEvent) (old new : CodeShop) (result : Result Bool DeciderFault) → ev ≡ its
     → IsDone v (event_of its) old new result → IsDone v (event_of ev) old new result
 happens_at v ev its old new result e d = subst (λ x. IsDone v (event_of x) old new result) (sym e) d
 
-pub happens_over : (v : Carrier) (ev its : CodeEvent) (old new : CodeShop) (result : Result Bool DeciderFault) → ev ≡ its
+pub happens_over : (v : Carrier) (ev its : ShopEvent) (old new : CodeShop) (result : Result Bool DeciderFault) → ev ≡ its
     → IsDoneOver (event_of its) old new result → IsDone v (event_of ev) old new result
 happens_over v ev its old new result e d = happens_at v ev its old new result e (any_carrier v (event_of its) old new result d)
 
@@ -78,7 +78,7 @@ with_folders old new s k g h is lt e f x rest = record {
   requests = λ r. is.requests r ∙ ap (λ rs. request_at rs r) (sym rest.requests);
 }
 
-pub with_streams : (old new : CodeShop) (s : Shop) (i : ℕ) (v : Vec CodePacket) (h : List Packet) → IsAs old s → i < length old.streams.items → stream_of v ≡ h
+pub with_streams : (old new : CodeShop) (s : Shop) (i : ℕ) (v : Vec ShopPacket) (h : List Packet) → IsAs old s → i < length old.streams.items → stream_of v ≡ h
     → new.streams.items ≡ set old.streams.items i v → new.folders.items ≡ old.folders.items → IsElse old new → IsAs new (with_stream i h s)
 with_streams old new s i v h is lt e x f rest = record {
   folders = λ j. is.folders j ∙ ap (λ fs. folder_at fs j) (sym f);
@@ -108,8 +108,8 @@ at_folders c s R q is d none =
     let all = each_decides folder_of q R d c.folders.items empty none in
     (λ t k. subst R (sym (is.folders k)) (all.0 t k), λ r. all.1 (λ k. subst R (is.folders k) (r k)))
 
-pub at_streams : (c : CodeShop) (s : Shop) (R : List Packet → Type 0) (q : Vec CodePacket → Bool) → IsAs c s
-    → ((v : Vec CodePacket) → Decides (q v) (R (stream_of v))) → R [] → Decides (list_all q c.streams.items) ((i : ℕ) → R (s.stream i))
+pub at_streams : (c : CodeShop) (s : Shop) (R : List Packet → Type 0) (q : Vec ShopPacket → Bool) → IsAs c s
+    → ((v : Vec ShopPacket) → Decides (q v) (R (stream_of v))) → R [] → Decides (list_all q c.streams.items) ((i : ℕ) → R (s.stream i))
 at_streams c s R q is d none =
     let all = each_decides stream_of q R d c.streams.items (λ i. []) (λ i. none) in
     (λ t i. subst R (sym (is.streams i)) (all.0 t i), λ r. all.1 (λ i. subst R (is.streams i) (r i)))
@@ -175,7 +175,7 @@ offered_decides c s x is =
     )
 
 -- a stream has it
-pub in_stream_decides : (c : CodeShop) (s : Shop) (i : ℕ) (x : Packet) (stream : List CodePacket) → IsAs c s
+pub in_stream_decides : (c : CodeShop) (s : Shop) (i : ℕ) (x : Packet) (stream : List ShopPacket) → IsAs c s
     → packets_of stream ≡ stream_at c.streams.items i → Decides (has_packet x stream) (Has x (s.stream i))
 in_stream_decides c s i x stream is e =
     subst (λ (ps : List Packet). Decides (has_packet x stream) (Has x ps)) (e ∙ sym (is.streams i)) (has_decides x stream)
@@ -229,16 +229,16 @@ module _ (c : CodeShop) (s : Shop) (k : ℕ) (f : CodeFolder) (is : IsAs c s) (l
   pub rebuild_runs : (ps : List Packet) → f.life ≢ 0 → ¬ (MayRebuild s k ps)
   rebuild_runs ps n m = n (sym (ap (λ (x : Folder). x.life) its) ∙ m.stopped)
 
-  left_decides : (ps : List CodePacket) → Decides (list_all (λ x. has_packet (packet_of x) ps) f.kept.items)
+  left_decides : (ps : List ShopPacket) → Decides (list_all (λ x. has_packet (packet_of x) ps) f.kept.items)
       ((x : Packet) → Has x (s.folder k).kept → Has x (packets_of ps))
   left_decides ps =
       subst (λ (g : Folder). Decides (list_all (λ x. has_packet (packet_of x) ps) f.kept.items) ((x : Packet) → Has x g.kept → Has x (packets_of ps))) (sym its)
       (all_decides packet_of (λ x. has_packet (packet_of x) ps) (λ x. Has x (packets_of ps)) (λ x. has_decides (packet_of x) ps) f.kept.items)
 
-  pub rebuild_lacks : (ps : List CodePacket) → list_all (λ x. has_packet (packet_of x) ps) f.kept.items ≡ false → ¬ (MayRebuild s k (packets_of ps))
+  pub rebuild_lacks : (ps : List ShopPacket) → list_all (λ x. has_packet (packet_of x) ps) f.kept.items ≡ false → ¬ (MayRebuild s k (packets_of ps))
   rebuild_lacks ps t m = not_from_Decides _ (left_decides ps) t m.left
 
-  pub rebuild_found : (ps : List CodePacket) → f.life ≡ 0 → list_all (λ x. has_packet (packet_of x) ps) f.kept.items ≡ true
+  pub rebuild_found : (ps : List ShopPacket) → f.life ≡ 0 → list_all (λ x. has_packet (packet_of x) ps) f.kept.items ≡ true
       → Decides (list_all (λ x. is_found c.folders.items c.streams.items (packet_of x)) ps) (MayRebuild s k (packets_of ps))
   rebuild_found ps z all =
       let found = all_decides packet_of (λ x. is_found c.folders.items c.streams.items (packet_of x)) (λ x. (h : Place) × Has x (there s h))
@@ -252,14 +252,14 @@ module _ (c : CodeShop) (s : Shop) (k : ℕ) (f : CodeFolder) (is : IsAs c s) (l
   pub serve_unasked : (r : ℕ) → length c.requests.items < r → ¬ (MayServe s k r)
   serve_unasked r l m = absurd (omega (arith, m.asked, is.asks, l))
 
-  pub serve_other : (r : ℕ) (q : CodeRequest) → request_of q ≡ request_at c.requests.items r → q.life ≢ f.life → ¬ (MayServe s k r)
+  pub serve_other : (r : ℕ) (q : ShopRequest) → request_of q ≡ request_at c.requests.items r → q.life ≢ f.life → ¬ (MayServe s k r)
   serve_other r q e n m =
       n (ap (λ (x : Request). x.life) (e ∙ sym (is.requests r)) ∙ m.life ∙ ap (λ (x : Folder). x.life) its)
 
-  pub serve_records : (r : ℕ) (q : CodeRequest) → request_of q ≡ request_at c.requests.items r → q.records ≢ 1 → ¬ (MayServe s k r)
+  pub serve_records : (r : ℕ) (q : ShopRequest) → request_of q ≡ request_at c.requests.items r → q.records ≢ 1 → ¬ (MayServe s k r)
   serve_records r q e n m = n (ap (λ (x : Request). x.records) (e ∙ sym (is.requests r)) ∙ m.one)
 
-  pub serve_decides : (r : ℕ) (q : CodeRequest) (has : Bool) → request_of q ≡ request_at c.requests.items r → f.life ≢ 0 → r ≤ length c.requests.items
+  pub serve_decides : (r : ℕ) (q : ShopRequest) (has : Bool) → request_of q ≡ request_at c.requests.items r → f.life ≢ 0 → r ≤ length c.requests.items
       → q.life ≡ f.life → q.records ≡ 1 → Decides has (Has r (folder_of f).served) → Decides (not has) (MayServe s k r)
   serve_decides r q has e n l a b d =
       let its_request = is.requests r ∙ sym e in
@@ -299,7 +299,7 @@ module _ (c : CodeShop) (s : Shop) (k : ℕ) (f : CodeFolder) (is : IsAs c s) (l
   pub writes_stopped : (v : Carrier) → f.life ≡ 0 → ¬ (May v s (WritesAnew k))
   writes_stopped v z m = absurd (omega (arith, m.0, ap (λ (x : Folder). x.life) its, z))
 
-  pub writes_decides : (stream : List CodePacket) → packets_of stream ≡ stream_at c.streams.items f.site → f.life ≢ 0
+  pub writes_decides : (stream : List ShopPacket) → packets_of stream ≡ stream_at c.streams.items f.site → f.life ≢ 0
       → Decides (are_own f.site f.kept.items stream) (May Server s (WritesAnew k))
   writes_decides stream e n =
       let runs : 0 < f.life = omega (arith, n) in
@@ -314,7 +314,7 @@ module _ (c : CodeShop) (s : Shop) (k : ℕ) (f : CodeFolder) (is : IsAs c s) (l
   pub published_not : (v : Carrier) (r n : ℕ) → ¬ (Has (record { ask = r; number = n }) (folder_of f).answered) → ¬ (May v s (TellsPublished k r n))
   published_not v r n a m = a (subst (λ (x : Folder). Has (record { ask = r; number = n }) x.answered) its m.1)
 
-  pub published_decides : (r n : ℕ) (stream : List CodePacket) → packets_of stream ≡ stream_at c.streams.items f.site
+  pub published_decides : (r n : ℕ) (stream : List ShopPacket) → packets_of stream ≡ stream_at c.streams.items f.site
       → Has (record { ask = r; number = n }) (folder_of f).answered
       → Decides (has_packet (Message f.site n r) stream) (May Server s (TellsPublished k r n))
   published_decides r n stream e answered =
@@ -325,7 +325,7 @@ module _ (c : CodeShop) (s : Shop) (k : ℕ) (f : CodeFolder) (is : IsAs c s) (l
 
 -- ---- a list of events
 
-pub taken_more : (xs : List CodeEvent) (i : ℕ) (x : CodeEvent) → i < length xs → x ≡ get_or xs i x
+pub taken_more : (xs : List ShopEvent) (i : ℕ) (x : ShopEvent) → i < length xs → x ≡ get_or xs i x
     → take (i + 1) (events_of xs) ≡ take i (events_of xs) ++ event_of x ∷ []
 taken_more xs i x l read =
     take-map event_of (i + 1) xs ∙ map_more event_of xs i x l

@@ -2,7 +2,7 @@
 use Rattle.std.specs.Prelude.{◌<◌, ◌+◌, ℕ, Bool, true, false, Decides, List, length, map, take, Option, Some, None, Result, IfOk}
 use Rattle.rubis_carrier.specs.Shops.{Carrier, Shop, start}
 use Rattle.rubis_carrier.specs.Events.{AreSteps, Event, May, after}
-use Rattle.rubis_steps.specs.declared.events.Event.{Event as CodeEvent}
+use Rattle.rubis_steps.specs.declared.events.ShopEvent.{ShopEvent}
 use Rattle.rubis_steps.specs.declared.faults.DeciderFault.{DeciderFault}
 use Rattle.rubis_steps.specs.declared.shops.Shop.{Shop as CodeShop}
 use Rattle.rubis_steps.specs.Finite.{IsAs, event_of}
@@ -43,5 +43,5 @@ abbrev pub IsAnswer : Carrier → List Event → Option ℕ → Type 0
 IsAnswer c events None = AreSteps c start events
 IsAnswer c events (Some n) = (n < length events) × AreSteps c start (take n events) × ¬ (AreSteps c start (take (n + 1) events))
 
-abbrev pub events_of : List CodeEvent → List Event
+abbrev pub events_of : List ShopEvent → List Event
 events_of es = map event_of es

@@ -7,31 +7,31 @@ use Rattle.rubis_carrier.specs.Shops.{Answer, Carrier, Folder, Request, Shop, em
 use Rattle.rubis_carrier.specs.Shops.Carrier.{Files, Server}
 use Rattle.rubis_carrier.specs.Events.{Event}
 use Rattle.rubis_carrier.specs.Events.{Event as model}
-use Rattle.rubis_steps.specs.declared.packets.Packet.{Packet as CodePacket}
-use Rattle.rubis_steps.specs.declared.packets.Packet.TheVariants as packet
+use Rattle.rubis_steps.specs.declared.packets.ShopPacket.{ShopPacket}
+use Rattle.rubis_steps.specs.declared.packets.ShopPacket.TheVariants as packet
 use Rattle.rubis_steps.specs.declared.folders.Answer.{Answer as CodeAnswer}
 use Rattle.rubis_steps.specs.declared.folders.Folder.{Folder as CodeFolder}
-use Rattle.rubis_steps.specs.declared.events.Request.{Request as CodeRequest}
+use Rattle.rubis_steps.specs.declared.events.ShopRequest.{ShopRequest}
 use Rattle.rubis_steps.specs.declared.events.Carrier.{Carrier as CodeCarrier}
 use Rattle.rubis_steps.specs.declared.events.Carrier.TheVariants as carrier
-use Rattle.rubis_steps.specs.declared.events.Event.{Event as CodeEvent}
-use Rattle.rubis_steps.specs.declared.events.Event.TheVariants as event
+use Rattle.rubis_steps.specs.declared.events.ShopEvent.{ShopEvent}
+use Rattle.rubis_steps.specs.declared.events.ShopEvent.TheVariants as event
 use Rattle.rubis_steps.specs.declared.shops.Shop.{Shop as CodeShop}
 
-abbrev pub packet_of : CodePacket → Packet
+abbrev pub packet_of : ShopPacket → Packet
 packet_of (packet.Message i n r) = Message i n r
 packet_of (packet.Pass i t j a) = Pass i t j a
 
-abbrev pub packets_of : List CodePacket → List Packet
+abbrev pub packets_of : List ShopPacket → List Packet
 packets_of xs = map packet_of xs
 
-abbrev pub stream_of : Vec CodePacket → List Packet
+abbrev pub stream_of : Vec ShopPacket → List Packet
 stream_of v = packets_of v.items
 
 abbrev pub answer_of : CodeAnswer → Answer
 answer_of a = record { ask = a.ask; number = a.number }
 
-abbrev pub request_of : CodeRequest → Request
+abbrev pub request_of : ShopRequest → Request
 request_of r = record { life = r.life; records = r.records }
 
 abbrev pub folder_of : CodeFolder → Folder
@@ -57,11 +57,11 @@ serving f r = record f { served = r ∷ f.served; waiting = r ∷ f.waiting }
 abbrev pub folder_at : List CodeFolder → ℕ → Folder
 folder_at fs k = get_or (map folder_of fs) k (empty k)
 
-abbrev pub stream_at : List (Vec CodePacket) → ℕ → List Packet
+abbrev pub stream_at : List (Vec ShopPacket) → ℕ → List Packet
 stream_at xs i = get_or (map stream_of xs) i []
 
 -- asks are numbered from 1
-abbrev pub request_at : List CodeRequest → ℕ → Request
+abbrev pub request_at : List ShopRequest → ℕ → Request
 request_at rs zero = record { life = 0; records = 0 }
 request_at rs (suc r) = get_or (map request_of rs) r (record { life = 0; records = 0 })
 
@@ -80,7 +80,7 @@ abbrev pub carrier_of : CodeCarrier → Carrier
 carrier_of carrier.Files = Files
 carrier_of carrier.Server = Server
 
-abbrev pub event_of : CodeEvent → Event
+abbrev pub event_of : ShopEvent → Event
 event_of (event.Starts k) = model.Starts k
 event_of (event.Opens k) = model.Opens k
 event_of (event.Closes k) = model.Closes k

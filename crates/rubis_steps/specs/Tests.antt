@@ -4,7 +4,7 @@ use Rattle.std.specs.Global.{Vec}
 use Rattle.std.specs.List.{list_all, list_any}
 use Rattle.rubis_carrier.specs.Packets.{Packet, same_packet, sender}
 use Rattle.rubis_carrier.specs.Packets.Packet.{Message, Pass}
-use Rattle.rubis_steps.specs.declared.packets.Packet.{Packet as CodePacket}
+use Rattle.rubis_steps.specs.declared.packets.ShopPacket.{ShopPacket}
 use Rattle.rubis_steps.specs.declared.folders.Answer.{Answer as CodeAnswer}
 use Rattle.rubis_steps.specs.declared.folders.Folder.{Folder as CodeFolder}
 use Rattle.rubis_steps.specs.Finite.{packet_of}
@@ -27,10 +27,10 @@ abbrev pub is_reached : ℕ → ℕ → ℕ → Packet → Bool
 is_reached i number turn (Message j n r) = not (j == i) || nat_le n number
 is_reached i number turn (Pass j t k a) = not (j == i) || nat_le t turn
 
-abbrev pub are_reached : ℕ → ℕ → ℕ → List CodePacket → Bool
+abbrev pub are_reached : ℕ → ℕ → ℕ → List ShopPacket → Bool
 are_reached i number turn kept = list_all (λ x. is_reached i number turn (packet_of x)) kept
 
-abbrev pub has_packet : Packet → List CodePacket → Bool
+abbrev pub has_packet : Packet → List ShopPacket → Bool
 has_packet x kept = list_any (λ y. same_packet x (packet_of y)) kept
 
 abbrev pub has_ask : ℕ → List ℕ → Bool
@@ -47,14 +47,14 @@ has_answer r n answers = list_any (λ a. (a.ask == r) && (a.number == n)) answer
 abbrev pub folders_reached : ℕ → ℕ → ℕ → List CodeFolder → Bool
 folders_reached i number turn fs = list_all (λ f. are_reached i number turn f.kept.items) fs
 
-abbrev pub streams_reached : ℕ → ℕ → ℕ → List (Vec CodePacket) → Bool
+abbrev pub streams_reached : ℕ → ℕ → ℕ → List (Vec ShopPacket) → Bool
 streams_reached i number turn xs = list_all (λ v. are_reached i number turn v.items) xs
 
 -- in some folder, or in some stream
 abbrev pub in_folders : Packet → List CodeFolder → Bool
 in_folders x fs = list_any (λ f. has_packet x f.kept.items) fs
 
-abbrev pub in_streams : Packet → List (Vec CodePacket) → Bool
+abbrev pub in_streams : Packet → List (Vec ShopPacket) → Bool
 in_streams x streams = list_any (λ v. has_packet x v.items) streams
 
 -- in some folder of its sender
@@ -62,9 +62,9 @@ abbrev pub in_own_folder : Packet → List CodeFolder → Bool
 in_own_folder x fs = list_any (λ f. (f.site == sender x) && has_packet x f.kept.items) fs
 
 -- these are all of that site, and stand there
-abbrev pub are_own : ℕ → List CodePacket → List CodePacket → Bool
+abbrev pub are_own : ℕ → List ShopPacket → List ShopPacket → Bool
 are_own i kept stream = list_all (λ x. (sender (packet_of x) == i) && has_packet (packet_of x) kept) stream
 
 -- somewhere
-abbrev pub is_found : List CodeFolder → List (Vec CodePacket) → Packet → Bool
+abbrev pub is_found : List CodeFolder → List (Vec ShopPacket) → Packet → Bool
 is_found fs streams x = in_folders x fs || in_streams x streams

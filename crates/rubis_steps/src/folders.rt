@@ -11,7 +11,7 @@ ghost use Rattle.rubis_steps.specs.Tests.{has_answer};
 
 use crate::asks::{first, has_ask, is_first, push_times, remove_ask, remove_first};
 use crate::faults::DeciderFault;
-use crate::packets::{Packet, has, highest, passed, taken, unchanged};
+use crate::packets::{ShopPacket, has, highest, passed, taken, unchanged};
 use std::alloc::Global;
 
 /// An answer of a site that accepted: the ask that it is taken to be of, and the number that it says.
@@ -33,7 +33,7 @@ fn has_answer(answers: &[Answer], ask: u64, number: u64) -> bool
 #[derive(Drop)]
 pub struct Folder {
     pub site: u64,
-    pub kept: Vec<Packet>,
+    pub kept: Vec<ShopPacket>,
     pub life: u64,
     pub is_open: bool,
     pub remembered: bool,
@@ -102,7 +102,7 @@ impl Folder {
     }
 
     /// It has these packets, and nothing runs it.
-    pub fn replace(&mut self, packets: Vec<Packet>)
+    pub fn replace(&mut self, packets: Vec<ShopPacket>)
         ensures { folder_of self.new ≡ replaced (folder_of self.old) (packets_of packets.items) }
     {
         self.lose_memory();
@@ -110,7 +110,7 @@ impl Folder {
     }
 
     /// Other packets stand there; it has those in front of the first that is another one.
-    pub fn change(&mut self, found: &[Packet])
+    pub fn change(&mut self, found: &[ShopPacket])
         ensures { folder_of self.new ≡ replaced (folder_of self.old) (unchanged (folder_of self.old).kept (packets_of found.now)) }
     {
         let count = unchanged(&self.kept, found);
@@ -193,7 +193,7 @@ impl Folder {
     }
 
     /// It has that packet too.
-    pub fn keep(&mut self, packet: Packet) -> Result<(), DeciderFault>
+    pub fn keep(&mut self, packet: ShopPacket) -> Result<(), DeciderFault>
         ensures { OnOk result (folder_of self.new ≡ keeping (folder_of self.old) (packet_of packet)) }
     {
         self.kept.push(packet)?;
@@ -216,7 +216,7 @@ impl Folder {
                 number,
             },
         )?;
-        self.keep(Packet::Message {
+        self.keep(ShopPacket::Message {
             site: self.site,
             number,
             ask,
@@ -231,7 +231,7 @@ impl Folder {
             .checked_add(1)
             .ok_or(DeciderFault::TooLarge)?;
         let after = highest(&self.kept, self.site);
-        self.keep(Packet::Pass {
+        self.keep(ShopPacket::Pass {
             site: self.site,
             turn,
             to,
@@ -298,7 +298,7 @@ impl Folder {
     }
 
     /// Whether the packet stands there.
-    pub fn has(&self, packet: Packet) -> bool
+    pub fn has(&self, packet: ShopPacket) -> bool
         ensures { Decides result (Has (packet_of packet) (folder_of self.now).kept) }
     {
         has(&self.kept, packet)

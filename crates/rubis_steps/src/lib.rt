@@ -11,6 +11,6 @@ mod places;
 mod shops;
 
 pub use deciding::decide;
-pub use events::{Carrier, Event};
+pub use events::{Carrier, ShopEvent};
 pub use faults::DeciderFault;
-pub use packets::Packet;
+pub use packets::ShopPacket;

@@ -13,7 +13,7 @@ use std::alloc::Global;
 /// What a site sends: a message, with its number and the ask that it was made of; or a pass of the token, with its turn, the site
 /// that it goes to, and how many messages the sender had given before.
 #[derive(Clone, Copy)]
-pub enum Packet {
+pub enum ShopPacket {
     Message {
         site: u64,
         number: u64,
@@ -27,13 +27,13 @@ pub enum Packet {
     },
 }
 
-impl Packet {
+impl ShopPacket {
     pub(crate) fn sender(self) -> u64
         ensures { result ≡ sender (packet_of self) }
     {
         match self {
-            Packet::Message { site, .. } => site,
-            Packet::Pass { site, .. } => site,
+            ShopPacket::Message { site, .. } => site,
+            ShopPacket::Pass { site, .. } => site,
         }
     }
 
@@ -41,8 +41,10 @@ impl Packet {
         ensures { result ≡ same_packet (Message of its made_of) (packet_of self) }
     {
         match self {
-            Packet::Message { site, number, ask } => of == site && its == number && made_of == ask,
-            Packet::Pass { .. } => false,
+            ShopPacket::Message { site, number, ask } => of == site
+                && its == number
+                && made_of == ask,
+            ShopPacket::Pass { .. } => false,
         }
     }
 
@@ -50,8 +52,8 @@ impl Packet {
         ensures { result ≡ same_packet (Pass of its goes behind) (packet_of self) }
     {
         match self {
-            Packet::Message { .. } => false,
-            Packet::Pass {
+            ShopPacket::Message { .. } => false,
+            ShopPacket::Pass {
                 site,
                 turn,
                 to,
@@ -61,12 +63,12 @@ impl Packet {
     }
 
     // Whether it is the same packet.
-    fn is(self, other: Packet) -> bool
+    fn is(self, other: ShopPacket) -> bool
         ensures { result ≡ same_packet (packet_of self) (packet_of other) }
     {
         match self {
-            Packet::Message { site, number, ask } => other.is_message(site, number, ask),
-            Packet::Pass {
+            ShopPacket::Message { site, number, ask } => other.is_message(site, number, ask),
+            ShopPacket::Pass {
                 site,
                 turn,
                 to,
@@ -80,8 +82,8 @@ impl Packet {
         ensures { result ≡ number_in of (packet_of self) }
     {
         match self {
-            Packet::Message { site, number, .. } => value_if(site == of, number),
-            Packet::Pass { .. } => 0,
+            ShopPacket::Message { site, number, .. } => value_if(site == of, number),
+            ShopPacket::Pass { .. } => 0,
         }
     }
 
@@ -90,8 +92,8 @@ impl Packet {
         ensures { result ≡ taken_in of (packet_of self) }
     {
         match self {
-            Packet::Message { .. } => 0,
-            Packet::Pass { turn, to, .. } => value_if(to == of, turn),
+            ShopPacket::Message { .. } => 0,
+            ShopPacket::Pass { turn, to, .. } => value_if(to == of, turn),
         }
     }
 
@@ -100,8 +102,8 @@ impl Packet {
         ensures { result ≡ passed_in of (packet_of self) }
     {
         match self {
-            Packet::Message { .. } => 0,
-            Packet::Pass { site, turn, .. } => value_if(site == of, turn),
+            ShopPacket::Message { .. } => 0,
+            ShopPacket::Pass { site, turn, .. } => value_if(site == of, turn),
         }
     }
 
@@ -110,12 +112,12 @@ impl Packet {
         ensures { result ≡ is_reached of number turn (packet_of self) }
     {
         match self {
-            Packet::Message {
+            ShopPacket::Message {
                 site,
                 number: its,
                 ..
             } => site != of || its <= number,
-            Packet::Pass {
+            ShopPacket::Pass {
                 site,
                 turn: its,
                 ..
@@ -137,7 +139,7 @@ fn larger(a: u64, b: u64) -> u64
 }
 
 /// The greatest number that the site gave.
-pub fn highest(kept: &[Packet], site: u64) -> u64
+pub fn highest(kept: &[ShopPacket], site: u64) -> u64
     ensures { result ≡ highest site (packets_of kept.now) }
 {
     let mut most = 0;
@@ -148,7 +150,7 @@ pub fn highest(kept: &[Packet], site: u64) -> u64
 }
 
 /// The greatest turn that the site took.
-pub fn taken(kept: &[Packet], site: u64) -> u64
+pub fn taken(kept: &[ShopPacket], site: u64) -> u64
     ensures { result ≡ taken site (packets_of kept.now) }
 {
     let mut most = 0;
@@ -159,7 +161,7 @@ pub fn taken(kept: &[Packet], site: u64) -> u64
 }
 
 /// The greatest turn that the site passed on.
-pub fn passed(kept: &[Packet], site: u64) -> u64
+pub fn passed(kept: &[ShopPacket], site: u64) -> u64
     ensures { result ≡ passed site (packets_of kept.now) }
 {
     let mut most = 0;
@@ -170,35 +172,35 @@ pub fn passed(kept: &[Packet], site: u64) -> u64
 }
 
 /// The greatest turn that the site passed on or took.
-pub fn last_turn(kept: &[Packet], site: u64) -> u64
+pub fn last_turn(kept: &[ShopPacket], site: u64) -> u64
     ensures { result ≡ last_turn site (packets_of kept.now) }
 {
     larger(passed(kept, site), taken(kept, site))
 }
 
 /// Whether the packet stands there.
-pub fn has(kept: &[Packet], packet: Packet) -> bool
+pub fn has(kept: &[ShopPacket], packet: ShopPacket) -> bool
     ensures { result ≡ has_packet (packet_of packet) kept.now }
 {
     kept.iter().any(|x| packet.is(*x))
 }
 
 /// Whether no packet of the site is further than that number and that turn.
-pub fn are_reached(kept: &[Packet], site: u64, number: u64, turn: u64) -> bool
+pub fn are_reached(kept: &[ShopPacket], site: u64, number: u64, turn: u64) -> bool
     ensures { result ≡ are_reached site number turn kept.now }
 {
     kept.iter().all(|x| x.is_reached(site, number, turn))
 }
 
 /// Whether all these packets stand there.
-pub fn are_all_in(packets: &[Packet], kept: &[Packet]) -> bool
+pub fn are_all_in(packets: &[ShopPacket], kept: &[ShopPacket]) -> bool
     ensures { result ≡ list_all (λ x. has_packet (packet_of x) kept.now) packets.now }
 {
     packets.iter().all(|x| has(kept, *x))
 }
 
 /// What the site sent.
-pub fn own(alloc: Global, kept: &[Packet], site: u64) -> Result<Vec<Packet>, DeciderFault>
+pub fn own(alloc: Global, kept: &[ShopPacket], site: u64) -> Result<Vec<ShopPacket>, DeciderFault>
     ensures { IfOk result (λ v. v.items ≡ filter (λ x. sender (packet_of x) == site) kept.now) }
 {
     let own = kept
@@ -210,7 +212,7 @@ pub fn own(alloc: Global, kept: &[Packet], site: u64) -> Result<Vec<Packet>, Dec
 }
 
 /// How many packets stand in front of the first that is another one.
-pub fn unchanged(kept: &[Packet], found: &[Packet]) -> usize
+pub fn unchanged(kept: &[ShopPacket], found: &[ShopPacket]) -> usize
     ensures { packets_of (take result kept.now) ≡ unchanged (packets_of kept.now) (packets_of found.now) }
 {
     let mut count = 0;

@@ -8,7 +8,7 @@ ghost use Rattle.rubis_steps.specs.Tests.{are_own, folders_reached, in_folders, 
 
 use crate::faults::DeciderFault;
 use crate::folders::Folder;
-use crate::packets::{Packet, are_reached, has};
+use crate::packets::{ShopPacket, are_reached, has};
 use std::alloc::Global;
 
 /// Lists all folders up to that one. Those that weren't have nothing.
@@ -31,7 +31,7 @@ pub fn list_folder(
 /// Lists all streams up to that one. Those that weren't have nothing.
 pub fn list_stream(
     alloc: Global,
-    streams: &mut Vec<Vec<Packet>>,
+    streams: &mut Vec<Vec<ShopPacket>>,
     site: u64,
 ) -> Result<(), DeciderFault>
     ensures same { (i : ℕ) → stream_at streams.new.items i ≡ stream_at streams.old.items i }
@@ -75,7 +75,7 @@ pub fn folders_reached(folders: &[Folder], site: u64, number: u64, turn: u64) ->
 }
 
 /// Whether no stream has a packet of the site that is further than that number and that turn.
-pub fn streams_reached(streams: &[Vec<Packet>], site: u64, number: u64, turn: u64) -> bool
+pub fn streams_reached(streams: &[Vec<ShopPacket>], site: u64, number: u64, turn: u64) -> bool
     ensures { result ≡ streams_reached site number turn streams.now }
 {
     streams
@@ -83,33 +83,33 @@ pub fn streams_reached(streams: &[Vec<Packet>], site: u64, number: u64, turn: u6
         .all(|stream| are_reached(stream, site, number, turn))
 }
 
-fn in_folders(folders: &[Folder], packet: Packet) -> bool
+fn in_folders(folders: &[Folder], packet: ShopPacket) -> bool
     ensures { result ≡ in_folders (packet_of packet) folders.now }
 {
     folders.iter().any(|f| has(&f.kept, packet))
 }
 
-fn in_streams(streams: &[Vec<Packet>], packet: Packet) -> bool
+fn in_streams(streams: &[Vec<ShopPacket>], packet: ShopPacket) -> bool
     ensures { result ≡ in_streams (packet_of packet) streams.now }
 {
     streams.iter().any(|stream| has(stream, packet))
 }
 
-fn is_found(folders: &[Folder], streams: &[Vec<Packet>], packet: Packet) -> bool
+fn is_found(folders: &[Folder], streams: &[Vec<ShopPacket>], packet: ShopPacket) -> bool
     ensures { result ≡ is_found folders.now streams.now (packet_of packet) }
 {
     in_folders(folders, packet) || in_streams(streams, packet)
 }
 
 /// Whether each of the packets stands somewhere.
-pub fn are_found(folders: &[Folder], streams: &[Vec<Packet>], packets: &[Packet]) -> bool
+pub fn are_found(folders: &[Folder], streams: &[Vec<ShopPacket>], packets: &[ShopPacket]) -> bool
     ensures { result ≡ list_all (λ x. is_found folders.now streams.now (packet_of x)) packets.now }
 {
     packets.iter().all(|x| is_found(folders, streams, *x))
 }
 
 /// Whether a folder of its sender has the packet.
-pub fn in_own_folder(folders: &[Folder], packet: Packet) -> bool
+pub fn in_own_folder(folders: &[Folder], packet: ShopPacket) -> bool
     ensures { result ≡ in_own_folder (packet_of packet) folders.now }
 {
     let sender = packet.sender();
@@ -119,7 +119,7 @@ pub fn in_own_folder(folders: &[Folder], packet: Packet) -> bool
 }
 
 /// Whether each packet of the stream is of that site, and stands there.
-pub fn are_own(stream: &[Packet], kept: &[Packet], site: u64) -> bool
+pub fn are_own(stream: &[ShopPacket], kept: &[ShopPacket], site: u64) -> bool
     ensures { result ≡ are_own site kept.now stream.now }
 {
     stream.iter().all(|x| x.sender() == site && has(kept, *x))

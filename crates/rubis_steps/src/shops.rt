@@ -9,10 +9,10 @@ ghost use Rattle.rubis_carrier.specs.Shops.{IsAlone, IsCompared, MayOpen, start}
 ghost use Rattle.rubis_steps.specs.Answers.{DecidesIn, DecidesMay, IsDone, IsDoneOver, IsStart, Keeps};
 ghost use Rattle.rubis_steps.specs.Finite.{carrier_of, folder_at, packet_of, packets_of, request_at, request_of, stream_at, stream_of};
 
-use crate::events::{Carrier, Request};
+use crate::events::{Carrier, ShopRequest};
 use crate::faults::DeciderFault;
 use crate::folders::Folder;
-use crate::packets::{Packet, are_all_in, has, highest, last_turn, own};
+use crate::packets::{ShopPacket, are_all_in, has, highest, last_turn, own};
 use crate::places::{
     are_found, are_own, folders_reached, forget_all, in_own_folder, is_alone, list_folder,
     list_stream, streams_reached,
@@ -24,9 +24,9 @@ use std::alloc::Global;
 pub struct Shop {
     alloc: Global,
     folders: Vec<Folder>,
-    streams: Vec<Vec<Packet>>,
+    streams: Vec<Vec<ShopPacket>>,
     begun: u64,
-    requests: Vec<Request>,
+    requests: Vec<ShopRequest>,
 }
 
 impl Shop {
@@ -61,7 +61,7 @@ impl Shop {
         list_stream(self.alloc, &mut self.streams, site)
     }
 
-    fn stream(&self, site: u64) -> &[Packet]
+    fn stream(&self, site: u64) -> &[ShopPacket]
         ensures { packets_of result.now ≡ stream_at self.now.streams.items site }
     {
         match self.streams.get(site as usize) {
@@ -70,10 +70,10 @@ impl Shop {
         }
     }
 
-    fn request(&self, ask: u64) -> Request
+    fn request(&self, ask: u64) -> ShopRequest
         ensures { request_of result ≡ request_at self.now.requests.items ask }
     {
-        let none = Request {
+        let none = ShopRequest {
             life: 0,
             records: 0,
         };
@@ -203,7 +203,7 @@ impl Shop {
         if self.begun < life {
             return Ok(false);
         }
-        self.requests.push(Request { life, records })?;
+        self.requests.push(ShopRequest { life, records })?;
         Ok(true)
     }
 
@@ -310,7 +310,7 @@ impl Shop {
         }
         match carrier {
             Carrier::Files => false,
-            Carrier::Server => has(self.stream(site), Packet::Message { site, number, ask }),
+            Carrier::Server => has(self.stream(site), ShopPacket::Message { site, number, ask }),
         }
     }
 
@@ -346,7 +346,7 @@ impl Shop {
         Ok(true)
     }
 
-    fn may_append(&self, carrier: Carrier, folder: u64, packet: Packet) -> bool
+    fn may_append(&self, carrier: Carrier, folder: u64, packet: ShopPacket) -> bool
         requires { folder < length self.now.folders.items }
         ensures { DecidesMay (carrier_of carrier) (Appends folder (packet_of packet)) self.now result }
     {
@@ -364,7 +364,7 @@ impl Shop {
         &mut self,
         carrier: Carrier,
         folder: u64,
-        packet: Packet,
+        packet: ShopPacket,
     ) -> Result<bool, DeciderFault>
         ensures { IsDone (carrier_of carrier) (Appends folder (packet_of packet)) self.old self.new result }
     {
@@ -378,7 +378,7 @@ impl Shop {
         Ok(true)
     }
 
-    fn is_offered(&self, carrier: Carrier, packet: Packet) -> bool
+    fn is_offered(&self, carrier: Carrier, packet: ShopPacket) -> bool
         ensures { DecidesIn self.now result (λ s. IsOffered (carrier_of carrier) s (packet_of packet)) }
     {
         match carrier {
@@ -387,7 +387,7 @@ impl Shop {
         }
     }
 
-    fn may_read(&self, carrier: Carrier, folder: u64, packet: Packet) -> bool
+    fn may_read(&self, carrier: Carrier, folder: u64, packet: ShopPacket) -> bool
         requires { folder < length self.now.folders.items }
         ensures { DecidesMay (carrier_of carrier) (Reads folder (packet_of packet)) self.now result }
     {
@@ -405,7 +405,7 @@ impl Shop {
         &mut self,
         carrier: Carrier,
         folder: u64,
-        packet: Packet,
+        packet: ShopPacket,
     ) -> Result<bool, DeciderFault>
         ensures { IsDone (carrier_of carrier) (Reads folder (packet_of packet)) self.old self.new result }
     {
@@ -427,7 +427,7 @@ impl Shop {
         Ok(true)
     }
 
-    pub fn is_changed(&mut self, folder: u64, found: &Vec<Packet>) -> Result<bool, DeciderFault>
+    pub fn is_changed(&mut self, folder: u64, found: &Vec<ShopPacket>) -> Result<bool, DeciderFault>
         ensures { IsDoneOver (IsChanged folder (stream_of found.now)) self.old self.new result }
     {
         self.list(folder)?;
@@ -470,7 +470,7 @@ impl Shop {
 
     // What is made again.
 
-    fn may_rebuild(&self, folder: u64, packets: &[Packet]) -> bool
+    fn may_rebuild(&self, folder: u64, packets: &[ShopPacket]) -> bool
         requires { folder < length self.now.folders.items }
         ensures { DecidesIn self.now result (λ s. MayRebuild s folder (packets_of packets.now)) }
     {
@@ -484,7 +484,7 @@ impl Shop {
         are_found(&self.folders, &self.streams, packets)
     }
 
-    pub fn rebuilds(&mut self, folder: u64, packets: &Vec<Packet>) -> Result<bool, DeciderFault>
+    pub fn rebuilds(&mut self, folder: u64, packets: &Vec<ShopPacket>) -> Result<bool, DeciderFault>
         ensures { IsDoneOver (Rebuilds folder (stream_of packets.now)) self.old self.new result }
     {
         self.list(folder)?;

@@ -11,7 +11,7 @@ ghost use Rattle.rubis_workers.specs.Work.{AreWorked, AppliesBatch};
 use crate::gate::Gate;
 use crate::rooms::Rooms;
 use crate::task::FoldShares;
-use crate::team::{Job, Teamwork, fan_out};
+use crate::team::{TeamJob, Teamwork, fan_out};
 use crate::workers::TeamSetup;
 use rubis_board::Poster;
 use rubis_pieces::{Gathered, Left, Piece, gather};
@@ -131,7 +131,7 @@ pub fn apply_by_team<G: Gate, R: Threads + Wait + Sync, A, F: FnOnce() -> A>(
         answer,
     } = fan_out(
         rt,
-        &Job {
+        &TeamJob {
             board: &board,
             task: &FoldShares,
             gate: setup.gate,

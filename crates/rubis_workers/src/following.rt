@@ -12,7 +12,7 @@ ghost use Rattle.rubis_workers.specs.Following.{bare};
 use crate::gate::Gate;
 use crate::rooms::Rooms;
 use crate::task::FollowBatch;
-use crate::team::{Job, Teamwork, fan_out};
+use crate::team::{TeamJob, Teamwork, fan_out};
 use crate::workers::TeamSetup;
 use rubis_board::Poster;
 use rubis_pieces::{CountedShards, Piece, gather_counted};
@@ -95,7 +95,7 @@ pub fn follow_by_team<G: Gate, R: Threads + Wait + Sync>(
         answer: (),
     } = fan_out(
         rt,
-        &Job {
+        &TeamJob {
             board: &board,
             task,
             gate: setup.gate,

@@ -16,15 +16,15 @@ use std::thread;
 use std::thread::Threads;
 
 /// What a team does: the board that has the pieces, what is done with each of them, and what is told when one is taken.
-pub struct Job<'a, T, G> {
+pub struct TeamJob<'a, T, G> {
     pub board: &'a Board,
     pub task: &'a T,
     pub gate: &'a G,
 }
 
-impl<'a, T, G> Drop for Job<'a, T, G> {
+impl<'a, T, G> Drop for TeamJob<'a, T, G> {
     fn drop(self) {
-        let Job {
+        let TeamJob {
             board: _,
             task: _,
             gate: _,
@@ -35,7 +35,7 @@ impl<'a, T, G> Drop for Job<'a, T, G> {
 /// One worker: takes pieces until none is left, and does the task of each.
 pub fn work<T: Task, G: Gate, R: Wait>(
     rt: &R,
-    job: &Job<T, G>,
+    job: &TeamJob<T, G>,
     mut pass: Pass,
     mut room: Vec<Done>,
 ) -> (Pass, Vec<Done>)
@@ -104,7 +104,7 @@ fn joined<A>(board: &Board, ours: Teamwork<A>, theirs: Pass, mut done: Vec<Done>
 /// calls `first`, and then works too.
 pub fn fan_out<T: Task, G: Gate, R: Threads + Wait + Sync, A, F: FnOnce() -> A>(
     rt: &R,
-    job: &Job<T, G>,
+    job: &TeamJob<T, G>,
     pass: Pass,
     room: Vec<Done>,
     mut rooms: Vec<Vec<Done>>,
@@ -143,7 +143,7 @@ pub fn fan_out<T: Task, G: Gate, R: Threads + Wait + Sync, A, F: FnOnce() -> A>(
             requires room { (new.taken ≡ []) × (theirs.items ≡ []) × (length new.posted ≤ vec_capacity theirs) }
             ensures pass { result.0 ≡ having new result.0.taken true }
             ensures done { AllZip (T.Worked task.entry.now) result.0.taken result.1.items }
-        { work(rt, &Job { board, task, gate }, new, theirs) },
+        { work(rt, &TeamJob { board, task, gate }, new, theirs) },
         move || -> Teamwork<A>
             requires sync { IsSync R.row }
             requires board { mine.board ≡ board.now }
@@ -157,7 +157,7 @@ pub fn fan_out<T: Task, G: Gate, R: Threads + Wait + Sync, A, F: FnOnce() -> A>(
             ensures room { length mine.posted ≤ vec_capacity result.list }
             ensures others { result.others ≤ vec_len result.list }
             ensures answer { F.post first result.answer }
-        { fan_out(rt, &Job { board, task, gate }, mine, room, rooms, first) },
+        { fan_out(rt, &TeamJob { board, task, gate }, mine, room, rooms, first) },
     );
     joined(board, ours, new, theirs)
 }

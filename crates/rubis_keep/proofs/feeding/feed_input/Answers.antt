@@ -1,24 +1,31 @@
-use Rattle.std.proofs.Common.{[], ◌∷◌, subst, sym}
-use Rattle.rubis_message.specs.Inputs.{FitsIn, IsInput}
-use Rattle.rubis_keep.proofs.FedFacts.{fails-sooner, fed-fails, feeds-failed, feeds-on, one-fed, step-fed}
+use Rattle.std.proofs.Common.{[], ◌∷◌, refl}
+use Rattle.rubis_keep.proofs.FedFacts.{fails-sooner, fed-fails, fed-none, feeds-failed, feeds-on, finish-ends, one-fed, put-rows, step-fed}
 use Rattle.rubis_keep.proofs.feeding.feed_input.Goals as goal
 
-pub returns-in_err-stop : goal.returns-in_err-stop
-returns-in_err-stop g c rows inputs =
-    feeds-failed _ _ rows _ _ _ _ c.from_residual.result c.from_residual.ensures.0 (fails-sooner _ _ [] rows _ _ _ c.in_err-stop.ensures.fed)
+pub returns-in_err-finish : goal.returns-in_err-finish
+returns-in_err-finish g c rows inputs =
+    feeds-failed _ _ rows _ _ _ _ c.from_residual.result c.from_residual.ensures.0
+    (fails-sooner _ _ [] rows _ _ _
+    (finish-ends _ _ c.args.clerk.now c.finish.new.clerk c.args.answers.now c.finish.new.answers c.finish.result c.finish.ensures))
 
-pub take_read-requires-clause-fits : goal.take_read-requires-clause-fits
-take_read-requires-clause-fits g c κs within = subst (λ p. FitsIn p.sites c.args.read) (sym c.in_ok-stop.ensures.fed.leads.place) c.requires.fits
+pub returns-then-gte : goal.returns-then-gte
+returns-then-gte g c rows inputs =
+    fails-sooner _ _ [] rows _ _ _
+    (finish-ends _ _ c.args.clerk.now c.finish.new.clerk c.args.answers.now c.finish.new.answers c.finish.result c.finish.ensures)
 
 pub returns-in_err-take_read : goal.returns-in_err-take_read
 returns-in_err-take_read g c rows inputs =
     feeds-failed _ _ rows _ _ _ _ c.from_residual-in_err-take_read.result c.from_residual-in_err-take_read.ensures.0
-    (fails-sooner _ _ [] rows _ _ _ (fed-fails _ _ [] _ _ _ _ c.in_ok-stop.ensures.fed))
+    (fails-sooner _ _ [] rows _ _ _ (fed-fails _ _ [] _ _ _ _ (fed-none _ _ _ _)))
+
+pub returns-then-not-is_full : goal.returns-then-not-is_full
+returns-then-not-is_full g c =
+    one-fed _ _ c.args.read c.args.clerk.now _ c.args.answers.now _ _
+    (λ fields is. step-fed _ _ fields c.args.read c.args.clerk.now _ _ is c.in_ok-take_read.ensures.takes)
 
 pub returns : goal.returns
 returns g c =
-    one-fed _ _ c.args.read c.args.clerk.now _ c.args.answers.now _ c.put_full.result
-    (λ fields is. feeds-on _ _ [] (fields ∷ []) _ _ _ _ _ _ c.put_full.result c.in_ok-stop.ensures.fed
-    (feeds-on _ _ (fields ∷ []) [] _ _ _ _ _ _ c.put_full.result
-    (step-fed _ _ fields c.args.read c.stop.new.clerk _ _
-    (subst (λ p. IsInput p.sites fields c.args.read) (sym c.in_ok-stop.ensures.fed.leads.place) is) c.in_ok-take_read.ensures.takes) c.put_full.ensures))
+    one-fed _ _ c.args.read c.args.clerk.now _ c.args.answers.now _ c.put_sink.result
+    (λ fields is. feeds-on _ _ (fields ∷ []) [] _ _ _ _ _ _ c.put_sink.result
+    (step-fed _ _ fields c.args.read c.args.clerk.now _ _ is c.in_ok-take_read.ensures.takes)
+    (put-rows _ _ _ _ _ _ c.put_sink.result refl refl refl c.put_sink.ensures.sink c.put_sink.ensures.ok c.put_sink.ensures.err c.put_sink.ensures.told))

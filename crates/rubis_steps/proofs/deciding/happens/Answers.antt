@@ -1,4 +1,4 @@
-use Rattle.rubis_steps.specs.declared.events.Event.TheVariants as event
+use Rattle.rubis_steps.specs.declared.events.ShopEvent.TheVariants as event
 use Rattle.rubis_steps.specs.Finite.{carrier_of}
 use Rattle.rubis_steps.proofs.Steps.{happens_at, happens_over}
 use Rattle.rubis_steps.proofs.deciding.happens.Goals as goal

@@ -1,6 +1,6 @@
 use Rattle.std.proofs.Common.{subst}
 use Rattle.crossbeam_queue.specs.Passes.{view}
-use Rattle.rubis_crew.specs.declared.rule.Item.{Item}
+use Rattle.rubis_crew.specs.declared.rule.JobEntry.{JobEntry}
 use Rattle.rubis_crew.specs.Rule.{HasTaken}
 use Rattle.rubis_crew.proofs.Handing.{hands}
 use Rattle.rubis_crew.proofs.Helping.{helped}
@@ -18,7 +18,7 @@ pub returns-in-Some-Work : goal.returns-in-Some-Work
 returns-in-Some-Work g c =
     let x = c.in-Some-Work.given in
     let taken =
-    subst (λ (item : Item g.row.J.Denot). HasTaken g.J.Job.Fits (view c.me.inside.seat) item (view c.pop_as.new.pass))
+    subst (λ (item : JobEntry g.row.J.Denot). HasTaken g.J.Job.Fits (view c.me.inside.seat) item (view c.pop_as.new.pass))
     c.in-Some-Work.field-0-is c.in-Some-Work.ensures.rule in (
       x,
       helped c.me.inside.seat c.pop_as.new.pass c.another-token.new.pass c.another-token.result c.me.inside.desk c.pay.new.desk x

@@ -1,6 +1,6 @@
 use Rattle.std.proofs.Common.{refl, subst}
 use Rattle.crossbeam_queue.specs.Passes.{view}
-use Rattle.rubis_crew.specs.declared.rule.Item.{Item}
+use Rattle.rubis_crew.specs.declared.rule.JobEntry.{JobEntry}
 use Rattle.rubis_crew.specs.Rule.{HasTaken}
 use Rattle.rubis_crew.proofs.Leads.{after_taking, still_leads}
 use Rattle.rubis_crew.proofs.Taking.{takes}
@@ -14,7 +14,7 @@ pub settle-requires-clause-one : goal.settle-requires-clause-one
 settle-requires-clause-one g c κs within =
     let x = c.in-Some-Work.given in
     let taken =
-    subst (λ (item : Item g.row.J.Denot). HasTaken g.J.Job.Fits (view c.lead.inside.seat) item (view c.pop_as.new.pass))
+    subst (λ (item : JobEntry g.row.J.Denot). HasTaken g.J.Job.Fits (view c.lead.inside.seat) item (view c.pop_as.new.pass))
     c.in-Some-Work.field-0-is c.in-Some-Work.ensures.rule in
     let came =
     after_taking (view c.lead.inside.seat) (view c.pop_as.new.pass) x c.lead.invariant.pair.holds_none taken.1 in
@@ -24,7 +24,7 @@ pub invariant_of-lead : goal.invariant_of-lead
 invariant_of-lead g c =
     let x = c.in-Some-Work.given in
     let taken =
-    subst (λ (item : Item g.row.J.Denot). HasTaken g.J.Job.Fits (view c.lead.inside.seat) item (view c.pop_as.new.pass))
+    subst (λ (item : JobEntry g.row.J.Denot). HasTaken g.J.Job.Fits (view c.lead.inside.seat) item (view c.pop_as.new.pass))
     c.in-Some-Work.field-0-is c.in-Some-Work.ensures.rule in
     let came =
     after_taking (view c.lead.inside.seat) (view c.pop_as.new.pass) x c.lead.invariant.pair.holds_none taken.1 in

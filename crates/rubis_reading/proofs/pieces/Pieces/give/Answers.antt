@@ -2,7 +2,7 @@ use Rattle.std.proofs.Common.{◌≡◌, ◌∙◌, ◌-◌, ◌++◌, ◌∷◌
 use Rattle.std.specs.Prelude.{None}
 use Rattle.rubis_crew.specs.States.{LeadState}
 use Rattle.rubis_reading.specs.Chunked.{IsChunk}
-use Rattle.rubis_reading.specs.declared.pieces.Piece.{Piece}
+use Rattle.rubis_reading.specs.declared.pieces.GivenPiece.{GivenPiece}
 use Rattle.rubis_reading.specs.declared.readings.Reading.{Reading}
 use Rattle.rubis_reading.proofs.PieceFacts.{of_more, passed_within}
 use Rattle.rubis_reading.proofs.pieces.Pieces.give.Goals as goal
@@ -20,7 +20,7 @@ returns-clause-pieces g c =
     let text : c.in_ok-from_slice.field-0.items ≡ take many (drop c.args.self.now.from c.args.text.now) =
     c.in_ok-from_slice.ensures.items ∙ c.split_at-2.ensures.front ∙ ap (take many) rest in
     let lead = c.in-Ok.ensures.given.1 in
-    let p : Piece = record { many = many; read = None } in
+    let p : GivenPiece = record { many = many; read = None } in
     of_more c.args.text.now c.args.self.now _ _ many c.requires chunk (text, refl, refl)
     (let (number, few, below) = c.in-Ok.ensures.number in omega (arith, number, few))
     (ap (λ (l : LeadState Reading). l.given) lead) (ap (λ (l : LeadState Reading). l.next) lead)
