@@ -50,6 +50,10 @@ module _ {J : Type 0} where
   abbrev pub given_too : LeadState J → J → LeadState J
   given_too s job = record s { next = s.next + 1; given = s.given ++ record { number = s.next; job = job } ∷ [] }
 
+  -- nothing is given any more
+  abbrev pub drained : LeadState J → LeadState J
+  drained s = record s { given = [] }
+
   -- it said that no more come, to that many helpers
   abbrev pub ended : ℕ → LeadState J → LeadState J
   ended helpers s = record s { ended = true; told = helpers }

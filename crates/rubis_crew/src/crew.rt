@@ -6,7 +6,7 @@ ghost use Rattle.rubis_crew.specs.declared.job.Given.{Given};
 ghost use Rattle.rubis_crew.specs.Results.{IsPaid, holds};
 ghost use Rattle.atomic_table.specs.Seated.{TableId};
 ghost use Rattle.rubis_crew.specs.Rule.{AreBelow};
-ghost use Rattle.rubis_crew.specs.States.{ended, new_lead, new_helper, given_too, HasNoRoom, IsBack, HasHelped, ComesBack, Settles, HasAllBack, TellsAll};
+ghost use Rattle.rubis_crew.specs.States.{drained, ended, new_lead, new_helper, given_too, HasNoRoom, IsBack, HasHelped, ComesBack, Settles, HasAllBack, TellsAll};
 
 use crate::job::{Back, Given, Job};
 use crate::results::{Collecting, Joining, Naming, Paying, Payment, ResultRule, ResultView, Slip};
@@ -356,11 +356,10 @@ impl<J: Job> Crew<J> {
         })
     }
 
-    /// Lets go what is given: a job that no helper has taken unworked, and else its result.
+    /// Lets go what is given: a job that no helper has taken unworked, and else its result. Nothing else changes.
     pub fn drain<R: Wait>(&self, rt: &R, lead: &mut Lead<J>)
         requires { lead.old.crew ≡ self.now.id }
-        ensures crew { lead.new.crew ≡ lead.old.crew }
-        ensures none { lead.new.given ≡ [] }
+        ensures { lead.new ≡ drained lead.old }
     {
         for _ in rt.forever() {
             if lead.out() == 0 {

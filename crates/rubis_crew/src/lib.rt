@@ -8,6 +8,7 @@ mod laws;
 mod post;
 mod results;
 mod rule;
+mod staying;
 #[cfg(test)]
 mod tests;
 

@@ -1,8 +1,7 @@
 //! A run for which helpers stay, who read pieces of its text.
 
-ghost use Rattle.std.specs.Prelude.{◌≡◌, ◌<◌, ◌≤◌};
+ghost use Rattle.std.specs.Prelude.{◌≡◌};
 ghost use Rattle.std.specs.Thread.{IsSync};
-ghost use Rattle.rubis_crew.specs.States.{HelperState};
 ghost use Rattle.rubis_keep.specs.Reading.{AreFree, AreOver, ReadFor};
 ghost use Rattle.rubis_keep.specs.Steps.{HasReadNone, IsIdle, Runs};
 
@@ -13,57 +12,18 @@ use crate::run::{Recording, run_lines};
 use crate::site::Clerk;
 use crate::site_files::SiteFiles;
 use crate::unread::Unread;
-use rubis_crew::{Crew, Helper};
-use rubis_reading::{Pieces, Reading};
+use rubis_crew::Crew;
+use rubis_reading::Pieces;
 use rubis_script::Gate;
 use std::io::Read;
 use std::sync::Wait;
-use std::thread::{Threads, join, join_mut};
+use std::thread::{Threads, join_mut};
 
 // How many pieces are given at a time, at most.
 const PIECES: usize = 16;
 
 // How many bytes of what was kept before are read at once.
 const PAST: usize = 524_288;
-
-// A helper and `more` others, each in a thread of its own and the first in this one, until no more pieces come.
-fn stay_with<T: Threads + Wait + Sync>(
-    rt: &T,
-    crew: &Crew<Reading>,
-    me: &mut Helper<Reading>,
-    more: usize,
-)
-    requires crew { me.old.crew ≡ crew.now.id }
-    requires owes { me.old.paid ≡ me.old.taken }
-{
-    if more == 0 {
-        crew.stay(rt, me);
-        return;
-    }
-    let mut next = crew.another(me);
-    let fewer = more - 1;
-    join(
-        rt,
-        move ||
-            requires { (me.now.crew ≡ crew.now.id) × (me.now.paid ≡ me.now.taken) }
-        { crew.stay(rt, me) },
-        move ||
-            requires { IsSync T.row × (next.crew ≡ crew.now.id) × (next.paid ≡ next.taken) }
-        { stay_with(rt, crew, &mut next, fewer) },
-    );
-}
-
-// All helpers, made from this one, which takes no piece itself.
-fn stay_all<T: Threads + Wait + Sync>(rt: &T, crew: &Crew<Reading>, me: &mut Helper<Reading>)
-    requires { me.old.crew ≡ crew.now.id }
-    ensures { me.new.crew ≡ me.old.crew }
-{
-    let helpers = crew.helpers();
-    if helpers > 0 {
-        let mut one = crew.another(me);
-        stay_with(rt, crew, &mut one, helpers - 1);
-    }
-}
 
 // The run, and whatever it ends with, tells the helpers that no more comes.
 fn run_to_end<G: Gate, T: Threads + Wait + Sync, C: Read, P: Read, O: Read, F: SiteFiles, R: Read>(
@@ -152,7 +112,7 @@ fn run_with<G: Gate, T: Threads + Wait + Sync, C: Read, P: Read, O: Read, F: Sit
         rt,
         &mut ||
             requires { IsSync T.row × (helper.now.crew ≡ reading.now.id) }
-        { stay_all(rt, reading, helper) },
+        { reading.stay_all(rt, helper) },
         recording,
         live,
         lines,

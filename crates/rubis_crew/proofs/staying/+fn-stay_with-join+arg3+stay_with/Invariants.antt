@@ -1,4 +1,4 @@
-use Rattle.rubis_keep.proofs.helped.+fn-stay_with-join+arg3+stay_with.Given as goal
+use Rattle.rubis_crew.proofs.staying.+fn-stay_with-join+arg3+stay_with.Given as goal
 
 abbrev pub decreases-stay_with : goal.decreases-stay_with
 decreases-stay_with g l = l.more
