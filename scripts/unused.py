@@ -1,10 +1,11 @@
 #!/usr/bin/env python3
-"""Finds lemmas, definitions and sets of rules that nothing names.
+"""Looks through the names of the sources: lemmas, definitions and sets of rules that nothing names, names that are imported for clauses
+and proofs and that their file doesn't use, and types that share a name.
 
     scripts/unused.py
 
-What only such ones name is found too. An import is no use of a name, unless it hands the name on (`pub use`). Answers to goals, examples,
-the files `Lib` and operators are left out.
+A definition that only unused ones name is found too. An import is no use of a name, unless it hands the name on (`pub use`). Of
+definitions, answers to goals, examples, the files `Lib` and operators are left out.
 """
 
 import collections
@@ -20,6 +21,11 @@ TOP = pathlib.Path(__file__).resolve().parent.parent
 TOKEN = re.compile(r"[^\s()\[\]{},;:.=λ→]+")
 COMMENT = re.compile(r"--(?=[ -]).*")
 IMPORT = re.compile(r"\s*(?:unfoldable )?(?:pub )?use ")
+# A line that imports names for the file alone.
+IMPORTED = re.compile(r"\s*(?:ghost )?use Rattle[^{]*\.\{([^}]*)\};?\s*")
+# In code comments begin otherwise.
+OF_CODE = re.compile(r"//.*")
+TYPE = re.compile(r"(?:pub(?:\(crate\))? )?(?:struct|enum|trait|type) (\w+)")
 MODULE = re.compile(r"(?:pub )?mod ")
 # What stands before the name in a definition.
 BEFORE = re.compile(r"(?:(?:abbrev|pub|unfoldable|opaque|instance|record|data|private|ruleset) )*")
@@ -66,18 +72,21 @@ def definitions(file: pathlib.Path, text: str) -> Iterator[Definition]:
             current.words.update(words_of(line))
 
 
+def sources(pattern: str) -> Iterator[pathlib.Path]:
+    """The files of all crates, but for what was built of them."""
+    return (file for file in sorted(TOP.glob(pattern)) if "out" not in file.relative_to(TOP).parts)
+
+
 def unnamed() -> list[str]:
     """Each definition that nothing names, with where it stands."""
     used: collections.Counter[str] = collections.Counter()
     found: list[Definition] = []
-    for file in TOP.glob("crates/*/*/**/*.antt"):
-        if file.parts[-1] == "out" or "out" in file.relative_to(TOP).parts:
-            continue
+    for file in sources("crates/*/*/**/*.antt"):
         text = COMMENT.sub("", file.read_text())
         used.update(words_of("\n".join(line for line in text.split("\n") if not IMPORT.match(line) or "pub use" in line)))
         if file.stem not in OF_GOALS and "Example" not in str(file):
             found += [it for it in definitions(file, text) if "◌" not in it.name]
-    for file in TOP.glob("crates/*/src/**/*.rt"):
+    for file in sources("crates/*/src/**/*.rt"):
         lines = (line for line in file.read_text().split("\n") if not line.lstrip().startswith("ghost use "))
         # The code has `_` where a lemma's name has `-`.
         words = words_of("\n".join(lines))
@@ -92,9 +101,39 @@ def unnamed() -> list[str]:
     return gone
 
 
+def is_used(name: str, text: str) -> bool:
+    """Whether a text uses a name; an operator by the signs between its operands, and one that a `do` block is read by without any."""
+    if "◌" in name:
+        return ">>" in name or all(sign in text for sign in name.split("◌"))
+    return re.search(rf"(?<![\w?'-]){re.escape(name)}(?![\w?'])", text) is not None
+
+
+def idle() -> Iterator[str]:
+    """Each name that a file imports and doesn't use."""
+    for file in [*sources("crates/*/*/**/*.antt"), *sources("crates/*/src/**/*.rt")]:
+        lines = (COMMENT if file.suffix == ".antt" else OF_CODE).sub("", file.read_text()).split("\n")
+        text = "\n".join(line for line in lines if not IMPORTED.fullmatch(line))
+        for number, line in enumerate(lines, 1):
+            if found := IMPORTED.fullmatch(line):
+                names = (name.split(" as ")[-1].strip() for name in found[1].split(","))
+                yield from (f"{file.relative_to(TOP)}:{number}: nothing here uses {name}" for name in names if not is_used(name, text))
+
+
+def shared() -> Iterator[str]:
+    """Each name that two types have."""
+    first: dict[str, str] = {}
+    for file in sources("crates/*/src/**/*.rt"):
+        for number, line in enumerate(file.read_text().split("\n"), 1):
+            if found := TYPE.match(line):
+                at = f"{file.relative_to(TOP)}:{number}"
+                if found[1] in first:
+                    yield f"{at}: {first[found[1]]} has a type {found[1]} too"
+                first.setdefault(found[1], at)
+
+
 def main() -> int:
-    faults = unnamed()
-    return report("lemmas and definitions", len(faults) + 1, sorted(faults))
+    faults = sorted([*unnamed(), *idle(), *shared()])
+    return report("names of definitions, imports and types", len(faults) + 1, faults)
 
 
 if __name__ == "__main__":

@@ -1,6 +1,6 @@
 //! The records of an input, and the lines in which they stand.
 
-ghost use Rattle.std.specs.Prelude.{◌≡◌, ◌⊎◌, ◌≤◌, IfErr, IfOk, IfSome, option_map};
+ghost use Rattle.std.specs.Prelude.{◌≡◌, ◌⊎◌, ◌≤◌, IfErr, IfOk, IfSome};
 ghost use Rattle.rubis_engine.specs.Reading.{HasToGive, ReadsNext};
 ghost use Rattle.rubis_engine.specs.Text.{input_records};
 ghost use Rattle.rubis_audit.specs.Checking.{recent};

@@ -1,7 +1,6 @@
 //! What is wrong with a record: which field, and what it should be.
 
 ghost use Rattle.std.specs.Prelude.{◌≡◌, ◌≤◌, ◌+◌, drop};
-ghost use Rattle.std.specs.List.{list_any};
 ghost use Rattle.rubis_schema.specs.declared.limits.TheConstants.{COUNTED_MAX};
 ghost use Rattle.rubis_audit.specs.RecordFaults.{at_fault, audit_fault, changes_nothing, discord, fault_in, field_at, has_line_end};
 ghost use Rattle.rubis_audit.specs.RecordFaults.{has_room, in_quotes, is_next, line_end_at, line_end_from, misfit, misplaced, place_after};

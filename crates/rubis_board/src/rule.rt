@@ -1,5 +1,4 @@
 //! The rule of the board, and the steps that passes take under it. No value of any type but `Item` is ever made.
-ghost use Rattle.std.specs.Prelude.{◌≡◌};
 
 use crossbeam_queue::protocol::{Join, Lesson, Outcome, Protocol, Split};
 use rubis_pieces::Piece;

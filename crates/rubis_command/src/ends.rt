@@ -1,6 +1,6 @@
 //! What is said of a run that goes wrong, and the status that it ends with.
 
-ghost use Rattle.std.specs.Prelude.{◌≡◌, ◌⊎◌, cond, is_ok};
+ghost use Rattle.std.specs.Prelude.{◌≡◌, cond, is_ok};
 ghost use Rattle.std.specs.Process.{exit_status};
 ghost use Rattle.rubis_command.specs.Statuses.{IsRunStatus};
 

@@ -1,5 +1,4 @@
 //! The rule of the jobs that are given to a crew, and the steps that passes take under it. No value of any type but `JobEntry` is ever made.
-ghost use Rattle.std.specs.Prelude.{◌≡◌};
 
 use crate::job::{Given, Job};
 use crossbeam_queue::protocol::{Join, Lesson, Outcome, Protocol, Split};

@@ -30,13 +30,13 @@ impl Job for Double {
 
 // How many results came back, and their sum.
 #[derive(Drop)]
-struct Tally {
+struct Returned {
     count: u32,
     sum: u64,
 }
 
 // Counts a result that came back, or that of a job that no helper has taken.
-fn count_one<R: Wait>(rt: &R, crew: &Crew<Double>, lead: &mut Lead<Double>, tally: &mut Tally)
+fn count_one<R: Wait>(rt: &R, crew: &Crew<Double>, lead: &mut Lead<Double>, tally: &mut Returned)
     requires { lead.old.crew ≡ crew.now.id }
     ensures { lead.new.crew ≡ crew.now.id }
 {
@@ -59,7 +59,7 @@ fn give_one<R: Wait>(
     crew: &Crew<Double>,
     lead: &mut Lead<Double>,
     number: u32,
-    tally: &mut Tally,
+    tally: &mut Returned,
 )
     requires { lead.old.crew ≡ crew.now.id }
     ensures { lead.new.crew ≡ crew.now.id }
@@ -78,11 +78,11 @@ fn give_all<R: Wait>(
     crew: &Crew<Double>,
     mut lead: Lead<Double>,
     jobs: u32,
-) -> (Tally, Lead<Double>)
+) -> (Returned, Lead<Double>)
     requires { lead.crew ≡ crew.now.id }
     ensures { (result.1.crew ≡ crew.now.id) × (result.1.ended ≡ true) × (result.1.given ≡ []) }
 {
-    let mut tally = Tally { count: 0, sum: 0 };
+    let mut tally = Returned { count: 0, sum: 0 };
     for number in 0..jobs {
         give_one(rt, crew, &mut lead, number, &mut tally);
     }

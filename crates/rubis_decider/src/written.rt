@@ -1,7 +1,7 @@
 //! Steps of shops as they are written on lines: the kind, then numbers and packets, each behind a comma. A message is
 //! `m:SITE:NUMBER:ASK`, and a pass of the token `p:SITE:TURN:TO:AFTER`.
 
-ghost use Rattle.std.specs.Prelude.{◌≡◌, ◌++◌, IfOk, OnOk, codes, string_bytes, true};
+ghost use Rattle.std.specs.Prelude.{◌≡◌, ◌++◌, IfOk, OnOk, string_bytes, true};
 ghost use Rattle.rubis_decider.specs.Written.{comma, packet_text, packets_text, step_text};
 
 use rubis_steps::{ShopEvent, ShopPacket};

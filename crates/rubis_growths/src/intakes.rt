@@ -13,12 +13,12 @@ use std::io::Print;
 
 /// The intake of the second of two sites.
 #[derive(Drop)]
-struct Peer {
+struct IntakePeer {
     intake: Intake,
     ghost two: { intake.place.sites ≡ 2 },
 }
 
-impl Peer {
+impl IntakePeer {
     // Has a message arrive, and once more if it comes back.
     fn arrive<R: Print>(&mut self, rt: &R, message: Message) -> Result<Arrival, Stop> {
         if message.stamp().deps.len() != 2 {
@@ -41,7 +41,7 @@ impl Peer {
 /// Messages that arrive out of order.
 pub fn intake<R: Print + AllocGlobal>(rt: &R) -> Result<(), Stop> {
     let intake = again!(rt, "Intake::new", Intake::new(rt.alloc(), 1, 2, 100));
-    let mut peer = Peer { intake };
+    let mut peer = IntakePeer { intake };
     for place in 0..20 {
         let message = again!(rt, "read_packet", packet(rt.alloc(), place));
         let arrival = peer.arrive(rt, message)?;

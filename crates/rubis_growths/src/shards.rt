@@ -1,6 +1,6 @@
 //! Shards and tables.
 
-ghost use Rattle.std.specs.Prelude.{◌≡◌, ◌<◌, ◌≤◌, length, IfOk};
+ghost use Rattle.std.specs.Prelude.{◌<◌, ◌≤◌, length, IfOk};
 ghost use Rattle.rubis_pieces.specs.Batches.{AreUnfinished};
 ghost use Rattle.rubis_pieces.specs.Pieces.{IsShareOf};
 

@@ -42,7 +42,7 @@ enum End {
 
 /// What happens at a site.
 #[derive(Clone, Copy)]
-enum Event {
+enum WorldEvent {
     User(Nick),
     Pass(u8),
     ListUsers,
@@ -54,13 +54,13 @@ fn happen<R: Threads + Wait + Sync>(
     rt: &R,
     world: &mut World,
     site: u8,
-    event: &Event,
+    event: &WorldEvent,
 ) -> Result<Happened, WorldFault> {
     match event {
-        Event::User(nick) => world.at(rt, site, Request::Ask(Ask::User(*nick))),
-        Event::Pass(to) => world.at(rt, site, Request::Pass(*to)),
-        Event::ListUsers => world.at(rt, site, Request::List(Listing::Users)),
-        Event::Deliver(number) => world.deliver(rt, site, *number),
+        WorldEvent::User(nick) => world.at(rt, site, Request::Ask(Ask::User(*nick))),
+        WorldEvent::Pass(to) => world.at(rt, site, Request::Pass(*to)),
+        WorldEvent::ListUsers => world.at(rt, site, Request::List(Listing::Users)),
+        WorldEvent::Deliver(number) => world.deliver(rt, site, *number),
     }
 }
 
@@ -69,7 +69,7 @@ fn tell_event<R: Print + Threads + Wait + Sync>(
     rt: &R,
     world: &mut World,
     site: u8,
-    event: &Event,
+    event: &WorldEvent,
 ) -> Result<End, Stop> {
     for _ in 0..TRIES {
         let sent = world.packets().len();
@@ -95,7 +95,7 @@ fn tell_event<R: Print + Threads + Wait + Sync>(
 fn tell_events<R: Print + Threads + Wait + Sync>(
     rt: &R,
     world: &mut World,
-    events: &[(u8, Event)],
+    events: &[(u8, WorldEvent)],
 ) -> Result<(), Stop> {
     for (site, event) in events {
         if tell_event(rt, world, *site, event)? == End::Behind {
@@ -126,13 +126,13 @@ pub fn world_calls<R: Print + AllocGlobal + Threads + Wait + Sync>(rt: &R) -> Re
     let ann = Nick::read(b"ann").ok_or(Stop::GaveUp)?;
     let bob = Nick::read(b"bob").ok_or(Stop::GaveUp)?;
     let events = [
-        (0, Event::User(ann)),
-        (0, Event::Pass(1)),
-        (1, Event::Deliver(1)),
-        (1, Event::Deliver(2)),
-        (1, Event::User(bob)),
-        (0, Event::Deliver(3)),
-        (0, Event::ListUsers),
+        (0, WorldEvent::User(ann)),
+        (0, WorldEvent::Pass(1)),
+        (1, WorldEvent::Deliver(1)),
+        (1, WorldEvent::Deliver(2)),
+        (1, WorldEvent::User(bob)),
+        (0, WorldEvent::Deliver(3)),
+        (0, WorldEvent::ListUsers),
     ];
     tell_events(rt, &mut world, &events)?;
     tell_check(rt, &mut world)
@@ -150,14 +150,20 @@ pub fn world_behind<R: Print + AllocGlobal + Threads + Wait + Sync>(rt: &R) -> R
     let mut world = two_sites(rt, 4, 1000)?;
     for number in 0..USERS {
         let nick = nick_of(number).ok_or(Stop::GaveUp)?;
-        let events = [(0, Event::User(nick)), (1, Event::Deliver(number + 1))];
+        let events = [
+            (0, WorldEvent::User(nick)),
+            (1, WorldEvent::Deliver(number + 1)),
+        ];
         tell_events(rt, &mut world, &events)?;
     }
-    let events = [(0, Event::Pass(1)), (1, Event::Deliver(USERS + 1))];
+    let events = [
+        (0, WorldEvent::Pass(1)),
+        (1, WorldEvent::Deliver(USERS + 1)),
+    ];
     tell_events(rt, &mut world, &events)?;
     let zed = Nick::read(b"zed").ok_or(Stop::GaveUp)?;
-    if tell_event(rt, &mut world, 1, &Event::User(zed))? == End::Behind {
-        return match tell_event(rt, &mut world, 1, &Event::ListUsers)? {
+    if tell_event(rt, &mut world, 1, &WorldEvent::User(zed))? == End::Behind {
+        return match tell_event(rt, &mut world, 1, &WorldEvent::ListUsers)? {
             End::Behind => Ok(()),
             End::Answered => Err(Stop::GaveUp),
         };

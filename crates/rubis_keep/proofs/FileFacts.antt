@@ -3,12 +3,12 @@ use Rattle.std.proofs.Common.{◌≡◌, ◌∙◌, ◌≤◌, ◌+◌, ◌-◌,
 use Rattle.std.proofs.Common.{take, refl, sym, ap, subst, arith, append_assoc, length-append}
 use lib.Pointwise.{pointwise}
 use Rattle.std.proofs.lemmas.Bool.{eqb-false}
-use Rattle.std.proofs.lemmas.List.{drop-take, get_or-append-add, get_or_append_left, get_or-drop, get_or-take, length-drop, length-take, length-take-le}
-use Rattle.std.proofs.lemmas.List.{take-append-drop, take-take, take_rest}
+use Rattle.std.proofs.lemmas.List.{get_or-append-add, get_or_append_left, get_or-drop, get_or-take, length-drop, length-take, length-take-le}
+use Rattle.std.proofs.lemmas.List.{take_rest}
 use Rattle.rubis_keep.specs.Files.{DiffersFrom, IfDiffers}
 use Rattle.rubis_keep.specs.declared.fault.KeepFault.{KeepFault}
 use Rattle.rubis_keep.specs.declared.fault.KeepFault.TheVariants as fault
-use Rattle.std.specs.Io.KnownBytes.{Appends, Consumes, Keeps}
+use Rattle.std.specs.Io.KnownBytes.{Consumes}
 use Rattle.rubis_engine.proofs.FrontFacts.{take-more}
 
 pub consumes-none : (known : Option (List ℕ)) → Consumes known known []

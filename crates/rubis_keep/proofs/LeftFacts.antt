@@ -1,7 +1,7 @@
 -- What of an input was read and isn't looked at yet.
 use Rattle.std.proofs.Common.{◌≡◌, ◌≢◌, ◌<◌, ◌≤◌, ◌+◌, ◌∷◌, Bool, true, false, ◌-◌, zero, suc, ◌∙◌, ◌++◌, [], ℕ, List, arith, length, Option, Some, None, drop, take, refl, sym, ap, append_assoc}
 use Rattle.std.proofs.lemmas.List.{drop-drop, drop-take, length-take, take-append-drop}
-use Rattle.std.specs.Io.KnownBytes.{Consumes, IsAtEnd, Keeps}
+use Rattle.std.specs.Io.KnownBytes.{Consumes, IsAtEnd}
 use Rattle.rubis_keep.specs.Kept.{CameOrEnded, left_of}
 
 -- more was read

@@ -1,7 +1,6 @@
 -- A line that is written as a row is, without quotes, is read back.
-use Rattle.std.proofs.Common.{◌≡◌, ◌≢◌, ◌≤◌, ◌==◌, ◌∙◌, ◌++◌, ◌∷◌, [], ℕ, List, ap, arith, drop, false, inl, inr, length, refl, subst, sym, true}
+use Rattle.std.proofs.Common.{◌≡◌, ◌≢◌, ◌≤◌, ◌∙◌, ◌++◌, ◌∷◌, [], ℕ, List, ap, arith, drop, false, inl, inr, length, refl, subst, sym, true}
 use Rattle.std.proofs.lemmas.List.{append-nil}
-use Rattle.std.specs.Prelude.{get_or}
 use Rattle.csv.specs.Writing.{row_text}
 use Rattle.rubis_schema.specs.FieldList.{all_plain, joined}
 use Rattle.rubis_schema.specs.Members.{Has}

@@ -1,6 +1,6 @@
 -- Helpers that read pieces, from one step of a run to the next.
-use Rattle.std.proofs.Common.{◌≡◌, ◌∙◌, ◌≤◌, ◌+◌, ◌-◌, ◌++◌, [], ◌∷◌, ℕ, List, Option, Some, None, ap, append_assoc, append-nil, arith, drop, length, refl, subst, sym, take}
-use Rattle.std.specs.Prelude.{IfSome, Result, Ok, Err, OnOk}
+use Rattle.std.proofs.Common.{◌≡◌, ◌∙◌, ◌+◌, ◌-◌, ◌++◌, [], ◌∷◌, ℕ, List, Option, Some, None, ap, append_assoc, append-nil, arith, drop, length, refl, subst, sym, take}
+use Rattle.std.specs.Prelude.{Result}
 use Rattle.std.specs.Io.KnownBytes.{prepend_known}
 use Rattle.rubis_engine.specs.Text.{input_records}
 use Rattle.rubis_reading.specs.Chunked.{IsChunk}
@@ -14,7 +14,7 @@ use Rattle.rubis_message.specs.declared.inputs.Input.{Input}
 use Rattle.rubis_reading.specs.Inputs.{AreInputs}
 use Rattle.rubis_keep.specs.Fed.{FailsFed, FeedsRows, HasFed}
 use Rattle.rubis_keep.specs.History.{History}
-use Rattle.rubis_keep.specs.Reading.{AreFree, AreGiven, AreOver, HasFedFront, ReadFor, Readers, crew, readers, readers_of}
+use Rattle.rubis_keep.specs.Reading.{AreFree, AreGiven, AreOver, HasFedFront, ReadFor, crew, readers, readers_of}
 use Rattle.rubis_keep.specs.declared.answers.Answers.{Answers}
 use Rattle.rubis_keep.specs.declared.site.Clerk.{Clerk}
 use Rattle.rubis_keep.proofs.FedFacts.{fails-later, fails-sooner, fed-both, fed-fails, fed-none, feeds-on}

@@ -14,7 +14,7 @@ use Rattle.rubis_keep.specs.History.Event.{Replied}
 use Rattle.rubis_keep.specs.Lines.{asked_after}
 use Rattle.rubis_keep.specs.Lives.{Lives, LivesSafe, Rested}
 use Rattle.rubis_keep.specs.Questions.{reply_rows, reply_text}
-use Rattle.rubis_keep.proofs.AskFacts.{asks-cut, asks-fails, asks-replied, silent-none}
+use Rattle.rubis_keep.proofs.AskFacts.{asks-cut, asks-fails, asks-replied}
 use Rattle.rubis_keep.proofs.FileFacts.{consumes-none}
 use Rattle.rubis_keep.proofs.HistoryFacts.{IsStill, grows-more, now-more, stays-more, still-by, still-none, tells-later}
 use Rattle.rubis_keep.proofs.SafeFacts.{all-whole, rested-safe, some-same, stays-known}

@@ -6,7 +6,6 @@ use Rattle.rubis_engine.specs.Reading.{Advances, Gives, fields_now}
 use Rattle.rubis_engine.specs.declared.record_list.Records.{Records}
 use Rattle.rubis_model.specs.Restarts.{IsShortened}
 use Rattle.rubis_message.specs.Inputs.{input_of}
-use Rattle.rubis_message.specs.declared.inputs.Input.{Input}
 use Rattle.rubis_model.specs.Runs.{input_step}
 use Rattle.rubis_model.specs.Site.{Place, Replica}
 use Rattle.rubis_script.specs.Replica.{SiteState}
@@ -22,7 +21,7 @@ use Rattle.rubis_keep.proofs.WholeFacts.{kept-whole, sound-whole}
 use Rattle.csv.specs.Machine.{next_record}
 use Rattle.csv.specs.Reading.{records_from, strip_bom}
 use Rattle.std.specs.Io.KnownBytes.{Appends, Consumes, IsAtEnd}
-use Rattle.std.specs.Prelude.{IfOk, IsTrue, None, Result, Some}
+use Rattle.std.specs.Prelude.{IsTrue, None, Some}
 use Rattle.std.proofs.lemmas.List.{take-append-drop, take_more}
 
 -- ---- record after record

@@ -1,7 +1,6 @@
 //! What was kept, read through before it is answered again.
 
-ghost use Rattle.std.specs.Prelude.{◌≡◌, ◌∷◌, ◌++◌, ◌<◌, [], ℕ, List, IfOk, IfSome, OnOk, true, vec_len};
-ghost use Rattle.std.specs.Io.KnownBytes.{Consumes, IsAtEnd};
+ghost use Rattle.std.specs.Prelude.{◌≡◌, ◌∷◌, ◌<◌, [], ℕ, List, IfOk, IfSome, OnOk, true};
 ghost use Rattle.rubis_keep.specs.Lines.{AreSound, are_sound, begun_after};
 ghost use Rattle.rubis_keep.specs.Places.{begun_bytes};
 

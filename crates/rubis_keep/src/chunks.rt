@@ -1,6 +1,6 @@
 //! The answers of a site to a text of whole records, of which helpers may read pieces.
 
-ghost use Rattle.std.specs.Prelude.{◌≡◌, ◌≤◌};
+ghost use Rattle.std.specs.Prelude.{◌≡◌};
 ghost use Rattle.rubis_engine.specs.Text.{input_records};
 ghost use Rattle.rubis_reading.specs.Readings.{AreOf};
 ghost use Rattle.rubis_keep.specs.Fed.{FeedsRows};

@@ -1,7 +1,6 @@
 //! Answers that are compared with those that were given before, as far as these go.
 
-ghost use Rattle.std.specs.Prelude.{◌≡◌, ◌≤◌, ◌<◌, IfErr, IfOk, IfSome, false, get_or, length, true};
-ghost use Rattle.std.specs.Io.KnownBytes.{Keeps};
+ghost use Rattle.std.specs.Prelude.{◌≡◌, ◌≤◌, ◌<◌, IfErr, IfOk, IfSome, false, length, true};
 ghost use Rattle.rubis_keep.specs.Files.{DiffersFrom, Found, IfDiffers};
 
 use crate::fault::{Difference, KeepFault};

@@ -1,6 +1,6 @@
 //! Pages of listings.
 
-ghost use Rattle.std.specs.Prelude.{◌≡◌, ◌⊎◌, ◌++◌, ◌∷◌, [], List, ℕ, IfOk, IfSome, None, bytes_eq, drop, option_map, take, true};
+ghost use Rattle.std.specs.Prelude.{◌≡◌, ◌⊎◌, ◌++◌, ◌∷◌, [], List, IfOk, IfSome, None, bytes_eq, drop, option_map, take, true};
 ghost use Rattle.rubis_engine.specs.Text.{rows_text};
 ghost use Rattle.rubis_message.specs.Readings.{request_of};
 ghost use Rattle.rubis_model.specs.Site.{Replica};

@@ -1,6 +1,6 @@
 //! Questions, and what a site answers to them.
 
-ghost use Rattle.std.specs.Prelude.{◌≡◌, ◌≤◌, ◌++◌, ◌∷◌, [], IfOk, MatchBool, Some, length};
+ghost use Rattle.std.specs.Prelude.{◌≡◌, ◌++◌, ◌∷◌, [], IfOk, MatchBool, Some, length};
 ghost use Rattle.rubis_model.specs.Settle.{counted};
 ghost use Rattle.rubis_model.specs.Site.{rows_at};
 ghost use Rattle.rubis_replica.specs.Progress.{resting_at};

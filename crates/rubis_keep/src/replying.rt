@@ -1,7 +1,6 @@
 //! A question is answered on standard output.
 
-ghost use Rattle.std.specs.Prelude.{◌≡◌, ◌∷◌, ◌⊎◌, [], IfOk, OnErr, OnOk};
-ghost use Rattle.rubis_engine.specs.Text.{rows_text};
+ghost use Rattle.std.specs.Prelude.{◌≡◌, ◌∷◌, [], IfOk};
 ghost use Rattle.rubis_keep.specs.Asking.{RepliesIf};
 ghost use Rattle.rubis_keep.specs.Pages.{AreListed};
 ghost use Rattle.rubis_keep.specs.Questions.{reply_rows, reply_text};

@@ -1,6 +1,6 @@
 //! The files of a site and standard output: what happens to them, in its order.
 
-ghost use Rattle.std.specs.Prelude.{◌∷◌, [], ℕ, List, Option, None};
+ghost use Rattle.std.specs.Prelude.{Option, None};
 ghost use Rattle.std.specs.Io.{WritesAtMost};
 ghost use Rattle.rubis_keep.specs.History.{HasDone, HasReplied, HasShown, HasWritten, History};
 ghost use Rattle.rubis_keep.specs.History.Event.{Began, CutTo, Flushed, Kept, Settled, Told};

@@ -1,6 +1,6 @@
 //! The listings of the log and of what didn't fit.
 
-ghost use Rattle.std.specs.Prelude.{◌≡◌, ◌+◌, ◌++◌, ◌≤◌, ◌∷◌, [], IfOk, OnOk, length, slice_range};
+ghost use Rattle.std.specs.Prelude.{◌≡◌, ◌+◌, ◌≤◌, IfOk, OnOk, length, slice_range};
 ghost use Rattle.rubis_model.specs.Listings.{kind_name, log_from, log_record, log_rows, misfit_record, misfit_rows as rows_of_misfits};
 
 use rubis_message::{Message, append_message};

@@ -1,7 +1,7 @@
 //! The records of rows.
 
 ghost use Rattle.std.specs.Bool.{MatchBool};
-ghost use Rattle.std.specs.Prelude.{◌≡◌, ◌++◌, ◌∷◌, [], IfOk, OnOk, codes, decimal, true};
+ghost use Rattle.std.specs.Prelude.{◌≡◌, ◌++◌, ◌∷◌, [], IfOk, OnOk, codes, true};
 ghost use Rattle.rubis_schema.specs.FieldList.{is_plain};
 ghost use Rattle.rubis_message.specs.Grammar.{comment_fields, purchase_fields, winner_text};
 ghost use Rattle.rubis_model.specs.Listings.{best_fields, bid_row_fields, by_id, category_record, item_row_fields, row_record, sale_fields, user_fields};

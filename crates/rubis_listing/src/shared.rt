@@ -1,6 +1,6 @@
 //! Rows of a listing that several threads make.
 
-ghost use Rattle.std.specs.Prelude.{◌≡◌, ◌+◌, ◌*◌, ◌≤◌, IfOk, OnOk};
+ghost use Rattle.std.specs.Prelude.{◌+◌, ◌*◌, ◌≤◌, IfOk, OnOk};
 ghost use Rattle.rubis_listing.specs.Parts.{between, rows_of_part, size_of, AreParts};
 
 use crate::sources::Source;

@@ -1,5 +1,5 @@
 -- Counts that are joined by `:`.
-use Rattle.std.proofs.Common.{◌≡◌, ◌≤◌, ◌<◌, ◌+◌, ◌||◌, ℕ, suc, drop_of_length-le, List, [], ◌∷◌, ◌++◌, length, get_or, drop, decimal, refl, ap, sym, ◌∙◌}
+use Rattle.std.proofs.Common.{◌≡◌, ◌≤◌, ◌<◌, ◌+◌, ◌||◌, ℕ, suc, List, [], ◌∷◌, ◌++◌, length, get_or, drop, decimal, refl, ap, sym, ◌∙◌}
 use Rattle.std.proofs.Common.{arith, length-drop, true}
 use Rattle.std.specs.Prelude.{Option, Some, None, not, option_map}
 use Rattle.std.proofs.Math.Seq.{drop-cons}

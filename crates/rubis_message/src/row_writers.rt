@@ -1,6 +1,6 @@
 //! Records of what is sent, made in place where no field calls for quotes.
 
-ghost use Rattle.std.specs.Prelude.{◌≡◌, ◌<◌, ◌≤◌, ◌+◌, ◌++◌, ◌∷◌, [], IsTrue, codes, length};
+ghost use Rattle.std.specs.Prelude.{◌≡◌, ◌<◌, ◌≤◌, ◌+◌, ◌++◌, ◌∷◌, IsTrue, codes, length};
 ghost use Rattle.rubis_message.specs.Grammar.{bid_fields, close_fields, comment_fields, deps_text, item_fields, message_record, purchase_fields};
 ghost use Rattle.rubis_message.specs.Grammar.{rename_fields, restock_fields, shadow_fields, token_record, winner_text};
 ghost use Rattle.rubis_message.specs.declared.row_writers.TheConstants.{MESSAGE_ROOM, SHADOW_ROOM, TOKEN_ROOM};

@@ -7,7 +7,7 @@ use Rattle.rubis_shadow.specs.declared.keyed_change.Effect.{Effect}
 use Rattle.rubis_schema.specs.Keys.{tied}
 use Rattle.rubis_schema.specs.Tables.{Tables}
 use Rattle.rubis_shadow.specs.Changes.{with_row, after_part, doing, misfit_of, change_row}
-use Rattle.rubis_schema.specs.KeyLaws.{key_total, key_antisymmetric, Decides-tied, other_key, tied-refl}
+use Rattle.rubis_schema.specs.KeyLaws.{key_total, key_antisymmetric, Decides-tied, other_key}
 
 pub same_tables : (t u : Tables) → ((q : RowKey) → map.get t q ≡ map.get u q) → t ≡ u
 same_tables = map.same_map key_total key_antisymmetric

@@ -1,6 +1,6 @@
 -- Digits that are read from the left.
 use Rattle.std.proofs.Common.{◌≡◌, ◌≤◌, ◌<◌, ◌+◌, ◌*◌, ◌-◌, ◌^◌, ℕ, zero, suc, true, false, ◌&&◌, ◌⊎◌, inl, inr, List, [], ◌∷◌, length, get_or, drop, decimal}
-use Rattle.std.proofs.Common.{refl, ap, sym, ◌∙◌, arith, rules, tests, add-one}
+use Rattle.std.proofs.Common.{ap, sym, ◌∙◌, arith, rules, tests}
 use Rattle.std.specs.Str.{all_ascii_digits}
 use Rattle.std.specs.Char.{is_ascii_digit}
 use Rattle.std.proofs.Math.Nat.{pow-le-pow_right}

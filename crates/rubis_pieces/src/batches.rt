@@ -2,7 +2,7 @@
 
 ghost use Rattle.std.specs.Prelude.{◌≡◌, ◌+◌, ◌<◌, ◌≤◌, [], length, IfOk, OnErr};
 ghost use Rattle.rubis_schema.specs.declared.limits.TheConstants.{KEEP_MAX};
-ghost use Rattle.std.specs.Vec.{vec_len, vec_capacity};
+ghost use Rattle.std.specs.Vec.{vec_capacity};
 ghost use Rattle.rubis_model.specs.Log.{cores};
 ghost use Rattle.rubis_shard.specs.Holdings.{AreInOrder};
 ghost use Rattle.rubis_pieces.specs.Batches.{AreFolded, AreFoldedTo, AreUnfinished, Belong, IsBegun, IsFolded, LeavesNoMore, TakesBatch, TakesWholeBatch};

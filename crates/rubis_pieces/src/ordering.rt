@@ -1,6 +1,6 @@
 //! The misfits of all shards, in the order of the log.
 
-ghost use Rattle.std.specs.Prelude.{◌≡◌, IfOk};
+ghost use Rattle.std.specs.Prelude.{IfOk};
 ghost use Rattle.std.specs.List.Sorted.{IsPermutation, IsNonDecreasingBy};
 ghost use Rattle.rubis_shard.specs.Holdings.{all_misfits};
 ghost use Rattle.rubis_pieces.specs.Misfits.{misfit_order, AreOfTheLog};

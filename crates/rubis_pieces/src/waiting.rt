@@ -1,6 +1,6 @@
 //! How much of a batch isn't done.
 
-ghost use Rattle.std.specs.Prelude.{◌≡◌, ◌+◌, ◌<◌, ◌≤◌, Option, length, slice_get, filter};
+ghost use Rattle.std.specs.Prelude.{◌≡◌, ◌+◌, ◌<◌, ◌≤◌, Option, length, filter};
 ghost use Rattle.rubis_schema.specs.declared.limits.TheConstants.{KEEP_MAX};
 ghost use Rattle.rubis_shadow.specs.declared.keyed_change.Effect.{Effect};
 ghost use Rattle.rubis_model.specs.Log.{Core, cores, parts_of};

@@ -1,28 +1,25 @@
 -- The machine does what a team does whose workers read the parts of a batch from its messages.
-use Rattle.std.proofs.Common.{◌≡◌, ℕ, ◌+◌, ◌<◌, List, [], ◌∷◌, ◌++◌, length, length-append, take, drop, refl, sym, ap, ◌∙◌, subst, arith}
-use Rattle.std.specs.Prelude.{Some, map, option_map, slice_get}
+use Rattle.std.proofs.Common.{◌≡◌, ℕ, ◌+◌, List, [], ◌∷◌, ◌++◌, length, length-append, take, drop, refl, sym, ap, ◌∙◌, subst, arith}
+use Rattle.std.specs.Prelude.{map, option_map, slice_get}
 use Rattle.std.specs.List.Sorted.{IsPermutation}
 use Rattle.std.proofs.lemmas.List.{length-map, map-append, take_all, take-append-drop, take_at}
 use Rattle.std.proofs.lemmas.List.Sorted.{IsPermutation-map, IsPermutation-trans}
 use Rattle.std.proofs.lemmas.Option.{slice_get-map}
 use Rattle.rubis_model.specs.Log.{Core, share}
-use Rattle.rubis_shard.specs.States.{ShardState, with_parts}
+use Rattle.rubis_shard.specs.States.{with_parts}
 use Rattle.rubis_shard.proofs.Logs.{share_append}
-use Rattle.rubis_pieces.specs.Following.{IsFollowed}
 use Rattle.rubis_pieces.specs.Posted.{Moves, MovesAll}
-use Rattle.rubis_pieces.specs.Work.{IsWorked}
 use Rattle.rubis_pieces.specs.declared.pieces.Piece.{Piece}
 use Rattle.rubis_pieces.specs.declared.pieces.Done.{Done}
 use Rattle.rubis_workers.specs.Following.{bare}
 use Rattle.rubis_pool_core.specs.Machine.{PoolState, run_of}
-use Rattle.rubis_pool_core.specs.Pieces.{IsWhole}
 use Rattle.rubis_pool_core.specs.Schedules.{Accounted, present}
 use Rattle.rubis_pool_core.specs.Teams.{EveryRunOfATeamIsASchedule, EveryTeamFoldsTheBatch, EveryTeamIsScheduled, FollowingFoldsTheShare}
 use Rattle.rubis_pool_core.specs.Teams.{in_batch, step_in_batch, steps_in_batch}
 use Rattle.rubis_pool_core.specs.Threads.{AreTakenBy, BoardStep, move_of}
 use Rattle.rubis_pool_core.specs.Threads.BoardStep.{Posts, Takes}
 use Rattle.rubis_pool_core.proofs.Accounts.{every}
-use Rattle.rubis_pool_core.proofs.Batches.{folds_pieces, piece_of_batch}
+use Rattle.rubis_pool_core.proofs.Batches.{folds_pieces}
 use Rattle.rubis_pool_core.proofs.Threads.{scheduled, schedules}
 
 -- ---- the steps, each piece as what it stands for

@@ -7,7 +7,7 @@ use Rattle.std.proofs.Math.Seq.{take-append_seam}
 use Rattle.csv.proofs.WriteFacts.{appends-more, appends-none}
 use Rattle.rubis_engine.specs.Accounts.{Account, AnswersRecord, Keeps}
 use Rattle.rubis_engine.specs.Accounts.Ending.{AtEnd, Cut}
-use Rattle.rubis_engine.specs.Progress.{IsCut, IsDone, IsTooLong, WrotePrefix}
+use Rattle.rubis_engine.specs.Progress.{IsDone, IsTooLong, WrotePrefix}
 use Rattle.rubis_engine.specs.declared.service.Course.TheVariants.{GoesOn}
 use Rattle.rubis_message.specs.Inputs.{FitsIn, IsInput, input_of}
 use Rattle.rubis_reading.specs.Inputs.{AreInputs}

@@ -1,13 +1,7 @@
 -- What several records are.
-use Rattle.std.proofs.Common.{◌≡◌, ◌∙◌, ◌≤◌, ◌++◌, ◌∷◌, [], ℕ, List, arith, ap, append-nil, append_assoc, subst, sym, refl}
-use Rattle.std.specs.Prelude.{Option, None, Some}
-use Rattle.rubis_message.specs.Grammar.{packet_record}
-use Rattle.rubis_message.specs.Readings.{packet_of, request_of}
-use Rattle.rubis_message.specs.declared.requests.Request.{Request}
-use Rattle.rubis_message.specs.declared.tokens.Packet.{Packet}
-use Rattle.rubis_message.proofs.Records.{apart, request_is}
-use Rattle.rubis_message.specs.Inputs.{IsInput, input_by, input_of}
-use Rattle.rubis_message.specs.declared.inputs.Input.TheVariants.{Asked, Came, Neither}
+use Rattle.std.proofs.Common.{◌≡◌, ◌∙◌, ◌++◌, ◌∷◌, [], ℕ, List, ap, append-nil, append_assoc, subst, sym, refl}
+use Rattle.std.specs.Prelude.{Option}
+use Rattle.rubis_message.specs.Inputs.{IsInput}
 use Rattle.rubis_engine.specs.declared.record_list.Records.{Records}
 use Rattle.rubis_engine.specs.Reading.{Advances, Gives, fields_now}
 use Rattle.rubis_reading.specs.Inputs.{AreInputs}

@@ -1,7 +1,7 @@
 -- Runs of records.
-use Rattle.std.proofs.Common.{◌≡◌, ◌∙◌, ◌<◌, ◌≤◌, ◌+◌, ◌++◌, ◌∷◌, [], ℕ, suc, List, ap, append-nil, append_assoc, arith, drop, get_or, length, length-append}
+use Rattle.std.proofs.Common.{◌≡◌, ◌∙◌, ◌≤◌, ◌+◌, ◌++◌, ◌∷◌, [], ℕ, suc, List, ap, append-nil, append_assoc, arith, drop, length, length-append}
 use Rattle.std.proofs.Common.{length-drop, refl, sym}
-use Rattle.std.proofs.lemmas.List.{at_drop_more, nil_from_length}
+use Rattle.std.proofs.lemmas.List.{nil_from_length}
 use Rattle.rubis_message.specs.Message.{Message}
 use Rattle.rubis_message.specs.declared.tokens.Packet.TheVariants.{Msg}
 use Rattle.rubis_reading.specs.Runs.{AreSingle, FitWindow, FitsWindow, IsSingle, all_came, flat, of_stretch}

@@ -1,5 +1,5 @@
 -- How far a text was looked through for ends of records.
-use Rattle.std.specs.Prelude.{◌≡◌, ◌≤◌, ◌<◌, ℕ, List, length, take}
+use Rattle.std.specs.Prelude.{◌≤◌, ◌<◌, ℕ, List, length, take}
 use Rattle.csv.specs.declared.parser.State.TheVariants as st
 use Rattle.rubis_reading.specs.Standings.{state_of}
 use Rattle.rubis_reading.specs.Streams.{EndsFrom, IsLike, stands}

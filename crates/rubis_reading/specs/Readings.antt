@@ -1,5 +1,5 @@
 -- What a piece of text is read as, and the pieces of a text that are given to be read.
-use Rattle.std.specs.Prelude.{◌≡◌, ◌≤◌, ◌<◌, ◌+◌, ◌-◌, ◌∷◌, ◌⊎◌, [], ⊤, ℕ, IfOk, IfSome, List, None, Option, Result, Some, drop, length, slice_index_or, slice_set, take, true}
+use Rattle.std.specs.Prelude.{◌≡◌, ◌<◌, ◌+◌, ◌-◌, ◌∷◌, ◌⊎◌, [], ⊤, ℕ, IfOk, IfSome, List, None, Option, Result, Some, drop, length, slice_index_or, slice_set, take, true}
 use Rattle.std.specs.Global.{Vec}
 use Rattle.rubis_engine.specs.Text.{input_records}
 use Rattle.rubis_engine.specs.declared.fault.OutOfMemory.{OutOfMemory}

@@ -1,8 +1,8 @@
 //! Records that were read and wait for their answers.
 
-ghost use Rattle.std.specs.Prelude.{◌≡◌, ◌++◌, ◌∷◌, [], length, IfNone, IfOk, IfSome, OnOk};
+ghost use Rattle.std.specs.Prelude.{◌≡◌, ◌++◌, [], length, IfNone, IfOk, IfSome, OnOk};
 ghost use Rattle.std.specs.Vec.Iter.{into_iter_items};
-ghost use Rattle.rubis_reading.specs.Runs.{AreSingle, all_came, flat, of_next, of_stretch};
+ghost use Rattle.rubis_reading.specs.Runs.{AreSingle, flat, of_next, of_stretch};
 
 use crate::stretches::{Stretch, push_stretch};
 use rubis_engine::OutOfMemory;

@@ -1,9 +1,8 @@
 -- The messages of slots, in their order.
-use Rattle.std.proofs.Common.{◌≡◌, ◌∙◌, List, [], ◌∷◌, ◌++◌, ap, append_assoc, refl, sym}
-use Rattle.std.specs.Prelude.{Option, None, Some, map}
+use Rattle.std.proofs.Common.{◌≡◌, ◌∙◌, List, [], ◌∷◌, ◌++◌, ap, refl, sym}
+use Rattle.std.specs.Prelude.{Option, None, map}
 use Rattle.std.specs.Map.{values_of}
 use Rattle.std.specs.Borrow.{Bor}
-use Rattle.std.proofs.lemmas.List.{map-append}
 use Rattle.rubis_message.specs.Message.{Message}
 use Rattle.rubis_release.specs.Waiting.{Slots, put_some, somes}
 

@@ -1,16 +1,16 @@
 //! What a site has taken in: its log, the messages that wait, and the token.
 
-ghost use Rattle.std.specs.Prelude.{◌≡◌, ◌<◌, ◌≤◌, ◌-◌, true, false, Ok, Err, IfOk, IfErr, MatchBool, OnOk, OnErr, length, map};
+ghost use Rattle.std.specs.Prelude.{◌≡◌, ◌<◌, ◌≤◌, ◌-◌, true, false, Ok, Err, IfOk, IfErr, OnErr, length, map};
 ghost use Rattle.rubis_schema.specs.declared.limits.TheConstants.{COUNTED_MAX, KEEP_MAX};
 ghost use Rattle.rubis_message.specs.Message.{sites_of};
 ghost use Rattle.rubis_message.specs.declared.answers.Arrival.TheVariants as Arrival;
 ghost use Rattle.rubis_shadow.specs.Shadows.{InLimits, is_red};
-ghost use Rattle.rubis_model.specs.Site.{opening_at, made, after_made, after_came, arrival_of, arrived, standing_of, is_full, is_current, is_repeat, not_ours};
+ghost use Rattle.rubis_model.specs.Site.{opening_at, made, after_made, arrived, standing_of, is_full, is_current, is_repeat, not_ours};
 ghost use Rattle.rubis_release.specs.declared.intake.IntakeFault.TheVariants.{Memory, Refused};
 ghost use Rattle.rubis_release.specs.Intake as model;
 ghost use Rattle.rubis_release.specs.Intake.{IsIntake};
 ghost use Rattle.rubis_release.specs.Release.{IsAmong, clock_of};
-ghost use Rattle.rubis_release.specs.Answers.{IsFaultOf, IsAdmitted};
+ghost use Rattle.rubis_release.specs.Answers.{IsFaultOf};
 
 mod tokens;
 

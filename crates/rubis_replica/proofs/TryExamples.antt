@@ -1,5 +1,5 @@
 -- Tries that are computed, and lists that are none.
-use Rattle.std.proofs.Common.{◌≡◌, List, [], ◌∷◌, refl, ap, ◌∙◌}
+use Rattle.std.proofs.Common.{[], ◌∷◌, refl, ap, ◌∙◌}
 use Rattle.std.specs.Prelude.{Option, Some, None, Ok, Err}
 use Rattle.rubis_schema.specs.declared.refusals.Refusal.TheVariants.{NoToken}
 use Rattle.rubis_message.specs.declared.tokens.Token.{Token}

@@ -5,7 +5,7 @@ use Rattle.std.proofs.lemmas.List.Elements.{All-tail}
 use Rattle.std.specs.Prelude.{All, ◌||◌, ◌==◌, nat_le, not, OnOk, Option, Some, None, Result, Ok, Err, ℕ}
 use Rattle.rubis_schema.specs.declared.listings.Listing.{Listing}
 use Rattle.rubis_schema.specs.declared.refusals.Refusal.{Refusal}
-use Rattle.rubis_schema.specs.declared.refusals.Refusal.TheVariants.{NoToken, BadTarget, LastTurn, NotOurs, NotForMe, Full}
+use Rattle.rubis_schema.specs.declared.refusals.Refusal.TheVariants.{BadTarget, LastTurn, NotOurs, NotForMe, Full}
 use Rattle.rubis_shadow.specs.declared.shadows.Ask.{Ask}
 use Rattle.rubis_shadow.specs.declared.shadows.Shadow.{Shadow}
 use Rattle.rubis_message.specs.Message.{Message}
@@ -23,8 +23,8 @@ use Rattle.rubis_replica.specs.State.{AddsRows, AnswersAsTheStep, SiteState}
 use Rattle.rubis_replica.specs.Tries.{AllLead, AnswersAsWithoutRefusals, AnswersTheSameAgain, Answer, Call, ComeTogether, IsIdle, Leads, Try, Value}
 use Rattle.rubis_replica.specs.Tries.{after_calls, answer_by, answers_given, answers_of, called, calls_answered, came_try, said, stopped_at, telling}
 use Rattle.rubis_replica.specs.Tries.{with_answer, with_call}
-use Rattle.rubis_replica.specs.Tries.Call.{Apply, Arrive, Show}
-use Rattle.rubis_replica.specs.Tries.Value.{Came, Rows}
+use Rattle.rubis_replica.specs.Tries.Call.{Apply, Show}
+use Rattle.rubis_replica.specs.Tries.Value.{Rows}
 use Rattle.rubis_replica.specs.declared.faults.Fault.{Fault}
 use Rattle.rubis_replica.specs.declared.faults.Fault.TheVariants.{Refused, Behind, Memory}
 

@@ -1,6 +1,6 @@
 //! How a site is set up, within its limits.
 
-ghost use Rattle.std.specs.Prelude.{◌≡◌, ◌≤◌, ◌<◌, ◌↔◌, IsTrue};
+ghost use Rattle.std.specs.Prelude.{◌≡◌, ◌<◌, ◌↔◌, IsTrue};
 ghost use Rattle.std.specs.Option.{SomeIff};
 ghost use Rattle.rubis_replica.specs.Counts.{IsCount};
 ghost use Rattle.rubis_replica.specs.Setup.{IsSetup, Setup};

@@ -1,7 +1,7 @@
 //! One site, and its calls.
 
 ghost use Rattle.std.specs.Prelude.{◌≡◌, ◌≤◌, ◌<◌, ◌⊎◌, [], All, IfOk, IfErr, IfNone, IfSome, IsErrOf, Ok, OnOk, Some, length, option_copied, take};
-ghost use Rattle.rubis_shadow.specs.Shadows.{InLimits, IsAsk};
+ghost use Rattle.rubis_shadow.specs.Shadows.{IsAsk};
 ghost use Rattle.rubis_message.specs.Message.{sites_of};
 ghost use Rattle.rubis_model.specs.Log.{cores, fold_of};
 ghost use Rattle.rubis_model.specs.Runs.{listed, listing_rows};

@@ -1,6 +1,6 @@
 //! Keys of rows as one word, for maps.
 
-ghost use Rattle.std.specs.Prelude.{◌≡◌, ◌<◌, ◌+◌, ◌*◌, ◌^◌};
+ghost use Rattle.std.specs.Prelude.{◌≡◌, ◌<◌, ◌+◌, ◌*◌};
 ghost use Rattle.rubis_schema.specs.IdKeys.{row_key, same_id_key, table_place};
 
 use crate::ids::Id;

@@ -1,7 +1,7 @@
 //! The keys of rows, and their order within a listing.
 
 ghost use Rattle.std.specs.Prelude.{◌≡◌, ◌<◌};
-ghost use Rattle.rubis_schema.specs.Keys.{holds, home, key_order, table_of};
+ghost use Rattle.rubis_schema.specs.Keys.{holds, key_order, table_of};
 
 use crate::ids::Id;
 use crate::nicks::Nick;

@@ -1,12 +1,11 @@
 -- How a run goes on by a chunk of its text, and how it ends.
-use Rattle.std.proofs.Common.{◌≡◌, ◌∙◌, ◌≤◌, ◌<◌, ◌+◌, ◌-◌, ◌++◌, ◌∷◌, [], ℕ, All, List, Option, ap, append-nil, arith, length, length-append, refl, subst, sym, take}
+use Rattle.std.proofs.Common.{◌≡◌, ◌∙◌, ◌≤◌, ◌<◌, ◌+◌, ◌-◌, ◌++◌, ◌∷◌, [], ℕ, List, Option, ap, append-nil, arith, length, length-append, refl, subst, sym, take}
 use Rattle.std.specs.Prelude.{MatchOption, None, Some}
 use Rattle.rubis_replica.specs.State.{SiteState}
 use Rattle.rubis_engine.specs.Accounts.Ending.{AtEnd}
 use Rattle.rubis_engine.specs.Progress.{IsWrittenOrWaits, WrotePrefix}
 use Rattle.rubis_script.specs.SiteRuns.{told_by}
 use Rattle.rubis_engine.specs.Text.{input_records}
-use Rattle.rubis_engine.specs.declared.fault.Count.{Count}
 use Rattle.rubis_reading.specs.Chunked.{FailsShort, IsChunk, IsLast, KeepsCome, KeepsPending, TakesOff, held_text}
 use Rattle.rubis_reading.specs.Inputs.{AreInputs}
 use Rattle.rubis_reading.specs.Runs.{FitWindow, flat}
@@ -23,7 +22,7 @@ use Rattle.rubis_script.specs.Runs.{OfEachAhead, OfEachPiece, StandsAt, Takes, W
 use Rattle.rubis_script.specs.declared.desk.Desk.{Desk}
 use Rattle.rubis_script.proofs.AloneFacts.{pending-front}
 use Rattle.rubis_script.proofs.LoopFacts.{stands-cut, stands-done, stands-prefix, stands-read, stands-too_long, stands-waited}
-use Rattle.rubis_script.proofs.StepFacts.{sound-kept, takes-whole}
+use Rattle.rubis_script.proofs.StepFacts.{takes-whole}
 
 -- what was read is of this desk's system
 pub sound-read : {G : Type 0} (d d2 : Desk G) (ahead list : List Stretch) (rows : List (List (List ℕ))) → KeepsSetup d d2 → ahead ≡ list

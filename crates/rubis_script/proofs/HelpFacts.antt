@@ -15,10 +15,9 @@ use Rattle.rubis_replica.specs.Arrivals.{after_all}
 use Rattle.rubis_script.specs.Desks.{KeepsSetup, left_at}
 use Rattle.rubis_script.specs.Windows.{held_by}
 use Rattle.rubis_script.proofs.StepFacts.{takes-held}
-use Rattle.rubis_script.specs.Helped.{AreHeld, StayWith}
+use Rattle.rubis_script.specs.Helped.{AreHeld}
 use Rattle.rubis_script.specs.Runs.{HasReadAhead, RunEnds, TakesAll, TurnEnds}
 use Rattle.rubis_script.specs.declared.desk.Desk.{Desk}
-use Rattle.rubis_script.specs.declared.helpers.Helpers.{Helpers}
 
 pub kept-more : (old mid new : Pieces) → KeepFor old mid → KeepFor mid new → KeepFor old new
 kept-more old mid new one two = (two.0 ∙ one.0, two.1 ∙ one.1, two.2 ∙ one.2)

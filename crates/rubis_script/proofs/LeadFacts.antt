@@ -1,7 +1,7 @@
 -- Where records lead a site, one after the other.
 use Rattle.std.proofs.Common.{◌≡◌, ◌∙◌, ◌+◌, ◌++◌, ◌∷◌, [], ℕ, List, Option, Some, None, ap, append-nil, append_assoc, arith, length, length-append, refl}
 use Rattle.std.proofs.Common.{subst, sym, take}
-use Rattle.std.specs.Prelude.{IfSome, Result, Ok, Err, ⊤}
+use Rattle.std.specs.Prelude.{IfSome, Result, Ok, Err}
 use Rattle.std.proofs.Math.Seq.{take-append_seam}
 use Rattle.std.specs.Io.KnownBytes.{Appends}
 use Rattle.rubis_message.specs.Message.{Message}

@@ -1,5 +1,5 @@
 -- What a desk that holds nothing has still to write, how many records are answered, and where they lead.
-use Rattle.std.proofs.Common.{◌++◌, ◌∷◌, ◌∙◌, zero, suc, append-nil, append_assoc, length-append, ◌≡◌, ◌≤◌, ◌<◌, ◌+◌, ◌⊎◌, inl, inr, [], ℕ, All, List, Option}
+use Rattle.std.proofs.Common.{◌++◌, ◌∷◌, ◌∙◌, zero, suc, append-nil, append_assoc, length-append, ◌≡◌, ◌≤◌, ◌<◌, ◌+◌, inl, inr, [], ℕ, All, List, Option}
 use Rattle.std.proofs.Common.{arith, length, refl, subst, sym, ap, take}
 use Rattle.std.specs.Io.KnownBytes.{Appends}
 use Rattle.rubis_script.specs.Headline.{AnswersAll, AnswersFirst, AnswersJust, Settles, StepsOn}
@@ -30,11 +30,10 @@ use Rattle.rubis_engine.specs.declared.fault.Count.{Count}
 use Rattle.rubis_engine.specs.declared.fault.RunFault.{RunFault}
 use Rattle.rubis_engine.specs.declared.fault.RunFault.TheVariants as fault
 use Rattle.rubis_script.specs.Desks.{IsFresh}
-use Rattle.rubis_reading.proofs.AheadFacts.{all-fit}
 use Rattle.rubis_engine.specs.Endings.{ByEnd}
 use Rattle.rubis_script.specs.Runs.{AnswersAllAhead, AnswersFirstAhead, AnswersWholeAhead, EndsWhole, HasReadAhead, Stands, WritesPrefixAhead}
 use Rattle.rubis_reading.specs.Chunked.{HasAll}
-use Rattle.std.specs.Prelude.{IfOk, IfSome, Result, Ok, Err, Some, None}
+use Rattle.std.specs.Prelude.{IfSome, Result, Ok, Err, Some, None}
 use Rattle.rubis_script.specs.declared.desk.Desk.{Desk}
 
 -- where nothing is held, nothing is left to be written after the last record

@@ -1,9 +1,9 @@
 -- A run that reads ahead, at the desk of a site.
-use Rattle.std.specs.Prelude.{◌≡◌, ◌≤◌, ◌<◌, ◌+◌, ◌++◌, ◌∷◌, ◌⊎◌, [], ℕ, All, IfNone, List, MatchOption, None, Option, Result, Ok, Err, Some, length, take}
+use Rattle.std.specs.Prelude.{◌≡◌, ◌≤◌, ◌+◌, ◌++◌, ◌∷◌, [], ℕ, All, IfNone, List, MatchOption, None, Option, Result, Ok, Err, Some, length}
 use Rattle.rubis_schema.specs.declared.listings.Listing.{Listing}
 use Rattle.rubis_message.specs.Message.{Message}
 use Rattle.rubis_message.specs.declared.requests.Request.TheVariants as request
-use Rattle.rubis_script.specs.Desks.{IsSettled, KeepsSetup}
+use Rattle.rubis_script.specs.Desks.{KeepsSetup}
 use Rattle.rubis_engine.specs.Endings.{ByEnd}
 use Rattle.rubis_script.specs.Headline.{AnswersAll, AnswersFirst, AnswersJust, HasLed}
 use Rattle.rubis_script.specs.SiteRuns.{told_by}

@@ -1,7 +1,5 @@
 //! What helpers do for a run.
 
-ghost use Rattle.std.specs.Prelude.{◌≡◌};
-
 use rubis_reading::Pieces;
 use rubis_replica::{Gate, Hands};
 

@@ -8,7 +8,6 @@ use Rattle.std.specs.FinMap as map
 use Rattle.std.proofs.lemmas.List.{drop_all, drop_more}
 use Rattle.std.proofs.lemmas.List.Elements.{filter-append}
 use Rattle.std.proofs.lemmas.Map.Made.{IsDistinct-keys_filter}
-use Rattle.rubis_schema.specs.IdKeys.{row_key}
 use Rattle.rubis_schema.specs.Keys.{key_eq, key_order}
 use Rattle.rubis_schema.specs.KeyLaws.{key_total}
 use Rattle.rubis_schema.specs.declared.row_keys.RowKey.{RowKey}

@@ -1,6 +1,6 @@
 //! How many rows have a record.
 
-ghost use Rattle.std.specs.Prelude.{◌≡◌, ◌+◌, ◌≤◌, ◌&&◌, IfSome, length, nat_le};
+ghost use Rattle.std.specs.Prelude.{◌≡◌, ◌+◌, ◌≤◌, ◌&&◌, IfSome, length};
 ghost use Rattle.std.specs.FinMap as map;
 ghost use Rattle.rubis_shard.specs.Counted.{has_record, is_recorded, number_of, recorded_from};
 ghost use Rattle.rubis_shard.specs.Rows.{tables_in};

@@ -1,11 +1,10 @@
 //! The rows of a shard that match a listing.
 
-ghost use Rattle.std.specs.Prelude.{◌≡◌, ◌++◌, ◌&&◌, ◌∷◌, [], Some, IfOk, OnOk, drop, length, map as each};
+ghost use Rattle.std.specs.Prelude.{◌≡◌, ◌++◌, ◌&&◌, ◌∷◌, [], Some, IfOk, OnOk, drop};
 ghost use Rattle.std.specs.List.Sorted.{IsPermutation};
 ghost use Rattle.rubis_schema.specs.IdKeys.{row_key};
 ghost use Rattle.rubis_schema.specs.Keys.{holds};
 ghost use Rattle.rubis_schema.specs.declared.row_keys.RowKey.TheVariants as key;
-ghost use Rattle.rubis_shadow.specs.Tables.{rows_of};
 ghost use Rattle.rubis_model.specs.Listings.{is_of};
 ghost use Rattle.rubis_shard.specs.Chains.{chain_with};
 ghost use Rattle.rubis_shard.specs.Listed.{categories_of, listed_among, listed_of, shown_among, shows};

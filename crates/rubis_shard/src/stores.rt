@@ -1,7 +1,7 @@
 //! What parts are folded on.
 
-ghost use Rattle.std.specs.Prelude.{◌≡◌, ℕ, ◌+◌, ◌≤◌, [], OnOk};
-ghost use Rattle.rubis_model.specs.Log.{Folded, step};
+ghost use Rattle.std.specs.Prelude.{◌≡◌, ℕ, ◌+◌, [], OnOk};
+ghost use Rattle.rubis_model.specs.Log.{step};
 ghost use Rattle.rubis_shard.specs.Rows.{tables_in};
 ghost use Rattle.rubis_shard.specs.Stores.{held_by, HasRoom};
 ghost use Rattle.std.specs.FinMap as map;

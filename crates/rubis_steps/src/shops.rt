@@ -5,9 +5,9 @@ ghost use Rattle.rubis_carrier.specs.Events.Event.{Accepts, Appends, Gives, IsAs
 ghost use Rattle.rubis_carrier.specs.Events.Event.{MachineStarts, Opens, Passes, Reads, Rebuilds, Refuses, Serves, ServerLosesAll, Starts, StreamLosesEnd};
 ghost use Rattle.rubis_carrier.specs.Events.Event.{Closes, TellsNothing, TellsOk, TellsPublished, TellsUnknown, WritesAnew};
 ghost use Rattle.rubis_carrier.specs.Events.{IsOffered, MayRebuild, MayServe};
-ghost use Rattle.rubis_carrier.specs.Shops.{IsAlone, IsCompared, MayOpen, start};
+ghost use Rattle.rubis_carrier.specs.Shops.{IsCompared, MayOpen, start};
 ghost use Rattle.rubis_steps.specs.Answers.{DecidesIn, DecidesMay, IsDone, IsDoneOver, IsStart, Keeps};
-ghost use Rattle.rubis_steps.specs.Finite.{carrier_of, folder_at, packet_of, packets_of, request_at, request_of, stream_at, stream_of};
+ghost use Rattle.rubis_steps.specs.Finite.{carrier_of, packet_of, packets_of, request_at, request_of, stream_at, stream_of};
 
 use crate::events::{Carrier, ShopRequest};
 use crate::faults::DeciderFault;

@@ -1,6 +1,6 @@
 //! A batch of three users over five shards, one that several threads split, and shards that come back.
 
-ghost use Rattle.std.specs.Prelude.{◌≡◌, ◌+◌, ◌≤◌, length, IfOk};
+ghost use Rattle.std.specs.Prelude.{◌≡◌, ◌≤◌, length, IfOk};
 
 use crate::arrivals::{ANN, BOB, CUP, comment_behind};
 use crate::records::message;

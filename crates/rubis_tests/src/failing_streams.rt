@@ -1,6 +1,6 @@
 //! Readers and a writer that fail.
 
-ghost use Rattle.std.specs.Prelude.{◌≡◌, ◌≤◌, ◌+◌, Some, Ok, Err, IfOk, OnErr, [], length};
+ghost use Rattle.std.specs.Prelude.{◌≡◌, Some, Ok, Err, []};
 
 use std::alloc::Global;
 use std::io;

@@ -261,11 +261,11 @@ impl Halves {
 
 /// Holds each shard until the closure has run.
 #[derive(Drop)]
-pub struct Waiting<'a> {
+pub struct WaitingGate<'a> {
     pub halves: &'a Halves,
 }
 
-impl<'a> Gate for Waiting<'a> {
+impl<'a> Gate for WaitingGate<'a> {
     fn taken(&self, _piece: usize) {
         self.halves.taken.store(true, Ordering::SeqCst);
         if !is_set_in_time(&self.halves.ran) {

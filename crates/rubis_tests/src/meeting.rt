@@ -5,7 +5,7 @@ ghost use Rattle.rubis_schema.specs.declared.limits.TheConstants.{WORKERS_MAX};
 ghost use Rattle.rubis_shadow.specs.Shadows.{IsAsk};
 
 use crate::arrivals::{arrive_three, two_comments};
-use crate::gates::{Halves, Holding, HoldsTwo, Meeting, Numbers, Waiting};
+use crate::gates::{Halves, Holding, HoldsTwo, Meeting, Numbers, WaitingGate};
 use crate::records::request;
 use rubis_message::{Arrival, Request};
 use rubis_pieces::split;
@@ -102,7 +102,7 @@ fn two_workers_take_no_third_piece(rt: HostRuntime) -> Result<(), Fail> {
 #[test]
 fn intake_meets_workers(rt: HostRuntime) -> Result<(), Fail> {
     let halves = Halves::new();
-    let gate = Waiting { halves: &halves };
+    let gate = WaitingGate { halves: &halves };
     let (worked, met) = apply_none_beside(&rt, rt.alloc(), 2, 2, &gate, || halves.run())?;
     assert!(rt; met);
     assert!(rt; !halves.is_late());

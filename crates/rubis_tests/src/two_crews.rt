@@ -22,11 +22,11 @@ const JOBS: u32 = 10;
 
 // A number to be doubled.
 #[derive(Drop)]
-struct Double {
+struct Doubling {
     number: u32,
 }
 
-impl Job for Double {
+impl Job for Doubling {
     type Output = u64;
 
     ghost use Rattle.std.specs.Prelude.{◌≡◌, ◌*◌, ⊤};
@@ -43,14 +43,14 @@ impl Job for Double {
 // The permissions to give jobs to two crews.
 #[derive(Drop)]
 struct Leads {
-    first: Lead<Double>,
-    second: Lead<Double>,
+    first: Lead<Doubling>,
+    second: Lead<Doubling>,
 }
 
 // Two crews for two helpers, of which the second was made beside the first.
 struct Crews {
-    first: Crew<Double>,
-    second: Crew<Double>,
+    first: Crew<Doubling>,
+    second: Crew<Doubling>,
     leads: Leads,
 }
 
@@ -76,18 +76,18 @@ fn two_crews<R: Wait>(rt: &R, alloc: Global) -> Result<Crews, AllocError>
 }
 
 // Gives a job.
-fn give<R: Abort + Wait>(rt: &R, crew: &Crew<Double>, lead: &mut Lead<Double>, number: u32)
+fn give<R: Abort + Wait>(rt: &R, crew: &Crew<Doubling>, lead: &mut Lead<Doubling>, number: u32)
     requires { lead.old.crew ≡ crew.now.id }
     ensures { lead.new.crew ≡ crew.now.id }
 {
-    assert!(rt; crew.give(rt, lead, Double { number }).is_ok());
+    assert!(rt; crew.give(rt, lead, Doubling { number }).is_ok());
 }
 
 // The result of a job that a helper has to do, before any helper leaves.
 fn take<R: Abort + Wait>(
     rt: &R,
-    crew: &Crew<Double>,
-    lead: &mut Lead<Double>,
+    crew: &Crew<Doubling>,
+    lead: &mut Lead<Doubling>,
     left: &AtomicBool,
 ) -> u64
     requires { lead.old.crew ≡ crew.now.id }
@@ -106,8 +106,8 @@ fn take<R: Abort + Wait>(
 // Gives a job to helpers that sleep by now, and returns the result.
 fn wake<R: Abort + Clock + Wait>(
     rt: &R,
-    crew: &Crew<Double>,
-    lead: &mut Lead<Double>,
+    crew: &Crew<Doubling>,
+    lead: &mut Lead<Doubling>,
     left: &AtomicBool,
     number: u32,
 ) -> u64
@@ -122,8 +122,8 @@ fn wake<R: Abort + Clock + Wait>(
 // Gives jobs to the crew one by one, and returns the sum of the results.
 fn wake_often<R: Abort + Clock + Wait>(
     rt: &R,
-    crew: &Crew<Double>,
-    lead: &mut Lead<Double>,
+    crew: &Crew<Doubling>,
+    lead: &mut Lead<Doubling>,
     left: &AtomicBool,
 ) -> u64
     requires { lead.old.crew ≡ crew.now.id }
@@ -139,8 +139,8 @@ fn wake_often<R: Abort + Clock + Wait>(
 // Gives jobs to both crews in turn, and returns the sum of the results.
 fn wake_in_turn<R: Abort + Clock + Wait>(
     rt: &R,
-    first: &Crew<Double>,
-    second: &Crew<Double>,
+    first: &Crew<Doubling>,
+    second: &Crew<Doubling>,
     leads: &mut Leads,
     left: &AtomicBool,
 ) -> u64
@@ -157,7 +157,7 @@ fn wake_in_turn<R: Abort + Clock + Wait>(
 }
 
 // Ends a crew to which all results came back.
-fn end<R: Abort + Wait>(rt: &R, crew: &Crew<Double>, lead: &mut Lead<Double>)
+fn end<R: Abort + Wait>(rt: &R, crew: &Crew<Doubling>, lead: &mut Lead<Doubling>)
     requires { lead.old.crew ≡ crew.now.id }
     ensures { (lead.new.crew ≡ crew.now.id) × (lead.new.ended ≡ true) × (lead.new.given ≡ []) }
 {
@@ -179,8 +179,8 @@ fn see_them_leave<R: Abort>(rt: &R, left: &AtomicBool) {
 // Gives jobs to both crews in turn, ends the first, gives jobs to the second, and ends it. Returns the sum of the results.
 fn lead_both<R: Abort + Clock + Wait>(
     rt: &R,
-    first: &Crew<Double>,
-    second: &Crew<Double>,
+    first: &Crew<Doubling>,
+    second: &Crew<Doubling>,
     mut leads: Leads,
     left: &AtomicBool,
 ) -> (u64, Leads)
@@ -199,9 +199,9 @@ fn lead_both<R: Abort + Clock + Wait>(
 // Has both helpers stay, and says when they left.
 fn stay_all<R: Threads + Wait + Sync>(
     rt: &R,
-    first: &Crew<Double>,
-    second: &Crew<Double>,
-    mut helper: Both<Double, Double>,
+    first: &Crew<Doubling>,
+    second: &Crew<Doubling>,
+    mut helper: Both<Doubling, Doubling>,
     left: &AtomicBool,
 )
     requires { IsAt first.now.id second.now.id helper }
@@ -236,10 +236,10 @@ fn helpers_stay_until_both_crews_are_ended(rt: HostRuntime) -> Result<(), Fail> 
 // helper of both looked for jobs ten times more.
 fn lead_beside<R: Abort + Clock + Wait>(
     rt: &R,
-    first: &Crew<Double>,
-    second: &Crew<Double>,
+    first: &Crew<Doubling>,
+    second: &Crew<Doubling>,
     mut leads: Leads,
-    mut own: Helper<Double>,
+    mut own: Helper<Doubling>,
     left: &AtomicBool,
 ) -> Leads
     requires leads { (leads.first.crew ≡ first.now.id) × (leads.second.crew ≡ second.now.id) }
@@ -258,9 +258,9 @@ fn lead_beside<R: Abort + Clock + Wait>(
 // Has one helper stay, and says when it left.
 fn stay<R: Wait>(
     rt: &R,
-    first: &Crew<Double>,
-    second: &Crew<Double>,
-    mut helper: Both<Double, Double>,
+    first: &Crew<Doubling>,
+    second: &Crew<Doubling>,
+    mut helper: Both<Doubling, Doubling>,
     left: &AtomicBool,
 )
     requires { IsAt first.now.id second.now.id helper }

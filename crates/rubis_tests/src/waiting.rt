@@ -11,7 +11,7 @@ use std::io::{Read, Write};
 // Gives a line three times, each by itself, and notes when it is asked for more before the answers to all that it
 // gave are there.
 #[derive(Drop)]
-struct Lines<'a> {
+struct GivenLines<'a> {
     line: &'a [u8],
     at: usize,
     given: usize,
@@ -19,7 +19,7 @@ struct Lines<'a> {
     late: &'a Cell<bool>,
 }
 
-impl<'a> Read for Lines<'a> {
+impl<'a> Read for GivenLines<'a> {
     fn read(&mut self, buf: &mut [u8]) -> io::Result<usize> {
         if self.at >= self.line.len() {
             self.at = 0;
@@ -62,7 +62,7 @@ impl<'a> Write for Wire<'a> {
 fn answers_before_it_asks_for_more(rt: HostRuntime) {
     for line in [b"ann\n".as_slice(), b"ann\r\n", b"ann\n\r\n\n"] {
         let (flushed, late) = (Cell::new(0), Cell::new(false));
-        let reader = Lines {
+        let reader = GivenLines {
             line,
             at: 0,
             given: 0,

@@ -1,10 +1,9 @@
 //! Batches of a log, applied to tables as far as memory goes.
 
-ghost use Rattle.std.specs.Prelude.{◌≡◌, ℕ, ◌+◌, ◌<◌, ◌≤◌, [], length, map as each, slice_index, take, true, OnOk, OnErr};
+ghost use Rattle.std.specs.Prelude.{◌≡◌, ℕ, ◌+◌, ◌<◌, ◌≤◌, length, map as each, slice_index, take, true, OnOk, OnErr};
 ghost use Rattle.std.specs.Vec.{vec_capacity};
 ghost use Rattle.rubis_schema.specs.declared.limits.TheConstants.{KEEP_MAX, WORKERS_MAX};
-ghost use Rattle.rubis_model.specs.Log.{cores};
-ghost use Rattle.rubis_shard.specs.Holdings.{HoldsLog, IsSet};
+ghost use Rattle.rubis_shard.specs.Holdings.{IsSet};
 ghost use Rattle.rubis_workers.specs.Logs.{AppliesTo, AppliesWhole};
 
 use crate::folding::apply_upto;

@@ -1,6 +1,6 @@
 //! The room that a team's threads need, taken before they start.
 
-ghost use Rattle.std.specs.Prelude.{◌≡◌, ◌+◌, ◌<◌, ◌≤◌, [], vec_len, IfOk};
+ghost use Rattle.std.specs.Prelude.{◌≡◌, ◌+◌, ◌<◌, [], vec_len, IfOk};
 ghost use Rattle.std.specs.List.{All};
 ghost use Rattle.rubis_workers.specs.Work.{IsRoom};
 

@@ -1,6 +1,6 @@
 //! What the workers do with the pieces that they take.
 
-ghost use Rattle.std.specs.Prelude.{◌+◌, ◌≡◌};
+ghost use Rattle.std.specs.Prelude.{◌+◌};
 ghost use Rattle.rubis_schema.specs.declared.limits.TheConstants.{KEEP_MAX};
 
 use crate::gate::Told;

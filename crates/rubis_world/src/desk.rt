@@ -1,7 +1,7 @@
 //! Several sites as a service: a record in, its answers out.
 
 ghost use Rattle.std.proofs.Common.{rules};
-ghost use Rattle.std.specs.Prelude.{◌≡◌, ◌≤◌, ◌∷◌, [], IfOk, OnOk, length, refl};
+ghost use Rattle.std.specs.Prelude.{◌≡◌, ◌∷◌, [], IfOk, OnOk, length, refl};
 ghost use Rattle.rubis_message.specs.WorldReadings.{world_input};
 ghost use Rattle.rubis_model.specs.AuditRecords.{verdict_record};
 ghost use Rattle.rubis_model.specs.System.{Event, happens};

@@ -26,7 +26,7 @@ use Rattle.rubis_model.specs.RebuildRecords.{IsWritten}
 use Rattle.rubis_model.specs.Meaning.{as_user, last_rename, later, new_nick, nick_after, nick_at, renames, user_at}
 use Rattle.rubis_model.specs.Settle.{Has}
 use Rattle.rubis_model.specs.Site.{Replica, generating, made, passing, rows_at, standing_of, token_for}
-use Rattle.rubis_model.specs.Sound.{AllDeliverable, Sound, red_count}
+use Rattle.rubis_model.specs.Sound.{Sound, red_count}
 use Rattle.rubis_model.specs.System.{Event, IsEvent, World, answering, coming, happens, packet_at, place, requested, site}
 use Rattle.rubis_model.specs.System.Event.{At, Deliver}
 use Rattle.rubis_model.proofs.CoreLists.{cores_length}

@@ -1,7 +1,5 @@
-use Rattle.std.proofs.Common.{◌+◌, ◌-◌, arith, drop, refl, take}
-use Rattle.std.proofs.lemmas.List.{length-drop}
+use Rattle.std.proofs.Common.{◌-◌, drop, refl, take}
 use Rattle.rubis_engine.specs.Text.{input_records}
-use Rattle.rubis_keep.proofs.FedFacts.{feeds-failed}
 use Rattle.rubis_keep.proofs.ReadersFacts.{front-broken, front-fails, front-more, front-read, front-starts, given-on, kept-more, takes-none, takes-one}
 use Rattle.rubis_keep.proofs.SafeFacts.{ok-of-err}
 use Rattle.rubis_keep.proofs.AskFacts.{on_fault}

@@ -1,4 +1,4 @@
-use Rattle.std.proofs.Common.{◌≡◌, ℕ, List, drop}
+use Rattle.std.proofs.Common.{drop}
 use Rattle.rubis_reading.specs.Readings.{AreOf, KeepFor}
 use Rattle.rubis_keep.specs.Reading.{HasFedFront}
 use Rattle.rubis_keep.proofs.chunks.feed_pieces.Given as goal

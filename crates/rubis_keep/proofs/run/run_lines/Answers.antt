@@ -1,4 +1,4 @@
-use Rattle.std.proofs.Common.{◌∙◌, refl}
+use Rattle.std.proofs.Common.{◌∙◌}
 use Rattle.std.proofs.lemmas.Result.{on_ok_weaker}
 use Rattle.rubis_keep.proofs.EachFacts.{on_err, on_err_weaker}
 use Rattle.rubis_keep.proofs.HistoryFacts.{stays-none, still-flushed, still-none, told-kept}

@@ -1,10 +1,10 @@
-use Rattle.std.proofs.Common.{◌≡◌, ◌∙◌, ◌+◌, ◌++◌, [], None, Some, ap, arith, length, length-append, refl, rules}
+use Rattle.std.proofs.Common.{◌≡◌, ◌∙◌, ◌+◌, [], Some, ap, arith, length, length-append, refl, rules}
 use Rattle.rubis_reading.specs.Runs.{flat}
 use Rattle.rubis_message.specs.declared.inputs.Input.{Input}
 use Rattle.rubis_script.specs.Runs.{left_ahead, stopped_at}
 use Rattle.rubis_engine.proofs.RunFacts.{if_none}
 use Rattle.rubis_engine.proofs.EndFacts.{ends_memory, ends_on}
-use Rattle.rubis_script.proofs.StepFacts.{prefix-listed, prefix-none, sound-kept, taken-all, taken-few, taken-more, taken-none, taken-prefix, taken-same, takes-listed}
+use Rattle.rubis_script.proofs.StepFacts.{prefix-listed, prefix-none, taken-all, taken-few, taken-more, taken-none, taken-prefix, takes-listed}
 use Rattle.rubis_script.proofs.answering.finish.Goals as goal
 
 pub listings-init : goal.listings-init

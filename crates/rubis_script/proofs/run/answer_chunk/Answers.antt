@@ -1,4 +1,4 @@
-use Rattle.std.proofs.Common.{◌≡◌, ◌∙◌, ap, refl, take}
+use Rattle.std.proofs.Common.{◌≡◌, ◌∙◌, ap, take}
 use Rattle.rubis_engine.specs.Accounts.Ending.{AtEnd}
 use Rattle.rubis_engine.specs.Progress.{WrotePrefix}
 use Rattle.rubis_reading.specs.Chunked.{held_text}

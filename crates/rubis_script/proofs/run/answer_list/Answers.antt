@@ -1,7 +1,6 @@
-use Rattle.std.proofs.Common.{◌≡◌, ◌∙◌, ◌+◌, ◌-◌, [], append-nil, ap, arith, length, refl, subst, sym}
+use Rattle.std.proofs.Common.{◌-◌, [], append-nil, ap, arith, length, refl, subst, sym}
 use Rattle.rubis_reading.specs.Runs.{flat}
-use Rattle.rubis_reading.specs.declared.stretches.Stretch.{Stretch}
-use Rattle.rubis_script.specs.Runs.{AnswersFirstOf, HasTaken, IsSound, LeavesPrefix, Takes, left_ahead}
+use Rattle.rubis_script.specs.Runs.{AnswersFirstOf, IsSound}
 use Rattle.rubis_engine.proofs.EndFacts.{ends_memory, ends_on, ends_so}
 use Rattle.rubis_script.proofs.StepFacts.{prefix-none, prefix-same, taken-all, taken-few, taken-more, taken-prefix, takes-same}
 use Rattle.rubis_script.proofs.run.answer_list.Goals as goal

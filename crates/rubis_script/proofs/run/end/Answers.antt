@@ -1,4 +1,4 @@
-use Rattle.std.proofs.Common.{◌+◌, ◌-◌, [], append-nil, arith, refl}
+use Rattle.std.proofs.Common.{◌-◌, [], append-nil, arith, refl}
 use Rattle.rubis_reading.specs.Chunked.{held_text}
 use Rattle.rubis_reading.specs.Runs.{flat}
 use Rattle.rubis_script.proofs.ChunkFacts.{done-last, first-upto, prefix-last, prefix-stays, read-last, stands-last}

@@ -1,4 +1,4 @@
-use Rattle.std.proofs.Common.{◌≡◌, [], All, ap, arith, length, refl, subst, sym}
+use Rattle.std.proofs.Common.{[], All, ap, arith, length, refl, subst, sym}
 use Rattle.rubis_message.specs.Inputs.{FitsIn}
 use Rattle.rubis_reading.specs.Runs.{flat}
 use Rattle.rubis_reading.proofs.RunFacts.{window-singles}

@@ -1,6 +1,5 @@
-use Rattle.std.proofs.Common.{rules, ◌≡◌, IfOk, Ok, subst, sym}
-use Rattle.rubis_model.specs.Site.{asked, opening_at}
-use Rattle.rubis_world.specs.Script.{setup_place}
+use Rattle.std.proofs.Common.{rules, ◌≡◌, IfOk, Ok, subst}
+use Rattle.rubis_model.specs.Site.{asked}
 use Rattle.rubis_world.specs.Script.{SiteState}
 use Rattle.rubis_shadow.specs.declared.shadows.Ask.TheVariants as Ask
 use Rattle.rubis_tests.proofs.callers.first_user.Goals as goal

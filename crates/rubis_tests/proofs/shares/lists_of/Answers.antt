@@ -1,4 +1,4 @@
-use Rattle.std.proofs.Common.{◌≡◌, [], ◌∷◌, sym, subst}
+use Rattle.std.proofs.Common.{[], ◌∷◌, sym, subst}
 use Rattle.rubis_pieces.specs.Batches.{Belong}
 use Rattle.rubis_tests.proofs.shares.lists_of.Goals as goal
 

@@ -1,4 +1,4 @@
-use Rattle.std.proofs.Common.{rules, ◌≡◌, ◌<◌, ◌+◌, ◌*◌, ◌/◌, ◌%◌, length, slice_index, arith, sym, ap, ◌∙◌, subst, cond, true, false, nat_eq}
+use Rattle.std.proofs.Common.{rules, ◌≡◌, ◌<◌, ◌+◌, ◌*◌, ◌/◌, ◌%◌, length, slice_index, sym, ap, ◌∙◌, subst, cond, nat_eq}
 use Rattle.rubis_clock.proofs.TwoRows.{count_at}
 use Rattle.rubis_clock.proofs.packed.PackedDeps.count.Goals as goal
 

@@ -1,4 +1,4 @@
-use Rattle.std.proofs.Common.{◌≡◌, ◌<◌, length, arith, sym, ap, ◌∙◌, ◌++◌, ◌∷◌, [], take}
+use Rattle.std.proofs.Common.{arith, sym, ap, ◌∙◌, ◌++◌, ◌∷◌, [], take}
 use Rattle.rubis_clock.proofs.TwoRows.{unpacked_more}
 use Rattle.rubis_clock.proofs.packed.PackedDeps.unpack.Goals as goal
 

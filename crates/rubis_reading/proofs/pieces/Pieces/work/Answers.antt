@@ -1,4 +1,4 @@
-use Rattle.std.proofs.Common.{◌≡◌, refl, subst}
+use Rattle.std.proofs.Common.{refl, subst}
 use Rattle.rubis_crew.specs.States.{IsBack, LeadState}
 use Rattle.rubis_reading.specs.declared.readings.Reading.{Reading}
 use Rattle.rubis_reading.proofs.PieceFacts.{of_put}

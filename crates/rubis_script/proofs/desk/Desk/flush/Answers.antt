@@ -1,4 +1,4 @@
-use Rattle.std.proofs.Common.{◌∙◌, ◌+◌, arith, refl, sym}
+use Rattle.std.proofs.Common.{refl}
 use Rattle.rubis_script.proofs.desk.Desk.flush.Goals as goal
 
 pub returns-then-is_empty-clause-flushed : goal.returns-then-is_empty-clause-flushed

@@ -1,4 +1,4 @@
-use Rattle.std.proofs.Common.{rules, arith, ℕ, ◌≡◌, ◌+◌, ◌<◌, ◌≤◌, List, drop, length, sym, ap, ◌∙◌}
+use Rattle.std.proofs.Common.{rules, arith, ℕ, ◌≡◌, ◌<◌, ◌≤◌, List, length, sym, ap, ◌∙◌}
 use Rattle.std.specs.Prelude.{slice_index_or}
 use Rattle.std.specs.FinMap as map
 use Rattle.rubis_shard.specs.Counted.{recorded_from, recorded_of}
