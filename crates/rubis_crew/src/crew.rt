@@ -9,7 +9,9 @@ ghost use Rattle.rubis_crew.specs.Rule.{AreBelow};
 ghost use Rattle.rubis_crew.specs.States.{drained, ended, new_lead, new_helper, given_too, HasNoRoom, IsBack, HasHelped, ComesBack, Settles, HasAllBack, TellsAll};
 
 use crate::job::{Back, Given, Job};
-use crate::results::{Collecting, Joining, Naming, Paying, Payment, ResultRule, ResultView, Slip};
+use crate::results::{
+    Collecting, JobPass, Joining, Naming, Paying, Payment, ResultRule, ResultView, Slip,
+};
 use crate::rule::{
     Fetching, Giving, Handing, Hiring, JobEntry, JobRule, JobView, Owning, Receiving, Settling,
 };
