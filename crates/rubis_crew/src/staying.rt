@@ -1,6 +1,6 @@
 //! The helpers of a crew, each in a thread of its own.
 
-ghost use Rattle.std.specs.Prelude.{◌≡◌};
+ghost use Rattle.std.specs.Prelude.{◌≡◌, ◌<◌};
 ghost use Rattle.std.specs.Thread.{IsSync};
 
 use crate::crew::{Crew, Helper};
@@ -8,7 +8,8 @@ use crate::job::Job;
 use std::sync::Wait;
 use std::thread::{Threads, join};
 
-// A helper and `more` others, each in a thread of its own and the first in this one, until no more jobs come.
+// A helper and `more` others, each in a thread of its own and the first in this one, until no more jobs come: no more of them than are
+// told so, since one that isn't would wait forever.
 fn stay_with<J: Job, R: Threads + Wait + Sync>(
     rt: &R,
     crew: &Crew<J>,
@@ -17,6 +18,7 @@ fn stay_with<J: Job, R: Threads + Wait + Sync>(
 )
     requires crew { me.old.crew ≡ crew.now.id }
     requires owes { me.old.paid ≡ me.old.taken }
+    requires told { more < crew.now.helpers }
 {
     if more == 0 {
         crew.stay(rt, me);
@@ -30,7 +32,7 @@ fn stay_with<J: Job, R: Threads + Wait + Sync>(
             requires { (me.now.crew ≡ crew.now.id) × (me.now.paid ≡ me.now.taken) }
         { crew.stay(rt, me) },
         move ||
-            requires { IsSync R.row × (next.crew ≡ crew.now.id) × (next.paid ≡ next.taken) }
+            requires { IsSync R.row × (next.crew ≡ crew.now.id) × (next.paid ≡ next.taken) × (fewer < crew.now.helpers) }
         { stay_with(rt, crew, &mut next, fewer) },
     );
 }
