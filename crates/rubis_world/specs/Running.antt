@@ -2,6 +2,7 @@
 use Rattle.std.specs.Prelude.{◌≡◌, ◌++◌, ◌∷◌, [], ℕ, List, MatchOption, None, Option, Some, length}
 use Rattle.rubis_schema.specs.declared.refusals.Refusal.{Refusal}
 use Rattle.rubis_schema.specs.declared.refusals.Refusal.TheVariants as refusal
+use Rattle.rubis_model.specs.RecordedRuns.{world_after}
 use Rattle.rubis_model.specs.System.{World, start}
 use Rattle.rubis_model.specs.WorldRecords.{refusal_row, world_answers}
 use Rattle.rubis_script.specs.Replica.fault_variants as fault
@@ -39,3 +40,7 @@ answers_of_world sites keep = world_account keep (start sites) 1
 -- what is still to be made of a world
 abbrev pub told_by_world : WorldState → ℕ → Account
 told_by_world s n = world_account s.keep s.world n
+
+-- these records, the first of which has that number, lead from one state of the sites to the other
+abbrev pub LeadsWorld : WorldState → ℕ → List (List (List ℕ)) → WorldState → Type 0
+LeadsWorld old n records new = ComesTo old new (world_after old.keep old.world n records)
