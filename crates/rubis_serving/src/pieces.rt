@@ -102,8 +102,7 @@ pub(crate) fn next_piece<S: Service, R: Read, W: Write>(
         × (run.new.answered ≡ run.old.answered) × IsAtHand R.remaining chunks.new piece)
         ⊥
         (AnswersWhole S.account S.leads R.remaining chunks.old service.old run.old (W.contents writer.old)
-        chunks.new service.new run.new (W.contents writer.new)
-        × (run.new.answered ≡ run.old.answered))
+        chunks.new service.new run.new (W.contents writer.new))
         (OfEachServed S.account S.leads R.remaining chunks.old service.old run.old (W.contents writer.old) (λ first old input.
         WrotePrefix ((S.account first 1).text AtEnd) old (W.contents writer.new) (input_records input))) }
 {

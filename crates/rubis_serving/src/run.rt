@@ -198,11 +198,8 @@ fn serve<S: Answering, R: Read, W: Write>(
     ensures { Finishes S.account S.leads limit R.remaining chunks.old service.old run.old (W.contents writer.old)
         chunks.new service.new run.new (W.contents writer.new) result }
 {
-    let answer = |service: &mut S, fields: &InputRecord, reply: &mut Reply| service.answer(
-        fields, reply,
-    );
     'pieces: for _ in 0..u64::MAX {
-        if let Some(count) = turn(chunks, service, run, writer, limit, &answer)? {
+        if let Some(count) = turn(chunks, service, run, writer, limit, &S::answer)? {
             return Ok(count);
         }
     }

@@ -39,9 +39,6 @@ returns g c =
       refl,
       hand,
     )) absurd
-    (λ failed. (
-      λ first old input h. served-cut account leads rem chunks chunks2 first s s2 old _ _ sink sink2 answered input settles failed none
-          (λ number. g.met.S.Service.leads_none s2 number) h,
-      refl,
-    ))
+    (λ failed first old input h. served-cut account leads rem chunks chunks2 first s s2 old _ _ sink sink2 answered input settles failed none
+    (λ number. g.met.S.Service.leads_none s2 number) h)
     (λ broke first old input h. served-written account leads rem chunks first s s2 old _ _ sink sink2 answered input settles h) c.fill_whole.ensures

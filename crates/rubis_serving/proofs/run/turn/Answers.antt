@@ -10,7 +10,7 @@ use Rattle.rubis_serving.proofs.run.turn.Goals as goal
 
 pub returns-in_err-many : goal.returns-in_err-many
 returns-in_err-many g c =
-    ends_on _ _ c.from_residual.result c.in_err-many.field-0.0 c.from_residual.ensures absurd (λ whole. whole.0) (λ prefix. prefix) c.in_err-many.ensures
+    ends_on _ _ c.from_residual.result c.in_err-many.field-0.0 c.from_residual.ensures absurd (λ whole. whole) (λ prefix. prefix) c.in_err-many.ensures
 
 pub finish-requires-clause-within : goal.finish-requires-clause-within
 finish-requires-clause-within g c = omega (arith, c.requires.within, c.in_ok-many.ensures.1)
