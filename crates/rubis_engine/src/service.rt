@@ -1,7 +1,7 @@
 //! What answers records, and what it answers with.
 
-ghost use Rattle.std.specs.Prelude.{◌≡◌, ◌<◌, ◌++◌, ◌+◌, ◌∷◌, [], ℕ, List, IfOk, OnOk};
-ghost use Rattle.rubis_engine.specs.Accounts.{Account, AnswersRecord, Keeps, LeadsAlike, LeadsOn};
+ghost use Rattle.std.specs.Prelude.{◌≡◌, ◌<◌, ◌++◌, ◌∷◌, [], ℕ, List, OnOk};
+ghost use Rattle.rubis_engine.specs.Accounts.{Account, IsAnswer, Keeps, LeadsAlike};
 ghost use Rattle.rubis_engine.specs.Accounts.Ending.{AtEnd, Cut};
 
 use crate::fault::OutOfMemory;
@@ -86,7 +86,5 @@ pub trait Answering: Service {
     /// Answers the record whose number the reply has, and says whether the run goes on. What it writes and what is still to be
     /// written are together the text; where the run ends here, what it writes is all of it.
     fn answer(&mut self, fields: &InputRecord, reply: &mut Reply) -> Result<Course, OutOfMemory>
-        ensures text { IfOk result (λ course. AnswersRecord course (Self.account self.old reply.old.number)
-            (Self.account self.new (reply.old.number + 1)) reply.old.sink reply.new.sink fields.now) }
-        ensures leads { IfOk result (λ course. LeadsOn course Self.leads reply.old.number fields.now self.old self.new) };
+        ensures { IsAnswer Self.account Self.leads self.old self.new reply.old reply.new fields.now result };
 }

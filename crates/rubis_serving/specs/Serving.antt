@@ -1,9 +1,9 @@
 -- Where a run over chunks stands.
-use Rattle.std.specs.Prelude.{◌≡◌, ◌≤◌, ◌+◌, ◌++◌, ◌∷◌, [], ℕ, IfOk, List, MatchOption, Option, Result, length}
+use Rattle.std.specs.Prelude.{◌≡◌, ◌≤◌, ◌+◌, ◌++◌, ◌∷◌, [], ℕ, List, MatchOption, Option, Result, length}
 use Rattle.std.specs.Borrow.{Bor, MutBor}
 use Rattle.std.specs.Fn.{Shared}
 use Rattle.std.specs.Io.KnownBytes.{Appends}
-use Rattle.rubis_engine.specs.Accounts.{Account, AnswersRecord, Ending, LeadsAlike, LeadsOn}
+use Rattle.rubis_engine.specs.Accounts.{Account, Ending, IsAnswer, LeadsAlike}
 use Rattle.rubis_engine.specs.Accounts.Ending.{AtEnd, Cut}
 use Rattle.rubis_engine.specs.Endings.{ByEnd}
 use Rattle.rubis_engine.specs.Progress.{Drained, WrotePrefix}
@@ -33,8 +33,7 @@ module _ {S : Type 0} (account : S → ℕ → Account) (leads : S → ℕ → L
     pub may : (s : MutBor S) (fields : Bor (List (List ℕ))) (reply : MutBor Reply) → call.pre answer (s, (fields, (reply, tt)))
     pub gives : (s : MutBor S) (fields : Bor (List (List ℕ))) (reply : MutBor Reply) (result : Result Course OutOfMemory) (s2 : MutBor S) (reply2 : MutBor Reply)
         → call.post answer (s, (fields, (reply, tt))) (result, (s2, (reply2, tt)))
-        → IfOk result (λ course. AnswersRecord course (account s.now reply.now.number) (account s2.now (reply.now.number + 1)) reply.now.sink
-        reply2.now.sink fields.now × LeadsOn course leads reply.now.number fields.now s.now s2.now)
+        → IsAnswer account leads s.now s2.now reply.now reply2.now fields.now result
 
   -- the run began with the service `first`, which is s now; the first `answered` of these records are answered, and `later` are to come;
   -- `sink` waits to be written

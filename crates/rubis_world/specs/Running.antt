@@ -9,6 +9,7 @@ use Rattle.rubis_script.specs.Replica.fault_variants as fault
 use Rattle.rubis_engine.specs.Accounts.{Account}
 use Rattle.rubis_engine.specs.Text.{rows_text}
 use Rattle.rubis_world.specs.SitesWorlds.{ComesTo, WorldState}
+use Rattle.rubis_world.specs.declared.desk.WorldDesk.{WorldDesk}
 use Rattle.rubis_world.specs.declared.faults.WorldFault.{WorldFault}
 use Rattle.rubis_world.specs.declared.faults.WorldFault.TheVariants.{BadEvent, NoSuchPacket, Site, Memory}
 
@@ -44,3 +45,11 @@ told_by_world s n = world_account s.keep s.world n
 -- these records, the first of which has that number, lead from one state of the sites to the other
 abbrev pub LeadsWorld : WorldState → ℕ → List (List (List ℕ)) → WorldState → Type 0
 LeadsWorld old n records new = ComesTo old new (world_after old.keep old.world n records)
+
+-- ---- the same of the desk that has them
+
+abbrev pub told_by_desk : WorldDesk → ℕ → Account
+told_by_desk desk n = told_by_world desk.world n
+
+abbrev pub LeadsDesk : WorldDesk → ℕ → List (List (List ℕ)) → WorldDesk → Type 0
+LeadsDesk old n records new = LeadsWorld old.world n records new.world

@@ -10,7 +10,7 @@ ghost use Rattle.rubis_model.specs.WorldRecords.{logs_of, told_at, world_step};
 ghost use Rattle.rubis_schema.specs.declared.limits.TheConstants.{KEEP_MAX, SITES_MAX};
 ghost use Rattle.rubis_script.specs.Replica.{IsCount};
 ghost use Rattle.rubis_world.specs.SitesWorlds.{Steps, WorldState, opening_world};
-ghost use Rattle.rubis_world.specs.Running.{IsRefused, IsTold, LeadsWorld, told_by_world};
+ghost use Rattle.rubis_world.specs.Running.{IsRefused, IsTold, LeadsDesk, told_by_desk};
 
 use crate::answers::{write_event, write_no_event, write_refused};
 use crate::config::WorldConfig;
@@ -128,9 +128,9 @@ impl WorldDesk {
 }
 
 impl Service for WorldDesk {
-    ghost account = { λ s n. told_by_world s.world n };
+    ghost account = { told_by_desk };
 
-    ghost leads = { λ old n records new. LeadsWorld old.world n records new.world };
+    ghost leads = { LeadsDesk };
 
     ghost reads_none = { λ s n. refl };
 

@@ -1,20 +1,19 @@
 //! Several sites over a reader and a writer.
 
-ghost use Rattle.std.specs.Prelude.{◌≡◌, ◌≤◌, ◌+◌, ℕ, IfOk, List};
-ghost use Rattle.std.specs.Thread.{IsSync};
-ghost use Rattle.rubis_engine.specs.Accounts.{AnswersRecord, LeadsOn};
+ghost use Rattle.std.specs.Prelude.{◌≡◌, ◌≤◌, ℕ, List};
+ghost use Rattle.rubis_engine.specs.Accounts.{IsAnswer};
 ghost use Rattle.rubis_engine.specs.Progress.{IsRun};
 ghost use Rattle.rubis_reading.specs.Chunked.{HasAll};
 ghost use Rattle.rubis_schema.specs.declared.limits.TheConstants.{COUNTED_MAX, KEEP_MAX, RECORDS_MAX};
 ghost use Rattle.rubis_script.specs.Headline.{OfRead};
 ghost use Rattle.rubis_serving.specs.Serving.{Finishes};
 ghost use Rattle.rubis_world.specs.Headline.{Lead, TellsARun, WorldEndsWhole};
-ghost use Rattle.rubis_world.specs.Running.{LeadsWorld, answers_of_world, told_by_world};
+ghost use Rattle.rubis_world.specs.Running.{LeadsDesk, answers_of_world, told_by_desk, told_by_world};
 ghost use Rattle.rubis_world.specs.SitesWorlds.{opening_world};
 
 use crate::config::WorldConfig;
 use crate::desk::WorldDesk;
-use rubis_engine::{Count, Course, InputRecord, OutOfMemory, Reply, RunFault, Service};
+use rubis_engine::{Count, Course, InputRecord, OutOfMemory, Reply, RunFault};
 use rubis_reading::Chunks;
 use rubis_schema::RECORDS_MAX;
 use rubis_serving::{BLOCK, Served, turn};
@@ -33,14 +32,14 @@ fn serve<T: Threads + Wait + Sync, R: Read, W: Write>(
     limit: u64,
 ) -> Result<Count, RunFault>
     requires { run.old.answered ≤ limit }
-    ensures { Finishes ⟦<WorldDesk as Service>⟧.account ⟦<WorldDesk as Service>⟧.leads limit R.remaining chunks.old desk.old run.old (W.contents writer.old)
+    ensures { Finishes told_by_desk LeadsDesk limit R.remaining chunks.old desk.old run.old (W.contents writer.old)
         chunks.new desk.new run.new (W.contents writer.new) result }
 {
     let answer = |desk: &mut WorldDesk,
                   fields: &InputRecord,
                   reply: &mut Reply|
      -> Result<Course, OutOfMemory>
-        requires { IsSync T.row }
+        ensures { IsAnswer told_by_desk LeadsDesk desk.old desk.new reply.old reply.new fields.now result }
     {
         desk.respond(rt, fields, reply)?;
         Ok(Course::GoesOn)
