@@ -90,14 +90,25 @@ module _ {S : Type 0} (account : S → ℕ → Account) (leads : S → ℕ → L
   OfEachPiece text s run now holds = (first : S) (old : Option (List ℕ)) (records rest : List (List (List ℕ)))
       → Stands first s old now run.reply.sink run.answered records (input_records text ++ rest) → holds first old records rest
 
-  -- how a piece ends: all its records are answered, at most `limit` of all, or one of them ended the run; the first `limit` of all are
-  -- answered, and there are more; or a prefix of the text was written
+  -- ---- how they are answered
+
+  -- all of them are, at most `limit` of all, or one of them ended the run
+  abbrev pub AreAnswered : ℕ → S → Served → ((S → Option (List ℕ) → List (List (List ℕ)) → List (List (List ℕ)) → Type 0) → Type 0) → Option (List ℕ)
+      → Option Count → Type 0
+  AreAnswered limit s run of_each after over = MatchOption over
+      ((run.answered ≤ limit) × of_each (λ first old records rest. Stands first s old after run.reply.sink run.answered records rest))
+      (λ count. of_each (λ first old records rest. AnswersAll account leads limit first s old after records count.records))
+
+  -- how a record ends: it is answered, or a prefix of the text was written
+  abbrev pub RecordEnds : ℕ → S → Served → ((S → Option (List ℕ) → List (List (List ℕ)) → List (List (List ℕ)) → Type 0) → Type 0) → Option (List ℕ)
+      → Result (Option Count) RunFault → Type 0
+  RecordEnds limit s run of_each after result = ByEnd result (AreAnswered limit s run of_each after) ⊥ ⊥
+      (of_each (λ first old records rest. WrotePrefix ((account first 1).text AtEnd) old after records))
+
+  -- how a piece ends: so too, or the first `limit` of all are answered, and there are more
   abbrev pub PieceEnds : ℕ → S → Served → ((S → Option (List ℕ) → List (List (List ℕ)) → List (List (List ℕ)) → Type 0) → Type 0) → Option (List ℕ)
       → Result (Option Count) RunFault → Type 0
-  PieceEnds limit s run of_each after result = ByEnd result
-      (λ over. MatchOption over
-      ((run.answered ≤ limit) × of_each (λ first old records rest. Stands first s old after run.reply.sink run.answered records rest))
-      (λ count. of_each (λ first old records rest. AnswersAll account leads limit first s old after records count.records)))
+  PieceEnds limit s run of_each after result = ByEnd result (AreAnswered limit s run of_each after)
       (of_each (λ first old records rest. AnswersFirst account leads limit first s old after records)) ⊥
       (of_each (λ first old records rest. WrotePrefix ((account first 1).text AtEnd) old after records))
 

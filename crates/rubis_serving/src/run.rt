@@ -1,13 +1,10 @@
 //! A run of a service over the chunks of a text.
 
-ghost use Rattle.std.specs.Prelude.{◌≡◌, ◌≤◌, ◌<◌, ◌+◌, ◌^◌, ℕ, List, MatchOption};
-ghost use Rattle.rubis_engine.specs.Accounts.Ending.{AtEnd};
-ghost use Rattle.rubis_engine.specs.Endings.{ByEnd};
-ghost use Rattle.rubis_engine.specs.Progress.{WrotePrefix};
+ghost use Rattle.std.specs.Prelude.{◌≡◌, ◌≤◌, ◌<◌, ◌+◌, ◌^◌, ℕ, List};
 ghost use Rattle.rubis_engine.specs.Reading.{Gives};
 ghost use Rattle.rubis_reading.specs.Chunked.{HasAll, IsLast};
-ghost use Rattle.rubis_serving.specs.Serving.{AnswersEach, Finishes, OfEachNext, OfEachPiece, OfEachYet, PieceEnds, Stands, Turns};
-ghost use Rattle.rubis_serving.specs.Whole.{AnswersAll, EndsWhole};
+ghost use Rattle.rubis_serving.specs.Serving.{AnswersEach, Finishes, OfEachNext, OfEachPiece, OfEachYet, PieceEnds, RecordEnds, Turns};
+ghost use Rattle.rubis_serving.specs.Whole.{EndsWhole};
 
 use crate::pieces::{Served, end, next_piece, settle};
 use rubis_engine::{
@@ -37,16 +34,8 @@ fn answer_record<
 ) -> Result<Option<Count>, RunFault>
     requires room { run.old.answered + 1 < 2 ^ 64 }
     requires answers { AnswersEach S.account S.leads F.Fn answer.now }
-    ensures { ByEnd result
-        (λ over. MatchOption over
-        ((run.new.answered ≡ run.old.answered + 1)
-        × OfEachNext S.account S.leads fields.now service.old run.old (W.contents writer.old) (λ first old records later.
-        Stands S.account S.leads first service.new old (W.contents writer.new) run.new.reply.sink run.new.answered records later))
-        (λ count. OfEachNext S.account S.leads fields.now service.old run.old (W.contents writer.old) (λ first old records later.
-        AnswersAll S.account S.leads (run.old.answered + 1) first service.new old (W.contents writer.new) records count.records)))
-        ⊥ ⊥
-        (OfEachNext S.account S.leads fields.now service.old run.old (W.contents writer.old) (λ first old records later.
-        WrotePrefix ((S.account first 1).text AtEnd) old (W.contents writer.new) records)) }
+    ensures { RecordEnds S.account S.leads (run.old.answered + 1) service.new run.new
+        (OfEachNext S.account S.leads fields.now service.old run.old (W.contents writer.old)) (W.contents writer.new) result }
 {
     run.reply.number = run.answered + 1;
     let course = answer(service, fields, &mut run.reply)?;
@@ -152,12 +141,15 @@ fn finish<
     end(service, run, writer)
 }
 
-/// Has `answer` answer the records of the next piece of a text: a whole record or more of those that came, or the rest. `None` if the run
-/// goes on, otherwise how many records were read. Of `limit` records none more is answered.
+/// Answers the next piece of a text, each record by a call of `answer`: the whole records that came, or at the end of the text the rest,
+/// with the service's last answers. `None` if the run goes on, otherwise how many records were read. Where no whole record is at hand, the
+/// answers are written out before the reader is asked for more. A run answers at most `limit` records.
 ///
 /// # Errors
 ///
-/// Those of `run_service`.
+/// `Read` if the reader failed: the records that came whole are answered then, as if there were no more. `Write` if the writer failed,
+/// and `Memory` if memory ran out: what was written is a prefix of the whole text. `TooLong` if the text has more than `limit` records
+/// and none of the first `limit` ends the run: these are answered then.
 pub fn turn<
     S: Service,
     R: Read,

@@ -1,4 +1,4 @@
-use Rattle.std.proofs.Common.{◌≡◌, ◌+◌, ◌∷◌, refl}
+use Rattle.std.proofs.Common.{◌≡◌, ◌+◌, ◌∷◌, arith, refl}
 use Rattle.rubis_engine.specs.declared.service.Course.TheVariants as course
 use Rattle.rubis_engine.proofs.FrontFacts.{front-longer}
 use Rattle.rubis_engine.proofs.EndFacts.{ends_memory, ends_write}
@@ -54,7 +54,7 @@ returns-in_ok-drain_full-in-GoesOn g c =
     let goes : c.in_ok-course.course ≡ course.GoesOn = c.in-GoesOn.is in
     let gives = c.requires.answers.gives _ _ _ _ _ _ c.answer.ensures in
     let answered = rw goes at (rw c.in_ok-course.was at gives) in (
-      refl,
+      omega arith,
       λ first old records later h.
           stands-waited account leads first c.answer.new.arg2 old _ _ c.answer.new.arg4.sink c.drain_full.new.self n records later
           c.in_ok-drain_full-in-GoesOn.ensures.ok
