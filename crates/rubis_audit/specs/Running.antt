@@ -1,5 +1,5 @@
 -- An auditor that reads records.
-use Rattle.std.specs.Prelude.{◌≡◌, ℕ, ◌≤◌, ◌==◌, ◌&&◌, suc, Bool, true, false, List, [], ◌∷◌, length, option_and_then, reverse, Option, Some, None, Result}
+use Rattle.std.specs.Prelude.{◌≡◌, ℕ, ◌≤◌, ◌==◌, ◌&&◌, suc, Bool, true, false, List, [], ◌∷◌, length, option_and_then, reverse, Option, Some, None, Result, ◌⊎◌, ⊤}
 use Rattle.rubis_schema.specs.declared.limits.TheConstants.{COUNTED_MAX}
 use Rattle.rubis_message.specs.Message.{Message, sites_of}
 use Rattle.rubis_message.specs.declared.answers.Verdict.{Verdict}
@@ -72,6 +72,11 @@ is_well asked logs (Found kind log entry) = false
 -- what was asked of all logs was answered, and it is known whether nothing wrong was found
 abbrev pub HasFound : AuditorState → AuditorState → Type 0
 HasFound old new = new.well ≡ is_well old.asked (reverse old.logs) (verdict (reverse old.logs))
+
+-- with no more records it stays as it is, or has found that; nothing is said of records that are read
+abbrev pub LeadsAuditor : AuditorState → List (List (List ℕ)) → AuditorState → Type 0
+LeadsAuditor old [] new = (new ≡ old) ⊎ HasFound old new
+LeadsAuditor old (fields ∷ more) new = ⊤
 
 -- at the end these; where the run is cut short, nothing
 abbrev pub answer_text : LogQuestion → Ending → Result (List Log) ℕ → List ℕ

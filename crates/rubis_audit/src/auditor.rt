@@ -10,7 +10,7 @@ ghost use Rattle.rubis_model.specs.AuditRecords.{with_line};
 ghost use Rattle.rubis_model.specs.AuditRecords.Line.{Begin, Claim, Next};
 ghost use Rattle.rubis_audit.specs.Lines.{IsAmongLine, line_as};
 ghost use Rattle.rubis_engine.specs.Text.{rows_text};
-ghost use Rattle.rubis_audit.specs.Running.{AreAudited, HasFound, IsCurrentAmong, account_from, is_well, logs_so_far, rows_for};
+ghost use Rattle.rubis_audit.specs.Running.{AreAudited, IsCurrentAmong, LeadsAuditor, account_from, is_well, logs_so_far, rows_for};
 
 use crate::audits::audit_hashed;
 use crate::lacks::write_lacks;
@@ -203,22 +203,22 @@ impl Auditor {
     }
 }
 
-impl<T> Service<T> for Auditor {
+impl Service for Auditor {
     ghost account = { λ s n. account_from s.asked s.sites n s.logs };
 
-    ghost stays = { λ old new. (new ≡ old) ⊎ HasFound old new };
-
-    ghost stays_same = { λ s. inl refl };
+    ghost leads = { λ old n records new. LeadsAuditor old records new };
 
     ghost reads_none = { λ s n. refl };
 
     ghost reads_next = { Prim.search rules };
 
-    fn answer_held(&mut self, _rt: &T, _sink: &mut Sink) -> Result<(), OutOfMemory> {
+    ghost leads_none = { λ s n. inl refl };
+
+    fn answer_held(&mut self, _sink: &mut Sink) -> Result<(), OutOfMemory> {
         Ok(())
     }
 
-    fn answer_end(&mut self, _rt: &T, sink: &mut Sink) -> Result<(), OutOfMemory> {
+    fn answer_end(&mut self, sink: &mut Sink) -> Result<(), OutOfMemory> {
         let current = self.current.take();
         end_log(&mut self.ended, current)?;
         let verdict = audit_hashed(self.alloc, &self.ended, self.sites, self.hashes)?;
@@ -234,10 +234,9 @@ impl<T> Service<T> for Auditor {
     }
 }
 
-impl<T> Answering<T> for Auditor {
+impl Answering for Auditor {
     fn answer(
         &mut self,
-        _rt: &T,
         fields: &InputRecord,
         reply: &mut Reply,
     ) -> Result<Course, OutOfMemory> {

@@ -35,7 +35,7 @@ pub fn run_auditor_chunks<R: Read, W: Write>(
         (λ n. account_from auditor.new.asked auditor.new.sites n auditor.new.logs)
         RECORDS_MAX (W.contents writer.old) (W.contents writer.new) input result }
 {
-    run_service(&(), alloc, chunks, writer, auditor, RECORDS_MAX)
+    run_service(alloc, chunks, writer, auditor, RECORDS_MAX)
 }
 
 /// Has an auditor read at most 4,000,000 records of `reader`, until its end or the first malformed record, and appends its answer

@@ -149,30 +149,29 @@ impl Widener {
     }
 }
 
-impl<T> Service<T> for Widener {
+impl Service for Widener {
     ghost account = { λ s n. widening_from s.from s.to n (logs_at s.place) };
 
-    ghost stays = { λ old new. ⊤ };
-
-    ghost stays_same = { λ s. tt };
+    ghost leads = { λ old n records new. ⊤ };
 
     ghost reads_none = { λ s n. refl };
 
     ghost reads_next = { Prim.search rules };
 
-    fn answer_held(&mut self, _rt: &T, _sink: &mut Sink) -> Result<(), OutOfMemory> {
+    ghost leads_none = { λ s n. tt };
+
+    fn answer_held(&mut self, _sink: &mut Sink) -> Result<(), OutOfMemory> {
         Ok(())
     }
 
-    fn answer_end(&mut self, _rt: &T, _sink: &mut Sink) -> Result<(), OutOfMemory> {
+    fn answer_end(&mut self, _sink: &mut Sink) -> Result<(), OutOfMemory> {
         Ok(())
     }
 }
 
-impl<T> Answering<T> for Widener {
+impl Answering for Widener {
     fn answer(
         &mut self,
-        _rt: &T,
         fields: &InputRecord,
         reply: &mut Reply,
     ) -> Result<Course, OutOfMemory> {
@@ -205,7 +204,7 @@ pub fn run_widen_chunks<R: Read, W: Write>(
         (λ n. widening_from widener.new.from widener.new.to n (logs_at widener.new.place))
         RECORDS_MAX (W.contents writer.old) (W.contents writer.new) input result }
 {
-    run_service(&(), alloc, chunks, writer, widener, RECORDS_MAX)
+    run_service(alloc, chunks, writer, widener, RECORDS_MAX)
 }
 
 /// Widens the records of an audit from `from` sites to `to`: reads at most 4,000,000 records of `reader`, and appends each

@@ -1,7 +1,9 @@
 -- What a run makes of its records.
-use Rattle.std.specs.Prelude.{◌≡◌, ◌+◌, ◌++◌, ◌∷◌, ℕ, List}
+use Rattle.std.specs.Prelude.{◌≡◌, ◌+◌, ◌++◌, ◌∷◌, ℕ, IfOk, List, Result}
+use Rattle.rubis_engine.specs.declared.fault.OutOfMemory.{OutOfMemory}
 use Rattle.rubis_engine.specs.declared.service.Course.{Course}
 use Rattle.rubis_engine.specs.declared.service.Course.TheVariants.{GoesOn, Ends}
+use Rattle.rubis_engine.specs.declared.service.Reply.{Reply}
 
 -- how a run ends after some records: the input ends there, or the run is cut short, since the reader failed or no more
 -- records are taken
@@ -26,3 +28,23 @@ AnswersRecord Ends old new before after fields = (more : List (List (List ℕ)))
 abbrev pub Keeps : Account → Account → List ℕ → List ℕ → Type 0
 Keeps old new before after = (more : List (List (List ℕ)))
     → ((ending : Ending) → before ++ old.text ending more ≡ after ++ new.text ending more) × (old.read more ≡ new.read more)
+
+-- ---- where records lead what answers them
+
+-- whatever follows leads there from the one state as from the other
+abbrev pub LeadsAlike : {S : Type 0} → (S → ℕ → List (List (List ℕ)) → S → Type 0) → S → S → Type 0
+LeadsAlike leads old new = (number : ℕ) (more : List (List (List ℕ))) (last : _) → leads new number more last → leads old number more last
+
+-- a record with this number was answered: with whatever follows it leads there from the one state as what follows does from the other;
+-- where the run ends with the record, it leads to the other
+abbrev pub LeadsOn : {S : Type 0} → Course → (S → ℕ → List (List (List ℕ)) → S → Type 0) → ℕ → List (List ℕ) → S → S → Type 0
+LeadsOn GoesOn leads number fields old new = (more : List (List (List ℕ))) (last : _)
+    → leads new (number + 1) more last → leads old number (fields ∷ more) last
+LeadsOn Ends leads number fields old new = (more : List (List (List ℕ))) → leads old number (fields ∷ more) new
+
+-- a record with these fields was answered, as far as the reply goes and as where it leads; or memory ran out
+abbrev pub IsAnswer : {S : Type 0} → (S → ℕ → Account) → (S → ℕ → List (List (List ℕ)) → S → Type 0) → S → S → Reply → Reply → List (List ℕ)
+    → Result Course OutOfMemory → Type 0
+IsAnswer account leads old new before after fields result = IfOk result (λ course.
+    AnswersRecord course (account old before.number) (account new (before.number + 1)) before.sink after.sink fields
+    × LeadsOn course leads before.number fields old new)

@@ -1,7 +1,7 @@
 //! What answers records, and what it answers with.
 
-ghost use Rattle.std.specs.Prelude.{◌≡◌, ◌<◌, ◌++◌, ◌+◌, ◌∷◌, [], ℕ, List, IfOk, OnOk};
-ghost use Rattle.rubis_engine.specs.Accounts.{Account, AnswersRecord, Keeps};
+ghost use Rattle.std.specs.Prelude.{◌≡◌, ◌<◌, ◌++◌, ◌∷◌, [], ℕ, List, OnOk};
+ghost use Rattle.rubis_engine.specs.Accounts.{Account, IsAnswer, Keeps, LeadsAlike};
 ghost use Rattle.rubis_engine.specs.Accounts.Ending.{AtEnd, Cut};
 
 use crate::fault::OutOfMemory;
@@ -51,45 +51,40 @@ pub enum Course {
     Ends,
 }
 
-/// What answers records, one after the other, with what it holds back. `T` is the runtime that it is lent.
-pub trait Service<T> {
+/// What answers records, one after the other, with what it holds back.
+pub trait Service {
     /// What is still to be made of the records that follow, the first of which has this number.
     ghost account: { Self → ℕ → Account };
 
-    /// What it gives back or answers at the end leaves this of it as it was.
-    ghost stays: { Self → Self → Type 0 };
+    /// These records, the first of which has this number, lead it from the one state to the other.
+    ghost leads: { Self → ℕ → List (List (List ℕ)) → Self → Type 0 };
 
     /// Answers what is held back. Nothing is then left to be written if the run is cut short here.
-    fn answer_held(&mut self, rt: &T, sink: &mut Sink) -> Result<(), OutOfMemory>
+    fn answer_held(&mut self, sink: &mut Sink) -> Result<(), OutOfMemory>
         ensures keeps { OnOk result ((number : ℕ) → Keeps (account self.old number) (account self.new number) sink.old sink.new) }
         ensures none { OnOk result ((number : ℕ) → (account self.new number).text Cut [] ≡ []) }
-        ensures stays { OnOk result (stays self.old self.new) };
+        ensures leads { OnOk result (LeadsAlike leads self.old self.new) };
 
     /// Gives the last answers: writes all that is left to be written if the input ends here.
-    fn answer_end(&mut self, rt: &T, sink: &mut Sink) -> Result<(), OutOfMemory>
+    fn answer_end(&mut self, sink: &mut Sink) -> Result<(), OutOfMemory>
         ensures text { OnOk result ((number : ℕ) → sink.old ++ (account self.old number).text AtEnd [] ≡ sink.new) }
-        ensures stays { OnOk result (stays self.old self.new) };
+        ensures leads { OnOk result ((number : ℕ) → leads self.old number [] self.new) };
 
     // Of no records none is read.
     ghost reads_none: { (s : Self) (number : ℕ) → (account s number).read [] ≡ 0 };
 
-    ghost stays_same: { (s : Self) → stays s s };
-
     // Of some records at least one is read.
     ghost reads_next: { (s : Self) (number : ℕ) (fields : List (List ℕ)) (more : List (List (List ℕ))) → 0 < (account s number).read (fields ∷ more) };
+
+    // No records lead nowhere.
+    ghost leads_none: { (s : Self) (number : ℕ) → leads s number [] s };
 }
 
 /// A service whose answers need no other thread. One whose work goes to other threads isn't one: a bound of a trait's method is
 /// known to the calling thread alone.
-pub trait Answering<T>: Service<T> {
+pub trait Answering: Service {
     /// Answers the record whose number the reply has, and says whether the run goes on. What it writes and what is still to be
     /// written are together the text; where the run ends here, what it writes is all of it.
-    fn answer(
-        &mut self,
-        rt: &T,
-        fields: &InputRecord,
-        reply: &mut Reply,
-    ) -> Result<Course, OutOfMemory>
-        ensures { IfOk result (λ course. AnswersRecord course (Self.account self.old reply.old.number)
-            (Self.account self.new (reply.old.number + 1)) reply.old.sink reply.new.sink fields.now) };
+    fn answer(&mut self, fields: &InputRecord, reply: &mut Reply) -> Result<Course, OutOfMemory>
+        ensures { IsAnswer Self.account Self.leads self.old self.new reply.old reply.new fields.now result };
 }

@@ -4,181 +4,22 @@ use Rattle.std.proofs.Common.{refl, true}
 use Rattle.std.specs.Prelude.{IfSome, MatchOption, None, Some, Result, Ok, Err}
 use Rattle.rubis_engine.specs.Accounts.{Account}
 use Rattle.rubis_engine.specs.Accounts.Ending.{AtEnd}
-use Rattle.rubis_engine.specs.Progress.{IsDone, IsRun, IsTooLong, WritesFrontOf, WrotePrefix}
+use Rattle.rubis_engine.specs.Progress.{IsRun, WritesFrontOf, WrotePrefix}
 use Rattle.rubis_engine.specs.Reading.{Advances, Gives, fields_now}
 use Rattle.rubis_engine.specs.Text.{input_records}
 use Rattle.rubis_engine.specs.declared.fault.Count.{Count}
 use Rattle.rubis_engine.specs.declared.fault.RunFault.{RunFault}
 use Rattle.rubis_engine.specs.declared.fault.RunFault.TheVariants as fault
 use Rattle.rubis_engine.specs.declared.record_list.Records.{Records}
-use Rattle.rubis_reading.specs.Chunked.{FailsShort, HasCome, HasPending, IsLast, KeepsCome, KeepsPending, TakesOff, held_text}
+use Rattle.rubis_engine.proofs.EndFacts.{ends_so}
+use Rattle.rubis_reading.specs.Chunked.{CameWhole, FailsShort, HasAll, HasCome, HasPending, IsChunk, IsLast, KeepsCome, KeepsPending, TakesOff, held_text}
 use Rattle.rubis_reading.specs.Streams.{EndsNoRecord}
 use Rattle.rubis_reading.specs.declared.chunks.Chunks.{Chunks}
 use Rattle.rubis_reading.proofs.ChunkFacts.{come-rest, pending-front}
-use Rattle.rubis_serving.specs.Serving.{HasServed, HasYet, OfEachPiece, OfEachServed, Settles, Stands, Stops}
-use Rattle.rubis_reading.specs.Chunked.{IsChunk}
-use Rattle.rubis_serving.specs.Whole.{EndsWhole, IsCutAfter}
-use Rattle.rubis_reading.specs.Chunked.{CameWhole, HasAll}
+use Rattle.rubis_serving.specs.Serving.{Finishes, HasServed, HasYet, OfEachPiece, OfEachServed, Settles, Stands}
+use Rattle.rubis_serving.specs.Whole.{AnswersFirst, AnswersJust, EndsLed, EndsWhole}
 use Rattle.rubis_serving.specs.declared.pieces.Served.{Served}
 use Rattle.rubis_serving.proofs.StandFacts.{stands-cut, stands-drained, stands-front, stands-prefix, stands-starts, stands-too_long}
-
--- what was held back is answered, and all that waited was written out
-settled : (all : Account) (account account2 : ℕ → Account) (old now now2 : Option (List ℕ)) (sink sink2 : List ℕ) (answered : ℕ)
-    (records later : List (List (List ℕ))) → Settles account account2 sink sink2 now now2
-    → Stands all (account (answered + 1)) old now sink answered records later → Stands all (account2 (answered + 1)) old now2 sink2 answered records later
-settled all account account2 old now now2 sink sink2 answered records later settles h =
-    subst (λ t. Stands all (account2 (answered + 1)) old now2 t answered records later) (sym settles.empty)
-    (stands-drained all (account (answered + 1)) (account2 (answered + 1)) old now now2 sink answered records later (settles.drained (answered + 1)) h)
-
--- ---- a reader of a piece
-
--- there is another record
-pub yet-one : {R : Type 0} (rem : R → Option (List ℕ)) (piece piece2 : Records R) (all more : Account) (old now : Option (List ℕ)) (sink : List ℕ)
-    (answered : ℕ) (records rest : List (List (List ℕ))) (fields : List (List ℕ)) → Advances rem piece piece2 true → fields ≡ fields_now piece2
-    → HasYet rem piece all more old now sink answered records rest
-    → (left : List (List (List ℕ))) × Gives rem piece2 left × Stands all more old now sink answered records (fields ∷ (left ++ rest))
-yet-one rem piece piece2 all more old now sink answered records rest fields takes is h =
-    let (left, split, gives) = takes h.rows h.gives in (
-      left,
-      gives,
-      subst (λ f. Stands all more old now sink answered records (f ∷ (left ++ rest))) (sym is)
-          (subst (λ rows. Stands all more old now sink answered records (rows ++ rest)) split h.stands),
-    )
-
--- there is none
-pub yet-none : {R : Type 0} (rem : R → Option (List ℕ)) (piece piece2 : Records R) (all more : Account) (old now : Option (List ℕ)) (sink : List ℕ)
-    (answered : ℕ) (records rest : List (List (List ℕ))) → Advances rem piece piece2 false → HasYet rem piece all more old now sink answered records rest
-    → Stands all more old now sink answered records rest
-yet-none rem piece piece2 all more old now sink answered records rest takes h =
-    subst (λ rows. Stands all more old now sink answered records (rows ++ rest)) (takes h.rows h.gives) h.stands
-
--- nothing more was written
-pub yet-prefix : {R : Type 0} (rem : R → Option (List ℕ)) (piece : Records R) (all more : Account) (old now now2 : Option (List ℕ)) (sink : List ℕ)
-    (answered : ℕ) (records rest : List (List (List ℕ))) → now2 ≡ now → HasYet rem piece all more old now sink answered records rest
-    → WrotePrefix (all.text AtEnd) old now2 records
-yet-prefix rem piece all more old now now2 sink answered records rest same h =
-    stands-prefix all more old now now2 sink answered records (h.rows ++ rest) same h.stands
-
--- there is another one, and as many as are taken were answered
-pub yet-too_long : {R : Type 0} (rem : R → Option (List ℕ)) (piece piece2 : Records R) (account account2 : ℕ → Account) (all : Account)
-    (old now now2 : Option (List ℕ)) (sink sink2 : List ℕ) (answered limit : ℕ) (records rest : List (List (List ℕ)))
-    → Advances rem piece piece2 true → answered ≡ limit → Settles account account2 sink sink2 now now2
-    → ((number : ℕ) (fields : List (List ℕ)) (more : List (List (List ℕ))) → 0 < (account2 number).read (fields ∷ more))
-    → HasYet rem piece all (account (answered + 1)) old now sink answered records rest → IsTooLong all limit old now2 records
-yet-too_long rem piece piece2 account account2 all old now now2 sink sink2 answered limit records rest takes last settles some h =
-    let (left, gives, one) = yet-one rem piece piece2 all (account (answered + 1)) old now sink answered records rest (fields_now piece2) takes refl h in
-    let later = left ++ rest in
-    stands-too_long all (account2 (answered + 1)) old now2 sink2 answered limit records later (fields_now piece2) settles.empty
-    (settles.none (answered + 1)) (some (answered + 1) (fields_now piece2) later) last
-    (settled all account account2 old now now2 sink sink2 answered records (fields_now piece2 ∷ later) settles one)
-
--- ---- between pieces
-
--- everything that came was answered and written out, and the reader was asked for more
-pub served-settled : {R : Type 0} (rem : R → Option (List ℕ)) (chunks chunks2 : Chunks R) (account account2 : ℕ → Account) (all : Account)
-    (old now now2 : Option (List ℕ)) (sink sink2 : List ℕ) (answered : ℕ) (input : List ℕ) → Settles account account2 sink sink2 now now2
-    → KeepsPending rem chunks chunks2 → KeepsCome rem chunks chunks2 → HasServed rem chunks all (account (answered + 1)) old now sink answered input
-    → HasServed rem chunks2 all (account2 (answered + 1)) old now2 sink2 answered input
-served-settled rem chunks chunks2 account account2 all old now now2 sink sink2 answered input settles keeps came h = record {
-  later = h.later;
-  stands = settled all account account2 old now now2 sink sink2 answered (input_records input) h.later settles h.stands;
-  pending = keeps h.later h.pending;
-  come = came input h.come;
-}
-
--- as many records were answered as came whole
-served-count : {R : Type 0} (rem : R → Option (List ℕ)) (chunks : Chunks R) (all more : Account) (old now : Option (List ℕ)) (sink : List ℕ)
-    (answered : ℕ) (input : List ℕ) → (h : HasServed rem chunks all more old now sink answered input) → answered ≡ length (input_records h.come.front)
-served-count rem chunks all more old now sink answered input h =
-    let s = h.stands in
-    let parts = ap length s.parts ∙ length-append s.done h.later in
-    let came = come-rest rem chunks input h.later h.pending h.come in
-    omega (arith, parts, came, s.count)
-
--- the reader failed where everything that came was answered and written out
-pub served-cut : {R : Type 0} (rem : R → Option (List ℕ)) (chunks chunks2 : Chunks R) (account account2 : ℕ → Account) (all : Account)
-    (old now now2 : Option (List ℕ)) (sink sink2 : List ℕ) (answered : ℕ) (input : List ℕ) → Settles account account2 sink sink2 now now2
-    → FailsShort rem chunks chunks2 → EndsNoRecord (held_text chunks) → HasServed rem chunks all (account (answered + 1)) old now sink answered input
-    → IsCutAfter answered all (account2 (answered + 1)) old now2 (input_records input) × CameWhole rem chunks2 input answered
-served-cut rem chunks chunks2 account account2 all old now now2 sink sink2 answered input settles failed none h =
-    let more = account2 (answered + 1) in
-    let s = served-settled rem chunks chunks2 account account2 all old now now2 sink sink2 answered input settles failed.pending failed.come h in (
-      stands-cut all more old now2 sink2 answered (input_records input) s.later settles.empty (settles.none (answered + 1)) s.stands,
-      record { come = s.come; count = served-count rem chunks2 all more old now2 sink2 answered input s; none = failed.none none },
-    )
-
--- nothing was written since
-pub served-written : {R : Type 0} (rem : R → Option (List ℕ)) (chunks : Chunks R) (account account2 : ℕ → Account) (all : Account)
-    (old now now2 : Option (List ℕ)) (sink sink2 : List ℕ) (answered : ℕ) (input : List ℕ) → Settles account account2 sink sink2 now now2
-    → HasServed rem chunks all (account (answered + 1)) old now sink answered input → WrotePrefix (all.text AtEnd) old now2 (input_records input)
-served-written rem chunks account account2 all old now now2 sink sink2 answered input settles h =
-    stands-prefix all (account2 (answered + 1)) old now2 now2 sink2 answered (input_records input) h.later refl
-    (settled all account account2 old now now2 sink sink2 answered (input_records input) h.later settles h.stands)
-
--- nothing more was written
-pub served-prefix : {R : Type 0} (rem : R → Option (List ℕ)) (chunks : Chunks R) (all more : Account) (old now now2 : Option (List ℕ)) (sink : List ℕ)
-    (answered : ℕ) (input : List ℕ) → now2 ≡ now → HasServed rem chunks all more old now sink answered input
-    → WrotePrefix (all.text AtEnd) old now2 (input_records input)
-served-prefix rem chunks all more old now now2 sink answered input same h =
-    stands-prefix all more old now now2 sink answered (input_records input) h.later same h.stands
-
--- what waited was written in part
-pub served-front : {R : Type 0} (rem : R → Option (List ℕ)) (chunks : Chunks R) (account : ℕ → Account) (all : Account) (old now now2 : Option (List ℕ))
-    (sink : List ℕ) (answered : ℕ) (input : List ℕ) → WritesFrontOf account sink now now2
-    → HasServed rem chunks all (account (answered + 1)) old now sink answered input → WrotePrefix (all.text AtEnd) old now2 (input_records input)
-served-front rem chunks account all old now now2 sink answered input front h =
-    stands-front all (account (answered + 1)) old now now2 sink answered (input_records input) h.later (front (answered + 1) h.later) h.stands
-
--- ---- a piece
-
--- a chunk was answered, and is handed on
-pub served-taken : {R : Type 0} (rem : R → Option (List ℕ)) (chunks chunks2 : Chunks R) (text chunk : List ℕ) (account account2 : ℕ → Account)
-    (run run2 : Served) (now now2 : Option (List ℕ)) (all : Account) (old : Option (List ℕ)) (input : List ℕ) → text ≡ chunk
-    → TakesOff rem chunks chunks2 chunk → KeepsCome rem chunks chunks2
-    → OfEachPiece text account run now (λ all old records rest.
-    Stands all (account2 (run2.answered + 1)) old now2 run2.reply.sink run2.answered records rest)
-    → HasServed rem chunks all (account (run.answered + 1)) old now run.reply.sink run.answered input
-    → HasServed rem chunks2 all (account2 (run2.answered + 1)) old now2 run2.reply.sink run2.answered input
-served-taken rem chunks chunks2 text chunk account account2 run run2 now now2 all old input is off came each h =
-    let (rest, split, pending) = off h.later h.pending in
-    record {
-      later = rest;
-      stands = each all old (input_records input) rest
-          (subst (λ rows. Stands all (account (run.answered + 1)) old now run.reply.sink run.answered (input_records input) rows)
-          (split ∙ ap (λ t. input_records t ++ rest) (sym is)) h.stands);
-      pending = pending;
-      come = came input h.come;
-    }
-
--- what is held is the rest
-pub served-last : {R : Type 0} (rem : R → Option (List ℕ)) (chunks : Chunks R) (text : List ℕ) (all more : Account) (old now : Option (List ℕ))
-    (sink : List ℕ) (answered : ℕ) (input : List ℕ) → IsLast rem chunks → text ≡ held_text chunks
-    → HasServed rem chunks all more old now sink answered input
-    → Stands all more old now sink answered (input_records input) (input_records text ++ [])
-served-last rem chunks text all more old now sink answered input last is h =
-    subst (λ rows. Stands all more old now sink answered (input_records input) rows)
-    (last h.later h.pending ∙ ap input_records (sym is) ∙ sym (append-nil (input_records text))) h.stands
-
--- of every run that has the records of a chunk to come next that holds
-pub chunk-each : {R : Type 0} (rem : R → Option (List ℕ)) (chunks : Chunks R) (many : ℕ) (text : List ℕ) (account : ℕ → Account) (run : Served)
-    (now : Option (List ℕ)) (holds : Account → Option (List ℕ) → List (List (List ℕ)) → Type 0) → IsChunk many (held_text chunks)
-    → text ≡ take many (held_text chunks) → OfEachPiece text account run now (λ all old records rest. holds all old records)
-    → OfEachServed rem chunks account run now (λ all old input. holds all old (input_records input))
-chunk-each rem chunks many text account run now holds chunk is each all old input h =
-    let (rest, split) = pending-front rem chunks many h.later chunk h.pending in
-    each all old (input_records input) rest
-    (subst (λ rows. Stands all (account (run.answered + 1)) old now run.reply.sink run.answered (input_records input) rows)
-    (split ∙ ap (λ t. input_records t ++ rest) (sym is)) h.stands)
-
--- and of every run that has the rest to come
-pub last-each : {R : Type 0} (rem : R → Option (List ℕ)) (chunks : Chunks R) (text : List ℕ) (account : ℕ → Account) (run : Served)
-    (now : Option (List ℕ)) (holds : Account → Option (List ℕ) → List (List (List ℕ)) → Type 0) → IsLast rem chunks → text ≡ held_text chunks
-    → OfEachPiece text account run now (λ all old records rest. holds all old records)
-    → OfEachServed rem chunks account run now (λ all old input. holds all old (input_records input))
-last-each rem chunks text account run now holds last is each all old input h =
-    each all old (input_records input) [] (served-last rem chunks text all (account (run.answered + 1)) old now run.reply.sink run.answered input last is h)
-
--- ---- what was found
 
 -- what follows in each case
 pub match_so : {A : Type 0} {P P2 : Type 0} {Q Q2 : A → Type 0} (o : Option A) → (P → P2) → ((x : A) → Q x → Q2 x) → MatchOption o P Q
@@ -186,36 +27,191 @@ pub match_so : {A : Type 0} {P P2 : Type 0} {Q Q2 : A → Type 0} (o : Option A)
 match_so None f g h = f h
 match_so (Some x) f g h = g x h
 
--- ---- a run from its beginning
+module _ {S : Type 0} (account : S → ℕ → Account) (leads : S → ℕ → List (List (List ℕ)) → S → Type 0) where
+  -- what was held back is answered, and all that waited was written out
+  settled : (first s s2 : S) (old now now2 : Option (List ℕ)) (sink sink2 : List ℕ) (answered : ℕ) (records later : List (List (List ℕ)))
+      → Settles account leads s s2 sink sink2 now now2 → Stands account leads first s old now sink answered records later
+      → Stands account leads first s2 old now2 sink2 answered records later
+  settled first s s2 old now now2 sink sink2 answered records later settles h =
+      subst (λ t. Stands account leads first s2 old now2 t answered records later) (sym settles.empty)
+      (stands-drained account leads first s s2 old now now2 sink answered records later (settles.drained (answered + 1)) settles.alike h)
 
--- nothing was answered yet
-pub served-starts : {R : Type 0} (rem : R → Option (List ℕ)) (chunks : Chunks R) (account : ℕ → Account) (run : Served) (old : Option (List ℕ)) (input : List ℕ)
-    → run.reply.sink ≡ [] → run.answered ≡ 0 → HasAll rem chunks input
-    → HasServed rem chunks (account 1) (account (run.answered + 1)) old old run.reply.sink run.answered input
-served-starts rem chunks account run old input empty none (pending, come) = record {
-  later = input_records input;
-  stands = stands-starts (account 1) (account (run.answered + 1)) old run.reply.sink run.answered (input_records input) empty none
-      (ap account (omega (arith, none)));
-  pending = pending;
-  come = come;
-}
+  -- ---- a reader of a piece
 
--- a run that has answered nothing so far ends so
-pub ends_whole : {R : Type 0} (rem : R → Option (List ℕ)) (chunks chunks2 : Chunks R) (account account2 : ℕ → Account) (run run2 : Served) (limit : ℕ)
-    (input : List ℕ) (old now : Option (List ℕ)) (result : Result Count RunFault) → HasAll rem chunks input → run.reply.sink ≡ [] → run.answered ≡ 0
-    → Stops limit rem chunks account run old chunks2 account2 run2 now
-    (λ count. OfEachServed rem chunks account run old (λ all old input. IsDone all limit old now (input_records input) count.records)) result
-    → EndsWhole rem chunks2 (account 1) account2 limit old now input result
-ends_whole rem chunks chunks2 account account2 run run2 limit input old now (Ok count) all empty none ends =
-    ends (account 1) old input (served-starts rem chunks account run old input empty none all)
-ends_whole rem chunks chunks2 account account2 run run2 limit input old now (Err fault.TooLong) all empty none ends =
-    ends (account 1) old input (served-starts rem chunks account run old input empty none all)
-ends_whole rem chunks chunks2 account account2 run run2 limit input old now (Err fault.Read) all empty none ends =
-    let whole = ends (account 1) old input (served-starts rem chunks account run old input empty none all) in (run2.answered, whole.0, whole.1)
-ends_whole rem chunks chunks2 account account2 run run2 limit input old now (Err fault.Memory) all empty none ends =
-    ends (account 1) old input (served-starts rem chunks account run old input empty none all)
-ends_whole rem chunks chunks2 account account2 run run2 limit input old now (Err fault.Write) all empty none ends =
-    ends (account 1) old input (served-starts rem chunks account run old input empty none all)
+  -- there is another record
+  pub yet-one : {R : Type 0} (rem : R → Option (List ℕ)) (piece piece2 : Records R) (first s : S) (old now : Option (List ℕ)) (sink : List ℕ)
+      (answered : ℕ) (records rest : List (List (List ℕ))) (fields : List (List ℕ)) → Advances rem piece piece2 true → fields ≡ fields_now piece2
+      → HasYet account leads rem piece first s old now sink answered records rest
+      → (left : List (List (List ℕ))) × Gives rem piece2 left × Stands account leads first s old now sink answered records (fields ∷ (left ++ rest))
+  yet-one rem piece piece2 first s old now sink answered records rest fields takes is h =
+      let (left, split, gives) = takes h.rows h.gives in (
+        left,
+        gives,
+        subst (λ f. Stands account leads first s old now sink answered records (f ∷ (left ++ rest))) (sym is)
+            (subst (λ rows. Stands account leads first s old now sink answered records (rows ++ rest)) split h.stands),
+      )
+
+  -- there is none
+  pub yet-none : {R : Type 0} (rem : R → Option (List ℕ)) (piece piece2 : Records R) (first s : S) (old now : Option (List ℕ)) (sink : List ℕ)
+      (answered : ℕ) (records rest : List (List (List ℕ))) → Advances rem piece piece2 false
+      → HasYet account leads rem piece first s old now sink answered records rest → Stands account leads first s old now sink answered records rest
+  yet-none rem piece piece2 first s old now sink answered records rest takes h =
+      subst (λ rows. Stands account leads first s old now sink answered records (rows ++ rest)) (takes h.rows h.gives) h.stands
+
+  -- nothing more was written
+  pub yet-prefix : {R : Type 0} (rem : R → Option (List ℕ)) (piece : Records R) (first s : S) (old now now2 : Option (List ℕ)) (sink : List ℕ)
+      (answered : ℕ) (records rest : List (List (List ℕ))) → now2 ≡ now → HasYet account leads rem piece first s old now sink answered records rest
+      → WrotePrefix ((account first 1).text AtEnd) old now2 records
+  yet-prefix rem piece first s old now now2 sink answered records rest same h =
+      stands-prefix account leads first s old now now2 sink answered records (h.rows ++ rest) same h.stands
+
+  -- there is another one, and as many as are taken were answered
+  pub yet-too_long : {R : Type 0} (rem : R → Option (List ℕ)) (piece piece2 : Records R) (first s s2 : S)
+      (old now now2 : Option (List ℕ)) (sink sink2 : List ℕ) (answered limit : ℕ) (records rest : List (List (List ℕ)))
+      → Advances rem piece piece2 true → answered ≡ limit → Settles account leads s s2 sink sink2 now now2
+      → ((number : ℕ) (fields : List (List ℕ)) (more : List (List (List ℕ))) → 0 < (account s2 number).read (fields ∷ more))
+      → ((number : ℕ) → leads s2 number [] s2)
+      → HasYet account leads rem piece first s old now sink answered records rest → AnswersFirst account leads limit first s2 old now2 records
+  yet-too_long rem piece piece2 first s s2 old now now2 sink sink2 answered limit records rest takes last settles some none h =
+      let (left, gives, one) = yet-one rem piece piece2 first s old now sink answered records rest (fields_now piece2) takes refl h in
+      let later = left ++ rest in
+      stands-too_long account leads first s2 old now2 sink2 answered limit records later (fields_now piece2) settles.empty
+      (settles.none (answered + 1)) (some (answered + 1) (fields_now piece2) later) (none (answered + 1)) last
+      (settled first s s2 old now now2 sink sink2 answered records (fields_now piece2 ∷ later) settles one)
+
+  -- ---- between pieces
+
+  -- everything that came was answered and written out, and the reader was asked for more
+  pub served-settled : {R : Type 0} (rem : R → Option (List ℕ)) (chunks chunks2 : Chunks R) (first s s2 : S)
+      (old now now2 : Option (List ℕ)) (sink sink2 : List ℕ) (answered : ℕ) (input : List ℕ) → Settles account leads s s2 sink sink2 now now2
+      → KeepsPending rem chunks chunks2 → KeepsCome rem chunks chunks2 → HasServed account leads rem chunks first s old now sink answered input
+      → HasServed account leads rem chunks2 first s2 old now2 sink2 answered input
+  served-settled rem chunks chunks2 first s s2 old now now2 sink sink2 answered input settles keeps came h = record {
+    later = h.later;
+    stands = settled first s s2 old now now2 sink sink2 answered (input_records input) h.later settles h.stands;
+    pending = keeps h.later h.pending;
+    come = came input h.come;
+  }
+
+  -- as many records were answered as came whole
+  served-count : {R : Type 0} (rem : R → Option (List ℕ)) (chunks : Chunks R) (first s : S) (old now : Option (List ℕ)) (sink : List ℕ)
+      (answered : ℕ) (input : List ℕ) → (h : HasServed account leads rem chunks first s old now sink answered input)
+      → answered ≡ length (input_records h.come.front)
+  served-count rem chunks first s old now sink answered input h =
+      let stands = h.stands in
+      let parts = ap length stands.parts ∙ length-append stands.done h.later in
+      let came = come-rest rem chunks input h.later h.pending h.come in
+      omega (arith, parts, came, stands.count)
+
+  -- the reader failed where everything that came was answered and written out
+  pub served-cut : {R : Type 0} (rem : R → Option (List ℕ)) (chunks chunks2 : Chunks R) (first s s2 : S)
+      (old now now2 : Option (List ℕ)) (sink sink2 : List ℕ) (answered : ℕ) (input : List ℕ) → Settles account leads s s2 sink sink2 now now2
+      → FailsShort rem chunks chunks2 → EndsNoRecord (held_text chunks) → ((number : ℕ) → leads s2 number [] s2)
+      → HasServed account leads rem chunks first s old now sink answered input
+      → AnswersJust account leads answered first s2 old now2 (input_records input) × CameWhole rem chunks2 input answered
+  served-cut rem chunks chunks2 first s s2 old now now2 sink sink2 answered input settles failed short none h =
+      let h2 = served-settled rem chunks chunks2 first s s2 old now now2 sink sink2 answered input settles failed.pending failed.come h in (
+        stands-cut account leads first s2 old now2 sink2 answered (input_records input) h2.later settles.empty (settles.none (answered + 1))
+            (none (answered + 1)) h2.stands,
+        record { come = h2.come; count = served-count rem chunks2 first s2 old now2 sink2 answered input h2; none = failed.none short },
+      )
+
+  -- nothing was written since
+  pub served-written : {R : Type 0} (rem : R → Option (List ℕ)) (chunks : Chunks R) (first s s2 : S)
+      (old now now2 : Option (List ℕ)) (sink sink2 : List ℕ) (answered : ℕ) (input : List ℕ) → Settles account leads s s2 sink sink2 now now2
+      → HasServed account leads rem chunks first s old now sink answered input
+      → WrotePrefix ((account first 1).text AtEnd) old now2 (input_records input)
+  served-written rem chunks first s s2 old now now2 sink sink2 answered input settles h =
+      stands-prefix account leads first s2 old now2 now2 sink2 answered (input_records input) h.later refl
+      (settled first s s2 old now now2 sink sink2 answered (input_records input) h.later settles h.stands)
+
+  -- nothing more was written
+  pub served-prefix : {R : Type 0} (rem : R → Option (List ℕ)) (chunks : Chunks R) (first s : S) (old now now2 : Option (List ℕ)) (sink : List ℕ)
+      (answered : ℕ) (input : List ℕ) → now2 ≡ now → HasServed account leads rem chunks first s old now sink answered input
+      → WrotePrefix ((account first 1).text AtEnd) old now2 (input_records input)
+  served-prefix rem chunks first s old now now2 sink answered input same h =
+      stands-prefix account leads first s old now now2 sink answered (input_records input) h.later same h.stands
+
+  -- what waited was written in part
+  pub served-front : {R : Type 0} (rem : R → Option (List ℕ)) (chunks : Chunks R) (first s : S) (old now now2 : Option (List ℕ))
+      (sink : List ℕ) (answered : ℕ) (input : List ℕ) → WritesFrontOf (account s) sink now now2
+      → HasServed account leads rem chunks first s old now sink answered input
+      → WrotePrefix ((account first 1).text AtEnd) old now2 (input_records input)
+  served-front rem chunks first s old now now2 sink answered input front h =
+      stands-front account leads first s old now now2 sink answered (input_records input) h.later (front (answered + 1) h.later) h.stands
+
+  -- ---- a piece
+
+  -- a chunk was answered, and is handed on
+  pub served-taken : {R : Type 0} (rem : R → Option (List ℕ)) (chunks chunks2 : Chunks R) (text chunk : List ℕ) (s s2 : S)
+      (run run2 : Served) (now now2 : Option (List ℕ)) (first : S) (old : Option (List ℕ)) (input : List ℕ) → text ≡ chunk
+      → TakesOff rem chunks chunks2 chunk → KeepsCome rem chunks chunks2
+      → OfEachPiece account leads text s run now (λ first old records rest.
+      Stands account leads first s2 old now2 run2.reply.sink run2.answered records rest)
+      → HasServed account leads rem chunks first s old now run.reply.sink run.answered input
+      → HasServed account leads rem chunks2 first s2 old now2 run2.reply.sink run2.answered input
+  served-taken rem chunks chunks2 text chunk s s2 run run2 now now2 first old input is off came each h =
+      let (rest, split, pending) = off h.later h.pending in
+      record {
+        later = rest;
+        stands = each first old (input_records input) rest
+            (subst (λ rows. Stands account leads first s old now run.reply.sink run.answered (input_records input) rows)
+            (split ∙ ap (λ t. input_records t ++ rest) (sym is)) h.stands);
+        pending = pending;
+        come = came input h.come;
+      }
+
+  -- what is held is the rest
+  pub served-last : {R : Type 0} (rem : R → Option (List ℕ)) (chunks : Chunks R) (text : List ℕ) (first s : S) (old now : Option (List ℕ))
+      (sink : List ℕ) (answered : ℕ) (input : List ℕ) → IsLast rem chunks → text ≡ held_text chunks
+      → HasServed account leads rem chunks first s old now sink answered input
+      → Stands account leads first s old now sink answered (input_records input) (input_records text ++ [])
+  served-last rem chunks text first s old now sink answered input last is h =
+      subst (λ rows. Stands account leads first s old now sink answered (input_records input) rows)
+      (last h.later h.pending ∙ ap input_records (sym is) ∙ sym (append-nil (input_records text))) h.stands
+
+  -- of every run that has the records of a chunk to come next that holds
+  pub chunk-each : {R : Type 0} (rem : R → Option (List ℕ)) (chunks : Chunks R) (many : ℕ) (text : List ℕ) (s : S) (run : Served)
+      (now : Option (List ℕ)) (holds : S → Option (List ℕ) → List (List (List ℕ)) → Type 0) → IsChunk many (held_text chunks)
+      → text ≡ take many (held_text chunks) → OfEachPiece account leads text s run now (λ first old records rest. holds first old records)
+      → OfEachServed account leads rem chunks s run now (λ first old input. holds first old (input_records input))
+  chunk-each rem chunks many text s run now holds chunk is each first old input h =
+      let (rest, split) = pending-front rem chunks many h.later chunk h.pending in
+      each first old (input_records input) rest
+      (subst (λ rows. Stands account leads first s old now run.reply.sink run.answered (input_records input) rows)
+      (split ∙ ap (λ t. input_records t ++ rest) (sym is)) h.stands)
+
+  -- and of every run that has the rest to come
+  pub last-each : {R : Type 0} (rem : R → Option (List ℕ)) (chunks : Chunks R) (text : List ℕ) (s : S) (run : Served)
+      (now : Option (List ℕ)) (holds : S → Option (List ℕ) → List (List (List ℕ)) → Type 0) → IsLast rem chunks → text ≡ held_text chunks
+      → OfEachPiece account leads text s run now (λ first old records rest. holds first old records)
+      → OfEachServed account leads rem chunks s run now (λ first old input. holds first old (input_records input))
+  last-each rem chunks text s run now holds last is each first old input h =
+      each first old (input_records input) []
+      (served-last rem chunks text first s old now run.reply.sink run.answered input last is h)
+
+  -- ---- a run from its beginning
+
+  -- a run that has answered nothing so far ends so
+  pub ends_led : {R : Type 0} (rem : R → Option (List ℕ)) (chunks chunks2 : Chunks R) (s s2 : S) (run run2 : Served) (limit : ℕ)
+      (input : List ℕ) (old now : Option (List ℕ)) (result : Result Count RunFault) → HasAll rem chunks input → run.reply.sink ≡ [] → run.answered ≡ 0
+      → Finishes account leads limit rem chunks s run old chunks2 s2 run2 now result → EndsLed account leads rem chunks2 limit s s2 old now input result
+  ends_led rem chunks chunks2 s s2 run run2 limit input old now result (pending, come) empty none ends =
+      let starts : HasServed account leads rem chunks s s old old run.reply.sink run.answered input = record {
+        later = input_records input;
+        stands = stands-starts account leads s old run.reply.sink run.answered (input_records input) empty none;
+        pending = pending;
+        come = come;
+      } in
+      ends_so result (λ count all. all s old input starts) (λ long. long s old input starts)
+      (λ whole. let h = whole s old input starts in (run2.answered, h.0, h.1)) (λ prefix. prefix s old input starts) ends
+
+  -- what it says of the text
+  pub led_whole : {R : Type 0} (rem : R → Option (List ℕ)) (chunks : Chunks R) (limit : ℕ) (s s2 : S) (old now : Option (List ℕ)) (input : List ℕ)
+      (result : Result Count RunFault) → EndsLed account leads rem chunks limit s s2 old now input result
+      → EndsWhole rem chunks (account s 1) (account s2) limit old now input result
+  led_whole rem chunks limit s s2 old now input result ends =
+      ends_so result (λ count all. all.0) (λ long. long.0) (λ (k, just, came). (k, just.0, came)) (λ prefix. prefix) ends
 
 -- in fewer words
 pub whole_run : {R : Type 0} (rem : R → Option (List ℕ)) (chunks : Chunks R) (all : Account) (left : ℕ → Account) (limit : ℕ) (input : List ℕ)

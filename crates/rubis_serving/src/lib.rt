@@ -5,5 +5,5 @@
 mod pieces;
 mod run;
 
-pub use pieces::{BLOCK, Served, end, next_piece, settle};
-pub use run::run_service;
+pub use pieces::{BLOCK, Served};
+pub use run::{run_service, turn};

@@ -2,12 +2,13 @@
 
 ghost use Rattle.std.specs.Prelude.{◌≡◌, ⊤, []};
 ghost use Rattle.rubis_engine.specs.Accounts.Ending.{AtEnd};
-ghost use Rattle.rubis_engine.specs.Progress.{IsDone, WritesFrontOf, WrotePrefix};
+ghost use Rattle.rubis_engine.specs.Progress.{WritesFrontOf, WrotePrefix};
 ghost use Rattle.rubis_engine.specs.Text.{input_records};
 ghost use Rattle.rubis_reading.specs.Chunked.{FailsShort, KeepsCome, KeepsPending, held_text};
 ghost use Rattle.rubis_reading.specs.Streams.{EndsNoRecord};
 ghost use Rattle.rubis_engine.specs.Endings.{ByEnd};
 ghost use Rattle.rubis_serving.specs.Serving.{AnswersWhole, IsAtHand, MovesOn, OfEachLast, OfEachServed, Settles};
+ghost use Rattle.rubis_serving.specs.Whole.{AnswersAll};
 
 use rubis_engine::{Count, Reply, RunFault, Service, Sink};
 use rubis_reading::{ChunkFault, Chunks};
@@ -46,18 +47,16 @@ impl Served {
 /// # Errors
 ///
 /// `Write` where the writer failed, and `Memory` if memory ran out: a prefix of the text was written then.
-pub fn settle<T, S: Service<T>, W: Write>(
-    rt: &T,
+pub(crate) fn settle<S: Service, W: Write>(
     service: &mut S,
     sink: &mut Sink,
     writer: &mut W,
 ) -> Result<(), RunFault>
     ensures { ByEnd result
-        (λ _. Settles (S.account service.old) (S.account service.new) sink.old sink.new (W.contents writer.old) (W.contents writer.new)
-        × S.stays service.old service.new)
+        (λ _. Settles S.account S.leads service.old service.new sink.old sink.new (W.contents writer.old) (W.contents writer.new))
         ⊥ ⊥ (WritesFrontOf (S.account service.old) sink.old (W.contents writer.old) (W.contents writer.new)) }
 {
-    service.answer_held(rt, sink)?;
+    service.answer_held(sink)?;
     sink.close(writer)
 }
 
@@ -91,29 +90,27 @@ fn fill_whole<R: Read>(chunks: &mut Chunks<R>) -> Result<Option<usize>, RunFault
 ///
 /// `Read` if the reader failed: the records that came whole are answered then. `Write` where the writer failed, and `Memory` if memory
 /// ran out: a prefix of the text was written then.
-pub fn next_piece<T, S: Service<T>, R: Read, W: Write>(
-    rt: &T,
+pub(crate) fn next_piece<S: Service, R: Read, W: Write>(
     chunks: &mut Chunks<R>,
     service: &mut S,
     run: &mut Served,
     writer: &mut W,
 ) -> Result<Option<usize>, RunFault>
     ensures { ByEnd result
-        (λ piece. MovesOn R.remaining chunks.old (S.account service.old) run.old (W.contents writer.old)
-        chunks.new (S.account service.new) run.new (W.contents writer.new)
-        × (run.new.answered ≡ run.old.answered) × IsAtHand R.remaining chunks.new piece × S.stays service.old service.new)
+        (λ piece. MovesOn S.account S.leads R.remaining chunks.old service.old run.old (W.contents writer.old)
+        chunks.new service.new run.new (W.contents writer.new)
+        × (run.new.answered ≡ run.old.answered) × IsAtHand R.remaining chunks.new piece)
         ⊥
-        (AnswersWhole R.remaining chunks.old (S.account service.old) run.old (W.contents writer.old)
-        chunks.new (S.account service.new) run.new (W.contents writer.new)
-        × (run.new.answered ≡ run.old.answered) × S.stays service.old service.new)
-        (OfEachServed R.remaining chunks.old (S.account service.old) run.old (W.contents writer.old) (λ all old input.
-        WrotePrefix (all.text AtEnd) old (W.contents writer.new) (input_records input))) }
+        (AnswersWhole S.account S.leads R.remaining chunks.old service.old run.old (W.contents writer.old)
+        chunks.new service.new run.new (W.contents writer.new))
+        (OfEachServed S.account S.leads R.remaining chunks.old service.old run.old (W.contents writer.old) (λ first old input.
+        WrotePrefix ((S.account first 1).text AtEnd) old (W.contents writer.new) (input_records input))) }
 {
     let many = chunks.whole(chunks.held().len());
     if many > 1 {
         return Ok(Some(many));
     }
-    settle(rt, service, &mut run.reply.sink, writer)?;
+    settle(service, &mut run.reply.sink, writer)?;
     fill_whole(chunks)
 }
 
@@ -122,20 +119,19 @@ pub fn next_piece<T, S: Service<T>, R: Read, W: Write>(
 /// # Errors
 ///
 /// `Write` where the writer failed, and `Memory` if memory ran out: a prefix of the text was written then.
-pub fn end<T, S: Service<T>, W: Write>(
-    rt: &T,
+pub(crate) fn end<S: Service, W: Write>(
     service: &mut S,
     run: &mut Served,
     writer: &mut W,
 ) -> Result<Count, RunFault>
     ensures { ByEnd result
-        (λ count. OfEachLast (S.account service.old) run.old (W.contents writer.old) (λ all old records.
-        IsDone all run.old.answered old (W.contents writer.new) records count.records) × S.stays service.old service.new)
+        (λ count. OfEachLast S.account S.leads service.old run.old (W.contents writer.old) (λ first old records.
+        AnswersAll S.account S.leads run.old.answered first service.new old (W.contents writer.new) records count.records))
         ⊥ ⊥
-        (OfEachLast (S.account service.old) run.old (W.contents writer.old) (λ all old records.
-        WrotePrefix (all.text AtEnd) old (W.contents writer.new) records)) }
+        (OfEachLast S.account S.leads service.old run.old (W.contents writer.old) (λ first old records.
+        WrotePrefix ((S.account first 1).text AtEnd) old (W.contents writer.new) records)) }
 {
-    service.answer_end(rt, &mut run.reply.sink)?;
+    service.answer_end(&mut run.reply.sink)?;
     run.reply.sink.close(writer)?;
     Ok(Count {
         records: run.answered,

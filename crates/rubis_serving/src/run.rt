@@ -1,18 +1,15 @@
 //! A run of a service over the chunks of a text.
 
-ghost use Rattle.std.specs.Prelude.{◌≡◌, ◌≤◌, ◌<◌, ◌+◌, ◌^◌, ℕ, List, MatchOption};
-ghost use Rattle.rubis_engine.specs.Accounts.Ending.{AtEnd};
-ghost use Rattle.rubis_engine.specs.Progress.{IsDone, WrotePrefix};
+ghost use Rattle.std.specs.Prelude.{◌≡◌, ◌≤◌, ◌<◌, ◌+◌, ◌^◌, ℕ, List};
 ghost use Rattle.rubis_engine.specs.Reading.{Gives};
-ghost use Rattle.rubis_engine.specs.Text.{input_records};
-ghost use Rattle.rubis_reading.specs.Chunked.{IsLast};
-ghost use Rattle.rubis_engine.specs.Endings.{ByEnd};
-ghost use Rattle.rubis_serving.specs.Serving.{GoesOnOrEnds, OfEachNext, OfEachPiece, OfEachServed, OfEachYet, PieceEnds, Stands, Stops};
+ghost use Rattle.rubis_reading.specs.Chunked.{HasAll, IsLast};
+ghost use Rattle.rubis_serving.specs.Serving.{AnswersEach, Finishes, OfEachNext, OfEachPiece, OfEachYet, PieceEnds, RecordEnds, Turns};
 ghost use Rattle.rubis_serving.specs.Whole.{EndsWhole};
-ghost use Rattle.rubis_reading.specs.Chunked.{HasAll};
 
 use crate::pieces::{Served, end, next_piece, settle};
-use rubis_engine::{Answering, Count, Course, InputRecord, Records, RunFault};
+use rubis_engine::{
+    Answering, Count, Course, InputRecord, OutOfMemory, Records, Reply, RunFault, Service,
+};
 use rubis_reading::Chunks;
 use std::alloc::Global;
 use std::io::{Read, Write};
@@ -24,27 +21,24 @@ const PAST_ALL_PIECES: RunFault = RunFault::Memory;
 
 // Answers a record. `None` if the run goes on, otherwise how many records were read.
 #[inline(always)]
-fn answer_record<T, S: Answering<T>, W: Write>(
-    rt: &T,
+fn answer_record<
+    S: Service,
+    W: Write,
+    F: Fn(&mut S, &InputRecord, &mut Reply) -> Result<Course, OutOfMemory>,
+>(
     fields: &InputRecord,
     service: &mut S,
     run: &mut Served,
     writer: &mut W,
+    answer: &F,
 ) -> Result<Option<Count>, RunFault>
-    requires { run.old.answered + 1 < 2 ^ 64 }
-    ensures { ByEnd result
-        (λ over. MatchOption over
-        ((run.new.answered ≡ run.old.answered + 1)
-        × OfEachNext fields.now (S.account service.old) run.old (W.contents writer.old) (λ all old records later.
-        Stands all (S.account service.new (run.new.answered + 1)) old (W.contents writer.new) run.new.reply.sink run.new.answered records later))
-        (λ count. OfEachNext fields.now (S.account service.old) run.old (W.contents writer.old) (λ all old records later.
-        IsDone all (run.old.answered + 1) old (W.contents writer.new) records count.records)))
-        ⊥ ⊥
-        (OfEachNext fields.now (S.account service.old) run.old (W.contents writer.old) (λ all old records later.
-        WrotePrefix (all.text AtEnd) old (W.contents writer.new) records)) }
+    requires room { run.old.answered + 1 < 2 ^ 64 }
+    requires answers { AnswersEach S.account S.leads F.Fn answer.now }
+    ensures { RecordEnds S.account S.leads (run.old.answered + 1) service.new run.new
+        (OfEachNext S.account S.leads fields.now service.old run.old (W.contents writer.old)) (W.contents writer.new) result }
 {
     run.reply.number = run.answered + 1;
-    let course = service.answer(rt, fields, &mut run.reply)?;
+    let course = answer(service, fields, &mut run.reply)?;
     run.answered += 1;
     match course {
         Course::Ends => {
@@ -62,18 +56,24 @@ fn answer_record<T, S: Answering<T>, W: Write>(
 
 // Answers the records of a piece of text until one ends the run, unless that makes more than `limit` of them: the first `limit` are
 // answered then. `None` if the run goes on, otherwise how many records were read.
-fn answer_records<T, S: Answering<T>, R: Read, W: Write>(
-    rt: &T,
+fn answer_records<
+    S: Service,
+    R: Read,
+    W: Write,
+    F: Fn(&mut S, &InputRecord, &mut Reply) -> Result<Course, OutOfMemory>,
+>(
     piece: &mut Records<R>,
     service: &mut S,
     run: &mut Served,
     writer: &mut W,
     limit: u64,
+    answer: &F,
 ) -> Result<Option<Count>, RunFault>
     requires within { run.old.answered ≤ limit }
     requires known { (rows : List (List (List ℕ))) × Gives R.remaining piece.old rows }
-    ensures { PieceEnds limit (S.account service.new) run.new (OfEachYet R.remaining piece.old (S.account service.old) run.old (W.contents writer.old))
-        (W.contents writer.new) result }
+    requires answers { AnswersEach S.account S.leads F.Fn answer.now }
+    ensures { PieceEnds S.account S.leads limit service.new run.new
+        (OfEachYet S.account S.leads R.remaining piece.old service.old run.old (W.contents writer.old)) (W.contents writer.new) result }
 {
     'records: loop {
         let Ok(found) = piece.advance() else {
@@ -83,10 +83,10 @@ fn answer_records<T, S: Answering<T>, R: Read, W: Write>(
             return Ok(None);
         }
         if run.answered >= limit {
-            settle(rt, service, &mut run.reply.sink, writer)?;
+            settle(service, &mut run.reply.sink, writer)?;
             return Err(RunFault::TooLong);
         }
-        if let Some(count) = answer_record(rt, piece.fields(), service, run, writer)? {
+        if let Some(count) = answer_record(piece.fields(), service, run, writer, answer)? {
             return Ok(Some(count));
         }
     }
@@ -94,72 +94,92 @@ fn answer_records<T, S: Answering<T>, R: Read, W: Write>(
 
 // The same of the records of a text.
 #[inline(never)]
-fn answer_piece<T, S: Answering<T>, W: Write>(
-    rt: &T,
+fn answer_piece<
+    S: Service,
+    W: Write,
+    F: Fn(&mut S, &InputRecord, &mut Reply) -> Result<Course, OutOfMemory>,
+>(
     text: &[u8],
     service: &mut S,
     run: &mut Served,
     writer: &mut W,
     limit: u64,
+    answer: &F,
 ) -> Result<Option<Count>, RunFault>
-    requires { run.old.answered ≤ limit }
-    ensures { PieceEnds limit (S.account service.new) run.new (OfEachPiece text.now (S.account service.old) run.old (W.contents writer.old))
-        (W.contents writer.new) result }
+    requires within { run.old.answered ≤ limit }
+    requires answers { AnswersEach S.account S.leads F.Fn answer.now }
+    ensures { PieceEnds S.account S.leads limit service.new run.new
+        (OfEachPiece S.account S.leads text.now service.old run.old (W.contents writer.old)) (W.contents writer.new) result }
 {
     let mut piece = Records::new(run.alloc, text);
-    answer_records(rt, &mut piece, service, run, writer, limit)
+    answer_records(&mut piece, service, run, writer, limit, answer)
 }
 
 // Answers what is held, which is the rest of the text, and ends the run.
-fn finish<T, S: Answering<T>, R: Read, W: Write>(
-    rt: &T,
+fn finish<
+    S: Service,
+    R: Read,
+    W: Write,
+    F: Fn(&mut S, &InputRecord, &mut Reply) -> Result<Course, OutOfMemory>,
+>(
     chunks: &Chunks<R>,
     service: &mut S,
     run: &mut Served,
     writer: &mut W,
     limit: u64,
+    answer: &F,
 ) -> Result<Count, RunFault>
     requires within { run.old.answered ≤ limit }
     requires last { IsLast R.remaining chunks.now }
-    ensures { Stops limit R.remaining chunks.now (S.account service.old) run.old (W.contents writer.old)
-        chunks.now (S.account service.new) run.new (W.contents writer.new)
-        (λ count. OfEachServed R.remaining chunks.now (S.account service.old) run.old (W.contents writer.old) (λ all old input.
-        IsDone all limit old (W.contents writer.new) (input_records input) count.records)) result }
+    requires answers { AnswersEach S.account S.leads F.Fn answer.now }
+    ensures { Finishes S.account S.leads limit R.remaining chunks.now service.old run.old (W.contents writer.old)
+        chunks.now service.new run.new (W.contents writer.new) result }
 {
-    if let Some(count) = answer_piece(rt, chunks.held(), service, run, writer, limit)? {
+    if let Some(count) = answer_piece(chunks.held(), service, run, writer, limit, answer)? {
         return Ok(count);
     }
-    end(rt, service, run, writer)
+    end(service, run, writer)
 }
 
-// Answers the next piece of the text. `None` if the run goes on, otherwise how many records were read.
-fn turn<T, S: Answering<T>, R: Read, W: Write>(
-    rt: &T,
+/// Answers the next piece of a text, each record by a call of `answer`: the whole records that came, or at the end of the text the rest,
+/// with the service's last answers. `None` if the run goes on, otherwise how many records were read. Where no whole record is at hand, the
+/// answers are written out before the reader is asked for more. A run answers at most `limit` records.
+///
+/// # Errors
+///
+/// `Read` if the reader failed: the records that came whole are answered then, as if there were no more. `Write` if the writer failed,
+/// and `Memory` if memory ran out: what was written is a prefix of the whole text. `TooLong` if the text has more than `limit` records
+/// and none of the first `limit` ends the run: these are answered then.
+pub fn turn<
+    S: Service,
+    R: Read,
+    W: Write,
+    F: Fn(&mut S, &InputRecord, &mut Reply) -> Result<Course, OutOfMemory>,
+>(
     chunks: &mut Chunks<R>,
     service: &mut S,
     run: &mut Served,
     writer: &mut W,
     limit: u64,
+    answer: &F,
 ) -> Result<Option<Count>, RunFault>
-    requires { run.old.answered ≤ limit }
-    ensures { Stops limit R.remaining chunks.old (S.account service.old) run.old (W.contents writer.old)
-        chunks.new (S.account service.new) run.new (W.contents writer.new)
-        (λ over. GoesOnOrEnds limit R.remaining chunks.old (S.account service.old) run.old (W.contents writer.old)
-        chunks.new (S.account service.new) run.new (W.contents writer.new) over) result }
+    requires within { run.old.answered ≤ limit }
+    requires answers { AnswersEach S.account S.leads F.Fn answer.now }
+    ensures { Turns S.account S.leads limit R.remaining chunks.old service.old run.old (W.contents writer.old)
+        chunks.new service.new run.new (W.contents writer.new) result }
 {
-    let Some(many) = next_piece(rt, chunks, service, run, writer)? else {
-        let count = finish(rt, chunks, service, run, writer, limit)?;
+    let Some(many) = next_piece(chunks, service, run, writer)? else {
+        let count = finish(chunks, service, run, writer, limit, answer)?;
         return Ok(Some(count));
     };
     let (text, _) = chunks.held().split_at(many);
-    let over = answer_piece(rt, text, service, run, writer, limit)?;
+    let over = answer_piece(text, service, run, writer, limit, answer)?;
     chunks.pass(many);
     Ok(over)
 }
 
 // Answers records until there are no more or one ends the run, or up to `limit` of them.
-fn serve<T, S: Answering<T>, R: Read, W: Write>(
-    rt: &T,
+fn serve<S: Answering, R: Read, W: Write>(
     chunks: &mut Chunks<R>,
     service: &mut S,
     run: &mut Served,
@@ -167,13 +187,11 @@ fn serve<T, S: Answering<T>, R: Read, W: Write>(
     limit: u64,
 ) -> Result<Count, RunFault>
     requires { run.old.answered ≤ limit }
-    ensures { Stops limit R.remaining chunks.old (S.account service.old) run.old (W.contents writer.old)
-        chunks.new (S.account service.new) run.new (W.contents writer.new)
-        (λ count. OfEachServed R.remaining chunks.old (S.account service.old) run.old (W.contents writer.old) (λ all old input.
-        IsDone all limit old (W.contents writer.new) (input_records input) count.records)) result }
+    ensures { Finishes S.account S.leads limit R.remaining chunks.old service.old run.old (W.contents writer.old)
+        chunks.new service.new run.new (W.contents writer.new) result }
 {
     'pieces: for _ in 0..u64::MAX {
-        if let Some(count) = turn(rt, chunks, service, run, writer, limit)? {
+        if let Some(count) = turn(chunks, service, run, writer, limit, &S::answer)? {
             return Ok(count);
         }
     }
@@ -190,8 +208,7 @@ fn serve<T, S: Answering<T>, R: Read, W: Write>(
 /// `Read` if the reader failed: the records that came whole are answered then, as if there were no more. `Write` if the writer failed,
 /// and `Memory` if memory ran out, or once 2^64 pieces of the text were taken: what was written is a prefix of the whole text. `TooLong`
 /// if the text has more than `limit` records and none of the first `limit` ends the run: these are answered then.
-pub fn run_service<T, S: Answering<T>, R: Read, W: Write>(
-    rt: &T,
+pub fn run_service<S: Answering, R: Read, W: Write>(
     alloc: Global,
     chunks: &mut Chunks<R>,
     writer: &mut W,
@@ -202,5 +219,5 @@ pub fn run_service<T, S: Answering<T>, R: Read, W: Write>(
         limit (W.contents writer.old) (W.contents writer.new) input result }
 {
     let mut run = Served::new(alloc);
-    serve(rt, chunks, service, &mut run, writer, limit)
+    serve(chunks, service, &mut run, writer, limit)
 }

@@ -32,33 +32,32 @@ impl Echo {
     }
 }
 
-impl<T> Service<T> for Echo {
+impl Service for Echo {
     ghost account = { λ s n. record {
       text = λ ending records. rows_text (map (λ fields. codes "got" ∷ fields) (option_to_list s.last ++ records));
       read = λ records. length records;
     } };
 
-    ghost stays = { λ old new. ⊤ };
-
-    ghost stays_same = { λ s. tt };
+    ghost leads = { λ old n records new. ⊤ };
 
     ghost reads_none = { λ s n. refl };
 
     ghost reads_next = { Prim.search rules };
 
-    fn answer_held(&mut self, _rt: &T, sink: &mut Sink) -> Result<(), OutOfMemory> {
+    ghost leads_none = { λ s n. tt };
+
+    fn answer_held(&mut self, sink: &mut Sink) -> Result<(), OutOfMemory> {
         self.write_last(sink)
     }
 
-    fn answer_end(&mut self, _rt: &T, sink: &mut Sink) -> Result<(), OutOfMemory> {
+    fn answer_end(&mut self, sink: &mut Sink) -> Result<(), OutOfMemory> {
         self.write_last(sink)
     }
 }
 
-impl<T> Answering<T> for Echo {
+impl Answering for Echo {
     fn answer(
         &mut self,
-        _rt: &T,
         fields: &InputRecord,
         reply: &mut Reply,
     ) -> Result<Course, OutOfMemory> {

@@ -24,7 +24,7 @@ fn echo<R: Read + Drop, W: Write>(
 ) -> Result<Count, RunFault> {
     let mut chunks = Chunks::new(alloc, reader, AT_ONCE);
     let mut service = Echo::new(alloc);
-    run_service(&(), alloc, &mut chunks, writer, &mut service, limit)
+    run_service(alloc, &mut chunks, writer, &mut service, limit)
 }
 
 #[test]

@@ -75,7 +75,7 @@ fn answers_before_it_asks_for_more(rt: HostRuntime) {
         };
         let mut chunks = Chunks::new(rt.alloc(), reader, 16);
         let mut service = Echo::new(rt.alloc());
-        let end = run_service(&(), rt.alloc(), &mut chunks, &mut writer, &mut service, 9);
+        let end = run_service(rt.alloc(), &mut chunks, &mut writer, &mut service, 9);
         assert!(rt; end == Ok(Count { records: 3 }));
         assert!(rt; !late.get());
     }

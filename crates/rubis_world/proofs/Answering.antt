@@ -1,21 +1,24 @@
 -- What several sites answer to a record, and then to those after it.
-use Rattle.std.proofs.Common.{◌≡◌, ◌+◌, ◌++◌, ◌∷◌, ℕ, List, length, refl, ap, ◌∙◌, sym}
+use Rattle.std.proofs.Common.{◌≡◌, ◌+◌, ◌++◌, ◌∷◌, ℕ, List, arith, length, refl, ap, ◌∙◌, sym}
 use Rattle.std.specs.Prelude.{Ok, Err, []}
 use Rattle.rubis_schema.specs.declared.refusals.Refusal.{Refusal}
 use Rattle.rubis_schema.specs.declared.refusals.Refusal.TheVariants as refusal
 use Rattle.rubis_message.specs.WorldReadings.{world_input}
 use Rattle.rubis_message.specs.declared.answers.Happened.{Happened}
 use Rattle.rubis_message.specs.declared.tokens.Packet.{Packet}
+use Rattle.rubis_model.specs.RecordedRuns.{world_after}
 use Rattle.rubis_model.specs.System.{Event, World, happens}
 use Rattle.rubis_model.specs.WorldRecords.{event_rows, refusal_row, told_at, world_answers, world_step}
 use Rattle.rubis_laws.proofs.Runs.Refusing.{refusals_change_nothing}
 use Rattle.rubis_script.specs.Replica.fault_variants as fault
+use Rattle.rubis_engine.specs.Accounts.{AnswersRecord, LeadsOn}
 use Rattle.rubis_engine.specs.Text.{rows_text}
+use Rattle.rubis_engine.specs.declared.service.Course.TheVariants.{GoesOn}
 use Rattle.rubis_engine.proofs.TextFacts.{text-goes}
 use Rattle.rubis_world.specs.SitesWorlds.{ComesTo, Steps, WorldState}
 use Rattle.rubis_world.specs.declared.faults.WorldFault.{WorldFault}
 use Rattle.rubis_world.specs.declared.faults.WorldFault.TheVariants.{BadEvent, NoSuchPacket, Site, Memory}
-use Rattle.rubis_world.specs.Running.{IsRefused, IsTold}
+use Rattle.rubis_world.specs.Running.{IsRefused, IsTold, LeadsWorld, told_by_world}
 
 goes_on : (keep : ℕ) (w : World) (n : ℕ) (fields : List (List ℕ)) (more : List (List (List ℕ)))
     → let step = world_step keep w n (world_input (length w.sites) fields) in world_answers keep w n (fields ∷ more) ≡ step.1
@@ -23,15 +26,20 @@ goes_on : (keep : ℕ) (w : World) (n : ℕ) (fields : List (List ℕ)) (more : 
 unfolding world_answers
 goes_on keep w n fields more = refl
 
+-- that it is answered, and where it leads them
 pub world_goes : (old new : WorldState) (n : ℕ) (fields : List (List ℕ)) (sink sink2 : List ℕ)
     → IsTold old new (world_step old.keep old.world n (world_input (length old.world.sites) fields)) sink sink2
-    → (more : List (List (List ℕ))) → sink ++ rows_text (world_answers old.keep old.world n (fields ∷ more)) ≡ sink2
-    ++ rows_text (world_answers new.keep new.world (n + 1) more)
-world_goes old new n fields sink sink2 told more =
-    let step = world_step old.keep old.world n (world_input (length old.world.sites) fields) in
-    ap (λ rows. sink ++ rows_text rows) (goes_on old.keep old.world n fields more)
-    ∙ text-goes sink sink2 step.1 (world_answers old.keep step.0 (n + 1) more) told.1
-    ∙ (λ i. sink2 ++ rows_text (world_answers (sym told.0.0 i) (sym told.0.1 i) (n + 1) more))
+    → AnswersRecord GoesOn (told_by_world old n) (told_by_world new (n + 1)) sink sink2 fields × LeadsOn GoesOn LeadsWorld n fields old new
+world_goes old new n fields sink sink2 ((keep, world), told) =
+    let step = world_step old.keep old.world n (world_input (length old.world.sites) fields) in (
+      λ more. (
+        λ ending. ap (λ rows. sink ++ rows_text rows) (goes_on old.keep old.world n fields more)
+            ∙ text-goes sink sink2 step.1 (world_answers old.keep step.0 (n + 1) more) told
+            ∙ (λ i. sink2 ++ rows_text (world_answers (sym keep i) (sym world i) (n + 1) more)),
+        omega arith,
+      ),
+      λ more last (keep2, world2). (keep2 ∙ keep, world2 ∙ (λ i. world_after (keep i) (world i) (n + 1) more)),
+    )
 
 -- ---- an event
 

@@ -31,8 +31,9 @@ use Rattle.rubis_engine.proofs.ReadBack.{HaveFields, HasNoMark, no_mark, rows_ba
 use Rattle.rubis_engine.proofs.RunFacts.{if_ok_both}
 use Rattle.rubis_engine.proofs.TextFacts.{text-two}
 use Rattle.rubis_laws.proofs.Runs.Recorded.{answers_are_a_run}
-use Rattle.rubis_world.specs.Headline.{AppendsARun, Lead, TellsARun, WorldAnswersAll, WorldAnswersJust}
-use Rattle.rubis_world.specs.Running.{told_by_world}
+use Rattle.rubis_serving.specs.Whole.{AnswersAll, AnswersJust}
+use Rattle.rubis_world.specs.Headline.{AppendsARun, Lead, TellsARun}
+use Rattle.rubis_world.specs.Running.{LeadsWorld, told_by_world}
 use Rattle.rubis_world.specs.SitesWorlds.{WorldState, opening_world}
 
 passes_on : List (List ℕ)
@@ -192,7 +193,7 @@ fewer_kept_since h = let kept = h.0 in absurd (omega (arith, kept))
 -- ---- what is answered where the reader failed
 
 -- both records, where both came whole: the sites are where they lead, with what is still to be made of those to come
-just_both : WorldAnswersJust 2 opened ended (Some []) (Some (rows_text all_rows)) both
+just_both : AnswersJust told_by_world LeadsWorld 2 opened ended (Some []) (Some (rows_text all_rows)) both
 just_both = (
   record {
     within = omega arith;
@@ -206,22 +207,22 @@ just_both = (
 )
 
 -- not one less, nor one more
-not_just_two : (before after : Option (List ℕ)) → WorldAnswersJust 2 opened passed before after both → ⊥
+not_just_two : (before after : Option (List ℕ)) → AnswersJust told_by_world LeadsWorld 2 opened passed before after both → ⊥
 not_just_two before after (cut, led) = passed_is_too_early led
 
-not_just_one : (before after : Option (List ℕ)) → WorldAnswersJust 1 opened ended before after both → ⊥
+not_just_one : (before after : Option (List ℕ)) → AnswersJust told_by_world LeadsWorld 1 opened ended before after both → ⊥
 not_just_one before after (cut, led) = true≢false (ap (λ (w : World). is_some (site w 1).held) (led.1 ∙ first_step))
 
-not_three : (before after : Option (List ℕ)) → WorldAnswersJust 3 opened ended before after both → ⊥
+not_three : (before after : Option (List ℕ)) → AnswersJust told_by_world LeadsWorld 3 opened ended before after both → ⊥
 not_three before after (cut, led) = let few = cut.within in absurd (omega (arith, few))
 
 -- and with no other text
-no_more_than_one : WorldAnswersJust 1 opened passed (Some []) (Some (rows_text all_rows)) both → ⊥
+no_more_than_one : AnswersJust told_by_world LeadsWorld 1 opened passed (Some []) (Some (rows_text all_rows)) both → ⊥
 no_more_than_one (cut, led) =
     let many = ap length (same_rows all_rows first_rows all_readable first_readable (cut.appended ∙ ap rows_text first_told)) in
     absurd (omega (arith, many))
 
-no_less_than_one : WorldAnswersJust 1 opened passed (Some []) (Some []) both → ⊥
+no_less_than_one : AnswersJust told_by_world LeadsWorld 1 opened passed (Some []) (Some []) both → ⊥
 no_less_than_one (cut, led) =
     let many = ap length (same_rows [] first_rows none_readable first_readable (cut.appended ∙ ap rows_text first_told)) in
     absurd (omega (arith, many))
@@ -229,7 +230,7 @@ no_less_than_one (cut, led) =
 -- where a run ends well, what is said of its text and of the sites is together what is said of chunks
 all_in_two_clauses : (limit : ℕ) (first new : WorldState) (old now : Option (List ℕ)) (records : List (List (List ℕ))) (result : Result Count RunFault)
     → IfOk result (λ count. IsDone (told_by_world first 1) limit old now records count.records) → IfOk result (λ _. Lead records first new)
-    → IfOk result (λ count. WorldAnswersAll limit first new old now records count.records)
+    → IfOk result (λ count. AnswersAll told_by_world LeadsWorld limit first new old now records count.records)
 all_in_two_clauses limit first new old now records result = if_ok_both result (λ count done led. (done, led))
 
 -- ---- the text of a run

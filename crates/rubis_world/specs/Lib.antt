@@ -6,5 +6,4 @@ pub mod Setup
 pub mod SitesWorlds
 pub mod Script
 pub mod Headline
-pub mod Stepping
 pub mod Waiting

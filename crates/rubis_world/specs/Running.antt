@@ -2,12 +2,14 @@
 use Rattle.std.specs.Prelude.{◌≡◌, ◌++◌, ◌∷◌, [], ℕ, List, MatchOption, None, Option, Some, length}
 use Rattle.rubis_schema.specs.declared.refusals.Refusal.{Refusal}
 use Rattle.rubis_schema.specs.declared.refusals.Refusal.TheVariants as refusal
+use Rattle.rubis_model.specs.RecordedRuns.{world_after}
 use Rattle.rubis_model.specs.System.{World, start}
 use Rattle.rubis_model.specs.WorldRecords.{refusal_row, world_answers}
 use Rattle.rubis_script.specs.Replica.fault_variants as fault
 use Rattle.rubis_engine.specs.Accounts.{Account}
 use Rattle.rubis_engine.specs.Text.{rows_text}
 use Rattle.rubis_world.specs.SitesWorlds.{ComesTo, WorldState}
+use Rattle.rubis_world.specs.declared.desk.WorldDesk.{WorldDesk}
 use Rattle.rubis_world.specs.declared.faults.WorldFault.{WorldFault}
 use Rattle.rubis_world.specs.declared.faults.WorldFault.TheVariants.{BadEvent, NoSuchPacket, Site, Memory}
 
@@ -39,3 +41,15 @@ answers_of_world sites keep = world_account keep (start sites) 1
 -- what is still to be made of a world
 abbrev pub told_by_world : WorldState → ℕ → Account
 told_by_world s n = world_account s.keep s.world n
+
+-- these records, the first of which has that number, lead from one state of the sites to the other
+abbrev pub LeadsWorld : WorldState → ℕ → List (List (List ℕ)) → WorldState → Type 0
+LeadsWorld old n records new = ComesTo old new (world_after old.keep old.world n records)
+
+-- ---- the same of the desk that has them
+
+abbrev pub told_by_desk : WorldDesk → ℕ → Account
+told_by_desk desk n = told_by_world desk.world n
+
+abbrev pub LeadsDesk : WorldDesk → ℕ → List (List (List ℕ)) → WorldDesk → Type 0
+LeadsDesk old n records new = LeadsWorld old.world n records new.world

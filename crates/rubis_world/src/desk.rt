@@ -10,7 +10,7 @@ ghost use Rattle.rubis_model.specs.WorldRecords.{logs_of, told_at, world_step};
 ghost use Rattle.rubis_schema.specs.declared.limits.TheConstants.{KEEP_MAX, SITES_MAX};
 ghost use Rattle.rubis_script.specs.Replica.{IsCount};
 ghost use Rattle.rubis_world.specs.SitesWorlds.{Steps, WorldState, opening_world};
-ghost use Rattle.rubis_world.specs.Running.{IsRefused, IsTold, told_by_world};
+ghost use Rattle.rubis_world.specs.Running.{IsRefused, IsTold, LeadsDesk, told_by_desk};
 
 use crate::answers::{write_event, write_no_event, write_refused};
 use crate::config::WorldConfig;
@@ -127,22 +127,22 @@ impl WorldDesk {
     }
 }
 
-impl<T> Service<T> for WorldDesk {
-    ghost account = { λ s n. told_by_world s.world n };
+impl Service for WorldDesk {
+    ghost account = { told_by_desk };
 
-    ghost stays = { λ old new. new.world ≡ old.world };
+    ghost leads = { LeadsDesk };
 
     ghost reads_none = { λ s n. refl };
 
-    ghost stays_same = { λ s. refl };
-
     ghost reads_next = { Prim.search rules };
 
-    fn answer_held(&mut self, _rt: &T, _sink: &mut Sink) -> Result<(), OutOfMemory> {
+    ghost leads_none = { λ s n. (refl, refl) };
+
+    fn answer_held(&mut self, _sink: &mut Sink) -> Result<(), OutOfMemory> {
         Ok(())
     }
 
-    fn answer_end(&mut self, _rt: &T, _sink: &mut Sink) -> Result<(), OutOfMemory> {
+    fn answer_end(&mut self, _sink: &mut Sink) -> Result<(), OutOfMemory> {
         Ok(())
     }
 }

@@ -1,145 +1,26 @@
 //! Several sites over a reader and a writer.
 
-ghost use Rattle.std.specs.Prelude.{◌≡◌, ◌≤◌, ◌<◌, ◌+◌, ◌^◌, ℕ, List};
-ghost use Rattle.rubis_engine.specs.Accounts.Ending.{AtEnd};
-ghost use Rattle.rubis_engine.specs.Progress.{IsRun, WrotePrefix};
-ghost use Rattle.rubis_engine.specs.Reading.{Gives};
-ghost use Rattle.rubis_engine.specs.Text.{input_records};
-ghost use Rattle.rubis_reading.specs.Chunked.{IsLast};
+ghost use Rattle.std.specs.Prelude.{◌≡◌, ◌≤◌, ℕ, List};
+ghost use Rattle.rubis_engine.specs.Accounts.{IsAnswer};
+ghost use Rattle.rubis_engine.specs.Progress.{IsRun};
+ghost use Rattle.rubis_reading.specs.Chunked.{HasAll};
 ghost use Rattle.rubis_schema.specs.declared.limits.TheConstants.{COUNTED_MAX, KEEP_MAX, RECORDS_MAX};
 ghost use Rattle.rubis_script.specs.Headline.{OfRead};
-ghost use Rattle.rubis_engine.specs.Endings.{ByEnd};
-ghost use Rattle.rubis_reading.specs.Chunked.{HasAll};
-ghost use Rattle.rubis_world.specs.Headline.{Lead, TellsARun, WorldAnswersAll, WorldEndsWhole};
+ghost use Rattle.rubis_serving.specs.Serving.{Finishes};
+ghost use Rattle.rubis_world.specs.Headline.{Lead, TellsARun, WorldEndsWhole};
+ghost use Rattle.rubis_world.specs.Running.{LeadsDesk, answers_of_world, told_by_desk, told_by_world};
 ghost use Rattle.rubis_world.specs.SitesWorlds.{opening_world};
-ghost use Rattle.rubis_world.specs.Stepping.{OfEachWorld, OfEachWorldNext, OfEachWorldPiece, OfEachWorldYet, WorldGoesOnOrEnds, WorldPieceEnds, WorldStands};
-ghost use Rattle.rubis_world.specs.Stepping.{WorldStops};
-ghost use Rattle.rubis_world.specs.Running.{answers_of_world, told_by_world};
 
 use crate::config::WorldConfig;
 use crate::desk::WorldDesk;
-use rubis_engine::{Count, InputRecord, Records, RunFault};
+use rubis_engine::{Count, Course, InputRecord, OutOfMemory, Reply, RunFault};
 use rubis_reading::Chunks;
 use rubis_schema::RECORDS_MAX;
-use rubis_serving::{BLOCK, Served, end, next_piece, settle};
+use rubis_serving::{BLOCK, Served, turn};
 use std::alloc::Global;
 use std::io::{Read, Write};
 use std::sync::Wait;
 use std::thread::Threads;
-
-// Answers a record.
-#[inline(always)]
-fn answer_record<T: Threads + Wait + Sync, W: Write>(
-    rt: &T,
-    fields: &InputRecord,
-    desk: &mut WorldDesk,
-    run: &mut Served,
-    writer: &mut W,
-) -> Result<(), RunFault>
-    requires { run.old.answered + 1 < 2 ^ 64 }
-    ensures { ByEnd result
-        (λ _. (run.new.answered ≡ run.old.answered + 1)
-        × OfEachWorldNext fields.now desk.old.world run.old (W.contents writer.old) (λ first old records later.
-        WorldStands desk.new.world run.new first old (W.contents writer.new) records later))
-        ⊥ ⊥
-        (OfEachWorldNext fields.now desk.old.world run.old (W.contents writer.old) (λ first old records later.
-        WrotePrefix ((told_by_world first 1).text AtEnd) old (W.contents writer.new) records)) }
-{
-    run.reply.number = run.answered + 1;
-    desk.respond(rt, fields, &mut run.reply)?;
-    run.answered += 1;
-    run.reply.sink.drain_full(writer)
-}
-
-// Answers the records of a piece of text, unless that makes more than `limit` of them: the first `limit` are answered then.
-fn answer_records<T: Threads + Wait + Sync, R: Read, W: Write>(
-    rt: &T,
-    piece: &mut Records<R>,
-    desk: &mut WorldDesk,
-    run: &mut Served,
-    writer: &mut W,
-    limit: u64,
-) -> Result<(), RunFault>
-    requires within { run.old.answered ≤ limit }
-    requires known { (rows : List (List (List ℕ))) × Gives R.remaining piece.old rows }
-    ensures { WorldPieceEnds limit desk.new.world run.new (OfEachWorldYet R.remaining piece.old desk.old.world run.old (W.contents writer.old))
-        (W.contents writer.new) result }
-{
-    'records: loop {
-        let Ok(found) = piece.advance() else {
-            return Err(RunFault::Memory);
-        };
-        if !found {
-            return Ok(());
-        }
-        if run.answered >= limit {
-            settle(rt, desk, &mut run.reply.sink, writer)?;
-            return Err(RunFault::TooLong);
-        }
-        answer_record(rt, piece.fields(), desk, run, writer)?;
-    }
-}
-
-// The same of the records of a text.
-#[inline(never)]
-fn answer_piece<T: Threads + Wait + Sync, W: Write>(
-    rt: &T,
-    text: &[u8],
-    desk: &mut WorldDesk,
-    run: &mut Served,
-    writer: &mut W,
-    limit: u64,
-) -> Result<(), RunFault>
-    requires within { run.old.answered ≤ limit }
-    ensures { WorldPieceEnds limit desk.new.world run.new (OfEachWorldPiece text.now desk.old.world run.old (W.contents writer.old))
-        (W.contents writer.new) result }
-{
-    let mut piece = Records::new(run.alloc, text);
-    answer_records(rt, &mut piece, desk, run, writer, limit)
-}
-
-// Answers what is held, which is the rest of the text, and ends the run.
-fn finish<T: Threads + Wait + Sync, R: Read, W: Write>(
-    rt: &T,
-    chunks: &Chunks<R>,
-    desk: &mut WorldDesk,
-    run: &mut Served,
-    writer: &mut W,
-    limit: u64,
-) -> Result<Count, RunFault>
-    requires within { run.old.answered ≤ limit }
-    requires last { IsLast R.remaining chunks.now }
-    ensures { WorldStops limit R.remaining chunks.now desk.old.world run.old (W.contents writer.old) chunks.now desk.new.world run.new (W.contents writer.new)
-        (λ count. OfEachWorld R.remaining chunks.now desk.old.world run.old (W.contents writer.old) (λ first old input.
-        WorldAnswersAll limit first desk.new.world old (W.contents writer.new) (input_records input) count.records)) result }
-{
-    answer_piece(rt, chunks.held(), desk, run, writer, limit)?;
-    end(rt, desk, run, writer)
-}
-
-// Answers the next piece of the text. `None` if the run goes on, otherwise how many records were read.
-fn turn<T: Threads + Wait + Sync, R: Read, W: Write>(
-    rt: &T,
-    chunks: &mut Chunks<R>,
-    desk: &mut WorldDesk,
-    run: &mut Served,
-    writer: &mut W,
-    limit: u64,
-) -> Result<Option<Count>, RunFault>
-    requires { run.old.answered ≤ limit }
-    ensures { WorldStops limit R.remaining chunks.old desk.old.world run.old (W.contents writer.old) chunks.new desk.new.world run.new (W.contents writer.new)
-        (λ over. WorldGoesOnOrEnds limit R.remaining chunks.old desk.old.world run.old (W.contents writer.old)
-        chunks.new desk.new.world run.new (W.contents writer.new) over) result }
-{
-    let Some(many) = next_piece(rt, chunks, desk, run, writer)? else {
-        let count = finish(rt, chunks, desk, run, writer, limit)?;
-        return Ok(Some(count));
-    };
-    let (text, _) = chunks.held().split_at(many);
-    answer_piece(rt, text, desk, run, writer, limit)?;
-    chunks.pass(many);
-    Ok(None)
-}
 
 // Answers records until there are no more, or up to `limit` of them.
 fn serve<T: Threads + Wait + Sync, R: Read, W: Write>(
@@ -151,12 +32,20 @@ fn serve<T: Threads + Wait + Sync, R: Read, W: Write>(
     limit: u64,
 ) -> Result<Count, RunFault>
     requires { run.old.answered ≤ limit }
-    ensures { WorldStops limit R.remaining chunks.old desk.old.world run.old (W.contents writer.old) chunks.new desk.new.world run.new (W.contents writer.new)
-        (λ count. OfEachWorld R.remaining chunks.old desk.old.world run.old (W.contents writer.old) (λ first old input.
-        WorldAnswersAll limit first desk.new.world old (W.contents writer.new) (input_records input) count.records)) result }
+    ensures { Finishes told_by_desk LeadsDesk limit R.remaining chunks.old desk.old run.old (W.contents writer.old)
+        chunks.new desk.new run.new (W.contents writer.new) result }
 {
+    let answer = |desk: &mut WorldDesk,
+                  fields: &InputRecord,
+                  reply: &mut Reply|
+     -> Result<Course, OutOfMemory>
+        ensures { IsAnswer told_by_desk LeadsDesk desk.old desk.new reply.old reply.new fields.now result }
+    {
+        desk.respond(rt, fields, reply)?;
+        Ok(Course::GoesOn)
+    };
     for _ in rt.forever() {
-        if let Some(count) = turn(rt, chunks, desk, run, writer, limit)? {
+        if let Some(count) = turn(chunks, desk, run, writer, limit, &answer)? {
             return Ok(count);
         }
     }

@@ -8,22 +8,22 @@ use Rattle.rubis_serving.proofs.pieces.end.Goals as goal
 pub returns-in_err-answer_end : goal.returns-in_err-answer_end
 returns-in_err-answer_end g c =
     ends_memory _ _ _ c.from_residual.result c.from_residual.ensures
-    (λ all old records h. stands-prefix all _ old _ _ c.args.run.now.reply.sink c.args.run.now.answered records [] refl h)
+    (λ first old records h. stands-prefix g.S.Service.account g.S.Service.leads first c.args.service.now old _ _ c.args.run.now.reply.sink
+    c.args.run.now.answered records [] refl h)
 
 pub returns-in_err-close : goal.returns-in_err-close
 returns-in_err-close g c =
     let n = c.args.run.now.answered + 1 in
     ends_write _ _ _ c.from_residual-in_err-close.result c.in_err-close.field-0.0 c.from_residual-in_err-close.ensures c.in_err-close.ensures.faults
-    (λ all old records h. stands-front all (g.S.Service.account c.args.service.now n) old _ _ c.args.run.now.reply.sink c.args.run.now.answered records []
+    (λ first old records h. stands-front g.S.Service.account g.S.Service.leads first c.args.service.now old _ _ c.args.run.now.reply.sink
+    c.args.run.now.answered records []
     (subst (AppendsFront (g.W.Write.contents c.args.writer.now) (g.W.Write.contents c.close.new.writer)) (sym (c.in_ok-answer_end.ensures.text n))
     c.in_err-close.ensures.err) h)
 
 pub returns : goal.returns
-returns g c =
-    let n = c.args.run.now.answered + 1 in (
-      λ all old records h.
-          stands-done all (g.S.Service.account c.args.service.now n) old _ _ c.args.run.now.reply.sink c.args.run.now.answered records
-          (subst (Appends (g.W.Write.contents c.args.writer.now) (g.W.Write.contents c.close.new.writer)) (sym (c.in_ok-answer_end.ensures.text n))
-          c.in_ok-close.ensures.ok) (g.met.S.Service.reads_none c.args.service.now n) h,
-      c.in_ok-answer_end.ensures.stays,
-    )
+returns g c first old records h =
+    let s = c.args.service.now in
+    let n = c.args.run.now.answered + 1 in
+    stands-done g.S.Service.account g.S.Service.leads first s c.answer_end.new.self old _ _ c.args.run.now.reply.sink c.args.run.now.answered records
+    (subst (Appends (g.W.Write.contents c.args.writer.now) (g.W.Write.contents c.close.new.writer)) (sym (c.in_ok-answer_end.ensures.text n))
+    c.in_ok-close.ensures.ok) (g.met.S.Service.reads_none s n) (c.in_ok-answer_end.ensures.leads n) h

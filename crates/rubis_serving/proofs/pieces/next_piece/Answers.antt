@@ -5,16 +5,15 @@ use Rattle.rubis_serving.proofs.pieces.next_piece.Goals as goal
 
 pub returns-then-many-gt1 : goal.returns-then-many-gt1
 returns-then-many-gt1 g c = (
-  λ all old input h. h,
+  λ first old input h. h,
   refl,
   (omega (arith, c.if-many-gt1.true), c.whole-many.ensures.within, c.whole-many.ensures.whole (omega (arith, c.if-many-gt1.true))),
-  g.met.S.Service.stays_same c.args.service.now,
 )
 
 pub returns-in_err-settle : goal.returns-in_err-settle
 returns-in_err-settle g c =
     ends_on _ _ c.from_residual.result c.in_err-settle.field-0.0 c.from_residual.ensures absurd absurd
-    (λ front all old input h. served-front g.R.Read.remaining c.args.chunks.now (g.S.Service.account c.args.service.now) all old _ _
+    (λ front first old input h. served-front g.S.Service.account g.S.Service.leads g.R.Read.remaining c.args.chunks.now first c.args.service.now old _ _
     c.args.run.now.reply.sink c.args.run.now.answered input front h) c.in_err-settle.ensures
 
 pub fill_whole-requires : goal.fill_whole-requires
@@ -22,26 +21,24 @@ fill_whole-requires g c = c.whole-many.ensures.begun (omega (arith, c.if-many-gt
 
 pub returns : goal.returns
 returns g c =
+    let account = g.S.Service.account in
+    let leads = g.S.Service.leads in
     let rem = g.R.Read.remaining in
     let chunks = c.args.chunks.now in
     let chunks2 = c.fill_whole.new.chunks in
-    let account = g.S.Service.account c.args.service.now in
-    let account2 = g.S.Service.account c.settle.new.service in
+    let s = c.args.service.now in
+    let s2 = c.settle.new.service in
     let sink = c.args.run.now.reply.sink in
     let sink2 = c.settle.new.sink in
     let answered = c.args.run.now.answered in
-    let (settles, stays) = c.in_ok-settle.ensures in
+    let settles = c.in_ok-settle.ensures in
     let none = c.whole-many.ensures.begun (omega (arith, c.if-many-gt1.false)) in
     ends_so c.fill_whole.result
     (λ piece (keeps, came, hand). (
-      λ all old input h. served-settled rem chunks chunks2 account account2 all old _ _ sink sink2 answered input settles keeps came h,
+      λ first old input h. served-settled account leads rem chunks chunks2 first s s2 old _ _ sink sink2 answered input settles keeps came h,
       refl,
       hand,
-      stays,
     )) absurd
-    (λ failed. (
-      λ all old input h. served-cut rem chunks chunks2 account account2 all old _ _ sink sink2 answered input settles failed none h,
-      refl,
-      stays,
-    ))
-    (λ broke all old input h. served-written rem chunks account account2 all old _ _ sink sink2 answered input settles h) c.fill_whole.ensures
+    (λ failed first old input h. served-cut account leads rem chunks chunks2 first s s2 old _ _ sink sink2 answered input settles failed none
+    (λ number. g.met.S.Service.leads_none s2 number) h)
+    (λ broke first old input h. served-written account leads rem chunks first s s2 old _ _ sink sink2 answered input settles h) c.fill_whole.ensures

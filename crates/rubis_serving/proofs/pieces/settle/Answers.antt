@@ -16,19 +16,17 @@ returns g c =
     let before = g.W.Write.contents c.args.writer.now in
     let after = g.W.Write.contents c.close.new.writer in
     let held = c.in_ok-answer_held.ensures in
-    ends_writer _ _ _ _ c.close.result (on_ok_weaker c.close.result (λ out. (
-      record {
-        drained = λ number. record {
-          out = c.answer_held.new.sink;
-          appended = out;
-          told = λ ending more. (held.keeps number more).0 ending;
-          counted = λ more. (held.keeps number more).1;
-        };
-        none = held.none;
-        empty = c.close.ensures.empty;
-      },
-      held.stays,
-    )) c.close.ensures.ok)
+    ends_writer _ _ _ _ c.close.result (on_ok_weaker c.close.result (λ out. record {
+      drained = λ number. record {
+        out = c.answer_held.new.sink;
+        appended = out;
+        told = λ ending more. (held.keeps number more).0 ending;
+        counted = λ more. (held.keeps number more).1;
+      };
+      none = held.none;
+      empty = c.close.ensures.empty;
+      alike = held.leads;
+    }) c.close.ensures.ok)
     (λ front number more. subst (AppendsFront before after) (sym ((held.keeps number more).0 AtEnd))
     (front-longer before after c.answer_held.new.sink ((g.S.Service.account c.answer_held.new.self number).text AtEnd more) front))
     c.close.ensures.err c.close.ensures.faults

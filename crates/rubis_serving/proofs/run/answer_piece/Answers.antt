@@ -8,10 +8,10 @@ returns g c =
     let rows = input_records c.args.text.now in
     ends_so c.answer_records.result
     (λ over goes. match_so over
-    (λ (within, stands). (within, λ all old records rest h. stands all old records rest (record { rows = rows; gives = c.new-piece.ensures; stands = h })))
-    (λ count done all old records rest h. done all old records rest (record { rows = rows; gives = c.new-piece.ensures; stands = h })) goes)
-    (λ long all old records rest h. long all old records rest (record { rows = rows; gives = c.new-piece.ensures; stands = h })) absurd
-    (λ prefix all old records rest h. prefix all old records rest (record { rows = rows; gives = c.new-piece.ensures; stands = h }))
+    (λ (within, stands). (within, λ first old records rest h. stands first old records rest (record { rows = rows; gives = c.new-piece.ensures; stands = h })))
+    (λ count done first old records rest h. done first old records rest (record { rows = rows; gives = c.new-piece.ensures; stands = h })) goes)
+    (λ long first old records rest h. long first old records rest (record { rows = rows; gives = c.new-piece.ensures; stands = h })) absurd
+    (λ prefix first old records rest h. prefix first old records rest (record { rows = rows; gives = c.new-piece.ensures; stands = h }))
     c.answer_records.ensures
 
 pub answer_records-requires-clause-known : goal.answer_records-requires-clause-known

@@ -7,57 +7,57 @@ use Rattle.rubis_serving.proofs.StandFacts.{done-within, stands-front}
 use Rattle.rubis_serving.proofs.run.answer_records.Goals as goal
 
 pub records-init : goal.records-init
-records-init g c = record { within = c.requires.within; known = c.requires.known; stands = λ all old records rest h. h }
+records-init g c = record { within = c.requires.within; known = c.requires.known; stands = λ first old records rest h. h }
 
 pub returns-in_default : goal.returns-in_default
-returns-in_default g c all old records rest h =
-    yet-prefix _ _ all _ old _ _ _ _ records rest refl (c.records.invariant.stands all old records rest h)
+returns-in_default g c first old records rest h =
+    yet-prefix g.S.Service.account g.S.Service.leads _ _ first _ old _ _ _ _ records rest refl (c.records.invariant.stands first old records rest h)
 
 pub returns-then-not-found : goal.returns-then-not-found
 returns-then-not-found g c =
     let none : c.in-Ok.found ≡ false = search rules in
     let takes = subst (λ found. Advances g.R.Read.remaining c.records.piece c.advance.new.self found) none c.in-Ok.ensures.takes in (
       c.records.invariant.within,
-      λ all old records rest h.
-          yet-none g.R.Read.remaining c.records.piece c.advance.new.self all _ old _ _ _ records rest takes (c.records.invariant.stands all old records rest h),
+      λ first old records rest h.
+          yet-none g.S.Service.account g.S.Service.leads g.R.Read.remaining c.records.piece c.advance.new.self first _ old _ _ _ records rest takes (c.records.invariant.stands first old records rest h),
     )
 
 pub returns-in_err-settle : goal.returns-in_err-settle
 returns-in_err-settle g c =
     ends_on _ _ c.from_residual.result c.in_err-settle.field-0.0 c.from_residual.ensures absurd absurd
-    (λ front all old records rest h.
-    let yet = c.records.invariant.stands all old records rest h in
-    stands-front all _ old _ _ c.records.run.reply.sink c.records.run.answered records (yet.rows ++ rest)
+    (λ front first old records rest h.
+    let yet = c.records.invariant.stands first old records rest h in
+    stands-front g.S.Service.account g.S.Service.leads first _ old _ _ c.records.run.reply.sink c.records.run.answered records (yet.rows ++ rest)
     (front (c.records.run.answered + 1) (yet.rows ++ rest)) yet.stands)
     c.in_err-settle.ensures
 
 pub returns-then-run-limit : goal.returns-then-run-limit
-returns-then-run-limit g c all old records rest h =
+returns-then-run-limit g c first old records rest h =
     let some : c.in-Ok.found ≡ true = search rules in
     let takes = subst (λ found. Advances g.R.Read.remaining c.records.piece c.advance.new.self found) some c.in-Ok.ensures.takes in
-    yet-too_long g.R.Read.remaining c.records.piece c.advance.new.self (g.S.Service.account c.records.service) (g.S.Service.account c.settle.new.service) all
-    old _ _ c.records.run.reply.sink c.settle.new.sink c.records.run.answered c.args.limit records rest takes
-    (omega (arith, c.records.invariant.within, c.if-run-limit.true)) c.in_ok-settle.ensures.0
-    (λ number. g.met.S.Service.reads_next c.settle.new.service number) (c.records.invariant.stands all old records rest h)
+    yet-too_long g.S.Service.account g.S.Service.leads g.R.Read.remaining c.records.piece c.advance.new.self first c.records.service
+    c.settle.new.service old _ _ c.records.run.reply.sink c.settle.new.sink c.records.run.answered c.args.limit records rest takes
+    (omega (arith, c.records.invariant.within, c.if-run-limit.true)) c.in_ok-settle.ensures
+    (λ number. g.met.S.Service.reads_next c.settle.new.service number) (λ number. g.met.S.Service.leads_none c.settle.new.service number) (c.records.invariant.stands first old records rest h)
 
 pub returns-in_err-count : goal.returns-in_err-count
 returns-in_err-count g c =
     let some : c.in-Ok.found ≡ true = search rules in
     let takes = subst (λ found. Advances g.R.Read.remaining c.records.piece c.advance.new.self found) some c.in-Ok.ensures.takes in
     ends_on _ _ c.from_residual-in_err-count.result c.in_err-count.field-0.0 c.from_residual-in_err-count.ensures absurd absurd
-    (λ prefix all old records rest h.
-    let (left, gives, one) = yet-one g.R.Read.remaining c.records.piece c.advance.new.self all _ old _ _ _ records rest _ takes c.fields.ensures
-    (c.records.invariant.stands all old records rest h) in
-    prefix all old records (left ++ rest) one) c.in_err-count.ensures
+    (λ prefix first old records rest h.
+    let (left, gives, one) = yet-one g.S.Service.account g.S.Service.leads g.R.Read.remaining c.records.piece c.advance.new.self first _ old _ _ _ records rest _ takes c.fields.ensures
+    (c.records.invariant.stands first old records rest h) in
+    prefix first old records (left ++ rest) one) c.in_err-count.ensures
 
 pub returns-in-Some : goal.returns-in-Some
-returns-in-Some g c all old records rest h =
+returns-in-Some g c first old records rest h =
     let some : c.in-Ok.found ≡ true = search rules in
     let takes = subst (λ found. Advances g.R.Read.remaining c.records.piece c.advance.new.self found) some c.in-Ok.ensures.takes in
-    let (left, gives, one) = yet-one g.R.Read.remaining c.records.piece c.advance.new.self all _ old _ _ _ records rest _ takes c.fields.ensures
-    (c.records.invariant.stands all old records rest h) in
-    done-within all (c.records.run.answered + 1) c.args.limit old _ records c.in-Some.count.records (omega (arith, c.if-run-limit.false))
-    (match-some _ _ _ c.in-Some.count c.in_ok-count.ensures c.in-Some.is all old records (left ++ rest) one)
+    let (left, gives, one) = yet-one g.S.Service.account g.S.Service.leads g.R.Read.remaining c.records.piece c.advance.new.self first _ old _ _ _ records rest _ takes c.fields.ensures
+    (c.records.invariant.stands first old records rest h) in
+    done-within g.S.Service.account g.S.Service.leads (c.records.run.answered + 1) c.args.limit first c.answer_record.new.service old _ records c.in-Some.count.records (omega (arith, c.if-run-limit.false))
+    (match-some _ _ _ c.in-Some.count c.in_ok-count.ensures c.in-Some.is first old records (left ++ rest) one)
 
 pub records-preserved : goal.records-preserved
 records-preserved g c =
@@ -70,10 +70,10 @@ records-preserved g c =
           let (rows, gives) = c.records.invariant.known in
           let (left, first, rest) = takes rows gives in
           (left, rest);
-      stands = λ all old records rest h.
-          let (left, gives, one) = yet-one g.R.Read.remaining c.records.piece c.advance.new.self all _ old _ _ _ records rest _ takes c.fields.ensures
-          (c.records.invariant.stands all old records rest h) in
-          record { rows = left; gives = gives; stands = goes all old records (left ++ rest) one };
+      stands = λ first old records rest h.
+          let (left, gives, one) = yet-one g.S.Service.account g.S.Service.leads g.R.Read.remaining c.records.piece c.advance.new.self first _ old _ _ _ records rest _ takes c.fields.ensures
+          (c.records.invariant.stands first old records rest h) in
+          record { rows = left; gives = gives; stands = goes first old records (left ++ rest) one };
     }
 
 pub records-smaller : goal.records-smaller

@@ -5,6 +5,6 @@ use Rattle.rubis_serving.proofs.run.serve.Given as goal
 abbrev pub invariant-pieces : goal.invariant-pieces
 invariant-pieces g l = record {
   within : l.run.answered ≤ l.limit;
-  stands : MovesOn g.R.Read.remaining l.fn.chunks (g.S.Service.account l.fn.service) l.fn.run (g.W.Write.contents l.fn.writer)
-      l.chunks (g.S.Service.account l.service) l.run (g.W.Write.contents l.writer);
+  stands : MovesOn g.S.Service.account g.S.Service.leads g.R.Read.remaining l.fn.chunks l.fn.service l.fn.run (g.W.Write.contents l.fn.writer)
+      l.chunks l.service l.run (g.W.Write.contents l.writer);
 }

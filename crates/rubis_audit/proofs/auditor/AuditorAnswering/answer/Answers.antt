@@ -7,8 +7,8 @@ use Rattle.rubis_audit.specs.Running.{account_from}
 use Rattle.rubis_audit.proofs.Collecting.{goes}
 use Rattle.rubis_audit.proofs.auditor.AuditorAnswering.answer.Goals as goal
 
-pub returns : goal.returns
-returns g c =
+pub returns-clause-text : goal.returns-clause-text
+returns-clause-text c =
     let fields = c.args.fields.now in
     let line = sym c.in_ok-line.ensures.line ∙ ap (option_map (line_as fields)) c.in-Some.is in
     let more = rw c.if-branch.true at c.in_ok-take.ensures.logs in

@@ -11,14 +11,14 @@ use Rattle.rubis_audit.proofs.Placing.{goes}
 use Rattle.rubis_audit.proofs.widener.WidenerAnswering.answer.Goals as goal
 
 pub write_line-requires-clause-written : goal.write_line-requires-clause-written
-write_line-requires-clause-written g c =
+write_line-requires-clause-written c =
     let fields = c.args.fields.now in
     let line = sym c.in_ok-line.ensures.line ∙ ap (option_map (line_as fields)) c.in-Some.is in
     let few : c.self.inside.from ≤ COUNTED_MAX = omega (arith, c.self.invariant.0, c.self.invariant.1) in
     sym (line_only c.self.inside.from few fields (line_as fields c.in-Some.line) line).1
 
-pub returns : goal.returns
-returns g c =
+pub returns-clause-text : goal.returns-clause-text
+returns-clause-text c =
     let inside = c.self.inside in
     let number = c.args.reply.now.number in
     let fields = c.args.fields.now in
