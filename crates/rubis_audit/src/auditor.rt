@@ -1,7 +1,7 @@
 //! The auditor as a service: it reads logs, record by record, and answers once it has read them all.
 
 ghost use Rattle.std.proofs.Common.{inl, rules};
-ghost use Rattle.std.specs.Prelude.{◌≡◌, ◌++◌, ◌≤◌, ◌⊎◌, ℕ, List, [], IfOk, None, Ok, OnErr, OnOk, Some, false, refl, reverse};
+ghost use Rattle.std.specs.Prelude.{◌≡◌, ◌++◌, ◌≤◌, ℕ, List, [], IfOk, None, Ok, OnErr, OnOk, Some, false, refl, reverse};
 ghost use Rattle.rubis_message.specs.Message.{sites_of};
 ghost use Rattle.rubis_model.specs.Logs as logs;
 ghost use Rattle.std.specs.Bool.{MatchBool};

@@ -25,10 +25,12 @@ module _ {J R : Type 0} (seat taking after token : Pass (JobEntry J) (JobView J)
       let one =
       ap (λ (v : JobView J). v.held) h.handed ∙ ap (λ (v : JobView J). v.held) h.taken ∙ ap (λ (l : List (Given J)). l ++ x ∷ []) h.none in
       let taken = ap (λ (v : JobView J). v.taken) h.left ∙ ap (λ (v : JobView J). v.taken) h.taken in
+      let heard = ap (λ (v : JobView J). v.heard) h.left ∙ ap (λ (v : JobView J). v.heard) h.taken in
       let paid = ap (λ (v : ResultView J). v.paid) h.paid ∙ ap (λ (l : List (Given J)). (view desk).paid ++ l) one in
       (λ i. record {
         crew = record { jobs = (kept.0 ∙ same.0) i; results = written.0 i };
         taken = taken i;
         paid = paid i;
+        heard = heard i;
       })
       ∙ ap (λ (y : HelperState J). served y x) is

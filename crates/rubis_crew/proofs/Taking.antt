@@ -65,18 +65,27 @@ module _ {J : Type 0} (Fits : J → Type 0) (place : ℕ) (v : JobView J) where
   takes_over : (items : List (JobEntry J)) (views : List (JobView J)) → Ruled Fits (Over ∷ items) views → get_elem? views place ≡ some v
       → (w : JobView J) × Ruled Fits items (set views place w) × HasTaken Fits v Over w
   takes_over items views ruled at = (
-    v,
+    record v { heard = v.heard + 1 },
     record {
       given = ruled.given;
       next = ruled.next;
       numbers = ruled.numbers;
-      once = λ h. (let old = ruled.once h in let d = sum_set (λ (u : JobView J). weigh h u.held) views place v v at in omega arith);
+      once = λ h. (let old = ruled.once h in let d = sum_set (λ (u : JobView J). weigh h u.held) views place v (record v { heard = v.heard + 1 }) at in omega arith);
       waits = ruled.waits;
       fits = ruled.fits;
       lead = ruled.lead;
       each =
-          each_set (AgreesWith ruled.lead ruled.given ruled.next (overs_in items)) views place v
-          (fewer_overs ruled.lead ruled.given ruled.next (overs_in items) place v (ruled.each place v at))
+          each_set (AgreesWith ruled.lead ruled.given ruled.next (overs_in items)) views place (record v { heard = v.heard + 1 })
+          (let mine = fewer_overs ruled.lead ruled.given ruled.next (overs_in items) place v (ruled.each place v at) in
+          record {
+            held = mine.held;
+            leads = λ is. let gives = mine.leads is in record {
+              alone = gives.alone;
+              same = gives.same;
+              number = gives.number;
+              said = gives.said;
+            };
+          })
           (λ j u apart e. fewer_overs ruled.lead ruled.given ruled.next (overs_in items) j u (ruled.each j u e));
     },
     refl,

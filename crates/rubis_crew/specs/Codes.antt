@@ -28,5 +28,6 @@ module _ {J : Type 0} (job : Coded J) where
 
   abbrev pub helper_code : Coded (HelperState J)
   helper_code =
-      code_by (CrewId × (List (Given J) × List (Given J))) (coded× crew_id_code (coded× (coded_list given_code) (coded_list given_code)))
-      (λ s. (s.crew, (s.taken, s.paid))) (λ c. record { crew = c.0; taken = c.1.0; paid = c.1.1 }) (λ _. refl)
+      code_by (CrewId × (List (Given J) × (List (Given J) × ℕ)))
+      (coded× crew_id_code (coded× (coded_list given_code) (coded× (coded_list given_code) coded_ℕ)))
+      (λ s. (s.crew, (s.taken, (s.paid, s.heard)))) (λ c. record { crew = c.0; taken = c.1.0; paid = c.1.1.0; heard = c.1.1.1 }) (λ _. refl)

@@ -60,11 +60,11 @@ module _ {J : Type 0} where
 
   -- the pass that gives jobs, when none is given
   abbrev pub first_view : JobView J
-  first_view = record { leads = true; next = 0; given = []; overs = 0; held = []; taken = []; pays = false }
+  first_view = record { leads = true; next = 0; given = []; overs = 0; held = []; taken = []; pays = false; heard = 0 }
 
   -- a pass that holds nothing
   abbrev pub idle : JobView J
-  idle = record { leads = false; next = 0; given = []; overs = 0; held = []; taken = []; pays = false }
+  idle = record { leads = false; next = 0; given = []; overs = 0; held = []; taken = []; pays = false; heard = 0 }
 
 -- ---- the rule
 
@@ -107,17 +107,17 @@ module _ {J : Type 0} where
   abbrev pub AreFew : JobView J → List (JobEntry J) → Type 0
   AreFew v items = length items ≤ length v.given + v.overs
 
-  -- the pass holds the job that it took; or no more come
+  -- the pass holds the job that it took; or it took that no more come
   abbrev pub HasTaken : (J → Type 0) → JobView J → JobEntry J → JobView J → Type 0
   HasTaken Fits v (Work x) w = Fits x.job × (w ≡ record v { held = v.held ++ x ∷ []; taken = v.taken ++ x ∷ [] })
-  HasTaken Fits v Over w = w ≡ v
+  HasTaken Fits v Over w = w ≡ record v { heard = v.heard + 1 }
 
   -- a pass that gives away what it holds, and the one that then holds it and goes back with the result
   abbrev pub emptied : JobView J → JobView J
   emptied v = record v { held = [] }
 
   abbrev pub token_view : JobView J → JobView J
-  token_view v = record { leads = false; next = 0; given = []; overs = 0; held = v.held; taken = []; pays = true }
+  token_view v = record { leads = false; next = 0; given = []; overs = 0; held = v.held; taken = []; pays = true; heard = 0 }
 
   -- the first pass holds what both did
   abbrev pub together : JobView J → JobView J → JobView J

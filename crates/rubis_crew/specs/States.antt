@@ -32,11 +32,12 @@ pub record LeadState (J : Type 0) : Type 0 where
   pub ended : Bool
   pub told : ℕ
 
--- a helper: the jobs that it ever took, and those for whose results it paid
+-- a helper: the jobs that it ever took, those for whose results it paid, and how often it took that no more come
 pub record HelperState (J : Type 0) : Type 0 where
   pub crew : CrewId
   pub taken : List (Given J)
   pub paid : List (Given J)
+  pub heard : ℕ
 
 module _ {J : Type 0} where
   -- nothing was given yet
@@ -44,7 +45,7 @@ module _ {J : Type 0} where
   new_lead crew = record { crew = crew; next = 0; given = []; ended = false; told = 0 }
 
   abbrev pub new_helper : CrewId → HelperState J
-  new_helper crew = record { crew = crew; taken = []; paid = [] }
+  new_helper crew = record { crew = crew; taken = []; paid = []; heard = 0 }
 
   -- the job is given too, under the next number
   abbrev pub given_too : LeadState J → J → LeadState J
@@ -71,11 +72,15 @@ module _ {J : Type 0} where
   abbrev pub served : HelperState J → Given J → HelperState J
   served s x = record s { taken = s.taken ++ x ∷ []; paid = s.paid ++ x ∷ [] }
 
-  -- what the helper found: a job, which it took and paid for; or none, and nothing changes
+  -- it took that no more come
+  abbrev pub told_over : HelperState J → HelperState J
+  told_over s = record s { heard = s.heard + 1 }
+
+  -- what the helper found: a job, which it took and paid for; none, and nothing changes; or that no more come, which it took
   abbrev pub HasHelped : Found → HelperState J → HelperState J → Type 0
   HasHelped AJob s t = (x : Given J) × (t ≡ served s x)
   HasHelped Nothing s t = t ≡ s
-  HasHelped Over s t = t ≡ s
+  HasHelped Over s t = t ≡ told_over s
 
 -- the result of a job that was given comes back under its number
 abbrev pub ComesBack : {J R : Type 0} → (J → R → Type 0) → LeadState J → Back R → LeadState J → Type 0
@@ -88,7 +93,7 @@ module _ {J R : Type 0} (seat : Pass (JobEntry J) (JobView J)) (desk : Pass (Sli
   crew_of = record { jobs = seat.table_id; results = desk.table_id }
 
   abbrev pub helper_of : HelperState J
-  helper_of = record { crew = crew_of; taken = (view seat).taken; paid = (view desk).paid }
+  helper_of = record { crew = crew_of; taken = (view seat).taken; paid = (view desk).paid; heard = (view seat).heard }
 
 abbrev pub lead_of : {J R : Type 0} → Bool → Pass (JobEntry J) (JobView J) → Pass (Slip J R) (ResultView J) → LeadState J
 lead_of told seat desk =

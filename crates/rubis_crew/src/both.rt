@@ -1,6 +1,6 @@
 //! Helpers that stay at two crews.
 
-ghost use Rattle.std.specs.Prelude.{◌≡◌};
+ghost use Rattle.std.specs.Prelude.{◌≡◌, ◌<◌};
 ghost use Rattle.std.specs.Thread.{IsSync};
 ghost use Rattle.rubis_crew.specs.Both.{IsAt};
 
@@ -17,7 +17,8 @@ pub struct Both<J: Job, K: Job> {
     second: Post<K>,
 }
 
-// A helper and `more` others, each in a thread of its own and the first in this one, until no more jobs come.
+// A helper and `more` others, each in a thread of its own and the first in this one, until no more jobs come: no more of them than are
+// told so, since one that isn't would wait forever.
 fn stay_with<J: Job, K: Job, R: Threads + Wait + Sync>(
     rt: &R,
     first: &Crew<J>,
@@ -25,7 +26,8 @@ fn stay_with<J: Job, K: Job, R: Threads + Wait + Sync>(
     me: &mut Both<J, K>,
     more: usize,
 )
-    requires { IsAt first.now.id second.now.id me.old }
+    requires at { IsAt first.now.id second.now.id me.old }
+    requires told { (more < first.now.helpers) × (more < second.now.helpers) }
 {
     if more == 0 {
         me.stay(rt, first, second);
@@ -39,7 +41,7 @@ fn stay_with<J: Job, K: Job, R: Threads + Wait + Sync>(
             requires { IsAt first.now.id second.now.id me.now }
         { me.stay(rt, first, second) },
         move ||
-            requires { IsSync R.row × IsAt first.now.id second.now.id next }
+            requires { IsSync R.row × IsAt first.now.id second.now.id next × (fewer < first.now.helpers) × (fewer < second.now.helpers) }
         { stay_with(rt, first, second, &mut next, fewer) },
     );
 }
@@ -112,13 +114,13 @@ impl<J: Job, K: Job> Both<J, K> {
         }
     }
 
-    /// All helpers of the crews, made from this one, each in a thread of its own and the first in the caller's, until no more jobs come. A
-    /// thread that can't be started leaves its work to the others. This one takes no job, and stays a helper of both.
+    /// All helpers that both crews have, made from this one, each in a thread of its own and the first in the caller's, until no more jobs
+    /// come. A thread that can't be started leaves its work to the others. This one takes no job, and stays a helper of both.
     pub fn stay_all<R: Threads + Wait + Sync>(&mut self, rt: &R, first: &Crew<J>, second: &Crew<K>)
         requires { IsAt first.now.id second.now.id self.old }
         ensures { IsAt first.now.id second.now.id self.new }
     {
-        let helpers = first.helpers();
+        let helpers = first.helpers().min(second.helpers());
         if helpers > 0 {
             let mut one = self.another(first, second);
             stay_with(rt, first, second, &mut one, helpers - 1);

@@ -441,12 +441,13 @@ impl<J: Job> Crew<J> {
         found
     }
 
-    /// Helps until no more jobs come, and sleeps while there is none. What was taken is paid for.
+    /// Helps until no more jobs come, which it is told once, and sleeps while there is none. What was taken is paid for.
     pub fn stay<R: Wait>(&self, rt: &R, me: &mut Helper<J>)
         requires crew { me.old.crew ≡ self.now.id }
         requires owes { me.old.paid ≡ me.old.taken }
         ensures crew { me.new.crew ≡ me.old.crew }
         ensures owes { me.new.paid ≡ me.new.taken }
+        ensures heard { me.new.heard ≡ me.old.heard + 1 }
     {
         for _ in rt.forever() {
             let found = match self.help(rt, me) {

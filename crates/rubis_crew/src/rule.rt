@@ -29,6 +29,8 @@ pub struct JobView<J> {
     pub taken: LinkedList<Given<J>>,
     /// Whether it goes back with a result.
     pub pays: bool,
+    /// How often it took that no more come.
+    pub heard: u64,
 }
 
 /// The rule.

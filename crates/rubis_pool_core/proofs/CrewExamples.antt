@@ -22,10 +22,14 @@ module _ {J : Type 0} (Fits : J → Type 0) (a b : J) (a_fits : Fits a) (b_fits 
   -- the caller's pass, and the helper's
   abbrev caller : ℕ → List (Given J) → List (Given J) → List (Given J) → JobView J
   caller next given held taken =
-      record { leads = true; next = next; given = given; overs = 0; held = held; taken = taken; pays = false }
+      record { leads = true; next = next; given = given; overs = 0; held = held; taken = taken; pays = false; heard = 0 }
 
   abbrev helper : List (Given J) → JobView J
-  helper held = record { leads = false; next = 0; given = []; overs = 0; held = held; taken = first ∷ []; pays = false }
+  helper held = record { leads = false; next = 0; given = []; overs = 0; held = held; taken = first ∷ []; pays = false; heard = 0 }
+
+  -- the helper's, once it took that no more come
+  abbrev told_helper : JobView J
+  told_helper = record (helper []) { heard = 1 }
 
   abbrev at : List (JobEntry J) → List (JobView J) → JobState J
   at items views = record { items = items; views = views }
@@ -46,7 +50,7 @@ module _ {J : Type 0} (Fits : J → Type 0) (a b : J) (a_fits : Fits a) (b_fits 
   over = record (caller 2 [] [] (second ∷ [])) { overs = 1 }
 
   abbrev end : JobState J
-  end = at [] (over ∷ helper [] ∷ idle ∷ idle ∷ idle ∷ [])
+  end = at [] (over ∷ told_helper ∷ idle ∷ idle ∷ idle ∷ [])
 
   -- ---- the crew allows it
 
@@ -90,7 +94,7 @@ module _ {J : Type 0} (Fits : J → Type 0) (a b : J) (a_fits : Fits a) (b_fits 
   ends = (
     told,
     (caller 2 [] [] (second ∷ []), over, refl, refl, refl, refl),
-    (end, (helper [], helper [], Over, refl, refl, refl, refl), refl),
+    (end, (helper [], told_helper, Over, refl, refl, refl, refl), refl),
   )
 
   comes_back : StepsAll Fits second_back (Hands 1 ∷ Receives 0 3 ∷ Settles 0 ∷ Puts 0 Over ∷ Takes 1 ∷ []) end

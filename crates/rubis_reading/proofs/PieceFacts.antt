@@ -1,13 +1,13 @@
 -- Pieces of a text that are given to be read.
 use Rattle.std.proofs.Common.{◌≡◌, ◌∙◌, ◌≤◌, ◌<◌, ◌+◌, ◌-◌, ◌++◌, ◌∷◌, ◌⊎◌, inl, inr, [], ℕ, zero, suc, List, ap, arith, drop, drop-drop, length, length-append, length-drop, length-set, refl, subst, sym, take}
-use Rattle.std.specs.Prelude.{IfOk, None, Result, Some, slice_index_or, slice_set}
+use Rattle.std.specs.Prelude.{IfNone, IfOk, None, Option, Result, Some, slice_index_or, slice_set, ⊤}
 use Rattle.std.specs.Global.{Vec}
 use Rattle.rubis_engine.specs.declared.fault.OutOfMemory.{OutOfMemory}
 use Rattle.rubis_crew.specs.declared.job.Back.{Back}
 use Rattle.rubis_crew.specs.declared.job.Given.{Given}
 use Rattle.rubis_crew.specs.States.{IsBack, LeadState}
 use Rattle.rubis_reading.specs.Chunked.{IsChunk}
-use Rattle.rubis_reading.specs.Readings.{AreGiven, AreOf, AreRead, EachGiven, IsPiece, IsPut, IsReading, passed}
+use Rattle.rubis_reading.specs.Readings.{AreGiven, AreOf, AreRead, EachGiven, IsAmong, IsPiece, IsPut, IsReading, passed}
 use Rattle.rubis_reading.specs.declared.pieces.GivenPiece.{GivenPiece}
 use Rattle.rubis_reading.specs.declared.pieces.Pieces.{Pieces}
 use Rattle.rubis_reading.specs.declared.readings.Reading.{Reading}
@@ -32,6 +32,26 @@ pub each_at : (P : Given Reading → Type 0) (before after : List (Given Reading
 each_at P [] after x all = all.0
 each_at P (y ∷ before) after x all = each_at P before after x all.1
 
+pub among_more : (n : ℕ) (xs : List (Given Reading)) (x : Given Reading) → IsAmong n xs → IsAmong n (xs ++ x ∷ [])
+among_more n [] x h = absurd h
+among_more n (y ∷ xs) x (inl is) = inl is
+among_more n (y ∷ xs) x (inr later) = inr (among_more n xs x later)
+
+pub among_last : (n : ℕ) (xs : List (Given Reading)) (x : Given Reading) → x.number ≡ n → IsAmong n (xs ++ x ∷ [])
+among_last n [] x is = inl is
+among_last n (y ∷ xs) x is = inr (among_last n xs x is)
+
+pub among_without : (n : ℕ) (before after : List (Given Reading)) (x : Given Reading) → (x.number ≡ n → ⊥) → IsAmong n (before ++ x ∷ after)
+    → IsAmong n (before ++ after)
+among_without n [] after x other (inl is) = absurd (other is)
+among_without n [] after x other (inr later) = later
+among_without n (y ∷ before) after x other (inl is) = inl is
+among_without n (y ∷ before) after x other (inr later) = inr (among_without n before after x other later)
+
+none_so : (P Q : Type 0) (r : Option (Result (Vec Stretch) OutOfMemory)) → (P → Q) → IfNone r P → IfNone r Q
+none_so P Q None so h = so h
+none_so P Q (Some v) so h = tt
+
 -- ---- a piece more
 
 pub given_more : (sites window : ℕ) (jobs : List (Given Reading)) (x : Given Reading) (number many : ℕ) (text : List ℕ) (ps : List GivenPiece)
@@ -45,6 +65,7 @@ given_more sites window jobs x number many text [] given is chunk reading = (
     job = each_more (λ y. y.number ≡ number → IsReading sites window (take many text) y.job) jobs x
         (each_so (λ y. y.number < number) (λ y. y.number ≡ number → IsReading sites window (take many text) y.job) jobs
         (λ y lt same. absurd (omega (arith, lt, same))) given) (λ same. reading);
+    waits = among_last number jobs x (omega (arith, is));
   },
   each_more (λ y. y.number < number + 1) jobs x
       (each_so (λ y. y.number < number) (λ y. y.number < number + 1) jobs (λ y lt. omega (arith, lt)) given) (omega (arith, is)),
@@ -57,6 +78,7 @@ given_more sites window jobs x number many text (q ∷ ps) given is chunk readin
         read = given.0.read;
         job = each_more (λ y. y.number ≡ number → IsReading sites window (take q.many text) y.job) jobs x given.0.job
             (λ same. absurd (omega (arith, same, is)));
+        waits = none_so (IsAmong number jobs) (IsAmong number (jobs ++ x ∷ [])) q.read (among_more number jobs x) given.0.waits;
       },
       given_more sites window jobs x (number + 1) many rest ps given.1 (omega (arith, is)) (subst (λ t. IsChunk many t) (sym on) chunk)
           (subst (λ t. IsReading sites window (take many t) x.job) (sym on) reading),
@@ -93,6 +115,27 @@ of_more text old new job many h chunk reading few jobs next items first from sit
 
 -- ---- a result
 
+-- the piece of that number is read, if it is one of them
+abbrev pub IsReadAt : ℕ → ℕ → List GivenPiece → Type 0
+IsReadAt n number [] = ⊤
+IsReadAt n number (p ∷ ps) = (n ≡ number → IfNone p.read ⊥) × IsReadAt n (number + 1) ps
+
+read_none : (n number : ℕ) (ps : List GivenPiece) → (n < number) ⊎ (number + length ps ≤ n) → IsReadAt n number ps
+read_none n number [] out = tt
+read_none n number (p ∷ ps) (inl lt) = (λ is. absurd (omega (arith, lt, is)), read_none n (number + 1) ps (inl (omega (arith, lt))))
+read_none n number (p ∷ ps) (inr le) = (λ is. absurd (omega (arith, le, is)), read_none n (number + 1) ps (inr (omega (arith, le))))
+
+read_put : (n number : ℕ) (ps : List GivenPiece) (k : ℕ) (d : GivenPiece) (result : Result (Vec Stretch) OutOfMemory) → number + k ≡ n
+    → IsReadAt n number (slice_set ps k (record { many = (slice_index_or ps k d).many; read = Some result }))
+read_put n number [] k d result is = tt
+read_put n number (p ∷ ps) zero d result is = (λ same. tt, read_none n (number + 1) ps (inl (omega (arith, is))))
+read_put n number (p ∷ ps) (suc k) d result is = (λ same. absurd (omega (arith, is, same)), read_put n (number + 1) ps k d result (omega (arith, is)))
+
+still_waits : (number : ℕ) (r : Option (Result (Vec Stretch) OutOfMemory)) (before after : List (Given Reading)) (x : Given Reading)
+    → (x.number ≡ number → IfNone r ⊥) → IfNone r (IsAmong number (before ++ x ∷ after)) → IfNone r (IsAmong number (before ++ after))
+still_waits number None before after x read waits = among_without number before after x read waits
+still_waits number (Some v) before after x read waits = tt
+
 pub given_put : (sites window : ℕ) (before after : List (Given Reading)) (x : Given Reading) (number : ℕ) (text : List ℕ) (ps : List GivenPiece) (k : ℕ)
     (d : GivenPiece) (result : Result (Vec Stretch) OutOfMemory) → AreGiven sites window (before ++ x ∷ after) number text ps → number + k ≡ x.number
     → IfOk result (λ list. AreRead x.job.sites x.job.window x.job.text.items list.items)
@@ -106,6 +149,7 @@ given_put sites window before after x number text (p ∷ ps) zero d result given
             (subst (λ k. IfOk result (λ list. AreRead k window x.job.text.items list.items)) job.1
             (subst (λ k. IfOk result (λ list. AreRead x.job.sites k x.job.text.items list.items)) job.2 worked));
         job = given.0.job;
+        waits = tt;
       },
       given.1,
     )
@@ -119,26 +163,28 @@ passed_put (p ∷ ps) zero d result = refl
 passed_put (p ∷ ps) (suc k) d result = ap (λ n. (p.many - 1) + n) (passed_put ps k d result)
 
 pub given_without : (sites window : ℕ) (before after : List (Given Reading)) (x : Given Reading) (number : ℕ) (text : List ℕ) (ps : List GivenPiece)
-    → AreGiven sites window (before ++ x ∷ after) number text ps → AreGiven sites window (before ++ after) number text ps
-given_without sites window before after x number text [] given = each_without (λ y. y.number < number) before after x given
-given_without sites window before after x number text (p ∷ ps) given = (
+    → AreGiven sites window (before ++ x ∷ after) number text ps → IsReadAt x.number number ps → AreGiven sites window (before ++ after) number text ps
+given_without sites window before after x number text [] given read = each_without (λ y. y.number < number) before after x given
+given_without sites window before after x number text (p ∷ ps) given read = (
   record {
     chunk = given.0.chunk;
     read = given.0.read;
     job = each_without (λ y. y.number ≡ number → IsReading sites window (take p.many text) y.job) before after x given.0.job;
+    waits = still_waits number p.read before after x read.0 given.0.waits;
   },
-  given_without sites window before after x (number + 1) (drop (p.many - 1) text) ps given.1,
+  given_without sites window before after x (number + 1) (drop (p.many - 1) text) ps given.1 read.1,
 )
 
 -- a job is back, and its result is with its piece, if that is waited for
 items_put : (sites window : ℕ) (before after : List (Given Reading)) (x : Given Reading) (number : ℕ) (text : List ℕ) (ps qs : List GivenPiece)
     (result : Result (Vec Stretch) OutOfMemory) → AreGiven sites window (before ++ x ∷ after) number text ps
     → IfOk result (λ list. AreRead x.job.sites x.job.window x.job.text.items list.items)
-    → (qs ≡ ps) ⊎ ((k : ℕ) × (p : GivenPiece) × (number + k ≡ x.number) × (k < length ps) × (p ≡ slice_index_or ps k p)
+    → ((qs ≡ ps) × ((x.number < number) ⊎ (number + length ps ≤ x.number))) ⊎ ((k : ℕ) × (p : GivenPiece) × (number + k ≡ x.number) × (k < length ps) × (p ≡ slice_index_or ps k p)
     × (qs ≡ slice_set ps k (record { many = p.many; read = Some result })))
     → AreGiven sites window (before ++ after) number text qs × (length qs ≡ length ps) × (passed qs ≡ passed ps)
-items_put sites window before after x number text ps qs result given worked (inl same) = (
-  subst (λ l. AreGiven sites window (before ++ after) number text l) (sym same) (given_without sites window before after x number text ps given),
+items_put sites window before after x number text ps qs result given worked (inl (same, out)) = (
+  subst (λ l. AreGiven sites window (before ++ after) number text l) (sym same)
+      (given_without sites window before after x number text ps given (read_none x.number number ps out)),
   ap length same,
   ap passed same,
 )
@@ -146,7 +192,8 @@ items_put sites window before after x number text ps qs result given worked (inr
     let v : GivenPiece = record { many = (slice_index_or ps k p).many; read = Some result } in
     let there : qs ≡ slice_set ps k v = set ∙ ap (λ (q : GivenPiece). slice_set ps k (record { many = q.many; read = Some result })) is in (
       subst (λ l. AreGiven sites window (before ++ after) number text l) (sym there)
-          (given_without sites window before after x number text (slice_set ps k v) (given_put sites window before after x number text ps k p result given at worked)),
+          (given_without sites window before after x number text (slice_set ps k v) (given_put sites window before after x number text ps k p result given at worked)
+          (read_put x.number number ps k p result at)),
       ap length there ∙ length-set ps k v,
       ap passed there ∙ passed_put ps k p result,
     )

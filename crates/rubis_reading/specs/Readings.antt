@@ -1,5 +1,5 @@
 -- What a piece of text is read as, and the pieces of a text that are given to be read.
-use Rattle.std.specs.Prelude.{◌≡◌, ◌<◌, ◌+◌, ◌-◌, ◌∷◌, ◌⊎◌, [], ⊤, ℕ, IfOk, IfSome, List, None, Option, Result, Some, drop, length, slice_index_or, slice_set, take, true}
+use Rattle.std.specs.Prelude.{◌≡◌, ◌≤◌, ◌<◌, ◌+◌, ◌-◌, ◌∷◌, ◌⊎◌, [], ⊤, ℕ, IfNone, IfOk, IfSome, List, None, Option, Result, Some, drop, length, slice_index_or, slice_set, take, true}
 use Rattle.std.specs.Global.{Vec}
 use Rattle.rubis_engine.specs.Text.{input_records}
 use Rattle.rubis_engine.specs.declared.fault.OutOfMemory.{OutOfMemory}
@@ -28,11 +28,17 @@ abbrev pub EachGiven : (Given Reading → Type 0) → List (Given Reading) → T
 EachGiven P [] = ⊤
 EachGiven P (x ∷ xs) = P x × EachGiven P xs
 
--- a piece is the front of a text, has that number, and what was read of it are its records
+-- one of the jobs that are given has that number
+abbrev pub IsAmong : ℕ → List (Given Reading) → Type 0
+IsAmong number [] = ⊥
+IsAmong number (x ∷ xs) = (x.number ≡ number) ⊎ IsAmong number xs
+
+-- a piece is the front of a text, has that number, and what was read of it are its records; until it is read its job is given
 pub record IsPiece (sites window : ℕ) (jobs : List (Given Reading)) (number : ℕ) (text : List ℕ) (p : GivenPiece) : Type 0 where
   pub chunk : IsChunk p.many text
   pub read : IfSome p.read (λ result. IfOk result (λ list. AreRead sites window (take p.many text) list.items))
   pub job : EachGiven (λ x. x.number ≡ number → IsReading sites window (take p.many text) x.job) jobs
+  pub waits : IfNone p.read (IsAmong number jobs)
 
 -- the pieces that are given, the first of which has that number: each begins with the end of the one before, and no job has a later number
 abbrev pub AreGiven : ℕ → ℕ → List (Given Reading) → ℕ → List ℕ → List GivenPiece → Type 0
@@ -69,8 +75,8 @@ abbrev pub TakesFirst : List ℕ → Option ReadPiece → Pieces → Type 0
 TakesFirst text None s = (other : List ℕ) → AreOf other s
 TakesFirst text (Some p) s = IsChunk p.many text × AreRead s.sites s.window (take p.many text) p.list.items × AreOf (drop (p.many - 1) text) s
 
--- a result is with its piece, the first of which has that number, if that is waited for
+-- a result is with its piece, the first of which has that number; one of no piece is let go
 abbrev pub IsPut : ℕ → List GivenPiece → Back (Result (Vec Stretch) OutOfMemory) → List GivenPiece → Type 0
 IsPut first old back new =
-    (new ≡ old) ⊎ ((k : ℕ) × (p : GivenPiece) × (first + k ≡ back.number) × (k < length old)
+    ((new ≡ old) × ((back.number < first) ⊎ (first + length old ≤ back.number))) ⊎ ((k : ℕ) × (p : GivenPiece) × (first + k ≡ back.number) × (k < length old)
     × (p ≡ slice_index_or old k p) × (new ≡ slice_set old k (record { many = p.many; read = Some back.result })))

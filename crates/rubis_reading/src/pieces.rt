@@ -1,6 +1,6 @@
 //! Pieces of a text that are given to a crew, and what it reads in them, in order.
 
-ghost use Rattle.std.specs.Prelude.{◌≡◌, ◌≤◌, ◌<◌, ℕ, List, IfOk};
+ghost use Rattle.std.specs.Prelude.{◌≡◌, ◌≤◌, ◌<◌, ℕ, List, IfOk, length, true};
 ghost use Rattle.rubis_crew.specs.States.{new_helper, new_lead};
 ghost use Rattle.rubis_reading.specs.Chunked.{IsChunk};
 
@@ -102,11 +102,12 @@ impl<'a> Pieces<'a> {
         self.crew.helper(&mut self.lead)
     }
 
-    // Gives the next piece of a text, if a record ends in what is left of it and there is room.
+    // Gives the next piece of a text, if a record ends in what is left of it and there is room. Whether it did.
     fn give<T: Wait>(&mut self, rt: &T, text: &[u8]) -> Result<bool, OutOfMemory>
         requires { AreOf text.now self.old }
         ensures setup { KeepFor self.old self.new }
         ensures pieces { AreOf text.now self.new }
+        ensures more { IfOk result (λ more. more ≡ true → length self.old.lead.given < length self.new.lead.given) }
     {
         let (_, rest) = text.split_at(self.from);
         let most = (rest.len() / 4).max(PIECE_MIN).min(PIECE_MAX);

@@ -1,6 +1,6 @@
 //! A run of a service over the chunks of a text.
 
-ghost use Rattle.std.specs.Prelude.{◌≡◌, ◌≤◌, ◌<◌, ◌+◌, ◌^◌, ℕ, List};
+ghost use Rattle.std.specs.Prelude.{◌≤◌, ◌<◌, ◌+◌, ◌^◌, ℕ, List};
 ghost use Rattle.rubis_engine.specs.Reading.{Gives};
 ghost use Rattle.rubis_reading.specs.Chunked.{HasAll, IsLast};
 ghost use Rattle.rubis_serving.specs.Serving.{AnswersEach, Finishes, OfEachNext, OfEachPiece, OfEachYet, PieceEnds, RecordEnds, Turns};

@@ -7,4 +7,5 @@ invariant-loop g l = record {
   ends : (goal.iterator-loop g).is_finite l.iterator';
   crew : l.me.crew ≡ l.fn.me.crew;
   owes : l.me.paid ≡ l.me.taken;
+  heard : l.me.heard ≡ l.fn.me.heard;
 }
