@@ -8,8 +8,8 @@ returns-in_err-finish g c rows inputs =
     (fails-sooner _ _ [] rows _ _ _
     (finish-ends _ _ c.args.clerk.now c.finish.new.clerk c.args.answers.now c.finish.new.answers c.finish.result c.finish.ensures))
 
-pub returns-then-gte : goal.returns-then-gte
-returns-then-gte g c rows inputs =
+pub returns-then-clerk : goal.returns-then-clerk
+returns-then-clerk g c rows inputs =
     fails-sooner _ _ [] rows _ _ _
     (finish-ends _ _ c.args.clerk.now c.finish.new.clerk c.args.answers.now c.finish.new.answers c.finish.result c.finish.ensures)
 
