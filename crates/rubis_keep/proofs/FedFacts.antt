@@ -280,6 +280,14 @@ one-fed before history p c c2 a a2 r h [] inputs = absurd inputs
 one-fed before history p c c2 a a2 r h (fields ∷ []) inputs = h fields inputs.0
 one-fed before history p c c2 a a2 r h (fields ∷ (more ∷ rows)) inputs = absurd inputs.1
 
+-- it was answered, and nothing was put
+pub input-fed : {O F G : Type 0} (before : O → Option (List ℕ)) (history : F → Option History) (p : Input) (c c2 : Clerk G) (a : Answers O F)
+    → TakesNext p c.desk c2.desk → (rows : List (List (List ℕ))) → AreInputs c.desk.site.place.sites rows (p ∷ []) → HasFed before history rows c c2 a a
+unfolding AreInputs
+input-fed before history p c c2 a takes [] inputs = absurd inputs
+input-fed before history p c c2 a takes (fields ∷ []) inputs = step-fed before history fields p c c2 a inputs.0 takes
+input-fed before history p c c2 a takes (fields ∷ (more ∷ rows)) inputs = absurd inputs.1
+
 pub one-input : (sites : ℕ) (fields : List (List ℕ)) (p : Input) → IsInput sites fields p → AreInputs sites (fields ∷ []) (p ∷ [])
 unfolding AreInputs
 one-input sites fields p is = (is, tt)

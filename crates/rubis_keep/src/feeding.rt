@@ -1,6 +1,6 @@
 //! The answers of a site to records.
 
-ghost use Rattle.std.specs.Prelude.{◌∷◌, ℕ, List};
+ghost use Rattle.std.specs.Prelude.{◌∷◌, [], ℕ, List};
 ghost use Rattle.rubis_engine.specs.Reading.{Gives};
 ghost use Rattle.rubis_engine.specs.Text.{input_records};
 ghost use Rattle.rubis_message.specs.Inputs.{FitsIn};

@@ -1,5 +1,5 @@
 use Rattle.std.proofs.Common.{[], ◌∷◌, refl}
-use Rattle.rubis_keep.proofs.FedFacts.{fails-sooner, fed-fails, fed-none, feeds-failed, feeds-on, finish-ends, one-fed, put-rows, step-fed}
+use Rattle.rubis_keep.proofs.FedFacts.{fails-sooner, fed-fails, fed-none, feeds-failed, feeds-on, finish-ends, input-fed, one-fed, put-rows, step-fed}
 use Rattle.rubis_keep.proofs.feeding.feed_input.Goals as goal
 
 pub returns-in_err-finish : goal.returns-in_err-finish
@@ -20,12 +20,12 @@ returns-in_err-take_read g c rows inputs =
 
 pub returns-then-not-is_full : goal.returns-then-not-is_full
 returns-then-not-is_full g c =
-    one-fed _ _ c.args.read c.args.clerk.now _ c.args.answers.now _ _
-    (λ fields is. step-fed _ _ fields c.args.read c.args.clerk.now _ _ is c.in_ok-take_read.ensures.takes)
+    input-fed _ _ c.args.read c.args.clerk.now (record c.args.clerk.now { desk = c.take_read.new.self }) c.args.answers.now c.in_ok-take_read.ensures.takes
 
 pub returns : goal.returns
 returns g c =
+    let taken = record c.args.clerk.now { desk = c.take_read.new.self } in
     one-fed _ _ c.args.read c.args.clerk.now _ c.args.answers.now _ c.put_sink.result
-    (λ fields is. feeds-on _ _ (fields ∷ []) [] _ _ _ _ _ _ c.put_sink.result
-    (step-fed _ _ fields c.args.read c.args.clerk.now _ _ is c.in_ok-take_read.ensures.takes)
-    (put-rows _ _ _ _ _ _ c.put_sink.result refl refl refl c.put_sink.ensures.sink c.put_sink.ensures.ok c.put_sink.ensures.err c.put_sink.ensures.told))
+    (λ fields is. feeds-on _ _ (fields ∷ []) [] c.args.clerk.now taken _ _ _ _ c.put_sink.result
+    (step-fed _ _ fields c.args.read c.args.clerk.now taken _ is c.in_ok-take_read.ensures.takes)
+    (put-rows _ _ taken _ _ _ c.put_sink.result refl refl refl c.put_sink.ensures.sink c.put_sink.ensures.ok c.put_sink.ensures.err c.put_sink.ensures.told))
