@@ -2,7 +2,7 @@
 
 ghost use Rattle.std.specs.Prelude.{◌≡◌, ◌<◌};
 ghost use Rattle.std.specs.Thread.{IsSync};
-ghost use Rattle.rubis_crew.specs.Both.{IsAt};
+ghost use Rattle.rubis_crew.specs.Both.{FindsOver, IsAt, IsOver, StayToldOnce};
 
 use crate::crew::{Crew, Found, Helper};
 use crate::job::Job;
@@ -73,7 +73,9 @@ impl<J: Job, K: Job> Both<J, K> {
     // Does a job of the first crew, if there is one, or else of the second.
     fn help<R: Wait>(&mut self, rt: &R, first: &Crew<J>, second: &Crew<K>) -> Found
         requires { IsAt first.now.id second.now.id self.old }
-        ensures { IsAt first.now.id second.now.id self.new }
+        ensures at { IsAt first.now.id second.now.id self.new }
+        ensures once { StayToldOnce self.old self.new }
+        ensures over { FindsOver result self.new }
     {
         match self.first.help(rt, first) {
             Found::AJob => Found::AJob,
@@ -88,7 +90,9 @@ impl<J: Job, K: Job> Both<J, K> {
     // Helps, or sleeps until a job is given or no more come, if there is none.
     fn help_or_sleep<R: Wait>(&mut self, rt: &R, first: &Crew<J>, second: &Crew<K>) -> Found
         requires { IsAt first.now.id second.now.id self.old }
-        ensures { IsAt first.now.id second.now.id self.new }
+        ensures at { IsAt first.now.id second.now.id self.new }
+        ensures once { StayToldOnce self.old self.new }
+        ensures over { FindsOver result self.new }
     {
         let call = first.prepare_wait();
         let found = self.help(rt, first, second);
@@ -101,7 +105,9 @@ impl<J: Job, K: Job> Both<J, K> {
     /// Helps both crews until no more jobs come, and sleeps while there is none. Jobs of the first go before those of the second.
     pub fn stay<R: Wait>(&mut self, rt: &R, first: &Crew<J>, second: &Crew<K>)
         requires { IsAt first.now.id second.now.id self.old }
-        ensures { IsAt first.now.id second.now.id self.new }
+        ensures at { IsAt first.now.id second.now.id self.new }
+        ensures once { StayToldOnce self.old self.new }
+        ensures over { IsOver self.new }
     {
         for _ in rt.forever() {
             let found = match self.help(rt, first, second) {

@@ -16,6 +16,10 @@ pub struct Post<J: Job> {
 }
 
 impl<J: Job> Post<J> {
+    ghost use Rattle.std.specs.Prelude.{true};
+    ghost use Rattle.rubis_crew.specs.Both.{StaysToldOnce};
+    ghost use Rattle.rubis_crew.specs.declared.crew.Found.TheVariants.{Over};
+
     /// It wasn't told yet.
     pub(crate) fn new(helper: Helper<J>) -> Post<J>
         requires { helper.paid ≡ helper.taken }
@@ -36,10 +40,12 @@ impl<J: Job> Post<J> {
         Post::new(crew.another(&mut self.helper))
     }
 
-    /// Does the first job, if there is one.
+    /// Does the first job, if there is one. It takes once that no more come.
     pub(crate) fn help<R: Wait>(&mut self, rt: &R, crew: &Crew<J>) -> Found
         requires { self.old.helper.crew ≡ crew.now.id }
-        ensures { self.new.helper.crew ≡ crew.now.id }
+        ensures crew { self.new.helper.crew ≡ crew.now.id }
+        ensures once { StaysToldOnce self.old self.new }
+        ensures over { (result ≡ Over → self.new.over ≡ true) × (self.new.over ≡ true → result ≡ Over) }
     {
         if self.over {
             return Found::Over;
