@@ -222,6 +222,7 @@ impl<G: Gate + Drop> Desk<G> {
     /// A site with nothing done, set up so, whose batches are applied under the gate.
     pub fn new(alloc: Global, config: &Config, gate: G) -> Result<Desk<G>, AllocError>
         ensures site { IfOk result (λ desk. (desk.site.place ≡ setup_place config.now) × (desk.site.state ≡ opening_at config.now.site)) }
+        ensures helpers { IfOk result (λ desk. desk.plan.helpers + 1 ≡ config.now.workers) }
         ensures window { IfOk result (λ desk. desk.plan.window ≡ max config.now.batch WINDOW_MIN) }
         ensures fresh { IfOk result (λ desk. IsFresh desk) }
     {

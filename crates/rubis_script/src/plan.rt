@@ -1,6 +1,6 @@
 //! How a site reads ahead.
 
-ghost use Rattle.std.specs.Prelude.{◌≡◌, ◌<◌, max};
+ghost use Rattle.std.specs.Prelude.{◌≡◌, ◌+◌, ◌<◌, max};
 ghost use Rattle.rubis_script.specs.declared.plan.TheConstants.{WINDOW_MIN};
 
 use rubis_replica::Config;
@@ -22,6 +22,7 @@ impl Plan {
     /// How a site of that configuration reads ahead: all of its workers but one are helpers, and a window has at most as many
     /// messages as a batch, or as a piece of the text.
     pub fn of(config: &Config) -> Plan
+        ensures helpers { result.helpers + 1 ≡ config.now.workers }
         ensures window { result.window ≡ max config.now.batch WINDOW_MIN }
         ensures some { 0 < result.window }
     {
