@@ -95,6 +95,18 @@ sound-end (Some x) (Some y) (Some z) bytes more f s g none end =
     let all : x ≡ bytes = f ∙ ap (λ t. bytes ++ t) rest ∙ append-nil bytes in
     are-sound [] x (ap (are_sound []) all ∙ s)
 
+-- a text is not sound of which a reader gave a beginning that isn't
+pub unsound-read : (old mid new : Option (List ℕ)) (bytes more : List ℕ) → Consumes old mid bytes → are_sound [] bytes ≡ true → Consumes mid new more
+    → are_sound (begun_after [] bytes) more ≡ false → IfSome old (λ text. are_sound [] text ≡ false)
+unsound-read None mid new bytes more f s g e = tt
+unsound-read (Some x) None new bytes more f s g e = absurd f
+unsound-read (Some x) (Some y) None bytes more f s g e = absurd g
+unsound-read (Some x) (Some y) (Some z) bytes more f s g e =
+    let on : are_sound (begun_after [] bytes) y ≡ false =
+    ap (are_sound (begun_after [] bytes)) g ∙ are-sound-append (begun_after [] bytes) more z
+    ∙ ap (λ t. t && are_sound (begun_after (begun_after [] bytes) more) z) e in
+    ap (are_sound []) f ∙ are-sound-append [] bytes y ∙ ap (λ t. t && are_sound (begun_after [] bytes) y) s ∙ on
+
 -- what is read of such a text is its whole lines
 pub sound-kept : (line t : List ℕ) → AreSound line t → kept_after false line t ≡ whole_after line t
 sound-kept line [] h = refl

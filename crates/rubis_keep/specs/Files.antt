@@ -17,6 +17,11 @@ abbrev pub IfDiffers : KeepFault → Type 0 → Type 0
 IfDiffers (fault.Differs d) P = P
 IfDiffers other P = ⊤
 
+-- if the fault is that what was kept was changed, this holds
+abbrev pub IfEdited : KeepFault → Type 0 → Type 0
+IfEdited (fault.Edited n) P = P
+IfEdited other P = ⊤
+
 -- at some place a text and the bytes of a reader differ
 abbrev pub DiffersFrom : List ℕ → List ℕ → Type 0
 DiffersFrom old text = (k : ℕ) × (k < length text) × (k < length old) × (get_or old k 0 ≢ get_or text k 0)

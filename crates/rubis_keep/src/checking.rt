@@ -1,6 +1,7 @@
 //! What was kept, read through before it is answered again.
 
-ghost use Rattle.std.specs.Prelude.{◌≡◌, ◌∷◌, ◌<◌, [], ℕ, List, IfOk, IfSome, OnOk, true};
+ghost use Rattle.std.specs.Prelude.{◌≡◌, ◌∷◌, ◌<◌, [], ℕ, List, IfErr, IfOk, IfSome, OnOk, false, true};
+ghost use Rattle.rubis_keep.specs.Files.{IfEdited};
 ghost use Rattle.rubis_keep.specs.Lines.{AreSound, are_sound, begun_after};
 ghost use Rattle.rubis_keep.specs.Places.{begun_bytes};
 
@@ -55,7 +56,8 @@ pub(crate) fn check_kept<T: Wait, C: Read>(
     alloc: Global,
     kept: &mut C,
 ) -> Result<(), KeepFault>
-    ensures { OnOk result (IfSome (C.remaining kept.old) (λ text. AreSound [] text)) }
+    ensures sound { OnOk result (IfSome (C.remaining kept.old) (λ text. AreSound [] text)) }
+    ensures edited { IfErr result (λ e. IfEdited e (IfSome (C.remaining kept.old) (λ text. are_sound [] text ≡ false))) }
 {
     let mut piece = [0; PIECE];
     let mut begun = Vec::new(alloc);

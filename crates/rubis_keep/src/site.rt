@@ -35,6 +35,7 @@ impl<G: Gate + Drop> Clerk<G> {
     pub fn new(alloc: Global, config: &Config, gate: G, limit: u64) -> Result<Clerk<G>, AllocError>
         ensures site { IfOk result (λ clerk. (clerk.desk.site.place ≡ setup_place config.now) × (clerk.desk.site.state ≡ opening_at config.now.site)) }
         ensures fresh { IfOk result (λ clerk. IsFresh clerk.desk) }
+        ensures limit { IfOk result (λ clerk. clerk.limit ≡ limit) }
     {
         Ok(Clerk {
             desk: Desk::new(alloc, config, gate)?,

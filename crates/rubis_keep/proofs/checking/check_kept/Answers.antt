@@ -3,15 +3,21 @@ use Rattle.rubis_keep.specs.Lines.{begun_after}
 use Rattle.rubis_keep.specs.Places.{begun_bytes}
 use Rattle.rubis_keep.proofs.FileFacts.{consumes-more}
 use Rattle.rubis_keep.proofs.LineFacts.{begun-append}
-use Rattle.rubis_keep.proofs.SoundFacts.{sound-end, sound_more}
+use Rattle.rubis_keep.proofs.SoundFacts.{sound-end, sound_more, unsound-read}
 use Rattle.rubis_keep.proofs.checking.check_kept.Goals as goal
 
-pub returns-in-Ok-eq0 : goal.returns-in-Ok-eq0
-returns-in-Ok-eq0 g c =
+pub returns-in-Ok-eq0-clause-sound : goal.returns-in-Ok-eq0-clause-sound
+returns-in-Ok-eq0-clause-sound g c =
     let before = c.loop-turn.invariant.come in
     let none : c.in-Ok-eq0.field-0 ≡ 0 = search rules in
     sound-end _ _ _ before.0 _ before.1 before.2 c.in-Ok-eq0.ensures.bytes.0 (ap (λ n. take n c.read_through_signals.new.buf) none)
     (c.in-Ok-eq0.ensures.bytes.1 none (search rules))
+
+pub returns-then-not-branch-clause-edited : goal.returns-then-not-branch-clause-edited
+returns-then-not-branch-clause-edited g c =
+    let before = c.loop-turn.invariant.come in
+    unsound-read _ _ _ before.0 _ before.1 before.2 c.in-Ok.ensures.bytes.0
+    (sym (c.in_ok-check_bytes-in-Ok.ensures.sound (begun_after [] before.0) before.3) ∙ c.if-not-branch.true)
 
 pub loop-turn-preserved : goal.loop-turn-preserved
 loop-turn-preserved g c =

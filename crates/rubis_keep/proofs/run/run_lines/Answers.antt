@@ -29,9 +29,9 @@ pub returns-in_err-replay-clause-runs : goal.returns-in_err-replay-clause-runs
 returns-in_err-replay-clause-runs g c = record {
   ok = ok-of-err _ c.from_residual-in_err-replay.result c.from_residual-in_err-replay.ensures.0;
   err = let still = still-flushed _ _ c.in_ok-flush.ensures in
-      on_err _ (run-unreplayed _ _ _ _ _ _ _ _ _ _ _ c.in_ok-check_kept.ensures still.0 still.1 (told-kept _ _ _ _ c.replay.result c.replay.ensures.told)
+      on_err _ (run-unreplayed _ _ _ _ _ _ _ _ _ _ _ c.in_ok-check_kept.ensures.sound still.0 still.1 (told-kept _ _ _ _ c.replay.result c.replay.ensures.told)
       c.in_err-replay.ensures.err);
-  safe = λ off h kept old is o opened. run-safe-unreplayed _ _ _ _ h _ _ _ _ c.replay.result kept old off c.in_ok-check_kept.ensures o opened (rw is at c.in_ok-flush.ensures) c.replay.ensures.told
+  safe = λ off h kept old is o opened. run-safe-unreplayed _ _ _ _ h _ _ _ _ c.replay.result kept old off c.in_ok-check_kept.ensures.sound o opened (rw is at c.in_ok-flush.ensures) c.replay.ensures.told
       c.in_err-replay.ensures.err;
   asked = λ kept old o. replies-none _ _ kept _ _ _ c.from_residual-in_err-replay.result c.from_residual-in_err-replay.ensures.0
       (silent-more _ _ _ (silent-flushed _ _ c.in_ok-flush.ensures) (told-silent _ _ _ _ c.replay.result c.replay.ensures.told));
@@ -40,15 +40,15 @@ returns-in_err-replay-clause-runs g c = record {
 pub returns-clause-runs : goal.returns-clause-runs
 returns-clause-runs g c = record {
   ok = let still = still-flushed _ _ c.in_ok-flush.ensures in
-      on_ok_weaker c.go_on.result (run-lived _ _ _ _ _ _ _ _ _ _ _ _ _ _ _ _ _ _ c.in_ok-check_kept.ensures still.0 still.1
+      on_ok_weaker c.go_on.result (run-lived _ _ _ _ _ _ _ _ _ _ _ _ _ _ _ _ _ _ c.in_ok-check_kept.ensures.sound still.0 still.1
       (told-kept _ _ _ _ c.replay.result c.replay.ensures.told) c.in_ok-replay.ensures.ok) c.go_on.ensures.lives.ok;
   err = let still = still-flushed _ _ c.in_ok-flush.ensures in
-      on_err_weaker c.go_on.result (run-ended _ _ _ _ _ _ _ _ _ _ _ _ _ _ _ _ _ _ c.in_ok-check_kept.ensures still.0 still.1
+      on_err_weaker c.go_on.result (run-ended _ _ _ _ _ _ _ _ _ _ _ _ _ _ _ _ _ _ c.in_ok-check_kept.ensures.sound still.0 still.1
       (told-kept _ _ _ _ c.replay.result c.replay.ensures.told) c.in_ok-replay.ensures.ok) c.go_on.ensures.lives.err;
-  safe = λ off h kept old is o opened. run-safe _ _ _ _ _ _ h _ _ _ _ _ _ _ kept old off c.in_ok-check_kept.ensures o opened (rw is at c.in_ok-flush.ensures) c.in_ok-replay.ensures.told
+  safe = λ off h kept old is o opened. run-safe _ _ _ _ _ _ h _ _ _ _ _ _ _ kept old off c.in_ok-check_kept.ensures.sound o opened (rw is at c.in_ok-flush.ensures) c.in_ok-replay.ensures.told
       c.in_ok-replay.ensures.ok c.go_on.ensures.lives.safe;
   asked = λ kept old o. let still = still-flushed _ _ c.in_ok-flush.ensures in
-      let b = run-begins _ _ _ _ _ _ _ c.in_ok-check_kept.ensures still.0 still.1 kept old o in
+      let b = run-begins _ _ _ _ _ _ _ c.in_ok-check_kept.ensures.sound still.0 still.1 kept old o in
       replies-after _ _ kept _ _ _ _ _ c.go_on.result
       (silent-more _ _ _ (silent-flushed _ _ c.in_ok-flush.ensures) (told-silent _ _ _ _ c.replay.result c.replay.ensures.told))
       (c.go_on.ensures.lives.asked _ _ kept b.sound (c.in_ok-replay.ensures.led kept old b));
