@@ -20,11 +20,11 @@ returns c =
     let asked : c.self.inside.asked ≡ c.args.self.now.asked = ap (λ a. a.asked) c.self.view_is in
     let goes_on = goes c.self.inside.asked c.self.inside.sites n old new (line_as fields c.in-Some.line) fields sink sink line more refl in (
       subst (λ q. AnswersRecord GoesOn (account_from c.args.self.now.asked c.args.self.now.sites n old)
-      (account_from q c.take.new.self.sites (n + 1) new) sink sink fields) (sym c.take.ensures.sites.1)
-      (subst (λ s. AnswersRecord GoesOn (account_from c.args.self.now.asked c.args.self.now.sites n old)
-      (account_from c.args.self.now.asked s (n + 1) new) sink sink fields) (sym c.take.ensures.sites.0)
-      (subst (λ q. AnswersRecord GoesOn (account_from q c.args.self.now.sites n old) (account_from q c.args.self.now.sites (n + 1) new) sink sink fields) asked
-      (subst (λ s. AnswersRecord GoesOn (account_from c.self.inside.asked s n old) (account_from c.self.inside.asked s (n + 1) new) sink sink fields) sites
-      goes_on))),
+          (account_from q c.take.new.self.sites (n + 1) new) sink sink fields) (sym c.take.ensures.sites.1)
+          (subst (λ s. AnswersRecord GoesOn (account_from c.args.self.now.asked c.args.self.now.sites n old)
+          (account_from c.args.self.now.asked s (n + 1) new) sink sink fields) (sym c.take.ensures.sites.0)
+          (subst (λ q. AnswersRecord GoesOn (account_from q c.args.self.now.sites n old) (account_from q c.args.self.now.sites (n + 1) new) sink sink fields) asked
+          (subst (λ s. AnswersRecord GoesOn (account_from c.self.inside.asked s n old) (account_from c.self.inside.asked s (n + 1) new) sink sink fields) sites
+          goes_on))),
       λ more last led. tt,
     )

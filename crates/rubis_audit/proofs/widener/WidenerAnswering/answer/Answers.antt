@@ -29,10 +29,10 @@ returns c =
     goes inside.from inside.to number inside.place c.in-Some-after.place
     (line_as fields c.in-Some.line) fields c.args.reply.now.sink c.write_line.new.reply.sink line next c.in_ok-write_line.ensures.text in (
       subst (λ (s : WidenerState). AnswersRecord GoesOn (widening_from s.from s.to number (logs_at s.place))
-      (widening_from c.write_line.new.self.from c.write_line.new.self.to (number + 1) (logs_at c.write_line.new.self.place)) c.args.reply.now.sink
-      c.write_line.new.reply.sink fields) c.self.view_is
-      (subst (λ (s : WidenerState). AnswersRecord GoesOn (widening_from inside.from inside.to number (logs_at inside.place))
-      (widening_from s.from s.to (number + 1) (logs_at s.place)) c.args.reply.now.sink c.write_line.new.reply.sink fields)
-      (sym c.write_line.ensures.state) answered),
+          (widening_from c.write_line.new.self.from c.write_line.new.self.to (number + 1) (logs_at c.write_line.new.self.place)) c.args.reply.now.sink
+          c.write_line.new.reply.sink fields) c.self.view_is
+          (subst (λ (s : WidenerState). AnswersRecord GoesOn (widening_from inside.from inside.to number (logs_at inside.place))
+          (widening_from s.from s.to (number + 1) (logs_at s.place)) c.args.reply.now.sink c.write_line.new.reply.sink fields)
+          (sym c.write_line.ensures.state) answered),
       λ more last led. tt,
     )
