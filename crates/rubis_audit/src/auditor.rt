@@ -235,11 +235,7 @@ impl Service for Auditor {
 }
 
 impl Answering for Auditor {
-    fn answer(
-        &mut self,
-        fields: &InputRecord,
-        reply: &mut Reply,
-    ) -> Result<Course, OutOfMemory> {
+    fn answer(&mut self, fields: &InputRecord, reply: &mut Reply) -> Result<Course, OutOfMemory> {
         if let Some(line) = read_line(self.alloc, fields, self.sites)?
             && self.take(fields, line)?
         {

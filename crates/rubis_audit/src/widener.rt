@@ -170,11 +170,7 @@ impl Service for Widener {
 }
 
 impl Answering for Widener {
-    fn answer(
-        &mut self,
-        fields: &InputRecord,
-        reply: &mut Reply,
-    ) -> Result<Course, OutOfMemory> {
+    fn answer(&mut self, fields: &InputRecord, reply: &mut Reply) -> Result<Course, OutOfMemory> {
         if let Some(line) = read_line(self.alloc, fields, self.from)?
             && let Some(place) = self.place.after(&line)
         {

@@ -56,11 +56,7 @@ impl Service for Echo {
 }
 
 impl Answering for Echo {
-    fn answer(
-        &mut self,
-        fields: &InputRecord,
-        reply: &mut Reply,
-    ) -> Result<Course, OutOfMemory> {
+    fn answer(&mut self, fields: &InputRecord, reply: &mut Reply) -> Result<Course, OutOfMemory> {
         let next = fields.to_fields(self.alloc)?;
         self.write_last(&mut reply.sink)?;
         self.last = Some(next);

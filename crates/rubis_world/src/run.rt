@@ -35,10 +35,10 @@ fn serve<T: Threads + Wait + Sync, R: Read, W: Write>(
     ensures { Finishes told_by_desk LeadsDesk limit R.remaining chunks.old desk.old run.old (W.contents writer.old)
         chunks.new desk.new run.new (W.contents writer.new) result }
 {
-    let answer = |desk: &mut WorldDesk,
-                  fields: &InputRecord,
-                  reply: &mut Reply|
-     -> Result<Course, OutOfMemory>
+    let answer = |desk: &mut WorldDesk, fields: &InputRecord, reply: &mut Reply| -> Result<
+        Course,
+        OutOfMemory,
+    >
         ensures { IsAnswer told_by_desk LeadsDesk desk.old desk.new reply.old reply.new fields.now result }
     {
         desk.respond(rt, fields, reply)?;

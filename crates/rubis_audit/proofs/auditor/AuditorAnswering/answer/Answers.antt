@@ -7,8 +7,8 @@ use Rattle.rubis_audit.specs.Running.{account_from}
 use Rattle.rubis_audit.proofs.Collecting.{goes}
 use Rattle.rubis_audit.proofs.auditor.AuditorAnswering.answer.Goals as goal
 
-pub returns-clause-text : goal.returns-clause-text
-returns-clause-text c =
+pub returns : goal.returns
+returns c =
     let fields = c.args.fields.now in
     let line = sym c.in_ok-line.ensures.line ∙ ap (option_map (line_as fields)) c.in-Some.is in
     let more = rw c.if-branch.true at c.in_ok-take.ensures.logs in
@@ -18,11 +18,13 @@ returns-clause-text c =
     let new = c.take.new.self.logs in
     let sites : c.self.inside.sites ≡ c.args.self.now.sites = ap (λ a. a.sites) c.self.view_is in
     let asked : c.self.inside.asked ≡ c.args.self.now.asked = ap (λ a. a.asked) c.self.view_is in
-    let goes_on = goes c.self.inside.asked c.self.inside.sites n old new (line_as fields c.in-Some.line) fields sink sink line more refl in
-    subst (λ q. AnswersRecord GoesOn (account_from c.args.self.now.asked c.args.self.now.sites n old)
-    (account_from q c.take.new.self.sites (n + 1) new) sink sink fields) (sym c.take.ensures.sites.1)
-    (subst (λ s. AnswersRecord GoesOn (account_from c.args.self.now.asked c.args.self.now.sites n old)
-    (account_from c.args.self.now.asked s (n + 1) new) sink sink fields) (sym c.take.ensures.sites.0)
-    (subst (λ q. AnswersRecord GoesOn (account_from q c.args.self.now.sites n old) (account_from q c.args.self.now.sites (n + 1) new) sink sink fields) asked
-    (subst (λ s. AnswersRecord GoesOn (account_from c.self.inside.asked s n old) (account_from c.self.inside.asked s (n + 1) new) sink sink fields) sites
-    goes_on)))
+    let goes_on = goes c.self.inside.asked c.self.inside.sites n old new (line_as fields c.in-Some.line) fields sink sink line more refl in (
+      subst (λ q. AnswersRecord GoesOn (account_from c.args.self.now.asked c.args.self.now.sites n old)
+          (account_from q c.take.new.self.sites (n + 1) new) sink sink fields) (sym c.take.ensures.sites.1)
+          (subst (λ s. AnswersRecord GoesOn (account_from c.args.self.now.asked c.args.self.now.sites n old)
+          (account_from c.args.self.now.asked s (n + 1) new) sink sink fields) (sym c.take.ensures.sites.0)
+          (subst (λ q. AnswersRecord GoesOn (account_from q c.args.self.now.sites n old) (account_from q c.args.self.now.sites (n + 1) new) sink sink fields) asked
+          (subst (λ s. AnswersRecord GoesOn (account_from c.self.inside.asked s n old) (account_from c.self.inside.asked s (n + 1) new) sink sink fields) sites
+          goes_on))),
+      λ more last led. tt,
+    )

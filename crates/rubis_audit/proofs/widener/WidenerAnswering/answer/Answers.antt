@@ -17,8 +17,8 @@ write_line-requires-clause-written c =
     let few : c.self.inside.from ≤ COUNTED_MAX = omega (arith, c.self.invariant.0, c.self.invariant.1) in
     sym (line_only c.self.inside.from few fields (line_as fields c.in-Some.line) line).1
 
-pub returns-clause-text : goal.returns-clause-text
-returns-clause-text c =
+pub returns : goal.returns
+returns c =
     let inside = c.self.inside in
     let number = c.args.reply.now.number in
     let fields = c.args.fields.now in
@@ -27,10 +27,12 @@ returns-clause-text c =
     let new : WidenerState = record { from = inside.from; to = inside.to; place = c.in-Some-after.place } in
     let answered =
     goes inside.from inside.to number inside.place c.in-Some-after.place
-    (line_as fields c.in-Some.line) fields c.args.reply.now.sink c.write_line.new.reply.sink line next c.in_ok-write_line.ensures.text in
-    subst (λ (s : WidenerState). AnswersRecord GoesOn (widening_from s.from s.to number (logs_at s.place))
-    (widening_from c.write_line.new.self.from c.write_line.new.self.to (number + 1) (logs_at c.write_line.new.self.place)) c.args.reply.now.sink
-    c.write_line.new.reply.sink fields) c.self.view_is
-    (subst (λ (s : WidenerState). AnswersRecord GoesOn (widening_from inside.from inside.to number (logs_at inside.place))
-    (widening_from s.from s.to (number + 1) (logs_at s.place)) c.args.reply.now.sink c.write_line.new.reply.sink fields)
-    (sym c.write_line.ensures.state) answered)
+    (line_as fields c.in-Some.line) fields c.args.reply.now.sink c.write_line.new.reply.sink line next c.in_ok-write_line.ensures.text in (
+      subst (λ (s : WidenerState). AnswersRecord GoesOn (widening_from s.from s.to number (logs_at s.place))
+          (widening_from c.write_line.new.self.from c.write_line.new.self.to (number + 1) (logs_at c.write_line.new.self.place)) c.args.reply.now.sink
+          c.write_line.new.reply.sink fields) c.self.view_is
+          (subst (λ (s : WidenerState). AnswersRecord GoesOn (widening_from inside.from inside.to number (logs_at inside.place))
+          (widening_from s.from s.to (number + 1) (logs_at s.place)) c.args.reply.now.sink c.write_line.new.reply.sink fields)
+          (sym c.write_line.ensures.state) answered),
+      λ more last led. tt,
+    )
