@@ -118,7 +118,7 @@ class Trials:
             said = self.says([edit])
             lines = said.rstrip().split("\n")
             if lines[-1].startswith("logic=not-proved"):
-                first = next((line for line in lines if re.match(r"(note: )?src/\S+:\d+:\d+", line)), lines[0])
+                first = next((line for line in lines if ": error: " in line or re.match(r"(note: )?src/\S+:\d+:\d+: it is not proved", line)), lines[0])
                 print(f"{self.crate.name}/{edit.name}: refused: {first[:200]}", flush=True)
             else:
                 open_still += 1
