@@ -3,11 +3,10 @@ use Rattle.std.proofs.Common.{◌≡◌, ◌∙◌, ◌≤◌, ◌+◌, ◌-◌,
 use Rattle.std.proofs.Common.{take, refl, sym, ap, subst, arith, append_assoc, length-append}
 use lib.Pointwise.{pointwise}
 use Rattle.std.proofs.lemmas.Bool.{eqb-false}
-use Rattle.std.proofs.lemmas.List.{get_or-append-add, get_or_append_left, get_or-drop, get_or-take, length-drop, length-take, length-take-le}
+use Rattle.std.proofs.lemmas.List.{get_or-append-add, get_or-drop, get_or-take, length-drop, length-take, length-take-le}
 use Rattle.std.proofs.lemmas.List.{take_rest}
-use Rattle.rubis_keep.specs.Files.{DiffersFrom, IfDiffers}
-use Rattle.rubis_keep.specs.declared.fault.KeepFault.{KeepFault}
-use Rattle.rubis_keep.specs.declared.fault.KeepFault.TheVariants as fault
+use Rattle.rubis_keep.specs.Files.{DiffersFrom}
+use Rattle.rubis_keep.specs.Kept.{IsFrontOf}
 use Rattle.std.specs.Io.KnownBytes.{Consumes}
 use Rattle.rubis_engine.proofs.FrontFacts.{take-more}
 
@@ -36,45 +35,31 @@ differ-at (x ∷ xs) (y ∷ ys) l e =
 pub slice-at : (at n : ℕ) (text : List ℕ) → take (at + n - at) (drop at text) ≡ take n (drop at text)
 slice-at at n text = let e : at + n - at ≡ n = omega arith in rw e refl
 
-pub differs-later : (o mid new : Option (List ℕ)) (at n : ℕ) (text found : List ℕ) → at ≤ length text → Consumes o mid (take at text)
-    → Consumes mid new found → DiffersFrom found (take (at + n - at) (drop at text)) → IfSome o (λ old. DiffersFrom old text)
-differs-later None mid new at n text found l f g d = tt
-differs-later (Some old) None new at n text found l f g d = absurd f
-differs-later (Some old) (Some m) None at n text found l f g d = absurd g
-differs-later (Some old) (Some m) (Some rest) at n text found l f g d =
+pub differs-later : (at n : ℕ) (text found : List ℕ) → at ≤ length text → DiffersFrom found (take (at + n - at) (drop at text))
+    → DiffersFrom (take at text ++ found) text
+differs-later at n text found l d =
     let k = d.0 in
     let size = length-take-le at text l in
     let within = ap length (slice-at at n text) in
     let bound = length-take n (drop at text) in
     let left = length-drop at text in
-    let whole : old ≡ take at text ++ (found ++ rest) = f ∙ ap (λ t. take at text ++ t) g in
-    let long = ap length whole ∙ length-append (take at text) (found ++ rest) in
-    let long2 = length-append found rest in
-    let here : get_or old (at + k) 0 ≡ get_or found k 0 =
-    ap (λ t. get_or t (at + k) 0) whole
-    ∙ ap (λ n. get_or (take at text ++ (found ++ rest)) (n + k) 0) (sym size)
-    ∙ get_or-append-add (take at text) (found ++ rest) k 0
-    ∙ get_or_append_left found rest 0 k d.2 in
+    let long = length-append (take at text) found in
+    let here : get_or (take at text ++ found) (at + k) 0 ≡ get_or found k 0 =
+    ap (λ n. get_or (take at text ++ found) (n + k) 0) (sym size) ∙ get_or-append-add (take at text) found k 0 in
     let there : get_or text (at + k) 0 ≡ get_or (take (at + n - at) (drop at text)) k 0 =
     sym (get_or-drop at text k 0)
     ∙ sym (get_or-take n (drop at text) k 0 (omega (arith, d.1, within, bound)))
     ∙ ap (λ t. get_or t k 0) (sym (slice-at at n text)) in
-    (at + k, omega (arith, d.1, within, bound, left), omega (arith, d.2, long, long2, size), λ e. d.3 (sym here ∙ e ∙ there))
+    (at + k, omega (arith, d.1, within, bound, left), omega (arith, d.2, long, size), λ e. d.3 (sym here ∙ e ∙ there))
+
+pub front-consumed : (o mid new : Option (List ℕ)) (xs ys : List ℕ) → Consumes o mid xs → Consumes mid new ys → IfSome o (λ old. IsFrontOf (xs ++ ys) old)
+front-consumed None mid new xs ys f g = tt
+front-consumed (Some old) None new xs ys f g = absurd f
+front-consumed (Some old) (Some m) None xs ys f g = absurd g
+front-consumed (Some old) (Some m) (Some rest) xs ys f g = (rest, append_assoc xs ys rest ∙ sym (f ∙ ap (λ t. xs ++ t) g))
 
 pub consumes-front : (o mid new : Option (List ℕ)) (at n : ℕ) (text found : List ℕ) → Consumes o mid (take at text)
     → Consumes mid new found → found ≡ take (at + n - at) (drop at text) → Consumes o new (take (at + n) text)
 consumes-front o mid new at n text found f g e =
     subst (Consumes o new) (ap (λ t. take at text ++ t) (e ∙ slice-at at n text ∙ ap (take n) (sym (take_rest text at))) ∙ take-more at n text)
     (consumes-more o mid new (take at text) found f g)
-
-pub if-differs : (e : KeepFault) (P : Type 0) → P → IfDiffers e P
-if-differs (fault.ReadKept r) P p = tt
-if-differs (fault.ReadOut r) P p = tt
-if-differs (fault.ReadInput r) P p = tt
-if-differs (fault.WriteKept r) P p = tt
-if-differs (fault.WriteOut r) P p = tt
-if-differs (fault.Show r) P p = tt
-if-differs (fault.Edited n) P p = tt
-if-differs (fault.Differs d) P p = p
-if-differs fault.Memory P p = tt
-if-differs fault.TooLong P p = tt

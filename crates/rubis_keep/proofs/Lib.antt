@@ -2,6 +2,7 @@ pub mod LineFacts
 pub mod PageFacts
 pub mod QuoteFacts
 pub mod FileFacts
+pub mod DifferenceFacts
 pub mod RecordFacts
 pub mod WholeFacts
 pub mod PutFacts

@@ -12,11 +12,6 @@ AppendsFront old new bytes = (n : ℕ) × (n ≤ length bytes) × Appends old ne
 abbrev pub Found : Option (List ℕ) → Option (List ℕ) → List ℕ → ℕ → Type 0
 Found old new text n = (n ≤ length text) × Consumes old new (take n text) × (n < length text → IsAtEnd new)
 
--- if the fault is that answers differ, this holds
-abbrev pub IfDiffers : KeepFault → Type 0 → Type 0
-IfDiffers (fault.Differs d) P = P
-IfDiffers other P = ⊤
-
 -- if the fault is that what was kept was changed, this holds
 abbrev pub IfEdited : KeepFault → Type 0 → Type 0
 IfEdited (fault.Edited n) P = P

@@ -3,6 +3,7 @@ pub mod Places
 pub mod Files
 pub mod Whole
 pub mod Kept
+pub mod Differences
 pub mod Left
 pub mod Cuts
 pub mod Shortened

@@ -1,7 +1,8 @@
 //! Answers that are compared with those that were given before, as far as these go.
 
-ghost use Rattle.std.specs.Prelude.{◌≡◌, ◌≤◌, ◌<◌, IfErr, IfOk, IfSome, false, length, true};
-ghost use Rattle.rubis_keep.specs.Files.{DiffersFrom, Found, IfDiffers};
+ghost use Rattle.std.specs.Prelude.{◌≡◌, ◌≤◌, ◌++◌, IfErr, IfOk, IfSome, false, length, string_bytes, take, true};
+ghost use Rattle.rubis_keep.specs.Differences.{HasDifference, IfDiffers, IsDifference, ends_in, first_line, last_line, same_in, shown_line};
+ghost use Rattle.rubis_keep.specs.Files.{DiffersFrom, Found};
 
 use crate::fault::{Difference, KeepFault};
 use rubis_engine::read_through_signals;
@@ -24,18 +25,15 @@ fn is_same(found: &[u8], text: &[u8]) -> bool
 }
 
 // How many lines end in a text.
-pub(crate) fn ends_in(text: &[u8]) -> u64 {
-    let mut lines: u64 = 0;
-    for byte in text {
-        if *byte == b'\n' {
-            lines = lines.saturating_add(1);
-        }
-    }
-    lines
+pub(crate) fn ends_in(text: &[u8]) -> u64
+    ensures { result ≡ ends_in text.now }
+{
+    text.iter().filter(|byte| **byte == b'\n').count() as u64
 }
 
 // How long the beginning is that two texts have in common.
 fn common(found: &[u8], text: &[u8]) -> usize
+    ensures same { result ≡ same_in found.now text.now }
     ensures found { result ≤ length found.now }
     ensures text { result ≤ length text.now }
 {
@@ -48,39 +46,38 @@ fn common(found: &[u8], text: &[u8]) -> usize
     most
 }
 
-// Where the line begins in which a text ends.
-fn line_start(text: &[u8]) -> usize
-    ensures { result ≤ length text.now }
+// The line in which a text ends, as far as it goes.
+fn last_line(text: &[u8]) -> &[u8]
+    ensures { result.now ≡ last_line text.now }
 {
-    let mut start = 0;
-    for at in 0..text.len() {
-        if text[at] == b'\n' {
-            start = at + 1;
-        }
+    match text.iter().rposition(|byte| *byte == b'\n') {
+        Some(at) => &text[at + 1..],
+        None => text,
     }
-    start
 }
 
-// The first line of a text, or its beginning.
-fn first_line(text: &[u8]) -> &[u8] {
-    let most = SHOWN.min(text.len());
-    for at in 0..most {
-        if text[at] == b'\n' {
-            return &text[..at];
-        }
+// The first line of a text, as far as it is shown.
+fn first_line(text: &[u8]) -> &[u8]
+    ensures { result.now ≡ first_line text.now }
+{
+    let begun = &text[..SHOWN.min(text.len())];
+    match begun.iter().position(|byte| *byte == b'\n') {
+        Some(at) => &begun[..at],
+        None => begun,
     }
-    &text[..most]
 }
 
-// The beginning of a line that begins with the one text and goes on with the other.
-fn shown(alloc: Global, begun: &[u8], more: &[u8]) -> Result<String, AllocError> {
+// What is shown of a line that begins with the one text and goes on with the other.
+fn show_line(alloc: Global, begun: &[u8], more: &[u8]) -> Result<String, AllocError>
+    ensures { IfOk result (λ line. string_bytes line ≡ shown_line begun.now more.now) }
+{
     let mut line = Vec::new(alloc);
     line.extend_from_slice(begun)?;
     line.extend_from_slice(first_line(more))?;
     String::from_utf8_lossy(alloc, first_line(&line))
 }
 
-// What differs: the text begins after `lines` whole lines, and what was found from its byte `at` on isn't its.
+// What differs: the text begins after `lines` whole lines, and from its byte `at` on this was found.
 fn difference(
     alloc: Global,
     text: &[u8],
@@ -89,21 +86,22 @@ fn difference(
     lines: u64,
 ) -> Result<Difference, AllocError>
     requires { at ≤ length text.now }
+    ensures { IfOk result (λ d. IsDifference (take at text.now ++ found.now) text.now lines d) }
 {
-    let more = &text[at..];
-    let same = common(found, more);
-    let begun = &text[..at + same];
-    let line = &begun[line_start(begun)..];
+    let same = common(found, &text[at..]);
+    let (begun, answer) = text.split_at(at + same);
+    let line = last_line(begun);
     Ok(Difference {
         line: lines.saturating_add(ends_in(begun)).saturating_add(1),
-        found: shown(alloc, line, &found[same..])?,
-        answered: shown(alloc, line, &more[same..])?,
+        found: show_line(alloc, line, &found[same..])?,
+        answered: show_line(alloc, line, answer)?,
     })
 }
 
 /// What differs, as a fault.
 pub(crate) fn differ(alloc: Global, text: &[u8], at: usize, found: &[u8], lines: u64) -> KeepFault
     requires { at ≤ length text.now }
+    ensures { IfDiffers result (λ d. IsDifference (take at text.now ++ found.now) text.now lines d) }
 {
     match difference(alloc, text, at, found, lines) {
         Ok(difference) => KeepFault::Differs(difference),
@@ -120,7 +118,7 @@ pub(crate) fn compare<O: Read>(
     lines: u64,
 ) -> Result<usize, KeepFault>
     ensures found { IfOk result (λ n. Found (O.remaining before.old) (O.remaining before.new) text.now n) }
-    ensures differs { IfErr result (λ e. IfDiffers e (IfSome (O.remaining before.old) (λ old. DiffersFrom old text.now))) }
+    ensures differs { IfErr result (λ e. IfDiffers e (λ d. IfSome (O.remaining before.old) (λ old. HasDifference old text.now lines d))) }
 {
     let mut buffer = [0; AT_ONCE];
     let mut at = 0;

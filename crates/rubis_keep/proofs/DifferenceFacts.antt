@@ -1,0 +1,93 @@
+-- Where a text has its first line and its last one, and what is told of two texts that differ.
+use Rattle.std.proofs.Common.{◌≡◌, ◌≢◌, ◌∙◌, ◌≤◌, ◌<◌, ◌+◌, ◌^◌, ◌-◌, ◌++◌, ◌∷◌, ◌==◌, [], ℕ, All, List, Option, Some, None, IfSome, drop, get_or, length, min, not, take}
+use Rattle.std.proofs.Common.{refl, sym, ap, subst, take-append-drop, arith}
+use Rattle.std.specs.List.{after_last, before_first, suffix_len}
+use Rattle.std.proofs.Math.Seq.{drop-append-add, take-length}
+use Rattle.std.specs.Prelude.{string_bytes}
+use Rattle.std.proofs.lemmas.Bool.{cond-true, eq-eqb, ne_eqb}
+use Rattle.std.proofs.lemmas.List.{length-drop, length-take-le}
+use Rattle.std.proofs.lemmas.List.Elements.{All-get_or}
+use Rattle.std.proofs.lemmas.List.Sums.{common_prefix_len-le, position_or_len_is, suffix_len_is}
+use Rattle.rubis_keep.specs.Differences.{HasDifference, IfDiffers, IsDifference, ends_in, last_line, same_in, shown_line}
+use Rattle.rubis_keep.specs.Files.{DiffersFrom}
+use Rattle.rubis_keep.specs.Kept.{IsFrontOf}
+use Rattle.rubis_keep.specs.declared.fault.Difference.{Difference}
+use Rattle.rubis_keep.specs.declared.fault.KeepFault.{KeepFault}
+use Rattle.rubis_keep.specs.declared.fault.KeepFault.TheVariants as fault
+
+pub first-line-at : (text : List ℕ) (i : ℕ) → i < length text → get_or text i 0 ≡ 10 → ((k : ℕ) → k < i → get_or text k 0 ≢ 10)
+    → take i text ≡ before_first (λ b. b == 10) text
+first-line-at text i inside here before =
+    ap (λ n. take n text) (sym (position_or_len_is (λ b. b == 10) text i 0 (omega (arith, inside)) (λ k l. ne_eqb _ _ (before k l)) (λ l. eq-eqb _ _ here)))
+
+pub first-line-all : (text : List ℕ) → All (λ b. b ≢ 10) text → text ≡ before_first (λ b. b == 10) text
+first-line-all text none =
+    sym (ap (λ n. take n text) (position_or_len_is (λ b. b == 10) text (length text) 0 (omega arith) (λ k l. ne_eqb _ _ (All-get_or (λ b. b ≢ 10) text k 0 l none))
+    (λ l. absurd (omega (arith, l)))) ∙ take-length text)
+
+pub last-line-at : (text : List ℕ) (i : ℕ) → i < length text → get_or text i 0 ≡ 10 → ((k : ℕ) → i + 1 ≤ k → k < length text → get_or text k 0 ≢ 10)
+    → drop (i + 1) text ≡ after_last (λ b. b == 10) text
+last-line-at text i inside here after =
+    let at : i + 1 - 1 ≡ i = omega arith in
+    let size = suffix_len_is (λ b. not (b == 10)) text (i + 1) 0 (omega (arith, inside)) (λ k l m. ap not (ne_eqb _ _ (after k l m)))
+        (λ l. ap not (eq-eqb _ _ (ap (λ n. get_or text n 0) at ∙ here))) in
+    ap (λ n. drop n text) (omega (arith, inside, size))
+
+pub last-line-all : (text : List ℕ) → All (λ b. b ≢ 10) text → text ≡ after_last (λ b. b == 10) text
+last-line-all text none =
+    let size = suffix_len_is (λ b. not (b == 10)) text 0 0 (omega arith) (λ k l m. ap not (ne_eqb _ _ (All-get_or (λ b. b ≢ 10) text k 0 m none))) (λ l. absurd (omega (arith, l))) in
+    let whole : 0 ≡ length text - suffix_len (λ b. not (b == 10)) text = omega (arith, size) in
+    ap (λ n. drop n text) whole
+
+pub same-after : (front found more : List ℕ) → same_in (front ++ found) (front ++ more) ≡ length front + same_in found more
+same-after [] found more = omega arith
+same-after (x ∷ xs) found more =
+    let later = same-after xs found more in
+    cond-true _ _ _ (eq-eqb x x refl) ∙ omega (arith, later)
+
+pub same-none : (n : ℕ) (found text : List ℕ) → min (length found) (length text) ≤ n → same_in (drop n found) (drop n text) ≡ 0
+same-none n found text l =
+    let within = common_prefix_len-le (λ x y. x == y) (drop n found) (drop n text) in
+    let left = length-drop n found in
+    let right = length-drop n text in
+    omega (arith, l, within.0, within.1, left, right)
+
+-- where the texts have `at` bytes in common, and then `same` more
+pub is-difference : (at same : ℕ) (text found : List ℕ) (lines : ℕ) (d : Difference) → at ≤ length text → same ≡ same_in found (drop at text)
+    → (let number = lines + ends_in (take (at + same) text) + 1 in number < 2 ^ 64 → d.line ≡ number)
+    → string_bytes d.found ≡ shown_line (last_line (take (at + same) text)) (drop same found)
+    → string_bytes d.answered ≡ shown_line (last_line (take (at + same) text)) (drop (at + same) text)
+    → IsDifference (take at text ++ found) text lines d
+is-difference at same text found lines d l e line shown answered =
+    let size = length-take-le at text l in
+    let here : same_in (take at text ++ found) text ≡ at + same =
+    ap (same_in (take at text ++ found)) (sym (take-append-drop at text)) ∙ same-after (take at text) found (drop at text)
+    ∙ ap (λ n. n + same_in found (drop at text)) size ∙ ap (λ n. at + n) (sym e) in
+    let rest : drop (at + same) (take at text ++ found) ≡ drop same found =
+    ap (λ n. drop (n + same) (take at text ++ found)) (sym size) ∙ drop-append-add (take at text) found same in
+    record {
+      line = subst (λ n. let number = lines + ends_in (take n text) + 1 in number < 2 ^ 64 → d.line ≡ number) (sym here) line;
+      found = subst (λ n. string_bytes d.found ≡ shown_line (last_line (take n text)) (drop n (take at text ++ found))) (sym here)
+          (shown ∙ ap (shown_line (last_line (take (at + same) text))) (sym rest));
+      answered = subst (λ n. string_bytes d.answered ≡ shown_line (last_line (take n text)) (drop n text)) (sym here) answered;
+    }
+
+pub shown-of : {begun begun2 more more2 : List ℕ} → begun ≡ begun2 → more ≡ more2 → shown_line begun more ≡ shown_line begun2 more2
+shown-of {begun} {begun2} {more} {more2} e f = ap (λ t. shown_line t more) e ∙ ap (shown_line begun2) f
+
+pub has-difference : (o : Option (List ℕ)) (came text : List ℕ) (lines : ℕ) (d : Difference) → IfSome o (λ old. IsFrontOf came old)
+    → DiffersFrom came text → IsDifference came text lines d → IfSome o (λ old. HasDifference old text lines d)
+has-difference None came text lines d f g h = tt
+has-difference (Some old) came text lines d f g h = record { came = came; front = f; differs = g; tells = h }
+
+pub if-differs-more : (e : KeepFault) (P Q : Difference → Type 0) → ((d : Difference) → P d → Q d) → IfDiffers e P → IfDiffers e Q
+if-differs-more (fault.ReadKept r) P Q f p = tt
+if-differs-more (fault.ReadOut r) P Q f p = tt
+if-differs-more (fault.ReadInput r) P Q f p = tt
+if-differs-more (fault.WriteKept r) P Q f p = tt
+if-differs-more (fault.WriteOut r) P Q f p = tt
+if-differs-more (fault.Show r) P Q f p = tt
+if-differs-more (fault.Edited n) P Q f p = tt
+if-differs-more (fault.Differs d) P Q f p = f d p
+if-differs-more fault.Memory P Q f p = tt
+if-differs-more fault.TooLong P Q f p = tt
