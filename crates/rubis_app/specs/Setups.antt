@@ -1,9 +1,11 @@
--- The configurations that a command line asks for, but for that of one site.
+-- What a command line asks for, but for the configuration of one site.
 use Rattle.std.specs.Prelude.{Bool, not, is_some, unwrap_or, ◌&&◌, ◌||◌}
 use Rattle.rubis_schema.specs.declared.limits.TheConstants.{KEEP_MAX}
+use Rattle.rubis_cli.specs.declared.keep_options.KeepOptions.{KeepOptions}
 use Rattle.rubis_cli.specs.declared.options.LackOptions.{LackOptions}
 use Rattle.rubis_cli.specs.declared.options.Options.{Options}
 use Rattle.rubis_cli.specs.declared.options.SetupOptions.{SetupOptions}
+use Rattle.rubis_keep.specs.declared.keep.Wanted.{Wanted}
 use Rattle.rubis_world.specs.Setup.{WorldSetup}
 
 -- the options of a site whose input is read for what waits: site 0, which keeps as many messages as a site can, where nothing else is said
@@ -20,3 +22,11 @@ names_a_site l = not l.waiting && (is_some l.site || is_some l.keep)
 -- the configuration of several sites
 abbrev pub world_setup_of : SetupOptions → WorldSetup
 world_setup_of s = record { sites = s.sites; shards = s.shards; workers = s.workers; batch = s.batch; keep = s.keep }
+
+-- what is asked for of a site in a folder
+abbrev pub wanted_of : KeepOptions → Wanted
+wanted_of k = record {
+  site = k.site; sites = k.sites; keep = k.keep;
+  shards = k.shards; workers = k.workers; batch = k.batch;
+  is_synced = k.sync; shortens = k.shorten; upgrades = k.upgrade;
+}

@@ -9,7 +9,7 @@ ghost use Rattle.std.specs.Process.{exit_status};
 ghost use Rattle.rubis_world.specs.Script.{IsSetup};
 ghost use Rattle.rubis_command.specs.Setups.{setup_of};
 ghost use Rattle.rubis_command.specs.Statuses.{IsRunStatus, IsStatus, IsStatusOf};
-ghost use Rattle.rubis_app.specs.Setups.{names_a_site, waiting_options, world_setup_of};
+ghost use Rattle.rubis_app.specs.Setups.{names_a_site, waiting_options, wanted_of, world_setup_of};
 ghost use Rattle.rubis_world.specs.Setup.{IsWorldSetup};
 ghost use Rattle.rubis_app.specs.Statuses.{status_of};
 
@@ -315,7 +315,9 @@ fn status_of(fault: &FolderFault) -> u8
 }
 
 // What is asked for of a site in a folder.
-fn wanted_of(options: &KeepOptions) -> Wanted {
+fn wanted_of(options: &KeepOptions) -> Wanted
+    ensures { result ≡ wanted_of options.now }
+{
     Wanted {
         site: options.site,
         sites: options.sites,

@@ -1,4 +1,4 @@
-//! What the words of a record say that it is, and what its fields may be then.
+//! For the check of an input: what the words of a record say that it is, and what its fields may be then.
 
 ghost use Rattle.std.specs.Prelude.{◌≡◌, ◌≤◌, bytes_eq};
 ghost use Rattle.rubis_audit.specs.Shapes.{asked_tail, audit_shape, effect_in, effect_said, head_of, is_open, is_sent, request_shape};

@@ -1,4 +1,4 @@
-//! The laws of the rule, stated in specs/Laws.
+//! The laws of the board's rule, stated in specs/Laws.
 
 ghost use Rattle.rubis_board.specs.Laws.{StepsKeepTheRule, StepsMoveThePosted};
 

@@ -1,7 +1,7 @@
 -- How a site in a folder is set up, by what is asked for and what the folder has.
 use Rattle.std.specs.Prelude.{◌≡◌, ◌≤◌, unwrap_or}
 use Rattle.rubis_schema.specs.declared.limits.TheConstants.{KEEP_MAX}
-use Rattle.rubis_model.specs.Site.{Place}
+use Rattle.rubis_script.specs.Replica.{IsSetup, Setup as SiteSetup}
 use Rattle.rubis_keep.specs.declared.keep.Wanted.{Wanted}
 use Rattle.rubis_keep.specs.declared.setup.Setup.{Setup}
 
@@ -16,6 +16,10 @@ GoesOn w s = (unwrap_or w.site s.site ≡ s.site) × (unwrap_or w.sites s.sites 
 abbrev pub next_setup : Wanted → Setup → Setup
 next_setup w s = record s { keep = unwrap_or w.keep s.keep }
 
--- what the answers of a site depend on that is set up so
-abbrev pub place_of : Setup → Place
-place_of s = record { site = s.site; sites = s.sites; keep = s.keep }
+-- the configuration of a site that is set up so, with the shards, workers and batches that are asked for
+abbrev pub config_of : Wanted → Setup → SiteSetup
+config_of w s = record { site = s.site; sites = s.sites; shards = w.shards; workers = w.workers; batch = w.batch; keep = s.keep }
+
+-- a site can be set up so
+abbrev pub IsPossible : Setup → Type 0
+IsPossible s = IsSetup (record { site = s.site; sites = s.sites; shards = 1; workers = 1; batch = 1; keep = s.keep })

@@ -92,7 +92,7 @@ pub enum FolderFault {
     NoName,
     /// There is no site in the folder, or no such folder, and what a site kept was to be shortened.
     NoSite,
-    /// A site that isn't below the number of sites was asked for.
+    /// A site that isn't below the number of sites was asked for, or a number that isn't within its limits.
     NotBelow,
     /// The folder is that of a site that is set up so, and something else was asked for.
     IsOther(Setup),

@@ -1,9 +1,9 @@
 //! A site in a folder, from its start to its end.
 
-ghost use Rattle.std.specs.Prelude.{◌≡◌, IfSome};
+ghost use Rattle.std.specs.Prelude.{◌≡◌, ◌<◌, IfOk};
 ghost use Rattle.std.specs.Option.{SomeIff};
-ghost use Rattle.rubis_script.specs.Replica.{setup_place};
-ghost use Rattle.rubis_keep.specs.Setups.{GoesOn, next_setup, opening_setup, place_of};
+ghost use Rattle.rubis_script.specs.Replica.{IsSetup};
+ghost use Rattle.rubis_keep.specs.Setups.{GoesOn, config_of, next_setup, opening_setup};
 
 use crate::answers::Answers;
 use crate::fault::{FolderFault, KeepFault};
@@ -53,6 +53,17 @@ impl Wanted {
         }
     }
 
+    // The same, if that is possible.
+    fn begun(&self) -> Result<Setup, FolderFault>
+        ensures { IfOk result (λ setup. (setup ≡ opening_setup self.now) × (setup.site < setup.sites)) }
+    {
+        let setup = self.opening();
+        if setup.site >= setup.sites {
+            return Err(FolderFault::NotBelow);
+        }
+        Ok(setup)
+    }
+
     // How a site goes on that was set up so: it may keep more. `None` if something else is asked for.
     fn goes_on(&self, setup: Setup) -> Option<Setup>
         ensures { SomeIff result (GoesOn self.now setup) (next_setup self.now setup) }
@@ -67,9 +78,9 @@ impl Wanted {
         }
     }
 
-    // The configuration of a site that is set up so.
+    // The configuration of a site that is set up so, if each number is within its limits.
     fn config<R: RandomSource>(&self, rt: &R, setup: Setup) -> Option<Config>
-        ensures { IfSome result (λ config. setup_place config ≡ place_of setup) }
+        ensures { SomeIff result (IsSetup (config_of self.now setup)) (config_of self.now setup) }
     {
         let config = Config::new(
             setup.site,
@@ -96,10 +107,7 @@ fn settled<R: Files<File = File> + AllocGlobal>(
     if kept.metadata().map_err(FolderFault::Kept)?.len() > 0 {
         return Err(FolderFault::NoSetup);
     }
-    let setup = wanted.opening();
-    if setup.site >= setup.sites {
-        return Err(FolderFault::NotBelow);
-    }
+    let setup = wanted.begun()?;
     write_setup(rt, folder, setup).map_err(FolderFault::Setup)?;
     Ok(setup)
 }
@@ -235,23 +243,26 @@ fn run<R: Files<File = File> + Print + Input + AllocGlobal + Threads + Wait + Sy
     }
 }
 
-// Makes the folder, if there is none. Where a site's records are to be shortened nothing is made: there has to be a site.
+// Makes the folder, if there is none. Nothing is made for a site that can't be, or where a site's records are to be shortened: there has to
+// be a site.
 fn make_folder<R: Files<File = File> + AllocGlobal>(
     rt: &R,
     folder: &str,
-    shortens: bool,
+    wanted: &Wanted,
 ) -> Result<(), FolderFault> {
     if folder.is_empty() {
         return Err(FolderFault::NoName);
     }
-    if !shortens {
-        return fs::create_dir_all(rt, folder).map_err(FolderFault::Folder);
-    }
     match read_setup(rt, folder) {
-        Ok(Some(_)) => Ok(()),
-        Ok(None) => Err(FolderFault::NoSite),
-        Err(e) => Err(FolderFault::Setup(e)),
+        Ok(Some(_)) if wanted.shortens => return Ok(()),
+        Ok(None) if wanted.shortens => return Err(FolderFault::NoSite),
+        Err(e) if wanted.shortens => return Err(FolderFault::Setup(e)),
+        Ok(None) => {
+            wanted.begun()?;
+        }
+        _ => {}
     }
+    fs::create_dir_all(rt, folder).map_err(FolderFault::Folder)
 }
 
 // Runs a site that keeps more messages from now on. What was kept is answered first as it was told, by the configuration that the
@@ -288,7 +299,7 @@ pub fn keep_folder<
         + Wait
         + Sync,
 >(rt: &R, folder: &str, wanted: &Wanted) -> Result<(), FolderFault> {
-    make_folder(rt, folder, wanted.shortens)?;
+    make_folder(rt, folder, wanted)?;
     let _lock = take_lock(rt, folder)?;
     // A process that was killed may have left a rename that isn't on the disk.
     if wanted.is_synced {

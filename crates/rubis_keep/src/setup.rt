@@ -1,6 +1,10 @@
 //! How a site is set up, as its folder has it.
 
+ghost use Rattle.std.specs.Prelude.{IfSome};
+ghost use Rattle.rubis_keep.specs.Setups.{IsPossible};
+
 use crate::files::{begin, settle};
+use rubis_script::Config;
 use std::fs::{File, Files};
 use std::io;
 use std::io::{ErrorKind, Read, Write};
@@ -18,8 +22,10 @@ pub struct Setup {
 }
 
 impl Setup {
-    // What a line says that `write_setup` has written.
-    fn read(line: &str) -> Option<Setup> {
+    // What a line says that `write_setup` has written: `None` where no site can be set up so.
+    fn read(line: &str) -> Option<Setup>
+        ensures { IfSome result IsPossible }
+    {
         let mut fields = line.trim_end().split(',');
         if fields.next()? != "setup" {
             return None;
@@ -33,6 +39,7 @@ impl Setup {
         if fields.next().is_some() {
             return None;
         }
+        let _alone = Config::new(setup.site, setup.sites, 1, 1, 1, setup.keep)?;
         Some(setup)
     }
 }
@@ -41,7 +48,7 @@ impl Setup {
 ///
 /// # Errors
 ///
-/// Those of the file system, and `InvalidData` if what it says isn't read.
+/// Those of the file system, and `InvalidData` if what it says isn't read, or no site can be set up so.
 pub(crate) fn read_setup<R: Files<File = File> + AllocGlobal>(
     rt: &R,
     folder: &str,

@@ -1,14 +1,15 @@
 -- What handing a chunk on does to the records that are to come.
-use Rattle.std.proofs.Common.{◌≡◌, ◌≤◌, ◌<◌, ◌+◌, ◌-◌, ◌∷◌, [], ◌++◌, ◌∙◌, ℕ, zero, suc, List, length, take, drop, Option, Some, None, sym, refl, ap, arith, append_assoc}
+use Rattle.std.proofs.Common.{◌≡◌, ◌≤◌, ◌<◌, ◌+◌, ◌-◌, ◌∷◌, [], ◌++◌, ◌∙◌, ℕ, zero, suc, false, true, List, length, take, drop, Option, Some, None, sym, refl, ap, arith, append_assoc}
 use Rattle.std.proofs.Common.{append-nil, length-append, take-append-drop}
 use Rattle.std.proofs.Transfers.{drop-appended}
 use Rattle.std.proofs.lemmas.List.{length-take-le}
+use Rattle.std.specs.Int.{from_bool}
 use Rattle.std.specs.Prelude.{Bool, IfSome}
 use Rattle.std.specs.Io.KnownBytes.{Consumes, Keeps, prepend_known}
 use Rattle.csv.specs.Reading.{strip_bom}
 use Rattle.rubis_reading.specs.Streams.{IsWhole, records_on}
 use Rattle.rubis_engine.specs.Text.{input_records}
-use Rattle.rubis_reading.specs.Chunked.{HasCome, HasPending, IsChunk, IsFilled, KeepsCome, KeepsPending, held_text}
+use Rattle.rubis_reading.specs.Chunked.{ComesNearer, HasCome, HasPending, IsChunk, IsFilled, KeepsCome, KeepsPending, held_text}
 use Rattle.rubis_reading.specs.declared.chunks.Chunks.{Chunks}
 use Rattle.rubis_reading.proofs.StreamFacts.{all-from-here, cut-off}
 
@@ -69,8 +70,43 @@ taken held bytes (Some xs) many some within whole e =
 pub pending-front : {R : Type 0} (rem : R → Option (List ℕ)) (c : Chunks R) (many : ℕ) (rows : List (List (List ℕ))) → IsChunk many (held_text c)
     → HasPending rem c rows → (more : List (List (List ℕ))) × (rows ≡ input_records (take many (held_text c)) ++ more)
 pending-front rem c many rows (some, within, whole) h =
-    let (left, same, split) = taken c.held h.bytes (rem c.reader) many some within whole h.source in
+    let (left, same, split) = taken c.held h.bytes (rem c.reader) many (omega (arith, some)) within whole h.source in
     (input_records left, h.reads ∙ split)
+
+-- ---- how far the end is
+
+pub nearer-none : {R : Type 0} (rem : R → Option (List ℕ)) (c : Chunks R) → ComesNearer 0 rem c c
+nearer-none rem c left e = (left, e, omega arith)
+
+pub nearer-more : {R : Type 0} (m n k : ℕ) (rem : R → Option (List ℕ)) (a b c : Chunks R) → k ≤ m + n → ComesNearer m rem a b → ComesNearer n rem b c
+    → ComesNearer k rem a c
+nearer-more m n k rem a b c few one two left e =
+    let (left1, e1, l1) = one left e in
+    let (left2, e2, l2) = two left1 e1 in
+    (left2, e2, omega (arith, few, l1, l2))
+
+-- bytes that came are held, if there were any
+pub filled-on : {R : Type 0} (rem : R → Option (List ℕ)) (first old new : Chunks R) (more some : Bool) → ComesNearer 0 rem first old
+    → IsFilled (rem old.reader) (rem new.reader) old.held new.held more → (some ≡ true → more ≡ true) → ComesNearer (from_bool some) rem first new
+filled-on rem first old new more some one f so left e =
+    let (left1, e1, l1) = one left e in
+    let (left2, source, split) = rest left1 (rem old.reader) (rem new.reader) f.consumed e1 in
+    let grown = ap length f.behind in
+    let size = length-append old.held f.bytes in
+    let parts = ap length split in
+    let sizes = length-append f.bytes left2 in
+    let least = at some (λ yes. f.some (so yes)) in
+    (left2, source, omega (arith, grown, size, parts, sizes, least, l1))
+  where
+    rest : (left : List ℕ) (before after : Option (List ℕ)) → Consumes before after f.bytes → before ≡ Some left
+        → (left2 : List ℕ) × (after ≡ Some left2) × (left ≡ f.bytes ++ left2)
+    rest left None after taken e = absurd cc
+    rest left (Some xs) None taken e = absurd taken
+    rest left (Some xs) (Some ys) taken e = (ys, refl, sym (some-is e) ∙ taken)
+
+    at : (b : Bool) → (b ≡ true → 0 < length f.bytes) → from_bool b ≤ length f.bytes
+    at true l = omega (arith, l refl)
+    at false l = omega arith
 
 -- ---- what came of an input
 

@@ -1,5 +1,5 @@
 -- What a source of chunks has still to give.
-use Rattle.std.specs.Prelude.{◌≡◌, ◌≤◌, ◌<◌, ◌++◌, ℕ, Bool, List, Option, Some, false, length, take, true}
+use Rattle.std.specs.Prelude.{◌≡◌, ◌≤◌, ◌<◌, ◌+◌, ◌*◌, ◌++◌, ℕ, Bool, List, Option, Some, false, length, take, true}
 use Rattle.std.specs.Io.KnownBytes.{Consumes, IsAtEnd, prepend_known}
 use Rattle.rubis_engine.specs.Text.{input_records}
 use Rattle.rubis_reading.specs.Streams.{EndsNoRecord, IsWhole}
@@ -13,9 +13,9 @@ held_text c = c.held
 abbrev pub pending_text : {R : Type 0} → (R → Option (List ℕ)) → Chunks R → Option (List ℕ)
 pending_text rem c = prepend_known (held_text c) (rem c.reader)
 
--- the first `many` bytes are whole records
+-- the first `many` bytes are whole records, and more than the line end that may stand first
 abbrev pub IsChunk : ℕ → List ℕ → Type 0
-IsChunk many text = (0 < many) × (many ≤ length text) × IsWhole (take many text)
+IsChunk many text = (1 < many) × (many ≤ length text) × IsWhole (take many text)
 
 -- a source of chunks has these records still to give
 pub record HasPending {R : Type 0} (rem : R → Option (List ℕ)) (c : Chunks R) (rows : List (List (List ℕ))) : Type 0 where
@@ -60,6 +60,15 @@ pub record HasCome {R : Type 0} (rem : R → Option (List ℕ)) (input : List �
 -- all that came is there still
 abbrev pub KeepsCome : {R : Type 0} → (R → Option (List ℕ)) → Chunks R → Chunks R → Type 0
 KeepsCome rem old new = (input : List ℕ) → HasCome rem input old → HasCome rem input new
+
+-- how far it is to the end of a text: each byte that is held is still to be handed on, and each of those `to_come` to be taken in before
+abbrev pub way : List ℕ → List ℕ → ℕ
+way held to_come = length held + 2 * length to_come
+
+-- by n or more it is nearer to the end of a text, where that is known
+abbrev pub ComesNearer : {R : Type 0} → ℕ → (R → Option (List ℕ)) → Chunks R → Chunks R → Type 0
+ComesNearer n rem old new = (left : List ℕ) → rem old.reader ≡ Some left
+    → (left2 : List ℕ) × (rem new.reader ≡ Some left2) × (way (held_text new) left2 + n ≤ way (held_text old) left)
 
 -- the reader failed: all that came is there still, and no record ends in what is held, if none did before
 pub record FailsShort {R : Type 0} (rem : R → Option (List ℕ)) (old new : Chunks R) : Type 0 where

@@ -1,12 +1,14 @@
 //! A source of chunks of text, each of whole records, over a reader.
 
-ghost use Rattle.std.specs.Prelude.{◌≡◌, ◌≤◌, ◌<◌, ◌-◌, drop, false, length, take, true, IfSome, IfOk, IsErrOf, OnOk};
+ghost use Rattle.std.specs.Prelude.{◌≡◌, ◌≤◌, ◌<◌, ◌-◌, [], drop, false, length, take, true, IfSome, IfOk, IsErrOf, OnOk};
+ghost use Rattle.std.specs.Int.{from_bool};
 ghost use Rattle.rubis_reading.specs.Streams.{EndsNoRecord, IsWhole, NoWholeAfter};
 ghost use Rattle.rubis_engine.specs.Text.{input_records};
-ghost use Rattle.rubis_reading.specs.Chunked.{FailsShort, HasCome, HasPending, IsLast, KeepsCome, KeepsPending, TakesOff, held_text};
+ghost use Rattle.rubis_reading.specs.Chunked.{ComesNearer, FailsShort, HasCome, HasPending, IsLast, KeepsCome, KeepsPending, TakesOff, held_text};
 
 use crate::buffer::{Buffer, ChunkFault};
 use crate::cuts::{Looked, look_for_end, whole_end};
+use rubis_engine::Sink;
 use std::alloc::Global;
 use std::io::Read;
 
@@ -49,12 +51,18 @@ impl<R: Read> Chunks<R> {
     /// Asks the reader for more until a record ends in what is held, and says whether there was any. Where there was none the bytes that
     /// are held are the rest. No byte is looked at again when more come, however long a record is.
     ///
+    /// A reader may wait for its next bytes until it has the answers to those before. So it is asked only where no record ends in what is
+    /// held, and no answer waits in `answers`, the sink from which they are written.
+    ///
     /// # Errors
     ///
     /// `Read` if the reader failed: what came is held. `Memory` if there is no room for more.
-    pub fn fill(&mut self) -> Result<bool, ChunkFault>
+    pub fn fill(&mut self, _answers: &Sink) -> Result<bool, ChunkFault>
+        requires none { EndsNoRecord (held_text self.old) }
+        requires written { _answers.now ≡ [] }
         ensures keeps { OnOk result (KeepsPending R.remaining self.old self.new) }
         ensures more { IfOk result (λ more. more ≡ true → length (held_text self.old) < length (held_text self.new)) }
+        ensures nearer { IfOk result (λ more. ComesNearer (from_bool more) R.remaining self.old self.new) }
         ensures last { IfOk result (λ more. more ≡ false → IsLast R.remaining self.new) }
         ensures come { OnOk result (KeepsCome R.remaining self.old self.new) }
         ensures failed { IsErrOf result ChunkFault.Read → FailsShort R.remaining self.old self.new }
@@ -95,6 +103,7 @@ impl<R: Read> Chunks<R> {
         ensures takes { TakesOff R.remaining self.old self.new (take many (held_text self.old)) }
         ensures come { KeepsCome R.remaining self.old self.new }
         ensures held { held_text self.new ≡ drop (many - 1) (held_text self.old) }
+        ensures nearer { ComesNearer (many - 1) R.remaining self.old self.new }
     {
         self.held.pass(many - 1);
     }

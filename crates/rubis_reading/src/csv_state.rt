@@ -1,4 +1,4 @@
-//! Where the machine of CSV stands, as far as quotes and ends of records go.
+//! Where a reader of CSV stands behind the bytes of a chunk, as far as quotes and ends of records go.
 
 ghost use Rattle.std.specs.Prelude.{◌≡◌};
 ghost use Rattle.csv.specs.Machine.{step};

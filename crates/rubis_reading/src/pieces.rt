@@ -52,7 +52,7 @@ pub struct Pieces<'a> {
 
 // How many of the first bytes are whole records: as many as lie within `most` bytes, if a record ends there.
 fn first_records(text: &[u8], most: usize) -> usize
-    ensures { 0 < result → IsChunk result text.now }
+    ensures { 1 < result → IsChunk result text.now }
 {
     let front = whole_end(&text[..most.min(text.len())]);
     if front > 1 { front } else { whole_end(text) }

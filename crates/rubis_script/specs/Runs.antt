@@ -16,7 +16,7 @@ use Rattle.rubis_engine.specs.declared.fault.Count.{Count}
 use Rattle.rubis_engine.specs.declared.fault.RunFault.{RunFault}
 use Rattle.rubis_engine.specs.declared.fault.RunFault.TheVariants.{Memory, Read, TooLong, Write}
 use Rattle.rubis_engine.specs.declared.record_list.Records.{Records}
-use Rattle.rubis_reading.specs.Chunked.{CameWhole, HasCome, HasPending}
+use Rattle.rubis_reading.specs.Chunked.{CameWhole, ComesNearer, HasCome, HasPending}
 use Rattle.rubis_message.specs.Inputs.{FitsIn}
 use Rattle.rubis_reading.specs.Runs.{FitWindow, flat}
 use Rattle.rubis_message.specs.declared.inputs.Input.{Input}
@@ -143,11 +143,12 @@ abbrev pub AnswersFirstOf : {G : Type 0} → ℕ → Desk G → List Stretch →
 AnswersFirstOf n d ahead new before after = (first : SiteState) (start : Option (List ℕ)) (records later : List (List (List ℕ)))
     → StandsAt d (flat ahead) first start before records later → AnswersFirst (d.answered + n) first new.site start after records
 
--- a step answered or holds a piece of what is held: the run goes on with nothing read ahead, at most `limit` records being answered or held
+-- a step answered or holds a piece of what is held, or took more in: the run goes on with nothing read ahead, at most `limit` records being
+-- answered or held, and is nearer to the end of its text
 abbrev pub GoesOn : {R G : Type 0} → ℕ → (R → Option (List ℕ)) → Chunks R → Desk G → Option (List ℕ) → Chunks R → Desk G → Option (List ℕ) → Type 0
 GoesOn limit rem chunks d before chunks2 d2 after =
     OfEachAhead rem chunks d [] before (λ first old input. HasReadAhead rem chunks2 d2 [] first old after input)
-    × (d2.answered ≤ limit) × KeepsSetup d d2
+    × (d2.answered ≤ limit) × KeepsSetup d d2 × ComesNearer 1 rem chunks chunks2
 
 -- the run goes on, or it is done
 abbrev pub GoesOnOrEnds : {R G : Type 0} → ℕ → (R → Option (List ℕ)) → Chunks R → Desk G → Option (List ℕ)

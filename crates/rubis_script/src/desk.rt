@@ -224,6 +224,7 @@ impl<G: Gate + Drop> Desk<G> {
         ensures site { IfOk result (λ desk. (desk.site.place ≡ setup_place config.now) × (desk.site.state ≡ opening_at config.now.site)) }
         ensures helpers { IfOk result (λ desk. desk.plan.helpers + 1 ≡ config.now.workers) }
         ensures window { IfOk result (λ desk. desk.plan.window ≡ max config.now.batch WINDOW_MIN) }
+        ensures batch { IfOk result (λ desk. desk.site.batch ≡ config.now.batch) }
         ensures fresh { IfOk result (λ desk. IsFresh desk) }
     {
         Ok(Desk {
@@ -271,7 +272,7 @@ impl<G: Gate> Desk<G> {
         Ok(read_input(self.alloc, fields, self.sites)?)
     }
 
-    /// Answers a record.
+    /// Answers a record, whose number is the reply's. It doesn't count it, and those that it holds are held on.
     pub fn respond<R: Threads + Wait + Sync>(
         &mut self,
         rt: &R,
@@ -280,6 +281,7 @@ impl<G: Gate> Desk<G> {
         ensures same { KeepsSetup self.old self.new }
         ensures answered { OnOk result (IsAnswered self.old.reply.number
             (input_of self.old.site.place.sites fields.now) self.old.site self.new.site self.old.reply.sink self.new.reply.sink) }
+        ensures held { (self.new.window.items ≡ self.old.window.items) × (self.new.answered ≡ self.old.answered) }
     {
         let read = self.read(fields)?;
         answer(rt, &mut self.site, &mut self.reply, read)

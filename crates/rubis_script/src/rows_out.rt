@@ -1,4 +1,4 @@
-//! The rows of a listing are written out while they are made.
+//! A desk writes the rows of a listing out while they are made.
 
 ghost use Rattle.std.specs.Prelude.{◌++◌};
 ghost use Rattle.rubis_engine.specs.Text.{rows_text};

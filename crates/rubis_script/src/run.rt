@@ -166,7 +166,7 @@ pub fn turn<G: Gate, T: Threads + Wait + Sync, R: Read, W: Write>(
         return Ok(None);
     }
     settle(rt, desk, writer)?;
-    match chunks.fill() {
+    match chunks.fill(&desk.reply.sink) {
         Ok(true) => Ok(None),
         Ok(false) => {
             let count = end(rt, chunks, desk, writer, limit)?;

@@ -15,7 +15,7 @@ use Rattle.rubis_engine.specs.declared.fault.RunFault.{RunFault}
 use Rattle.rubis_engine.specs.declared.record_list.Records.{Records}
 use Rattle.rubis_engine.specs.declared.service.Course.{Course}
 use Rattle.rubis_engine.specs.declared.service.Reply.{Reply}
-use Rattle.rubis_reading.specs.Chunked.{CameWhole, HasCome, HasPending, IsChunk, IsLast, held_text}
+use Rattle.rubis_reading.specs.Chunked.{CameWhole, ComesNearer, HasCome, HasPending, IsChunk, IsLast, held_text}
 use Rattle.rubis_reading.specs.declared.chunks.Chunks.{Chunks}
 use Rattle.rubis_serving.specs.Whole.{AnswersAll, AnswersFirst, AnswersJust}
 use Rattle.rubis_serving.specs.declared.pieces.Served.{Served}
@@ -158,9 +158,10 @@ module _ {S : Type 0} (account : S → ℕ → Account) (leads : S → ℕ → L
   Finishes limit rem chunks s run before chunks2 s2 run2 after result =
       Stops limit rem chunks s run before chunks2 s2 run2 after (IsOver limit rem chunks s run before s2 after) result
 
-  -- how a step ends that takes a piece: the run goes on, at most `limit` records being answered, or it is done
+  -- how a step ends that takes a piece: the run goes on, at most `limit` records being answered, and is nearer to the end of its text; or it is
+  -- done
   abbrev pub Turns : {R : Type 0} → ℕ → (R → Option (List ℕ)) → Chunks R → S → Served → Option (List ℕ) → Chunks R → S → Served → Option (List ℕ)
       → Result (Option Count) RunFault → Type 0
   Turns limit rem chunks s run before chunks2 s2 run2 after result =
       Stops limit rem chunks s run before chunks2 s2 run2 after (λ over. MatchOption over
-      (MovesOn rem chunks s run before chunks2 s2 run2 after × (run2.answered ≤ limit)) (IsOver limit rem chunks s run before s2 after)) result
+      (MovesOn rem chunks s run before chunks2 s2 run2 after × (run2.answered ≤ limit) × ComesNearer 1 rem chunks chunks2) (IsOver limit rem chunks s run before s2 after)) result

@@ -4,7 +4,7 @@ ghost use Rattle.std.specs.Prelude.{◌≡◌, ⊤, []};
 ghost use Rattle.rubis_engine.specs.Accounts.Ending.{AtEnd};
 ghost use Rattle.rubis_engine.specs.Progress.{WritesFrontOf, WrotePrefix};
 ghost use Rattle.rubis_engine.specs.Text.{input_records};
-ghost use Rattle.rubis_reading.specs.Chunked.{FailsShort, KeepsCome, KeepsPending, held_text};
+ghost use Rattle.rubis_reading.specs.Chunked.{ComesNearer, FailsShort, KeepsCome, KeepsPending, held_text};
 ghost use Rattle.rubis_reading.specs.Streams.{EndsNoRecord};
 ghost use Rattle.rubis_engine.specs.Endings.{ByEnd};
 ghost use Rattle.rubis_serving.specs.Serving.{AnswersWhole, IsAtHand, MovesOn, OfEachLast, OfEachServed, Settles};
@@ -60,16 +60,18 @@ pub(crate) fn settle<S: Service, W: Write>(
     sink.close(writer)
 }
 
-// How many bytes are whole records once a record ends in what is held, for which the reader is asked for more. `None` at its end: what
-// is held is the rest.
-fn fill_whole<R: Read>(chunks: &mut Chunks<R>) -> Result<Option<usize>, RunFault>
-    requires { EndsNoRecord (held_text chunks.old) }
+// How many bytes are whole records once a record ends in what is held, for which the reader is asked for more: nothing waits in `answers`.
+// `None` at its end: what is held is the rest.
+fn fill_whole<R: Read>(chunks: &mut Chunks<R>, answers: &Sink) -> Result<Option<usize>, RunFault>
+    requires none { EndsNoRecord (held_text chunks.old) }
+    requires written { answers.now ≡ [] }
     ensures { ByEnd result
-        (λ piece. KeepsPending R.remaining chunks.old chunks.new × KeepsCome R.remaining chunks.old chunks.new × IsAtHand R.remaining chunks.new piece)
+        (λ piece. KeepsPending R.remaining chunks.old chunks.new × KeepsCome R.remaining chunks.old chunks.new × IsAtHand R.remaining chunks.new piece
+        × ComesNearer 0 R.remaining chunks.old chunks.new)
         ⊥ (FailsShort R.remaining chunks.old chunks.new) ⊤ }
 {
     'fills: loop {
-        match chunks.fill() {
+        match chunks.fill(answers) {
             Ok(true) => {
                 let many = chunks.whole(chunks.held().len());
                 if many > 1 {
@@ -99,7 +101,7 @@ pub(crate) fn next_piece<S: Service, R: Read, W: Write>(
     ensures { ByEnd result
         (λ piece. MovesOn S.account S.leads R.remaining chunks.old service.old run.old (W.contents writer.old)
         chunks.new service.new run.new (W.contents writer.new)
-        × (run.new.answered ≡ run.old.answered) × IsAtHand R.remaining chunks.new piece)
+        × (run.new.answered ≡ run.old.answered) × IsAtHand R.remaining chunks.new piece × ComesNearer 0 R.remaining chunks.old chunks.new)
         ⊥
         (AnswersWhole S.account S.leads R.remaining chunks.old service.old run.old (W.contents writer.old)
         chunks.new service.new run.new (W.contents writer.new))
@@ -111,7 +113,7 @@ pub(crate) fn next_piece<S: Service, R: Read, W: Write>(
         return Ok(Some(many));
     }
     settle(service, &mut run.reply.sink, writer)?;
-    fill_whole(chunks)
+    fill_whole(chunks, &run.reply.sink)
 }
 
 /// Ends a run whose records are all answered: has the service give its last answers, and writes out all that waits.

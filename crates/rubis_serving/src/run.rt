@@ -4,7 +4,7 @@ ghost use Rattle.std.specs.Prelude.{◌≤◌, ◌<◌, ◌+◌, ◌^◌, ℕ, L
 ghost use Rattle.rubis_engine.specs.Reading.{Gives};
 ghost use Rattle.rubis_reading.specs.Chunked.{HasAll, IsLast};
 ghost use Rattle.rubis_serving.specs.Serving.{AnswersEach, Finishes, OfEachNext, OfEachPiece, OfEachYet, PieceEnds, RecordEnds, Turns};
-ghost use Rattle.rubis_serving.specs.Whole.{EndsWhole};
+ghost use Rattle.rubis_serving.specs.Whole.{EndsLed};
 
 use crate::pieces::{Served, end, next_piece, settle};
 use rubis_engine::{
@@ -200,8 +200,8 @@ fn serve<S: Answering, R: Read, W: Write>(
 
 /// Has a service answer the records of a text until its end, or until a record ends the run, or up to `limit` of them, and appends the
 /// answers to `writer`. Of what the reader gave, each whole record is answered, and the answers are written out, before it is asked for
-/// more. Service and chunks are lent: where the reader failed, the service stands behind the records that came whole, and the chunks
-/// have what came since, in which no record ends.
+/// more. Service and chunks are lent: the service stands where the answered records lead it, unless the run ends with `Write` or `Memory`;
+/// where the reader failed these are the records that came whole, and the chunks have what came since, in which no record ends.
 ///
 /// # Errors
 ///
@@ -215,8 +215,8 @@ pub fn run_service<S: Answering, R: Read, W: Write>(
     service: &mut S,
     limit: u64,
 ) -> Result<Count, RunFault>
-    ensures { (input : List ℕ) → HasAll R.remaining chunks.old input → EndsWhole R.remaining chunks.new (S.account service.old 1) (S.account service.new)
-        limit (W.contents writer.old) (W.contents writer.new) input result }
+    ensures { (input : List ℕ) → HasAll R.remaining chunks.old input → EndsLed S.account S.leads R.remaining chunks.new limit service.old service.new
+        (W.contents writer.old) (W.contents writer.new) input result }
 {
     let mut run = Served::new(alloc);
     serve(chunks, service, &mut run, writer, limit)

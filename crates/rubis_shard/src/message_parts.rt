@@ -1,4 +1,4 @@
-//! A message on its way to the shards.
+//! A message on its way to the shards, with the home of each of its parts.
 
 ghost use Rattle.std.specs.Prelude.{◌≡◌, slice_get};
 ghost use Rattle.rubis_model.specs.Log.{parts_of};

@@ -1,4 +1,4 @@
-//! Which rows match a listing, and which have a record.
+//! Whether a row of a shard matches a listing, and whether it has a record.
 
 ghost use Rattle.std.specs.Bool.{MatchBool};
 ghost use Rattle.std.specs.Prelude.{◌≡◌, [], length};

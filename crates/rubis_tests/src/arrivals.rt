@@ -1,4 +1,4 @@
-//! Messages for a site of two, and their arrival.
+//! For tests: messages for a site of two, and calls that have them arrive.
 
 ghost use Rattle.std.specs.Prelude.{◌≡◌, All, IfOk};
 ghost use Rattle.rubis_message.specs.Message.{sites_of};

@@ -1,4 +1,4 @@
-//! Audits: each check's fault, the count of records, and streams that fail.
+//! Tests of audits: each check's fault, the count of records, and streams that fail.
 
 use crate::failing_streams::{FailingReader, FailingWriter};
 use rubis_audit::run_audit;

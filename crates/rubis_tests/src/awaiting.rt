@@ -1,4 +1,4 @@
-//! What a message waits for.
+//! Tests of what a message is said to wait for.
 
 ghost use Rattle.std.specs.Prelude.{◌≡◌};
 ghost use Rattle.rubis_message.specs.Message.{sites_of};

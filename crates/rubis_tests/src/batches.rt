@@ -1,4 +1,4 @@
-//! A batch of three users over five shards, one that several threads split, and shards that come back.
+//! Tests of a batch of three users over five shards, one that several threads split, and shards that come back.
 
 ghost use Rattle.std.specs.Prelude.{◌≡◌, ◌≤◌, length, IfOk};
 

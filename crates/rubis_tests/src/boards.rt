@@ -1,4 +1,4 @@
-//! A board that is posted to, and passes that take from it.
+//! Tests of a board that is posted to, and of passes that take from it.
 
 ghost use Rattle.std.specs.Prelude.{◌≡◌, ◌<◌, true, IfNone};
 

@@ -1,4 +1,4 @@
-//! What no scenario and no conversation shows of single calls.
+//! Tests of single calls, of what no scenario and no conversation shows.
 
 use crate::records::message;
 use rubis_engine::Sink;

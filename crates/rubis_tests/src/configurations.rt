@@ -1,4 +1,4 @@
-//! What a site can be set up with.
+//! Tests of what a site can be set up with.
 
 use rubis_world::Config;
 

@@ -1,4 +1,4 @@
-//! A service for tests that says what it hears.
+//! For tests: a service that says what it hears.
 
 ghost use Rattle.std.proofs.Common.{rules};
 ghost use Rattle.std.specs.Prelude.{◌≡◌, ◌∷◌, ◌++◌, None, OnOk, codes, length, map, ⊤, refl};

@@ -1,4 +1,4 @@
-//! A site on readers and writers that fail.
+//! Tests of a site on readers and writers that fail.
 
 use crate::failing_streams::{FailingDelivery, FailingReader, FailingWriter};
 use crate::transcripts::{take_apart, usual};

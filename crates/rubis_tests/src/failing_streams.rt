@@ -1,4 +1,4 @@
-//! Readers and a writer that fail.
+//! For tests: readers and a writer that fail.
 
 ghost use Rattle.std.specs.Prelude.{◌≡◌, Some, Ok, Err, []};
 

@@ -1,4 +1,4 @@
-//! Gates that hold a worker between taking a shard and folding its share, or record what was taken.
+//! For tests: gates that hold a worker between taking a shard and folding its share, or record what was taken.
 
 use rubis_world::Gate;
 use std::sync::atomic::{AtomicBool, AtomicU64, Ordering};

@@ -1,4 +1,4 @@
-//! Inputs that no conversation of text lines can write down, and limits.
+//! Tests of inputs that no conversation of text lines can write down, and of limits.
 
 use crate::transcripts::{run_whole, usual};
 use rubis_world::{Free, RunFault, run_site_upto};

@@ -1,4 +1,4 @@
-//! Workers that really work at once, in each call that applies a batch.
+//! Tests in which workers really work at once, in each call that applies a batch.
 
 ghost use Rattle.std.specs.Prelude.{◌≡◌, ◌<◌, ◌≤◌, IfOk};
 ghost use Rattle.rubis_schema.specs.declared.limits.TheConstants.{WORKERS_MAX};

@@ -1,4 +1,4 @@
-//! Messages that arrive at a site.
+//! Tests of messages that arrive at a site.
 
 ghost use Rattle.std.specs.Prelude.{◌≡◌, All, IfOk};
 ghost use Rattle.rubis_message.specs.Message.{sites_of};

@@ -1,4 +1,4 @@
-//! Requests and packets, as they are written.
+//! For tests: requests and packets, as they are written.
 
 ghost use Rattle.std.specs.Prelude.{◌≡◌, ◌≤◌, IfOk};
 ghost use Rattle.rubis_schema.specs.declared.limits.TheConstants.{COUNTED_MAX};

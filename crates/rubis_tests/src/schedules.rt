@@ -1,4 +1,4 @@
-//! The machine of every schedule, event by event.
+//! Tests of the machine of every schedule, event by event.
 
 ghost use Rattle.std.specs.Prelude.{◌<◌, IfOk};
 ghost use Rattle.std.specs.List.{All};

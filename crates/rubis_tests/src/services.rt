@@ -1,4 +1,4 @@
-//! Runs of a service from bytes to bytes, to their end, to their limit, and with streams that fail.
+//! Tests of runs of a service from bytes to bytes, to their end, to their limit, and with streams that fail.
 
 use crate::echoes::Echo;
 use crate::failing_streams::{FailingReader, FailingWriter};

@@ -1,4 +1,4 @@
-//! Two shares, folded by two workers while the caller's thread runs a closure.
+//! Tests of two shares, folded by two workers while the caller's thread runs a closure.
 
 ghost use Rattle.std.specs.Prelude.{◌<◌, IfOk, length};
 ghost use Rattle.rubis_pieces.specs.Batches.{Belong};

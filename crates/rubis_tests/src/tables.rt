@@ -1,4 +1,4 @@
-//! Plain tables, and decisions over them.
+//! Tests of plain tables, and of decisions over them.
 
 use rubis_generate::{Standing, decide};
 use rubis_schema::{Id, Name, NewItem, Nick, Refusal, Row, RowKey, Shared, Table, View};

@@ -1,4 +1,4 @@
-//! How often the gate is called, and how many threads a batch gets.
+//! Tests of how often workers call the gate, and how many threads a batch gets.
 
 ghost use Rattle.std.specs.Prelude.{◌≡◌};
 

@@ -1,4 +1,4 @@
-//! Conversations with a site, written down: a line that begins with `> ` is a record of the input, and the lines below
+//! For tests: conversations with a site, written down: a line that begins with `> ` is a record of the input, and the lines below
 //! it are the answers to it.
 
 use rubis_world::{Config, Count, run_site};

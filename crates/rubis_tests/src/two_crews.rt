@@ -1,4 +1,4 @@
-//! Helpers of two crews, each of which has an end of its own.
+//! Tests of helpers of two crews, each of which has an end of its own.
 
 ghost use Rattle.std.specs.Prelude.{◌≡◌, true, [], IfOk};
 ghost use Rattle.rubis_crew.specs.Both.{IsAt};

@@ -1,4 +1,4 @@
-//! Whether a run answers all that it read before it asks for more.
+//! Tests of whether a run answers all that it read before it asks for more.
 
 use crate::echoes::Echo;
 use rubis_engine::Count;

@@ -1,4 +1,4 @@
-//! Widening: each record as it is read, and streams that fail.
+//! Tests of the widener: each record as it is read, and streams that fail.
 
 use crate::failing_streams::{FailingReader, FailingWriter};
 use rubis_audit::run_widen;

@@ -1,4 +1,4 @@
-//! Several sites in one run: each call once, with enough memory, and streams that fail.
+//! Tests of several sites in one run: each call once, with enough memory, and streams that fail.
 
 use crate::failing_streams::{FailingReader, FailingWriter};
 use rubis_engine::{Count, RunFault};

@@ -1,4 +1,4 @@
-//! What a test may use to hold a worker up between a take and the work.
+//! The gate: what workers call for each shard that they take, by which a test may hold them up before they fold it.
 
 ghost use Rattle.std.specs.Prelude.{◌≡◌};
 

@@ -68,7 +68,7 @@ pub returns-in_err-drain_full-clause-run : goal.returns-in_err-drain_full-clause
 returns-in_err-drain_full-clause-run g c =
     let d = c.answer_read.new.desk in
     let on = folded-on g.R.Read.remaining c.args.chunks.now c.args.desk.now c.fold.new.desk c.fold.ensures.takes in
-    let (goes, few, setup) = c.in_ok-answer_read.ensures.run in
+    let (goes, few, setup, nearer) = c.in_ok-answer_read.ensures.run in
     ends_write _ _ _ c.from_residual-in_err-drain_full.result c.in_err-drain_full.field-0.0 c.from_residual-in_err-drain_full.ensures
     c.in_err-drain_full.ensures.faults
     (λ first old input h.
@@ -81,11 +81,12 @@ returns-clause-run g c =
     let d = c.answer_read.new.desk in
     let on = folded-on g.R.Read.remaining c.args.chunks.now c.args.desk.now c.fold.new.desk c.fold.ensures.takes in
     let same = (c.fold.ensures.takes (g.W.Write.contents c.args.writer.now)).setup in
-    let (goes, few, setup) = c.in_ok-answer_read.ensures.run in (
+    let (goes, few, setup, nearer) = c.in_ok-answer_read.ensures.run in (
       λ first old input h. waited g.R.Read.remaining c.answer_read.new.chunks d _ [] _ _ refl refl refl c.in_ok-drain_full.ensures.ok first old input
           (goes first old input (on first old _ input h)),
       few,
       kept-on c.args.desk.now c.fold.new.desk d same setup,
+      nearer,
     )
 
 pub returns-clause-held : goal.returns-clause-held
@@ -96,7 +97,7 @@ returns-clause-held g c =
     let old = c.args.helpers.now.pieces in
     let kept = kept-more old c.give_all.new.self c.next.new.self c.give_all.ensures.setup c.in_ok-piece.ensures.setup in
     let same = (c.fold.ensures.takes (g.W.Write.contents c.args.writer.now)).setup in
-    let (goes, few, setup) = c.in_ok-answer_read.ensures.run in
+    let (goes, few, setup, nearer) = c.in_ok-answer_read.ensures.run in
     let held =
     subst (λ p. AreHeld c.answer_read.new.chunks c.answer_read.new.desk p) (sym c.fold.ensures.pieces)
     (held-on c.args.chunks.now c.answer_read.new.chunks c.args.desk.now c.answer_read.new.desk old c.next.new.self c.requires.held kept

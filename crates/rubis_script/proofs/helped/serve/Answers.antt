@@ -37,7 +37,7 @@ returns-in-Some-2-clause-crews g c =
 
 pub loop-preserved : goal.loop-preserved
 loop-preserved g c =
-    let (goes, within, setup) = match-none c.in_ok-count.field-0 _ _ c.in_ok-count.ensures.run c.in_default.is in
+    let (goes, within, setup, nearer) = match-none c.in_ok-count.field-0 _ _ c.in_ok-count.ensures.run c.in_default.is in
     record {
       next = tt;
       ends = tt;

@@ -1,7 +1,8 @@
-use Rattle.std.proofs.Common.{◌≡◌, ◌∙◌, ap, take}
+use Rattle.std.proofs.Common.{◌≡◌, ◌∙◌, ◌-◌, ap, arith, take}
 use Rattle.rubis_engine.specs.Accounts.Ending.{AtEnd}
 use Rattle.rubis_engine.specs.Progress.{WrotePrefix}
 use Rattle.rubis_reading.specs.Chunked.{held_text}
+use Rattle.rubis_reading.proofs.ChunkFacts.{nearer-more, nearer-none}
 use Rattle.rubis_script.specs.Headline.{AnswersFirst}
 use Rattle.rubis_script.specs.SiteRuns.{told_by}
 use Rattle.rubis_script.proofs.ChunkFacts.{chunk-each, chunk-taken}
@@ -27,4 +28,9 @@ returns g c =
           c.args.desk.now c.answer_piece.new.desk _ _ text c.pass.ensures.takes c.pass.ensures.come stands,
       within,
       setup,
+      nearer-more (c.args.many - 1) 0 1 g.R.Read.remaining c.args.chunks.now c.pass.new.self c.pass.new.self (omega (arith, c.requires.chunk.0))
+          c.pass.ensures.nearer (nearer-none g.R.Read.remaining c.pass.new.self),
     )
+
+pub pass-requires-clause-some : goal.pass-requires-clause-some
+pass-requires-clause-some g c = omega (arith, c.requires.chunk.0)

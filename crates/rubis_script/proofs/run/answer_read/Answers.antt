@@ -1,6 +1,7 @@
 use Rattle.std.proofs.Common.{◌-◌, arith, refl, take}
 use Rattle.rubis_engine.specs.Text.{input_records}
 use Rattle.rubis_reading.specs.Chunked.{held_text}
+use Rattle.rubis_reading.proofs.ChunkFacts.{nearer-more, nearer-none}
 use Rattle.rubis_script.proofs.ChunkFacts.{list-first, list-prefix, list-taken, sound-read}
 use Rattle.rubis_engine.proofs.EndFacts.{ends_on}
 use Rattle.rubis_script.proofs.run.answer_read.Goals as goal
@@ -26,4 +27,6 @@ returns-clause-run g c =
           c.answer_list.new.desk c.args.piece.list.items _ _ c.requires.read.0 c.pass.ensures.takes c.pass.ensures.come takes,
       within,
       takes.setup,
+      nearer-more (c.args.piece.many - 1) 0 1 g.R.Read.remaining c.args.chunks.now c.pass.new.self c.pass.new.self (omega (arith, c.requires.chunk.0))
+          c.pass.ensures.nearer (nearer-none g.R.Read.remaining c.pass.new.self),
     )

@@ -20,5 +20,5 @@ returns-in-Some-2 g c first old input h =
 
 pub loop-preserved : goal.loop-preserved
 loop-preserved g c =
-    let (goes, within, setup) = match-none c.in_ok-count.field-0 _ _ c.in_ok-count.ensures c.in_default.is in
+    let (goes, within, setup, nearer) = match-none c.in_ok-count.field-0 _ _ c.in_ok-count.ensures c.in_default.is in
     record { next = tt; ends = tt; within = within; stands = λ first old input h. goes first old input (c.loop.invariant.stands first old input h) }

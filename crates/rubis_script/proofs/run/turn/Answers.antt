@@ -1,4 +1,6 @@
-use Rattle.std.proofs.Common.{◌≡◌, [], arith, false, refl, rules}
+use Rattle.std.proofs.Common.{◌≡◌, [], arith, false, refl, rules, subst, true}
+use Rattle.std.specs.Int.{from_bool}
+use Rattle.rubis_reading.specs.Chunked.{ComesNearer}
 use Rattle.rubis_reading.specs.declared.buffer.ChunkFault.TheVariants.{Read}
 use Rattle.rubis_script.proofs.ChunkFacts.{cut-just, prefix-ahead, still-pending}
 use Rattle.rubis_engine.proofs.EndFacts.{ends_on}
@@ -23,11 +25,13 @@ end-requires-clause-last g c κs within = let none : c.in-Ok-false.field-0 ≡ f
 
 pub returns-in-Ok-true : goal.returns-in-Ok-true
 returns-in-Ok-true g c =
-    let (takes, settled) = c.in_ok-settle.ensures in (
+    let (takes, settled) = c.in_ok-settle.ensures in
+    let some : c.in-Ok-true.field-0 ≡ true = search rules in (
       still-pending g.R.Read.remaining c.args.chunks.now c.fill.new.self c.args.desk.now c.settle.new.desk [] _ _ takes
           c.in-Ok-true.ensures.keeps c.in-Ok-true.ensures.come,
       omega (arith, takes.count, c.requires.within),
       takes.setup,
+      subst (λ b. ComesNearer (from_bool b) g.R.Read.remaining c.args.chunks.now c.fill.new.self) some c.in-Ok-true.ensures.nearer,
     )
 
 pub returns-in_err-count-in-Ok-false : goal.returns-in_err-count-in-Ok-false
@@ -55,3 +59,9 @@ pub returns-in-Err-Memory : goal.returns-in-Err-Memory
 returns-in-Err-Memory g c =
     prefix-ahead g.R.Read.remaining c.args.chunks.now c.args.desk.now [] _ _
     (prefix-after _ c.args.desk.now c.settle.new.desk _ _ _ c.in_ok-settle.ensures.0 refl)
+
+pub fill-requires-clause-none : goal.fill-requires-clause-none
+fill-requires-clause-none g c = c.whole-many.ensures.begun (omega (arith, c.if-many-gt1.false))
+
+pub fill-requires-clause-written : goal.fill-requires-clause-written
+fill-requires-clause-written g c = c.in_ok-settle.ensures.1.1

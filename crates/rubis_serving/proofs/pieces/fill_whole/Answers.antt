@@ -1,16 +1,18 @@
 use Rattle.std.proofs.Common.{◌≡◌, arith, false, refl, rules}
 use Rattle.rubis_reading.specs.declared.buffer.ChunkFault.TheVariants.{Read}
+use Rattle.rubis_reading.proofs.ChunkFacts.{nearer-more, nearer-none}
 use Rattle.rubis_serving.proofs.pieces.fill_whole.Goals as goal
 
 pub fills-init : goal.fills-init
-fills-init g c = record { keeps = λ rows h. h; come = λ input h. h; none = c.requires }
+fills-init g c = record { keeps = λ rows h. h; come = λ input h. h; none = c.requires.none; nearer = nearer-none g.R.Read.remaining c.args.chunks.now }
 
 pub returns-then-many-gt1 : goal.returns-then-many-gt1
 returns-then-many-gt1 g c =
     let i = c.fills.invariant in (
       λ rows h. c.in-Ok-true.ensures.keeps rows (i.keeps rows h),
       λ input h. c.in-Ok-true.ensures.come input (i.come input h),
-      (omega (arith, c.if-many-gt1.true), c.whole-many.ensures.within, c.whole-many.ensures.whole (omega (arith, c.if-many-gt1.true))),
+      (c.if-many-gt1.true, c.whole-many.ensures.within, c.whole-many.ensures.whole (omega (arith, c.if-many-gt1.true))),
+      nearer-more 0 _ 0 g.R.Read.remaining c.args.chunks.now c.fills.chunks c.fill.new.self (omega arith) i.nearer c.in-Ok-true.ensures.nearer,
     )
 
 pub fills-preserved : goal.fills-preserved
@@ -20,6 +22,7 @@ fills-preserved g c =
       keeps = λ rows h. c.in-Ok-true.ensures.keeps rows (i.keeps rows h);
       come = λ input h. c.in-Ok-true.ensures.come input (i.come input h);
       none = c.whole-many.ensures.begun (omega (arith, c.if-many-gt1.false));
+      nearer = nearer-more 0 _ 0 g.R.Read.remaining c.args.chunks.now c.fills.chunks c.fill.new.self (omega arith) i.nearer c.in-Ok-true.ensures.nearer;
     }
 
 pub returns-in-Ok-false : goal.returns-in-Ok-false
@@ -29,6 +32,7 @@ returns-in-Ok-false g c =
       λ rows h. c.in-Ok-false.ensures.keeps rows (i.keeps rows h),
       λ input h. c.in-Ok-false.ensures.come input (i.come input h),
       c.in-Ok-false.ensures.last none,
+      nearer-more 0 _ 0 g.R.Read.remaining c.args.chunks.now c.fills.chunks c.fill.new.self (omega arith) i.nearer c.in-Ok-false.ensures.nearer,
     )
 
 pub returns-in-Err-Read : goal.returns-in-Err-Read

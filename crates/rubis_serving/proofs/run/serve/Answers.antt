@@ -21,7 +21,7 @@ returns-in-Some g c first old input h =
 
 pub pieces-preserved : goal.pieces-preserved
 pieces-preserved g c =
-    let (moves, within) = match-none c.in_ok-count.field-0 _ _ c.in_ok-count.ensures c.in_default.is in
+    let (moves, within, nearer) = match-none c.in_ok-count.field-0 _ _ c.in_ok-count.ensures c.in_default.is in
     record { within = within; stands = λ first old input h. moves first old input (c.pieces.invariant.stands first old input h) }
 
 pub returns : goal.returns

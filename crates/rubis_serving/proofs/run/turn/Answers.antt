@@ -1,4 +1,4 @@
-use Rattle.std.proofs.Common.{◌≡◌, ◌∙◌, ap, arith, take}
+use Rattle.std.proofs.Common.{◌≡◌, ◌∙◌, ◌-◌, ap, arith, take}
 use Rattle.rubis_engine.specs.Accounts.Ending.{AtEnd}
 use Rattle.rubis_engine.specs.Progress.{WrotePrefix}
 use Rattle.rubis_reading.specs.Chunked.{held_text}
@@ -6,6 +6,7 @@ use Rattle.rubis_engine.proofs.EndFacts.{ends_on}
 use Rattle.rubis_serving.specs.Whole.{AnswersAll, AnswersFirst}
 use Rattle.rubis_serving.proofs.ServedFacts.{chunk-each, match_so, served-taken}
 use Rattle.rubis_reading.proofs.AheadFacts.{match-none, match-some}
+use Rattle.rubis_reading.proofs.ChunkFacts.{nearer-more}
 use Rattle.rubis_serving.proofs.run.turn.Goals as goal
 
 pub returns-in_err-many : goal.returns-in_err-many
@@ -41,7 +42,7 @@ returns-in_err-over g c =
     let run = c.next_piece.new.run in
     let now = g.W.Write.contents c.next_piece.new.writer in
     let after = g.W.Write.contents c.answer_piece.new.writer in
-    let (moves, same, hand) = c.in_ok-many.ensures in
+    let (moves, same, hand, nearer) = c.in_ok-many.ensures in
     let chunk = match-some _ _ _ c.in-Some.many hand c.in-Some.is in
     let text : c.split_at.result.0.now ≡ take c.in-Some.many (held_text chunks) = c.split_at.ensures.front ∙ ap (take c.in-Some.many) c.held.ensures in
     ends_on _ _ c.from_residual-in_err-over.result c.in_err-over.field-0.0 c.from_residual-in_err-over.ensures
@@ -62,7 +63,7 @@ returns g c =
     let run2 = c.answer_piece.new.run in
     let now = g.W.Write.contents c.next_piece.new.writer in
     let after = g.W.Write.contents c.answer_piece.new.writer in
-    let (moves, same, hand) = c.in_ok-many.ensures in
+    let (moves, same, hand, nearer) = c.in_ok-many.ensures in
     let chunk = match-some _ _ _ c.in-Some.many hand c.in-Some.is in
     let text : c.split_at.result.0.now ≡ take c.in-Some.many (held_text chunks) = c.split_at.ensures.front ∙ ap (take c.in-Some.many) c.held.ensures in
     match_so c.in_ok-over.over
@@ -71,7 +72,13 @@ returns g c =
           served-taken account leads g.R.Read.remaining chunks c.pass.new.self c.split_at.result.0.now (take c.in-Some.many (held_text chunks)) s s2 run run2
           now after first old input text c.pass.ensures.takes c.pass.ensures.come stands (moves first old input h),
       within,
+      nearer-more 0 (c.in-Some.many - 1) 1 g.R.Read.remaining c.args.chunks.now chunks c.pass.new.self (omega (arith, chunk.0)) nearer c.pass.ensures.nearer,
     ))
     (λ count done first old input h. chunk-each account leads g.R.Read.remaining chunks c.in-Some.many c.split_at.result.0.now s run now
     (λ first old records. AnswersAll account leads c.args.limit first s2 old after records count.records) chunk text done first old input
     (moves first old input h)) c.in_ok-over.ensures
+
+pub pass-requires-clause-some : goal.pass-requires-clause-some
+pass-requires-clause-some g c =
+    let (moves, same, hand, nearer) = c.in_ok-many.ensures in
+    omega (arith, (match-some _ _ _ c.in-Some.many hand c.in-Some.is).0)

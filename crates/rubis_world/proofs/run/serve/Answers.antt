@@ -20,7 +20,7 @@ returns-in-Some-2 g c first old input h =
 
 pub loop-preserved : goal.loop-preserved
 loop-preserved g c =
-    let (moves, within) = match-none c.in_ok-count.field-0 _ _ c.in_ok-count.ensures c.in_default.is in
+    let (moves, within, nearer) = match-none c.in_ok-count.field-0 _ _ c.in_ok-count.ensures c.in_default.is in
     record {
       next = search rules;
       ends = search rules;

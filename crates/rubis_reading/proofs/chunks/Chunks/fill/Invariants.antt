@@ -1,6 +1,6 @@
 use Rattle.std.proofs.Common.{◌++◌, ◌≤◌, ◌-◌, ◌^◌, ℕ, List, length}
 use Rattle.csv.specs.Reading.{strip_bom}
-use Rattle.rubis_reading.specs.Chunked.{KeepsCome, KeepsPending, held_text}
+use Rattle.rubis_reading.specs.Chunked.{ComesNearer, KeepsCome, KeepsPending, held_text}
 use Rattle.rubis_reading.specs.Streams.{EndsNoRecord}
 use Rattle.rubis_reading.specs.Looks.{HasLooked}
 use Rattle.rubis_reading.proofs.chunks.Chunks.fill.Given as goal
@@ -10,6 +10,7 @@ invariant-asks g l = record {
   keeps : KeepsPending g.R.Read.remaining l.fn.self l.self;
   come : KeepsCome g.R.Read.remaining l.fn.self l.self;
   none : EndsNoRecord (held_text l.fn.self) → EndsNoRecord (held_text l.self);
+  nearer : ComesNearer 0 g.R.Read.remaining l.fn.self l.self;
   grown : length (held_text l.fn.self) ≤ length (held_text l.self);
   looked : (more : List ℕ) → HasLooked (strip_bom (held_text l.self ++ more)) l.looked;
 }

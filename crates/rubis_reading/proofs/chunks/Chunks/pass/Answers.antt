@@ -1,4 +1,4 @@
-use Rattle.std.proofs.Common.{◌∙◌, ap, refl}
+use Rattle.std.proofs.Common.{◌∙◌, ◌-◌, ap, arith, length, length-drop, refl}
 use Rattle.std.specs.Io.KnownBytes.{prepend_known}
 use Rattle.rubis_engine.specs.Text.{input_records}
 use Rattle.rubis_reading.proofs.ChunkFacts.{handed-come, taken}
@@ -17,3 +17,8 @@ pub returns-clause-come : goal.returns-clause-come
 returns-clause-come g c input h =
     handed-come g.R.Read.remaining c.args.self.now (record { reader = c.args.self.now.reader; held = c.pass.new.self; size = c.args.self.now.size }) c.args.many input
     refl c.pass.ensures c.requires.some c.requires.within c.requires.whole h
+
+pub returns-clause-nearer : goal.returns-clause-nearer
+returns-clause-nearer g c left e =
+    let held = c.args.self.now.held in
+    (left, e, omega (arith, ap length c.pass.ensures, length-drop (c.args.many - 1) held, c.requires.within))
