@@ -1,14 +1,10 @@
 -- A run that answers each record where it was read.
-use Rattle.std.proofs.Common.{◌≡◌, ◌∙◌, ◌++◌, ◌∷◌, [], ℕ, List, Option, ap, arith, false, length, length-append, subst, take, true}
+use Rattle.std.proofs.Common.{◌≡◌, ◌∙◌, ◌++◌, ◌∷◌, [], ℕ, List, Option, ap, arith, false, length, length-append, subst, true}
 use Rattle.rubis_replica.specs.State.{SiteState}
 use Rattle.rubis_engine.specs.Accounts.Ending.{AtEnd}
 use Rattle.rubis_engine.specs.Progress.{WrotePrefix}
 use Rattle.rubis_engine.specs.Reading.{Advances, Gives, fields_now}
-use Rattle.rubis_engine.specs.Text.{input_records}
 use Rattle.rubis_engine.specs.declared.record_list.Records.{Records}
-use Rattle.rubis_reading.specs.Chunked.{HasPending, IsChunk, held_text}
-use Rattle.rubis_reading.specs.declared.chunks.Chunks.{Chunks}
-use Rattle.rubis_reading.proofs.ChunkFacts.{taken as first-taken}
 use Rattle.rubis_script.specs.Desks.{IsSettled}
 use Rattle.rubis_script.specs.Headline.{AnswersFirst}
 use Rattle.rubis_script.specs.Runs.{HasYet, StandsAt, Takes}
@@ -54,10 +50,3 @@ yet-too_long rem piece piece2 d d2 limit first old now now2 records rest takes l
     let left = length-append t.next later in
     let number : d2.answered ≡ limit = omega (arith, settles.count, last) in
     subst (λ k. AnswersFirst k first d2.site old now2 records) number (cut.0, omega (arith, all, many, left, t.count))
-
--- a chunk stands first
-pub pending-front : {R : Type 0} (rem : R → Option (List ℕ)) (c : Chunks R) (many : ℕ) (rows : List (List (List ℕ))) → IsChunk many (held_text c)
-    → HasPending rem c rows → (more : List (List (List ℕ))) × (rows ≡ input_records (take many (held_text c)) ++ more)
-pending-front rem c many rows (some, within, whole) h =
-    let (left, same, split) = first-taken c.held h.bytes (rem c.reader) many some within whole h.source in
-    (input_records left, h.reads ∙ split)

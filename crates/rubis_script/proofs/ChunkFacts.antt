@@ -14,13 +14,12 @@ use Rattle.rubis_message.specs.declared.inputs.Input.{Input}
 use Rattle.rubis_reading.specs.declared.stretches.Stretch.{Stretch}
 use Rattle.rubis_reading.specs.Streams.{EndsNoRecord}
 use Rattle.rubis_reading.proofs.AheadFacts.{all-fit}
-use Rattle.rubis_reading.proofs.ChunkFacts.{come-rest}
+use Rattle.rubis_reading.proofs.ChunkFacts.{come-rest, pending-front}
 use Rattle.rubis_script.specs.Desks.{IsSettled, KeepsSetup}
 use Rattle.rubis_script.specs.Headline.{AnswersFirst}
 use Rattle.rubis_script.specs.Runs.{AnswersAllAhead, AnswersFirstAhead, AnswersFirstOf, AnswersWholeAhead, HasReadAhead, HasTaken, IsSound, LeavesPrefix}
 use Rattle.rubis_script.specs.Runs.{OfEachAhead, OfEachPiece, StandsAt, Takes, WritesPrefixAhead}
 use Rattle.rubis_script.specs.declared.desk.Desk.{Desk}
-use Rattle.rubis_script.proofs.AloneFacts.{pending-front}
 use Rattle.rubis_script.proofs.LoopFacts.{stands-cut, stands-done, stands-prefix, stands-read, stands-too_long, stands-waited}
 use Rattle.rubis_script.proofs.StepFacts.{takes-whole}
 

@@ -1,6 +1,12 @@
+use Rattle.std.specs.Prelude.{⊤}
+use Rattle.rubis_schema.specs.declared.limits.TheConstants.{RECORDS_MAX}
+use Rattle.rubis_audit.specs.Places.{logs_at}
+use Rattle.rubis_audit.specs.Widening.{WidenerState, widening_from}
 use Rattle.rubis_serving.proofs.ServedFacts.{led_whole}
 use Rattle.rubis_audit.proofs.widener.run_widen_chunks.Goals as goal
 
 pub returns : goal.returns
 returns g c input all =
-    led_whole _ _ g.R.Read.remaining _ _ _ _ _ _ input c.run_service.result (c.run_service.ensures input all)
+    led_whole (λ (s : WidenerState) n. widening_from s.from s.to n (logs_at s.place)) (λ old n records new. ⊤)
+    g.R.Read.remaining c.run_service.new.chunks RECORDS_MAX c.args.widener.now c.run_service.new.service (g.W.Write.contents c.args.writer.now)
+    (g.W.Write.contents c.run_service.new.writer) input c.run_service.result (c.run_service.ensures input all)
