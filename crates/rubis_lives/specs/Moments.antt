@@ -6,7 +6,7 @@ use Rattle.rubis_engine.specs.Accounts.{Account}
 use Rattle.rubis_engine.specs.Accounts.Ending.{AtEnd, Cut}
 use Rattle.rubis_engine.specs.Text.{rows_text}
 use Rattle.rubis_keep.specs.Left.{Files}
-use Rattle.rubis_keep.specs.History.{AreSafe, Event, FileState, after_all, records_in}
+use Rattle.rubis_keep.specs.History.{AreSafe, Event, FileState, IsAnswered, after_all, records_in}
 use Rattle.rubis_keep.specs.History.Event.{Began, Kept, Shown, Told}
 use Rattle.rubis_keep.specs.Kept.{Ended, IsFrontOf, Lived}
 use Rattle.rubis_keep.specs.Lines.{whole_lines}
@@ -45,6 +45,12 @@ SurvivesIn t files = IsFrontOf t.flushed files.log × IsFrontOf files.log (t.kep
 abbrev pub PowerFailuresLeaveFiles : Type 0
 PowerFailuresLeaveFiles = (text : List (List (List ℕ)) → List ℕ) (s : FileState) (events : List Event) → Extends text → AreSafe text s events
     → AtEachMoment s events (λ t. (files : Files) → SurvivesIn t files → IsOpened text (from_disk files) × IsFrontOf t.out (text (records_in files.log)))
+
+-- before a process keeps a byte it has shown the line `kept,..`, at a moment at which all that was kept was answered
+abbrev pub AnsweredBeforeMore : Type 0
+AnsweredBeforeMore = (text : List (List (List ℕ)) → List ℕ) (s : FileState) (first later : List Event) (b : ℕ) → s.begun ≡ false
+    → AreSafe text s (first ++ Kept b ∷ later)
+    → (before since : List Event) × (n : ℕ) × (counts : List ℕ) × (first ≡ before ++ Began n counts ∷ since) × IsAnswered text (after_all s before)
 
 -- A start that keeps more messages lets the site answer all that was kept as it was told, and then compares. So it ends with both files as
 -- they were, or whatever was told of what was kept is the beginning of the answers from now on
