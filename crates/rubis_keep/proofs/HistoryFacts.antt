@@ -200,13 +200,13 @@ only-keeps (b ∷ bytes) s =
     let r = only-keeps bytes (after s (Kept b)) in
     record { kept = r.kept ∙ append_assoc s.kept (b ∷ []) bytes; flushed = r.flushed; cut = r.cut; begun = r.begun; shown = r.shown; out = r.out }
 
-pub safe-keeps : (text : List (List (List ℕ)) → List ℕ) (bytes : List ℕ) (s : FileState) → IsSafe text s → s.cut ≡ [] → AreSound [] (s.kept ++ bytes)
-    → AreSafe text s (map (λ b. Kept b) bytes)
-safe-keeps text [] s safe none sound = safe
-safe-keeps text (b ∷ bytes) s safe none sound =
+pub safe-keeps : (text : List (List (List ℕ)) → List ℕ) (bytes : List ℕ) (s : FileState) → IsSafe text s → s.begun ≡ true → s.cut ≡ []
+    → AreSound [] (s.kept ++ bytes) → AreSafe text s (map (λ b. Kept b) bytes)
+safe-keeps text [] s safe begun none sound = safe
+safe-keeps text (b ∷ bytes) s safe begun none sound =
     let all : AreSound [] ((s.kept ++ b ∷ []) ++ bytes) = subst (AreSound []) (sym (append_assoc s.kept (b ∷ []) bytes)) sound in (
       safe,
-      tt,
+      begun,
       safe-keeps text bytes (after s (Kept b))
           (record {
             sound = subst (λ c. AreSound [] ((s.kept ++ b ∷ []) ++ c)) (sym none)
@@ -215,7 +215,7 @@ safe-keeps text (b ∷ bytes) s safe none sound =
             told = safe.told;
             shown = safe.shown;
           })
-          none all,
+          begun none all,
     )
 
 -- ---- what the files have

@@ -74,7 +74,7 @@ kept-safe : (all more : Account) (number : ℕ) (before : Option (List ℕ)) (s 
     → AreSafe (all.text AtEnd) s (map (λ b. Kept b) chunk ++ Flushed ∷ [])
 kept-safe all more number before s chunk r l =
     let o = only-keeps chunk s in
-    let first = safe-keeps (all.text AtEnd) chunk s (rested-safe all more number before s r) r.cut (sound-more s.kept chunk r.sound r.ends l.sound) in
+    let first = safe-keeps (all.text AtEnd) chunk s (rested-safe all more number before s r) r.begun r.cut (sound-more s.kept chunk r.sound r.ends l.sound) in
     let s1 = after_all s (map (λ b. Kept b) chunk) in
     let last = safe-last (all.text AtEnd) s (map (λ b. Kept b) chunk) first in
     safe-append (all.text AtEnd) s (map (λ b. Kept b) chunk) (Flushed ∷ []) first (
@@ -120,7 +120,7 @@ pub piece-unkept : (all more : Account) (number : ℕ) (before : Option (List �
 piece-unkept all more number before h new chunk n r l g = (
   map (λ b. Kept b) (take n chunk),
   g,
-  safe-keeps (all.text AtEnd) (take n chunk) (now h) (rested-safe all more number before (now h) r) r.cut
+  safe-keeps (all.text AtEnd) (take n chunk) (now h) (rested-safe all more number before (now h) r) r.begun r.cut
       (sound-front [] ((now h).kept ++ take n chunk) (drop n chunk)
       (subst (AreSound []) (sym (append_assoc (now h).kept (take n chunk) (drop n chunk)) ∙ ap (λ t. t) refl)
       (subst (λ t. AreSound [] ((now h).kept ++ t)) (sym (take-append-drop n chunk)) (sound-more (now h).kept chunk r.sound r.ends l.sound)))),

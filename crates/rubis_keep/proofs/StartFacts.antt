@@ -3,11 +3,11 @@ use Rattle.std.proofs.Common.{◌≡◌, ◌∙◌, ◌+◌, ◌⊎◌, inl, inr
 use Rattle.std.proofs.Common.{arith, refl, sym, ap, subst, append_assoc, take-append-drop}
 use Rattle.std.proofs.lemmas.List.{append-nil}
 use Rattle.std.proofs.Math.Seq.{take-append_seam}
-use Rattle.std.specs.Prelude.{IfSome}
+use Rattle.std.specs.Prelude.{IfSome, OnOk}
 use Rattle.rubis_engine.specs.Accounts.{Account}
 use Rattle.rubis_engine.specs.Accounts.Ending.{AtEnd}
 use Rattle.rubis_engine.specs.Text.{input_records}
-use Rattle.rubis_keep.specs.History.{Answers, AreSafe, Event, FileState, Grows, HasTold, History, IsSafe, StaysSafe, Tells, after, after_all}
+use Rattle.rubis_keep.specs.History.{Answers, AreSafe, Event, FileState, Grows, HasTold, History, IsSafe, IsShown, StaysSafe, Tells, after, after_all}
 use Rattle.rubis_keep.specs.History.{kept_in, now, out_in, records_in, told_of}
 use Rattle.rubis_keep.specs.History.Event.{Began, CutTo, Flushed, Kept, Replied, Settled, Shown, Told}
 use Rattle.rubis_keep.specs.Kept.{Begins, Ended, HasAnswered, IsFrontOf, Opens, Replayed}
@@ -149,8 +149,12 @@ begin-safe all more kept number len answered counts s a e n none =
     let size : length (records_in (take len s.kept)) ≡ length (input_records (whole_lines kept)) =
     ap (λ k. length (input_records k)) (ap whole_lines cut ∙ whole-whole kept a.sound) in (
       safe,
-      told,
-      (safe, (told, omega (arith, count, size, n)), record { sound = safe.sound; flushed = safe.flushed; told = safe.told; shown = ([], append-nil s.out) }),
+      (told, a.found.begun),
+      (
+        record { sound = safe.sound; flushed = safe.flushed; told = safe.told; shown = safe.shown },
+        (told, omega (arith, count, size, n), refl, a.found.begun),
+        record { sound = safe.sound; flushed = safe.flushed; told = safe.told; shown = ([], append-nil s.out) },
+      ),
     )
 
 -- between two pieces of the input, before the first
@@ -208,7 +212,32 @@ go-safe-untold all more kept old before h (Some m) new number len sound f r none
     next a (inl e) = ([], e, subst (IsSafe (all.text AtEnd)) (sym (now-more h m (CutTo len ∷ Flushed ∷ []) g)) (flush-safe all more kept number len (now h) a r.length_is))
     next a (inr e) =
         let b = begin-safe all more kept number len (length (input_records (whole_lines kept))) [] (now h) a r.length_is (sym a.answered.count) none in
-        (Settled ∷ [], e, subst (λ s. AreSafe (all.text AtEnd) s (Settled ∷ [])) (sym (now-more h m (CutTo len ∷ Flushed ∷ []) g)) (b.0, b.1, b.0))
+        (Settled ∷ [], e, subst (λ s. AreSafe (all.text AtEnd) s (Settled ∷ [])) (sym (now-more h m (CutTo len ∷ Flushed ∷ []) g)) (b.0, b.1, b.2.0))
+
+-- the line `kept,..` was shown
+go-begun : (all more : Account) (kept old : List ℕ) (before : Option (List ℕ)) (h : History) (mid mid2 : Option History) (number len answered : ℕ)
+    (counts : List ℕ) → AreSound [] kept → Found kept (now h) → Replayed all more kept old before (out_in (Some h)) number len → more.text AtEnd [] ≡ []
+    → number ≡ answered + 1 → Grows (Some h) mid (CutTo len ∷ Flushed ∷ []) → Grows mid mid2 (Settled ∷ Began answered counts ∷ [])
+    → (m2 : History) × (mid2 ≡ Some m2) × StaysSafe (all.text AtEnd) (Some h) (Some m2) × Rested all more number before (now m2)
+go-begun all more kept old before h None mid2 number len answered counts sound f r none n g e = absurd g
+go-begun all more kept old before h (Some m) None number len answered counts sound f r none n g e = absurd e
+go-begun all more kept old before h (Some m) (Some m2) number len answered counts sound f r none n g e =
+    let a = ready all more kept old before h number len sound f r in
+    let text = all.text AtEnd in
+    let is1 = now-more h m (CutTo len ∷ Flushed ∷ []) g in
+    let is2 : now m2 ≡ after_all (now h) (CutTo len ∷ Flushed ∷ Settled ∷ Began answered counts ∷ []) =
+    now-more m m2 (Settled ∷ Began answered counts ∷ []) e ∙ ap (λ s. after_all s (Settled ∷ Began answered counts ∷ [])) is1 in
+    let first : StaysSafe text (Some h) (Some m) = (CutTo len ∷ Flushed ∷ [], g, cut-and-flushed all more kept number len (now h) a r.length_is) in
+    let next : StaysSafe text (Some m) (Some m2) = (
+      Settled ∷ Began answered counts ∷ [],
+      e,
+      subst (λ s. AreSafe text s (Settled ∷ Began answered counts ∷ [])) (sym is1) (begin-safe all more kept number len answered counts (now h) a r.length_is n none),
+    ) in (
+      m2,
+      refl,
+      stays-more text (Some h) (Some m) (Some m2) first next,
+      subst (Rested all more number before) (sym is2) (begin-rests all more kept number len answered counts before (now h) a r.length_is r.before_is),
+    )
 
 -- the run goes on with new records
 pub go-safe : {T E : Type 0} (all more more2 : Account) (kept old : List ℕ) (before before2 : Option (List ℕ)) (h : History) (mid mid2 new : Option History)
@@ -216,22 +245,27 @@ pub go-safe : {T E : Type 0} (all more more2 : Account) (kept old : List ℕ) (b
     → Replayed all more kept old before (out_in (Some h)) number len → more.text AtEnd [] ≡ [] → number ≡ answered + 1
     → Grows (Some h) mid (CutTo len ∷ Flushed ∷ []) → Grows mid mid2 (Settled ∷ Began answered counts ∷ [])
     → LivesSafe more before number mid2 more2 before2 number2 new res → StaysSafe (all.text AtEnd) (Some h) new
-go-safe all more more2 kept old before before2 h None mid2 new number number2 len answered counts res sound f r none n g e lives = absurd g
-go-safe all more more2 kept old before before2 h (Some m) None new number number2 len answered counts res sound f r none n g e lives = absurd e
-go-safe all more more2 kept old before before2 h (Some m) (Some m2) new number number2 len answered counts res sound f r none n g e lives =
-    let a = ready all more kept old before h number len sound f r in
-    let text = all.text AtEnd in
-    let is1 = now-more h m (CutTo len ∷ Flushed ∷ []) g in
-    let is2 : now m2 ≡ after_all (now h) (CutTo len ∷ Flushed ∷ Settled ∷ Began answered counts ∷ []) =
-    now-more m m2 (Settled ∷ Began answered counts ∷ []) e ∙ ap (λ s. after_all s (Settled ∷ Began answered counts ∷ [])) is1 in
-    let rested = subst (Rested all more number before) (sym is2) (begin-rests all more kept number len answered counts before (now h) a r.length_is r.before_is) in
-    stays-more text (Some h) (Some m) new (CutTo len ∷ Flushed ∷ [], g, cut-and-flushed all more kept number len (now h) a r.length_is)
-    (stays-more text (Some m) (Some m2) new (
-      Settled ∷ Began answered counts ∷ [],
-      e,
-      subst (λ s. AreSafe text s (Settled ∷ Began answered counts ∷ [])) (sym is1) (begin-safe all more kept number len answered counts (now h) a r.length_is n none),
-    )
-    (lives all m2 refl rested).0)
+go-safe all more more2 kept old before before2 h mid mid2 new number number2 len answered counts res sound f r none n g e lives =
+    let b = go-begun all more kept old before h mid mid2 number len answered counts sound f r none n g e in
+    stays-more (all.text AtEnd) (Some h) (Some b.0) new b.2 (lives all b.0 b.1 b.3).0
+
+rested-shown : {T E : Type 0} (all more : Account) (number : ℕ) (before : Option (List ℕ)) (new : Option History) (res : Result T E)
+    → OnOk res ((h : History) → new ≡ Some h → Rested all more number before (now h)) → OnOk res (IfSome new (λ h. IsShown (now h)))
+rested-shown all more number before new (Err x) f = tt
+rested-shown all more number before None (Ok x) f = tt
+rested-shown all more number before (Some h) (Ok x) f =
+    let r = f h refl in
+    (r.begun, r.shown)
+
+-- and has shown all that `out` has
+pub go-shown : {T E : Type 0} (all more more2 : Account) (kept old : List ℕ) (before before2 : Option (List ℕ)) (h : History) (mid mid2 new : Option History)
+    (number number2 len answered : ℕ) (counts : List ℕ) (res : Result T E) → AreSound [] kept → Found kept (now h)
+    → Replayed all more kept old before (out_in (Some h)) number len → more.text AtEnd [] ≡ [] → number ≡ answered + 1
+    → Grows (Some h) mid (CutTo len ∷ Flushed ∷ []) → Grows mid mid2 (Settled ∷ Began answered counts ∷ [])
+    → LivesSafe more before number mid2 more2 before2 number2 new res → OnOk res (IfSome new (λ h2. IsShown (now h2)))
+go-shown all more more2 kept old before before2 h mid mid2 new number number2 len answered counts res sound f r none n g e lives =
+    let b = go-begun all more kept old before h mid mid2 number len answered counts sound f r none n g e in
+    rested-shown all more2 number2 before2 new res (lives all b.0 b.1 b.3).1
 
 -- ---- a whole run
 
@@ -294,18 +328,17 @@ run-safe-unreplayed all first past before h (Some m) new live live2 res kept old
     (replay-safe text kept m new live live2 res off b.sound found t
     (λ h2 e. ended-front all kept old (now h2).out None (subst (λ n. Ended all kept old None None (Some kept) (out_in n)) e (ends kept old None b)) front))
 
--- what was kept is answered again, and the run goes on
-pub run-safe : (all more : Account) (first past before before2 : Option (List ℕ)) (h : History) (mid mid2 new : Option History) (live live2 : Bool)
+-- what was kept is answered again
+run-replayed : (all more : Account) (first past before before2 : Option (List ℕ)) (h : History) (mid mid2 : Option History) (live live2 : Bool)
     (number len : ℕ) (kept old : List ℕ) → live ≡ false → IfSome first (λ text. AreSound [] text)
     → Opens kept old first past (kept_in (Some h)) before (out_in (Some h)) → IsOpened (all.text AtEnd) (now h) → Grows (Some h) mid (Flushed ∷ [])
     → (live2 ≡ live) × ((told : List ℕ) × Tells live mid mid2 told [])
     → ((kept old : List ℕ) → Begins kept old past (Some kept) before (out_in mid) → Replayed all more kept old before2 (out_in mid2) number len)
-    → ((all : Account) (kept old : List ℕ) (h2 : History) → mid2 ≡ Some h2 → AreSound [] kept → Found kept (now h2)
-    → Replayed all more kept old before2 (out_in mid2) number len → StaysSafe (all.text AtEnd) (Some h2) new)
-    → StaysSafe (all.text AtEnd) (Some h) new
-run-safe all more first past before before2 h None mid2 new live live2 number len kept old off sound o opened g t replayed goes = absurd g
-run-safe all more first past before before2 h (Some m) None new live live2 number len kept old off sound o opened g t replayed goes = absurd t.1.1.1
-run-safe all more first past before before2 h (Some m) (Some m2) new live live2 number len kept old off sound o opened g t replayed goes =
+    → (m2 : History) × (mid2 ≡ Some m2) × StaysSafe (all.text AtEnd) (Some h) (Some m2) × AreSound [] kept × Found kept (now m2)
+    × Replayed all more kept old before2 (out_in mid2) number len
+run-replayed all more first past before before2 h None mid2 live live2 number len kept old off sound o opened g t replayed = absurd g
+run-replayed all more first past before before2 h (Some m) None live live2 number len kept old off sound o opened g t replayed = absurd t.1.1.1
+run-replayed all more first past before before2 h (Some m) (Some m2) live live2 number len kept old off sound o opened g t replayed =
     let text = all.text AtEnd in
     let is = now-more h m (Flushed ∷ []) g in
     let kept_now : (now h).kept ≡ kept = kept-is (now h).kept kept o.log_is in
@@ -319,10 +352,40 @@ run-safe all more first past before before2 h (Some m) (Some m2) new live live2 
     }) sound in
     let r = replayed kept old b in
     let front : IsFrontOf (now m2).out (text (records_in kept)) =
-    subst (λ t. IsFrontOf t (text (records_in kept))) (sym (kept-is (now m2).out r.told r.out_is)) (told-front all more r.told number kept r.answered) in
-    stays-more text (Some h) (Some m) new (Flushed ∷ [], g, flushed-safe text (now h) opened)
-    (stays-more text (Some m) (Some m2) new (told-within text kept m m2 live t.1.0 [] off b.sound found t.1.1 front)
-    (goes all kept old m2 refl b.sound (replay-found kept m m2 live t.1.0 [] off found t.1.1) r))
+    subst (λ t. IsFrontOf t (text (records_in kept))) (sym (kept-is (now m2).out r.told r.out_is)) (told-front all more r.told number kept r.answered) in (
+      m2,
+      refl,
+      stays-more text (Some h) (Some m) (Some m2) (Flushed ∷ [], g, flushed-safe text (now h) opened)
+          (told-within text kept m m2 live t.1.0 [] off b.sound found t.1.1 front),
+      b.sound,
+      replay-found kept m m2 live t.1.0 [] off found t.1.1,
+      r,
+    )
+
+-- and the run goes on
+pub run-safe : (all more : Account) (first past before before2 : Option (List ℕ)) (h : History) (mid mid2 new : Option History) (live live2 : Bool)
+    (number len : ℕ) (kept old : List ℕ) → live ≡ false → IfSome first (λ text. AreSound [] text)
+    → Opens kept old first past (kept_in (Some h)) before (out_in (Some h)) → IsOpened (all.text AtEnd) (now h) → Grows (Some h) mid (Flushed ∷ [])
+    → (live2 ≡ live) × ((told : List ℕ) × Tells live mid mid2 told [])
+    → ((kept old : List ℕ) → Begins kept old past (Some kept) before (out_in mid) → Replayed all more kept old before2 (out_in mid2) number len)
+    → ((all : Account) (kept old : List ℕ) (h2 : History) → mid2 ≡ Some h2 → AreSound [] kept → Found kept (now h2)
+    → Replayed all more kept old before2 (out_in mid2) number len → StaysSafe (all.text AtEnd) (Some h2) new)
+    → StaysSafe (all.text AtEnd) (Some h) new
+run-safe all more first past before before2 h mid mid2 new live live2 number len kept old off sound o opened g t replayed goes =
+    let b = run-replayed all more first past before before2 h mid mid2 live live2 number len kept old off sound o opened g t replayed in
+    stays-more (all.text AtEnd) (Some h) (Some b.0) new b.2 (goes all kept old b.0 b.1 b.3 b.4 b.5)
+
+pub run-shown : {T E : Type 0} (all more : Account) (first past before before2 : Option (List ℕ)) (h : History) (mid mid2 new : Option History)
+    (live live2 : Bool) (number len : ℕ) (kept old : List ℕ) (res : Result T E) → live ≡ false → IfSome first (λ text. AreSound [] text)
+    → Opens kept old first past (kept_in (Some h)) before (out_in (Some h)) → IsOpened (all.text AtEnd) (now h) → Grows (Some h) mid (Flushed ∷ [])
+    → (live2 ≡ live) × ((told : List ℕ) × Tells live mid mid2 told [])
+    → ((kept old : List ℕ) → Begins kept old past (Some kept) before (out_in mid) → Replayed all more kept old before2 (out_in mid2) number len)
+    → ((all : Account) (kept old : List ℕ) (h2 : History) → mid2 ≡ Some h2 → AreSound [] kept → Found kept (now h2)
+    → Replayed all more kept old before2 (out_in mid2) number len → OnOk res (IfSome new (λ h3. IsShown (now h3))))
+    → OnOk res (IfSome new (λ h3. IsShown (now h3)))
+run-shown all more first past before before2 h mid mid2 new live live2 number len kept old res off sound o opened g t replayed goes =
+    let b = run-replayed all more first past before before2 h mid mid2 live live2 number len kept old off sound o opened g t replayed in
+    goes all kept old b.0 b.1 b.3 b.4 b.5
 
 -- ---- the ends of a run, as the code has them
 

@@ -6,9 +6,9 @@ use Rattle.rubis_keep.specs.Kept.{IsFrontOf}
 use Rattle.rubis_keep.specs.Lines.{AreSound, whole_lines}
 
 -- a byte is appended to `kept` or to `out`, or shown on standard output: of a write that is cut off, some first bytes are. `kept` is
--- flushed, after which it survives a power failure if that is asked for, or cut off after its first bytes. The line `kept,..` is
--- shown: how many records were kept, and how many messages of each site are released. A question is answered on standard output by
--- this text, or by some first bytes of it where that failed
+-- flushed, after which it survives a power failure if that is asked for, or cut off after its first bytes. It is written down how the
+-- site is set up from now on. The line `kept,..` is shown: how many records were kept, and how many messages of each site are released.
+-- A question is answered on standard output by this text, or by some first bytes of it where that failed
 pub data Event : Type 0 where
   Kept : (byte : ℕ) → Event
   Flushed : Event
@@ -27,7 +27,9 @@ pub record FileState : Type 0 where
   -- what was cut off from it, and may come back with a power failure
   pub cut : List ℕ
   pub out : List ℕ
-  -- whether the line `kept,..` was shown; and what `out` had then, with the answers that were shown since
+  -- whether it was written down how the site is set up from now on; whether the line `kept,..` was shown; and what `out` had then, with the
+  -- answers that were shown since
+  pub settled : Bool
   pub begun : Bool
   pub shown : List ℕ
 
@@ -36,7 +38,7 @@ after s (Kept b) = record s { kept = s.kept ++ b ∷ [] }
 after s Flushed = record s { flushed = s.kept; cut = [] }
 after s (CutTo n) = record s { kept = take n s.kept; flushed = take n s.flushed; cut = drop n s.kept ++ s.cut }
 after s (Told b) = record s { out = s.out ++ b ∷ [] }
-after s Settled = s
+after s Settled = record s { settled = true }
 after s (Began n counts) = record s { begun = true; shown = s.out }
 after s (Shown b) = record s { shown = s.shown ++ b ∷ [] }
 after s (Replied question text) = s
@@ -105,15 +107,15 @@ IsAnswered text s = s.out ≡ text (records_in s.kept)
 abbrev pub IsShown : FileState → Type 0
 IsShown s = (s.begun ≡ true) × (s.shown ≡ s.out)
 
--- no event loses a line that was kept whole. The line `kept,..` is shown, and the site set up anew, once all that was kept is answered.
--- A question is answered once that is shown too
+-- The line `kept,..` is shown once: all that was kept is answered then, and before that it is written down how the site is set up. No byte
+-- is kept before it, and no event loses a line that was kept whole. A question is answered once all that was kept is answered, and shown
 abbrev pub Follows : (List (List (List ℕ)) → List ℕ) → FileState → Event → Type 0
-Follows text s (Kept b) = ⊤
+Follows text s (Kept b) = s.begun ≡ true
 Follows text s Flushed = ⊤
 Follows text s (CutTo n) = IsFrontOf (whole_lines s.kept) (take n s.kept)
 Follows text s (Told b) = ⊤
-Follows text s Settled = IsAnswered text s
-Follows text s (Began n counts) = IsAnswered text s × (n ≡ length (records_in s.kept))
+Follows text s Settled = IsAnswered text s × (s.begun ≡ false)
+Follows text s (Began n counts) = IsAnswered text s × (n ≡ length (records_in s.kept)) × (s.settled ≡ true) × (s.begun ≡ false)
 Follows text s (Shown b) = ⊤
 Follows text s (Replied question reply) = IsAnswered text s × IsShown s
 

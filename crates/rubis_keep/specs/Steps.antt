@@ -1,5 +1,5 @@
 -- What the steps of a run leave, by how they end.
-use Rattle.std.specs.Prelude.{◌≡◌, ◌+◌, ◌++◌, [], ℕ, Bool, List, OnErr, OnOk, Option, Result, Some, false}
+use Rattle.std.specs.Prelude.{◌≡◌, ◌+◌, ◌++◌, [], ℕ, Bool, IfSome, List, OnErr, OnOk, Option, Result, Some, false}
 use Rattle.rubis_message.specs.Message.{Message}
 use Rattle.rubis_engine.specs.Accounts.{Account}
 use Rattle.rubis_engine.specs.Accounts.Ending.{AtEnd}
@@ -10,7 +10,7 @@ use Rattle.rubis_script.specs.Headline.{Settles}
 use Rattle.rubis_replica.specs.State.{SiteState}
 use Rattle.rubis_script.specs.SiteRuns.{told_by}
 use Rattle.rubis_keep.specs.Asking.{IsUnmoved, LedBy, RepliesTo}
-use Rattle.rubis_keep.specs.History.{HasTold, History, StaysSafe, kept_in, now, out_in}
+use Rattle.rubis_keep.specs.History.{HasTold, History, IsShown, StaysSafe, kept_in, now, out_in}
 use Rattle.rubis_keep.specs.Kept.{Begins, Ended, Finished, FinishedFront, InEachRest, Lived, OutEnds, Opens, Replayed, Rests}
 use Rattle.rubis_keep.specs.Lines.{AreSound, whole_lines}
 use Rattle.rubis_keep.specs.Lives.{Found, IsOpened}
@@ -88,12 +88,15 @@ pub record LivesOn {T E : Type 0} (input input2 : Option (List ℕ)) (old : Stan
   pub safe : (all : Account) (kept was : List ℕ) (h : History) → old.history ≡ Some h → AreSound [] kept → Found kept (now h)
       → Replayed all (told_by old.site (old.answered + 1)) kept was old.before (out_in old.history) (old.answered + 1) old.kept
       → StaysSafe (all.text AtEnd) (Some h) history2
+  pub shown : (all : Account) (kept was : List ℕ) (h : History) → old.history ≡ Some h → AreSound [] kept → Found kept (now h)
+      → Replayed all (told_by old.site (old.answered + 1)) kept was old.before (out_in old.history) (old.answered + 1) old.kept
+      → OnOk r (IfSome history2 (λ h2. IsShown (now h2)))
   pub asked : (p : Place) (s : Replica) (kept : List ℕ) → AreSound [] kept
       → LedBy p s 0 old.site old.answered (input_records (whole_lines kept))
       → RepliesTo p s kept input input2 old.history history2 r
 
 -- a run goes on where an earlier one was cut off, and comes to the end of its input, or ends with a fault: what it leaves, that its files are
--- safe at each moment, and what it replies to questions
+-- safe at each moment, that all that `out` has is shown at the end, and what it replies to questions
 pub record Runs {T E : Type 0} (s : SiteState) (first past before : Option (List ℕ)) (is_live : Bool) (input input2 : Option (List ℕ))
     (old new : Option History) (r : Result T E) : Type 0 where
   pub ok : OnOk r ((kept was : List ℕ) → Opens kept was first past (kept_in old) before (out_in old)
@@ -102,5 +105,7 @@ pub record Runs {T E : Type 0} (s : SiteState) (first past before : Option (List
       → Ended (told_by s 1) kept was input input2 (kept_in new) (out_in new))
   pub safe : is_live ≡ false → (h : History) (kept was : List ℕ) → old ≡ Some h → Opens kept was first past (kept_in (Some h)) before (out_in (Some h))
       → IsOpened ((told_by s 1).text AtEnd) (now h) → StaysSafe ((told_by s 1).text AtEnd) (Some h) new
+  pub shown : is_live ≡ false → (h : History) (kept was : List ℕ) → old ≡ Some h → Opens kept was first past (kept_in (Some h)) before (out_in (Some h))
+      → IsOpened ((told_by s 1).text AtEnd) (now h) → OnOk r (IfSome new (λ h2. IsShown (now h2)))
   pub asked : (kept was : List ℕ) → Opens kept was first past (kept_in old) before (out_in old)
       → RepliesTo s.place s.state kept input input2 old new r

@@ -1,12 +1,12 @@
 //! A site that keeps its records, and goes on where an earlier run was cut off.
 
-ghost use Rattle.std.specs.Prelude.{◌≡◌, ◌∷◌, ◌⊎◌, [], ℕ, List, OnErr, OnOk, Some, false, map};
+ghost use Rattle.std.specs.Prelude.{◌≡◌, ◌∷◌, ◌⊎◌, [], ℕ, IfSome, List, OnErr, OnOk, Some, false, map};
 ghost use Rattle.std.specs.List.{range_with_len};
 ghost use Rattle.rubis_engine.specs.Accounts.Ending.{AtEnd};
 ghost use Rattle.rubis_script.specs.SiteRuns.{told_by};
 ghost use Rattle.rubis_model.specs.Settle.{counted};
 ghost use Rattle.rubis_keep.specs.Asking.{RepliesTo};
-ghost use Rattle.rubis_keep.specs.History.{Grows, HasDone, History, StaysSafe, kept_in, now, out_in};
+ghost use Rattle.rubis_keep.specs.History.{Grows, HasDone, History, IsShown, StaysSafe, kept_in, now, out_in};
 ghost use Rattle.rubis_keep.specs.History.Event.{Began, CutTo, Flushed, Settled};
 ghost use Rattle.rubis_keep.specs.Kept.{Ended, Lived, Opens};
 ghost use Rattle.rubis_keep.specs.Lives.{IsOpened};
@@ -217,6 +217,9 @@ pub fn run_kept<
         → Opens kept old (C.remaining recording.old.first) (P.remaining recording.old.past) (kept_in (Some h)) (O.remaining answers.old.before) (out_in (Some h))
         → IsOpened ((told_by clerk.old.desk.site 1).text AtEnd) (now h)
         → StaysSafe ((told_by clerk.old.desk.site 1).text AtEnd) (Some h) (F.history answers.new.files) }
+    ensures shown { answers.old.is_live ≡ false → (h : History) (kept old : List ℕ) → F.history answers.old.files ≡ Some h
+        → Opens kept old (C.remaining recording.old.first) (P.remaining recording.old.past) (kept_in (Some h)) (O.remaining answers.old.before) (out_in (Some h))
+        → IsOpened ((told_by clerk.old.desk.site 1).text AtEnd) (now h) → OnOk result (IfSome (F.history answers.new.files) (λ h2. IsShown (now h2))) }
     ensures asked { (kept old : List ℕ) → Opens kept old (C.remaining recording.old.first) (P.remaining recording.old.past)
         (kept_in (F.history answers.old.files)) (O.remaining answers.old.before) (out_in (F.history answers.old.files))
         → RepliesTo clerk.old.desk.site.place clerk.old.desk.site.state kept (R.remaining live.old) (R.remaining live.new) (F.history answers.old.files)

@@ -1,12 +1,12 @@
 //! A site at its desk, for as long as records come, and its run from its configuration on.
 
-ghost use Rattle.std.specs.Prelude.{◌≡◌, ℕ, List, OnErr, OnOk, Some, false, IfOk};
+ghost use Rattle.std.specs.Prelude.{◌≡◌, ℕ, IfSome, List, OnErr, OnOk, Some, false, IfOk};
 ghost use Rattle.rubis_model.specs.Site.{opening_at};
 ghost use Rattle.rubis_script.specs.Replica.{setup_place};
 ghost use Rattle.rubis_script.specs.SiteRuns.{site_account};
 ghost use Rattle.rubis_engine.specs.Accounts.Ending.{AtEnd};
 ghost use Rattle.rubis_keep.specs.Asking.{RepliesTo};
-ghost use Rattle.rubis_keep.specs.History.{History, StaysSafe, kept_in, now, out_in};
+ghost use Rattle.rubis_keep.specs.History.{History, IsShown, StaysSafe, kept_in, now, out_in};
 ghost use Rattle.rubis_keep.specs.Kept.{Ended, Lived, Opens};
 ghost use Rattle.rubis_keep.specs.Lives.{IsOpened};
 ghost use Rattle.rubis_script.specs.Desks.{IsFresh};
@@ -71,6 +71,10 @@ pub fn keep_site<T: Threads + Wait + Sync, C: Read, P: Read, O: Read, F: SiteFil
         → Opens kept old (C.remaining recording.old.first) (P.remaining recording.old.past) (kept_in (Some h)) (O.remaining answers.old.before) (out_in (Some h))
         → IsOpened ((site_account (setup_place config.now) (opening_at config.now.site) 1).text AtEnd) (now h)
         → StaysSafe ((site_account (setup_place config.now) (opening_at config.now.site) 1).text AtEnd) (Some h) (F.history answers.new.files) }
+    ensures shown { answers.old.is_live ≡ false → (h : History) (kept old : List ℕ) → F.history answers.old.files ≡ Some h
+        → Opens kept old (C.remaining recording.old.first) (P.remaining recording.old.past) (kept_in (Some h)) (O.remaining answers.old.before) (out_in (Some h))
+        → IsOpened ((site_account (setup_place config.now) (opening_at config.now.site) 1).text AtEnd) (now h)
+        → OnOk result (IfSome (F.history answers.new.files) (λ h2. IsShown (now h2))) }
     ensures asked { (kept old : List ℕ) → Opens kept old (C.remaining recording.old.first) (P.remaining recording.old.past)
         (kept_in (F.history answers.old.files)) (O.remaining answers.old.before) (out_in (F.history answers.old.files))
         → RepliesTo (setup_place config.now) (opening_at config.now.site) kept (R.remaining live.old) (R.remaining live.new) (F.history answers.old.files)

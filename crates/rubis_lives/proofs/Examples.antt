@@ -42,7 +42,7 @@ use Rattle.rubis_lives.specs.Histories.{ShortensKept, Step, answered_on, keep_af
 use Rattle.rubis_lives.specs.Histories.{stands}
 use Rattle.rubis_lives.specs.Histories.Step.{Does, Fails, Happens, Raises, Shortens}
 use Rattle.rubis_keep.specs.History.{AreSafe, Event, FileState, after, after_all, records_in}
-use Rattle.rubis_keep.specs.History.Event.{Flushed, Kept, Told}
+use Rattle.rubis_keep.specs.History.Event.{Began, Flushed, Kept, Settled, Told}
 use Rattle.rubis_keep.specs.Lines.{AreSound}
 use Rattle.rubis_keep.specs.Lives.{IsOpened}
 use Rattle.rubis_lives.specs.Moments.{from_disk, opened_again}
@@ -91,6 +91,14 @@ sent-read = refl
 both-read : records_in (sent ++ listed) ≡ ann_is_sent ∷ listing ∷ []
 unfolding input_records records_from next_record strip_bom
 both-read = refl
+
+none-read-in : records_in [] ≡ []
+unfolding input_records records_from next_record strip_bom
+none-read-in = refl
+
+none-told : (i : ℕ) → text_of (site_keeping 2 i KEEP_MAX) (records_in []) ≡ []
+unfolding answers
+none-told i = ap (text_of (site_keeping 2 i KEEP_MAX)) none-read-in
 
 ask-written : rows_text ann_answers ≡ told_to_ask
 unfolding escaped fields_text is_blank
@@ -147,8 +155,12 @@ nothing = from_disk (record { log = []; out = [] })
 torn : Files
 torn = record { log = asked; out = take 4 told_to_ask }
 
+-- each site begins with no records
+abbrev beginning : List Event
+beginning = Settled ∷ Began 0 (0 ∷ 0 ∷ []) ∷ []
+
 abbrev answering : List Event
-answering = map (λ b. Kept b) asked ++ Flushed ∷ map (λ b. Told b) (take 20 told_to_ask)
+answering = beginning ++ map (λ b. Kept b) asked ++ Flushed ∷ map (λ b. Told b) (take 20 told_to_ask)
 
 -- then it answers the ask again, and finds what is left of its answer
 abbrev answering_again : List Event
@@ -156,7 +168,7 @@ answering_again = map (λ b. Told b) (drop 4 told_to_ask)
 
 -- site 1 is given the message, lists its log, and is shortened
 abbrev taking : List Event
-taking = map (λ b. Kept b) sent ++ Flushed ∷ map (λ b. Told b) told_to_message ++ map (λ b. Kept b) listed ++ Flushed ∷ map (λ b. Told b) told_to_listing
+taking = beginning ++ map (λ b. Kept b) sent ++ Flushed ∷ map (λ b. Told b) told_to_message ++ map (λ b. Kept b) listed ++ Flushed ∷ map (λ b. Told b) told_to_listing
 
 -- and is killed while it answers what is left
 abbrev taking_again : List Event
@@ -175,6 +187,9 @@ running (suc (suc i)) = []
 abbrev told : ℕ → List ℕ → List Step → List Step
 told i text later = happening i (map (λ b. Told b) text) later
 
+abbrev begun : ℕ → List Step → List Step
+begun i later = happening i beginning later
+
 abbrev kept : ℕ → List ℕ → List Step → List Step
 kept i lines later = happening i (map (λ b. Kept b) lines) (Happens i Flushed ∷ later)
 
@@ -186,7 +201,7 @@ abbrev once_asked : List Step
 once_asked = Does (Reads 0 ann_is_asked) ∷ told 0 (take 20 told_to_ask) once_torn
 
 abbrev steps_of_0 : List Step
-steps_of_0 = kept 0 asked once_asked
+steps_of_0 = begun 0 (kept 0 asked once_asked)
 
 -- and then at site 1
 abbrev once_shortened : List Step
@@ -199,7 +214,7 @@ abbrev once_sent : List Step
 once_sent = Does (Reads 1 ann_is_sent) ∷ told 1 told_to_message (kept 1 listed once_listed)
 
 abbrev steps_of_1 : List Step
-steps_of_1 = kept 1 sent once_sent
+steps_of_1 = begun 1 (kept 1 sent once_sent)
 
 abbrev steps : List Step
 steps = steps_of_0 ++ steps_of_1
@@ -213,19 +228,37 @@ is-open : (i : ℕ) → IsOpened (text_of (site_keeping 2 i KEEP_MAX)) nothing
 unfolding nothing
 is-open i = shortened-opened (text_of (site_keeping 2 i KEEP_MAX)) [] tt
 
-answering-safe : AreSafe (text_of (site_keeping 2 0 KEEP_MAX)) nothing answering
+once-begun : FileState
+once-begun = after_all nothing beginning
+
+beginning-safe : (i : ℕ) → AreSafe (text_of (site_keeping 2 i KEEP_MAX)) nothing beginning
 unfolding nothing
+beginning-safe i =
+    let safe = (is-open i).safe in (
+      safe,
+      (sym (none-told i), refl),
+      (
+        record { sound = safe.sound; flushed = safe.flushed; told = safe.told; shown = safe.shown },
+        (sym (none-told i), ap length (sym none-read-in), refl, refl),
+        record { sound = safe.sound; flushed = safe.flushed; told = safe.told; shown = ([], refl) },
+      ),
+    )
+
+answering-safe : AreSafe (text_of (site_keeping 2 0 KEEP_MAX)) nothing answering
+unfolding nothing once-begun
 answering-safe =
     let text = text_of (site_keeping 2 0 KEEP_MAX) in
     let lines = map (λ b. Kept b) asked in
-    let first = safe-keeps text asked nothing (is-open 0).safe refl asked-sound in
-    let s = after_all nothing lines in
-    safe-append text nothing lines (Flushed ∷ map (λ b. Told b) (take 20 told_to_ask)) first (
-      safe-last text nothing lines first,
+    let begins = beginning-safe 0 in
+    let first = safe-keeps text asked once-begun (safe-last text nothing beginning begins) refl refl asked-sound in
+    let s = after_all once-begun lines in
+    let answer = map (λ b. Told b) (take 20 told_to_ask) in
+    safe-append text nothing beginning (lines ++ Flushed ∷ answer) begins
+    (safe-append text once-begun lines (Flushed ∷ answer) first (
+      safe-last text once-begun lines first,
       tt,
-      safe-answers text false (map (λ b. Told b) (take 20 told_to_ask)) [] [] (after s Flushed) refl asked-sound ([], refl) (refl, (refl, refl))
-          (drop 20 told_to_ask, sym ask-told),
-    )
+      safe-answers text true answer [] (take 20 told_to_ask) (after s Flushed) refl asked-sound ([], refl) (refl, refl) (drop 20 told_to_ask, sym ask-told),
+    ))
 
 answering-again-safe : AreSafe (text_of (site_keeping 2 0 KEEP_MAX)) (from_disk torn) answering_again
 unfolding torn
@@ -234,28 +267,31 @@ answering-again-safe =
     ([], sym ask-told)
 
 taking-safe : AreSafe (text_of (site_keeping 2 1 KEEP_MAX)) nothing taking
-unfolding nothing
+unfolding nothing once-begun
 taking-safe =
     let text = text_of (site_keeping 2 1 KEEP_MAX) in
     let lines = map (λ b. Kept b) sent in
-    let first = safe-keeps text sent nothing (is-open 1).safe refl sent-sound in
-    let s = after (after_all nothing lines) Flushed in
+    let begins = beginning-safe 1 in
+    let first = safe-keeps text sent once-begun (safe-last text nothing beginning begins) refl refl sent-sound in
+    let s = after (after_all once-begun lines) Flushed in
     let answer = map (λ b. Told b) told_to_message in
-    let answered = safe-answers text false answer [] [] s refl sent-sound ([], refl) (refl, (refl, refl)) ([], sym message-told) in
+    let answered = safe-answers text true answer [] told_to_message s refl sent-sound ([], refl) (refl, refl) ([], sym message-told) in
     let t = after_all s answer in
     let more = map (λ b. Kept b) listed in
-    let second = safe-keeps text listed t (safe-last text s answer answered) refl both-sound in
+    let second = safe-keeps text listed t (safe-last text s answer answered) refl refl both-sound in
     let rows = map (λ b. Told b) told_to_listing in
-    safe-append text nothing lines (Flushed ∷ answer ++ more ++ Flushed ∷ rows) first (
-      safe-last text nothing lines first,
+    safe-append text nothing beginning (lines ++ Flushed ∷ answer ++ more ++ Flushed ∷ rows) begins
+    (safe-append text once-begun lines (Flushed ∷ answer ++ more ++ Flushed ∷ rows) first (
+      safe-last text once-begun lines first,
       tt,
       safe-append text s answer (more ++ Flushed ∷ rows) answered
           (safe-append text t more (Flushed ∷ rows) second (
             safe-last text t more second,
             tt,
-            safe-answers text false rows [] [] (after (after_all t more) Flushed) refl both-sound ([], refl) (refl, (refl, refl)) ([], sym both-told),
+            safe-answers text true rows told_to_message (told_to_message ++ told_to_listing) (after (after_all t more) Flushed) refl both-sound ([], refl)
+                (refl, refl) ([], sym both-told),
           )),
-    )
+    ))
 
 taking-again-safe : AreSafe (text_of (site_keeping 2 1 KEEP_MAX)) (shortened_to sent) taking_again
 taking-again-safe =
@@ -300,6 +336,9 @@ happens-elsewhere : (i j : ℕ) (events : List Event) (later : List Step) → eq
 happens-elsewhere i j [] later e h = h
 happens-elsewhere i j (x ∷ events) later e h = (e, happens-elsewhere i j events later e h)
 
+begun-elsewhere : (i j : ℕ) (later : List Step) → eqb j i ≡ false → Elsewhere i later → Elsewhere i (begun j later)
+begun-elsewhere i j later e h = happens-elsewhere i j beginning later e h
+
 kept-elsewhere : (i j : ℕ) (lines : List ℕ) (later : List Step) → eqb j i ≡ false → Elsewhere i later → Elsewhere i (kept j lines later)
 kept-elsewhere i j lines later e h = happens-elsewhere i j (map (λ b. Kept b) lines) (Happens j Flushed ∷ later) e (e, h)
 
@@ -332,15 +371,17 @@ none-own i (Does (Replays j fields) ∷ a) b h = none-own i a b h.1
 first-elsewhere : (i : ℕ) → eqb 0 i ≡ false → Elsewhere i steps_of_0
 unfolding torn
 first-elsewhere i e =
-    kept-elsewhere i 0 asked once_asked e (
+    begun-elsewhere i 0 (kept 0 asked once_asked) e
+    (kept-elsewhere i 0 asked once_asked e (
       e,
       told-elsewhere i 0 (take 20 told_to_ask) once_torn e
           (e, (e, (e, told-elsewhere i 0 (drop 4 told_to_ask) [] e tt))),
-    )
+    ))
 
 second-elsewhere : (i : ℕ) → eqb 1 i ≡ false → Elsewhere i steps_of_1
 second-elsewhere i e =
-    kept-elsewhere i 1 sent once_sent e (
+    begun-elsewhere i 1 (kept 1 sent once_sent) e
+    (kept-elsewhere i 1 sent once_sent e (
       e,
       told-elsewhere i 1 told_to_message (kept 1 listed once_listed) e
           (kept-elsewhere i 1 listed once_listed e (
@@ -348,7 +389,7 @@ second-elsewhere i e =
             told-elsewhere i 1 told_to_listing once_shortened e
                 (e, (e, (e, told-elsewhere i 1 (take 5 told_to_message) [] e tt))),
           )),
-    )
+    ))
 
 not-0 : (i : ℕ) → eqb 0 (suc (suc i)) ≡ false
 not-0 i = is_other 0 (suc (suc i)) (λ e. absurd (omega (arith, e)))
@@ -453,6 +494,19 @@ reads-kept sites i keep (b ∷ lines) s had n later is p h = (
       (reads-kept sites i keep lines (after s (Kept b)) had n later is p h),
 )
 
+reads-begun : (sites i keep : ℕ) (s : FileState) (had : Records) (n : ℕ) (later : List Step) → eqb i i ≡ true
+    → IsPrefix had (taken_in (site_keeping sites i keep) s.flushed)
+    → ReadsOn sites i keep (after_all s beginning) had n later → ReadsOn sites i keep s had n (begun i later)
+reads-begun sites i keep s had n later is p h = (
+  p,
+  tt,
+  subst (λ c. ReadsOn sites i keep (cond c (after s Settled) s) had n (happening i (Began 0 (0 ∷ 0 ∷ []) ∷ []) later)) (sym is) (
+    p,
+    tt,
+    subst (λ c. ReadsOn sites i keep (cond c (after_all s beginning) (after s Settled)) had n later) (sym is) h,
+  ),
+)
+
 reads-told : (sites i keep : ℕ) (text : List ℕ) (s : FileState) (had : Records) (n : ℕ) (later : List Step) → eqb i i ≡ true
     → IsPrefix had (taken_in (site_keeping sites i keep) s.flushed)
     → ReadsOn sites i keep (after_all s (map (λ b. Told b) text)) had n later → ReadsOn sites i keep s had n (happening i (map (λ b. Told b) text) later)
@@ -504,10 +558,14 @@ message-read-first = (listing ∷ [], sym both-taken)
 both-read-too : IsPrefix (ann_is_sent ∷ listing ∷ []) (taken_in (site_keeping 2 1 KEEP_MAX) (sent ++ listed))
 both-read-too = ([], sym both-taken)
 
+-- the files of a process that has begun where there were none
+abbrev begun_with : Files → FileState
+begun_with files = record { kept = files.log; flushed = files.log; cut = []; out = files.out; settled = true; begun = true; shown = [] }
+
 reads-0 : ReadsOn 2 0 KEEP_MAX nothing [] 0 steps
-unfolding nothing torn
+unfolding nothing torn once-begun
 reads-0 =
-    let s = from_disk (record { log = asked; out = [] }) in
+    let s = begun_with (record { log = asked; out = [] }) in
     let rest : ReadsOn 2 0 KEEP_MAX (after_all (from_disk torn) answering_again) (ann_is_asked ∷ []) 1 steps_of_1 =
     subst (ReadsOn 2 0 KEEP_MAX (after_all (from_disk torn) answering_again) (ann_is_asked ∷ []) 1) (append-nil steps_of_1)
     (reads-elsewhere 2 0 KEEP_MAX (after_all (from_disk torn) answering_again) (ann_is_asked ∷ []) 1 steps_of_1 [] (second-elsewhere 0 refl) ask-read) in
@@ -515,15 +573,16 @@ reads-0 =
     let failed : ReadsOn 2 0 KEEP_MAX (after_all s (map (λ b. Told b) (take 20 told_to_ask))) (ann_is_asked ∷ []) 1 (once_torn ++ steps_of_1) =
     (ask-read, tt, (ask-read, tt, (none-read 2 0 (from_disk torn), omega arith, again))) in
     let answered = reads-told 2 0 KEEP_MAX (take 20 told_to_ask) s (ann_is_asked ∷ []) 1 (once_torn ++ steps_of_1) refl ask-read failed in
-    reads-kept 2 0 KEEP_MAX asked nothing [] 0 (Happens 0 Flushed ∷ once_asked ++ steps_of_1) refl (none-read 2 0 nothing)
-    (none-read 2 0 nothing, tt, (none-read 2 0 s, refl, answered))
+    reads-begun 2 0 KEEP_MAX nothing [] 0 (kept 0 asked once_asked ++ steps_of_1) refl (none-read 2 0 nothing)
+    (reads-kept 2 0 KEEP_MAX asked once-begun [] 0 (Happens 0 Flushed ∷ once_asked ++ steps_of_1) refl (none-read 2 0 once-begun)
+    (none-read 2 0 once-begun, tt, (none-read 2 0 s, refl, answered)))
 
 reads-1 : ReadsOn 2 1 KEEP_MAX nothing [] 0 steps
-unfolding nothing torn
+unfolding nothing torn once-begun
 reads-1 =
-    let s = from_disk (record { log = sent; out = [] }) in
-    let answered = from_disk (record { log = sent; out = told_to_message }) in
-    let t = from_disk (record { log = sent ++ listed; out = told_to_message }) in
+    let s = begun_with (record { log = sent; out = [] }) in
+    let answered = begun_with (record { log = sent; out = told_to_message }) in
+    let t = begun_with (record { log = sent ++ listed; out = told_to_message }) in
     let size = length (taken_in (site_keeping 2 1 KEEP_MAX) sent) in
     let last = reads-told 2 1 KEEP_MAX (take 5 told_to_message) (shortened_to sent) (ann_is_sent ∷ []) size [] refl message-read message-read in
     let shorter : ReadsOn 2 1 KEEP_MAX (after_all t (map (λ b. Told b) told_to_listing)) (ann_is_sent ∷ listing ∷ []) 2 once_shortened =
@@ -533,8 +592,9 @@ reads-1 =
     (message-read, tt, (message-read-first, refl, rows)) in
     let first = reads-told 2 1 KEEP_MAX told_to_message s (ann_is_sent ∷ []) 1 (kept 1 listed once_listed) refl message-read more in
     reads-elsewhere 2 1 KEEP_MAX nothing [] 0 steps_of_0 steps_of_1 (first-elsewhere 1 refl)
-    (reads-kept 2 1 KEEP_MAX sent nothing [] 0 (Happens 1 Flushed ∷ once_sent) refl (none-read 2 1 nothing)
-    (none-read 2 1 nothing, tt, (none-read 2 1 s, refl, first)))
+    (reads-begun 2 1 KEEP_MAX nothing [] 0 (kept 1 sent once_sent) refl (none-read 2 1 nothing)
+    (reads-kept 2 1 KEEP_MAX sent once-begun [] 0 (Happens 1 Flushed ∷ once_sent) refl (none-read 2 1 once-begun)
+    (none-read 2 1 once-begun, tt, (none-read 2 1 s, refl, first))))
 
 all-read : (i : ℕ) → ReadsOn 2 i KEEP_MAX nothing [] 0 steps
 all-read zero = reads-0

@@ -6,12 +6,12 @@ use Rattle.rubis_engine.specs.Accounts.{Account}
 use Rattle.rubis_engine.specs.Accounts.Ending.{AtEnd, Cut}
 use Rattle.rubis_engine.specs.Text.{input_records}
 use Rattle.rubis_keep.specs.Left.{Files}
-use Rattle.rubis_keep.specs.History.{AreSafe, Event, FileState, Follows, IsSafe, after, after_all, records_in}
+use Rattle.rubis_keep.specs.History.{AreSafe, Event, FileState, Follows, IsAnswered, IsSafe, after, after_all, records_in}
 use Rattle.rubis_keep.specs.History.Event.{Began, CutTo, Flushed, Kept, Replied, Settled, Shown, Told}
 use Rattle.rubis_keep.specs.Kept.{Ended, IsFrontOf, Lived}
 use Rattle.rubis_keep.specs.Lines.{AreSound, begun_after, kept_of, whole_lines}
 use Rattle.rubis_keep.specs.Lives.{IsOpened}
-use Rattle.rubis_lives.specs.Moments.{Extends, KillsLeaveFiles, PowerFailuresLeaveFiles, RaisedKeepsTellTheSame, SurvivesIn, from_disk, opened_again}
+use Rattle.rubis_lives.specs.Moments.{AnsweredBeforeMore, Extends, KillsLeaveFiles, PowerFailuresLeaveFiles, RaisedKeepsTellTheSame, SurvivesIn, from_disk, opened_again}
 use Rattle.rubis_lives.proofs.GrowFacts.{front-more, records-grow, whole-front, whole-more}
 use Rattle.rubis_keep.proofs.HistoryFacts.{safe-first}
 use Rattle.rubis_keep.proofs.SoundFacts.{sound-front, whole-rest}
@@ -58,6 +58,15 @@ opens-again text s extends h =
       left = record { sound = sound-of text s h; rest = told.0; begins = told.1 };
     }
 
+-- where the line `kept,..` is shown among these events, and all that was kept is answered then
+abbrev IsBegunIn : (List (List (List ℕ)) → List ℕ) → FileState → List Event → Type 0
+IsBegunIn text s events =
+    (before since : List Event) × (n : ℕ) × (counts : List ℕ) × (events ≡ before ++ Began n counts ∷ since) × IsAnswered text (after_all s before)
+
+one-later : (text : List (List (List ℕ)) → List ℕ) (s : FileState) (e : Event) (events : List Event) → IsBegunIn text (after s e) events
+    → IsBegunIn text s (e ∷ events)
+one-later text s e events (before, since, n, counts, is, answered) = (e ∷ before, since, n, counts, ap (λ t. e ∷ t) is, answered)
+
 pub kills-leave-files : KillsLeaveFiles
 kills-leave-files text s events extends h first later e =
     let safe = subst (AreSafe text s) (sym e) h in
@@ -80,6 +89,18 @@ survives text t files extends h left =
 pub power-failures-leave-files : PowerFailuresLeaveFiles
 power-failures-leave-files text s events extends h first later e files left =
     survives text (after_all s first) files extends (safe-at text s first later (subst (AreSafe text s) (sym e) h)) left
+
+pub answered-before-more : AnsweredBeforeMore
+answered-before-more text s [] later b not_yet h = absurd (cc (not_yet, h.1))
+answered-before-more text s (Began n counts ∷ first) later b not_yet h = ([], first, n, counts, refl, h.1.0)
+answered-before-more text s (Kept c ∷ first) later b not_yet h = absurd (cc (not_yet, h.1))
+answered-before-more text s (Flushed ∷ first) later b not_yet h = one-later text s Flushed first (answered-before-more text (after s Flushed) first later b not_yet h.2)
+answered-before-more text s (CutTo n ∷ first) later b not_yet h = one-later text s (CutTo n) first (answered-before-more text (after s (CutTo n)) first later b not_yet h.2)
+answered-before-more text s (Told c ∷ first) later b not_yet h = one-later text s (Told c) first (answered-before-more text (after s (Told c)) first later b not_yet h.2)
+answered-before-more text s (Settled ∷ first) later b not_yet h = one-later text s Settled first (answered-before-more text (after s Settled) first later b not_yet h.2)
+answered-before-more text s (Shown c ∷ first) later b not_yet h = one-later text s (Shown c) first (answered-before-more text (after s (Shown c)) first later b not_yet h.2)
+answered-before-more text s (Replied question reply ∷ first) later b not_yet h =
+    one-later text s (Replied question reply) first (answered-before-more text (after s (Replied question reply)) first later b not_yet h.2)
 
 -- ---- a site that keeps more messages from now on
 

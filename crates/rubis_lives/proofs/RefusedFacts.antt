@@ -4,7 +4,7 @@ use Rattle.std.specs.Prelude.{MatchBool}
 use Rattle.rubis_keep.specs.History.{after, records_in}
 use Rattle.rubis_keep.specs.History.Event.{Kept, Shown, Told}
 use Rattle.rubis_keep.specs.Kept.{IsFrontOf}
-use Rattle.rubis_lives.specs.Moments.{ShownTooEarlyIsUnsafe, ToldTooEarlyIsUnsafe}
+use Rattle.rubis_lives.specs.Moments.{BegunTooEarlyIsUnsafe, KeptTooEarlyIsUnsafe, ShownTooEarlyIsUnsafe, ToldTooEarlyIsUnsafe}
 use Rattle.rubis_keep.proofs.HistoryFacts.{safe-first}
 
 none-begins : (out : List ℕ) (b : ℕ) (all : List ℕ) → out ≡ [] → all ≡ [] → IsFrontOf (out ++ b ∷ []) all → ⊥
@@ -35,3 +35,10 @@ shown-too-early text s b later early h = go s.begun early (safe-first text (afte
     go true (inl e) m = cc e
     go true (inr e) m = not-longer s.shown s.out b e m
     go false early m = no-end s.shown b m
+
+pub kept-too-early : KeptTooEarlyIsUnsafe
+kept-too-early text s b later early h = cc (early, h.1)
+
+pub begun-too-early : BegunTooEarlyIsUnsafe
+begun-too-early text s n counts later (inl early) h = cc (early, h.1.2)
+begun-too-early text s n counts later (inr again) h = cc (again, h.1.3)

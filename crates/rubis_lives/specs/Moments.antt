@@ -1,13 +1,13 @@
 -- A site that is killed at any moment, or loses its power.
-use Rattle.std.specs.Prelude.{◌≡◌, ◌++◌, ◌∷◌, ◌⊎◌, [], ℕ, List, Option, Some, false, map}
+use Rattle.std.specs.Prelude.{◌≡◌, ◌++◌, ◌∷◌, ◌⊎◌, [], ℕ, List, Option, Some, false, map, true}
 use Rattle.rubis_model.specs.Runs.{answers}
 use Rattle.rubis_model.specs.Site.{Place, Replica}
 use Rattle.rubis_engine.specs.Accounts.{Account}
 use Rattle.rubis_engine.specs.Accounts.Ending.{AtEnd, Cut}
 use Rattle.rubis_engine.specs.Text.{rows_text}
 use Rattle.rubis_keep.specs.Left.{Files}
-use Rattle.rubis_keep.specs.History.{AreSafe, Event, FileState, after_all, records_in}
-use Rattle.rubis_keep.specs.History.Event.{Kept, Shown, Told}
+use Rattle.rubis_keep.specs.History.{AreSafe, Event, FileState, IsAnswered, after_all, records_in}
+use Rattle.rubis_keep.specs.History.Event.{Began, Kept, Shown, Told}
 use Rattle.rubis_keep.specs.Kept.{Ended, IsFrontOf, Lived}
 use Rattle.rubis_keep.specs.Lines.{whole_lines}
 use Rattle.rubis_keep.specs.Lives.{IsOpened}
@@ -20,12 +20,12 @@ Extends text = (records more : List (List (List ℕ))) → IsFrontOf (text recor
 abbrev pub SiteTextsExtend : Type 0
 SiteTextsExtend = (p : Place) (s : Replica) (n : ℕ) → Extends (λ records. rows_text (answers p s n records))
 
--- the files as the next process finds them, which has shown nothing: after the one before was killed, and after a power failure
+-- the files as the next process finds them, which has said nothing yet: after the one before was killed, and after a power failure
 abbrev pub opened_again : FileState → FileState
-opened_again s = record s { begun = false; shown = [] }
+opened_again s = record s { settled = false; begun = false; shown = [] }
 
 abbrev pub from_disk : Files → FileState
-from_disk files = record { kept = files.log; flushed = files.log; cut = []; out = files.out; begun = false; shown = [] }
+from_disk files = record { kept = files.log; flushed = files.log; cut = []; out = files.out; settled = false; begun = false; shown = [] }
 
 -- this holds at each moment of these events, also within a write
 abbrev pub AtEachMoment : FileState → List Event → (FileState → Type 0) → Type 0
@@ -45,6 +45,12 @@ SurvivesIn t files = IsFrontOf t.flushed files.log × IsFrontOf files.log (t.kep
 abbrev pub PowerFailuresLeaveFiles : Type 0
 PowerFailuresLeaveFiles = (text : List (List (List ℕ)) → List ℕ) (s : FileState) (events : List Event) → Extends text → AreSafe text s events
     → AtEachMoment s events (λ t. (files : Files) → SurvivesIn t files → IsOpened text (from_disk files) × IsFrontOf t.out (text (records_in files.log)))
+
+-- before a process keeps a byte it has shown the line `kept,..`, at a moment at which all that was kept was answered
+abbrev pub AnsweredBeforeMore : Type 0
+AnsweredBeforeMore = (text : List (List (List ℕ)) → List ℕ) (s : FileState) (first later : List Event) (b : ℕ) → s.begun ≡ false
+    → AreSafe text s (first ++ Kept b ∷ later)
+    → (before since : List Event) × (n : ℕ) × (counts : List ℕ) × (first ≡ before ++ Began n counts ∷ since) × IsAnswered text (after_all s before)
 
 -- A start that keeps more messages lets the site answer all that was kept as it was told, and then compares. So it ends with both files as
 -- they were, or whatever was told of what was kept is the beginning of the answers from now on
@@ -68,3 +74,13 @@ ToldTooEarlyIsUnsafe = (text : List (List (List ℕ)) → List ℕ) (s : FileSta
 abbrev pub ShownTooEarlyIsUnsafe : Type 0
 ShownTooEarlyIsUnsafe = (text : List (List (List ℕ)) → List ℕ) (s : FileState) (b : ℕ) (later : List Event) → (s.begun ≡ false) ⊎ (s.shown ≡ s.out)
     → AreSafe text s (Shown b ∷ later) → ⊥
+
+-- a byte is kept before the line `kept,..`
+abbrev pub KeptTooEarlyIsUnsafe : Type 0
+KeptTooEarlyIsUnsafe = (text : List (List (List ℕ)) → List ℕ) (s : FileState) (b : ℕ) (later : List Event) → s.begun ≡ false
+    → AreSafe text s (Kept b ∷ later) → ⊥
+
+-- the line `kept,..` is shown before it is written down how the site is set up, or a second time
+abbrev pub BegunTooEarlyIsUnsafe : Type 0
+BegunTooEarlyIsUnsafe = (text : List (List (List ℕ)) → List ℕ) (s : FileState) (n : ℕ) (counts : List ℕ) (later : List Event)
+    → (s.settled ≡ false) ⊎ (s.begun ≡ true) → AreSafe text s (Began n counts ∷ later) → ⊥

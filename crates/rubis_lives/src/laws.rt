@@ -7,7 +7,7 @@ ghost use Rattle.rubis_lives.specs.Histories.{HistoriesAreRuns};
 ghost use Rattle.rubis_lives.specs.Rewriting.{NamedBeforeEmptied, NamedBeforeFlushed, RewritingLeavesFiles, ShorteningKeepsThePromise};
 ghost use Rattle.rubis_lives.specs.Room.{RaisedKeepsTakeTheSame, RefusedAsFullAreNoEvents};
 ghost use Rattle.rubis_lives.specs.SiteLives.{LivesAreHistories, ShopLivesAreRuns};
-ghost use Rattle.rubis_lives.specs.Moments.{KillsLeaveFiles, PowerFailuresLeaveFiles, RaisedKeepsTellTheSame, ShownTooEarlyIsUnsafe, SiteTextsExtend, ToldTooEarlyIsUnsafe};
+ghost use Rattle.rubis_lives.specs.Moments.{AnsweredBeforeMore, BegunTooEarlyIsUnsafe, KeptTooEarlyIsUnsafe, KillsLeaveFiles, PowerFailuresLeaveFiles, RaisedKeepsTellTheSame, ShownTooEarlyIsUnsafe, SiteTextsExtend, ToldTooEarlyIsUnsafe};
 
 /// A run that was cut off any number of times, and anywhere, comes to where one comes that was never cut off. However a run ends,
 /// it leaves what the next one can begin with. Questions leave nothing. Answers that aren't those to what was kept, and a line that no run kept, are found
@@ -23,11 +23,12 @@ pub fn crash_and_restart()
 
 /// What `keep_site` promises of each moment. A process that is killed at any moment, also within a write, leaves files with which the next
 /// one can begin; and so does a power failure, if what was flushed survives it: all that was told is told again then. What a site tells stays
-/// when more records come.
+/// when more records come, and it keeps none before all that was kept before is answered, and the line `kept,..` says so.
 pub fn moments_leave_files()
     ensures kills { KillsLeaveFiles }
     ensures power_failures { PowerFailuresLeaveFiles }
     ensures sites { SiteTextsExtend }
+    ensures answered { AnsweredBeforeMore }
 {}
 
 /// A site that keeps more messages from now on tells again what it told, or changes neither file. Where it tells it, it takes the same of the
@@ -81,8 +82,10 @@ pub fn folders_are_a_run()
 {}
 
 /// A history is refused in which something is told before its line is kept and flushed, or shown before the line `kept,..` or before `out` has
-/// it.
+/// it; in which a line is kept before `kept,..`; and in which that is shown twice, or before it is written down how the site is set up.
 pub fn early_answers_are_unsafe()
     ensures told { ToldTooEarlyIsUnsafe }
     ensures shown { ShownTooEarlyIsUnsafe }
+    ensures kept { KeptTooEarlyIsUnsafe }
+    ensures begun { BegunTooEarlyIsUnsafe }
 {}

@@ -3,7 +3,7 @@ use Rattle.rubis_keep.proofs.AskFacts.{go-replies, replies-none, silent-begun, s
 use Rattle.rubis_keep.proofs.EachFacts.{on_err, on_err_weaker, on_ok_both}
 use Rattle.rubis_keep.proofs.LifeFacts.{go-err-read, go-ok-read, none-unread}
 use Rattle.rubis_keep.proofs.SafeFacts.{ok-of-err}
-use Rattle.rubis_keep.proofs.StartFacts.{begin-fails, begun-cut, cut-fails, go-safe, go-safe-uncut, go-safe-untold}
+use Rattle.rubis_keep.proofs.StartFacts.{begin-fails, begun-cut, cut-fails, go-safe, go-safe-uncut, go-safe-untold, go-shown}
 use Rattle.rubis_keep.proofs.TellingFacts.{none-told-at-end}
 use Rattle.rubis_keep.proofs.run.go_on.Goals as goal
 
@@ -16,6 +16,7 @@ returns-in_err-cut_and_flush-clause-lives g c =
       ok = ok-of-err _ c.from_residual.result bad;
       err = on_err _ (cut-fails _ _ _ _ _ _ _ cut);
       safe = λ all kept old h is sound found r. go-safe-uncut all _ kept old _ h _ _ _ sound found (rw is at r) (rw is at cut);
+      shown = λ all kept old h is sound found r. ok-of-err _ c.from_residual.result bad;
       asked = λ p s kept sound led. replies-none p s kept _ _ _ c.from_residual.result bad (silent-uncut _ _ _ cut);
     }
 
@@ -30,6 +31,7 @@ returns-in_err-tell_replayed-clause-lives g c =
       err = on_err _ (begin-fails _ _ _ _ _ _ _ _ cut untold);
       safe = λ all kept old h is sound found r. go-safe-untold all _ kept old _ h _ _ _ _ sound found (rw is at r)
           (none-told-at-end c.args.clerk.now.desk.site (c.args.clerk.now.desk.answered + 1)) (rw is at cut) untold;
+      shown = λ all kept old h is sound found r. ok-of-err _ c.from_residual-in_err-tell_replayed.result bad;
       asked = λ p s kept sound led. replies-none p s kept _ _ _ c.from_residual-in_err-tell_replayed.result bad
           (silent-more _ _ _ (silent-cut _ _ _ cut) (silent-unbegun _ _ untold));
     }
@@ -46,6 +48,9 @@ returns-clause-lives g c =
       err = on_err_weaker c.answer_pieces.result (go-err-read _ _ _ _ _ _ _ _ _ _ _ _ _ _ _ unread cut.0 c.new.ensures cut.1)
           c.answer_pieces.ensures.goes.err;
       safe = λ all kept old h is sound found r. go-safe all _ _ kept old _ _ h _ _ _ _ _ _ _ _ c.answer_pieces.result sound found (rw is at r)
+          (none-told-at-end c.args.clerk.now.desk.site (c.args.clerk.now.desk.answered + 1)) refl
+          (rw is at flushed) told (c.answer_pieces.ensures.goes.safe refl refl);
+      shown = λ all kept old h is sound found r. go-shown all _ _ kept old _ _ h _ _ _ _ _ _ _ _ c.answer_pieces.result sound found (rw is at r)
           (none-told-at-end c.args.clerk.now.desk.site (c.args.clerk.now.desk.answered + 1)) refl
           (rw is at flushed) told (c.answer_pieces.ensures.goes.safe refl refl);
       asked = λ p s kept sound led. go-replies p s kept _ _ _ _ _ _ _ _ _ _ _ _ _ c.answer_pieces.result unread

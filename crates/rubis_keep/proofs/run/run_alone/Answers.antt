@@ -10,5 +10,6 @@ returns-in_err-unread g c = record {
   ok = ok-of-err _ c.from_residual.result c.from_residual.ensures.0;
   err = on_err _ (run-unread _ _ _ _ _ _ _);
   safe = λ off h kept old is o opened. rw is (stays-none _ h opened.safe);
+  shown = λ off h kept old is o opened. ok-of-err _ c.from_residual.result c.from_residual.ensures.0;
   asked = λ kept old o. replies-none _ _ kept _ _ _ c.from_residual.result c.from_residual.ensures.0 (silent-none _);
 }

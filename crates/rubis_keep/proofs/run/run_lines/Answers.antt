@@ -5,7 +5,7 @@ use Rattle.rubis_keep.proofs.HistoryFacts.{stays-none, still-flushed, still-none
 use Rattle.rubis_keep.proofs.LifeFacts.{run-begins, run-ended, run-lived, run-unflushed, run-unread, run-unreplayed}
 use Rattle.rubis_keep.proofs.AskFacts.{replies-after, replies-none, silent-flushed, silent-more, silent-none, silent-still, told-silent}
 use Rattle.rubis_keep.proofs.SafeFacts.{ok-of-err}
-use Rattle.rubis_keep.proofs.StartFacts.{run-safe, run-safe-start, run-safe-unreplayed}
+use Rattle.rubis_keep.proofs.StartFacts.{run-safe, run-safe-start, run-safe-unreplayed, run-shown}
 use Rattle.rubis_keep.proofs.run.run_lines.Goals as goal
 
 pub returns-in_err-check_kept-clause-runs : goal.returns-in_err-check_kept-clause-runs
@@ -13,6 +13,7 @@ returns-in_err-check_kept-clause-runs g c = record {
   ok = ok-of-err _ c.from_residual.result c.from_residual.ensures.0;
   err = on_err _ (run-unread _ _ _ _ _ _ _);
   safe = λ off h kept old is o opened. rw is (stays-none _ h opened.safe);
+  shown = λ off h kept old is o opened. ok-of-err _ c.from_residual.result c.from_residual.ensures.0;
   asked = λ kept old o. replies-none _ _ kept _ _ _ c.from_residual.result c.from_residual.ensures.0 (silent-none _);
 }
 
@@ -22,6 +23,7 @@ returns-in_err-flush-clause-runs g c = record {
   err = let still = still-none _ _ c.in_err-flush.ensures in
       on_err _ (run-unflushed _ _ _ _ _ _ _ _ _ still.0 still.1);
   safe = λ off h kept old is o opened. run-safe-start _ h _ opened (rw is at c.in_err-flush.ensures);
+  shown = λ off h kept old is o opened. ok-of-err _ c.from_residual-in_err-flush.result c.from_residual-in_err-flush.ensures.0;
   asked = λ kept old o. replies-none _ _ kept _ _ _ c.from_residual-in_err-flush.result c.from_residual-in_err-flush.ensures.0 (silent-still _ _ c.in_err-flush.ensures);
 }
 
@@ -33,6 +35,7 @@ returns-in_err-replay-clause-runs g c = record {
       c.in_err-replay.ensures.err);
   safe = λ off h kept old is o opened. run-safe-unreplayed _ _ _ _ h _ _ _ _ c.replay.result kept old off c.in_ok-check_kept.ensures.sound o opened (rw is at c.in_ok-flush.ensures) c.replay.ensures.told
       c.in_err-replay.ensures.err;
+  shown = λ off h kept old is o opened. ok-of-err _ c.from_residual-in_err-replay.result c.from_residual-in_err-replay.ensures.0;
   asked = λ kept old o. replies-none _ _ kept _ _ _ c.from_residual-in_err-replay.result c.from_residual-in_err-replay.ensures.0
       (silent-more _ _ _ (silent-flushed _ _ c.in_ok-flush.ensures) (told-silent _ _ _ _ c.replay.result c.replay.ensures.told));
 }
@@ -47,6 +50,8 @@ returns-clause-runs g c = record {
       (told-kept _ _ _ _ c.replay.result c.replay.ensures.told) c.in_ok-replay.ensures.ok) c.go_on.ensures.lives.err;
   safe = λ off h kept old is o opened. run-safe _ _ _ _ _ _ h _ _ _ _ _ _ _ kept old off c.in_ok-check_kept.ensures.sound o opened (rw is at c.in_ok-flush.ensures) c.in_ok-replay.ensures.told
       c.in_ok-replay.ensures.ok c.go_on.ensures.lives.safe;
+  shown = λ off h kept old is o opened. run-shown _ _ _ _ _ _ h _ _ _ _ _ _ _ kept old c.go_on.result off c.in_ok-check_kept.ensures.sound o opened
+      (rw is at c.in_ok-flush.ensures) c.in_ok-replay.ensures.told c.in_ok-replay.ensures.ok c.go_on.ensures.lives.shown;
   asked = λ kept old o. let still = still-flushed _ _ c.in_ok-flush.ensures in
       let b = run-begins _ _ _ _ _ _ _ c.in_ok-check_kept.ensures.sound still.0 still.1 kept old o in
       replies-after _ _ kept _ _ _ _ _ c.go_on.result
