@@ -1,15 +1,17 @@
 -- Where a text has its first line and its last one, and what is told of two texts that differ.
 use Rattle.std.proofs.Common.{◌≡◌, ◌≢◌, ◌∙◌, ◌≤◌, ◌<◌, ◌+◌, ◌^◌, ◌-◌, ◌++◌, ◌∷◌, ◌==◌, [], ℕ, All, List, Option, Some, None, IfSome, drop, get_or, length, min, not, take}
-use Rattle.std.proofs.Common.{refl, sym, ap, subst, take-append-drop, arith}
+use Rattle.std.proofs.Common.{refl, sym, ap, subst, take-append-drop, arith, length-append, Result, Ok, Err}
 use Rattle.std.specs.List.{after_last, before_first, suffix_len}
 use Rattle.std.proofs.Math.Seq.{drop-append-add, take-length}
-use Rattle.std.specs.Prelude.{string_bytes}
+use Rattle.std.specs.Prelude.{IfErr, string_bytes}
 use Rattle.std.proofs.lemmas.Bool.{cond-true, eq-eqb, ne_eqb}
-use Rattle.std.proofs.lemmas.List.{length-drop, length-take-le}
+use Rattle.std.proofs.lemmas.List.{get_or_append_left, length-drop, length-take-le}
 use Rattle.std.proofs.lemmas.List.Elements.{All-get_or}
 use Rattle.std.proofs.lemmas.List.Sums.{common_prefix_len-le, position_or_len_is, suffix_len_is}
-use Rattle.rubis_keep.specs.Differences.{HasDifference, IfDiffers, IsDifference, ends_in, last_line, same_in, shown_line}
-use Rattle.rubis_keep.specs.Files.{DiffersFrom}
+use Rattle.rubis_engine.specs.Accounts.{Account, Keeps as TextStays}
+use Rattle.rubis_keep.specs.Differences.{HasDifference, HasMore, IsDifference, MayDiffer, ends_in, last_line, same_in, shown_line}
+use Rattle.rubis_keep.specs.Faults.{FinishedUnlike}
+use Rattle.rubis_keep.specs.Files.{DiffersFrom, IsFailure}
 use Rattle.rubis_keep.specs.Kept.{IsFrontOf}
 use Rattle.rubis_keep.specs.declared.fault.Difference.{Difference}
 use Rattle.rubis_keep.specs.declared.fault.KeepFault.{KeepFault}
@@ -30,7 +32,7 @@ pub last-line-at : (text : List ℕ) (i : ℕ) → i < length text → get_or te
 last-line-at text i inside here after =
     let at : i + 1 - 1 ≡ i = omega arith in
     let size = suffix_len_is (λ b. not (b == 10)) text (i + 1) 0 (omega (arith, inside)) (λ k l m. ap not (ne_eqb _ _ (after k l m)))
-        (λ l. ap not (eq-eqb _ _ (ap (λ n. get_or text n 0) at ∙ here))) in
+    (λ l. ap not (eq-eqb _ _ (ap (λ n. get_or text n 0) at ∙ here))) in
     ap (λ n. drop n text) (omega (arith, inside, size))
 
 pub last-line-all : (text : List ℕ) → All (λ b. b ≢ 10) text → text ≡ after_last (λ b. b == 10) text
@@ -80,14 +82,50 @@ pub has-difference : (o : Option (List ℕ)) (came text : List ℕ) (lines : ℕ
 has-difference None came text lines d f g h = tt
 has-difference (Some old) came text lines d f g h = record { came = came; front = f; differs = g; tells = h }
 
-pub if-differs-more : (e : KeepFault) (P Q : Difference → Type 0) → ((d : Difference) → P d → Q d) → IfDiffers e P → IfDiffers e Q
-if-differs-more (fault.ReadKept r) P Q f p = tt
-if-differs-more (fault.ReadOut r) P Q f p = tt
-if-differs-more (fault.ReadInput r) P Q f p = tt
-if-differs-more (fault.WriteKept r) P Q f p = tt
-if-differs-more (fault.WriteOut r) P Q f p = tt
-if-differs-more (fault.Show r) P Q f p = tt
-if-differs-more (fault.Edited n) P Q f p = tt
-if-differs-more (fault.Differs d) P Q f p = f d p
-if-differs-more fault.Memory P Q f p = tt
-if-differs-more fault.TooLong P Q f p = tt
+none-left : (xs ys : List ℕ) → xs ++ ys ≡ [] → xs ≡ []
+none-left [] ys e = refl
+none-left (x ∷ xs) ys e = absurd (cc e)
+
+pub more-left : (old : List ℕ) (lines : ℕ) (d : Difference) → HasMore old lines d → old ≢ []
+more-left old lines d more none = more.some (none-left more.came more.front.0 (more.front.1 ∙ none))
+
+-- what a text and some first bytes differ in, it and all bytes do
+differs-all : (came old text : List ℕ) → IsFrontOf came old → DiffersFrom came text → DiffersFrom old text
+differs-all came old text (rest, e) (k, inside, there, differ) =
+    let size = length-append came rest in
+    let whole = ap length e in
+    (k, inside, omega (arith, there, size, whole), λ same. differ (sym (get_or_append_left came rest 0 k there) ∙ ap (λ t. get_or t k 0) e ∙ same))
+
+pub differs-there : (o : Option (List ℕ)) (text : List ℕ) (lines : ℕ) (d : Difference) → IfSome o (λ old. HasDifference old text lines d)
+    → IfSome o (λ old. DiffersFrom old text)
+differs-there None text lines d h = tt
+differs-there (Some old) text lines d h = differs-all h.came old text h.front h.differs
+
+-- ---- faults
+
+pub may-differ-more : (e : KeepFault) (P Q : Difference → Type 0) → ((d : Difference) → P d → Q d) → MayDiffer e P → MayDiffer e Q
+may-differ-more (fault.Differs d) P Q f p = f d p
+may-differ-more e P Q f p = p
+
+may-fail : (e : KeepFault) (P : Difference → Type 0) → IsFailure e → MayDiffer e P
+may-fail (fault.Differs d) P h = absurd h
+may-fail e P h = h
+
+pub only-fails : {T : Type 0} (r : Result T KeepFault) (P : Difference → Type 0) → IfErr r IsFailure → IfErr r (λ e. MayDiffer e P)
+only-fails (Ok x) P h = tt
+only-fails (Err e) P h = may-fail e P h
+
+pub may-there : {T : Type 0} (r : Result T KeepFault) (o : Option (List ℕ)) (text : List ℕ) (lines : ℕ)
+    → IfErr r (λ e. MayDiffer e (λ d. IfSome o (λ old. HasDifference old text lines d)))
+    → IfErr r (λ e. MayDiffer e (λ _. IfSome o (λ old. DiffersFrom old text)))
+may-there (Ok x) o text lines h = tt
+may-there (Err e) o text lines h =
+    may-differ-more e (λ d. IfSome o (λ old. HasDifference old text lines d)) (λ _. IfSome o (λ old. DiffersFrom old text)) (λ d. differs-there o text lines d) h
+
+-- the same of what was held
+pub may-held : {T : Type 0} (r : Result T KeepFault) (o : Option (List ℕ)) (old new : Account) (sink held : List ℕ) (lines : ℕ) → TextStays old new sink held
+    → IfErr r (λ e. MayDiffer e (λ d. IfSome o (λ left. HasDifference left held lines d))) → IfErr r (λ e. MayDiffer e (λ _. FinishedUnlike old new sink o))
+may-held (Ok x) o old new sink held lines stays h = tt
+may-held (Err e) o old new sink held lines stays h =
+    may-differ-more e (λ d. IfSome o (λ left. HasDifference left held lines d)) (λ _. FinishedUnlike old new sink o)
+    (λ d there. (held, stays, differs-there o held lines d there)) h

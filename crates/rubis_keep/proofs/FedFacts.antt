@@ -1,8 +1,8 @@
 -- How records are answered, one after the other and many together.
-use Rattle.std.proofs.Common.{◌≡◌, ◌∙◌, ◌+◌, ◌++◌, ◌∷◌, [], ℕ, Bool, List, Option, Result, Ok, Err, arith, length-append, inr, refl, sym, ap, subst, append_assoc, true, false}
+use Rattle.std.proofs.Common.{◌≡◌, ◌∙◌, ◌≤◌, ◌<◌, ◌+◌, ◌++◌, ◌∷◌, [], ℕ, Bool, List, Option, Result, Ok, Err, arith, length, length-append, inr, refl, sym, ap, subst, append_assoc, true, false, IfSome}
 use Rattle.std.proofs.lemmas.List.{append-nil}
 use Rattle.std.proofs.lemmas.Result.{on_ok_weaker}
-use Rattle.std.specs.Prelude.{IsErr, OnErr, OnOk}
+use Rattle.std.specs.Prelude.{IfErr, IsErr, IsErrAnd, IsOk, MatchResult, OnErr, OnOk}
 use Rattle.rubis_engine.specs.Accounts.{Account}
 use Rattle.rubis_engine.specs.Text.{input_records}
 use Rattle.rubis_engine.specs.Reading.{Advances, Gives, fields_now}
@@ -17,16 +17,22 @@ use Rattle.rubis_script.specs.Desks.{TakesNext, left_at}
 use Rattle.rubis_script.specs.SiteRuns.{told_by}
 use Rattle.rubis_script.specs.declared.desk.Desk.{Desk}
 use Rattle.rubis_keep.specs.Asking.{LeadsHeld, LeadsOn}
+use Rattle.rubis_keep.specs.Differences.{MayDiffer}
+use Rattle.rubis_keep.specs.Faults.{FinishedUnlike, HasCause, StaysWithin}
 use Rattle.rubis_keep.specs.Fed.{FailsFed, Feeds, FeedsAt, FeedsInputs, FeedsRows, HasFed}
+use Rattle.rubis_keep.specs.Files.{DiffersFrom, IsFailure}
 use Rattle.rubis_keep.specs.History.{HasTold, History, Tells, out_in}
-use Rattle.rubis_keep.specs.Kept.{FinishedFront, Puts, PutsFront, Rests}
+use Rattle.rubis_keep.specs.Kept.{FinishedFront, InEachRest, Puts, PutsFront, Rests}
 use Rattle.rubis_keep.specs.Shortened.{state_after}
 use Rattle.rubis_keep.specs.Steps.{FeedsChunk, Finishes, IsIdle}
 use Rattle.rubis_keep.specs.Whole.{IsWhole}
 use Rattle.rubis_keep.specs.declared.answers.Answers.{Answers}
 use Rattle.rubis_keep.specs.declared.site.Clerk.{Clerk}
+use Rattle.rubis_keep.specs.declared.fault.KeepFault.{KeepFault}
+use Rattle.rubis_keep.specs.declared.fault.KeepFault.TheVariants as fault
 use Rattle.rubis_keep.proofs.AskFacts.{chunk-led, led-step, reads-next}
 use Rattle.rubis_keep.proofs.EachFacts.{on_err, on_err_weaker, on_ok_both}
+use Rattle.rubis_keep.proofs.FaultFacts.{differs-cause, err-is, failure-cause, feeds-unlike, finish-unlike, too-many, within-more, within-still}
 use Rattle.rubis_keep.proofs.HistoryFacts.{tells-later, tells-more, tells-none, told-failed, told-more}
 use Rattle.rubis_keep.proofs.PutFacts.{puts-all}
 use Rattle.rubis_keep.proofs.RestFacts.{feeds-ends, feeds-finish, feeds-finish-ends, feeds-put, feeds-put-ends, feeds-rest, feeds-start, feeds-step}
@@ -66,6 +72,7 @@ fed-none before history c a = record {
   goes = λ rest all told was out0 kept f. f;
   told = (refl, ([], tells-none a.is_live (history a.files)));
   leads = leads-none c.desk c.desk refl;
+  limits = record { same = refl; within = λ l. l };
 }
 
 pub fed-both : {O F G : Type 0} (before : O → Option (List ℕ)) (history : F → Option History) (rows rows2 : List (List (List ℕ))) (c c1 c2 : Clerk G)
@@ -76,50 +83,59 @@ fed-both before history rows rows2 c c1 c2 a a1 a2 one two = record {
       (subst (λ t. FeedsAt before history t c a all told was out0 kept) (append_assoc rows rows2 rest) f));
   told = tells-later a.is_live a1.is_live a2.is_live (history a.files) (history a1.files) (history a2.files) one.told.0 one.told.1.0 one.told.1.1 two.told;
   leads = leads-both c.desk.site c1.desk.site c2.desk.site _ _ _ _ _ _ rows rows2 one.leads two.leads;
+  limits = within-more c.limit c.desk.answered c1.limit c1.desk.answered c2.limit c2.desk.answered one.limits two.limits;
 }
 
 pub fed-fails : {O F G : Type 0} (before : O → Option (List ℕ)) (history : F → Option History) (rows : List (List (List ℕ))) (c c1 : Clerk G)
-    (a a1 : Answers O F) → HasFed before history rows c c1 a a1 → FailsFed before history rows c a a1
-fed-fails before history rows c c1 a a1 h = record {
+    (a a1 : Answers O F) (e : KeepFault) → HasFed before history rows c c1 a a1 → IsFailure e → FailsFed before history rows c a a1 e
+fed-fails before history rows c c1 a a1 e h fails = record {
   ends = λ rest all told was out0 kept f. feeds-ends rest all (left_at c1.desk) told was (before a1.before) out0 (out_in (history a1.files))
       c1.desk.reply.sink (c1.desk.answered + 1) kept (h.goes rest all told was out0 kept f);
   told = (h.told.0, (h.told.1.0, [], h.told.1.1));
+  fault = λ rest all told was out0 kept f. failure-cause c.limit all (told ++ was) kept e fails;
 }
 
 pub fails-later : {O F G : Type 0} (before : O → Option (List ℕ)) (history : F → Option History) (rows rows2 : List (List (List ℕ))) (c c1 : Clerk G)
-    (a a1 a2 : Answers O F) → HasFed before history rows c c1 a a1 → FailsFed before history rows2 c1 a1 a2
-    → FailsFed before history (rows ++ rows2) c a a2
-fails-later before history rows rows2 c c1 a a1 a2 one two = record {
+    (a a1 a2 : Answers O F) (e : KeepFault) → HasFed before history rows c c1 a a1 → FailsFed before history rows2 c1 a1 a2 e
+    → FailsFed before history (rows ++ rows2) c a a2 e
+fails-later before history rows rows2 c c1 a a1 a2 e one two = record {
   ends = λ rest all told was out0 kept f. two.ends rest all told was out0 kept (one.goes (rows2 ++ rest) all told was out0 kept
       (subst (λ t. FeedsAt before history t c a all told was out0 kept) (append_assoc rows rows2 rest) f));
   told = told-on a.is_live a1.is_live a2.is_live (history a.files) (history a1.files) (history a2.files) one.told two.told;
+  fault = λ rest all told was out0 kept f. subst (λ n. HasCause n all (told ++ was) kept e) one.limits.same
+      (two.fault rest all told was out0 kept (one.goes (rows2 ++ rest) all told was out0 kept
+      (subst (λ t. FeedsAt before history t c a all told was out0 kept) (append_assoc rows rows2 rest) f)));
 }
 
 pub fails-sooner : {O F G : Type 0} (before : O → Option (List ℕ)) (history : F → Option History) (rows rows2 : List (List (List ℕ))) (c : Clerk G)
-    (a a2 : Answers O F) → FailsFed before history rows c a a2 → FailsFed before history (rows ++ rows2) c a a2
-fails-sooner before history rows rows2 c a a2 h = record {
+    (a a2 : Answers O F) (e : KeepFault) → FailsFed before history rows c a a2 e → FailsFed before history (rows ++ rows2) c a a2 e
+fails-sooner before history rows rows2 c a a2 e h = record {
   ends = λ rest all told was out0 kept f. h.ends (rows2 ++ rest) all told was out0 kept
       (subst (λ t. FeedsAt before history t c a all told was out0 kept) (append_assoc rows rows2 rest) f);
   told = h.told;
+  fault = λ rest all told was out0 kept f. h.fault (rows2 ++ rest) all told was out0 kept
+      (subst (λ t. FeedsAt before history t c a all told was out0 kept) (append_assoc rows rows2 rest) f);
 }
 
-pub feeds-on : {T E O F G : Type 0} (before : O → Option (List ℕ)) (history : F → Option History) (rows rows2 : List (List (List ℕ))) (c c1 c2 : Clerk G)
-    (a a1 a2 : Answers O F) (r : Result T E) → HasFed before history rows c c1 a a1 → FeedsRows before history rows2 c1 c2 a1 a2 r
+pub feeds-on : {T O F G : Type 0} (before : O → Option (List ℕ)) (history : F → Option History) (rows rows2 : List (List (List ℕ))) (c c1 c2 : Clerk G)
+    (a a1 a2 : Answers O F) (r : Result T KeepFault) → HasFed before history rows c c1 a a1 → FeedsRows before history rows2 c1 c2 a1 a2 r
     → FeedsRows before history (rows ++ rows2) c c2 a a2 r
 feeds-on before history rows rows2 c c1 c2 a a1 a2 (Ok x) one two = fed-both before history rows rows2 c c1 c2 a a1 a2 one two
-feeds-on before history rows rows2 c c1 c2 a a1 a2 (Err e) one two = fails-later before history rows rows2 c c1 a a1 a2 one two
+feeds-on before history rows rows2 c c1 c2 a a1 a2 (Err e) one two = fails-later before history rows rows2 c c1 a a1 a2 e one two
 
-pub feeds-failed : {T E O F G : Type 0} (before : O → Option (List ℕ)) (history : F → Option History) (rows : List (List (List ℕ))) (c c2 : Clerk G)
-    (a a2 : Answers O F) (r : Result T E) → IsErr r → FailsFed before history rows c a a2 → FeedsRows before history rows c c2 a a2 r
-feeds-failed before history rows c c2 a a2 (Ok x) bad h = absurd (cc bad)
-feeds-failed before history rows c c2 a a2 (Err e) bad h = h
+pub feeds-failed : {T O F G : Type 0} (before : O → Option (List ℕ)) (history : F → Option History) (rows : List (List (List ℕ))) (c c2 : Clerk G)
+    (a a2 : Answers O F) (r : Result T KeepFault) (e : KeepFault) → IsErrAnd r (λ x. x ≡ e) → FailsFed before history rows c a a2 e
+    → FeedsRows before history rows c c2 a a2 r
+feeds-failed before history rows c c2 a a2 r e bad h =
+    err-is (λ _. HasFed before history rows c c2 a a2) (FailsFed before history rows c a a2) r e bad h
 
 -- ---- one record
 
 -- it was answered
 pub step-fed : {O F G : Type 0} (before : O → Option (List ℕ)) (history : F → Option History) (fields : List (List ℕ)) (p : Input) (c c2 : Clerk G)
-    (a : Answers O F) → IsInput c.desk.site.place.sites fields p → TakesNext p c.desk c2.desk → HasFed before history (fields ∷ []) c c2 a a
-step-fed before history fields p c c2 a is takes =
+    (a : Answers O F) → c2.limit ≡ c.limit → c.desk.answered < c.limit → IsInput c.desk.site.place.sites fields p → TakesNext p c.desk c2.desk
+    → HasFed before history (fields ∷ []) c c2 a a
+step-fed before history fields p c c2 a limit few is takes =
     let next = reads-next c.desk c2.desk p fields fields is refl takes in
     let led = led-step c.desk.site.place (after_all c.desk.site.place c.desk.site.state c.desk.window.items) c.desk.site c2.desk.site
     c.desk.window.items c2.desk.window.items (c.desk.answered + 1) fields [] refl refl next.2 in
@@ -131,58 +147,85 @@ step-fed before history fields p c c2 a is takes =
           c2.desk.reply.sink (c.desk.answered + 1) kept f next.0);
       told = (refl, ([], tells-none a.is_live (history a.files)));
       leads = record { place = led.0; state = led.1; count = omega (arith, next.1) };
+      limits = record { same = limit; within = λ l. let more = next.1 in omega (arith, more, limit, few) };
     }
 
 -- what was answered so far was put
 pub put-fed : {O F G : Type 0} (before : O → Option (List ℕ)) (history : F → Option History) (c c2 : Clerk G) (a a2 : Answers O F)
-    → c2.desk.site ≡ c.desk.site → c2.desk.window ≡ c.desk.window → c2.desk.answered ≡ c.desk.answered → c2.desk.reply.sink ≡ []
+    → c2.limit ≡ c.limit → c2.desk.site ≡ c.desk.site → c2.desk.window ≡ c.desk.window → c2.desk.answered ≡ c.desk.answered → c2.desk.reply.sink ≡ []
     → Puts (before a.before) (before a2.before) (out_in (history a.files)) (out_in (history a2.files)) c.desk.reply.sink
     → (a2.is_live ≡ a.is_live) × ((text : List ℕ) × Tells a.is_live (history a.files) (history a2.files) text [])
     → HasFed before history [] c c2 a a2
-put-fed before history c c2 a a2 site window answered empty puts told = record {
+put-fed before history c c2 a a2 limit site window answered empty puts told = record {
   goes = λ rest all told was out0 kept f. rw (site, window, answered, empty)
       (feeds-put rest all (left_at c.desk) told was (before a.before) (before a2.before) out0 (out_in (history a.files)) (out_in (history a2.files))
       c.desk.reply.sink (c.desk.answered + 1) kept f puts);
   told = told;
   leads = rw (site, window, answered) (record { place = refl; state = refl; count = omega arith });
+  limits = record { same = limit; within = λ l. omega (arith, l, limit, answered) };
 }
 
-pub put-fails : {O F G : Type 0} (before : O → Option (List ℕ)) (history : F → Option History) (c : Clerk G) (a a2 : Answers O F)
+pub put-fails : {O F G : Type 0} (before : O → Option (List ℕ)) (history : F → Option History) (c : Clerk G) (a a2 : Answers O F) (e : KeepFault)
     → PutsFront (before a.before) (before a2.before) (out_in (history a.files)) (out_in (history a2.files)) c.desk.reply.sink
     → (a2.is_live ≡ a.is_live) × ((text : List ℕ) × (due : List ℕ) × Tells a.is_live (history a.files) (history a2.files) text due)
-    → FailsFed before history [] c a a2
-put-fails before history c a a2 front told = record {
+    → MayDiffer e (λ _. IfSome (before a.before) (λ left. DiffersFrom left c.desk.reply.sink)) → FailsFed before history [] c a a2 e
+put-fails before history c a a2 e front told unlike = record {
   ends = λ rest all told was out0 kept f. feeds-put-ends rest all (left_at c.desk) told was (before a.before) (before a2.before) out0
       (out_in (history a.files)) (out_in (history a2.files)) c.desk.reply.sink (c.desk.answered + 1) kept f front;
   told = told;
+  fault = λ rest all told was out0 kept f. differs-cause c.limit all (told ++ was) kept e (λ _. IfSome (before a.before) (λ left. DiffersFrom left c.desk.reply.sink))
+      (λ d there. feeds-unlike rest all (left_at c.desk) told was (before a.before) out0 (out_in (history a.files)) c.desk.reply.sink (c.desk.answered + 1) kept f
+      there) unlike;
 }
 
-pub put-rows : {T E O F G : Type 0} (before : O → Option (List ℕ)) (history : F → Option History) (c c2 : Clerk G) (a a2 : Answers O F) (r : Result T E)
-    → c2.desk.site ≡ c.desk.site → c2.desk.window ≡ c.desk.window → c2.desk.answered ≡ c.desk.answered → c2.desk.reply.sink ≡ []
+pub put-rows : {T O F G : Type 0} (before : O → Option (List ℕ)) (history : F → Option History) (c c2 : Clerk G) (a a2 : Answers O F) (r : Result T KeepFault)
+    → c2.limit ≡ c.limit → c2.desk.site ≡ c.desk.site → c2.desk.window ≡ c.desk.window → c2.desk.answered ≡ c.desk.answered → c2.desk.reply.sink ≡ []
     → OnOk r (Puts (before a.before) (before a2.before) (out_in (history a.files)) (out_in (history a2.files)) c.desk.reply.sink)
     → OnErr r (PutsFront (before a.before) (before a2.before) (out_in (history a.files)) (out_in (history a2.files)) c.desk.reply.sink)
-    → HasTold a.is_live a2.is_live (history a.files) (history a2.files) r → FeedsRows before history [] c c2 a a2 r
-put-rows before history c c2 a a2 (Ok x) site window answered empty puts front told = put-fed before history c c2 a a2 site window answered empty puts told
-put-rows before history c c2 a a2 (Err e) site window answered empty puts front told = put-fails before history c a a2 front told
+    → HasTold a.is_live a2.is_live (history a.files) (history a2.files) r
+    → IfErr r (λ e. MayDiffer e (λ _. IfSome (before a.before) (λ left. DiffersFrom left c.desk.reply.sink))) → FeedsRows before history [] c c2 a a2 r
+put-rows before history c c2 a a2 (Ok x) limit site window answered empty puts front told unlike =
+    put-fed before history c c2 a a2 limit site window answered empty puts told
+put-rows before history c c2 a a2 (Err e) limit site window answered empty puts front told unlike = put-fails before history c a a2 e front told unlike
 
-pub finish-fails : {O F G : Type 0} (before : O → Option (List ℕ)) (history : F → Option History) (c : Clerk G) (more : Account) (a a2 : Answers O F)
+finish-fails : {O F G : Type 0} (before : O → Option (List ℕ)) (history : F → Option History) (rows : List (List (List ℕ))) (c : Clerk G) (more : Account)
+    (a a2 : Answers O F) (e : KeepFault)
     → FinishedFront (left_at c.desk) more c.desk.reply.sink (before a.before) (before a2.before) (out_in (history a.files)) (out_in (history a2.files))
     → (a2.is_live ≡ a.is_live) × ((text : List ℕ) × (due : List ℕ) × Tells a.is_live (history a.files) (history a2.files) text due)
-    → FailsFed before history [] c a a2
-finish-fails before history c more a a2 front told = record {
-  ends = λ rest all told was out0 kept f. feeds-finish-ends rest all (left_at c.desk) more told was (before a.before) (before a2.before) out0
+    → ((rest : List (List (List ℕ))) (all : Account) (told was : List ℕ) (out0 : Option (List ℕ)) (kept : List ℕ)
+    → FeedsAt before history (rows ++ rest) c a all told was out0 kept → HasCause c.limit all (told ++ was) kept e)
+    → FailsFed before history rows c a a2 e
+finish-fails before history rows c more a a2 e front told caused = record {
+  ends = λ rest all told was out0 kept f. feeds-finish-ends (rows ++ rest) all (left_at c.desk) more told was (before a.before) (before a2.before) out0
       (out_in (history a.files)) (out_in (history a2.files)) c.desk.reply.sink (c.desk.answered + 1) kept f front;
   told = told;
+  fault = caused;
 }
 
--- what a clerk holds is answered, and nothing more is
-pub finish-ends : {T E O F G : Type 0} (before : O → Option (List ℕ)) (history : F → Option History) (c c2 : Clerk G) (a a2 : Answers O F) (r : Result T E)
-    → Finishes before history c c2 a a2 r → FailsFed before history [] c a a2
-finish-ends before history c c2 a a2 (Ok x) f =
-    finish-fails before history c (told_by c2.desk.site (c.desk.answered + 1)) a a2
+-- what a clerk holds could not be answered
+pub finish-failed : {T O F G : Type 0} (before : O → Option (List ℕ)) (history : F → Option History) (rows : List (List (List ℕ))) (c c2 : Clerk G)
+    (a a2 : Answers O F) (r : Result T KeepFault) (e : KeepFault) → Finishes before history c c2 a a2 r → IsErrAnd r (λ x. x ≡ e)
+    → FailsFed before history rows c a a2 e
+finish-failed before history rows c c2 a a2 (Ok x) e f bad = absurd bad
+finish-failed before history rows c c2 a a2 (Err x) e f bad =
+    subst (FailsFed before history rows c a a2) bad
+    (finish-fails before history rows c (told_by c2.desk.site (c.desk.answered + 1)) a a2 x f.err f.told
+    (λ rest all told was out0 kept g. differs-cause c.limit all (told ++ was) kept x
+    (λ _. FinishedUnlike (left_at c.desk) (told_by c2.desk.site (c.desk.answered + 1)) c.desk.reply.sink (before a.before))
+    (λ d there. finish-unlike (rows ++ rest) all (left_at c.desk) (told_by c2.desk.site (c.desk.answered + 1)) told was (before a.before) out0
+    (out_in (history a.files)) c.desk.reply.sink (c.desk.answered + 1) kept g there) f.fault))
+
+-- it is answered, and nothing more is: that is as many records as the clerk answers
+pub finish-full : {T O F G : Type 0} (before : O → Option (List ℕ)) (history : F → Option History) (rows : List (List (List ℕ))) (c c2 : Clerk G)
+    (a a2 : Answers O F) (r : Result T KeepFault) → Finishes before history c c2 a a2 r → IsOk r → 0 < length rows → c.limit ≤ c.desk.answered
+    → FailsFed before history rows c a a2 fault.TooLong
+finish-full before history rows c c2 a a2 (Ok x) f good some full =
+    finish-fails before history rows c (told_by c2.desk.site (c.desk.answered + 1)) a a2 fault.TooLong
     (inr (f.ok.0, f.ok.1, puts-all (before a.before) (before a2.before) (out_in (history a.files)) (out_in (history a2.files)) f.ok.0 f.ok.2))
     (f.told.0, (f.told.1.0, [], f.told.1.1))
-finish-ends before history c c2 a a2 (Err e) f = finish-fails before history c (told_by c2.desk.site (c.desk.answered + 1)) a a2 f.err f.told
+    (λ rest all told was out0 kept g. too-many rows rest all (left_at c.desk) told was (before a.before) out0 (out_in (history a.files)) c.desk.reply.sink c.limit
+    c.desk.answered kept g some full)
+finish-full before history rows c c2 a a2 (Err e) f good some full = absurd (cc good)
 
 -- ---- many records, some of which are answered
 
@@ -250,15 +293,15 @@ some-next before history rows all ps qs c c1 c2 a a1 a2 h is next =
     }
 
 pub some-fails : {O F G : Type 0} (before : O → Option (List ℕ)) (history : F → Option History) (rows : List (List (List ℕ))) (all ps qs : List Input)
-    (c c1 : Clerk G) (a a1 a2 : Answers O F) → HasFedSome before history rows all c c1 a a1 → all ≡ ps ++ qs
-    → ((first : List (List (List ℕ))) → AreInputs c1.desk.site.place.sites first ps → FailsFed before history first c1 a1 a2)
-    → FailsFed before history rows c a a2
-some-fails before history rows all ps qs c c1 a a1 a2 h is next =
+    (c c1 : Clerk G) (a a1 a2 : Answers O F) (e : KeepFault) → HasFedSome before history rows all c c1 a a1 → all ≡ ps ++ qs
+    → ((first : List (List (List ℕ))) → AreInputs c1.desk.site.place.sites first ps → FailsFed before history first c1 a1 a2 e)
+    → FailsFed before history rows c a a2 e
+some-fails before history rows all ps qs c c1 a a1 a2 e h is next =
     let s = inputs-split c1.desk.site.place.sites h.left ps qs (subst (AreInputs c1.desk.site.place.sites h.left) is h.inputs) in
-    subst (λ t. FailsFed before history t c a a2)
+    subst (λ t. FailsFed before history t c a a2 e)
     (append_assoc h.done s.first s.later ∙ ap (λ t. h.done ++ t) (sym s.parts) ∙ sym h.parts)
-    (fails-sooner before history (h.done ++ s.first) s.later c a a2
-    (fails-later before history h.done s.first c c1 a a1 a2 h.fed (next s.first s.ones)))
+    (fails-sooner before history (h.done ++ s.first) s.later c a a2 e
+    (fails-later before history h.done s.first c c1 a a1 a2 e h.fed (next s.first s.ones)))
 
 none-of : (sites : ℕ) (rows : List (List (List ℕ))) → AreInputs sites rows [] → rows ≡ []
 unfolding AreInputs
@@ -272,8 +315,8 @@ some-all before history rows ps c c2 a a2 none h =
     subst (λ t. HasFed before history t c c2 a a2) (sym (h.parts ∙ ap (λ t. h.done ++ t) last ∙ append-nil h.done)) h.fed
 
 -- of one record
-pub one-fed : {T E O F G : Type 0} (before : O → Option (List ℕ)) (history : F → Option History) (p : Input) (c c2 : Clerk G) (a a2 : Answers O F)
-    (r : Result T E) → ((fields : List (List ℕ)) → IsInput c.desk.site.place.sites fields p → FeedsRows before history (fields ∷ []) c c2 a a2 r)
+pub one-fed : {T O F G : Type 0} (before : O → Option (List ℕ)) (history : F → Option History) (p : Input) (c c2 : Clerk G) (a a2 : Answers O F)
+    (r : Result T KeepFault) → ((fields : List (List ℕ)) → IsInput c.desk.site.place.sites fields p → FeedsRows before history (fields ∷ []) c c2 a a2 r)
     → FeedsInputs before history (p ∷ []) c c2 a a2 r
 unfolding AreInputs
 one-fed before history p c c2 a a2 r h [] inputs = absurd inputs
@@ -282,11 +325,17 @@ one-fed before history p c c2 a a2 r h (fields ∷ (more ∷ rows)) inputs = abs
 
 -- it was answered, and nothing was put
 pub input-fed : {O F G : Type 0} (before : O → Option (List ℕ)) (history : F → Option History) (p : Input) (c c2 : Clerk G) (a : Answers O F)
-    → TakesNext p c.desk c2.desk → (rows : List (List (List ℕ))) → AreInputs c.desk.site.place.sites rows (p ∷ []) → HasFed before history rows c c2 a a
+    → c2.limit ≡ c.limit → c.desk.answered < c.limit → TakesNext p c.desk c2.desk → (rows : List (List (List ℕ)))
+    → AreInputs c.desk.site.place.sites rows (p ∷ []) → HasFed before history rows c c2 a a
 unfolding AreInputs
-input-fed before history p c c2 a takes [] inputs = absurd inputs
-input-fed before history p c c2 a takes (fields ∷ []) inputs = step-fed before history fields p c c2 a inputs.0 takes
-input-fed before history p c c2 a takes (fields ∷ (more ∷ rows)) inputs = absurd inputs.1
+input-fed before history p c c2 a limit few takes [] inputs = absurd inputs
+input-fed before history p c c2 a limit few takes (fields ∷ []) inputs = step-fed before history fields p c c2 a limit few inputs.0 takes
+input-fed before history p c c2 a limit few takes (fields ∷ (more ∷ rows)) inputs = absurd inputs.1
+
+pub some-input : (sites : ℕ) (rows : List (List (List ℕ))) (p : Input) (ps : List Input) → AreInputs sites rows (p ∷ ps) → 0 < length rows
+unfolding AreInputs
+some-input sites [] p ps inputs = absurd inputs
+some-input sites (fields ∷ rows) p ps inputs = omega arith
 
 pub one-input : (sites : ℕ) (fields : List (List ℕ)) (p : Input) → IsInput sites fields p → AreInputs sites (fields ∷ []) (p ∷ [])
 unfolding AreInputs
@@ -322,22 +371,22 @@ given-next before history rem r r2 rows c c1 c2 a a1 a2 h takes more =
 
 -- a fault came before the next record was read
 pub given-stops : {R O F G : Type 0} (before : O → Option (List ℕ)) (history : F → Option History) (rem : R → Option (List ℕ)) (r : Records R)
-    (rows : List (List (List ℕ))) (c c1 : Clerk G) (a a1 : Answers O F) → HasFedGiven before history rem r rows c c1 a a1
-    → FailsFed before history rows c a a1
-given-stops before history rem r rows c c1 a a1 h =
-    subst (λ t. FailsFed before history t c a a1) (sym h.parts)
-    (fails-sooner before history h.done h.left c a a1 (fed-fails before history h.done c c1 a a1 h.fed))
+    (rows : List (List (List ℕ))) (c c1 : Clerk G) (a a1 : Answers O F) (e : KeepFault) → HasFedGiven before history rem r rows c c1 a a1 → IsFailure e
+    → FailsFed before history rows c a a1 e
+given-stops before history rem r rows c c1 a a1 e h fails =
+    subst (λ t. FailsFed before history t c a a1 e) (sym h.parts)
+    (fails-sooner before history h.done h.left c a a1 e (fed-fails before history h.done c c1 a a1 e h.fed fails))
 
 -- or while it was answered
 pub given-fails : {R O F G : Type 0} (before : O → Option (List ℕ)) (history : F → Option History) (rem : R → Option (List ℕ)) (r r2 : Records R)
-    (rows : List (List (List ℕ))) (c c1 : Clerk G) (a a1 a2 : Answers O F) → HasFedGiven before history rem r rows c c1 a a1 → Advances rem r r2 true
-    → FailsFed before history (fields_now r2 ∷ []) c1 a1 a2 → FailsFed before history rows c a a2
-given-fails before history rem r r2 rows c c1 a a1 a2 h takes more =
+    (rows : List (List (List ℕ))) (c c1 : Clerk G) (a a1 a2 : Answers O F) (e : KeepFault) → HasFedGiven before history rem r rows c c1 a a1
+    → Advances rem r r2 true → FailsFed before history (fields_now r2 ∷ []) c1 a1 a2 e → FailsFed before history rows c a a2 e
+given-fails before history rem r r2 rows c c1 a a1 a2 e h takes more =
     let next = takes h.left h.gives in
-    subst (λ t. FailsFed before history t c a a2)
+    subst (λ t. FailsFed before history t c a a2 e)
     (append_assoc h.done (fields_now r2 ∷ []) next.0 ∙ ap (λ t. h.done ++ t) (sym next.1) ∙ sym h.parts)
-    (fails-sooner before history (h.done ++ fields_now r2 ∷ []) next.0 c a a2
-    (fails-later before history h.done (fields_now r2 ∷ []) c c1 a a1 a2 h.fed more))
+    (fails-sooner before history (h.done ++ fields_now r2 ∷ []) next.0 c a a2 e
+    (fails-later before history h.done (fields_now r2 ∷ []) c c1 a a1 a2 e h.fed more))
 
 pub given-all : {R O F G : Type 0} (before : O → Option (List ℕ)) (history : F → Option History) (rem : R → Option (List ℕ)) (r r2 : Records R)
     (rows : List (List (List ℕ))) (c c2 : Clerk G) (a a2 : Answers O F) → HasFedGiven before history rem r rows c c2 a a2 → Advances rem r r2 false
@@ -358,9 +407,27 @@ chunk-starts before history chunk c a idle whole all told was out0 kept rests =
     (sym idle.empty)
     (feeds-start all (left_at c.desk) told was (before a.before) out0 (out_in (history a.files)) (c.desk.answered + 1) kept chunk rests whole))
 
+-- how that ends
+chunk-ends : {T O F G : Type 0} (before : O → Option (List ℕ)) (history : F → Option History) (chunk : List ℕ) (c c1 c2 : Clerk G) (a a1 a2 : Answers O F)
+    (r : Result T KeepFault) → IsIdle c.desk.window.items c.desk.reply.sink → IsWhole chunk → HasFed before history (input_records chunk) c c1 a a1
+    → Finishes before history c1 c2 a1 a2 r → MatchResult r (λ _. StaysWithin c.limit c.desk.answered c2.limit c2.desk.answered)
+    (λ e. InEachRest (told_by c.desk.site (c.desk.answered + 1)) (before a.before) (out_in (history a.files)) (c.desk.answered + 1)
+    (λ all told was out0 kept. HasCause c.limit all (told ++ was) (kept ++ chunk) e))
+chunk-ends before history chunk c c1 c2 a a1 a2 (Ok x) idle whole fed ends =
+    within-still c.limit c.desk.answered c1.limit c1.desk.answered c2.limit c2.desk.answered fed.limits ends.limit ends.same.0
+chunk-ends before history chunk c c1 c2 a a1 a2 (Err e) idle whole fed ends =
+    rests-told c.desk.site c.desk.window.items (c.desk.answered + 1) (before a.before) (out_in (history a.files)) (c.desk.answered + 1)
+    (λ all told was out0 kept. HasCause c.limit all (told ++ was) (kept ++ chunk) e) idle.window
+    (λ all told was out0 kept rests. subst (λ n. HasCause n all (told ++ was) (kept ++ chunk) e) fed.limits.same
+    (differs-cause c1.limit all (told ++ was) (kept ++ chunk) e
+    (λ _. FinishedUnlike (left_at c1.desk) (told_by c2.desk.site (c1.desk.answered + 1)) c1.desk.reply.sink (before a1.before))
+    (λ d there. finish-unlike [] all (left_at c1.desk) (told_by c2.desk.site (c1.desk.answered + 1)) told was (before a1.before) out0 (out_in (history a1.files))
+    c1.desk.reply.sink (c1.desk.answered + 1) (kept ++ chunk)
+    (fed.goes [] all told was out0 (kept ++ chunk) (chunk-starts before history chunk c a idle whole all told was out0 kept rests)) there) ends.fault))
+
 -- its records are answered, and then what is held is
-pub chunk-done : {T E O F G : Type 0} (before : O → Option (List ℕ)) (history : F → Option History) (chunk : List ℕ) (c c1 c2 : Clerk G) (a a1 a2 : Answers O F)
-    (r : Result T E) → IsIdle c.desk.window.items c.desk.reply.sink → IsWhole chunk → HasFed before history (input_records chunk) c c1 a a1
+pub chunk-done : {T O F G : Type 0} (before : O → Option (List ℕ)) (history : F → Option History) (chunk : List ℕ) (c c1 c2 : Clerk G) (a a1 a2 : Answers O F)
+    (r : Result T KeepFault) → IsIdle c.desk.window.items c.desk.reply.sink → IsWhole chunk → HasFed before history (input_records chunk) c c1 a a1
     → Finishes before history c1 c2 a1 a2 r → FeedsChunk before history chunk c c2 a a2 r
 chunk-done before history chunk c c1 c2 a a1 a2 r idle whole fed ends =
     let starts = λ (all : Account) (told was : List ℕ) (out0 : Option (List ℕ)) (kept : List ℕ)
@@ -382,17 +449,25 @@ chunk-done before history chunk c c1 c2 a a1 a2 r idle whole fed ends =
       told = told-more a.is_live a1.is_live a2.is_live (history a.files) (history a1.files) (history a2.files) r fed.told.0 fed.told.1.0 fed.told.1.1 ends.told;
       leads = on_ok_both r (chunk-led c.desk.site c1.desk.site c2.desk.site c.desk.window.items c1.desk.window.items c2.desk.window.items c.desk.answered
           c1.desk.answered c2.desk.answered (input_records chunk) idle.window fed.leads) ends.same (on_ok_weaker r (λ i. i.window) ends.idle);
+      fault = chunk-ends before history chunk c c1 c2 a a1 a2 r idle whole fed ends;
     }
 
 -- they could not all be
-pub chunk-failed : {T E O F G : Type 0} (before : O → Option (List ℕ)) (history : F → Option History) (chunk : List ℕ) (c c2 : Clerk G) (a a2 : Answers O F)
-    (r : Result T E) → IsErr r → IsIdle c.desk.window.items c.desk.reply.sink → IsWhole chunk → FailsFed before history (input_records chunk) c a a2
-    → FeedsChunk before history chunk c c2 a a2 r
-chunk-failed before history chunk c c2 a a2 r bad idle whole fails = record {
+pub chunk-failed : {T O F G : Type 0} (before : O → Option (List ℕ)) (history : F → Option History) (chunk : List ℕ) (c c2 : Clerk G) (a a2 : Answers O F)
+    (r : Result T KeepFault) (e : KeepFault) → IsErr r → IsErrAnd r (λ x. x ≡ e) → IsIdle c.desk.window.items c.desk.reply.sink → IsWhole chunk
+    → FailsFed before history (input_records chunk) c a a2 e → FeedsChunk before history chunk c c2 a a2 r
+chunk-failed before history chunk c c2 a a2 r e bad is idle whole fails = record {
   ok = ok-of-err _ r bad;
   idle = ok-of-err _ r bad;
   err = on_err r (rests-told c.desk.site c.desk.window.items (c.desk.answered + 1) _ _ _ _ idle.window (λ all told was out0 kept rests.
       fails.ends [] all told was out0 (kept ++ chunk) (chunk-starts before history chunk c a idle whole all told was out0 kept rests)));
   told = told-failed a.is_live a2.is_live (history a.files) (history a2.files) r bad fails.told;
   leads = ok-of-err _ r bad;
+  fault = err-is (λ _. StaysWithin c.limit c.desk.answered c2.limit c2.desk.answered)
+      (λ x. InEachRest (told_by c.desk.site (c.desk.answered + 1)) (before a.before) (out_in (history a.files)) (c.desk.answered + 1)
+      (λ all told was out0 kept. HasCause c.limit all (told ++ was) (kept ++ chunk) x)) r e is
+      (rests-told c.desk.site c.desk.window.items (c.desk.answered + 1) (before a.before) (out_in (history a.files)) (c.desk.answered + 1)
+      (λ all told was out0 kept. HasCause c.limit all (told ++ was) (kept ++ chunk) e) idle.window
+      (λ all told was out0 kept rests.
+      fails.fault [] all told was out0 (kept ++ chunk) (chunk-starts before history chunk c a idle whole all told was out0 kept rests)));
 }

@@ -9,10 +9,12 @@ pub mod PutFacts
 pub mod RestFacts
 pub mod EachFacts
 pub mod StandFacts
+pub mod FaultFacts
 pub mod SoundFacts
 pub mod CutFacts
 pub mod LeftFacts
 pub mod LifeFacts
+pub mod EndFacts
 pub mod EmptyFacts
 pub mod CountFacts
 pub mod TellingFacts

@@ -379,7 +379,7 @@ run-ended all more first past log log1 log2 log3 before before2 input input2 out
 
 -- ---- after the replay
 
-live-starts : (all more : Account) (kept old : List ℕ) (input log before out : Option (List ℕ)) (begun : List ℕ) (number len : ℕ) →
+pub live-starts : (all more : Account) (kept old : List ℕ) (input log before out : Option (List ℕ)) (begun : List ℕ) (number len : ℕ) →
     (r : Replayed all more kept old before out number len) → begun ≡ []
     → Stands true all more r.told [] (whole_lines kept) [] input input log log before (Some r.told) out begun number len len
 live-starts all more kept old input log before out begun number len r e =
@@ -388,7 +388,7 @@ live-starts all more kept old input log before out begun number len r e =
     (stands-start true all more r.told [] (whole_lines kept) input log (Some r.told) begun number len r.answered e))
 
 -- the same where `out` has not changed meanwhile
-told-of : (all more : Account) (kept old : List ℕ) (before out out1 : Option (List ℕ)) (number len : ℕ) → Keeps out out1 →
+pub told-of : (all more : Account) (kept old : List ℕ) (before out out1 : Option (List ℕ)) (number len : ℕ) → Keeps out out1 →
     Replayed all more kept old before out number len → Replayed all more kept old before out1 number len
 told-of all more kept old before out out1 number len same r = record {
   found = r.found;

@@ -13,9 +13,11 @@ use Rattle.std.proofs.lemmas.List.{drop-drop, length-drop}
 use Rattle.rubis_message.specs.declared.inputs.Input.{Input}
 use Rattle.rubis_reading.specs.Inputs.{AreInputs}
 use Rattle.rubis_keep.specs.Fed.{FailsFed, FeedsRows, HasFed}
+use Rattle.rubis_keep.specs.Files.{IsFailure}
 use Rattle.rubis_keep.specs.History.{History}
 use Rattle.rubis_keep.specs.Reading.{AreFree, AreGiven, AreOver, HasFedFront, ReadFor, crew, readers, readers_of}
 use Rattle.rubis_keep.specs.declared.answers.Answers.{Answers}
+use Rattle.rubis_keep.specs.declared.fault.KeepFault.{KeepFault}
 use Rattle.rubis_keep.specs.declared.site.Clerk.{Clerk}
 use Rattle.rubis_keep.proofs.FedFacts.{fails-later, fails-sooner, fed-both, fed-fails, fed-none, feeds-on}
 
@@ -70,14 +72,14 @@ front-starts before history text c a = record { within = omega arith; rows = [];
 
 -- a fault came before the others were
 pub front-fails : {O F G : Type 0} (before : O → Option (List ℕ)) (history : F → Option History) (text : List ℕ) (passed : ℕ) (c c1 : Clerk G)
-    (a a1 : Answers O F) → HasFedFront before history text passed c c1 a a1 → FailsFed before history (input_records text) c a a1
-front-fails before history text passed c c1 a a1 f =
-    subst (λ t. FailsFed before history t c a a1) (sym f.parts)
-    (fails-sooner before history f.rows (input_records (drop passed text)) c a a1 (fed-fails before history f.rows c c1 a a1 f.fed))
+    (a a1 : Answers O F) (e : KeepFault) → HasFedFront before history text passed c c1 a a1 → IsFailure e → FailsFed before history (input_records text) c a a1 e
+front-fails before history text passed c c1 a a1 e f fails =
+    subst (λ t. FailsFed before history t c a a1 e) (sym f.parts)
+    (fails-sooner before history f.rows (input_records (drop passed text)) c a a1 e (fed-fails before history f.rows c c1 a a1 e f.fed fails))
 
 -- the others are answered, or a fault came while they were
-pub front-rest : {T E O F G : Type 0} (before : O → Option (List ℕ)) (history : F → Option History) (text : List ℕ) (passed : ℕ) (c c1 c2 : Clerk G)
-    (a a1 a2 : Answers O F) (r : Result T E) → HasFedFront before history text passed c c1 a a1
+pub front-rest : {T O F G : Type 0} (before : O → Option (List ℕ)) (history : F → Option History) (text : List ℕ) (passed : ℕ) (c c1 c2 : Clerk G)
+    (a a1 a2 : Answers O F) (r : Result T KeepFault) → HasFedFront before history text passed c c1 a a1
     → FeedsRows before history (input_records (drop passed text)) c1 c2 a1 a2 r → FeedsRows before history (input_records text) c c2 a a2 r
 front-rest before history text passed c c1 c2 a a1 a2 r f h =
     subst (λ t. FeedsRows before history t c c2 a a2 r) (sym f.parts)
@@ -92,14 +94,14 @@ front-read before history text passed c c1 a a1 old new rows ps f keeps fits inp
 
 -- a fault came while its records were answered
 pub front-broken : {O F G : Type 0} (before : O → Option (List ℕ)) (history : F → Option History) (text : List ℕ) (passed many : ℕ) (c c1 : Clerk G)
-    (a a1 a2 : Answers O F) → HasFedFront before history text passed c c1 a a1 → IsChunk many (drop passed text)
-    → FailsFed before history (input_records (take many (drop passed text))) c1 a1 a2 → FailsFed before history (input_records text) c a a2
-front-broken before history text passed many c c1 a a1 a2 f chunk h =
+    (a a1 a2 : Answers O F) (e : KeepFault) → HasFedFront before history text passed c c1 a a1 → IsChunk many (drop passed text)
+    → FailsFed before history (input_records (take many (drop passed text))) c1 a1 a2 e → FailsFed before history (input_records text) c a a2 e
+front-broken before history text passed many c c1 a a1 a2 e f chunk h =
     let first = input_records (take many (drop passed text)) in
     let later = input_records (drop (many - 1) (drop passed text)) in
-    subst (λ t. FailsFed before history t c a a2)
+    subst (λ t. FailsFed before history t c a a2 e)
     (append_assoc f.rows first later ∙ ap (λ t. f.rows ++ t) (sym (records-split (drop passed text) many chunk)) ∙ sym f.parts)
-    (fails-sooner before history (f.rows ++ first) later c a a2 (fails-later before history f.rows first c c1 a a1 a2 f.fed h))
+    (fails-sooner before history (f.rows ++ first) later c a a2 e (fails-later before history f.rows first c c1 a a1 a2 e f.fed h))
 
 -- they were answered
 pub front-more : {O F G : Type 0} (before : O → Option (List ℕ)) (history : F → Option History) (text : List ℕ) (passed many : ℕ) (c c1 c2 : Clerk G)

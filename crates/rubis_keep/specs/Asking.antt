@@ -72,6 +72,7 @@ pub record IsUnmoved {G : Type 0} (old new : Clerk G) : Type 0 where
   pub answered : new.desk.answered ≡ old.desk.answered
   pub window : new.desk.window.items ≡ old.desk.window.items
   pub sink : new.desk.reply.sink ≡ old.desk.reply.sink
+  pub limit : new.limit ≡ old.limit
 
 -- these records led a site, which stood in state s0 and had answered n0, to where it is
 pub record LedBy (p : Place) (s0 : Replica) (n0 : ℕ) (s : SiteState) (answered : ℕ) (records : List (List (List ℕ))) : Type 0 where

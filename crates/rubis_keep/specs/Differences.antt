@@ -1,17 +1,17 @@
 -- What is told of the first line in which two texts differ.
-use Rattle.std.specs.Prelude.{◌≡◌, ◌≢◌, ◌==◌, ◌<◌, ◌+◌, ◌++◌, ◌^◌, [], ℕ, List, drop, filter, length, string_bytes, take, ⊤}
+use Rattle.std.specs.Prelude.{◌≡◌, ◌≢◌, ◌==◌, ◌<◌, ◌+◌, ◌++◌, ◌^◌, [], ℕ, List, drop, filter, length, string_bytes, take}
 use Rattle.std.specs.List.{after_last, before_first, common_prefix_len}
 use Rattle.std.specs.Str.Lossy.{utf8_lossy}
-use Rattle.rubis_keep.specs.Files.{DiffersFrom}
+use Rattle.rubis_keep.specs.Files.{DiffersFrom, IsFailure}
 use Rattle.rubis_keep.specs.Kept.{IsFrontOf}
 use Rattle.rubis_keep.specs.declared.fault.Difference.{Difference}
 use Rattle.rubis_keep.specs.declared.fault.KeepFault.{KeepFault}
 use Rattle.rubis_keep.specs.declared.fault.KeepFault.TheVariants as fault
 
--- if the fault is that answers differ, this holds of what it tells
-abbrev pub IfDiffers : KeepFault → (Difference → Type 0) → Type 0
-IfDiffers (fault.Differs d) P = P d
-IfDiffers other P = ⊤
+-- a file or the memory failed; or answers differ, and this holds of what is told of it
+abbrev pub MayDiffer : KeepFault → (Difference → Type 0) → Type 0
+MayDiffer (fault.Differs d) P = P d
+MayDiffer other P = IsFailure other
 
 -- how many lines end in a text
 abbrev pub ends_in : List ℕ → ℕ

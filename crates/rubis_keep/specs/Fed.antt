@@ -6,9 +6,11 @@ use Rattle.rubis_engine.specs.Text.{input_records}
 use Rattle.rubis_reading.specs.Inputs.{AreInputs}
 use Rattle.rubis_script.specs.Desks.{left_at}
 use Rattle.rubis_keep.specs.Asking.{LeadsOn}
+use Rattle.rubis_keep.specs.Faults.{HasCause, StaysWithin}
 use Rattle.rubis_keep.specs.History.{History, Tells, out_in}
 use Rattle.rubis_keep.specs.Kept.{OutEnds, Wrote}
 use Rattle.rubis_keep.specs.declared.answers.Answers.{Answers}
+use Rattle.rubis_keep.specs.declared.fault.KeepFault.{KeepFault}
 use Rattle.rubis_keep.specs.declared.site.Clerk.{Clerk}
 
 -- of the records of what was kept `rest` are still to come: those before are answered, and their text was put, but for what waits in `sink`
@@ -36,22 +38,25 @@ pub record HasFed {O F G : Type 0} (before : O → Option (List ℕ)) (history :
   pub told : (answers2.is_live ≡ answers.is_live)
       × ((text : List ℕ) × Tells answers.is_live (history answers.files) (history answers2.files) text [])
   pub leads : LeadsOn old.desk new.desk rows
+  pub limits : StaysWithin old.limit old.desk.answered new.limit new.desk.answered
 
--- or a fault came before they were: what stands in `out` answers nothing else
+-- or this fault came before they were: what stands in `out` answers nothing else
 pub record FailsFed {O F G : Type 0} (before : O → Option (List ℕ)) (history : F → Option History) (rows : List (List (List ℕ))) (old : Clerk G)
-    (answers answers2 : Answers O F) : Type 0 where
+    (answers answers2 : Answers O F) (e : KeepFault) : Type 0 where
   pub ends : (rest : List (List (List ℕ))) (all : Account) (told was : List ℕ) (out0 : Option (List ℕ)) (kept : List ℕ)
       → FeedsAt before history (rows ++ rest) old answers all told was out0 kept → OutEnds all told was out0 (out_in (history answers2.files)) kept
   pub told : (answers2.is_live ≡ answers.is_live)
       × ((text : List ℕ) × (due : List ℕ) × Tells answers.is_live (history answers.files) (history answers2.files) text due)
+  pub fault : (rest : List (List (List ℕ))) (all : Account) (told was : List ℕ) (out0 : Option (List ℕ)) (kept : List ℕ)
+      → FeedsAt before history (rows ++ rest) old answers all told was out0 kept → HasCause old.limit all (told ++ was) kept e
 
-abbrev pub FeedsRows : {T E O F G : Type 0} → (O → Option (List ℕ)) → (F → Option History) → List (List (List ℕ)) → Clerk G → Clerk G
-    → Answers O F → Answers O F → Result T E → Type 0
+abbrev pub FeedsRows : {T O F G : Type 0} → (O → Option (List ℕ)) → (F → Option History) → List (List (List ℕ)) → Clerk G → Clerk G
+    → Answers O F → Answers O F → Result T KeepFault → Type 0
 FeedsRows before history rows old new answers answers2 r =
-    MatchResult r (λ _. HasFed before history rows old new answers answers2) (λ _. FailsFed before history rows old answers answers2)
+    MatchResult r (λ _. HasFed before history rows old new answers answers2) (FailsFed before history rows old answers answers2)
 
 -- so it is with records that are these inputs
-abbrev pub FeedsInputs : {T E O F G : Type 0} → (O → Option (List ℕ)) → (F → Option History) → List Input → Clerk G → Clerk G
-    → Answers O F → Answers O F → Result T E → Type 0
+abbrev pub FeedsInputs : {T O F G : Type 0} → (O → Option (List ℕ)) → (F → Option History) → List Input → Clerk G → Clerk G
+    → Answers O F → Answers O F → Result T KeepFault → Type 0
 FeedsInputs before history ps old new answers answers2 r = (rows : List (List (List ℕ))) → AreInputs old.desk.site.place.sites rows ps
     → FeedsRows before history rows old new answers answers2 r

@@ -12,10 +12,22 @@ AppendsFront old new bytes = (n : ℕ) × (n ≤ length bytes) × Appends old ne
 abbrev pub Found : Option (List ℕ) → Option (List ℕ) → List ℕ → ℕ → Type 0
 Found old new text n = (n ≤ length text) × Consumes old new (take n text) × (n < length text → IsAtEnd new)
 
--- if the fault is that what was kept was changed, this holds
-abbrev pub IfEdited : KeepFault → Type 0 → Type 0
-IfEdited (fault.Edited n) P = P
-IfEdited other P = ⊤
+-- a file failed, or the memory did: the fault says nothing of what was kept or answered
+abbrev pub IsFailure : KeepFault → Type 0
+IsFailure (fault.Edited n) = ⊥
+IsFailure (fault.Differs d) = ⊥
+IsFailure fault.TooLong = ⊥
+IsFailure other = ⊤
+
+-- a file or the memory failed; or what was kept was changed, and this holds
+abbrev pub MayBeEdited : KeepFault → Type 0 → Type 0
+MayBeEdited (fault.Edited n) P = P
+MayBeEdited other P = IsFailure other
+
+-- a fault of the input, where the input is what was kept
+abbrev pub of_kept : KeepFault → KeepFault
+of_kept (fault.ReadInput e) = fault.ReadKept e
+of_kept other = other
 
 -- at some place a text and the bytes of a reader differ
 abbrev pub DiffersFrom : List ℕ → List ℕ → Type 0

@@ -4,6 +4,7 @@ pub mod Files
 pub mod Whole
 pub mod Kept
 pub mod Differences
+pub mod Faults
 pub mod Left
 pub mod Cuts
 pub mod Shortened

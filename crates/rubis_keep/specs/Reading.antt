@@ -1,13 +1,15 @@
 -- The pieces of a chunk that helpers read, in a run that has helpers.
-use Rattle.std.specs.Prelude.{◌≡◌, ◌≤◌, ◌++◌, ℕ, IfSome, List, MatchResult, OnOk, Option, Result, drop, length}
+use Rattle.std.specs.Prelude.{◌≡◌, ◌≤◌, ◌++◌, ℕ, IfErr, IfSome, List, MatchResult, OnOk, Option, Result, drop, length}
 use Rattle.std.specs.Option.{option_map}
 use Rattle.rubis_crew.specs.States.{CrewId}
 use Rattle.rubis_engine.specs.Text.{input_records}
 use Rattle.rubis_reading.specs.Readings.{AreOf, IsOver, KeepFor}
 use Rattle.rubis_reading.specs.declared.pieces.Pieces.{Pieces}
 use Rattle.rubis_keep.specs.Fed.{FailsFed, HasFed}
+use Rattle.rubis_keep.specs.Files.{IsFailure}
 use Rattle.rubis_keep.specs.History.{History}
 use Rattle.rubis_keep.specs.declared.answers.Answers.{Answers}
+use Rattle.rubis_keep.specs.declared.fault.KeepFault.{KeepFault}
 use Rattle.rubis_keep.specs.declared.site.Clerk.{Clerk}
 
 -- who reads the pieces: a crew, and of how many sites it reads messages
@@ -33,9 +35,9 @@ AreFree pieces = IfSome pieces (λ p. (text : List ℕ) → AreOf text p)
 abbrev pub ReadFor : ℕ → Option Pieces → Type 0
 ReadFor sites pieces = IfSome pieces (λ p. p.sites ≡ sites)
 
--- a text was given to the helpers of before
-abbrev pub HasGiven : {T E : Type 0} → List ℕ → Option Pieces → Option Pieces → Result T E → Type 0
-HasGiven text old new r = (readers new ≡ readers old) × OnOk r (AreGiven text new)
+-- a text was given to the helpers of before, or the memory failed
+abbrev pub HasGiven : {T : Type 0} → List ℕ → Option Pieces → Option Pieces → Result T KeepFault → Type 0
+HasGiven text old new r = (readers new ≡ readers old) × OnOk r (AreGiven text new) × IfErr r IsFailure
 
 -- the pieces of a text were read by the helpers of before, and none is given then
 abbrev pub HaveRead : {T E : Type 0} → Pieces → Pieces → Result T E → Type 0
@@ -52,10 +54,10 @@ pub record HasFedFront {O F G : Type 0} (before : O → Option (List ℕ)) (hist
   pub parts : input_records text ≡ rows ++ input_records (drop passed text)
   pub fed : HasFed before history rows old new answers answers2
 
-abbrev pub FeedsFront : {E O F G : Type 0} → (O → Option (List ℕ)) → (F → Option History) → List ℕ → Clerk G → Clerk G → Answers O F → Answers O F
-    → Result ℕ E → Type 0
+abbrev pub FeedsFront : {O F G : Type 0} → (O → Option (List ℕ)) → (F → Option History) → List ℕ → Clerk G → Clerk G → Answers O F → Answers O F
+    → Result ℕ KeepFault → Type 0
 FeedsFront before history text old new answers answers2 r = MatchResult r (λ passed. HasFedFront before history text passed old new answers answers2)
-    (λ _. FailsFed before history (input_records text) old answers answers2)
+    (FailsFed before history (input_records text) old answers answers2)
 
 -- the crew that reads the pieces
 abbrev pub crew_of : Pieces → CrewId

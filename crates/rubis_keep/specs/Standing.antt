@@ -1,9 +1,10 @@
 -- Where a run stands between two pieces of its input, and how it goes on from there.
-use Rattle.std.specs.Prelude.{◌≡◌, ◌+◌, [], ℕ, Bool, List, OnErr, OnOk, Option, Result, false, true}
+use Rattle.std.specs.Prelude.{◌≡◌, ◌+◌, [], ℕ, Bool, List, MatchResult, OnErr, OnOk, Option, Result, false, true}
 use Rattle.rubis_message.specs.Message.{Message}
 use Rattle.rubis_replica.specs.State.{SiteState}
 use Rattle.rubis_script.specs.SiteRuns.{told_by}
 use Rattle.rubis_keep.specs.Asking.{GoesOnAsking, Reply}
+use Rattle.rubis_keep.specs.Faults.{HasCauseInEach, StaysWithin}
 use Rattle.rubis_keep.specs.History.{HasTold, History, log_of, out_in}
 use Rattle.rubis_keep.specs.Kept.{CameOrEnded, Fails, InEachStand, IsBegun, Stands, left_of}
 use Rattle.rubis_keep.specs.Lives.{LivesSafe}
@@ -12,15 +13,18 @@ use Rattle.rubis_keep.specs.Reading.{AreFree, ReadFor, readers}
 use Rattle.rubis_reading.specs.declared.pieces.Pieces.{Pieces}
 use Rattle.rubis_keep.specs.declared.answers.Answers.{Answers}
 use Rattle.rubis_keep.specs.declared.site.Clerk.{Clerk}
+use Rattle.rubis_keep.specs.declared.fault.KeepFault.{KeepFault}
 use Rattle.rubis_keep.specs.declared.keeping.Came.{Came}
 use Rattle.rubis_keep.specs.declared.keeping.KeptLines.{KeptLines}
 use Rattle.rubis_keep.specs.declared.pages.Listed.{Listed}
 
--- the site at its desk, with what is held there and waits to be put; what is left of the input and of the answers of before; what happened to
--- the files; of the lines that are kept, which one is begun, how long they are, and what is held of a listing; and what helpers read
+-- the site at its desk, with how many records were answered and how many are to be, and with what is held there and waits to be put; what
+-- is left of the input and of the answers of before; what happened to the files; of the lines that are kept, which one is begun, how long
+-- they are, and what is held of a listing; and what helpers read
 pub record Standing : Type 0 where
   pub site : SiteState
   pub answered : ℕ
+  pub limit : ℕ
   pub held : List Message
   pub sink : List ℕ
   pub is_live : Bool
@@ -36,6 +40,7 @@ abbrev pub standing : {R O F G : Type 0} → (R → Option (List ℕ)) → (O �
 standing input before history live lines clerk answers = record {
   site = clerk.desk.site;
   answered = clerk.desk.answered;
+  limit = clerk.limit;
   held = clerk.desk.window.items;
   sink = clerk.desk.reply.sink;
   is_live = answers.is_live;
@@ -64,7 +69,7 @@ pub record IsAtRest (s : Standing) : Type 0 where
   pub fits : ReadFor s.site.place.sites s.pieces
 
 -- a run went on from the one to the other, or failed there. It keeps what it reads, or doesn't; `owes` is what it then owes to a question
-pub record GoesOn {T E : Type 0} (keeps : Bool) (old new : Standing) (owes : T → List Reply) (r : Result T E) : Type 0 where
+pub record GoesOn {T : Type 0} (keeps : Bool) (old new : Standing) (owes : T → List Reply) (r : Result T KeepFault) : Type 0 where
   pub rests : OnOk r (IsAtRest new)
   pub ok : OnOk r (InEachStand keeps (told_by old.site (old.answered + 1)) old.input (log_of keeps old.history) old.before (out_in old.history) old.begun
       (old.answered + 1) old.kept (λ all told was base line input0 log0 out0 len0. Stands keeps all (told_by new.site (new.answered + 1)) told was base line
@@ -78,3 +83,6 @@ pub record GoesOn {T E : Type 0} (keeps : Bool) (old new : Standing) (owes : T �
   pub safe : keeps ≡ true → old.is_live ≡ true → LivesSafe (told_by old.site (old.answered + 1)) old.before (old.answered + 1) old.history
       (told_by new.site (new.answered + 1)) new.before (new.answered + 1) new.history r
   pub asked : GoesOnAsking keeps old.input old.history old.begun old.site old.answered new.input new.history new.begun new.site new.answered owes r
+  pub fault : MatchResult r (λ _. StaysWithin old.limit old.answered new.limit new.answered)
+      (HasCauseInEach keeps old.limit (told_by old.site (old.answered + 1)) old.input (log_of keeps old.history) old.before (out_in old.history) old.begun
+      (old.answered + 1) old.kept new.input)

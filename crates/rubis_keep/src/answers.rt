@@ -2,14 +2,15 @@
 
 ghost use Rattle.std.specs.Prelude.{◌≡◌, ◌≤◌, [], IfErr, IfOk, IfSome, MatchResult, OnErr, OnOk, false, length, take};
 ghost use Rattle.std.specs.Io.KnownBytes.{IsAtEnd, Keeps};
-ghost use Rattle.rubis_keep.specs.Differences.{HasDifference, HasMore, IfDiffers};
+ghost use Rattle.rubis_keep.specs.Differences.{HasDifference, HasMore, MayDiffer};
+ghost use Rattle.rubis_keep.specs.Files.{IsFailure};
 ghost use Rattle.rubis_keep.specs.History.{HasTold, Tells, TellsFront, out_in};
 ghost use Rattle.rubis_keep.specs.Kept.{Puts, PutsFront};
 
 use crate::comparing::{compare, differ, ends_in};
 use crate::fault::KeepFault;
 use crate::site_files::SiteFiles;
-use rubis_engine::Sink;
+use rubis_engine::{Sink, read_through_signals};
 use std::alloc::Global;
 use std::io;
 use std::io::{ErrorKind, Read};
@@ -56,7 +57,7 @@ fn tell_once<F: SiteFiles>(files: &mut F, is_live: bool, text: &[u8]) -> Result<
     ensures bound { IfOk result (λ n. n ≤ length text.now) }
     ensures told { MatchResult result (λ n. Tells is_live (F.history files.old) (F.history files.new) (take n text.now) [])
         (λ _. TellsFront is_live (F.history files.old) (F.history files.new) text.now) }
-    ensures differs { IfErr result (λ e. IfDiffers e (λ _. ⊥)) }
+    ensures fault { IfErr result IsFailure }
 {
     let taken = match files.tell(text) {
         Ok(0) => return Err(KeepFault::WriteOut(io::Error::from(ErrorKind::WriteZero))),
@@ -85,7 +86,7 @@ fn tell_all<T: Wait, F: SiteFiles>(
 ) -> Result<(), KeepFault>
     ensures told { MatchResult result (λ _. Tells is_live (F.history files.old) (F.history files.new) text.now [])
         (λ _. TellsFront is_live (F.history files.old) (F.history files.new) text.now) }
-    ensures differs { IfErr result (λ e. IfDiffers e (λ _. ⊥)) }
+    ensures fault { IfErr result IsFailure }
 {
     let mut at = 0;
     for _turn in rt.forever() {
@@ -111,10 +112,12 @@ fn put<T: Wait, O: Read, F: SiteFiles>(
     ensures err { OnErr result (PutsFront (O.remaining before.old) (O.remaining before.new) (out_in (F.history files.old))
         (out_in (F.history files.new)) text.now) }
     ensures told { HasTold is_live is_live (F.history files.old) (F.history files.new) result }
-    ensures differs { IfErr result (λ e. IfDiffers e (λ d. IfSome (O.remaining before.old) (λ old. HasDifference old text.now lines.old d))) }
+    ensures differs { IfErr result (λ e. MayDiffer e (λ d. IfSome (O.remaining before.old) (λ old. HasDifference old text.now lines.old d))) }
 {
     let found = compare(alloc, before, text, *lines)?;
-    *lines = lines.saturating_add(ends_in(&text[..found]));
+    if found > 0 {
+        *lines = lines.saturating_add(ends_in(&text[..found]));
+    }
     tell_all(rt, files, is_live, &text[found..])
 }
 
@@ -127,7 +130,7 @@ impl<O: Read, F: SiteFiles> Answers<O, F> {
         ensures err { OnErr result (PutsFront (O.remaining self.old.before) (O.remaining self.new.before) (out_in (F.history self.old.files))
             (out_in (F.history self.new.files)) sink.old) }
         ensures told { HasTold self.old.is_live self.new.is_live (F.history self.old.files) (F.history self.new.files) result }
-        ensures differs { IfErr result (λ e. IfDiffers e (λ d. IfSome (O.remaining self.old.before) (λ old. HasDifference old sink.old self.old.lines d))) }
+        ensures differs { IfErr result (λ e. MayDiffer e (λ d. IfSome (O.remaining self.old.before) (λ old. HasDifference old sink.old self.old.lines d))) }
     {
         let Answers {
             before,
@@ -149,10 +152,10 @@ impl<O: Read, F: SiteFiles> Answers<O, F> {
         ensures end { OnOk result (IsAtEnd (O.remaining self.new.before) × Keeps (O.remaining self.old.before) (O.remaining self.new.before)) }
         ensures files { self.new.files ≡ self.old.files }
         ensures live { self.new.is_live ≡ self.old.is_live }
-        ensures differs { IfErr result (λ e. IfDiffers e (λ d. IfSome (O.remaining self.old.before) (λ old. HasMore old self.old.lines d))) }
+        ensures differs { IfErr result (λ e. MayDiffer e (λ d. IfSome (O.remaining self.old.before) (λ old. HasMore old self.old.lines d))) }
     {
         let mut next = [0; 256];
-        match self.before.read(&mut next) {
+        match read_through_signals(&mut self.before, &mut next) {
             Ok(0) => Ok(()),
             Ok(given) => Err(differ(self.alloc, &[], 0, &next[..given], self.lines)),
             Err(e) => Err(KeepFault::ReadOut(e)),

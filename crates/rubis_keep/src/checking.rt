@@ -1,7 +1,7 @@
 //! What was kept, read through before it is answered again.
 
 ghost use Rattle.std.specs.Prelude.{◌≡◌, ◌∷◌, ◌<◌, [], ℕ, List, IfErr, IfOk, IfSome, OnOk, false, true};
-ghost use Rattle.rubis_keep.specs.Files.{IfEdited};
+ghost use Rattle.rubis_keep.specs.Files.{MayBeEdited};
 ghost use Rattle.rubis_keep.specs.Lines.{AreSound, are_sound, begun_after};
 ghost use Rattle.rubis_keep.specs.Places.{begun_bytes};
 
@@ -57,7 +57,7 @@ pub(crate) fn check_kept<T: Wait, C: Read>(
     kept: &mut C,
 ) -> Result<(), KeepFault>
     ensures sound { OnOk result (IfSome (C.remaining kept.old) (λ text. AreSound [] text)) }
-    ensures edited { IfErr result (λ e. IfEdited e (IfSome (C.remaining kept.old) (λ text. are_sound [] text ≡ false))) }
+    ensures edited { IfErr result (λ e. MayBeEdited e (IfSome (C.remaining kept.old) (λ text. are_sound [] text ≡ false))) }
 {
     let mut piece = [0; PIECE];
     let mut begun = Vec::new(alloc);

@@ -1,7 +1,7 @@
 //! Answers that are compared with those that were given before, as far as these go.
 
 ghost use Rattle.std.specs.Prelude.{◌≡◌, ◌≤◌, ◌++◌, IfErr, IfOk, IfSome, false, length, string_bytes, take, true};
-ghost use Rattle.rubis_keep.specs.Differences.{HasDifference, IfDiffers, IsDifference, ends_in, first_line, last_line, same_in, shown_line};
+ghost use Rattle.rubis_keep.specs.Differences.{HasDifference, IsDifference, MayDiffer, ends_in, first_line, last_line, same_in, shown_line};
 ghost use Rattle.rubis_keep.specs.Files.{DiffersFrom, Found};
 
 use crate::fault::{Difference, KeepFault};
@@ -101,7 +101,7 @@ fn difference(
 /// What differs, as a fault.
 pub(crate) fn differ(alloc: Global, text: &[u8], at: usize, found: &[u8], lines: u64) -> KeepFault
     requires { at ≤ length text.now }
-    ensures { IfDiffers result (λ d. IsDifference (take at text.now ++ found.now) text.now lines d) }
+    ensures { MayDiffer result (λ d. IsDifference (take at text.now ++ found.now) text.now lines d) }
 {
     match difference(alloc, text, at, found, lines) {
         Ok(difference) => KeepFault::Differs(difference),
@@ -118,7 +118,7 @@ pub(crate) fn compare<O: Read>(
     lines: u64,
 ) -> Result<usize, KeepFault>
     ensures found { IfOk result (λ n. Found (O.remaining before.old) (O.remaining before.new) text.now n) }
-    ensures differs { IfErr result (λ e. IfDiffers e (λ d. IfSome (O.remaining before.old) (λ old. HasDifference old text.now lines d))) }
+    ensures differs { IfErr result (λ e. MayDiffer e (λ d. IfSome (O.remaining before.old) (λ old. HasDifference old text.now lines d))) }
 {
     let mut buffer = [0; AT_ONCE];
     let mut at = 0;

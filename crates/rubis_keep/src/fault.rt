@@ -75,13 +75,15 @@ impl From<OutOfMemory> for KeepFault {
     }
 }
 
-// A fault of a run over a text in memory.
+// A fault of a reader of a text in memory, which only memory can fail.
 impl From<RunFault> for KeepFault {
-    fn from(fault: RunFault) -> KeepFault {
-        match fault {
-            RunFault::TooLong => KeepFault::TooLong,
-            RunFault::Read | RunFault::Write | RunFault::Memory => KeepFault::Memory,
-        }
+    ghost use Rattle.std.specs.Prelude.{◌≡◌};
+    ghost use Rattle.rubis_keep.specs.declared.fault.KeepFault.TheVariants.{Memory};
+
+    ghost from_gives = { λ _ fault. fault ≡ Memory };
+
+    fn from(_fault: RunFault) -> KeepFault {
+        KeepFault::Memory
     }
 }
 

@@ -36,7 +36,7 @@ fn run_to_end<G: Gate, T: Threads + Wait + Sync, C: Read, P: Read, O: Read, F: S
 ) -> Result<(), KeepFault>
     requires idle { IsIdle clerk.old.desk.window.items clerk.old.desk.reply.sink × HasReadNone lines.old × (clerk.old.desk.answered ≡ 0) }
     requires free { AreFree lines.old.pieces × ReadFor clerk.old.desk.site.place.sites lines.old.pieces }
-    ensures runs { Runs clerk.old.desk.site (C.remaining recording.old.first) (P.remaining recording.old.past) (O.remaining answers.old.before) answers.old.is_live
+    ensures runs { Runs clerk.old.desk.site clerk.old.limit (C.remaining recording.old.first) (P.remaining recording.old.past) (O.remaining answers.old.before) answers.old.is_live
         (R.remaining live.old) (R.remaining live.new) (F.history answers.old.files) (F.history answers.new.files) result }
     ensures over { AreOver lines.old.pieces lines.new.pieces }
 {
@@ -69,7 +69,7 @@ fn run_beside<
     requires stay { S.pre stay.old }
     requires lines { IsIdle clerk.old.desk.window.items clerk.old.desk.reply.sink × HasReadNone lines.old × (clerk.old.desk.answered ≡ 0)
         × AreFree lines.old.pieces × ReadFor clerk.old.desk.site.place.sites lines.old.pieces }
-    ensures runs { Runs clerk.old.desk.site (C.remaining recording.old.first) (P.remaining recording.old.past) (O.remaining answers.old.before) answers.old.is_live
+    ensures runs { Runs clerk.old.desk.site clerk.old.limit (C.remaining recording.old.first) (P.remaining recording.old.past) (O.remaining answers.old.before) answers.old.is_live
         (R.remaining live.old) (R.remaining live.new) (F.history answers.old.files) (F.history answers.new.files) result }
     ensures over { AreOver lines.old.pieces lines.new.pieces }
 {
@@ -79,7 +79,7 @@ fn run_beside<
         &mut || -> Result<(), KeepFault>
             requires { IsSync T.row × IsIdle clerk.now.desk.window.items clerk.now.desk.reply.sink × HasReadNone lines.now × (clerk.now.desk.answered ≡ 0)
                 × AreFree lines.now.pieces × ReadFor clerk.now.desk.site.place.sites lines.now.pieces }
-            ensures { Runs clerk.entry.now.desk.site (C.remaining recording.entry.now.first) (P.remaining recording.entry.now.past) (O.remaining answers.entry.now.before)
+            ensures { Runs clerk.entry.now.desk.site clerk.entry.now.limit (C.remaining recording.entry.now.first) (P.remaining recording.entry.now.past) (O.remaining answers.entry.now.before)
                 answers.entry.now.is_live (R.remaining live.entry.now) (R.remaining live.exit.now) (F.history answers.entry.now.files) (F.history answers.exit.now.files) result
                 × AreOver lines.entry.now.pieces lines.exit.now.pieces }
         { run_to_end(rt, recording, live, lines, clerk, answers) },
@@ -98,7 +98,7 @@ fn run_with<G: Gate, T: Threads + Wait + Sync, C: Read, P: Read, O: Read, F: Sit
 ) -> Result<(), KeepFault>
     requires idle { IsIdle clerk.old.desk.window.items clerk.old.desk.reply.sink × HasReadNone lines.old × (clerk.old.desk.answered ≡ 0) }
     requires free { AreFree lines.old.pieces × ReadFor clerk.old.desk.site.place.sites lines.old.pieces }
-    ensures runs { Runs clerk.old.desk.site (C.remaining recording.old.first) (P.remaining recording.old.past) (O.remaining answers.old.before) answers.old.is_live
+    ensures runs { Runs clerk.old.desk.site clerk.old.limit (C.remaining recording.old.first) (P.remaining recording.old.past) (O.remaining answers.old.before) answers.old.is_live
         (R.remaining live.old) (R.remaining live.new) (F.history answers.old.files) (F.history answers.new.files) result }
     ensures over { AreOver lines.old.pieces lines.new.pieces }
 {
@@ -139,7 +139,7 @@ pub(crate) fn run_helped<
 ) -> Result<(), KeepFault>
     requires idle { IsIdle clerk.old.desk.window.items clerk.old.desk.reply.sink }
     requires answered { clerk.old.desk.answered ≡ 0 }
-    ensures { Runs clerk.old.desk.site (C.remaining recording.old.first) (P.remaining recording.old.past) (O.remaining answers.old.before) answers.old.is_live
+    ensures { Runs clerk.old.desk.site clerk.old.limit (C.remaining recording.old.first) (P.remaining recording.old.past) (O.remaining answers.old.before) answers.old.is_live
         (R.remaining live.old) (R.remaining live.new) (F.history answers.old.files) (F.history answers.new.files) result }
 {
     let unread = Unread::new(clerk.alloc, PAST)?;

@@ -1,6 +1,7 @@
 //! The lines of an input, kept as they come.
 
-ghost use Rattle.std.specs.Prelude.{◌≡◌, [], ℕ, List, IfOk, None, OnErr, true};
+ghost use Rattle.std.specs.Prelude.{◌≡◌, [], ℕ, List, IfErr, IfOk, None, true};
+ghost use Rattle.rubis_keep.specs.Files.{IsFailure};
 ghost use Rattle.rubis_keep.specs.History.{HasKept};
 ghost use Rattle.rubis_keep.specs.Kept.{KeptFront, TookQuestion, left_of};
 ghost use Rattle.rubis_keep.specs.Places.{begun_bytes};
@@ -82,7 +83,8 @@ pub(crate) fn keep_chunk<T: Wait, F: SiteFiles>(
     keeps: bool,
     chunk: &[u8],
 ) -> Result<(), KeepFault>
-    ensures { HasKept keeps (F.history files.old) (F.history files.new) result chunk.now }
+    ensures kept { HasKept keeps (F.history files.old) (F.history files.new) result chunk.now }
+    ensures fault { IfErr result IsFailure }
 {
     if !keeps || chunk.is_empty() {
         return Ok(());
@@ -126,8 +128,8 @@ pub(crate) fn read_next<R: Read>(
         → TookQuestion asks line (left_of lines.old.unread (R.remaining live.old)) (left_of lines.new.unread (R.remaining live.new)) lines.new.chunk.items
         lines.new.cutter came.more came.is_asked lines.new.question.items) }
     ensures came { IfOk result (λ came. HasCome asks came (left_of lines.old.unread (R.remaining live.old)) (left_of lines.new.unread (R.remaining live.new))) }
-    ensures err { OnErr result ((line : List ℕ) → lines.old.cutter ≡ begun_bytes line
-        → KeptFront asks line (left_of lines.old.unread (R.remaining live.old)) (left_of lines.new.unread (R.remaining live.new)) None None) }
+    ensures err { IfErr result (λ e. IsFailure e × ((line : List ℕ) → lines.old.cutter ≡ begun_bytes line
+        → KeptFront asks line (left_of lines.old.unread (R.remaining live.old)) (left_of lines.new.unread (R.remaining live.new)) None None)) }
     ensures others { (lines.new.kept ≡ lines.old.kept) × (lines.new.listed ≡ lines.old.listed) × (lines.new.pieces ≡ lines.old.pieces) }
 {
     let KeptLines {

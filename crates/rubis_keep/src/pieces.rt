@@ -40,8 +40,9 @@ fn next_lines<G: Gate, T: Threads + Wait + Sync, R: Read, O: Read, F: SiteFiles>
     let came = read_next(live, lines, keeps)?;
     give_chunk(rt, &lines.chunk, &mut lines.pieces)?;
     keep_chunk(rt, &mut answers.files, keeps, &lines.chunk)?;
+    // No file is as long as that, whatever the limit of records is, and no memory either.
     let Some(len) = lines.kept.checked_add(lines.chunk.len() as u64) else {
-        return Err(KeepFault::TooLong);
+        return Err(KeepFault::Memory);
     };
     let_go(&mut lines.listed, &lines.chunk);
     feed_chunk(rt, &lines.chunk, &mut lines.pieces, clerk, answers)?;

@@ -1,7 +1,8 @@
 //! A question is answered on standard output.
 
-ghost use Rattle.std.specs.Prelude.{◌≡◌, ◌∷◌, [], IfOk};
+ghost use Rattle.std.specs.Prelude.{◌≡◌, ◌∷◌, [], IfErr, IfOk};
 ghost use Rattle.rubis_keep.specs.Asking.{RepliesIf};
+ghost use Rattle.rubis_keep.specs.Files.{IsFailure};
 ghost use Rattle.rubis_keep.specs.Pages.{AreListed};
 ghost use Rattle.rubis_keep.specs.Questions.{reply_rows, reply_text};
 ghost use Rattle.rubis_keep.specs.Steps.{IsStill};
@@ -30,7 +31,8 @@ fn mark(alloc: Global) -> Result<Vec<u8>, AllocError>
 
 // The text of an answer.
 fn text_of(alloc: Global, mut rows: Sink) -> Result<Vec<u8>, KeepFault>
-    ensures { IfOk result (λ text. text.items ≡ 63 ∷ rows) }
+    ensures text { IfOk result (λ text. text.items ≡ 63 ∷ rows) }
+    ensures fault { IfErr result IsFailure }
 {
     let mut text = mark(alloc)?;
     match rows.drain(&mut text) {
@@ -53,11 +55,14 @@ pub(crate) fn reply_if<G: Gate, T: Threads + Wait + Sync, O: Read, F: SiteFiles>
     ensures still { IsStill clerk.old clerk.new answers.old answers.new listed.new }
     ensures replied { RepliesIf is_asked (F.history answers.old.files) (F.history answers.new.files) result question.now
         (reply_text (reply_rows clerk.old.desk.site.place clerk.old.desk.site.state clerk.old.desk.answered question.now)) }
+    ensures fault { IfErr result IsFailure }
 {
     if !is_asked {
         return Ok(());
     }
-    let rows = answer(rt, clerk, listed, question)?;
+    let Ok(rows) = answer(rt, clerk, listed, question) else {
+        return Err(KeepFault::Memory);
+    };
     let text = text_of(answers.alloc(), rows)?;
     match answers.files.reply(question, &text) {
         Ok(()) => Ok(()),

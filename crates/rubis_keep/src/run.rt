@@ -1,11 +1,13 @@
 //! A site that keeps its records, and goes on where an earlier run was cut off.
 
-ghost use Rattle.std.specs.Prelude.{◌≡◌, ◌∷◌, ◌⊎◌, [], ℕ, IfSome, List, OnErr, OnOk, Some, false, map};
+ghost use Rattle.std.specs.Prelude.{◌≡◌, ◌∷◌, ◌⊎◌, [], ℕ, IfErr, IfSome, List, OnErr, OnOk, Some, false, map};
 ghost use Rattle.std.specs.List.{range_with_len};
 ghost use Rattle.rubis_engine.specs.Accounts.Ending.{AtEnd};
 ghost use Rattle.rubis_script.specs.SiteRuns.{told_by};
 ghost use Rattle.rubis_model.specs.Settle.{counted};
 ghost use Rattle.rubis_keep.specs.Asking.{RepliesTo};
+ghost use Rattle.rubis_keep.specs.Faults.{EndsTruly};
+ghost use Rattle.rubis_keep.specs.Files.{IsFailure, of_kept};
 ghost use Rattle.rubis_keep.specs.History.{Grows, HasDone, History, IsShown, StaysSafe, kept_in, now, out_in};
 ghost use Rattle.rubis_keep.specs.History.Event.{Began, CutTo, Flushed, Settled};
 ghost use Rattle.rubis_keep.specs.Kept.{Ended, Lived, Opens};
@@ -38,7 +40,9 @@ pub struct Recording<C, P> {
 }
 
 // A fault of the input, where the input is what was kept.
-fn of_kept(fault: KeepFault) -> KeepFault {
+fn of_kept(fault: KeepFault) -> KeepFault
+    ensures { result ≡ of_kept fault }
+{
     match fault {
         KeepFault::ReadInput(e) => KeepFault::ReadKept(e),
         other => other,
@@ -70,6 +74,7 @@ fn tell_replayed<G: Gate, F: SiteFiles>(clerk: &Clerk<G>, files: &mut F) -> Resu
     ensures ok { OnOk result (Grows (F.history files.old) (F.history files.new)
         (Settled ∷ Began clerk.now.desk.answered (map (λ i. counted i clerk.now.desk.site.state.log) (range_with_len 0 clerk.now.desk.site.place.sites)) ∷ [])) }
     ensures err { OnErr result (Grows (F.history files.old) (F.history files.new) [] ⊎ Grows (F.history files.old) (F.history files.new) (Settled ∷ [])) }
+    ensures fault { IfErr result IsFailure }
 {
     let site = &clerk.desk.site;
     let counts = counts_of(clerk.alloc, site.history(), clerk.desk.sites())?;
@@ -84,7 +89,8 @@ fn tell_replayed<G: Gate, F: SiteFiles>(clerk: &Clerk<G>, files: &mut F) -> Resu
 
 // Returns once what was kept before is as safe as it is to be: it is answered then.
 fn flush<F: SiteFiles>(files: &mut F) -> Result<(), KeepFault>
-    ensures { HasDone Flushed (F.history files.old) (F.history files.new) result }
+    ensures done { HasDone Flushed (F.history files.old) (F.history files.new) result }
+    ensures fault { IfErr result IsFailure }
 {
     match files.flush_kept() {
         Ok(()) => Ok(()),
@@ -96,6 +102,7 @@ fn flush<F: SiteFiles>(files: &mut F) -> Result<(), KeepFault>
 fn cut_and_flush<F: SiteFiles>(files: &mut F, len: u64) -> Result<(), KeepFault>
     ensures ok { OnOk result (Grows (F.history files.old) (F.history files.new) (CutTo len ∷ Flushed ∷ [])) }
     ensures err { OnErr result (Grows (F.history files.old) (F.history files.new) [] ⊎ Grows (F.history files.old) (F.history files.new) (CutTo len ∷ [])) }
+    ensures fault { IfErr result IsFailure }
 {
     match files.cut_kept(len) {
         Ok(()) => flush(files),
@@ -144,7 +151,7 @@ pub(crate) fn run_lines<
 ) -> Result<(), KeepFault>
     requires idle { IsIdle clerk.old.desk.window.items clerk.old.desk.reply.sink × HasReadNone lines.old × (clerk.old.desk.answered ≡ 0) }
     requires free { AreFree lines.old.pieces × ReadFor clerk.old.desk.site.place.sites lines.old.pieces }
-    ensures runs { Runs clerk.old.desk.site (C.remaining recording.old.first) (P.remaining recording.old.past) (O.remaining answers.old.before) answers.old.is_live
+    ensures runs { Runs clerk.old.desk.site clerk.old.limit (C.remaining recording.old.first) (P.remaining recording.old.past) (O.remaining answers.old.before) answers.old.is_live
         (R.remaining live.old) (R.remaining live.new) (F.history answers.old.files) (F.history answers.new.files) result }
     ensures readers { readers lines.new.pieces ≡ readers lines.old.pieces }
 {
@@ -164,7 +171,7 @@ fn run_alone<G: Gate, T: Threads + Wait + Sync, C: Read, P: Read, O: Read, F: Si
 ) -> Result<(), KeepFault>
     requires idle { IsIdle clerk.old.desk.window.items clerk.old.desk.reply.sink }
     requires answered { clerk.old.desk.answered ≡ 0 }
-    ensures { Runs clerk.old.desk.site (C.remaining recording.old.first) (P.remaining recording.old.past) (O.remaining answers.old.before) answers.old.is_live
+    ensures { Runs clerk.old.desk.site clerk.old.limit (C.remaining recording.old.first) (P.remaining recording.old.past) (O.remaining answers.old.before) answers.old.is_live
         (R.remaining live.old) (R.remaining live.new) (F.history answers.old.files) (F.history answers.new.files) result }
 {
     let unread = Unread::new(clerk.alloc, PIECE)?;
@@ -224,6 +231,9 @@ pub fn run_kept<
         (kept_in (F.history answers.old.files)) (O.remaining answers.old.before) (out_in (F.history answers.old.files))
         → RepliesTo clerk.old.desk.site.place clerk.old.desk.site.state kept (R.remaining live.old) (R.remaining live.new) (F.history answers.old.files)
         (F.history answers.new.files) result }
+    ensures fault { (kept old : List ℕ) → Opens kept old (C.remaining recording.old.first) (P.remaining recording.old.past)
+        (kept_in (F.history answers.old.files)) (O.remaining answers.old.before) (out_in (F.history answers.old.files))
+        → EndsTruly clerk.old.limit (told_by clerk.old.desk.site 1) kept old (R.remaining live.old) (R.remaining live.new) result }
 {
     if clerk.desk.plan.helpers > 0 {
         run_helped(rt, recording, live, clerk, answers)

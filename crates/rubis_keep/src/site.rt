@@ -6,6 +6,7 @@ ghost use Rattle.rubis_script.specs.Replica.{setup_place};
 ghost use Rattle.rubis_script.specs.SiteRuns.{site_account};
 ghost use Rattle.rubis_engine.specs.Accounts.Ending.{AtEnd};
 ghost use Rattle.rubis_keep.specs.Asking.{RepliesTo};
+ghost use Rattle.rubis_keep.specs.Faults.{EndsTruly};
 ghost use Rattle.rubis_keep.specs.History.{History, IsShown, StaysSafe, kept_in, now, out_in};
 ghost use Rattle.rubis_keep.specs.Kept.{Ended, Lived, Opens};
 ghost use Rattle.rubis_keep.specs.Lives.{IsOpened};
@@ -79,6 +80,9 @@ pub fn keep_site<T: Threads + Wait + Sync, C: Read, P: Read, O: Read, F: SiteFil
         (kept_in (F.history answers.old.files)) (O.remaining answers.old.before) (out_in (F.history answers.old.files))
         → RepliesTo (setup_place config.now) (opening_at config.now.site) kept (R.remaining live.old) (R.remaining live.new) (F.history answers.old.files)
         (F.history answers.new.files) result }
+    ensures fault { (kept old : List ℕ) → Opens kept old (C.remaining recording.old.first) (P.remaining recording.old.past)
+        (kept_in (F.history answers.old.files)) (O.remaining answers.old.before) (out_in (F.history answers.old.files))
+        → EndsTruly limit (site_account (setup_place config.now) (opening_at config.now.site) 1) kept old (R.remaining live.old) (R.remaining live.new) result }
 {
     let mut clerk = Clerk::new(answers.alloc(), config, Free, limit)?;
     let ended = run_kept(rt, recording, live, &mut clerk, answers);

@@ -1,7 +1,8 @@
 //! What of an input was read and isn't looked at yet.
 
-ghost use Rattle.std.specs.Prelude.{◌≡◌, ◌<◌, ◌≤◌, [], IfOk, drop, false, length, true};
+ghost use Rattle.std.specs.Prelude.{◌≡◌, ◌<◌, ◌≤◌, [], IfErr, IfOk, drop, false, length, true};
 ghost use Rattle.std.specs.Io.KnownBytes.{Consumes, IsAtEnd};
+ghost use Rattle.rubis_keep.specs.Files.{IsFailure};
 ghost use Rattle.rubis_keep.specs.Kept.{left_of};
 
 use crate::fault::KeepFault;
@@ -70,6 +71,7 @@ impl Unread {
         ensures same { Consumes (left_of self.old (R.remaining live.old)) (left_of self.new (R.remaining live.new)) [] }
         ensures end { IfOk result (λ more. more ≡ false → (self.new ≡ []) × IsAtEnd (R.remaining live.new)) }
         ensures more { IfOk result (λ more. more ≡ true → 0 < length self.new) }
+        ensures fault { IfErr result IsFailure }
     {
         if self.at < self.end {
             return Ok(true);

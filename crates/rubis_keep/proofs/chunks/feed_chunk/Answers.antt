@@ -15,6 +15,7 @@ returns-then-is_empty-clause-chunk g c =
       err = tt;
       told = (refl, ([], tells-none _ _));
       leads = led-nowhere c.args.clerk.now.desk.site _ c.args.chunk.now none;
+      fault = record { same = refl; within = λ l. l };
     }
 
 pub returns-then-is_empty-clause-read : goal.returns-then-is_empty-clause-read
@@ -24,7 +25,7 @@ returns-then-is_empty-clause-read g c =
 
 pub returns-in_err-feed_all-clause-chunk : goal.returns-in_err-feed_all-clause-chunk
 returns-in_err-feed_all-clause-chunk g c =
-    chunk-failed _ _ c.args.chunk.now _ _ _ _ c.from_residual.result c.from_residual.ensures.0 c.requires.text.1 c.requires.text.0 c.in_err-feed_all.ensures.fed
+    chunk-failed _ _ c.args.chunk.now _ _ _ _ c.from_residual.result _ c.from_residual.ensures.0 c.from_residual.ensures.1 c.requires.text.1 c.requires.text.0 c.in_err-feed_all.ensures.fed
 
 pub returns-clause-chunk : goal.returns-clause-chunk
 returns-clause-chunk g c =

@@ -2,7 +2,8 @@ use Rattle.std.proofs.Common.{◌-◌, drop, refl, take}
 use Rattle.rubis_engine.specs.Text.{input_records}
 use Rattle.rubis_keep.proofs.ReadersFacts.{front-broken, front-fails, front-more, front-read, front-starts, given-on, kept-more, takes-none, takes-one}
 use Rattle.rubis_keep.proofs.SafeFacts.{ok-of-err}
-use Rattle.rubis_keep.proofs.AskFacts.{on_fault}
+use Rattle.rubis_keep.proofs.FaultFacts.{err-is}
+use Rattle.rubis_keep.specs.declared.fault.KeepFault.TheVariants as fault
 use Rattle.rubis_keep.proofs.chunks.feed_pieces.Goals as goal
 
 pub loop-turn-init : goal.loop-turn-init
@@ -19,7 +20,7 @@ next-requires-in-loop-turn g c = (drop c.loop-turn.passed c.args.chunk.now, c.lo
 
 pub returns-in_err-piece-clause-fed : goal.returns-in_err-piece-clause-fed
 returns-in_err-piece-clause-fed g c =
-    on_fault _ c.from_residual.result c.from_residual.ensures.0 (front-fails _ _ _ c.loop-turn.passed _ _ _ _ c.loop-turn.invariant.fed)
+    err-is _ _ c.from_residual.result fault.Memory c.from_residual.ensures.1 (front-fails _ _ _ c.loop-turn.passed _ _ _ _ fault.Memory c.loop-turn.invariant.fed tt)
 
 pub returns-in_err-piece-clause-read : goal.returns-in_err-piece-clause-read
 returns-in_err-piece-clause-read g c = (
@@ -48,8 +49,8 @@ returns-in_err-feed_read-clause-fed g c =
     let text = drop c.loop-turn.passed c.args.chunk.now in
     let one = takes-one text c.in_ok-piece.field-0 c.in-Some-2.piece c.next-in-loop-turn.new.self (c.in_ok-piece.ensures.first text c.loop-turn.invariant.given) c.in-Some-2.is in
     let kept = kept-more c.args.pieces.now c.loop-turn.pieces c.next-in-loop-turn.new.self c.loop-turn.invariant.kept c.in_ok-piece.ensures.setup in
-    on_fault _ c.from_residual-in_err-feed_read.result c.from_residual-in_err-feed_read.ensures.0
-    (front-broken _ _ _ c.loop-turn.passed c.in-Some-2.piece.many _ _ _ _ _ c.loop-turn.invariant.fed one.0
+    err-is _ _ c.from_residual-in_err-feed_read.result _ c.from_residual-in_err-feed_read.ensures.1
+    (front-broken _ _ _ c.loop-turn.passed c.in-Some-2.piece.many _ _ _ _ _ _ c.loop-turn.invariant.fed one.0
     (c.in_err-feed_read.ensures (input_records (take c.in-Some-2.piece.many text))
     (front-read _ _ _ c.loop-turn.passed _ _ _ _ c.args.pieces.now c.next-in-loop-turn.new.self _ _ c.loop-turn.invariant.fed kept c.requires.fits one.1.0)))
 

@@ -1,7 +1,7 @@
 use Rattle.std.proofs.Common.{◌∙◌, drop, take, arith, subst, sym}
 use Rattle.std.proofs.lemmas.List.{length-take, take-append-le}
 use Rattle.std.specs.Io.KnownBytes.{Consumes}
-use Rattle.rubis_keep.proofs.DifferenceFacts.{has-difference, if-differs-more}
+use Rattle.rubis_keep.proofs.DifferenceFacts.{has-difference, may-differ-more}
 use Rattle.rubis_keep.proofs.FileFacts.{consumes-front, differs-later, front-consumed}
 use Rattle.rubis_keep.proofs.comparing.compare.Goals as goal
 
@@ -11,10 +11,10 @@ returns-then-not-is_same-clause-differs g c =
     let rest = drop c.min-most.result c.loop-turn.buffer in
     let came = sym (take-append-le c.in-Ok.given buffer rest c.in-Ok.ensures.bound.0) in
     let front = front-consumed _ _ _ _ _ c.loop-turn.invariant.1
-        (subst (Consumes (g.O.Read.remaining c.loop-turn.before) (g.O.Read.remaining c.read_through_signals.new.reader)) came c.in-Ok.ensures.bytes.0) in
-    if-differs-more c.differ.result _ _ (λ d told. has-difference _ _ c.args.text.now c.args.lines d
-        front (differs-later c.loop-turn.at c.in-Ok.given c.args.text.now _ c.loop-turn.invariant.0 (c.is_same.ensures.differ c.if-not-is_same.true)) told)
-        c.differ.ensures
+    (subst (Consumes (g.O.Read.remaining c.loop-turn.before) (g.O.Read.remaining c.read_through_signals.new.reader)) came c.in-Ok.ensures.bytes.0) in
+    may-differ-more c.differ.result _ _ (λ d told. has-difference _ _ c.args.text.now c.args.lines d
+    front (differs-later c.loop-turn.at c.in-Ok.given c.args.text.now _ c.loop-turn.invariant.0 (c.is_same.ensures.differ c.if-not-is_same.true)) told)
+    c.differ.ensures
 
 pub loop-turn-preserved : goal.loop-turn-preserved
 loop-turn-preserved g c =

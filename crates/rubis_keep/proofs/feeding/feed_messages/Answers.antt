@@ -24,9 +24,9 @@ messages-preserved g c rows inputs =
 
 pub returns-in_err-feed_input : goal.returns-in_err-feed_input
 returns-in_err-feed_input g c rows inputs =
-    feeds-failed _ _ rows _ _ _ _ c.from_residual.result c.from_residual.ensures.0
+    feeds-failed _ _ rows _ _ _ _ c.from_residual.result _ c.from_residual.ensures.1
     (some-fails _ _ rows (all_came (into_iter_items c.messages.rest)) (Came (Msg c.in-Some.message) ∷ []) (all_came (into_iter_items c.next.new.self)) c.args.clerk.now c.messages.clerk
-    c.args.answers.now c.messages.answers c.feed_input.new.answers (c.messages.invariant rows inputs)
+    c.args.answers.now c.messages.answers c.feed_input.new.answers _ (c.messages.invariant rows inputs)
     (ap all_came c.in-Some.ensures.items) c.in_err-feed_input.ensures)
 
 pub returns : goal.returns

@@ -22,9 +22,9 @@ stretches-preserved g c rows inputs =
 
 pub returns-in_err-feed_stretch : goal.returns-in_err-feed_stretch
 returns-in_err-feed_stretch g c rows inputs =
-    feeds-failed _ _ rows _ _ _ _ c.from_residual.result c.from_residual.ensures.0
+    feeds-failed _ _ rows _ _ _ _ c.from_residual.result _ c.from_residual.ensures.1
     (some-fails _ _ rows (flat (into_iter_items c.stretches.rest)) (of_stretch c.in-Some.stretch) (flat (into_iter_items c.next.new.self)) c.args.clerk.now c.stretches.clerk
-    c.args.answers.now c.stretches.answers c.feed_stretch.new.answers (c.stretches.invariant rows inputs)
+    c.args.answers.now c.stretches.answers c.feed_stretch.new.answers _ (c.stretches.invariant rows inputs)
     (ap flat c.in-Some.ensures.items) c.in_err-feed_stretch.ensures)
 
 pub returns : goal.returns

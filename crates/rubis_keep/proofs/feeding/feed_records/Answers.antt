@@ -2,6 +2,7 @@ use Rattle.std.proofs.Common.{[], ◌∷◌, false, subst, true}
 use Rattle.rubis_engine.specs.Reading.{fields_now}
 use Rattle.rubis_engine.proofs.RunFacts.{takes-at}
 use Rattle.rubis_message.specs.Inputs.{IsInput}
+use Rattle.rubis_keep.specs.declared.fault.KeepFault.TheVariants as fault
 use Rattle.rubis_keep.proofs.FedFacts.{fails-sooner, fed-fails, fed-none, feeds-failed, given-all, given-fails, given-next, given-starts, given-stops, one-input}
 use Rattle.rubis_keep.proofs.feeding.feed_records.Goals as goal
 
@@ -14,14 +15,15 @@ loop-turn-init g c = record {
 
 pub returns-in_err-advance : goal.returns-in_err-advance
 returns-in_err-advance g c rows gives =
-    feeds-failed _ _ rows _ _ _ _ c.from_residual.result c.from_residual.ensures.0 (given-stops _ _ _ _ rows _ _ _ _ (c.loop-turn.invariant.fed rows gives))
+    feeds-failed _ _ rows _ _ _ _ c.from_residual.result fault.Memory c.from_residual.ensures.1
+    (given-stops _ _ _ _ rows _ _ _ _ fault.Memory (c.loop-turn.invariant.fed rows gives) tt)
 
 pub returns-in_err-read : goal.returns-in_err-read
 returns-in_err-read g c rows gives =
     let found = takes-at _ c.loop-turn.records c.advance.new.self _ true c.if-not-branch.false c.in_ok-advance.ensures.takes in
-    feeds-failed _ _ rows _ _ _ _ c.from_residual-in_err-read.result c.from_residual-in_err-read.ensures.0
-    (given-fails _ _ _ c.loop-turn.records c.advance.new.self rows _ _ _ _ _ (c.loop-turn.invariant.fed rows gives) found
-    (fails-sooner _ _ [] (fields_now c.advance.new.self ∷ []) _ _ _ (fed-fails _ _ [] _ _ _ _ (fed-none _ _ _ _))))
+    feeds-failed _ _ rows _ _ _ _ c.from_residual-in_err-read.result fault.Memory c.from_residual-in_err-read.ensures.1
+    (given-fails _ _ _ c.loop-turn.records c.advance.new.self rows _ _ _ _ _ fault.Memory (c.loop-turn.invariant.fed rows gives) found
+    (fails-sooner _ _ [] (fields_now c.advance.new.self ∷ []) _ _ _ fault.Memory (fed-fails _ _ [] _ _ _ _ fault.Memory (fed-none _ _ _ _) tt)))
 
 pub feed_input-requires-clause-fits : goal.feed_input-requires-clause-fits
 feed_input-requires-clause-fits g c κs within = c.in_ok-read.ensures.fits
@@ -31,8 +33,8 @@ returns-in_err-feed_input g c rows gives =
     let found = takes-at _ c.loop-turn.records c.advance.new.self _ true c.if-not-branch.false c.in_ok-advance.ensures.takes in
     let is = subst (λ f. IsInput c.loop-turn.clerk.desk.site.place.sites f c.in_ok-read.read) c.fields.ensures c.in_ok-read.ensures in
     let fields = fields_now c.advance.new.self in
-    feeds-failed _ _ rows _ _ _ _ c.from_residual-in_err-feed_input.result c.from_residual-in_err-feed_input.ensures.0
-    (given-fails _ _ _ c.loop-turn.records c.advance.new.self rows _ _ _ _ _ (c.loop-turn.invariant.fed rows gives) found
+    feeds-failed _ _ rows _ _ _ _ c.from_residual-in_err-feed_input.result _ c.from_residual-in_err-feed_input.ensures.1
+    (given-fails _ _ _ c.loop-turn.records c.advance.new.self rows _ _ _ _ _ _ (c.loop-turn.invariant.fed rows gives) found
     (c.in_err-feed_input.ensures (fields ∷ []) (one-input _ fields c.in_ok-read.read is)))
 
 pub loop-turn-preserved : goal.loop-turn-preserved

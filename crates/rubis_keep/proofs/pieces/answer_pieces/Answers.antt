@@ -2,6 +2,7 @@ use Rattle.std.proofs.Common.{◌∙◌, [], refl, rules}
 use Rattle.std.proofs.lemmas.Bool.{MatchBool-at_false}
 use Rattle.rubis_keep.proofs.AskFacts.{on_fault}
 use Rattle.rubis_keep.proofs.EachFacts.{on_err}
+use Rattle.rubis_keep.proofs.FaultFacts.{err-is, gone-caused, within-more}
 use Rattle.rubis_keep.proofs.HistoryFacts.{tells-later, tells-none, told-failed, told-more}
 use Rattle.rubis_keep.proofs.SafeFacts.{lives-err, lives-known, lives-more, lives-start, ok-of-err}
 use Rattle.rubis_keep.proofs.StandFacts.{gone-failed}
@@ -18,6 +19,7 @@ loop-turn-init g c = record {
   told = λ off. (refl, ([], tells-none _ _));
   safe = λ keeps live. lives-start _ _ _ _;
   asked = λ p s0 kept line input0 h0 a. a;
+  within = record { same = refl; within = λ l. l };
 }
 
 pub loop-turn-preserved : goal.loop-turn-preserved
@@ -39,6 +41,7 @@ loop-turn-preserved g c =
           lives-known _ _ _ _ _ _ _ _ c.next_piece.result _ c.in_ok-next_piece.was
           (lives-more _ _ _ _ _ _ _ _ _ _ _ _ c.next_piece.result (before.safe keeps live) (c.next_piece.ensures.goes.safe keeps (before.live ∙ live)));
       asked = λ p s0 kept line input0 h0 a. went.asked p s0 kept line input0 h0 (before.asked p s0 kept line input0 h0 a);
+      within = within-more _ _ _ _ _ _ before.within went.fault;
     }
 
 -- a piece could not be kept or answered
@@ -60,6 +63,8 @@ returns-in_err-next_piece-clause-goes g c =
           lives-err _ _ _ _ _ _ _ _ c.next_piece.result c.from_residual.result bad
           (lives-more _ _ _ _ _ _ _ _ _ _ _ _ c.next_piece.result (before.safe keeps live) (c.next_piece.ensures.goes.safe keeps (before.live ∙ live)));
       asked = on_fault _ c.from_residual.result bad (λ p s0 kept line input0 h0 a. failed.asked p s0 kept line input0 h0 (before.asked p s0 kept line input0 h0 a));
+      fault = err-is _ _ c.from_residual.result _ c.from_residual.ensures.1
+          (gone-caused _ _ _ _ _ _ _ _ _ _ _ _ _ _ _ _ _ _ _ _ _ before.within.same before.stands failed.fault);
     }
 
 -- the input has ended
@@ -81,6 +86,7 @@ returns-then-not-branch-clause-goes g c =
           lives-known _ _ _ _ _ _ _ _ c.next_piece.result _ c.in_ok-next_piece.was
           (lives-more _ _ _ _ _ _ _ _ _ _ _ _ c.next_piece.result (before.safe keeps live) (c.next_piece.ensures.goes.safe keeps (before.live ∙ live)));
       asked = λ p s0 kept line input0 h0 a. went.asked p s0 kept line input0 h0 (before.asked p s0 kept line input0 h0 a);
+      fault = within-more _ _ _ _ _ _ before.within went.fault;
     }
 
 pub returns-then-not-branch-clause-end : goal.returns-then-not-branch-clause-end

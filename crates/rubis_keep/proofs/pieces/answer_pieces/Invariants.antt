@@ -1,5 +1,6 @@
 use Rattle.std.proofs.Common.{◌≡◌, ◌+◌, [], ℕ, List, false, true}
 use Rattle.rubis_script.specs.SiteRuns.{told_by}
+use Rattle.rubis_keep.specs.Faults.{StaysWithin}
 use Rattle.rubis_keep.specs.History.{Tells, log_of, out_in}
 use Rattle.rubis_keep.specs.Lives.{Lives}
 use Rattle.rubis_keep.specs.Standing.{IsAtRest, standing}
@@ -33,4 +34,5 @@ invariant-loop-turn g l =
       asked : OfEachAsking l.keeps (left_of l.fn.lines.unread (input l.fn.live)) (history l.fn.answers.files) l.fn.lines.cutter old.desk.site old.desk.answered
           (λ p s0 kept line input0 h0. Asks l.keeps p s0 kept line input0 (left_of l.lines.unread (input l.live)) h0 (history l.answers.files) l.lines.cutter
           new.desk.site new.desk.answered []);
+      within : StaysWithin old.limit old.desk.answered new.limit new.desk.answered;
     }

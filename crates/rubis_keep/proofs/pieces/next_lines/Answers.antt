@@ -6,6 +6,8 @@ use Rattle.csv.proofs.WriteFacts.{appends-none}
 use Rattle.rubis_keep.proofs.ReadersFacts.{read-on}
 use Rattle.rubis_keep.proofs.AskFacts.{each-asks, each-fails, each-fails-unread, front-silent, kept-silent, on_fault, silent-more, silent-none, told-silent}
 use Rattle.rubis_keep.proofs.EachFacts.{on_err}
+use Rattle.rubis_keep.proofs.FaultFacts.{each-caused, each-failure, err-is}
+use Rattle.rubis_keep.specs.declared.fault.KeepFault.TheVariants as fault
 use Rattle.rubis_engine.proofs.FrontFacts.{front-kept as appends-kept}
 use Rattle.rubis_keep.proofs.HistoryFacts.{kept-log, kept-out, told-after, told-failed, told-log, told_none, tells-after, tells-none, torn-log, torn-out}
 use Rattle.rubis_keep.proofs.PageFacts.{listed-after}
@@ -19,12 +21,14 @@ pub returns-in_err-came-clause-goes : goal.returns-in_err-came-clause-goes
 returns-in_err-came-clause-goes g c = record {
   rests = ok-of-err _ c.from_residual.result c.from_residual.ensures.0;
   ok = ok-of-err _ c.from_residual.result c.from_residual.ensures.0;
-  err = on_err _ (each-unkept _ _ _ _ _ _ _ _ _ _ _ (λ line e. unread-front _ line _ _ _ (c.in_err-came.ensures.err line e)));
+  err = on_err _ (each-unkept _ _ _ _ _ _ _ _ _ _ _ (λ line e. unread-front _ line _ _ _ (c.in_err-came.ensures.err.1 line e)));
   live = refl;
   readers = ap readers c.read_next.ensures.others.2;
   told = λ off. told_none _ _ c.from_residual.result;
   safe = λ keeps live. lives-none _ _ _ _ _ _ _ c.from_residual.result c.from_residual.ensures.0;
-  asked = on_fault _ c.from_residual.result c.from_residual.ensures.0 (each-fails-unread _ _ _ _ _ _ _ _ c.in_err-came.ensures.err (silent-none _));
+  asked = on_fault _ c.from_residual.result c.from_residual.ensures.0 (each-fails-unread _ _ _ _ _ _ _ _ c.in_err-came.ensures.err.1 (silent-none _));
+  fault = err-is _ _ c.from_residual.result _ c.from_residual.ensures.1 (each-failure _ c.args.clerk.now.limit _ _ _ _ _ _ _ _ _ _ c.in_err-came.ensures.err.0
+      (λ line e. let f = c.in_err-came.ensures.err.1 line e in (f.0, f.1)));
 }
 
 pub give_chunk-requires : goal.give_chunk-requires
@@ -44,6 +48,9 @@ returns-in_err-give_chunk-clause-goes g c =
       told = λ off. told_none _ _ c.from_residual-in_err-give_chunk.result;
       safe = λ keeps live. lives-none _ _ _ _ _ _ _ c.from_residual-in_err-give_chunk.result bad;
       asked = on_fault _ c.from_residual-in_err-give_chunk.result bad (each-fails _ _ _ _ _ _ _ _ _ _ _ _ _ c.in_ok-came.ensures.ok (silent-none _));
+      fault = err-is _ _ c.from_residual-in_err-give_chunk.result _ c.from_residual-in_err-give_chunk.ensures.1
+          (each-failure _ c.args.clerk.now.limit _ _ _ _ _ _ _ _ _ _ c.in_err-give_chunk.ensures.2
+          (λ line e. let t = (c.in_ok-came.ensures.ok line e).0 in (t.bytes, t.taken)));
     }
 
 -- what came could not be kept
@@ -51,7 +58,7 @@ pub returns-in_err-keep_chunk-clause-goes : goal.returns-in_err-keep_chunk-claus
 returns-in_err-keep_chunk-clause-goes g c =
     let begun = c.requires.begun in
     let t = (c.in_ok-came.ensures.ok begun.0 begun.2).0 in
-    let torn = rw c.deref-2.ensures.value at c.in_err-keep_chunk.ensures in
+    let torn = rw c.deref-2.ensures.value at c.in_err-keep_chunk.ensures.kept in
     let bad = c.from_residual-in_err-keep_chunk.ensures.0 in
     record {
       rests = ok-of-err _ c.from_residual-in_err-keep_chunk.result bad;
@@ -60,10 +67,13 @@ returns-in_err-keep_chunk-clause-goes g c =
           (λ line e. torn-front _ line _ _ _ _ _ _ _ (c.in_ok-came.ensures.ok line e).0 (torn-log _ _ _ _ torn.0 torn.1 torn.2 torn.3)));
       live = refl;
       readers = c.give_chunk.ensures.0 ∙ ap readers c.read_next.ensures.others.2;
-      told = λ off. absurd (cc (off, c.in_err-keep_chunk.ensures.0));
+      told = λ off. absurd (cc (off, c.in_err-keep_chunk.ensures.kept.0));
       safe = λ keeps live. lives-torn _ _ _ _ _ _ _ _ c.read_next.new.lines.chunk.items torn.1 c.from_residual-in_err-keep_chunk.result bad
           (piece-lines _ begun.0 t.bytes _ begun.1 t.holds) torn.3;
-      asked = on_fault _ c.from_residual-in_err-keep_chunk.result bad (each-fails _ _ _ _ _ _ _ _ _ _ _ _ _ c.in_ok-came.ensures.ok (front-silent _ _ _ c.in_err-keep_chunk.ensures.3));
+      asked = on_fault _ c.from_residual-in_err-keep_chunk.result bad (each-fails _ _ _ _ _ _ _ _ _ _ _ _ _ c.in_ok-came.ensures.ok (front-silent _ _ _ c.in_err-keep_chunk.ensures.kept.3));
+      fault = err-is _ _ c.from_residual-in_err-keep_chunk.result _ c.from_residual-in_err-keep_chunk.ensures.1
+          (each-failure _ c.args.clerk.now.limit _ _ _ _ _ _ _ _ _ _ c.in_err-keep_chunk.ensures.fault
+          (λ line e. let t = (c.in_ok-came.ensures.ok line e).0 in (t.bytes, t.taken)));
     }
 
 -- what is kept is longer than can be said
@@ -71,7 +81,7 @@ pub returns-in_default-clause-goes : goal.returns-in_default-clause-goes
 returns-in_default-clause-goes g c =
     let begun = c.requires.begun in
     let t = (c.in_ok-came.ensures.ok begun.0 begun.2).0 in
-    let kept = rw c.deref-2.ensures.value at c.in_ok-keep_chunk.ensures in
+    let kept = rw c.deref-2.ensures.value at c.in_ok-keep_chunk.ensures.kept in
     record {
       rests = tt;
       ok = tt;
@@ -80,10 +90,12 @@ returns-in_default-clause-goes g c =
           (unanswered-kept _ _ _ _ _ _ (kept-out _ _ _ _ kept) (took-whole _ begun.0 [] _ _ _ _ _ _ _ t));
       live = refl;
       readers = c.give_chunk.ensures.0 ∙ ap readers c.read_next.ensures.others.2;
-      told = λ off. (refl, ([], [], tells-after _ _ _ _ [] [] (rw off at c.in_ok-keep_chunk.ensures) (tells-none _ _)));
+      told = λ off. (refl, ([], [], tells-after _ _ _ _ [] [] (rw off at c.in_ok-keep_chunk.ensures.kept) (tells-none _ _)));
       safe = λ keeps live all h is rested.
           (piece-unanswered all _ _ _ h _ c.read_next.new.lines.chunk.items rested (piece-lines _ begun.0 t.bytes _ begun.1 t.holds) (rw is at (rw keeps at kept)), tt);
-      asked = each-fails _ _ _ _ _ _ _ _ _ _ _ _ _ c.in_ok-came.ensures.ok (kept-silent _ _ _ _ c.in_ok-keep_chunk.ensures);
+      asked = each-fails _ _ _ _ _ _ _ _ _ _ _ _ _ c.in_ok-came.ensures.ok (kept-silent _ _ _ _ c.in_ok-keep_chunk.ensures.kept);
+      fault = each-failure _ c.args.clerk.now.limit _ _ _ _ _ _ _ _ _ fault.Memory tt
+          (λ line e. let t = (c.in_ok-came.ensures.ok line e).0 in (t.bytes, t.taken));
     }
 
 pub feed_chunk-requires-clause-text : goal.feed_chunk-requires-clause-text
@@ -104,7 +116,7 @@ pub returns-in_err-feed_chunk-clause-goes : goal.returns-in_err-feed_chunk-claus
 returns-in_err-feed_chunk-clause-goes g c =
     let begun = c.requires.begun in
     let t = (c.in_ok-came.ensures.ok begun.0 begun.2).0 in
-    let kept = rw c.deref-2.ensures.value at c.in_ok-keep_chunk.ensures in
+    let kept = rw c.deref-2.ensures.value at c.in_ok-keep_chunk.ensures.kept in
     let bad = c.from_residual-in_err-feed_chunk.ensures.0 in
     record {
       rests = ok-of-err _ c.from_residual-in_err-feed_chunk.result bad;
@@ -115,14 +127,17 @@ returns-in_err-feed_chunk-clause-goes g c =
           (each-kept _ _ _ _ _ _ (kept-out _ _ _ _ kept) (rw c.deref-4.ensures.value at c.in_err-feed_chunk.ensures.chunk.err)));
       live = c.feed_chunk.ensures.chunk.told.0;
       readers = c.feed_chunk.ensures.read.0 ∙ c.give_chunk.ensures.0 ∙ ap readers c.read_next.ensures.others.2;
-      told = λ off. told-after _ _ _ _ _ c.from_residual-in_err-feed_chunk.result (rw off at c.in_ok-keep_chunk.ensures)
+      told = λ off. told-after _ _ _ _ _ c.from_residual-in_err-feed_chunk.result (rw off at c.in_ok-keep_chunk.ensures.kept)
           (told-failed _ _ _ _ c.from_residual-in_err-feed_chunk.result bad c.in_err-feed_chunk.ensures.chunk.told);
       safe = λ keeps live. lives-err _ _ _ _ _ _ _ _ c.feed_chunk.result c.from_residual-in_err-feed_chunk.result bad
           (piece-safe _ _ _ _ _ _ _ _ _ c.read_next.new.lines.chunk.items _ _ c.feed_chunk.result live (piece-lines _ begun.0 t.bytes _ begun.1 t.holds)
           (rw keeps at kept) c.feed_chunk.ensures.chunk.told (rw c.deref-4.ensures.value at c.feed_chunk.ensures.chunk.ok)
           (rw c.deref-4.ensures.value at c.feed_chunk.ensures.chunk.err));
       asked = on_fault _ c.from_residual-in_err-feed_chunk.result bad (each-fails _ _ _ _ _ _ _ _ _ _ _ _ _ c.in_ok-came.ensures.ok
-          (silent-more _ _ _ (kept-silent _ _ _ _ c.in_ok-keep_chunk.ensures) (told-silent _ _ _ _ c.feed_chunk.result c.feed_chunk.ensures.chunk.told)));
+          (silent-more _ _ _ (kept-silent _ _ _ _ c.in_ok-keep_chunk.ensures.kept) (told-silent _ _ _ _ c.feed_chunk.result c.feed_chunk.ensures.chunk.told)));
+      fault = err-is _ _ c.from_residual-in_err-feed_chunk.result _ c.from_residual-in_err-feed_chunk.ensures.1
+          (each-caused _ c.args.clerk.now.limit _ _ _ _ _ _ _ _ _ _ c.read_next.new.lines.chunk.items _ _ _ _ (λ line e. (c.in_ok-came.ensures.ok line e).0)
+          (each-kept _ _ _ _ _ _ (kept-out _ _ _ _ kept) (rw c.deref-4.ensures.value at c.in_err-feed_chunk.ensures.chunk.fault)));
     }
 
 -- it was
@@ -130,7 +145,7 @@ pub returns-clause-goes : goal.returns-clause-goes
 returns-clause-goes g c =
     let begun = c.requires.begun in
     let t = (c.in_ok-came.ensures.ok begun.0 begun.2).0 in
-    let kept = rw c.deref-2.ensures.value at c.in_ok-keep_chunk.ensures in
+    let kept = rw c.deref-2.ensures.value at c.in_ok-keep_chunk.ensures.kept in
     let led = rw c.deref-4.ensures.value at c.in_ok-feed_chunk.ensures.chunk.leads in
     record {
       rests = record {
@@ -153,13 +168,14 @@ returns-clause-goes g c =
       readers = c.feed_chunk.ensures.read.0 ∙ c.give_chunk.ensures.0 ∙ ap readers c.read_next.ensures.others.2;
       told = λ off.
           let told = c.in_ok-feed_chunk.ensures.chunk.told in
-          (told.0, (told.1.0, tells-after _ _ _ _ told.1.0 [] (rw off at c.in_ok-keep_chunk.ensures) told.1.1));
+          (told.0, (told.1.0, tells-after _ _ _ _ told.1.0 [] (rw off at c.in_ok-keep_chunk.ensures.kept) told.1.1));
       safe = λ keeps live. lives-known _ _ _ _ _ _ _ _ c.feed_chunk.result _ c.in_ok-feed_chunk.was
           (piece-safe _ _ _ _ _ _ _ _ _ c.read_next.new.lines.chunk.items _ _ c.feed_chunk.result live (piece-lines _ begun.0 t.bytes _ begun.1 t.holds)
           (rw keeps at kept) c.feed_chunk.ensures.chunk.told (rw c.deref-4.ensures.value at c.feed_chunk.ensures.chunk.ok)
           (rw c.deref-4.ensures.value at c.feed_chunk.ensures.chunk.err));
       asked = each-asks _ _ _ _ _ _ _ _ _ _ _ _ _ _ _ c.in_ok-came.ensures.ok
-          (silent-more _ _ _ (kept-silent _ _ _ _ c.in_ok-keep_chunk.ensures) (told-silent _ _ _ _ c.feed_chunk.result c.feed_chunk.ensures.chunk.told)) led;
+          (silent-more _ _ _ (kept-silent _ _ _ _ c.in_ok-keep_chunk.ensures.kept) (told-silent _ _ _ _ c.feed_chunk.result c.feed_chunk.ensures.chunk.told)) led;
+      fault = c.in_ok-feed_chunk.ensures.chunk.fault;
     }
 
 pub returns-clause-end : goal.returns-clause-end

@@ -1,6 +1,7 @@
 use Rattle.std.proofs.Common.{◌∙◌, ◌+◌, ap}
 use Rattle.rubis_keep.proofs.AskFacts.{on_fault}
 use Rattle.rubis_keep.proofs.EachFacts.{on_err}
+use Rattle.rubis_keep.proofs.FaultFacts.{err-is, late-failure, within-still}
 use Rattle.rubis_keep.proofs.HistoryFacts.{told-failed}
 use Rattle.rubis_keep.proofs.ReplyFacts.{each-replied, each-unreplied, lives-any, lives-join, not-asked, replied-still, reply-lives, still-log, told-on, told-same}
 use Rattle.rubis_keep.proofs.SafeFacts.{lives-err, lives-known, lives-more, ok-of-err}
@@ -22,6 +23,7 @@ returns-in_err-came-clause-goes g c =
       told = λ off. told-failed _ _ _ _ c.from_residual.result bad (failed.told off);
       safe = λ keeps live. lives-err _ _ _ _ _ _ _ _ c.next_lines.result c.from_residual.result bad (c.next_lines.ensures.goes.safe keeps live);
       asked = on_fault _ c.from_residual.result bad failed.asked;
+      fault = err-is _ _ c.from_residual.result _ c.from_residual.ensures.1 failed.fault;
     }
 
 -- the question could not be answered
@@ -47,6 +49,8 @@ returns-in_err-reply_if-clause-goes g c =
           (ap g.O.Read.remaining c.reply_if.ensures.still.before.0) (ap (λ n. n + 1) same.answered) (none-told-at-end mid.site (mid.answered + 1))));
       asked = on_fault _ c.from_residual-in_err-reply_if.result bad
           (each-unreplied _ _ _ _ _ _ _ _ _ _ _ _ _ _ went.asked (rw c.deref.ensures.value at c.in_err-reply_if.ensures.replied));
+      fault = err-is _ _ c.from_residual-in_err-reply_if.result _ c.from_residual-in_err-reply_if.ensures.1
+          (late-failure _ c.args.clerk.now.limit _ _ _ _ _ _ _ _ _ _ _ _ _ _ _ _ _ c.in_err-reply_if.ensures.fault went.ok);
     }
 
 -- it was
@@ -83,4 +87,5 @@ returns-clause-goes g c =
           (ap g.O.Read.remaining c.reply_if.ensures.still.before.0) (ap (λ n. n + 1) same.answered) (none-told-at-end mid.site (mid.answered + 1)));
       asked = each-replied _ _ _ _ _ _ _ _ _ _ _ _ _ _ _ _ went.asked (rw c.deref.ensures.value at c.in_ok-reply_if.ensures.replied) same.place same.state
           same.answered;
+      fault = within-still _ _ _ _ _ _ went.fault same.limit same.answered;
     }

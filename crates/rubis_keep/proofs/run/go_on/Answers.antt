@@ -1,6 +1,7 @@
 use Rattle.std.proofs.Common.{◌+◌, [], refl}
 use Rattle.rubis_keep.proofs.AskFacts.{go-replies, replies-none, silent-begun, silent-cut, silent-more, silent-unbegun, silent-uncut}
 use Rattle.rubis_keep.proofs.EachFacts.{on_err, on_err_weaker, on_ok_both}
+use Rattle.rubis_keep.proofs.EndFacts.{ends-unread, failure-true, go-ends}
 use Rattle.rubis_keep.proofs.LifeFacts.{go-err-read, go-ok-read, none-unread}
 use Rattle.rubis_keep.proofs.SafeFacts.{ok-of-err}
 use Rattle.rubis_keep.proofs.StartFacts.{begin-fails, begun-cut, cut-fails, go-safe, go-safe-uncut, go-safe-untold, go-shown}
@@ -18,6 +19,8 @@ returns-in_err-cut_and_flush-clause-lives g c =
       safe = λ all kept old h is sound found r. go-safe-uncut all _ kept old _ h _ _ _ sound found (rw is at r) (rw is at cut);
       shown = λ all kept old h is sound found r. ok-of-err _ c.from_residual.result bad;
       asked = λ p s kept sound led. replies-none p s kept _ _ _ c.from_residual.result bad (silent-uncut _ _ _ cut);
+      fault = λ all kept old sound r l. ends-unread c.args.clerk.now.limit all kept old _ c.from_residual.result _ c.from_residual.ensures.1
+          (failure-true c.args.clerk.now.limit all kept old [] _ c.in_err-cut_and_flush.ensures.fault);
     }
 
 -- it could not be said
@@ -34,6 +37,8 @@ returns-in_err-tell_replayed-clause-lives g c =
       shown = λ all kept old h is sound found r. ok-of-err _ c.from_residual-in_err-tell_replayed.result bad;
       asked = λ p s kept sound led. replies-none p s kept _ _ _ c.from_residual-in_err-tell_replayed.result bad
           (silent-more _ _ _ (silent-cut _ _ _ cut) (silent-unbegun _ _ untold));
+      fault = λ all kept old sound r l. ends-unread c.args.clerk.now.limit all kept old _ c.from_residual-in_err-tell_replayed.result _
+          c.from_residual-in_err-tell_replayed.ensures.1 (failure-true c.args.clerk.now.limit all kept old [] _ c.in_err-tell_replayed.ensures.fault);
     }
 
 pub returns-clause-lives : goal.returns-clause-lives
@@ -56,6 +61,8 @@ returns-clause-lives g c =
       asked = λ p s kept sound led. go-replies p s kept _ _ _ _ _ _ _ _ _ _ _ _ _ c.answer_pieces.result unread
           (silent-more _ _ _ (silent-cut _ _ _ flushed) (silent-begun _ _ _ _ told))
           c.answer_pieces.ensures.goes.asked c.answer_pieces.ensures.end c.new.ensures sound led;
+      fault = go-ends _ _ c.args.clerk.now.limit _ _ _ _ _ _ _ _ _ _ _ _ _ _ _ _ _ _ c.answer_pieces.result unread c.new.ensures cut.1
+          c.answer_pieces.ensures.goes.ok c.answer_pieces.ensures.end c.answer_pieces.ensures.goes.fault;
     }
 
 pub returns-clause-readers : goal.returns-clause-readers

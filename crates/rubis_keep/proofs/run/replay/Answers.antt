@@ -1,13 +1,14 @@
-use Rattle.std.proofs.Common.{◌∙◌, [], ap, refl}
+use Rattle.std.proofs.Common.{◌∙◌, ◌+◌, [], ap, refl}
 use Rattle.std.proofs.lemmas.Result.{on_ok_weaker}
 use Rattle.rubis_engine.proofs.RunFacts.{on_ok}
 use Rattle.rubis_script.specs.SiteRuns.{told_by}
 use Rattle.rubis_keep.specs.History.{out_in}
 use Rattle.rubis_keep.proofs.AskFacts.{replay-led}
 use Rattle.rubis_keep.proofs.EachFacts.{on_err}
+use Rattle.rubis_keep.proofs.EndFacts.{replay-ends, replay-true}
 use Rattle.rubis_keep.proofs.HistoryFacts.{told-either}
 use Rattle.rubis_keep.proofs.LifeFacts.{none-unread, replay-err, replay-ok, replay-unfound}
-use Rattle.rubis_keep.proofs.TellingFacts.{none-told}
+use Rattle.rubis_keep.proofs.TellingFacts.{none-told, none-told-at-end}
 use Rattle.rubis_keep.proofs.run.replay.Goals as goal
 
 -- what was kept is answered
@@ -31,6 +32,10 @@ returns-in-Ok g c =
       told = rw (c.check_end.ensures.files, c.check_end.ensures.live) (told-either _ _ _ _ c.check_end.result (c.in-Ok.ensures.goes.told refl));
       led = on_ok c.check_end.result (λ kept old b. replay-led _ _ _ _ _ _ _ _ _ _ c.in-Ok.ensures.goes.asked lines.cutter answered c.in-Ok.ensures.end kept
           (none-unread _ _ lines.unread ∙ b.past_is) b.sound);
+      fault = replay-ends (told_by c.args.clerk.now.desk.site) (told_by c.answer_pieces.new.clerk.desk.site) c.args.clerk.now.limit _ _ _ _ _ _ _ _ _ _ _ _ _
+          c.check_end.result _ c.in-Ok.ensures.goes.fault (none-told c.args.clerk.now.desk.site 1)
+          (none-told-at-end c.answer_pieces.new.clerk.desk.site (c.answer_pieces.new.clerk.desk.answered + 1)) lines.cutter answered lines.kept went
+          c.in-Ok.ensures.end c.check_end.ensures.differs;
     }
 
 -- it could not be
@@ -47,6 +52,9 @@ returns-in-Err g c =
           (rw (none-unread c.args.lines.now.unread (g.P.Read.remaining c.args.past.now) lines.unread) at c.in-Err.ensures.goes.err);
       told = c.in-Err.ensures.goes.told refl;
       led = tt;
+      fault = replay-true (told_by c.args.clerk.now.desk.site) c.args.clerk.now.limit _ _ _ _ _ _ _ _ _ _ (none-told c.args.clerk.now.desk.site 1) lines.cutter
+          c.requires.fresh.1 lines.kept (rw (none-unread c.args.lines.now.unread (g.P.Read.remaining c.args.past.now) lines.unread) at c.in-Err.ensures.goes.fault)
+          c.of_kept.ensures;
     }
 
 pub answer_pieces-requires-clause-begun : goal.answer_pieces-requires-clause-begun

@@ -1,6 +1,8 @@
-use Rattle.std.proofs.Common.{◌∙◌}
+use Rattle.std.proofs.Common.{◌∙◌, []}
+use Rattle.rubis_script.specs.SiteRuns.{told_by}
 use Rattle.std.proofs.lemmas.Result.{on_ok_weaker}
 use Rattle.rubis_keep.proofs.EachFacts.{on_err, on_err_weaker}
+use Rattle.rubis_keep.proofs.EndFacts.{edited-true, ends-on, ends-unread, failure-true}
 use Rattle.rubis_keep.proofs.HistoryFacts.{stays-none, still-flushed, still-none, told-kept}
 use Rattle.rubis_keep.proofs.LifeFacts.{run-begins, run-ended, run-lived, run-unflushed, run-unread, run-unreplayed}
 use Rattle.rubis_keep.proofs.AskFacts.{replies-after, replies-none, silent-flushed, silent-more, silent-none, silent-still, told-silent}
@@ -15,48 +17,60 @@ returns-in_err-check_kept-clause-runs g c = record {
   safe = λ off h kept old is o opened. rw is (stays-none _ h opened.safe);
   shown = λ off h kept old is o opened. ok-of-err _ c.from_residual.result c.from_residual.ensures.0;
   asked = λ kept old o. replies-none _ _ kept _ _ _ c.from_residual.result c.from_residual.ensures.0 (silent-none _);
+  fault = λ kept old o. ends-unread c.args.clerk.now.limit (told_by c.args.clerk.now.desk.site 1) kept old _ c.from_residual.result _ c.from_residual.ensures.1
+      (edited-true c.args.clerk.now.limit (told_by c.args.clerk.now.desk.site 1) kept old _ _ o.first_is c.in_err-check_kept.ensures.edited);
 }
 
 pub returns-in_err-flush-clause-runs : goal.returns-in_err-flush-clause-runs
 returns-in_err-flush-clause-runs g c = record {
   ok = ok-of-err _ c.from_residual-in_err-flush.result c.from_residual-in_err-flush.ensures.0;
-  err = let still = still-none _ _ c.in_err-flush.ensures in
+  err = let still = still-none _ _ c.in_err-flush.ensures.done in
       on_err _ (run-unflushed _ _ _ _ _ _ _ _ _ still.0 still.1);
-  safe = λ off h kept old is o opened. run-safe-start _ h _ opened (rw is at c.in_err-flush.ensures);
+  safe = λ off h kept old is o opened. run-safe-start _ h _ opened (rw is at c.in_err-flush.ensures.done);
   shown = λ off h kept old is o opened. ok-of-err _ c.from_residual-in_err-flush.result c.from_residual-in_err-flush.ensures.0;
-  asked = λ kept old o. replies-none _ _ kept _ _ _ c.from_residual-in_err-flush.result c.from_residual-in_err-flush.ensures.0 (silent-still _ _ c.in_err-flush.ensures);
+  asked = λ kept old o. replies-none _ _ kept _ _ _ c.from_residual-in_err-flush.result c.from_residual-in_err-flush.ensures.0 (silent-still _ _ c.in_err-flush.ensures.done);
+  fault = λ kept old o. ends-unread c.args.clerk.now.limit (told_by c.args.clerk.now.desk.site 1) kept old _ c.from_residual-in_err-flush.result _
+      c.from_residual-in_err-flush.ensures.1 (failure-true c.args.clerk.now.limit (told_by c.args.clerk.now.desk.site 1) kept old [] _ c.in_err-flush.ensures.fault);
 }
 
 pub returns-in_err-replay-clause-runs : goal.returns-in_err-replay-clause-runs
 returns-in_err-replay-clause-runs g c = record {
   ok = ok-of-err _ c.from_residual-in_err-replay.result c.from_residual-in_err-replay.ensures.0;
-  err = let still = still-flushed _ _ c.in_ok-flush.ensures in
+  err = let still = still-flushed _ _ c.in_ok-flush.ensures.done in
       on_err _ (run-unreplayed _ _ _ _ _ _ _ _ _ _ _ c.in_ok-check_kept.ensures.sound still.0 still.1 (told-kept _ _ _ _ c.replay.result c.replay.ensures.told)
       c.in_err-replay.ensures.err);
-  safe = λ off h kept old is o opened. run-safe-unreplayed _ _ _ _ h _ _ _ _ c.replay.result kept old off c.in_ok-check_kept.ensures.sound o opened (rw is at c.in_ok-flush.ensures) c.replay.ensures.told
+  safe = λ off h kept old is o opened. run-safe-unreplayed _ _ _ _ h _ _ _ _ c.replay.result kept old off c.in_ok-check_kept.ensures.sound o opened (rw is at c.in_ok-flush.ensures.done) c.replay.ensures.told
       c.in_err-replay.ensures.err;
   shown = λ off h kept old is o opened. ok-of-err _ c.from_residual-in_err-replay.result c.from_residual-in_err-replay.ensures.0;
   asked = λ kept old o. replies-none _ _ kept _ _ _ c.from_residual-in_err-replay.result c.from_residual-in_err-replay.ensures.0
-      (silent-more _ _ _ (silent-flushed _ _ c.in_ok-flush.ensures) (told-silent _ _ _ _ c.replay.result c.replay.ensures.told));
+      (silent-more _ _ _ (silent-flushed _ _ c.in_ok-flush.ensures.done) (told-silent _ _ _ _ c.replay.result c.replay.ensures.told));
+  fault = λ kept old o. let still = still-flushed _ _ c.in_ok-flush.ensures.done in
+      let b = run-begins _ _ _ _ _ _ _ c.in_ok-check_kept.ensures.sound still.0 still.1 kept old o in
+      ends-unread c.args.clerk.now.limit (told_by c.args.clerk.now.desk.site 1) kept old _ c.from_residual-in_err-replay.result _
+      c.from_residual-in_err-replay.ensures.1 (c.in_err-replay.ensures.fault kept old b);
 }
 
 pub returns-clause-runs : goal.returns-clause-runs
 returns-clause-runs g c = record {
-  ok = let still = still-flushed _ _ c.in_ok-flush.ensures in
+  ok = let still = still-flushed _ _ c.in_ok-flush.ensures.done in
       on_ok_weaker c.go_on.result (run-lived _ _ _ _ _ _ _ _ _ _ _ _ _ _ _ _ _ _ c.in_ok-check_kept.ensures.sound still.0 still.1
       (told-kept _ _ _ _ c.replay.result c.replay.ensures.told) c.in_ok-replay.ensures.ok) c.go_on.ensures.lives.ok;
-  err = let still = still-flushed _ _ c.in_ok-flush.ensures in
+  err = let still = still-flushed _ _ c.in_ok-flush.ensures.done in
       on_err_weaker c.go_on.result (run-ended _ _ _ _ _ _ _ _ _ _ _ _ _ _ _ _ _ _ c.in_ok-check_kept.ensures.sound still.0 still.1
       (told-kept _ _ _ _ c.replay.result c.replay.ensures.told) c.in_ok-replay.ensures.ok) c.go_on.ensures.lives.err;
-  safe = λ off h kept old is o opened. run-safe _ _ _ _ _ _ h _ _ _ _ _ _ _ kept old off c.in_ok-check_kept.ensures.sound o opened (rw is at c.in_ok-flush.ensures) c.in_ok-replay.ensures.told
+  safe = λ off h kept old is o opened. run-safe _ _ _ _ _ _ h _ _ _ _ _ _ _ kept old off c.in_ok-check_kept.ensures.sound o opened (rw is at c.in_ok-flush.ensures.done) c.in_ok-replay.ensures.told
       c.in_ok-replay.ensures.ok c.go_on.ensures.lives.safe;
   shown = λ off h kept old is o opened. run-shown _ _ _ _ _ _ h _ _ _ _ _ _ _ kept old c.go_on.result off c.in_ok-check_kept.ensures.sound o opened
-      (rw is at c.in_ok-flush.ensures) c.in_ok-replay.ensures.told c.in_ok-replay.ensures.ok c.go_on.ensures.lives.shown;
-  asked = λ kept old o. let still = still-flushed _ _ c.in_ok-flush.ensures in
+      (rw is at c.in_ok-flush.ensures.done) c.in_ok-replay.ensures.told c.in_ok-replay.ensures.ok c.go_on.ensures.lives.shown;
+  asked = λ kept old o. let still = still-flushed _ _ c.in_ok-flush.ensures.done in
       let b = run-begins _ _ _ _ _ _ _ c.in_ok-check_kept.ensures.sound still.0 still.1 kept old o in
       replies-after _ _ kept _ _ _ _ _ c.go_on.result
-      (silent-more _ _ _ (silent-flushed _ _ c.in_ok-flush.ensures) (told-silent _ _ _ _ c.replay.result c.replay.ensures.told))
+      (silent-more _ _ _ (silent-flushed _ _ c.in_ok-flush.ensures.done) (told-silent _ _ _ _ c.replay.result c.replay.ensures.told))
       (c.go_on.ensures.lives.asked _ _ kept b.sound (c.in_ok-replay.ensures.led kept old b));
+  fault = λ kept old o. let still = still-flushed _ _ c.in_ok-flush.ensures.done in
+      let b = run-begins _ _ _ _ _ _ _ c.in_ok-check_kept.ensures.sound still.0 still.1 kept old o in
+      ends-on c.args.clerk.now.limit _ _ _ (told_by c.args.clerk.now.desk.site 1) kept old _ _ c.go_on.result c.in_ok-replay.ensures.fault c.requires.idle.2
+      (c.go_on.ensures.lives.fault (told_by c.args.clerk.now.desk.site 1) kept old b.sound (c.in_ok-replay.ensures.ok kept old b));
 }
 
 pub returns-in_err-replay-clause-readers : goal.returns-in_err-replay-clause-readers
