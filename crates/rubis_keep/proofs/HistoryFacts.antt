@@ -6,7 +6,7 @@ use Rattle.std.specs.Prelude.{IsErr, MatchBool, MatchResult}
 use Rattle.std.specs.Io.KnownBytes.{Appends, Keeps}
 use Rattle.rubis_keep.specs.History.{Answers, AreSafe, Event, FileState, Grows, History, IsSafe, StaysSafe, Tells, after, after_all, kept_in}
 use Rattle.rubis_keep.specs.Files.{AppendsFront}
-use Rattle.rubis_keep.specs.History.{HasDone, HasKept, HasTold, TellsFront, KeepsLines, log_of, now, out_in, records_in, told_of}
+use Rattle.rubis_keep.specs.History.{HasDone, HasKept, HasTold, TellsFront, KeepsLines, Says, log_of, now, out_in, records_in, told_of}
 use Rattle.rubis_keep.specs.History.Event.{Began, CutTo, Flushed, Kept, Replied, Settled, Shown, Told}
 use Rattle.rubis_keep.specs.Kept.{CutsTo, IsFrontOf}
 use Rattle.rubis_keep.specs.Lines.{AreSound}
@@ -101,29 +101,29 @@ answers-shown (b ∷ text) due = (text ++ due, refl, answers-shown text due)
 
 -- ---- safe at each moment
 
-pub safe-first : (text : List (List (List ℕ)) → List ℕ) (s : FileState) (es : List Event) → AreSafe text s es → IsSafe text s
-safe-first text s [] h = h
-safe-first text s (e ∷ es) h = h.0
+pub safe-first : (says : Says) (s : FileState) (es : List Event) → AreSafe says s es → IsSafe says.text s
+safe-first says s [] h = h
+safe-first says s (e ∷ es) h = h.0
 
-pub safe-last : (text : List (List (List ℕ)) → List ℕ) (s : FileState) (es : List Event) → AreSafe text s es → IsSafe text (after_all s es)
-safe-last text s [] h = h
-safe-last text s (e ∷ es) h = safe-last text (after s e) es h.2
+pub safe-last : (says : Says) (s : FileState) (es : List Event) → AreSafe says s es → IsSafe says.text (after_all s es)
+safe-last says s [] h = h
+safe-last says s (e ∷ es) h = safe-last says (after s e) es h.2
 
-pub safe-append : (text : List (List (List ℕ)) → List ℕ) (s : FileState) (xs ys : List Event) → AreSafe text s xs → AreSafe text (after_all s xs) ys
-    → AreSafe text s (xs ++ ys)
-safe-append text s [] ys h k = k
-safe-append text s (e ∷ xs) ys h k = (h.0, h.1, safe-append text (after s e) xs ys h.2 k)
+pub safe-append : (says : Says) (s : FileState) (xs ys : List Event) → AreSafe says s xs → AreSafe says (after_all s xs) ys
+    → AreSafe says s (xs ++ ys)
+safe-append says s [] ys h k = k
+safe-append says s (e ∷ xs) ys h k = (h.0, h.1, safe-append says (after s e) xs ys h.2 k)
 
-pub stays-none : (text : List (List (List ℕ)) → List ℕ) (h : History) → IsSafe text (now h) → StaysSafe text (Some h) (Some h)
-stays-none text h safe = ([], grows-none (Some h), safe)
+pub stays-none : (says : Says) (h : History) → IsSafe says.text (now h) → StaysSafe says (Some h) (Some h)
+stays-none says h safe = ([], grows-none (Some h), safe)
 
-pub stays-more : (text : List (List (List ℕ)) → List ℕ) (a b c : Option History) → StaysSafe text a b → StaysSafe text b c → StaysSafe text a c
-stays-more text None b c f g = tt
-stays-more text (Some h) None c f g = absurd f.1
-stays-more text (Some h) (Some h2) c f g = (
+pub stays-more : (says : Says) (a b c : Option History) → StaysSafe says a b → StaysSafe says b c → StaysSafe says a c
+stays-more says None b c f g = tt
+stays-more says (Some h) None c f g = absurd f.1
+stays-more says (Some h) (Some h2) c f g = (
   f.0 ++ g.0,
   grows-more (Some h) (Some h2) c f.0 g.0 f.1 g.1,
-  safe-append text (now h) f.0 g.0 f.2 (subst (λ s. AreSafe text s g.0) (now-more h h2 f.0 f.1) g.2),
+  safe-append says (now h) f.0 g.0 f.2 (subst (λ s. AreSafe says s g.0) (now-more h h2 f.0 f.1) g.2),
 )
 
 -- what is shown is what `out` has, but for `due`; or nothing is shown
@@ -162,27 +162,27 @@ safe-here text live due rest s sound flushed d (more, e) =
     record { sound = sound; flushed = flushed; told = (rest ++ more, sym (append_assoc s.out rest more) ∙ e); shown = due-shown live s due d }
 
 -- what is told is the next of the text of the records that were flushed
-pub safe-answers : (text : List (List (List ℕ)) → List ℕ) (live : Bool) (es : List Event) (due due2 : List ℕ) (s : FileState) → Answers live es due due2
-    → AreSound [] (s.kept ++ s.cut) → IsFrontOf s.flushed s.kept → IsDue live s due → IsFrontOf (s.out ++ told_of es) (text (records_in s.flushed))
-    → AreSafe text s es
-safe-answers text live [] due due2 s a sound flushed d f = safe-here text live due [] s sound flushed d f
-safe-answers text live (Told b ∷ es) due due2 s a sound flushed d f = (
-  safe-here text live due (b ∷ told_of es) s sound flushed d f,
+pub safe-answers : (says : Says) (live : Bool) (es : List Event) (due due2 : List ℕ) (s : FileState) → Answers live es due due2
+    → AreSound [] (s.kept ++ s.cut) → IsFrontOf s.flushed s.kept → IsDue live s due → IsFrontOf (s.out ++ told_of es) (says.text (records_in s.flushed))
+    → AreSafe says s es
+safe-answers says live [] due due2 s a sound flushed d f = safe-here says.text live due [] s sound flushed d f
+safe-answers says live (Told b ∷ es) due due2 s a sound flushed d f = (
+  safe-here says.text live due (b ∷ told_of es) s sound flushed d f,
   tt,
-  safe-answers text live es (cond live (due ++ b ∷ []) due) due2 (after s (Told b)) a sound flushed (due-told live s due b d)
+  safe-answers says live es (cond live (due ++ b ∷ []) due) due2 (after s (Told b)) a sound flushed (due-told live s due b d)
       (f.0, ap (λ t. t ++ f.0) (append_assoc s.out (b ∷ []) (told_of es)) ∙ f.1),
 )
-safe-answers text live (Shown b ∷ es) due due2 s a sound flushed d f = (
-  safe-here text live due (told_of es) s sound flushed d f,
+safe-answers says live (Shown b ∷ es) due due2 s a sound flushed d f = (
+  safe-here says.text live due (told_of es) s sound flushed d f,
   tt,
-  safe-answers text live es a.0 due2 (after s (Shown b)) a.2 sound flushed (due-more live s due a.0 b a.1 d) f,
+  safe-answers says live es a.0 due2 (after s (Shown b)) a.2 sound flushed (due-more live s due a.0 b a.1 d) f,
 )
-safe-answers text live (Kept b ∷ es) due due2 s a sound flushed d f = absurd a
-safe-answers text live (Flushed ∷ es) due due2 s a sound flushed d f = absurd a
-safe-answers text live (CutTo n ∷ es) due due2 s a sound flushed d f = absurd a
-safe-answers text live (Settled ∷ es) due due2 s a sound flushed d f = absurd a
-safe-answers text live (Began n counts ∷ es) due due2 s a sound flushed d f = absurd a
-safe-answers text live (Replied question reply ∷ es) due due2 s a sound flushed d f = absurd a
+safe-answers says live (Kept b ∷ es) due due2 s a sound flushed d f = absurd a
+safe-answers says live (Flushed ∷ es) due due2 s a sound flushed d f = absurd a
+safe-answers says live (CutTo n ∷ es) due due2 s a sound flushed d f = absurd a
+safe-answers says live (Settled ∷ es) due due2 s a sound flushed d f = absurd a
+safe-answers says live (Began n counts ∷ es) due due2 s a sound flushed d f = absurd a
+safe-answers says live (Replied question reply ∷ es) due due2 s a sound flushed d f = absurd a
 
 -- ---- lines that are kept
 
@@ -200,14 +200,14 @@ only-keeps (b ∷ bytes) s =
     let r = only-keeps bytes (after s (Kept b)) in
     record { kept = r.kept ∙ append_assoc s.kept (b ∷ []) bytes; flushed = r.flushed; cut = r.cut; begun = r.begun; shown = r.shown; out = r.out }
 
-pub safe-keeps : (text : List (List (List ℕ)) → List ℕ) (bytes : List ℕ) (s : FileState) → IsSafe text s → s.begun ≡ true → s.cut ≡ []
-    → AreSound [] (s.kept ++ bytes) → AreSafe text s (map (λ b. Kept b) bytes)
-safe-keeps text [] s safe begun none sound = safe
-safe-keeps text (b ∷ bytes) s safe begun none sound =
+pub safe-keeps : (says : Says) (bytes : List ℕ) (s : FileState) → IsSafe says.text s → s.begun ≡ true → s.cut ≡ []
+    → AreSound [] (s.kept ++ bytes) → AreSafe says s (map (λ b. Kept b) bytes)
+safe-keeps says [] s safe begun none sound = safe
+safe-keeps says (b ∷ bytes) s safe begun none sound =
     let all : AreSound [] ((s.kept ++ b ∷ []) ++ bytes) = subst (AreSound []) (sym (append_assoc s.kept (b ∷ []) bytes)) sound in (
       safe,
       begun,
-      safe-keeps text bytes (after s (Kept b))
+      safe-keeps says bytes (after s (Kept b))
           (record {
             sound = subst (λ c. AreSound [] ((s.kept ++ b ∷ []) ++ c)) (sym none)
                 (subst (AreSound []) (sym (append-nil (s.kept ++ b ∷ []))) (sound-front [] (s.kept ++ b ∷ []) bytes all));

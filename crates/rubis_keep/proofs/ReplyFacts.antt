@@ -1,6 +1,6 @@
 -- A question that is answered between two pieces of an input.
 use Rattle.std.proofs.Common.{◌≡◌, ◌∙◌, ◌+◌, ◌⊎◌, inl, inr, ◌++◌, ◌∷◌, [], ℕ, Bool, true, false, List, Option, Some, None, Result, Ok, Err, cond, map, take, refl, sym, ap, subst}
-use Rattle.std.proofs.Common.{append-nil}
+use Rattle.std.proofs.Common.{append-nil, arith, drop, length, take-append-drop}
 use Rattle.std.specs.Io.KnownBytes.{Keeps}
 use Rattle.rubis_model.specs.Site.{Place, Replica}
 use Rattle.rubis_script.specs.Replica.{SiteState}
@@ -8,35 +8,39 @@ use Rattle.rubis_script.specs.SiteRuns.{told_by}
 use Rattle.rubis_engine.specs.Accounts.{Account}
 use Rattle.rubis_engine.specs.Accounts.Ending.{AtEnd}
 use Rattle.rubis_engine.specs.Text.{input_records}
-use Rattle.rubis_keep.specs.Asking.{Asks, AsksFirst, OfEachAsking, RepliesIf, owed, replied_in, reply_to}
-use Rattle.rubis_keep.specs.History.{FileState, Grows, History, IsAnswered, StaysSafe, Tells, log_of, now}
+use Rattle.rubis_keep.specs.Asking.{Asks, AsksFirst, LedBy, OfEachAsking, RepliesIf, owed, replied_in, reply_to}
+use Rattle.rubis_keep.specs.History.{FileState, Grows, History, IsAnswered, StaysSafe, Tells, log_of, now, records_in}
 use Rattle.rubis_keep.specs.History.Event.{Replied}
+use Rattle.rubis_keep.specs.Kept.{HasAnswered, IsFrontOf}
 use Rattle.rubis_keep.specs.Lines.{asked_after}
 use Rattle.rubis_keep.specs.Lives.{Lives, LivesSafe, Rested}
 use Rattle.rubis_keep.specs.Questions.{reply_rows, reply_text}
+use Rattle.rubis_keep.specs.Saying.{says_by}
 use Rattle.rubis_keep.proofs.AskFacts.{asks-cut, asks-fails, asks-replied}
 use Rattle.rubis_keep.proofs.FileFacts.{consumes-none}
 use Rattle.rubis_keep.proofs.HistoryFacts.{IsStill, grows-more, now-more, stays-more, still-by, still-none, tells-later}
 use Rattle.rubis_keep.proofs.SafeFacts.{all-whole, rested-safe, some-same, stays-known}
+use Rattle.rubis_keep.proofs.TellingFacts.{none-told-at-end}
 
 -- ---- what it does to the files
 
--- nothing has happened, or a reply
-abbrev IsReply : Option History → Option History → Type 0
-IsReply a b = Grows a b [] ⊎ ((question text : List ℕ) × Grows a b (Replied question text ∷ []))
+-- nothing has happened, or the question was replied to by some first bytes of this text
+abbrev IsReply : Option History → Option History → List ℕ → List ℕ → Type 0
+IsReply a b question text = Grows a b [] ⊎ ((reply : List ℕ) × Grows a b (Replied question reply ∷ []) × IsFrontOf reply text)
 
-reply-of : {T E : Type 0} (asked : Bool) (a b : Option History) (r : Result T E) (question text : List ℕ) → RepliesIf asked a b r question text → IsReply a b
-reply-of true a b (Ok x) question text g = inr (question, text, g)
+reply-of : {T E : Type 0} (asked : Bool) (a b : Option History) (r : Result T E) (question text : List ℕ) → RepliesIf asked a b r question text
+    → IsReply a b question text
+reply-of true a b (Ok x) question text g = inr (text, g, ([], append-nil text))
 reply-of false a b (Ok x) question text g = inl g
 reply-of asked a b (Err e) question text (is, inl g) = inl g
-reply-of asked a b (Err e) question text (is, inr (n, g)) = inr (question, take n text, g)
+reply-of asked a b (Err e) question text (is, inr (n, g)) = inr (take n text, g, (drop n text, take-append-drop n text))
 
-still-of : (a b : Option History) → IsReply a b → IsStill a b
-still-of a b (inl g) = still-none a b g
-still-of a b (inr (question, text, g)) = still-by a b (Replied question text ∷ []) g (λ s. (refl, refl))
+still-of : (a b : Option History) (question text : List ℕ) → IsReply a b question text → IsStill a b
+still-of a b question text (inl g) = still-none a b g
+still-of a b question text (inr (reply, g, front)) = still-by a b (Replied question reply ∷ []) g (λ s. (refl, refl))
 
 pub replied-still : {T E : Type 0} (asked : Bool) (a b : Option History) (r : Result T E) (question text : List ℕ) → RepliesIf asked a b r question text → IsStill a b
-replied-still asked a b r question text h = still-of a b (reply-of asked a b r question text h)
+replied-still asked a b r question text h = still-of a b question text (reply-of asked a b r question text h)
 
 pub still-log : (keeps : Bool) (a b : Option History) → IsStill a b → Keeps (log_of keeps a) (log_of keeps b)
 still-log true a b s = s.0
@@ -56,60 +60,91 @@ told-on live live2 live3 a b c asked question text none t same g =
 
 -- ---- the files stay safe
 
-pub lives-any : {T E : Type 0} (more more2 : Account) (before before2 : Option (List ℕ)) (number number2 : ℕ) (old new : Option History) (r : Result T E)
-    → Lives more before number old more2 before2 number2 new → LivesSafe more before number old more2 before2 number2 new r
-lives-any more more2 before before2 number number2 old new (Ok x) f all h is rested = f all h is rested
-lives-any more more2 before before2 number number2 old new (Err e) f all h is rested = ((f all h is rested).0, tt)
-
--- a run goes on, and goes on
-pub lives-join : (more more2 more3 : Account) (before before2 before3 : Option (List ℕ)) (number number2 number3 : ℕ) (a b c : Option History)
-    → Lives more before number a more2 before2 number2 b → Lives more2 before2 number2 b more3 before3 number3 c → Lives more before number a more3 before3 number3 c
-lives-join more more2 more3 before before2 before3 number number2 number3 a b c f g all h is rested =
-    let first = f all h is rested in
-    let mid = stays-known (all.text AtEnd) h b first.0 in
-    let last = g all mid.0 mid.1 (first.1 mid.0 mid.1) in
-    (stays-more (all.text AtEnd) (Some h) b c first.0 (rw mid.1 last.0), last.1)
-
-answered-all : (all more : Account) (number : ℕ) (before : Option (List ℕ)) (s : FileState) → Rested all more number before s → more.text AtEnd [] ≡ []
-    → IsAnswered (all.text AtEnd) s
-answered-all all more number before s r none =
-    sym (append-nil s.out) ∙ ap (λ t. s.out ++ t) (sym none) ∙ sym (r.answered.text AtEnd [])
-    ∙ ap (all.text AtEnd) (append-nil (input_records s.kept) ∙ ap input_records (sym (all-whole s.kept r.ends)))
-
-reply-stays : (all more : Account) (number : ℕ) (before : Option (List ℕ)) (h : History) (new : Option History) → Rested all more number before (now h)
-    → more.text AtEnd [] ≡ [] → IsReply (Some h) new
-    → StaysSafe (all.text AtEnd) (Some h) new × ((h2 : History) → new ≡ Some h2 → Rested all more number before (now h2))
-reply-stays all more number before h None r none (inl g) = absurd g
-reply-stays all more number before h None r none (inr (question, text, g)) = absurd g
-reply-stays all more number before h (Some h1) r none (inl g) = (
-  ([], g, rested-safe all more number before (now h) r),
-  λ h2 e. subst (λ t. Rested all more number before (now t)) (some-same h1 h2 e)
-      (subst (Rested all more number before) (sym (now-more h h1 [] g)) r),
-)
-reply-stays all more number before h (Some h1) r none (inr (question, text, g)) = (
-  (
-    Replied question text ∷ [],
-    g,
-    (
-      rested-safe all more number before (now h) r,
-      (answered-all all more number before (now h) r none, (r.begun, r.shown)),
-      rested-safe all more number before (now h) r,
-    ),
-  ),
-  λ h2 e. subst (λ t. Rested all more number before (now t)) (some-same h1 h2 e)
-      (subst (Rested all more number before) (sym (now-more h h1 (Replied question text ∷ []) g)) r),
-)
-
-pub reply-lives : {U F : Type 0} (more more2 : Account) (before before2 : Option (List ℕ)) (number number2 : ℕ) (a b : Option History) (asked : Bool)
-    (r : Result U F) (question text : List ℕ) → RepliesIf asked a b r question text → more2 ≡ more → before2 ≡ before → number2 ≡ number
-    → more.text AtEnd [] ≡ [] → Lives more before number a more2 before2 number2 b
-reply-lives more more2 before before2 number number2 a b asked r question text replied em eb en none all h is rested =
-    rw (em, eb, en) (reply-stays all more number before h b rested none (subst (λ x. IsReply x b) is (reply-of asked a b r question text replied)))
-
--- ---- it is what was owed
-
 pub told-same : (s s2 : SiteState) (n n2 : ℕ) → s2.place ≡ s.place → s2.state ≡ s.state → n2 ≡ n → told_by s2 (n2 + 1) ≡ told_by s (n + 1)
 told-same s s2 n n2 place state count = rw (place, state, count) refl
+
+pub lives-any : {T E : Type 0} (site site2 : SiteState) (before before2 : Option (List ℕ)) (many many2 : ℕ) (old new : Option History) (r : Result T E)
+    → Lives site before many old site2 before2 many2 new → LivesSafe site before many old site2 before2 many2 new r
+lives-any site site2 before before2 many many2 old new (Ok x) f all p s0 h is rested = f all p s0 h is rested
+lives-any site site2 before before2 many many2 old new (Err e) f all p s0 h is rested = ((f all p s0 h is rested).0, tt)
+
+-- a run goes on, and goes on
+pub lives-join : (site site2 site3 : SiteState) (before before2 before3 : Option (List ℕ)) (many many2 many3 : ℕ) (a b c : Option History)
+    → Lives site before many a site2 before2 many2 b → Lives site2 before2 many2 b site3 before3 many3 c → Lives site before many a site3 before3 many3 c
+lives-join site site2 site3 before before2 before3 many many2 many3 a b c f g all p s0 h is rested =
+    let first = f all p s0 h is rested in
+    let mid = stays-known (says_by all p s0) h b first.0 in
+    let last = g all p s0 mid.0 mid.1 (first.1 mid.0 mid.1) in
+    (stays-more (says_by all p s0) (Some h) b c first.0 (rw mid.1 last.0), last.1)
+
+answered-all : (all : Account) (p : Place) (s0 : Replica) (site : SiteState) (many : ℕ) (before : Option (List ℕ)) (s : FileState)
+    → Rested all p s0 site many before s → IsAnswered (all.text AtEnd) s
+answered-all all p s0 site many before s r =
+    sym (append-nil s.out) ∙ ap (λ t. s.out ++ t) (sym (none-told-at-end site (many + 1))) ∙ sym (r.answered.text AtEnd [])
+    ∙ ap (all.text AtEnd) (append-nil (input_records s.kept) ∙ ap input_records (sym (all-whole s.kept r.ends)))
+
+-- what the site says behind what was kept, from where it is
+reply-is : (all : Account) (p : Place) (s0 : Replica) (site : SiteState) (many : ℕ) (records : List (List (List ℕ))) (question : List ℕ)
+    → LedBy p s0 0 site many records → reply_text (reply_rows site.place site.state many question) ≡ (says_by all p s0).reply records question
+reply-is all p s0 site many records question led =
+    let count : many ≡ length records = omega (arith, led.count) in
+    λ i. reply_text (reply_rows (led.place i) (led.state i) (count i) question)
+
+-- the site is as it was, in what it answers
+rested-on : (all : Account) (p : Place) (s0 : Replica) (site site2 : SiteState) (many many2 : ℕ) (before before2 : Option (List ℕ)) (s : FileState)
+    → site2.place ≡ site.place → site2.state ≡ site.state → before2 ≡ before → many2 ≡ many → Rested all p s0 site many before s
+    → Rested all p s0 site2 many2 before2 s
+rested-on all p s0 site site2 many many2 before before2 s place state same count r = record {
+  answered = subst (λ m. HasAnswered all m s.out (many2 + 1) s.kept) (sym (told-same site site2 many many2 place state count))
+      (subst (λ n. HasAnswered all (told_by site (many + 1)) s.out (n + 1) s.kept) (sym count) r.answered);
+  led = record { place = place ∙ r.led.place; state = state ∙ r.led.state; count = count ∙ r.led.count };
+  found = same ∙ r.found;
+  sound = r.sound;
+  ends = r.ends;
+  flushed = r.flushed;
+  cut = r.cut;
+  begun = r.begun;
+  shown = r.shown;
+}
+
+reply-stays : (all : Account) (p : Place) (s0 : Replica) (site : SiteState) (many : ℕ) (before : Option (List ℕ)) (h : History) (new : Option History)
+    (question : List ℕ) → Rested all p s0 site many before (now h)
+    → IsReply (Some h) new question (reply_text (reply_rows site.place site.state many question))
+    → StaysSafe (says_by all p s0) (Some h) new × ((h2 : History) → new ≡ Some h2 → Rested all p s0 site many before (now h2))
+reply-stays all p s0 site many before h None question r (inl g) = absurd g
+reply-stays all p s0 site many before h None question r (inr (reply, g, front)) = absurd g
+reply-stays all p s0 site many before h (Some h1) question r (inl g) = (
+  ([], g, rested-safe all p s0 site many before (now h) r),
+  λ h2 e. subst (λ t. Rested all p s0 site many before (now t)) (some-same h1 h2 e)
+      (subst (Rested all p s0 site many before) (sym (now-more h h1 [] g)) r),
+)
+reply-stays all p s0 site many before h (Some h1) question r (inr (reply, g, front)) = (
+  (
+    Replied question reply ∷ [],
+    g,
+    (
+      rested-safe all p s0 site many before (now h) r,
+      (
+        answered-all all p s0 site many before (now h) r,
+        (r.begun, r.shown),
+        subst (IsFrontOf reply) (reply-is all p s0 site many (records_in (now h).kept) question r.led) front,
+      ),
+      rested-safe all p s0 site many before (now h) r,
+    ),
+  ),
+  λ h2 e. subst (λ t. Rested all p s0 site many before (now t)) (some-same h1 h2 e)
+      (subst (Rested all p s0 site many before) (sym (now-more h h1 (Replied question reply ∷ []) g)) r),
+)
+
+pub reply-lives : {U F : Type 0} (site site2 : SiteState) (before before2 : Option (List ℕ)) (many many2 : ℕ) (a b : Option History) (asked : Bool)
+    (r : Result U F) (question : List ℕ) → RepliesIf asked a b r question (reply_text (reply_rows site.place site.state many question))
+    → site2.place ≡ site.place → site2.state ≡ site.state → before2 ≡ before → many2 ≡ many → Lives site before many a site2 before2 many2 b
+reply-lives site site2 before before2 many many2 a b asked r question replied place state same count all p s0 h is rested =
+    let text = reply_text (reply_rows site.place site.state many question) in
+    let done = reply-stays all p s0 site many before h b question rested (rw is at (reply-of asked a b r question text replied)) in
+    (done.0, λ h2 e. rested-on all p s0 site site2 many many2 before before2 (now h2) place state same count (done.1 h2 e))
+
+-- ---- it is what was owed
 
 asks-if : (asks : Bool) (p : Place) (s0 : Replica) (kept line : List ℕ) (input0 input : Option (List ℕ)) (h0 h h2 : Option History) (begun question : List ℕ)
     (s s2 : SiteState) (n n2 : ℕ) (asked : Bool) → Asks asks p s0 kept line input0 input h0 h begun s n (owed asked s n question)

@@ -1,22 +1,29 @@
 -- The files of a run stay safe.
 use Rattle.std.proofs.Common.{◌≡◌, ◌∙◌, ◌⊎◌, inl, inr, ◌++◌, ◌∷◌, [], ℕ, Bool, true, false, List, Option, Some, None, Result, Ok, Err, drop, map, take}
-use Rattle.std.proofs.Common.{refl, sym, ap, subst, append_assoc, take-append-drop}
+use Rattle.std.proofs.Common.{arith, refl, sym, ap, subst, append_assoc, length-append, take-append-drop, ◌+◌}
 use Rattle.std.proofs.lemmas.List.{append-nil}
 use Rattle.std.specs.Prelude.{IsErr, OnErr, OnOk}
+use Rattle.rubis_model.specs.Site.{Place, Replica}
+use Rattle.rubis_replica.specs.State.{SiteState}
 use Rattle.rubis_engine.specs.Accounts.{Account}
 use Rattle.rubis_engine.specs.Accounts.Ending.{AtEnd}
 use Rattle.rubis_engine.specs.Text.{input_records}
-use Rattle.rubis_keep.specs.History.{Answers, AreSafe, Event, FileState, Grows, HasTold, History, IsSafe, KeepsLines, StaysSafe, Tells, after_all}
+use Rattle.rubis_script.specs.SiteRuns.{told_by}
+use Rattle.rubis_keep.specs.Asking.{LedBy}
+use Rattle.rubis_keep.specs.History.{Answers, AreSafe, Event, FileState, Grows, HasTold, History, IsSafe, KeepsLines, Says, StaysSafe, Tells, after_all}
 use Rattle.rubis_keep.specs.History.{now, out_in, records_in, told_of}
 use Rattle.rubis_keep.specs.History.Event.{Flushed, Kept}
 use Rattle.rubis_keep.specs.Kept.{HasAnswered, InEachRest, IsFrontOf, OutEnds, Rests}
 use Rattle.rubis_keep.specs.Lines.{AreSound, HasNoEnd, begun_after, is_marked, kept_after, whole_lines}
 use Rattle.rubis_keep.specs.Lives.{Lives, LivesSafe, Rested}
+use Rattle.rubis_keep.specs.Saying.{says_by}
+use Rattle.rubis_keep.specs.Shortened.{state_after}
 use Rattle.rubis_keep.specs.Whole.{IsWhole}
 use Rattle.rubis_keep.proofs.HistoryFacts.{after-append, due-after, now-more, only-keeps, only-tells, safe-answers, safe-append, safe-keeps, safe-last, stays-more, stays-none}
 use Rattle.rubis_keep.proofs.LineFacts.{begun-append}
 use Rattle.rubis_keep.proofs.RecordFacts.{records-append}
 use Rattle.rubis_keep.proofs.RestFacts.{keeps-same, rests-ends}
+use Rattle.rubis_keep.proofs.ShortenFacts.{after-append as state-append}
 use Rattle.rubis_keep.proofs.SoundFacts.{kept-begun-after, kept-sound-after, sound-append, sound-front, whole-rest}
 use Rattle.rubis_keep.proofs.WholeFacts.{kept-whole}
 
@@ -38,11 +45,11 @@ answered-now all more told number kept a ends =
     subst (λ k. IsFrontOf told (all.text AtEnd (records_in k))) (append-nil kept)
     (answered-front all more told number kept [] a (ap (begun_after []) (append-nil kept) ∙ ends) refl)
 
-pub rested-safe : (all more : Account) (number : ℕ) (before : Option (List ℕ)) (s : FileState) → Rested all more number before s → IsSafe (all.text AtEnd) s
-rested-safe all more number before s r = record {
+pub rested-safe : (all : Account) (p : Place) (s0 : Replica) (site : SiteState) (many : ℕ) (before : Option (List ℕ)) (s : FileState) → Rested all p s0 site many before s → IsSafe (all.text AtEnd) s
+rested-safe all p s0 site many before s r = record {
   sound = subst (λ c. AreSound [] (s.kept ++ c)) (sym r.cut) (subst (AreSound []) (sym (append-nil s.kept)) r.sound);
   flushed = ([], append-nil s.flushed ∙ r.flushed);
-  told = subst (λ f. IsFrontOf s.out (all.text AtEnd (records_in f))) (sym r.flushed) (answered-now all more s.out number s.kept r.answered r.ends);
+  told = subst (λ f. IsFrontOf s.out (all.text AtEnd (records_in f))) (sym r.flushed) (answered-now all (told_by site (many + 1)) s.out (many + 1) s.kept r.answered r.ends);
   shown = rw (r.begun, r.shown) ([], append-nil s.out);
 }
 
@@ -70,14 +77,14 @@ sound-more kept chunk s e t = sound-append [] kept chunk s (subst (λ b. AreSoun
 keeps : List ℕ → List Event
 keeps lines = map (λ b. Kept b) lines
 
-kept-safe : (all more : Account) (number : ℕ) (before : Option (List ℕ)) (s : FileState) (chunk : List ℕ) → Rested all more number before s → Lines chunk
-    → AreSafe (all.text AtEnd) s (map (λ b. Kept b) chunk ++ Flushed ∷ [])
-kept-safe all more number before s chunk r l =
+kept-safe : (all : Account) (p : Place) (s0 : Replica) (site : SiteState) (many : ℕ) (before : Option (List ℕ)) (s : FileState) (chunk : List ℕ) → Rested all p s0 site many before s → Lines chunk
+    → AreSafe (says_by all p s0) s (map (λ b. Kept b) chunk ++ Flushed ∷ [])
+kept-safe all p s0 site many before s chunk r l =
     let o = only-keeps chunk s in
-    let first = safe-keeps (all.text AtEnd) chunk s (rested-safe all more number before s r) r.begun r.cut (sound-more s.kept chunk r.sound r.ends l.sound) in
+    let first = safe-keeps (says_by all p s0) chunk s (rested-safe all p s0 site many before s r) r.begun r.cut (sound-more s.kept chunk r.sound r.ends l.sound) in
     let s1 = after_all s (map (λ b. Kept b) chunk) in
-    let last = safe-last (all.text AtEnd) s (map (λ b. Kept b) chunk) first in
-    safe-append (all.text AtEnd) s (map (λ b. Kept b) chunk) (Flushed ∷ []) first (
+    let last = safe-last (says_by all p s0) s (map (λ b. Kept b) chunk) first in
+    safe-append (says_by all p s0) s (map (λ b. Kept b) chunk) (Flushed ∷ []) first (
       last,
       tt,
       record {
@@ -85,60 +92,60 @@ kept-safe all more number before s chunk r l =
         flushed = ([], append-nil s1.kept);
         told = subst (λ k. IsFrontOf s1.out (all.text AtEnd (records_in k))) (sym o.kept)
             (subst (λ t. IsFrontOf t (all.text AtEnd (records_in (s.kept ++ chunk)))) (sym o.out)
-            (answered-front all more s.out number s.kept chunk r.answered (ends-more s.kept chunk r.ends l.ends) l.whole.unmarked));
+            (answered-front all (told_by site (many + 1)) s.out (many + 1) s.kept chunk r.answered (ends-more s.kept chunk r.ends l.ends) l.whole.unmarked));
         shown = last.shown;
       },
     )
 
 -- what a run that rested has after its lines were kept
-kept-holds : (all more : Account) (number : ℕ) (before : Option (List ℕ)) (h : History) (new : Option History) (chunk : List ℕ)
-    → Rested all more number before (now h) → Lines chunk → KeepsLines true (Some h) new chunk
-    → (events : List Event) × Grows (Some h) new events × AreSafe (all.text AtEnd) (now h) events × Holds (now h) (after_all (now h) events) chunk
-kept-holds all more number before h new chunk r l (inl g) =
+kept-holds : (all : Account) (p : Place) (s0 : Replica) (site : SiteState) (many : ℕ) (before : Option (List ℕ)) (h : History) (new : Option History) (chunk : List ℕ)
+    → Rested all p s0 site many before (now h) → Lines chunk → KeepsLines true (Some h) new chunk
+    → (events : List Event) × Grows (Some h) new events × AreSafe (says_by all p s0) (now h) events × Holds (now h) (after_all (now h) events) chunk
+kept-holds all p s0 site many before h new chunk r l (inl g) =
     let s = now h in
     let o = only-keeps chunk s in
     let end = after-append s (map (λ b. Kept b) chunk) (Flushed ∷ []) in (
       map (λ b. Kept b) chunk ++ Flushed ∷ [],
       g,
-      kept-safe all more number before s chunk r l,
+      kept-safe all p s0 site many before s chunk r l,
       rw end (record { kept = o.kept; flushed = o.kept; cut = refl; begun = o.begun ∙ r.begun; shown = o.shown ∙ r.shown ∙ sym o.out; out = o.out }),
     )
-kept-holds all more number before h new chunk r l (inr (g, none)) =
+kept-holds all p s0 site many before h new chunk r l (inr (g, none)) =
     let s = now h in
     let same : s.kept ≡ s.kept ++ chunk = sym (append-nil s.kept) ∙ ap (λ t. s.kept ++ t) (sym none) in (
       [],
       g,
-      rested-safe all more number before s r,
+      rested-safe all p s0 site many before s r,
       record { kept = same; flushed = r.flushed ∙ same; cut = r.cut; begun = r.begun; shown = r.shown; out = refl },
     )
 
 -- ---- a piece
 
 -- the lines of a piece could not be kept
-pub piece-unkept : (all more : Account) (number : ℕ) (before : Option (List ℕ)) (h : History) (new : Option History) (chunk : List ℕ) (n : ℕ)
-    → Rested all more number before (now h) → Lines chunk → Grows (Some h) new (map (λ b. Kept b) (take n chunk)) → StaysSafe (all.text AtEnd) (Some h) new
-piece-unkept all more number before h new chunk n r l g = (
+pub piece-unkept : (all : Account) (p : Place) (s0 : Replica) (site : SiteState) (many : ℕ) (before : Option (List ℕ)) (h : History) (new : Option History) (chunk : List ℕ) (n : ℕ)
+    → Rested all p s0 site many before (now h) → Lines chunk → Grows (Some h) new (map (λ b. Kept b) (take n chunk)) → StaysSafe (says_by all p s0) (Some h) new
+piece-unkept all p s0 site many before h new chunk n r l g = (
   map (λ b. Kept b) (take n chunk),
   g,
-  safe-keeps (all.text AtEnd) (take n chunk) (now h) (rested-safe all more number before (now h) r) r.begun r.cut
+  safe-keeps (says_by all p s0) (take n chunk) (now h) (rested-safe all p s0 site many before (now h) r) r.begun r.cut
       (sound-front [] ((now h).kept ++ take n chunk) (drop n chunk)
       (subst (AreSound []) (sym (append_assoc (now h).kept (take n chunk) (drop n chunk)) ∙ ap (λ t. t) refl)
       (subst (λ t. AreSound [] ((now h).kept ++ t)) (sym (take-append-drop n chunk)) (sound-more (now h).kept chunk r.sound r.ends l.sound)))),
 )
 
 -- they were kept, and nothing was told
-pub piece-unanswered : (all more : Account) (number : ℕ) (before : Option (List ℕ)) (h : History) (new : Option History) (chunk : List ℕ)
-    → Rested all more number before (now h) → Lines chunk → KeepsLines true (Some h) new chunk → StaysSafe (all.text AtEnd) (Some h) new
-piece-unanswered all more number before h new chunk r l k =
-    let t = kept-holds all more number before h new chunk r l k in
+pub piece-unanswered : (all : Account) (p : Place) (s0 : Replica) (site : SiteState) (many : ℕ) (before : Option (List ℕ)) (h : History) (new : Option History) (chunk : List ℕ)
+    → Rested all p s0 site many before (now h) → Lines chunk → KeepsLines true (Some h) new chunk → StaysSafe (says_by all p s0) (Some h) new
+piece-unanswered all p s0 site many before h new chunk r l k =
+    let t = kept-holds all p s0 site many before h new chunk r l k in
     (t.0, t.1, t.2)
 
 -- the answers to a piece are told, and stay within the text of its records
-told-safe : (all : Account) (s s1 : FileState) (chunk : List ℕ) (events : List Event) (due : List ℕ) → AreSound [] (s.kept ++ chunk) → Holds s s1 chunk
+told-safe : (all : Account) (p : Place) (s0 : Replica) (s s1 : FileState) (chunk : List ℕ) (events : List Event) (due : List ℕ) → AreSound [] (s.kept ++ chunk) → Holds s s1 chunk
     → Answers true events [] due → IsFrontOf (s.out ++ told_of events) (all.text AtEnd (records_in (s.kept ++ chunk)))
-    → AreSafe (all.text AtEnd) s1 events
-told-safe all s s1 chunk events due sound k a f =
-    safe-answers (all.text AtEnd) true events [] due s1 a
+    → AreSafe (says_by all p s0) s1 events
+told-safe all p s0 s s1 chunk events due sound k a f =
+    safe-answers (says_by all p s0) true events [] due s1 a
     (subst (λ c. AreSound [] (s1.kept ++ c)) (sym k.cut) (subst (AreSound []) (sym (append-nil s1.kept)) (subst (AreSound []) (sym k.kept) sound)))
     ([], append-nil s1.flushed ∙ k.flushed ∙ sym k.kept)
     (k.begun, append-nil s1.shown ∙ k.shown)
@@ -149,25 +156,25 @@ none-right : (xs ys : List ℕ) → xs ++ ys ≡ [] → ys ≡ []
 none-right [] ys h = h
 none-right (x ∷ xs) ys h = absurd (cc h)
 
-starts : (all more : Account) (number : ℕ) (before : Option (List ℕ)) (s : FileState) → Rested all more number before s
-    → Rests all more s.out [] before (Some s.out) (Some s.out) number s.kept
-starts all more number before s r = record {
+starts : (all : Account) (p : Place) (s0 : Replica) (site : SiteState) (many : ℕ) (before : Option (List ℕ)) (s : FileState) → Rested all p s0 site many before s
+    → Rests all (told_by site (many + 1)) s.out [] before (Some s.out) (Some s.out) (many + 1) s.kept
+starts all p s0 site many before s r = record {
   since = [];
-  answered = subst (λ t. HasAnswered all more t number s.kept) (sym (append-nil s.out)) r.answered;
+  answered = subst (λ t. HasAnswered all (told_by site (many + 1)) t (many + 1) s.kept) (sym (append-nil s.out)) r.answered;
   wrote = record { added = []; left = []; unread = r.found; appended = sym (append-nil s.out); same = refl; one = inl refl };
 }
 
 -- the answers to a piece were told, as far as a fault let them
-answered-safe : (all : Account) (s : FileState) (h1 h2 : History) (chunk : List ℕ) (events : List Event) (due : List ℕ) → AreSound [] (s.kept ++ chunk)
+answered-safe : (all : Account) (p : Place) (s0 : Replica) (s : FileState) (h1 h2 : History) (chunk : List ℕ) (events : List Event) (due : List ℕ) → AreSound [] (s.kept ++ chunk)
     → begun_after [] (s.kept ++ chunk) ≡ [] → Holds s (now h1) chunk → now h2 ≡ after_all (now h1) events → Answers true events [] due
-    → OutEnds all s.out [] (Some s.out) (Some (now h2).out) (s.kept ++ chunk) → AreSafe (all.text AtEnd) (now h1) events
-answered-safe all s h1 h2 chunk events due sound ends k e a (added, app, inl (none, since, left, same, some)) = absurd (some (none-right since left (sym same)))
-answered-safe all s h1 h2 chunk events due sound ends k e a (added, app, inr begins) =
+    → OutEnds all s.out [] (Some s.out) (Some (now h2).out) (s.kept ++ chunk) → AreSafe (says_by all p s0) (now h1) events
+answered-safe all p s0 s h1 h2 chunk events due sound ends k e a (added, app, inl (none, since, left, same, some)) = absurd (some (none-right since left (sym same)))
+answered-safe all p s0 s h1 h2 chunk events due sound ends k e a (added, app, inr begins) =
     let o = only-tells true events [] due (now h1) a in
     let b = begins [] in
     let same : s.out ++ told_of events ≡ s.out ++ added =
     ap (λ t. t ++ told_of events) (sym k.out) ∙ sym o.out ∙ ap (λ (t : FileState). t.out) (sym e) ∙ app in
-    told-safe all s (now h1) chunk events due sound k a (
+    told-safe all p s0 s (now h1) chunk events due sound k a (
       b.0,
       ap (λ t. t ++ b.0) same ∙ b.1 ∙ ap (all.text AtEnd) (append-nil (input_records (s.kept ++ chunk)) ∙ ap input_records (sym (all-whole (s.kept ++ chunk) ends))),
     )
@@ -180,11 +187,30 @@ piece-lines asks line bytes chunk h e = record {
   ends = ap (begun_after []) e ∙ kept-begun-after asks line bytes h;
 }
 
+-- records led a site on from where others had led it
+pub led-more : (p : Place) (s0 : Replica) (s s2 : SiteState) (n n2 : ℕ) (done more : List (List (List ℕ))) → LedBy p s0 0 s n done
+    → LedBy s.place s.state n s2 n2 more → LedBy p s0 0 s2 n2 (done ++ more)
+led-more p s0 s s2 n n2 done more a b = record {
+  place = b.place ∙ a.place;
+  state = b.state ∙ (λ i. state_after (a.place i) (a.state i) more) ∙ sym (state-append p s0 done more);
+  count = omega (arith, a.count, b.count, length-append done more);
+}
+
+-- the records of a piece do
+led-piece : (all : Account) (p : Place) (s0 : Replica) (site site2 : SiteState) (many many2 : ℕ) (before : Option (List ℕ)) (s : FileState) (chunk : List ℕ)
+    → Rested all p s0 site many before s → Lines chunk → LedBy site.place site.state many site2 many2 (input_records chunk)
+    → LedBy p s0 0 site2 many2 (records_in (s.kept ++ chunk))
+led-piece all p s0 site site2 many many2 before s chunk r l led =
+    let parts : records_in (s.kept ++ chunk) ≡ records_in s.kept ++ input_records chunk =
+    ap input_records (all-whole (s.kept ++ chunk) (ends-more s.kept chunk r.ends l.ends)) ∙ records-append s.kept chunk r.answered.whole l.whole.unmarked
+    ∙ ap (λ k. input_records k ++ input_records chunk) (sym (all-whole s.kept r.ends)) in
+    subst (LedBy p s0 0 site2 many2) (sym parts) (led-more p s0 site site2 many many2 (records_in s.kept) (input_records chunk) r.led led)
+
 -- where a run rests after a piece, if what it told is all of the text
-rested-again : (all more2 : Account) (number2 : ℕ) (before2 : Option (List ℕ)) (s : FileState) (h1 h2 : History) (chunk : List ℕ) (events : List Event)
-    → AreSound [] (s.kept ++ chunk) → begun_after [] (s.kept ++ chunk) ≡ [] → Holds s (now h1) chunk → now h2 ≡ after_all (now h1) events → Answers true events [] []
-    → Rests all more2 s.out [] before2 (Some s.out) (Some (now h2).out) number2 (s.kept ++ chunk) → Rested all more2 number2 before2 (now h2)
-rested-again all more2 number2 before2 s h1 h2 chunk events sound ends k e a r =
+rested-again : (all : Account) (p : Place) (s0 : Replica) (site2 : SiteState) (many2 : ℕ) (before2 : Option (List ℕ)) (s : FileState) (h1 h2 : History)
+    (chunk : List ℕ) (events : List Event) → LedBy p s0 0 site2 many2 (records_in (s.kept ++ chunk)) → AreSound [] (s.kept ++ chunk) → begun_after [] (s.kept ++ chunk) ≡ [] → Holds s (now h1) chunk → now h2 ≡ after_all (now h1) events → Answers true events [] []
+    → Rests all (told_by site2 (many2 + 1)) s.out [] before2 (Some s.out) (Some (now h2).out) (many2 + 1) (s.kept ++ chunk) → Rested all p s0 site2 many2 before2 (now h2)
+rested-again all p s0 site2 many2 before2 s h1 h2 chunk events led sound ends k e a r =
     let o = only-tells true events [] [] (now h1) a in
     let w = r.wrote in
     let left : w.left ≡ [] = none-left w.added r.since w.left w.one w.same in
@@ -192,8 +218,9 @@ rested-again all more2 number2 before2 s h1 h2 chunk events sound ends k e a r =
     let kept : (now h2).kept ≡ s.kept ++ chunk = ap (λ (t : FileState). t.kept) e ∙ o.kept ∙ k.kept in
     let due = due-after true events [] [] (now h1) a (k.begun, append-nil (now h1).shown ∙ k.shown) in
     record {
-      answered = subst (λ t. HasAnswered all more2 t number2 (now h2).kept) (ap (λ t. s.out ++ t) (sym same) ∙ sym w.appended)
-          (subst (HasAnswered all more2 (s.out ++ r.since) number2) (sym kept) r.answered);
+      answered = subst (λ t. HasAnswered all (told_by site2 (many2 + 1)) t (many2 + 1) (now h2).kept) (ap (λ t. s.out ++ t) (sym same) ∙ sym w.appended)
+          (subst (HasAnswered all (told_by site2 (many2 + 1)) (s.out ++ r.since) (many2 + 1)) (sym kept) r.answered);
+      led = subst (λ k. LedBy p s0 0 site2 many2 (records_in k)) (sym kept) led;
       found = w.unread ∙ ap (λ t. Some t) left;
       sound = subst (AreSound []) (sym kept) sound;
       ends = ap (begun_after []) kept ∙ ends;
@@ -217,50 +244,59 @@ pub some-same : (x y : History) → Some x ≡ Some y → x ≡ y
 some-same x y e = cc e
 
 -- a piece was kept, and was answered as far as a fault let it
-pub piece-safe : {T E : Type 0} (more more2 : Account) (number number2 : ℕ) (before before2 : Option (List ℕ)) (old new1 new2 : Option History) (chunk : List ℕ)
+pub piece-safe : {T E : Type 0} (site site2 : SiteState) (many many2 : ℕ) (before before2 : Option (List ℕ)) (old new1 new2 : Option History) (chunk : List ℕ)
     (live live2 : Bool) (r : Result T E)
     → live ≡ true → Lines chunk → KeepsLines true old new1 chunk → HasTold live live2 new1 new2 r
-    → OnOk r (InEachRest more before (out_in new1) number (λ all told old out0 kept. Rests all more2 told old before2 out0 (out_in new2) number2 (kept ++ chunk)))
-    → OnErr r (InEachRest more before (out_in new1) number (λ all told old out0 kept. OutEnds all told old out0 (out_in new2) (kept ++ chunk)))
-    → LivesSafe more before number old more2 before2 number2 new2 r
-piece-safe {T} {E} more more2 number number2 before before2 old new1 new2 chunk live live2 r shows l k t ok err all h is rested =
-    go new1 new2 r (rw is at k) t ok err
+    → OnOk r (InEachRest (told_by site (many + 1)) before (out_in new1) (many + 1)
+    (λ all told old out0 kept. Rests all (told_by site2 (many2 + 1)) told old before2 out0 (out_in new2) (many2 + 1) (kept ++ chunk)))
+    → OnErr r (InEachRest (told_by site (many + 1)) before (out_in new1) (many + 1) (λ all told old out0 kept. OutEnds all told old out0 (out_in new2) (kept ++ chunk)))
+    → OnOk r (LedBy site.place site.state many site2 many2 (input_records chunk))
+    → LivesSafe site before many old site2 before2 many2 new2 r
+piece-safe {T} {E} site site2 many many2 before before2 old new1 new2 chunk live live2 r shows l k t ok err led all p s0 h is rested =
+    go new1 new2 r (rw is at k) t ok err led
   where
     go : (new1 new2 : Option History) (r : Result T E) → KeepsLines true (Some h) new1 chunk → HasTold live live2 new1 new2 r
-        → OnOk r (InEachRest more before (out_in new1) number (λ all told old out0 kept. Rests all more2 told old before2 out0 (out_in new2) number2 (kept ++ chunk)))
-        → OnErr r (InEachRest more before (out_in new1) number (λ all told old out0 kept. OutEnds all told old out0 (out_in new2) (kept ++ chunk)))
-        → StaysSafe (all.text AtEnd) (Some h) new2 × OnOk r ((h2 : History) → new2 ≡ Some h2 → Rested all more2 number2 before2 (now h2))
-    go None new2 r (inl g) t ok err = absurd g
-    go None new2 r (inr g) t ok err = absurd g.0
-    go (Some h1) None (Ok x) k t ok err = absurd t.1.1.1
-    go (Some h1) None (Err e) k t ok err = absurd t.1.2.1
-    go (Some h1) (Some h2) (Ok x) k t ok err =
-        let kept = kept-holds all more number before h (Some h1) chunk rested l k in
+        → OnOk r (InEachRest (told_by site (many + 1)) before (out_in new1) (many + 1)
+        (λ all told old out0 kept. Rests all (told_by site2 (many2 + 1)) told old before2 out0 (out_in new2) (many2 + 1) (kept ++ chunk)))
+        → OnErr r (InEachRest (told_by site (many + 1)) before (out_in new1) (many + 1)
+        (λ all told old out0 kept. OutEnds all told old out0 (out_in new2) (kept ++ chunk)))
+        → OnOk r (LedBy site.place site.state many site2 many2 (input_records chunk))
+        → StaysSafe (says_by all p s0) (Some h) new2 × OnOk r ((h2 : History) → new2 ≡ Some h2 → Rested all p s0 site2 many2 before2 (now h2))
+    go None new2 r (inl g) t ok err led = absurd g
+    go None new2 r (inr g) t ok err led = absurd g.0
+    go (Some h1) None (Ok x) k t ok err led = absurd t.1.1.1
+    go (Some h1) None (Err e) k t ok err led = absurd t.1.2.1
+    go (Some h1) (Some h2) (Ok x) k t ok err led =
+        let kept = kept-holds all p s0 site many before h (Some h1) chunk rested l k in
         let is1 : now h1 ≡ after_all (now h) kept.0 = now-more h h1 kept.0 kept.1 in
         let holds : Holds (now h) (now h1) chunk = subst (λ s. Holds (now h) s chunk) (sym is1) kept.3 in
         let sound = sound-more (now h).kept chunk rested.sound rested.ends l.sound in
         let ends = ends-more (now h).kept chunk rested.ends l.ends in
         let rests = ok all (now h).out [] (Some (now h).out) (now h).kept
-        (subst (λ o. Rests all more (now h).out [] before (Some (now h).out) (Some o) number (now h).kept) (sym holds.out) (starts all more number before (now h) rested)) in
+        (subst (λ o. Rests all (told_by site (many + 1)) (now h).out [] before (Some (now h).out) (Some o) (many + 1) (now h).kept) (sym holds.out)
+        (starts all p s0 site many before (now h) rested)) in
         let tells = subst (λ b. Tells b (Some h1) (Some h2) t.1.0 []) shows t.1.1 in
         let is2 = now-more h1 h2 tells.0 tells.1 in
-        let safe = answered-safe all (now h) h1 h2 chunk tells.0 [] sound ends holds is2 tells.2 (rests-end all more2 (now h).out before2 (Some (now h2).out) number2 ((now h).kept ++ chunk) rests) in (
-          stays-more (all.text AtEnd) (Some h) (Some h1) (Some h2) (kept.0, kept.1, kept.2) (tells.0, tells.1, safe),
-          λ h3 e. subst (λ t. Rested all more2 number2 before2 (now t)) (some-same h2 h3 e)
-              (rested-again all more2 number2 before2 (now h) h1 h2 chunk tells.0 sound ends holds is2 tells.2 rests),
+        let safe = answered-safe all p s0 (now h) h1 h2 chunk tells.0 [] sound ends holds is2 tells.2
+        (rests-end all (told_by site2 (many2 + 1)) (now h).out before2 (Some (now h2).out) (many2 + 1) ((now h).kept ++ chunk) rests) in
+        let leads = led-piece all p s0 site site2 many many2 before (now h) chunk rested l led in (
+          stays-more (says_by all p s0) (Some h) (Some h1) (Some h2) (kept.0, kept.1, kept.2) (tells.0, tells.1, safe),
+          λ h3 e. subst (λ t. Rested all p s0 site2 many2 before2 (now t)) (some-same h2 h3 e)
+              (rested-again all p s0 site2 many2 before2 (now h) h1 h2 chunk tells.0 leads sound ends holds is2 tells.2 rests),
         )
-    go (Some h1) (Some h2) (Err e) k t ok err =
-        let kept = kept-holds all more number before h (Some h1) chunk rested l k in
+    go (Some h1) (Some h2) (Err e) k t ok err led =
+        let kept = kept-holds all p s0 site many before h (Some h1) chunk rested l k in
         let is1 : now h1 ≡ after_all (now h) kept.0 = now-more h h1 kept.0 kept.1 in
         let holds : Holds (now h) (now h1) chunk = subst (λ s. Holds (now h) s chunk) (sym is1) kept.3 in
         let sound = sound-more (now h).kept chunk rested.sound rested.ends l.sound in
         let ends = ends-more (now h).kept chunk rested.ends l.ends in
         let outs = err all (now h).out [] (Some (now h).out) (now h).kept
-        (subst (λ o. Rests all more (now h).out [] before (Some (now h).out) (Some o) number (now h).kept) (sym holds.out) (starts all more number before (now h) rested)) in
+        (subst (λ o. Rests all (told_by site (many + 1)) (now h).out [] before (Some (now h).out) (Some o) (many + 1) (now h).kept) (sym holds.out)
+        (starts all p s0 site many before (now h) rested)) in
         let tells = subst (λ b. Tells b (Some h1) (Some h2) t.1.0 t.1.1) shows t.1.2 in
         let is2 = now-more h1 h2 tells.0 tells.1 in
-        let safe = answered-safe all (now h) h1 h2 chunk tells.0 t.1.1 sound ends holds is2 tells.2 outs in
-        (stays-more (all.text AtEnd) (Some h) (Some h1) (Some h2) (kept.0, kept.1, kept.2) (tells.0, tells.1, safe), tt)
+        let safe = answered-safe all p s0 (now h) h1 h2 chunk tells.0 t.1.1 sound ends holds is2 tells.2 outs in
+        (stays-more (says_by all p s0) (Some h) (Some h1) (Some h2) (kept.0, kept.1, kept.2) (tells.0, tells.1, safe), tt)
 
 -- ---- a run goes on, or ends with a fault
 
@@ -268,44 +304,44 @@ pub ok-of-err : {T E : Type 0} (P : Type 0) (r : Result T E) → IsErr r → OnO
 ok-of-err P (Ok x) e = absurd (cc e)
 ok-of-err P (Err x) e = tt
 
-pub lives-err : {T E U F : Type 0} (more more2 : Account) (before before2 : Option (List ℕ)) (number number2 : ℕ) (old new : Option History) (s : Result U F)
-    (r : Result T E) → IsErr r → LivesSafe more before number old more2 before2 number2 new s → LivesSafe more before number old more2 before2 number2 new r
-lives-err more more2 before before2 number number2 old new s r bad h all past is rested = ((h all past is rested).0, ok-of-err _ r bad)
+pub lives-err : {T E U F : Type 0} (site site2 : SiteState) (before before2 : Option (List ℕ)) (many many2 : ℕ) (old new : Option History) (s : Result U F)
+    (r : Result T E) → IsErr r → LivesSafe site before many old site2 before2 many2 new s → LivesSafe site before many old site2 before2 many2 new r
+lives-err site site2 before before2 many many2 old new s r bad h all p s0 past is rested = ((h all p s0 past is rested).0, ok-of-err _ r bad)
 
 -- nothing has happened
-pub lives-none : {T E : Type 0} (more more2 : Account) (before before2 : Option (List ℕ)) (number number2 : ℕ) (old : Option History) (r : Result T E) → IsErr r
-    → LivesSafe more before number old more2 before2 number2 old r
-lives-none more more2 before before2 number number2 old r bad all h is rested =
-    (rw is (stays-none (all.text AtEnd) h (rested-safe all more number before (now h) rested)), ok-of-err _ r bad)
+pub lives-none : {T E : Type 0} (site site2 : SiteState) (before before2 : Option (List ℕ)) (many many2 : ℕ) (old : Option History) (r : Result T E) → IsErr r
+    → LivesSafe site before many old site2 before2 many2 old r
+lives-none site site2 before before2 many many2 old r bad all p s0 h is rested =
+    (rw is (stays-none (says_by all p s0) h (rested-safe all p s0 site many before (now h) rested)), ok-of-err _ r bad)
 
 -- the lines of a piece could not be kept
-pub lives-torn : {T E : Type 0} (more more2 : Account) (before before2 : Option (List ℕ)) (number number2 : ℕ) (old new : Option History) (chunk : List ℕ) (n : ℕ)
-    (r : Result T E) → IsErr r → Lines chunk → Grows old new (map (λ b. Kept b) (take n chunk)) → LivesSafe more before number old more2 before2 number2 new r
-lives-torn more more2 before before2 number number2 old new chunk n r bad l g all h is rested =
-    (piece-unkept all more number before h new chunk n rested l (rw is at g), ok-of-err _ r bad)
+pub lives-torn : {T E : Type 0} (site site2 : SiteState) (before before2 : Option (List ℕ)) (many many2 : ℕ) (old new : Option History) (chunk : List ℕ) (n : ℕ)
+    (r : Result T E) → IsErr r → Lines chunk → Grows old new (map (λ b. Kept b) (take n chunk)) → LivesSafe site before many old site2 before2 many2 new r
+lives-torn site site2 before before2 many many2 old new chunk n r bad l g all p s0 h is rested =
+    (piece-unkept all p s0 site many before h new chunk n rested l (rw is at g), ok-of-err _ r bad)
 
-pub stays-known : (text : List (List (List ℕ)) → List ℕ) (h : History) (b : Option History) → StaysSafe text (Some h) b → (h2 : History) × (b ≡ Some h2)
-stays-known text h None f = absurd f.1
-stays-known text h (Some h2) f = (h2, refl)
+pub stays-known : (says : Says) (h : History) (b : Option History) → StaysSafe says (Some h) b → (h2 : History) × (b ≡ Some h2)
+stays-known says h None f = absurd f.1
+stays-known says h (Some h2) f = (h2, refl)
 
-pub lives-more : {T E : Type 0} (more more2 more3 : Account) (before before2 before3 : Option (List ℕ)) (number number2 number3 : ℕ) (a b c : Option History)
-    (r : Result T E) → Lives more before number a more2 before2 number2 b → LivesSafe more2 before2 number2 b more3 before3 number3 c r
-    → LivesSafe more before number a more3 before3 number3 c r
-lives-more more more2 more3 before before2 before3 number number2 number3 a b c r f g all h is rested =
-    let first = f all h is rested in
-    let mid = stays-known (all.text AtEnd) h b first.0 in
-    let last = g all mid.0 mid.1 (first.1 mid.0 mid.1) in
-    (stays-more (all.text AtEnd) (Some h) b c first.0 (rw mid.1 last.0), last.1)
+pub lives-more : {T E : Type 0} (site site2 site3 : SiteState) (before before2 before3 : Option (List ℕ)) (many many2 many3 : ℕ) (a b c : Option History)
+    (r : Result T E) → Lives site before many a site2 before2 many2 b → LivesSafe site2 before2 many2 b site3 before3 many3 c r
+    → LivesSafe site before many a site3 before3 many3 c r
+lives-more site site2 site3 before before2 before3 many many2 many3 a b c r f g all p s0 h is rested =
+    let first = f all p s0 h is rested in
+    let mid = stays-known (says_by all p s0) h b first.0 in
+    let last = g all p s0 mid.0 mid.1 (first.1 mid.0 mid.1) in
+    (stays-more (says_by all p s0) (Some h) b c first.0 (rw mid.1 last.0), last.1)
 
-pub lives-start : (more : Account) (before : Option (List ℕ)) (number : ℕ) (a : Option History) → Lives more before number a more before number a
-lives-start more before number a all h is rested = (
-  rw is (stays-none (all.text AtEnd) h (rested-safe all more number before (now h) rested)),
-  λ h2 e. subst (λ t. Rested all more number before (now t)) (some-same h h2 (sym is ∙ e)) rested,
+pub lives-start : (site : SiteState) (before : Option (List ℕ)) (many : ℕ) (a : Option History) → Lives site before many a site before many a
+lives-start site before many a all p s0 h is rested = (
+  rw is (stays-none (says_by all p s0) h (rested-safe all p s0 site many before (now h) rested)),
+  λ h2 e. subst (λ t. Rested all p s0 site many before (now t)) (some-same h h2 (sym is ∙ e)) rested,
 )
 
 -- the same where there was no fault
-pub lives-known : {T E : Type 0} (more more2 : Account) (before before2 : Option (List ℕ)) (number number2 : ℕ) (old new : Option History) (r : Result T E)
-    (x : T) → r ≡ Ok x → LivesSafe more before number old more2 before2 number2 new r → Lives more before number old more2 before2 number2 new
-lives-known more more2 before before2 number number2 old new r x e h all past is rested =
-    let done = h all past is rested in
-    (done.0, subst (λ t. OnOk t ((h2 : History) → new ≡ Some h2 → Rested all more2 number2 before2 (now h2))) e done.1)
+pub lives-known : {T E : Type 0} (site site2 : SiteState) (before before2 : Option (List ℕ)) (many many2 : ℕ) (old new : Option History) (r : Result T E)
+    (x : T) → r ≡ Ok x → LivesSafe site before many old site2 before2 many2 new r → Lives site before many old site2 before2 many2 new
+lives-known site site2 before before2 many many2 old new r x e h all p s0 past is rested =
+    let done = h all p s0 past is rested in
+    (done.0, subst (λ t. OnOk t ((h2 : History) → new ≡ Some h2 → Rested all p s0 site2 many2 before2 (now h2))) e done.1)

@@ -4,19 +4,26 @@ use Rattle.std.proofs.Common.{arith, refl, sym, ap, subst, append_assoc, take-ap
 use Rattle.std.proofs.lemmas.List.{append-nil}
 use Rattle.std.proofs.Math.Seq.{take-append_seam}
 use Rattle.std.specs.Prelude.{IfSome, OnOk}
+use Rattle.rubis_model.specs.Site.{Place, Replica, counts}
+use Rattle.rubis_replica.specs.State.{SiteState}
 use Rattle.rubis_engine.specs.Accounts.{Account}
 use Rattle.rubis_engine.specs.Accounts.Ending.{AtEnd}
 use Rattle.rubis_engine.specs.Text.{input_records}
-use Rattle.rubis_keep.specs.History.{Answers, AreSafe, Event, FileState, Grows, HasTold, History, IsSafe, IsShown, StaysSafe, Tells, after, after_all}
+use Rattle.rubis_script.specs.SiteRuns.{told_by}
+use Rattle.rubis_keep.specs.Asking.{LedBy}
+use Rattle.rubis_keep.specs.History.{Answers, AreSafe, Event, FileState, Grows, HasTold, History, IsSafe, IsShown, Says, StaysSafe, Tells, after, after_all}
 use Rattle.rubis_keep.specs.History.{kept_in, now, out_in, records_in, told_of}
 use Rattle.rubis_keep.specs.History.Event.{Began, CutTo, Flushed, Kept, Replied, Settled, Shown, Told}
 use Rattle.rubis_keep.specs.Kept.{Begins, Ended, HasAnswered, IsFrontOf, Opens, Replayed}
 use Rattle.rubis_keep.specs.Lines.{AreSound, begun_after, whole_lines}
 use Rattle.rubis_keep.specs.Lives.{Found, IsOpened, LivesSafe, Rested}
+use Rattle.rubis_keep.specs.Saying.{says_by}
+use Rattle.rubis_keep.specs.Shortened.{state_after}
 use Rattle.rubis_keep.proofs.HistoryFacts.{IsCut, cut-by, cut-flushed, cut-still, still-begun, still-none, still-unbegun}
 use Rattle.rubis_keep.proofs.HistoryFacts.{now-more, only-tells, safe-answers, safe-first, stays-more}
 use Rattle.rubis_keep.proofs.LifeFacts.{begins, go-uncut, go-untold}
 use Rattle.rubis_keep.proofs.SoundFacts.{whole-ends, whole-rest, whole-sound, whole-whole}
+use Rattle.rubis_keep.proofs.TellingFacts.{none-told-at-end}
 
 -- the text of what was kept whole begins with what was told
 told-front : (all more : Account) (told : List ℕ) (number : ℕ) (kept : List ℕ) → HasAnswered all more told number (whole_lines kept)
@@ -41,30 +48,30 @@ found-safe text kept s sound f front = record {
 
 -- ---- what was kept is answered again
 
-told-within : (text : List (List (List ℕ)) → List ℕ) (kept : List ℕ) (h h2 : History) (live : Bool) (told due : List ℕ) → live ≡ false → AreSound [] kept
-    → Found kept (now h) → Tells live (Some h) (Some h2) told due → IsFrontOf (now h2).out (text (records_in kept)) → StaysSafe text (Some h) (Some h2)
-told-within text kept h h2 live told due e sound f t front =
+told-within : (says : Says) (kept : List ℕ) (h h2 : History) (live : Bool) (told due : List ℕ) → live ≡ false → AreSound [] kept
+    → Found kept (now h) → Tells live (Some h) (Some h2) told due → IsFrontOf (now h2).out (says.text (records_in kept)) → StaysSafe says (Some h) (Some h2)
+told-within says kept h h2 live told due e sound f t front =
     let s = now h in
     let a = subst (λ b. Answers b t.0 [] due) e t.2 in
     let o = only-tells false t.0 [] due s a in (
       t.0,
       t.1,
-      safe-answers text false t.0 [] due s a
+      safe-answers says false t.0 [] due s a
           (rw (f.kept_is, f.cut) (subst (AreSound []) (sym (append-nil kept)) sound))
           ([], append-nil s.flushed ∙ f.flushed ∙ sym f.kept_is)
           (f.begun, (f.shown, refl))
-          (subst (λ k. IsFrontOf (s.out ++ told_of t.0) (text (records_in k))) (sym f.flushed)
-          (subst (λ x. IsFrontOf x (text (records_in kept))) (ap (λ (x : FileState). x.out) (now-more h h2 t.0 t.1) ∙ o.out) front)),
+          (subst (λ k. IsFrontOf (s.out ++ told_of t.0) (says.text (records_in k))) (sym f.flushed)
+          (subst (λ x. IsFrontOf x (says.text (records_in kept))) (ap (λ (x : FileState). x.out) (now-more h h2 t.0 t.1) ∙ o.out) front)),
     )
 
 -- what was told of it is the beginning of the text of its records
-pub replay-safe : {T E : Type 0} (text : List (List (List ℕ)) → List ℕ) (kept : List ℕ) (h : History) (new : Option History) (live live2 : Bool) (r : Result T E)
+pub replay-safe : {T E : Type 0} (says : Says) (kept : List ℕ) (h : History) (new : Option History) (live live2 : Bool) (r : Result T E)
     → live ≡ false → AreSound [] kept → Found kept (now h) → HasTold live live2 (Some h) new r
-    → ((h2 : History) → new ≡ Some h2 → IsFrontOf (now h2).out (text (records_in kept))) → StaysSafe text (Some h) new
-replay-safe text kept h None live live2 (Ok x) e sound f t front = absurd t.1.1.1
-replay-safe text kept h None live live2 (Err x) e sound f t front = absurd t.1.2.1
-replay-safe text kept h (Some h2) live live2 (Ok x) e sound f t front = told-within text kept h h2 live t.1.0 [] e sound f t.1.1 (front h2 refl)
-replay-safe text kept h (Some h2) live live2 (Err x) e sound f t front = told-within text kept h h2 live t.1.0 t.1.1 e sound f t.1.2 (front h2 refl)
+    → ((h2 : History) → new ≡ Some h2 → IsFrontOf (now h2).out (says.text (records_in kept))) → StaysSafe says (Some h) new
+replay-safe says kept h None live live2 (Ok x) e sound f t front = absurd t.1.1.1
+replay-safe says kept h None live live2 (Err x) e sound f t front = absurd t.1.2.1
+replay-safe says kept h (Some h2) live live2 (Ok x) e sound f t front = told-within says kept h h2 live t.1.0 [] e sound f t.1.1 (front h2 refl)
+replay-safe says kept h (Some h2) live live2 (Err x) e sound f t front = told-within says kept h h2 live t.1.0 t.1.1 e sound f t.1.2 (front h2 refl)
 
 none-shown : (es : List Event) (due due2 : List ℕ) (s : FileState) → Answers false es due due2 → due ≡ [] → (after_all s es).shown ≡ s.shown
 none-shown [] due due2 s a e = refl
@@ -103,9 +110,9 @@ record Answered (all more : Account) (kept : List ℕ) (number : ℕ) (s : FileS
 cut-kept : (kept : List ℕ) (len : ℕ) → len ≡ length (whole_lines kept) → take len kept ≡ whole_lines kept
 cut-kept kept len e = ap (λ n. take n kept) e ∙ ap (take (length (whole_lines kept))) (sym (whole-rest [] kept)) ∙ take-append_seam (whole_lines kept) (begun_after [] kept)
 
-cut-safe : (all more : Account) (kept : List ℕ) (number len : ℕ) (s : FileState) → Answered all more kept number s → len ≡ length (whole_lines kept)
-    → AreSafe (all.text AtEnd) s (CutTo len ∷ [])
-cut-safe all more kept number len s a e =
+cut-safe : (all more : Account) (p : Place) (s0 : Replica) (kept : List ℕ) (number len : ℕ) (s : FileState) → Answered all more kept number s
+    → len ≡ length (whole_lines kept) → AreSafe (says_by all p s0) s (CutTo len ∷ [])
+cut-safe all more p s0 kept number len s a e =
     let f = a.found in
     let front = told-front all more s.out number kept a.answered in
     let cut = cut-kept kept len e in (
@@ -136,35 +143,56 @@ flush-safe all more kept number len s a e =
       shown = rw f.begun f.shown;
     }
 
--- the site is settled, and the line `kept,..` shown
-begin-safe : (all more : Account) (kept : List ℕ) (number len answered : ℕ) (counts : List ℕ) (s : FileState) → Answered all more kept number s
-    → len ≡ length (whole_lines kept) → number ≡ answered + 1 → more.text AtEnd [] ≡ []
-    → AreSafe (all.text AtEnd) (after_all s (CutTo len ∷ Flushed ∷ [])) (Settled ∷ Began answered counts ∷ [])
-begin-safe all more kept number len answered counts s a e n none =
-    let safe = flush-safe all more kept number len s a e in
-    let cut : take len s.kept ≡ whole_lines kept = ap (take len) a.found.kept_is ∙ cut-kept kept len e in
-    let told : s.out ≡ all.text AtEnd (records_in (take len s.kept)) =
-    told-all all more s.out number kept a.answered none ∙ ap (λ k. all.text AtEnd (input_records k)) (sym (whole-whole kept a.sound) ∙ ap whole_lines (sym cut)) in
-    let count = a.answered.count in
-    let size : length (records_in (take len s.kept)) ≡ length (input_records (whole_lines kept)) =
-    ap (λ k. length (input_records k)) (ap whole_lines cut ∙ whole-whole kept a.sound) in (
+cut-and-flushed : (all more : Account) (p : Place) (s0 : Replica) (kept : List ℕ) (number len : ℕ) (s : FileState) → Answered all more kept number s
+    → len ≡ length (whole_lines kept) → AreSafe (says_by all p s0) s (CutTo len ∷ Flushed ∷ [])
+cut-and-flushed all more p s0 kept number len s a e =
+    let c = cut-safe all more p s0 kept number len s a e in
+    (c.0, c.1, (c.2, tt, flush-safe all more kept number len s a e))
+
+-- what is kept then has these records
+cut-records : (kept : List ℕ) (len : ℕ) (s : FileState) → AreSound [] kept → Found kept s → len ≡ length (whole_lines kept)
+    → records_in (take len s.kept) ≡ records_in kept
+cut-records kept len s sound f e =
+    ap (λ k. records_in (take len k)) f.kept_is ∙ ap records_in (cut-kept kept len e) ∙ ap input_records (whole-whole kept sound)
+
+-- the site is settled
+settle-safe : (all more : Account) (p : Place) (s0 : Replica) (kept : List ℕ) (number len : ℕ) (s : FileState) → Answered all more kept number s
+    → len ≡ length (whole_lines kept) → more.text AtEnd [] ≡ [] → AreSafe (says_by all p s0) (after_all s (CutTo len ∷ Flushed ∷ [])) (Settled ∷ [])
+settle-safe all more p s0 kept number len s a e none =
+    let safe = flush-safe all more kept number len s a e in (
       safe,
-      (told, a.found.begun),
       (
-        record { sound = safe.sound; flushed = safe.flushed; told = safe.told; shown = safe.shown },
-        (told, omega (arith, count, size, n), refl, a.found.begun),
-        record { sound = safe.sound; flushed = safe.flushed; told = safe.told; shown = ([], append-nil s.out) },
+        told-all all more s.out number kept a.answered none ∙ ap (all.text AtEnd) (sym (cut-records kept len s a.sound a.found e)),
+        a.found.begun,
       ),
+      record { sound = safe.sound; flushed = safe.flushed; told = safe.told; shown = safe.shown },
+    )
+
+-- the line `kept,..` is shown
+begin-safe : (all : Account) (p : Place) (s0 : Replica) (site : SiteState) (kept : List ℕ) (many len : ℕ) (s : FileState)
+    → Answered all (told_by site (many + 1)) kept (many + 1) s → len ≡ length (whole_lines kept) → LedBy p s0 0 site many (records_in kept)
+    → AreSafe (says_by all p s0) (after_all s (CutTo len ∷ Flushed ∷ Settled ∷ [])) (Began many (counts site.place.sites site.state.log) ∷ [])
+begin-safe all p s0 site kept many len s a e led =
+    let settled = settle-safe all (told_by site (many + 1)) p s0 kept (many + 1) len s a e (none-told-at-end site (many + 1)) in
+    let safe = settled.2 in
+    let same : records_in (take len s.kept) ≡ records_in kept = cut-records kept len s a.sound a.found e in
+    let state : site.state ≡ state_after p s0 (records_in (take len s.kept)) = led.state ∙ ap (state_after p s0) (sym same) in
+    let size : length (records_in (take len s.kept)) ≡ length (records_in kept) = ap (λ (r : List (List (List ℕ))). length r) same in
+    let many_is : many ≡ length (records_in (take len s.kept)) = omega (arith, led.count, size) in (
+      safe,
+      (settled.1.0, many_is, (λ i. counts (led.place i).sites (state i).log), refl, a.found.begun),
+      record { sound = safe.sound; flushed = safe.flushed; told = safe.told; shown = ([], append-nil s.out) },
     )
 
 -- between two pieces of the input, before the first
-begin-rests : (all more : Account) (kept : List ℕ) (number len answered : ℕ) (counts : List ℕ) (before : Option (List ℕ)) (s : FileState)
-    → Answered all more kept number s → len ≡ length (whole_lines kept) → before ≡ Some []
-    → Rested all more number before (after_all s (CutTo len ∷ Flushed ∷ Settled ∷ Began answered counts ∷ []))
-begin-rests all more kept number len answered counts before s a e none =
+begin-rests : (all : Account) (p : Place) (s0 : Replica) (site : SiteState) (kept : List ℕ) (many len : ℕ) (numbers : List ℕ) (before : Option (List ℕ))
+    (s : FileState) → Answered all (told_by site (many + 1)) kept (many + 1) s → len ≡ length (whole_lines kept) → LedBy p s0 0 site many (records_in kept)
+    → before ≡ Some [] → Rested all p s0 site many before (after_all s (CutTo len ∷ Flushed ∷ Settled ∷ Began many numbers ∷ []))
+begin-rests all p s0 site kept many len numbers before s a e led none =
     let cut : take len s.kept ≡ whole_lines kept = ap (take len) a.found.kept_is ∙ cut-kept kept len e in
     record {
       answered = rw cut a.answered;
+      led = subst (LedBy p s0 0 site many) (sym (cut-records kept len s a.sound a.found e)) led;
       found = none;
       sound = rw cut (whole-sound kept a.sound);
       ends = rw cut (whole-ends kept a.sound);
@@ -186,98 +214,103 @@ ready all more kept old before h number len sound f r =
     told-is e = cc e
 
 -- a fault before the first new record: `mid` is after the cut
-pub go-safe-uncut : (all more : Account) (kept old : List ℕ) (before : Option (List ℕ)) (h : History) (new : Option History) (number len : ℕ) → AreSound [] kept
+pub go-safe-uncut : (all more : Account) (p : Place) (s0 : Replica) (kept old : List ℕ) (before : Option (List ℕ)) (h : History) (new : Option History)
+    (number len : ℕ) → AreSound [] kept
     → Found kept (now h) → Replayed all more kept old before (out_in (Some h)) number len → Grows (Some h) new [] ⊎ Grows (Some h) new (CutTo len ∷ [])
-    → StaysSafe (all.text AtEnd) (Some h) new
-go-safe-uncut all more kept old before h new number len sound f r (inl g) =
-    ([], g, safe-first (all.text AtEnd) (now h) (CutTo len ∷ []) (cut-safe all more kept number len (now h) (ready all more kept old before h number len sound f r) r.length_is))
-go-safe-uncut all more kept old before h new number len sound f r (inr g) =
-    (CutTo len ∷ [], g, cut-safe all more kept number len (now h) (ready all more kept old before h number len sound f r) r.length_is)
+    → StaysSafe (says_by all p s0) (Some h) new
+go-safe-uncut all more p s0 kept old before h new number len sound f r (inl g) = (
+  [],
+  g,
+  safe-first (says_by all p s0) (now h) (CutTo len ∷ [])
+      (cut-safe all more p s0 kept number len (now h) (ready all more kept old before h number len sound f r) r.length_is),
+)
+go-safe-uncut all more p s0 kept old before h new number len sound f r (inr g) =
+    (CutTo len ∷ [], g, cut-safe all more p s0 kept number len (now h) (ready all more kept old before h number len sound f r) r.length_is)
 
-cut-and-flushed : (all more : Account) (kept : List ℕ) (number len : ℕ) (s : FileState) → Answered all more kept number s → len ≡ length (whole_lines kept)
-    → AreSafe (all.text AtEnd) s (CutTo len ∷ Flushed ∷ [])
-cut-and-flushed all more kept number len s a e =
-    let c = cut-safe all more kept number len s a e in
-    (c.0, c.1, (c.2, tt, flush-safe all more kept number len s a e))
-
-pub go-safe-untold : (all more : Account) (kept old : List ℕ) (before : Option (List ℕ)) (h : History) (mid new : Option History) (number len : ℕ) → AreSound [] kept
+pub go-safe-untold : (all more : Account) (p : Place) (s0 : Replica) (kept old : List ℕ) (before : Option (List ℕ)) (h : History) (mid new : Option History)
+    (number len : ℕ) → AreSound [] kept
     → Found kept (now h) → Replayed all more kept old before (out_in (Some h)) number len → more.text AtEnd [] ≡ [] → Grows (Some h) mid (CutTo len ∷ Flushed ∷ [])
-    → Grows mid new [] ⊎ Grows mid new (Settled ∷ []) → StaysSafe (all.text AtEnd) (Some h) new
-go-safe-untold all more kept old before h None new number len sound f r none g e = absurd g
-go-safe-untold all more kept old before h (Some m) new number len sound f r none g e =
+    → Grows mid new [] ⊎ Grows mid new (Settled ∷ []) → StaysSafe (says_by all p s0) (Some h) new
+go-safe-untold all more p s0 kept old before h None new number len sound f r none g e = absurd g
+go-safe-untold all more p s0 kept old before h (Some m) new number len sound f r none g e =
     let a = ready all more kept old before h number len sound f r in
-    stays-more (all.text AtEnd) (Some h) (Some m) new (CutTo len ∷ Flushed ∷ [], g, cut-and-flushed all more kept number len (now h) a r.length_is) (next a e)
+    stays-more (says_by all p s0) (Some h) (Some m) new (CutTo len ∷ Flushed ∷ [], g, cut-and-flushed all more p s0 kept number len (now h) a r.length_is) (next a e)
   where
-    next : Answered all more kept number (now h) → Grows (Some m) new [] ⊎ Grows (Some m) new (Settled ∷ []) → StaysSafe (all.text AtEnd) (Some m) new
+    next : Answered all more kept number (now h) → Grows (Some m) new [] ⊎ Grows (Some m) new (Settled ∷ []) → StaysSafe (says_by all p s0) (Some m) new
     next a (inl e) = ([], e, subst (IsSafe (all.text AtEnd)) (sym (now-more h m (CutTo len ∷ Flushed ∷ []) g)) (flush-safe all more kept number len (now h) a r.length_is))
-    next a (inr e) =
-        let b = begin-safe all more kept number len (length (input_records (whole_lines kept))) [] (now h) a r.length_is (sym a.answered.count) none in
-        (Settled ∷ [], e, subst (λ s. AreSafe (all.text AtEnd) s (Settled ∷ [])) (sym (now-more h m (CutTo len ∷ Flushed ∷ []) g)) (b.0, b.1, b.2.0))
+    next a (inr e) = (
+      Settled ∷ [],
+      e,
+      subst (λ s. AreSafe (says_by all p s0) s (Settled ∷ [])) (sym (now-more h m (CutTo len ∷ Flushed ∷ []) g))
+          (settle-safe all more p s0 kept number len (now h) a r.length_is none),
+    )
 
 -- the line `kept,..` was shown
-go-begun : (all more : Account) (kept old : List ℕ) (before : Option (List ℕ)) (h : History) (mid mid2 : Option History) (number len answered : ℕ)
-    (counts : List ℕ) → AreSound [] kept → Found kept (now h) → Replayed all more kept old before (out_in (Some h)) number len → more.text AtEnd [] ≡ []
-    → number ≡ answered + 1 → Grows (Some h) mid (CutTo len ∷ Flushed ∷ []) → Grows mid mid2 (Settled ∷ Began answered counts ∷ [])
-    → (m2 : History) × (mid2 ≡ Some m2) × StaysSafe (all.text AtEnd) (Some h) (Some m2) × Rested all more number before (now m2)
-go-begun all more kept old before h None mid2 number len answered counts sound f r none n g e = absurd g
-go-begun all more kept old before h (Some m) None number len answered counts sound f r none n g e = absurd e
-go-begun all more kept old before h (Some m) (Some m2) number len answered counts sound f r none n g e =
-    let a = ready all more kept old before h number len sound f r in
-    let text = all.text AtEnd in
+go-begun : (all : Account) (p : Place) (s0 : Replica) (site : SiteState) (kept old : List ℕ) (before : Option (List ℕ)) (h : History) (mid mid2 : Option History)
+    (many len : ℕ) → AreSound [] kept → Found kept (now h) → LedBy p s0 0 site many (records_in kept)
+    → Replayed all (told_by site (many + 1)) kept old before (out_in (Some h)) (many + 1) len
+    → Grows (Some h) mid (CutTo len ∷ Flushed ∷ []) → Grows mid mid2 (Settled ∷ Began many (counts site.place.sites site.state.log) ∷ [])
+    → (m2 : History) × (mid2 ≡ Some m2) × StaysSafe (says_by all p s0) (Some h) (Some m2) × Rested all p s0 site many before (now m2)
+go-begun all p s0 site kept old before h None mid2 many len sound f led r g e = absurd g
+go-begun all p s0 site kept old before h (Some m) None many len sound f led r g e = absurd e
+go-begun all p s0 site kept old before h (Some m) (Some m2) many len sound f led r g e =
+    let more = told_by site (many + 1) in
+    let a = ready all more kept old before h (many + 1) len sound f r in
+    let says = says_by all p s0 in
+    let ends = Settled ∷ Began many (counts site.place.sites site.state.log) ∷ [] in
     let is1 = now-more h m (CutTo len ∷ Flushed ∷ []) g in
-    let is2 : now m2 ≡ after_all (now h) (CutTo len ∷ Flushed ∷ Settled ∷ Began answered counts ∷ []) =
-    now-more m m2 (Settled ∷ Began answered counts ∷ []) e ∙ ap (λ s. after_all s (Settled ∷ Began answered counts ∷ [])) is1 in
-    let first : StaysSafe text (Some h) (Some m) = (CutTo len ∷ Flushed ∷ [], g, cut-and-flushed all more kept number len (now h) a r.length_is) in
-    let next : StaysSafe text (Some m) (Some m2) = (
-      Settled ∷ Began answered counts ∷ [],
-      e,
-      subst (λ s. AreSafe text s (Settled ∷ Began answered counts ∷ [])) (sym is1) (begin-safe all more kept number len answered counts (now h) a r.length_is n none),
-    ) in (
+    let is2 : now m2 ≡ after_all (now h) (CutTo len ∷ Flushed ∷ ends) = now-more m m2 ends e ∙ ap (λ s. after_all s ends) is1 in
+    let first : StaysSafe says (Some h) (Some m) = (CutTo len ∷ Flushed ∷ [], g, cut-and-flushed all more p s0 kept (many + 1) len (now h) a r.length_is) in
+    let settled = settle-safe all more p s0 kept (many + 1) len (now h) a r.length_is (none-told-at-end site (many + 1)) in
+    let begins = begin-safe all p s0 site kept many len (now h) a r.length_is led in
+    let next : StaysSafe says (Some m) (Some m2) = (ends, e, subst (λ s. AreSafe says s ends) (sym is1) (settled.0, settled.1, begins)) in (
       m2,
       refl,
-      stays-more text (Some h) (Some m) (Some m2) first next,
-      subst (Rested all more number before) (sym is2) (begin-rests all more kept number len answered counts before (now h) a r.length_is r.before_is),
+      stays-more says (Some h) (Some m) (Some m2) first next,
+      subst (Rested all p s0 site many before) (sym is2)
+          (begin-rests all p s0 site kept many len (counts site.place.sites site.state.log) before (now h) a r.length_is led r.before_is),
     )
 
 -- the run goes on with new records
-pub go-safe : {T E : Type 0} (all more more2 : Account) (kept old : List ℕ) (before before2 : Option (List ℕ)) (h : History) (mid mid2 new : Option History)
-    (number number2 len answered : ℕ) (counts : List ℕ) (res : Result T E) → AreSound [] kept → Found kept (now h)
-    → Replayed all more kept old before (out_in (Some h)) number len → more.text AtEnd [] ≡ [] → number ≡ answered + 1
-    → Grows (Some h) mid (CutTo len ∷ Flushed ∷ []) → Grows mid mid2 (Settled ∷ Began answered counts ∷ [])
-    → LivesSafe more before number mid2 more2 before2 number2 new res → StaysSafe (all.text AtEnd) (Some h) new
-go-safe all more more2 kept old before before2 h mid mid2 new number number2 len answered counts res sound f r none n g e lives =
-    let b = go-begun all more kept old before h mid mid2 number len answered counts sound f r none n g e in
-    stays-more (all.text AtEnd) (Some h) (Some b.0) new b.2 (lives all b.0 b.1 b.3).0
+pub go-safe : {T E : Type 0} (all : Account) (p : Place) (s0 : Replica) (site site2 : SiteState) (kept old : List ℕ) (before before2 : Option (List ℕ))
+    (h : History) (mid mid2 new : Option History) (many many2 len : ℕ) (res : Result T E) → AreSound [] kept → Found kept (now h)
+    → LedBy p s0 0 site many (records_in kept) → Replayed all (told_by site (many + 1)) kept old before (out_in (Some h)) (many + 1) len
+    → Grows (Some h) mid (CutTo len ∷ Flushed ∷ []) → Grows mid mid2 (Settled ∷ Began many (counts site.place.sites site.state.log) ∷ [])
+    → LivesSafe site before many mid2 site2 before2 many2 new res → StaysSafe (says_by all p s0) (Some h) new
+go-safe all p s0 site site2 kept old before before2 h mid mid2 new many many2 len res sound f led r g e lives =
+    let b = go-begun all p s0 site kept old before h mid mid2 many len sound f led r g e in
+    stays-more (says_by all p s0) (Some h) (Some b.0) new b.2 (lives all p s0 b.0 b.1 b.3).0
 
-rested-shown : {T E : Type 0} (all more : Account) (number : ℕ) (before : Option (List ℕ)) (new : Option History) (res : Result T E)
-    → OnOk res ((h : History) → new ≡ Some h → Rested all more number before (now h)) → OnOk res (IfSome new (λ h. IsShown (now h)))
-rested-shown all more number before new (Err x) f = tt
-rested-shown all more number before None (Ok x) f = tt
-rested-shown all more number before (Some h) (Ok x) f =
+rested-shown : {T E : Type 0} (all : Account) (p : Place) (s0 : Replica) (site : SiteState) (many : ℕ) (before : Option (List ℕ)) (new : Option History)
+    (res : Result T E) → OnOk res ((h : History) → new ≡ Some h → Rested all p s0 site many before (now h)) → OnOk res (IfSome new (λ h. IsShown (now h)))
+rested-shown all p s0 site many before new (Err x) f = tt
+rested-shown all p s0 site many before None (Ok x) f = tt
+rested-shown all p s0 site many before (Some h) (Ok x) f =
     let r = f h refl in
     (r.begun, r.shown)
 
 -- and has shown all that `out` has
-pub go-shown : {T E : Type 0} (all more more2 : Account) (kept old : List ℕ) (before before2 : Option (List ℕ)) (h : History) (mid mid2 new : Option History)
-    (number number2 len answered : ℕ) (counts : List ℕ) (res : Result T E) → AreSound [] kept → Found kept (now h)
-    → Replayed all more kept old before (out_in (Some h)) number len → more.text AtEnd [] ≡ [] → number ≡ answered + 1
-    → Grows (Some h) mid (CutTo len ∷ Flushed ∷ []) → Grows mid mid2 (Settled ∷ Began answered counts ∷ [])
-    → LivesSafe more before number mid2 more2 before2 number2 new res → OnOk res (IfSome new (λ h2. IsShown (now h2)))
-go-shown all more more2 kept old before before2 h mid mid2 new number number2 len answered counts res sound f r none n g e lives =
-    let b = go-begun all more kept old before h mid mid2 number len answered counts sound f r none n g e in
-    rested-shown all more2 number2 before2 new res (lives all b.0 b.1 b.3).1
+pub go-shown : {T E : Type 0} (all : Account) (p : Place) (s0 : Replica) (site site2 : SiteState) (kept old : List ℕ) (before before2 : Option (List ℕ))
+    (h : History) (mid mid2 new : Option History) (many many2 len : ℕ) (res : Result T E) → AreSound [] kept → Found kept (now h)
+    → LedBy p s0 0 site many (records_in kept) → Replayed all (told_by site (many + 1)) kept old before (out_in (Some h)) (many + 1) len
+    → Grows (Some h) mid (CutTo len ∷ Flushed ∷ []) → Grows mid mid2 (Settled ∷ Began many (counts site.place.sites site.state.log) ∷ [])
+    → LivesSafe site before many mid2 site2 before2 many2 new res → OnOk res (IfSome new (λ h2. IsShown (now h2)))
+go-shown all p s0 site site2 kept old before before2 h mid mid2 new many many2 len res sound f led r g e lives =
+    let b = go-begun all p s0 site kept old before h mid mid2 many len sound f led r g e in
+    rested-shown all p s0 site2 many2 before2 new res (lives all p s0 b.0 b.1 b.3).1
 
 -- ---- a whole run
 
 flushed-found : (text : List (List (List ℕ)) → List ℕ) (kept : List ℕ) (s : FileState) → IsOpened text s → s.kept ≡ kept → Found kept (after s Flushed)
 flushed-found text kept s o e = record { kept_is = e; flushed = e; cut = refl; begun = o.begun; shown = rw o.begun at o.safe.shown }
 
-flushed-safe : (text : List (List (List ℕ)) → List ℕ) (s : FileState) → IsOpened text s → AreSafe text s (Flushed ∷ [])
-flushed-safe text s o = (o.safe, tt, found-safe text s.kept (after s Flushed) o.left.sound (flushed-found text s.kept s o refl) (o.left.rest, o.left.begins))
+flushed-safe : (says : Says) (s : FileState) → IsOpened says.text s → AreSafe says s (Flushed ∷ [])
+flushed-safe says s o =
+    (o.safe, tt, found-safe says.text s.kept (after s Flushed) o.left.sound (flushed-found says.text s.kept s o refl) (o.left.rest, o.left.begins))
 
 -- it ended before anything was flushed
-pub run-safe-start : (text : List (List (List ℕ)) → List ℕ) (h : History) (new : Option History) → IsOpened text (now h) → Grows (Some h) new [] → StaysSafe text (Some h) new
-run-safe-start text h new o g = ([], g, o.safe)
+pub run-safe-start : (says : Says) (h : History) (new : Option History) → IsOpened says.text (now h) → Grows (Some h) new [] → StaysSafe says (Some h) new
+run-safe-start says h new o g = ([], g, o.safe)
 
 kept-is : (a b : List ℕ) → Some a ≡ Some b → a ≡ b
 kept-is a b e = cc e
@@ -302,14 +335,14 @@ ended-front all kept old out input e front = go e.answers
         (b.0, ap (λ t. t ++ b.0) out-is ∙ b.1 ∙ ap (all.text AtEnd) (append-nil (input_records (whole_lines e.kept)) ∙ ap (λ k. input_records (whole_lines k)) (sym log-is)))
 
 -- what was kept could not be answered again
-pub run-safe-unreplayed : {T E : Type 0} (all : Account) (first past before : Option (List ℕ)) (h : History) (mid new : Option History) (live live2 : Bool)
+pub run-safe-unreplayed : {T E : Type 0} (all : Account) (p : Place) (s0 : Replica) (first past before : Option (List ℕ)) (h : History) (mid new : Option History) (live live2 : Bool)
     (res : Result T E) (kept old : List ℕ) → live ≡ false → IfSome first (λ text. AreSound [] text)
     → Opens kept old first past (kept_in (Some h)) before (out_in (Some h)) → IsOpened (all.text AtEnd) (now h) → Grows (Some h) mid (Flushed ∷ [])
     → HasTold live live2 mid new res
     → ((kept old : List ℕ) (input : Option (List ℕ)) → Begins kept old past (Some kept) before (out_in mid) → Ended all kept old input input (Some kept) (out_in new))
-    → StaysSafe (all.text AtEnd) (Some h) new
-run-safe-unreplayed all first past before h None new live live2 res kept old off sound o opened g t ends = absurd g
-run-safe-unreplayed all first past before h (Some m) new live live2 res kept old off sound o opened g t ends =
+    → StaysSafe (says_by all p s0) (Some h) new
+run-safe-unreplayed all p s0 first past before h None new live live2 res kept old off sound o opened g t ends = absurd g
+run-safe-unreplayed all p s0 first past before h (Some m) new live live2 res kept old off sound o opened g t ends =
     let text = all.text AtEnd in
     let is = now-more h m (Flushed ∷ []) g in
     let kept_now : (now h).kept ≡ kept = kept-is (now h).kept kept o.log_is in
@@ -324,21 +357,21 @@ run-safe-unreplayed all first past before h (Some m) new live live2 res kept old
     let front : IsFrontOf old (text (records_in kept)) =
     subst (λ t. IsFrontOf t (text (records_in kept))) (kept-is (now h).out old o.out_is)
     (subst (λ k. IsFrontOf (now h).out (text (records_in k))) kept_now (opened.left.rest, opened.left.begins)) in
-    stays-more text (Some h) (Some m) new (Flushed ∷ [], g, flushed-safe text (now h) opened)
-    (replay-safe text kept m new live live2 res off b.sound found t
+    stays-more (says_by all p s0) (Some h) (Some m) new (Flushed ∷ [], g, flushed-safe (says_by all p s0) (now h) opened)
+    (replay-safe (says_by all p s0) kept m new live live2 res off b.sound found t
     (λ h2 e. ended-front all kept old (now h2).out None (subst (λ n. Ended all kept old None None (Some kept) (out_in n)) e (ends kept old None b)) front))
 
 -- what was kept is answered again
-run-replayed : (all more : Account) (first past before before2 : Option (List ℕ)) (h : History) (mid mid2 : Option History) (live live2 : Bool)
+run-replayed : (all more : Account) (p : Place) (s0 : Replica) (first past before before2 : Option (List ℕ)) (h : History) (mid mid2 : Option History) (live live2 : Bool)
     (number len : ℕ) (kept old : List ℕ) → live ≡ false → IfSome first (λ text. AreSound [] text)
     → Opens kept old first past (kept_in (Some h)) before (out_in (Some h)) → IsOpened (all.text AtEnd) (now h) → Grows (Some h) mid (Flushed ∷ [])
     → (live2 ≡ live) × ((told : List ℕ) × Tells live mid mid2 told [])
     → ((kept old : List ℕ) → Begins kept old past (Some kept) before (out_in mid) → Replayed all more kept old before2 (out_in mid2) number len)
-    → (m2 : History) × (mid2 ≡ Some m2) × StaysSafe (all.text AtEnd) (Some h) (Some m2) × AreSound [] kept × Found kept (now m2)
-    × Replayed all more kept old before2 (out_in mid2) number len
-run-replayed all more first past before before2 h None mid2 live live2 number len kept old off sound o opened g t replayed = absurd g
-run-replayed all more first past before before2 h (Some m) None live live2 number len kept old off sound o opened g t replayed = absurd t.1.1.1
-run-replayed all more first past before before2 h (Some m) (Some m2) live live2 number len kept old off sound o opened g t replayed =
+    → (m2 : History) × (mid2 ≡ Some m2) × StaysSafe (says_by all p s0) (Some h) (Some m2) × AreSound [] kept × Found kept (now m2)
+    × Replayed all more kept old before2 (out_in mid2) number len × Begins kept old past (Some kept) before (out_in mid)
+run-replayed all more p s0 first past before before2 h None mid2 live live2 number len kept old off sound o opened g t replayed = absurd g
+run-replayed all more p s0 first past before before2 h (Some m) None live live2 number len kept old off sound o opened g t replayed = absurd t.1.1.1
+run-replayed all more p s0 first past before before2 h (Some m) (Some m2) live live2 number len kept old off sound o opened g t replayed =
     let text = all.text AtEnd in
     let is = now-more h m (Flushed ∷ []) g in
     let kept_now : (now h).kept ≡ kept = kept-is (now h).kept kept o.log_is in
@@ -355,37 +388,42 @@ run-replayed all more first past before before2 h (Some m) (Some m2) live live2 
     subst (λ t. IsFrontOf t (text (records_in kept))) (sym (kept-is (now m2).out r.told r.out_is)) (told-front all more r.told number kept r.answered) in (
       m2,
       refl,
-      stays-more text (Some h) (Some m) (Some m2) (Flushed ∷ [], g, flushed-safe text (now h) opened)
-          (told-within text kept m m2 live t.1.0 [] off b.sound found t.1.1 front),
+      stays-more (says_by all p s0) (Some h) (Some m) (Some m2) (Flushed ∷ [], g, flushed-safe (says_by all p s0) (now h) opened)
+          (told-within (says_by all p s0) kept m m2 live t.1.0 [] off b.sound found t.1.1 front),
       b.sound,
       replay-found kept m m2 live t.1.0 [] off found t.1.1,
       r,
+      b,
     )
 
 -- and the run goes on
-pub run-safe : (all more : Account) (first past before before2 : Option (List ℕ)) (h : History) (mid mid2 new : Option History) (live live2 : Bool)
-    (number len : ℕ) (kept old : List ℕ) → live ≡ false → IfSome first (λ text. AreSound [] text)
+pub run-safe : (all : Account) (p : Place) (s0 : Replica) (site : SiteState) (first past before before2 : Option (List ℕ)) (h : History)
+    (mid mid2 new : Option History) (live live2 : Bool) (many len : ℕ) (kept old : List ℕ) → live ≡ false → IfSome first (λ text. AreSound [] text)
     → Opens kept old first past (kept_in (Some h)) before (out_in (Some h)) → IsOpened (all.text AtEnd) (now h) → Grows (Some h) mid (Flushed ∷ [])
     → (live2 ≡ live) × ((told : List ℕ) × Tells live mid mid2 told [])
-    → ((kept old : List ℕ) → Begins kept old past (Some kept) before (out_in mid) → Replayed all more kept old before2 (out_in mid2) number len)
-    → ((all : Account) (kept old : List ℕ) (h2 : History) → mid2 ≡ Some h2 → AreSound [] kept → Found kept (now h2)
-    → Replayed all more kept old before2 (out_in mid2) number len → StaysSafe (all.text AtEnd) (Some h2) new)
-    → StaysSafe (all.text AtEnd) (Some h) new
-run-safe all more first past before before2 h mid mid2 new live live2 number len kept old off sound o opened g t replayed goes =
-    let b = run-replayed all more first past before before2 h mid mid2 live live2 number len kept old off sound o opened g t replayed in
-    stays-more (all.text AtEnd) (Some h) (Some b.0) new b.2 (goes all kept old b.0 b.1 b.3 b.4 b.5)
+    → ((kept old : List ℕ) → Begins kept old past (Some kept) before (out_in mid) → Replayed all (told_by site (many + 1)) kept old before2 (out_in mid2) (many + 1) len)
+    → ((kept old : List ℕ) → Begins kept old past (Some kept) before (out_in mid) → LedBy p s0 0 site many (records_in kept))
+    → ((all : Account) (p : Place) (s0 : Replica) (kept old : List ℕ) (h2 : History) → mid2 ≡ Some h2 → AreSound [] kept → Found kept (now h2)
+    → LedBy p s0 0 site many (records_in kept)
+    → Replayed all (told_by site (many + 1)) kept old before2 (out_in mid2) (many + 1) len → StaysSafe (says_by all p s0) (Some h2) new)
+    → StaysSafe (says_by all p s0) (Some h) new
+run-safe all p s0 site first past before before2 h mid mid2 new live live2 many len kept old off sound o opened g t replayed led goes =
+    let b = run-replayed all (told_by site (many + 1)) p s0 first past before before2 h mid mid2 live live2 (many + 1) len kept old off sound o opened g t replayed in
+    stays-more (says_by all p s0) (Some h) (Some b.0) new b.2 (goes all p s0 kept old b.0 b.1 b.3 b.4 (led kept old b.6) b.5)
 
-pub run-shown : {T E : Type 0} (all more : Account) (first past before before2 : Option (List ℕ)) (h : History) (mid mid2 new : Option History)
-    (live live2 : Bool) (number len : ℕ) (kept old : List ℕ) (res : Result T E) → live ≡ false → IfSome first (λ text. AreSound [] text)
+pub run-shown : {T E : Type 0} (all : Account) (p : Place) (s0 : Replica) (site : SiteState) (first past before before2 : Option (List ℕ)) (h : History)
+    (mid mid2 new : Option History) (live live2 : Bool) (many len : ℕ) (kept old : List ℕ) (res : Result T E) → live ≡ false → IfSome first (λ text. AreSound [] text)
     → Opens kept old first past (kept_in (Some h)) before (out_in (Some h)) → IsOpened (all.text AtEnd) (now h) → Grows (Some h) mid (Flushed ∷ [])
     → (live2 ≡ live) × ((told : List ℕ) × Tells live mid mid2 told [])
-    → ((kept old : List ℕ) → Begins kept old past (Some kept) before (out_in mid) → Replayed all more kept old before2 (out_in mid2) number len)
-    → ((all : Account) (kept old : List ℕ) (h2 : History) → mid2 ≡ Some h2 → AreSound [] kept → Found kept (now h2)
-    → Replayed all more kept old before2 (out_in mid2) number len → OnOk res (IfSome new (λ h3. IsShown (now h3))))
+    → ((kept old : List ℕ) → Begins kept old past (Some kept) before (out_in mid) → Replayed all (told_by site (many + 1)) kept old before2 (out_in mid2) (many + 1) len)
+    → ((kept old : List ℕ) → Begins kept old past (Some kept) before (out_in mid) → LedBy p s0 0 site many (records_in kept))
+    → ((all : Account) (p : Place) (s0 : Replica) (kept old : List ℕ) (h2 : History) → mid2 ≡ Some h2 → AreSound [] kept → Found kept (now h2)
+    → LedBy p s0 0 site many (records_in kept)
+    → Replayed all (told_by site (many + 1)) kept old before2 (out_in mid2) (many + 1) len → OnOk res (IfSome new (λ h3. IsShown (now h3))))
     → OnOk res (IfSome new (λ h3. IsShown (now h3)))
-run-shown all more first past before before2 h mid mid2 new live live2 number len kept old res off sound o opened g t replayed goes =
-    let b = run-replayed all more first past before before2 h mid mid2 live live2 number len kept old off sound o opened g t replayed in
-    goes all kept old b.0 b.1 b.3 b.4 b.5
+run-shown all p s0 site first past before before2 h mid mid2 new live live2 many len kept old res off sound o opened g t replayed led goes =
+    let b = run-replayed all (told_by site (many + 1)) p s0 first past before before2 h mid mid2 live live2 (many + 1) len kept old off sound o opened g t replayed in
+    goes all p s0 kept old b.0 b.1 b.3 b.4 (led kept old b.6) b.5
 
 -- ---- the ends of a run, as the code has them
 

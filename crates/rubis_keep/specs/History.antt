@@ -86,6 +86,12 @@ HasReplied old new r question text = MatchResult r (λ _. Grows old new (Replied
 
 -- ---- what holds at each moment
 
+-- what a site says behind records: the answers to them; how many messages of each site are released then; and what it replies to a question
+pub record Says : Type 0 where
+  pub text : List (List (List ℕ)) → List ℕ
+  pub counts : List (List (List ℕ)) → List ℕ
+  pub reply : List (List (List ℕ)) → List ℕ → List ℕ
+
 -- the records of what was kept whole
 abbrev pub records_in : List ℕ → List (List (List ℕ))
 records_in kept = input_records (whole_lines kept)
@@ -108,26 +114,28 @@ abbrev pub IsShown : FileState → Type 0
 IsShown s = (s.begun ≡ true) × (s.shown ≡ s.out)
 
 -- The line `kept,..` is shown once: all that was kept is answered then, and before that it is written down how the site is set up. No byte
--- is kept before it, and no event loses a line that was kept whole. A question is answered once all that was kept is answered, and shown
-abbrev pub Follows : (List (List (List ℕ)) → List ℕ) → FileState → Event → Type 0
-Follows text s (Kept b) = s.begun ≡ true
-Follows text s Flushed = ⊤
-Follows text s (CutTo n) = IsFrontOf (whole_lines s.kept) (take n s.kept)
-Follows text s (Told b) = ⊤
-Follows text s Settled = IsAnswered text s × (s.begun ≡ false)
-Follows text s (Began n counts) = IsAnswered text s × (n ≡ length (records_in s.kept)) × (s.settled ≡ true) × (s.begun ≡ false)
-Follows text s (Shown b) = ⊤
-Follows text s (Replied question reply) = IsAnswered text s × IsShown s
+-- is kept before it, and no event loses a line that was kept whole. A question is answered once all that was kept is answered, and shown:
+-- by what the site says behind that, or some first bytes of it
+abbrev pub Follows : Says → FileState → Event → Type 0
+Follows says s (Kept b) = s.begun ≡ true
+Follows says s Flushed = ⊤
+Follows says s (CutTo n) = IsFrontOf (whole_lines s.kept) (take n s.kept)
+Follows says s (Told b) = ⊤
+Follows says s Settled = IsAnswered says.text s × (s.begun ≡ false)
+Follows says s (Began n counts) = IsAnswered says.text s × (n ≡ length (records_in s.kept)) × (counts ≡ says.counts (records_in s.kept))
+    × (s.settled ≡ true) × (s.begun ≡ false)
+Follows says s (Shown b) = ⊤
+Follows says s (Replied question reply) = IsAnswered says.text s × IsShown s × IsFrontOf reply (says.reply (records_in s.kept) question)
 
 -- at each moment of these events the files are safe
-abbrev pub AreSafe : (List (List (List ℕ)) → List ℕ) → FileState → List Event → Type 0
-AreSafe text s [] = IsSafe text s
-AreSafe text s (e ∷ later) = IsSafe text s × Follows text s e × AreSafe text (after s e) later
+abbrev pub AreSafe : Says → FileState → List Event → Type 0
+AreSafe says s [] = IsSafe says.text s
+AreSafe says s (e ∷ later) = IsSafe says.text s × Follows says s e × AreSafe says (after s e) later
 
 -- where the history is known, the files were safe at each moment since
-abbrev pub StaysSafe : (List (List (List ℕ)) → List ℕ) → Option History → Option History → Type 0
-StaysSafe text None new = ⊤
-StaysSafe text (Some h) new = (events : List Event) × Grows (Some h) new events × AreSafe text (now h) events
+abbrev pub StaysSafe : Says → Option History → Option History → Type 0
+StaysSafe says None new = ⊤
+StaysSafe says (Some h) new = (events : List Event) × Grows (Some h) new events × AreSafe says (now h) events
 
 -- ---- what a run does to them
 

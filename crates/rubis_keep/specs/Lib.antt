@@ -14,6 +14,7 @@ pub mod Lives
 pub mod Showing
 pub mod Pages
 pub mod Questions
+pub mod Saying
 pub mod Asking
 pub mod Fed
 pub mod Reading

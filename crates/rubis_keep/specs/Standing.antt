@@ -80,8 +80,7 @@ pub record GoesOn {T : Type 0} (keeps : Bool) (old new : Standing) (owes : T →
   pub live : new.is_live ≡ old.is_live
   pub readers : readers new.pieces ≡ readers old.pieces
   pub told : keeps ≡ false → HasTold old.is_live new.is_live old.history new.history r
-  pub safe : keeps ≡ true → old.is_live ≡ true → LivesSafe (told_by old.site (old.answered + 1)) old.before (old.answered + 1) old.history
-      (told_by new.site (new.answered + 1)) new.before (new.answered + 1) new.history r
+  pub safe : keeps ≡ true → old.is_live ≡ true → LivesSafe old.site old.before old.answered old.history new.site new.before new.answered new.history r
   pub asked : GoesOnAsking keeps old.input old.history old.begun old.site old.answered new.input new.history new.begun new.site new.answered owes r
   pub fault : MatchResult r (λ _. StaysWithin old.limit old.answered new.limit new.answered)
       (HasCauseInEach keeps old.limit (told_by old.site (old.answered + 1)) old.input (log_of keeps old.history) old.before (out_in old.history) old.begun

@@ -12,12 +12,13 @@ use Rattle.rubis_script.specs.SiteRuns.{told_by}
 use Rattle.rubis_keep.specs.Asking.{IsUnmoved, LedBy, RepliesTo}
 use Rattle.rubis_keep.specs.Differences.{MayDiffer}
 use Rattle.rubis_keep.specs.Faults.{EndsTruly, FinishedUnlike, HasCause, IsTrueFault, StaysWithin}
-use Rattle.rubis_keep.specs.History.{HasTold, History, IsShown, StaysSafe, kept_in, now, out_in}
+use Rattle.rubis_keep.specs.History.{HasTold, History, IsShown, StaysSafe, kept_in, now, out_in, records_in}
 use Rattle.rubis_keep.specs.Kept.{Begins, Ended, Finished, FinishedFront, InEachRest, Lived, OutEnds, Opens, Replayed, Rests}
 use Rattle.rubis_keep.specs.Lines.{AreSound, whole_lines}
 use Rattle.rubis_keep.specs.Lives.{Found, IsOpened}
 use Rattle.rubis_keep.specs.Pages.{AreListed}
 use Rattle.rubis_keep.specs.Reading.{AreFree, ReadFor, readers}
+use Rattle.rubis_keep.specs.Saying.{says_by, says_of}
 use Rattle.rubis_keep.specs.Standing.{Standing}
 use Rattle.rubis_keep.specs.declared.answers.Answers.{Answers}
 use Rattle.rubis_keep.specs.declared.site.Clerk.{Clerk}
@@ -96,10 +97,12 @@ pub record LivesOn {T : Type 0} (input input2 : Option (List ℕ)) (old : Standi
   pub err : OnErr r ((all : Account) (kept was : List ℕ) → AreSound [] kept → kept_in old.history ≡ Some kept
       → Replayed all (told_by old.site (old.answered + 1)) kept was old.before (out_in old.history) (old.answered + 1) old.kept
       → Ended all kept was input input2 (kept_in history2) (out_in history2))
-  pub safe : (all : Account) (kept was : List ℕ) (h : History) → old.history ≡ Some h → AreSound [] kept → Found kept (now h)
+  pub safe : (all : Account) (p : Place) (s : Replica) (kept was : List ℕ) (h : History) → old.history ≡ Some h → AreSound [] kept → Found kept (now h)
+      → LedBy p s 0 old.site old.answered (records_in kept)
       → Replayed all (told_by old.site (old.answered + 1)) kept was old.before (out_in old.history) (old.answered + 1) old.kept
-      → StaysSafe (all.text AtEnd) (Some h) history2
-  pub shown : (all : Account) (kept was : List ℕ) (h : History) → old.history ≡ Some h → AreSound [] kept → Found kept (now h)
+      → StaysSafe (says_by all p s) (Some h) history2
+  pub shown : (all : Account) (p : Place) (s : Replica) (kept was : List ℕ) (h : History) → old.history ≡ Some h → AreSound [] kept → Found kept (now h)
+      → LedBy p s 0 old.site old.answered (records_in kept)
       → Replayed all (told_by old.site (old.answered + 1)) kept was old.before (out_in old.history) (old.answered + 1) old.kept
       → OnOk r (IfSome history2 (λ h2. IsShown (now h2)))
   pub asked : (p : Place) (s : Replica) (kept : List ℕ) → AreSound [] kept
@@ -118,7 +121,7 @@ pub record Runs {T : Type 0} (s : SiteState) (limit : ℕ) (first past before : 
   pub err : OnErr r ((kept was : List ℕ) → Opens kept was first past (kept_in old) before (out_in old)
       → Ended (told_by s 1) kept was input input2 (kept_in new) (out_in new))
   pub safe : is_live ≡ false → (h : History) (kept was : List ℕ) → old ≡ Some h → Opens kept was first past (kept_in (Some h)) before (out_in (Some h))
-      → IsOpened ((told_by s 1).text AtEnd) (now h) → StaysSafe ((told_by s 1).text AtEnd) (Some h) new
+      → IsOpened ((told_by s 1).text AtEnd) (now h) → StaysSafe (says_of s.place s.state) (Some h) new
   pub shown : is_live ≡ false → (h : History) (kept was : List ℕ) → old ≡ Some h → Opens kept was first past (kept_in (Some h)) before (out_in (Some h))
       → IsOpened ((told_by s 1).text AtEnd) (now h) → OnOk r (IfSome new (λ h2. IsShown (now h2)))
   pub asked : (kept was : List ℕ) → Opens kept was first past (kept_in old) before (out_in old)

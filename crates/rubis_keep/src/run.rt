@@ -12,6 +12,7 @@ ghost use Rattle.rubis_keep.specs.History.{Grows, HasDone, History, IsShown, Sta
 ghost use Rattle.rubis_keep.specs.History.Event.{Began, CutTo, Flushed, Settled};
 ghost use Rattle.rubis_keep.specs.Kept.{Ended, Lived, Opens};
 ghost use Rattle.rubis_keep.specs.Lives.{IsOpened};
+ghost use Rattle.rubis_keep.specs.Saying.{says_of};
 ghost use Rattle.rubis_keep.specs.Reading.{AreFree, ReadFor, readers};
 ghost use Rattle.rubis_keep.specs.Standing.{standing};
 ghost use Rattle.rubis_keep.specs.Steps.{HasReadNone, IsIdle, LivesOn, Replays, Runs};
@@ -223,7 +224,7 @@ pub fn run_kept<
     ensures safe { answers.old.is_live ≡ false → (h : History) (kept old : List ℕ) → F.history answers.old.files ≡ Some h
         → Opens kept old (C.remaining recording.old.first) (P.remaining recording.old.past) (kept_in (Some h)) (O.remaining answers.old.before) (out_in (Some h))
         → IsOpened ((told_by clerk.old.desk.site 1).text AtEnd) (now h)
-        → StaysSafe ((told_by clerk.old.desk.site 1).text AtEnd) (Some h) (F.history answers.new.files) }
+        → StaysSafe (says_of clerk.old.desk.site.place clerk.old.desk.site.state) (Some h) (F.history answers.new.files) }
     ensures shown { answers.old.is_live ≡ false → (h : History) (kept old : List ℕ) → F.history answers.old.files ≡ Some h
         → Opens kept old (C.remaining recording.old.first) (P.remaining recording.old.past) (kept_in (Some h)) (O.remaining answers.old.before) (out_in (Some h))
         → IsOpened ((told_by clerk.old.desk.site 1).text AtEnd) (now h) → OnOk result (IfSome (F.history answers.new.files) (λ h2. IsShown (now h2))) }

@@ -10,6 +10,7 @@ ghost use Rattle.rubis_keep.specs.Faults.{EndsTruly};
 ghost use Rattle.rubis_keep.specs.History.{History, IsShown, StaysSafe, kept_in, now, out_in};
 ghost use Rattle.rubis_keep.specs.Kept.{Ended, Lived, Opens};
 ghost use Rattle.rubis_keep.specs.Lives.{IsOpened};
+ghost use Rattle.rubis_keep.specs.Saying.{says_of};
 ghost use Rattle.rubis_script.specs.Desks.{IsFresh};
 
 use crate::answers::Answers;
@@ -71,7 +72,7 @@ pub fn keep_site<T: Threads + Wait + Sync, C: Read, P: Read, O: Read, F: SiteFil
     ensures safe { answers.old.is_live ≡ false → (h : History) (kept old : List ℕ) → F.history answers.old.files ≡ Some h
         → Opens kept old (C.remaining recording.old.first) (P.remaining recording.old.past) (kept_in (Some h)) (O.remaining answers.old.before) (out_in (Some h))
         → IsOpened ((site_account (setup_place config.now) (opening_at config.now.site) 1).text AtEnd) (now h)
-        → StaysSafe ((site_account (setup_place config.now) (opening_at config.now.site) 1).text AtEnd) (Some h) (F.history answers.new.files) }
+        → StaysSafe (says_of (setup_place config.now) (opening_at config.now.site)) (Some h) (F.history answers.new.files) }
     ensures shown { answers.old.is_live ≡ false → (h : History) (kept old : List ℕ) → F.history answers.old.files ≡ Some h
         → Opens kept old (C.remaining recording.old.first) (P.remaining recording.old.past) (kept_in (Some h)) (O.remaining answers.old.before) (out_in (Some h))
         → IsOpened ((site_account (setup_place config.now) (opening_at config.now.site) 1).text AtEnd) (now h)

@@ -14,7 +14,7 @@ use Rattle.rubis_keep.specs.History.{AreSafe, FileState, History, now, records_i
 use Rattle.rubis_keep.specs.Kept.{IsFrontOf, Lived}
 use Rattle.rubis_keep.specs.Lines.{AreSound, begun_after, kept_of, whole_lines}
 use Rattle.rubis_lives.specs.Room.{keeping}
-use Rattle.rubis_lives.specs.Shops.{text_of}
+use Rattle.rubis_lives.specs.Shops.{text_of, words_of}
 use Rattle.rubis_keep.proofs.SoundFacts.{whole-rest, whole-whole}
 
 pub calls-are-lives : CallsAreLives
@@ -24,7 +24,7 @@ calls-are-lives p h h2 first later safe grown = (
       let s = safe opened in
       let same : s.0 ≡ first ++ later =
       append_cancel_left h.events s.0 (first ++ later) (sym (ap (λ (t : History). t.events) s.1) ∙ grown) in
-      subst (AreSafe (text_of p) (now h)) same s.2,
+      subst (AreSafe (words_of p) (now h)) same s.2,
 )
 
 -- a text that ends with a line is its whole lines

@@ -29,7 +29,7 @@ use Rattle.rubis_model.specs.Restarts.{CarriedWithRestarts, IsShortened, Moment,
 use Rattle.rubis_model.specs.Restarts.Moment.{Reads, Replays, Restarts}
 use Rattle.rubis_model.specs.Runs.{answers, output_of}
 use Rattle.rubis_model.specs.Settle.{Has}
-use Rattle.rubis_model.specs.Site.{Replica, generating, opening_at, rows_at, standing_of}
+use Rattle.rubis_model.specs.Site.{Replica, counts, generating, opening_at, rows_at, standing_of}
 use Rattle.rubis_model.specs.System.{Event as SystemEvent, World, happens, run, sending, site, start}
 use Rattle.rubis_model.specs.System.Event.{At, Deliver}
 use Rattle.rubis_engine.specs.Text.{input_records, rows_text}
@@ -45,9 +45,10 @@ use Rattle.rubis_keep.specs.History.{AreSafe, Event, FileState, after, after_all
 use Rattle.rubis_keep.specs.History.Event.{Began, Flushed, Kept, Settled, Told}
 use Rattle.rubis_keep.specs.Lines.{AreSound}
 use Rattle.rubis_keep.specs.Lives.{IsOpened}
+use Rattle.rubis_keep.specs.Shortened.{state_after}
 use Rattle.rubis_lives.specs.Moments.{from_disk, opened_again}
 use Rattle.rubis_lives.specs.Room.{taken_by, taken_in}
-use Rattle.rubis_lives.specs.Shops.{IsPrefix, text_of}
+use Rattle.rubis_lives.specs.Shops.{IsPrefix, text_of, words_of}
 use Rattle.rubis_lives.specs.SiteLives.{AreLives, AreShopLives, SiteLife, happening, own_steps, steps_of}
 use Rattle.rubis_lives.specs.SiteLives.End.{IsRewritten, PowerFails}
 use Rattle.rubis_lives.proofs.FolderFacts.{folders-are-a-run}
@@ -231,7 +232,7 @@ is-open i = shortened-opened (text_of (site_keeping 2 i KEEP_MAX)) [] tt
 once-begun : FileState
 once-begun = after_all nothing beginning
 
-beginning-safe : (i : ℕ) → AreSafe (text_of (site_keeping 2 i KEEP_MAX)) nothing beginning
+beginning-safe : (i : ℕ) → AreSafe (words_of (site_keeping 2 i KEEP_MAX)) nothing beginning
 unfolding nothing
 beginning-safe i =
     let safe = (is-open i).safe in (
@@ -239,63 +240,63 @@ beginning-safe i =
       (sym (none-told i), refl),
       (
         record { sound = safe.sound; flushed = safe.flushed; told = safe.told; shown = safe.shown },
-        (sym (none-told i), ap length (sym none-read-in), refl, refl),
+        (sym (none-told i), ap length (sym none-read-in), ap (λ records. counts 2 (state_after (site_keeping 2 i KEEP_MAX) (opening_at i) records).log) (sym none-read-in), refl, refl),
         record { sound = safe.sound; flushed = safe.flushed; told = safe.told; shown = ([], refl) },
       ),
     )
 
-answering-safe : AreSafe (text_of (site_keeping 2 0 KEEP_MAX)) nothing answering
+answering-safe : AreSafe (words_of (site_keeping 2 0 KEEP_MAX)) nothing answering
 unfolding nothing once-begun
 answering-safe =
-    let text = text_of (site_keeping 2 0 KEEP_MAX) in
+    let says = words_of (site_keeping 2 0 KEEP_MAX) in
     let lines = map (λ b. Kept b) asked in
     let begins = beginning-safe 0 in
-    let first = safe-keeps text asked once-begun (safe-last text nothing beginning begins) refl refl asked-sound in
+    let first = safe-keeps says asked once-begun (safe-last says nothing beginning begins) refl refl asked-sound in
     let s = after_all once-begun lines in
     let answer = map (λ b. Told b) (take 20 told_to_ask) in
-    safe-append text nothing beginning (lines ++ Flushed ∷ answer) begins
-    (safe-append text once-begun lines (Flushed ∷ answer) first (
-      safe-last text once-begun lines first,
+    safe-append says nothing beginning (lines ++ Flushed ∷ answer) begins
+    (safe-append says once-begun lines (Flushed ∷ answer) first (
+      safe-last says once-begun lines first,
       tt,
-      safe-answers text true answer [] (take 20 told_to_ask) (after s Flushed) refl asked-sound ([], refl) (refl, refl) (drop 20 told_to_ask, sym ask-told),
+      safe-answers says true answer [] (take 20 told_to_ask) (after s Flushed) refl asked-sound ([], refl) (refl, refl) (drop 20 told_to_ask, sym ask-told),
     ))
 
-answering-again-safe : AreSafe (text_of (site_keeping 2 0 KEEP_MAX)) (from_disk torn) answering_again
+answering-again-safe : AreSafe (words_of (site_keeping 2 0 KEEP_MAX)) (from_disk torn) answering_again
 unfolding torn
 answering-again-safe =
-    safe-answers (text_of (site_keeping 2 0 KEEP_MAX)) false answering_again [] [] (from_disk torn) refl asked-sound ([], refl) (refl, (refl, refl))
+    safe-answers (words_of (site_keeping 2 0 KEEP_MAX)) false answering_again [] [] (from_disk torn) refl asked-sound ([], refl) (refl, (refl, refl))
     ([], sym ask-told)
 
-taking-safe : AreSafe (text_of (site_keeping 2 1 KEEP_MAX)) nothing taking
+taking-safe : AreSafe (words_of (site_keeping 2 1 KEEP_MAX)) nothing taking
 unfolding nothing once-begun
 taking-safe =
-    let text = text_of (site_keeping 2 1 KEEP_MAX) in
+    let says = words_of (site_keeping 2 1 KEEP_MAX) in
     let lines = map (λ b. Kept b) sent in
     let begins = beginning-safe 1 in
-    let first = safe-keeps text sent once-begun (safe-last text nothing beginning begins) refl refl sent-sound in
+    let first = safe-keeps says sent once-begun (safe-last says nothing beginning begins) refl refl sent-sound in
     let s = after (after_all once-begun lines) Flushed in
     let answer = map (λ b. Told b) told_to_message in
-    let answered = safe-answers text true answer [] told_to_message s refl sent-sound ([], refl) (refl, refl) ([], sym message-told) in
+    let answered = safe-answers says true answer [] told_to_message s refl sent-sound ([], refl) (refl, refl) ([], sym message-told) in
     let t = after_all s answer in
     let more = map (λ b. Kept b) listed in
-    let second = safe-keeps text listed t (safe-last text s answer answered) refl refl both-sound in
+    let second = safe-keeps says listed t (safe-last says s answer answered) refl refl both-sound in
     let rows = map (λ b. Told b) told_to_listing in
-    safe-append text nothing beginning (lines ++ Flushed ∷ answer ++ more ++ Flushed ∷ rows) begins
-    (safe-append text once-begun lines (Flushed ∷ answer ++ more ++ Flushed ∷ rows) first (
-      safe-last text once-begun lines first,
+    safe-append says nothing beginning (lines ++ Flushed ∷ answer ++ more ++ Flushed ∷ rows) begins
+    (safe-append says once-begun lines (Flushed ∷ answer ++ more ++ Flushed ∷ rows) first (
+      safe-last says once-begun lines first,
       tt,
-      safe-append text s answer (more ++ Flushed ∷ rows) answered
-          (safe-append text t more (Flushed ∷ rows) second (
-            safe-last text t more second,
+      safe-append says s answer (more ++ Flushed ∷ rows) answered
+          (safe-append says t more (Flushed ∷ rows) second (
+            safe-last says t more second,
             tt,
-            safe-answers text true rows told_to_message (told_to_message ++ told_to_listing) (after (after_all t more) Flushed) refl both-sound ([], refl)
+            safe-answers says true rows told_to_message (told_to_message ++ told_to_listing) (after (after_all t more) Flushed) refl both-sound ([], refl)
                 (refl, refl) ([], sym both-told),
           )),
     ))
 
-taking-again-safe : AreSafe (text_of (site_keeping 2 1 KEEP_MAX)) (shortened_to sent) taking_again
+taking-again-safe : AreSafe (words_of (site_keeping 2 1 KEEP_MAX)) (shortened_to sent) taking_again
 taking-again-safe =
-    safe-answers (text_of (site_keeping 2 1 KEEP_MAX)) false taking_again [] [] (shortened_to sent) refl sent-sound ([], refl) (refl, (refl, refl))
+    safe-answers (words_of (site_keeping 2 1 KEEP_MAX)) false taking_again [] [] (shortened_to sent) refl sent-sound ([], refl) (refl, (refl, refl))
     (drop 5 told_to_message, sym message-told)
 
 -- the listing changed nothing

@@ -14,13 +14,13 @@ use Rattle.rubis_laws.proofs.Processes.Restarts.{nothing_left_out, read_on_more,
 use Rattle.rubis_lives.specs.Histories.{AreHistories, HistoriesAreRuns, IsHistory, MayHappen, RaisesKeep, ShortensKept, Step, answered_by, answered_on}
 use Rattle.rubis_lives.specs.Histories.{keep_after, keeps, moments_in, most, shortened_to, site_keeping, stand_after, stands, takes}
 use Rattle.rubis_lives.specs.Histories.Step.{Does, Fails, Happens, Raises, Shortens}
-use Rattle.rubis_keep.specs.History.{Event, FileState, Follows, IsSafe, after, records_in}
+use Rattle.rubis_keep.specs.History.{Event, FileState, Follows, IsSafe, Says, after, records_in}
 use Rattle.rubis_keep.specs.History.Event.{Began, CutTo, Flushed, Kept, Replied, Settled, Shown, Told}
 use Rattle.rubis_keep.specs.Kept.{IsFrontOf}
 use Rattle.rubis_keep.specs.Lines.{AreSound, whole_lines}
 use Rattle.rubis_lives.specs.Moments.{SurvivesIn, from_disk, opened_again}
 use Rattle.rubis_lives.specs.Room.{taken_in}
-use Rattle.rubis_lives.specs.Shops.{IsPrefix, text_of}
+use Rattle.rubis_lives.specs.Shops.{IsPrefix, text_of, words_of}
 use Rattle.rubis_lives.proofs.GrowFacts.{front-more, records-grow, whole-front, whole-grow}
 use Rattle.rubis_lives.proofs.RoomFacts.{raised-take-the-same, taken-more, taken-short}
 use Rattle.rubis_lives.proofs.ShopFacts.{Records, prefix-more, prefix-same, prefix-within, shortened-again, shortened-first}
@@ -56,24 +56,24 @@ cut-flushed-front text s n h f =
     let c = length-take n s.kept in
     take-front n (whole_lines s.flushed) s.flushed (omega (arith, a, b, c)) (whole-front s.flushed)
 
-event-flushed : (text : List (List (List ℕ)) → List ℕ) (s : FileState) (e : Event) → IsSafe text s → Follows text s e
+event-flushed : (says : Says) (s : FileState) (e : Event) → IsSafe says.text s → Follows says s e
     → IsFrontOf (whole_lines s.flushed) (after s e).flushed
-event-flushed text s (Kept b) h f = whole-front s.flushed
-event-flushed text s Flushed h f = front-more (whole_lines s.flushed) s.flushed s.kept (whole-front s.flushed) h.flushed
-event-flushed text s (CutTo n) h f = cut-flushed-front text s n h f
-event-flushed text s (Told b) h f = whole-front s.flushed
-event-flushed text s Settled h f = whole-front s.flushed
-event-flushed text s (Began n counts) h f = whole-front s.flushed
-event-flushed text s (Replied question reply) h f = whole-front s.flushed
-event-flushed text s (Shown b) h f = whole-front s.flushed
+event-flushed says s (Kept b) h f = whole-front s.flushed
+event-flushed says s Flushed h f = front-more (whole_lines s.flushed) s.flushed s.kept (whole-front s.flushed) h.flushed
+event-flushed says s (CutTo n) h f = cut-flushed-front says.text s n h f
+event-flushed says s (Told b) h f = whole-front s.flushed
+event-flushed says s Settled h f = whole-front s.flushed
+event-flushed says s (Began n counts) h f = whole-front s.flushed
+event-flushed says s (Replied question reply) h f = whole-front s.flushed
+event-flushed says s (Shown b) h f = whole-front s.flushed
 
 -- what survives a power failure grows record by record, but where it is shortened
 step-flushed : (p : Place) (s : FileState) (e : Step) → IsSafe (text_of p) s → MayHappen p s e
     → IsFrontOf (whole_lines s.flushed) (stand_after p.site s e).flushed ⊎ ((short : List ℕ) × (e ≡ Shortens p.site short))
 step-flushed p s (Happens j e) h m =
-    elim (eqb j p.site) as (λ b. MatchBool b (Follows (text_of p) s e) ⊤
+    elim (eqb j p.site) as (λ b. MatchBool b (Follows (words_of p) s e) ⊤
     → IsFrontOf (whole_lines s.flushed) (cond b (after s e) s).flushed ⊎ ((short : List ℕ) × (Happens j e ≡ Shortens p.site short))) [
-      | true ↦ λ f. inl (event-flushed (text_of p) s e h f)
+      | true ↦ λ f. inl (event-flushed (words_of p) s e h f)
       | false ↦ λ f. inl (whole-front s.flushed)
     ] m
 step-flushed p s (Fails j files) h m =

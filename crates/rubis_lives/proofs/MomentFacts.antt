@@ -6,7 +6,7 @@ use Rattle.rubis_engine.specs.Accounts.{Account}
 use Rattle.rubis_engine.specs.Accounts.Ending.{AtEnd, Cut}
 use Rattle.rubis_engine.specs.Text.{input_records}
 use Rattle.rubis_keep.specs.Left.{Files}
-use Rattle.rubis_keep.specs.History.{AreSafe, Event, FileState, Follows, IsAnswered, IsSafe, after, after_all, records_in}
+use Rattle.rubis_keep.specs.History.{AreSafe, Event, FileState, Follows, IsAnswered, IsSafe, Says, after, after_all, records_in}
 use Rattle.rubis_keep.specs.History.Event.{Began, CutTo, Flushed, Kept, Replied, Settled, Shown, Told}
 use Rattle.rubis_keep.specs.Kept.{Ended, IsFrontOf, Lived}
 use Rattle.rubis_keep.specs.Lines.{AreSound, begun_after, kept_of, whole_lines}
@@ -16,9 +16,9 @@ use Rattle.rubis_lives.proofs.GrowFacts.{front-more, records-grow, whole-front, 
 use Rattle.rubis_keep.proofs.HistoryFacts.{safe-first}
 use Rattle.rubis_keep.proofs.SoundFacts.{sound-front, whole-rest}
 
-safe-at : (text : List (List (List ℕ)) → List ℕ) (s : FileState) (first later : List Event) → AreSafe text s (first ++ later) → IsSafe text (after_all s first)
-safe-at text s [] later h = safe-first text s later h
-safe-at text s (e ∷ first) later h = safe-at text (after s e) first later h.2
+safe-at : (says : Says) (s : FileState) (first later : List Event) → AreSafe says s (first ++ later) → IsSafe says.text (after_all s first)
+safe-at says s [] later h = safe-first says s later h
+safe-at says s (e ∷ first) later h = safe-at says (after s e) first later h.2
 
 sound-of : (text : List (List (List ℕ)) → List ℕ) (s : FileState) → IsSafe text s → AreSound [] s.kept
 sound-of text s h = sound-front [] s.kept s.cut h.sound
@@ -32,22 +32,22 @@ told-of-more text flushed log out extends sound front told =
     front-more out (text (records_in flushed)) (text (records_in log)) told
     (subst (λ r. IsFrontOf (text (records_in flushed)) (text r)) more.1 (extends (records_in flushed) more.0))
 
-follows-lines : (text : List (List (List ℕ)) → List ℕ) (s : FileState) (e : Event) → Follows text s e → IsFrontOf (whole_lines s.kept) (after s e).kept
-follows-lines text s (Kept b) f =
+follows-lines : (says : Says) (s : FileState) (e : Event) → Follows says s e → IsFrontOf (whole_lines s.kept) (after s e).kept
+follows-lines says s (Kept b) f =
     (begun_after [] s.kept ++ b ∷ [], sym (append_assoc (whole_lines s.kept) (begun_after [] s.kept) (b ∷ [])) ∙ ap (λ t. t ++ b ∷ []) (whole-rest [] s.kept))
-follows-lines text s Flushed f = whole-front s.kept
-follows-lines text s (CutTo n) f = f
-follows-lines text s (Told b) f = whole-front s.kept
-follows-lines text s Settled f = whole-front s.kept
-follows-lines text s (Began n counts) f = whole-front s.kept
-follows-lines text s (Replied question reply) f = whole-front s.kept
-follows-lines text s (Shown b) f = whole-front s.kept
+follows-lines says s Flushed f = whole-front s.kept
+follows-lines says s (CutTo n) f = f
+follows-lines says s (Told b) f = whole-front s.kept
+follows-lines says s Settled f = whole-front s.kept
+follows-lines says s (Began n counts) f = whole-front s.kept
+follows-lines says s (Replied question reply) f = whole-front s.kept
+follows-lines says s (Shown b) f = whole-front s.kept
 
-lines-stay : (text : List (List (List ℕ)) → List ℕ) (s : FileState) (first later : List Event) → AreSafe text s (first ++ later)
+lines-stay : (says : Says) (s : FileState) (first later : List Event) → AreSafe says s (first ++ later)
     → IsFrontOf (whole_lines s.kept) (after_all s first).kept
-lines-stay text s [] later h = whole-front s.kept
-lines-stay text s (e ∷ first) later h =
-    whole-more s.kept (after s e).kept (after_all (after s e) first).kept (sound-of text s h.0) (follows-lines text s e h.1) (lines-stay text (after s e) first later h.2)
+lines-stay says s [] later h = whole-front s.kept
+lines-stay says s (e ∷ first) later h =
+    whole-more s.kept (after s e).kept (after_all (after s e) first).kept (sound-of says.text s h.0) (follows-lines says s e h.1) (lines-stay says (after s e) first later h.2)
 
 opens-again : (text : List (List (List ℕ)) → List ℕ) (s : FileState) → Extends text → IsSafe text s → IsOpened text (opened_again s)
 opens-again text s extends h =
@@ -68,9 +68,9 @@ one-later : (text : List (List (List ℕ)) → List ℕ) (s : FileState) (e : Ev
 one-later text s e events (before, since, n, counts, is, answered) = (e ∷ before, since, n, counts, ap (λ t. e ∷ t) is, answered)
 
 pub kills-leave-files : KillsLeaveFiles
-kills-leave-files text s events extends h first later e =
-    let safe = subst (AreSafe text s) (sym e) h in
-    (opens-again text (after_all s first) extends (safe-at text s first later safe), lines-stay text s first later safe)
+kills-leave-files says s events extends h first later e =
+    let safe = subst (AreSafe says s) (sym e) h in
+    (opens-again says.text (after_all s first) extends (safe-at says s first later safe), lines-stay says s first later safe)
 
 survives : (text : List (List (List ℕ)) → List ℕ) (t : FileState) (files : Files) → Extends text → IsSafe text t → SurvivesIn t files
     → IsOpened text (from_disk files) × IsFrontOf t.out (text (records_in files.log))
@@ -87,20 +87,20 @@ survives text t files extends h left =
     )
 
 pub power-failures-leave-files : PowerFailuresLeaveFiles
-power-failures-leave-files text s events extends h first later e files left =
-    survives text (after_all s first) files extends (safe-at text s first later (subst (AreSafe text s) (sym e) h)) left
+power-failures-leave-files says s events extends h first later e files left =
+    survives says.text (after_all s first) files extends (safe-at says s first later (subst (AreSafe says s) (sym e) h)) left
 
 pub answered-before-more : AnsweredBeforeMore
-answered-before-more text s [] later b not_yet h = absurd (cc (not_yet, h.1))
-answered-before-more text s (Began n counts ∷ first) later b not_yet h = ([], first, n, counts, refl, h.1.0)
-answered-before-more text s (Kept c ∷ first) later b not_yet h = absurd (cc (not_yet, h.1))
-answered-before-more text s (Flushed ∷ first) later b not_yet h = one-later text s Flushed first (answered-before-more text (after s Flushed) first later b not_yet h.2)
-answered-before-more text s (CutTo n ∷ first) later b not_yet h = one-later text s (CutTo n) first (answered-before-more text (after s (CutTo n)) first later b not_yet h.2)
-answered-before-more text s (Told c ∷ first) later b not_yet h = one-later text s (Told c) first (answered-before-more text (after s (Told c)) first later b not_yet h.2)
-answered-before-more text s (Settled ∷ first) later b not_yet h = one-later text s Settled first (answered-before-more text (after s Settled) first later b not_yet h.2)
-answered-before-more text s (Shown c ∷ first) later b not_yet h = one-later text s (Shown c) first (answered-before-more text (after s (Shown c)) first later b not_yet h.2)
-answered-before-more text s (Replied question reply ∷ first) later b not_yet h =
-    one-later text s (Replied question reply) first (answered-before-more text (after s (Replied question reply)) first later b not_yet h.2)
+answered-before-more says s [] later b not_yet h = absurd (cc (not_yet, h.1))
+answered-before-more says s (Began n counts ∷ first) later b not_yet h = ([], first, n, counts, refl, h.1.0)
+answered-before-more says s (Kept c ∷ first) later b not_yet h = absurd (cc (not_yet, h.1))
+answered-before-more says s (Flushed ∷ first) later b not_yet h = one-later says.text s Flushed first (answered-before-more says (after s Flushed) first later b not_yet h.2)
+answered-before-more says s (CutTo n ∷ first) later b not_yet h = one-later says.text s (CutTo n) first (answered-before-more says (after s (CutTo n)) first later b not_yet h.2)
+answered-before-more says s (Told c ∷ first) later b not_yet h = one-later says.text s (Told c) first (answered-before-more says (after s (Told c)) first later b not_yet h.2)
+answered-before-more says s (Settled ∷ first) later b not_yet h = one-later says.text s Settled first (answered-before-more says (after s Settled) first later b not_yet h.2)
+answered-before-more says s (Shown c ∷ first) later b not_yet h = one-later says.text s (Shown c) first (answered-before-more says (after s (Shown c)) first later b not_yet h.2)
+answered-before-more says s (Replied question reply ∷ first) later b not_yet h =
+    one-later says.text s (Replied question reply) first (answered-before-more says (after s (Replied question reply)) first later b not_yet h.2)
 
 -- ---- a site that keeps more messages from now on
 

@@ -14,10 +14,10 @@ none-begins out b all e f (rest, g) =
     omega (arith, ap length g, ap length f, long, first)
 
 pub told-too-early : ToldTooEarlyIsUnsafe
-told-too-early text s [] b later none e f h =
-    let safe = safe-first text (after s (Told b)) later h.2 in
-    none-begins s.out b (text (records_in s.flushed)) f (ap (λ k. text (records_in k)) e ∙ none) safe.told
-told-too-early text s (c ∷ lines) b later none e f h = told-too-early text (after s (Kept c)) lines b later none e f h.2
+told-too-early says s [] b later none e f h =
+    let safe = safe-first says (after s (Told b)) later h.2 in
+    none-begins s.out b (says.text (records_in s.flushed)) f (ap (λ k. says.text (records_in k)) e ∙ none) safe.told
+told-too-early says s (c ∷ lines) b later none e f h = told-too-early says (after s (Kept c)) lines b later none e f h.2
 
 no-end : (shown : List ℕ) (b : ℕ) → shown ++ b ∷ [] ≡ [] → ⊥
 no-end shown b e = let long = length-append shown (b ∷ []) in omega (arith, ap length e, long)
@@ -29,7 +29,7 @@ not-longer shown out b e (rest, g) =
     omega (arith, ap length g, ap length e, long, first)
 
 pub shown-too-early : ShownTooEarlyIsUnsafe
-shown-too-early text s b later early h = go s.begun early (safe-first text (after s (Shown b)) later h.2).shown
+shown-too-early says s b later early h = go s.begun early (safe-first says (after s (Shown b)) later h.2).shown
   where
     go : (begun : Bool) → (begun ≡ false) ⊎ (s.shown ≡ s.out) → MatchBool begun (IsFrontOf (s.shown ++ b ∷ []) s.out) (s.shown ++ b ∷ [] ≡ []) → ⊥
     go true (inl e) m = cc e
@@ -37,8 +37,8 @@ shown-too-early text s b later early h = go s.begun early (safe-first text (afte
     go false early m = no-end s.shown b m
 
 pub kept-too-early : KeptTooEarlyIsUnsafe
-kept-too-early text s b later early h = cc (early, h.1)
+kept-too-early says s b later early h = cc (early, h.1)
 
 pub begun-too-early : BegunTooEarlyIsUnsafe
-begun-too-early text s n counts later (inl early) h = cc (early, h.1.2)
-begun-too-early text s n counts later (inr again) h = cc (again, h.1.3)
+begun-too-early says s n counts later (inl early) h = cc (early, h.1.3)
+begun-too-early says s n counts later (inr again) h = cc (again, h.1.4)

@@ -6,13 +6,13 @@ use Rattle.rubis_model.specs.Restarts.Moment.{Reads, Replays, Restarts}
 use Rattle.rubis_model.specs.Site.{Place, opening_at}
 use Rattle.rubis_lives.specs.Histories.{AreHistories, IsHistory, RaisesKeep, ShortensKept, Step, keep_after, shortened_to, site_keeping, stand_after}
 use Rattle.rubis_lives.specs.Histories.Step.{Does, Fails, Happens, Raises, Shortens}
-use Rattle.rubis_keep.specs.History.{AreSafe, Event, FileState, Follows, IsSafe, after, after_all, records_in}
+use Rattle.rubis_keep.specs.History.{AreSafe, Event, FileState, Follows, IsSafe, Says, after, after_all, records_in}
 use Rattle.rubis_keep.specs.Lines.{AreSound}
 use Rattle.rubis_keep.specs.Lives.{IsOpened}
 use Rattle.rubis_lives.specs.Moments.{Extends, SurvivesIn, from_disk, opened_again}
 use Rattle.rubis_keep.specs.Kept.{IsFrontOf}
 use Rattle.rubis_lives.specs.Room.{keeping}
-use Rattle.rubis_lives.specs.Shops.{text_of}
+use Rattle.rubis_lives.specs.Shops.{text_of, words_of}
 use Rattle.rubis_lives.specs.SiteLives.{AreLives, AreShopLives, End, LivesAreHistories, MayEnd, ShopLivesAreRuns, SiteLife, ending, happening, left_by, next_keep, own_steps, steps_of}
 use Rattle.rubis_lives.specs.SiteLives.End.{IsRaised, IsRewritten, PowerFails, Stops}
 use Rattle.rubis_lives.proofs.HistoriesFacts.{histories-are-runs, safe-here}
@@ -35,7 +35,7 @@ own-history sites i keep s (Happens j e ∷ later) h =
       | true ↦ λ own is. (own.0, own.1, own-history sites i keep (stand_after i s (Happens j e)) later own.2)
       | false ↦ λ own is. (
         safe-here sites i keep s (own_steps i later) own,
-        subst (λ b. MatchBool b (Follows (text_of (site_keeping sites i keep)) s e) ⊤) (sym is) tt,
+        subst (λ b. MatchBool b (Follows (words_of (site_keeping sites i keep)) s e) ⊤) (sym is) tt,
         subst (λ b. IsHistory sites i keep (cond b (after s e) s) later) (sym is) (own-history sites i keep s later own),
       )
     ] h refl
@@ -84,21 +84,21 @@ own-history sites i keep s (Does (Replays j fields) ∷ later) h = (safe-here si
 
 -- ---- the lives of one site
 
-first-safe : (text : List (List (List ℕ)) → List ℕ) (s : FileState) (events later : List Event) → AreSafe text s (events ++ later) → AreSafe text s events
-first-safe text s [] later h = safe-first text s later h
-first-safe text s (e ∷ events) later h = (h.0, h.1, first-safe text (after s e) events later h.2)
+first-safe : (says : Says) (s : FileState) (events later : List Event) → AreSafe says s (events ++ later) → AreSafe says s events
+first-safe says s [] later h = safe-first says s later h
+first-safe says s (e ∷ events) later h = (h.0, h.1, first-safe says (after s e) events later h.2)
 
 module _ (sites i : ℕ) where
   abbrev p : ℕ → Place
   p keep = site_keeping sites i keep
 
   -- events that keep the files safe, and then steps that do
-  events-then : (keep : ℕ) (s : FileState) (events : List Event) (later : List Step) → AreSafe (text_of (p keep)) s events
+  events-then : (keep : ℕ) (s : FileState) (events : List Event) (later : List Step) → AreSafe (words_of (p keep)) s events
       → IsHistory sites i keep (after_all s events) later → IsHistory sites i keep s (happening i events later)
   events-then keep s [] later h then = then
   events-then keep s (e ∷ events) later h then = (
     h.0,
-    subst (λ b. MatchBool b (Follows (text_of (p keep)) s e) ⊤) (sym (same-site i)) h.1,
+    subst (λ b. MatchBool b (Follows (words_of (p keep)) s e) ⊤) (sym (same-site i)) h.1,
     subst (λ b. IsHistory sites i keep (cond b (after s e) s) (happening i events later)) (sym (same-site i)) (events-then keep (after s e) events later h.2 then),
   )
 
@@ -159,35 +159,35 @@ raised-opened p s more safe r = record {
 extends-at : (p : Place) → Extends (text_of p)
 extends-at p = site-texts-extend p (opening_at p.site) 1
 
-safe-then : (text : List (List (List ℕ)) → List ℕ) (s : FileState) (events : List Event) → AreSafe text s events → IsSafe text (after_all s events)
-safe-then text s [] h = h
-safe-then text s (e ∷ events) h = safe-then text (after s e) events h.2
+safe-then : (says : Says) (s : FileState) (events : List Event) → AreSafe says s events → IsSafe says.text (after_all s events)
+safe-then says s [] h = h
+safe-then says s (e ∷ events) h = safe-then says (after s e) events h.2
 
 module _ (sites i : ℕ) where
   abbrev here : ℕ → Place
   here keep = site_keeping sites i keep
 
   -- a next process can begin with what a life has left
-  opened-by : (keep : ℕ) (s : FileState) (events : List Event) (end : End) → AreSafe (text_of (here keep)) s events
+  opened-by : (keep : ℕ) (s : FileState) (events : List Event) (end : End) → AreSafe (words_of (here keep)) s events
       → MayEnd (here keep) (after_all s events) end → IsOpened (text_of (here (next_keep keep end))) (left_by (after_all s events) end)
-  opened-by keep s events Stops safe may = (kills-leave-files (text_of (here keep)) s events (extends-at (here keep)) safe events [] (append-nil events)).0
+  opened-by keep s events Stops safe may = (kills-leave-files (words_of (here keep)) s events (extends-at (here keep)) safe events [] (append-nil events)).0
   opened-by keep s events (PowerFails files) safe may =
-      (power-failures-leave-files (text_of (here keep)) s events (extends-at (here keep)) safe events [] (append-nil events) files may).0
+      (power-failures-leave-files (words_of (here keep)) s events (extends-at (here keep)) safe events [] (append-nil events) files may).0
   opened-by keep s events (IsRewritten short) safe may = shortened-opened (text_of (here keep)) short may.sound
   opened-by keep s events (IsRaised more) safe may =
-      raised-opened (here keep) (after_all s events) more (safe-then (text_of (here keep)) s events safe) may
+      raised-opened (here keep) (after_all s events) more (safe-then (words_of (here keep)) s events safe) may
 
   lives-go : (keep : ℕ) (s : FileState) (lives : List SiteLife) (running : List Event) → IsOpened (text_of (here keep)) s
       → AreLives sites i keep s lives running → IsHistory sites i keep s (steps_of i lives running)
   lives-go keep s [] running opened life =
-      let safe = first-safe (text_of (here keep)) s running life.0 (life.1 opened) in
-      events-then sites i keep s running [] safe (safe-then (text_of (here keep)) s running safe)
+      let safe = first-safe (words_of (here keep)) s running life.0 (life.1 opened) in
+      events-then sites i keep s running [] safe (safe-then (words_of (here keep)) s running safe)
   lives-go keep s (life ∷ lives) running opened all =
-      let safe = first-safe (text_of (here keep)) s life.events all.0.0 (all.0.1 opened) in
+      let safe = first-safe (words_of (here keep)) s life.events all.0.0 (all.0.1 opened) in
       let next = opened-by keep s life.events life.end safe all.1 in
       let again = opened-by keep s life.events Stops safe tt in
       events-then sites i keep s life.events (ending i life.end (steps_of i lives running)) safe
-      (end-then sites i keep (after_all s life.events) life.end (steps_of i lives running) (safe-then (text_of (here keep)) s life.events safe) again.safe
+      (end-then sites i keep (after_all s life.events) life.end (steps_of i lives running) (safe-then (words_of (here keep)) s life.events safe) again.safe
       all.1 next (lives-go (next_keep keep life.end) (left_by (after_all s life.events) life.end) lives running next all.2))
 
 pub lives-are-histories : LivesAreHistories

@@ -10,13 +10,13 @@ use Rattle.rubis_keep.specs.Lines.{AreSound}
 use Rattle.rubis_keep.specs.Lives.{IsOpened}
 use Rattle.rubis_lives.specs.Room.{keeping}
 use Rattle.rubis_keep.specs.Shortened.{Shortens}
-use Rattle.rubis_lives.specs.Shops.{text_of}
+use Rattle.rubis_lives.specs.Shops.{text_of, words_of}
 use Rattle.rubis_lives.specs.SiteLives.{IsLife}
 
 -- a call of `keep_site`, as far as it came before its process was killed, is a life
 abbrev pub CallsAreLives : Type 0
-CallsAreLives = (p : Place) (h h2 : History) (first later : List Event) → (IsOpened (text_of p) (now h) → StaysSafe (text_of p) (Some h) (Some h2))
-    → h2.events ≡ h.events ++ (first ++ later) → IsLife (text_of p) (now h) first
+CallsAreLives = (p : Place) (h h2 : History) (first later : List Event) → (IsOpened (text_of p) (now h) → StaysSafe (words_of p) (Some h) (Some h2))
+    → h2.events ≡ h.events ++ (first ++ later) → IsLife (words_of p) (now h) first
 
 -- what `shorten` writes to a file that was empty may replace what was kept
 abbrev pub ShortenedMayReplace : Type 0

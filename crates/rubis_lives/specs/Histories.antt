@@ -10,7 +10,7 @@ use Rattle.rubis_keep.specs.Kept.{IsFrontOf}
 use Rattle.rubis_keep.specs.Lines.{AreSound}
 use Rattle.rubis_lives.specs.Moments.{SurvivesIn, from_disk, opened_again}
 use Rattle.rubis_lives.specs.Room.{keeping, taken_in}
-use Rattle.rubis_lives.specs.Shops.{AreAgreed, IsPrefix, IsSomeRun, text_of}
+use Rattle.rubis_lives.specs.Shops.{AreAgreed, IsPrefix, IsSomeRun, text_of, words_of}
 
 -- something happens to the files of a site; its power fails, and these files are left; what it kept is shortened to these lines, and `out`
 -- is empty then; it keeps more messages from now on; or its process reads a record, or is killed and started again
@@ -76,7 +76,7 @@ pub record RaisesKeep (p : Place) (s : FileState) (keep : ℕ) : Type 0 where
 
 -- what may happen at a site: what its process does to its files, as `keep_site` promises; a power failure leaves what was flushed
 abbrev pub MayHappen : Place → FileState → Step → Type 0
-MayHappen p s (Happens j e) = MatchBool (j == p.site) (Follows (text_of p) s e) ⊤
+MayHappen p s (Happens j e) = MatchBool (j == p.site) (Follows (words_of p) s e) ⊤
 MayHappen p s (Fails j files) = MatchBool (j == p.site) (SurvivesIn s files) ⊤
 MayHappen p s (Shortens j short) = MatchBool (j == p.site) (ShortensKept p s.kept short) ⊤
 MayHappen p s (Raises j keep) = MatchBool (j == p.site) (RaisesKeep p s keep) ⊤

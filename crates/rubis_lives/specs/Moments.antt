@@ -6,7 +6,7 @@ use Rattle.rubis_engine.specs.Accounts.{Account}
 use Rattle.rubis_engine.specs.Accounts.Ending.{AtEnd, Cut}
 use Rattle.rubis_engine.specs.Text.{rows_text}
 use Rattle.rubis_keep.specs.Left.{Files}
-use Rattle.rubis_keep.specs.History.{AreSafe, Event, FileState, IsAnswered, after_all, records_in}
+use Rattle.rubis_keep.specs.History.{AreSafe, Event, FileState, IsAnswered, Says, after_all, records_in}
 use Rattle.rubis_keep.specs.History.Event.{Began, Kept, Shown, Told}
 use Rattle.rubis_keep.specs.Kept.{Ended, IsFrontOf, Lived}
 use Rattle.rubis_keep.specs.Lines.{whole_lines}
@@ -33,8 +33,8 @@ AtEachMoment s events holds = (first later : List Event) → first ++ later ≡ 
 
 -- a process that is killed at any moment leaves files with which the next one can begin, and no line that was kept whole is lost
 abbrev pub KillsLeaveFiles : Type 0
-KillsLeaveFiles = (text : List (List (List ℕ)) → List ℕ) (s : FileState) (events : List Event) → Extends text → AreSafe text s events
-    → AtEachMoment s events (λ t. IsOpened text (opened_again t) × IsFrontOf (whole_lines s.kept) t.kept)
+KillsLeaveFiles = (says : Says) (s : FileState) (events : List Event) → Extends says.text → AreSafe says s events
+    → AtEachMoment s events (λ t. IsOpened says.text (opened_again t) × IsFrontOf (whole_lines s.kept) t.kept)
 
 -- what a power failure may leave: of `kept` a prefix that is no shorter than what was flushed, which may have what was cut off since, and any
 -- prefix of `out`, which is never flushed
@@ -43,14 +43,14 @@ SurvivesIn t files = IsFrontOf t.flushed files.log × IsFrontOf files.log (t.kep
 
 -- where flushed bytes survive, the next process can begin with what is left at any moment, and all that was told is told again
 abbrev pub PowerFailuresLeaveFiles : Type 0
-PowerFailuresLeaveFiles = (text : List (List (List ℕ)) → List ℕ) (s : FileState) (events : List Event) → Extends text → AreSafe text s events
-    → AtEachMoment s events (λ t. (files : Files) → SurvivesIn t files → IsOpened text (from_disk files) × IsFrontOf t.out (text (records_in files.log)))
+PowerFailuresLeaveFiles = (says : Says) (s : FileState) (events : List Event) → Extends says.text → AreSafe says s events
+    → AtEachMoment s events (λ t. (files : Files) → SurvivesIn t files
+    → IsOpened says.text (from_disk files) × IsFrontOf t.out (says.text (records_in files.log)))
 
 -- before a process keeps a byte it has shown the line `kept,..`, at a moment at which all that was kept was answered
 abbrev pub AnsweredBeforeMore : Type 0
-AnsweredBeforeMore = (text : List (List (List ℕ)) → List ℕ) (s : FileState) (first later : List Event) (b : ℕ) → s.begun ≡ false
-    → AreSafe text s (first ++ Kept b ∷ later)
-    → (before since : List Event) × (n : ℕ) × (counts : List ℕ) × (first ≡ before ++ Began n counts ∷ since) × IsAnswered text (after_all s before)
+AnsweredBeforeMore = (says : Says) (s : FileState) (first later : List Event) (b : ℕ) → s.begun ≡ false → AreSafe says s (first ++ Kept b ∷ later)
+    → (before since : List Event) × (n : ℕ) × (counts : List ℕ) × (first ≡ before ++ Began n counts ∷ since) × IsAnswered says.text (after_all s before)
 
 -- A start that keeps more messages lets the site answer all that was kept as it was told, and then compares. So it ends with both files as
 -- they were, or whatever was told of what was kept is the beginning of the answers from now on
@@ -67,20 +67,19 @@ RaisedKeepsTellTheSame = (before raised : Account) (files mid : Files) (done log
 
 -- a byte is told where nothing is flushed: before lines are kept, or once they are kept and not flushed yet
 abbrev pub ToldTooEarlyIsUnsafe : Type 0
-ToldTooEarlyIsUnsafe = (text : List (List (List ℕ)) → List ℕ) (s : FileState) (lines : List ℕ) (b : ℕ) (later : List Event) → text (records_in []) ≡ []
-    → s.flushed ≡ [] → s.out ≡ [] → AreSafe text s (map (λ c. Kept c) lines ++ Told b ∷ later) → ⊥
+ToldTooEarlyIsUnsafe = (says : Says) (s : FileState) (lines : List ℕ) (b : ℕ) (later : List Event) → says.text (records_in []) ≡ []
+    → s.flushed ≡ [] → s.out ≡ [] → AreSafe says s (map (λ c. Kept c) lines ++ Told b ∷ later) → ⊥
 
 -- a byte is shown before the line `kept,..`, or that `out` doesn't have
 abbrev pub ShownTooEarlyIsUnsafe : Type 0
-ShownTooEarlyIsUnsafe = (text : List (List (List ℕ)) → List ℕ) (s : FileState) (b : ℕ) (later : List Event) → (s.begun ≡ false) ⊎ (s.shown ≡ s.out)
-    → AreSafe text s (Shown b ∷ later) → ⊥
+ShownTooEarlyIsUnsafe = (says : Says) (s : FileState) (b : ℕ) (later : List Event) → (s.begun ≡ false) ⊎ (s.shown ≡ s.out)
+    → AreSafe says s (Shown b ∷ later) → ⊥
 
 -- a byte is kept before the line `kept,..`
 abbrev pub KeptTooEarlyIsUnsafe : Type 0
-KeptTooEarlyIsUnsafe = (text : List (List (List ℕ)) → List ℕ) (s : FileState) (b : ℕ) (later : List Event) → s.begun ≡ false
-    → AreSafe text s (Kept b ∷ later) → ⊥
+KeptTooEarlyIsUnsafe = (says : Says) (s : FileState) (b : ℕ) (later : List Event) → s.begun ≡ false → AreSafe says s (Kept b ∷ later) → ⊥
 
 -- the line `kept,..` is shown before it is written down how the site is set up, or a second time
 abbrev pub BegunTooEarlyIsUnsafe : Type 0
-BegunTooEarlyIsUnsafe = (text : List (List (List ℕ)) → List ℕ) (s : FileState) (n : ℕ) (counts : List ℕ) (later : List Event)
-    → (s.settled ≡ false) ⊎ (s.begun ≡ true) → AreSafe text s (Began n counts ∷ later) → ⊥
+BegunTooEarlyIsUnsafe = (says : Says) (s : FileState) (n : ℕ) (counts : List ℕ) (later : List Event)
+    → (s.settled ≡ false) ⊎ (s.begun ≡ true) → AreSafe says s (Began n counts ∷ later) → ⊥

@@ -7,14 +7,20 @@ use Rattle.rubis_model.specs.Processes.{AreProcesses}
 use Rattle.rubis_model.specs.Restarts.{Moment, WasLogSinceStart, recorded}
 use Rattle.rubis_model.specs.Runs.{output_of}
 use Rattle.rubis_model.specs.Settle.{Has}
-use Rattle.rubis_model.specs.Site.{Place}
+use Rattle.rubis_model.specs.Site.{Place, opening_at}
 use Rattle.rubis_model.specs.System.{AreEvents, Event, run, start}
 use Rattle.rubis_model.specs.Verdict.{verdict}
 use Rattle.rubis_engine.specs.Text.{rows_text}
+use Rattle.rubis_keep.specs.History.{Says}
+use Rattle.rubis_keep.specs.Saying.{says_of}
 
 -- the text that the process of a site answers to records
 abbrev pub text_of : Place → List (List (List ℕ)) → List ℕ
 text_of p records = rows_text (output_of p records)
+
+-- and what it says of them
+abbrev pub words_of : Place → Says
+words_of p = says_of p (opening_at p.site)
 
 abbrev pub IsPrefix : List (List (List ℕ)) → List (List (List ℕ)) → Type 0
 IsPrefix xs ys = (rest : List (List (List ℕ))) × (xs ++ rest ≡ ys)

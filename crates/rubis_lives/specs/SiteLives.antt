@@ -7,11 +7,11 @@ use Rattle.rubis_model.specs.Site.{Place}
 use Rattle.rubis_keep.specs.Left.{Files}
 use Rattle.rubis_lives.specs.Histories.{IsHistory, RaisesKeep, ShortensKept, Step, answered_by, keeps, moments_in, most, shortened_to, site_keeping, stands, takes}
 use Rattle.rubis_lives.specs.Histories.Step.{Does, Fails, Happens, Raises, Shortens}
-use Rattle.rubis_keep.specs.History.{AreSafe, Event, FileState, after_all}
+use Rattle.rubis_keep.specs.History.{AreSafe, Event, FileState, Says, after_all}
 use Rattle.rubis_keep.specs.Lives.{IsOpened}
 use Rattle.rubis_lives.specs.Moments.{SurvivesIn, from_disk, opened_again}
 use Rattle.rubis_lives.specs.Room.{taken_in}
-use Rattle.rubis_lives.specs.Shops.{AreAgreed, IsPrefix, IsSomeRun, text_of}
+use Rattle.rubis_lives.specs.Shops.{AreAgreed, IsPrefix, IsSomeRun, text_of, words_of}
 
 -- a process ends: it is killed, or ends by itself; or the power fails, and these files are left; or it ends and what was kept is
 -- shortened to these lines, or the site keeps more messages from then on
@@ -49,14 +49,14 @@ next_keep keep (IsRaised more) = more
 
 -- what `keep_site` promises of a process that does this to the files, and then `later`, if it isn't killed before: if it can begin with
 -- them, it keeps them safe at each moment
-abbrev pub IsLife : (List (List (List ℕ)) → List ℕ) → FileState → List Event → Type 0
-IsLife text s events = (later : List Event) × (IsOpened text s → AreSafe text s (events ++ later))
+abbrev pub IsLife : Says → FileState → List Event → Type 0
+IsLife says s events = (later : List Event) × (IsOpened says.text s → AreSafe says s (events ++ later))
 
 -- lives of one site, each over what the one before has left; the last one goes on
 abbrev pub AreLives : ℕ → ℕ → ℕ → FileState → List SiteLife → List Event → Type 0
-AreLives sites i keep s [] running = IsLife (text_of (site_keeping sites i keep)) s running
+AreLives sites i keep s [] running = IsLife (words_of (site_keeping sites i keep)) s running
 AreLives sites i keep s (life ∷ lives) running =
-    IsLife (text_of (site_keeping sites i keep)) s life.events × MayEnd (site_keeping sites i keep) (after_all s life.events) life.end
+    IsLife (words_of (site_keeping sites i keep)) s life.events × MayEnd (site_keeping sites i keep) (after_all s life.events) life.end
     × AreLives sites i (next_keep keep life.end) (left_by (after_all s life.events) life.end) lives running
 
 -- ---- as steps of a shop

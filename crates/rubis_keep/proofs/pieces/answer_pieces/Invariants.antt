@@ -29,8 +29,8 @@ invariant-loop-turn g l =
       told : l.keeps ≡ false → (l.answers.is_live ≡ l.fn.answers.is_live) × ((text : List ℕ)
           × Tells l.fn.answers.is_live (history l.fn.answers.files) (history l.answers.files) text []);
       safe : l.keeps ≡ true → l.fn.answers.is_live ≡ true
-          → Lives (told_by old.desk.site (old.desk.answered + 1)) (before l.fn.answers.before) (old.desk.answered + 1) (history l.fn.answers.files)
-          (told_by new.desk.site (new.desk.answered + 1)) (before l.answers.before) (new.desk.answered + 1) (history l.answers.files);
+          → Lives old.desk.site (before l.fn.answers.before) old.desk.answered (history l.fn.answers.files)
+          new.desk.site (before l.answers.before) new.desk.answered (history l.answers.files);
       asked : OfEachAsking l.keeps (left_of l.fn.lines.unread (input l.fn.live)) (history l.fn.answers.files) l.fn.lines.cutter old.desk.site old.desk.answered
           (λ p s0 kept line input0 h0. Asks l.keeps p s0 kept line input0 (left_of l.lines.unread (input l.live)) h0 (history l.answers.files) l.lines.cutter
           new.desk.site new.desk.answered []);

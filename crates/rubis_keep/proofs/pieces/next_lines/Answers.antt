@@ -91,8 +91,8 @@ returns-in_default-clause-goes g c =
       live = refl;
       readers = c.give_chunk.ensures.0 ∙ ap readers c.read_next.ensures.others.2;
       told = λ off. (refl, ([], [], tells-after _ _ _ _ [] [] (rw off at c.in_ok-keep_chunk.ensures.kept) (tells-none _ _)));
-      safe = λ keeps live all h is rested.
-          (piece-unanswered all _ _ _ h _ c.read_next.new.lines.chunk.items rested (piece-lines _ begun.0 t.bytes _ begun.1 t.holds) (rw is at (rw keeps at kept)), tt);
+      safe = λ keeps live all p s0 h is rested.
+          (piece-unanswered all p s0 _ _ _ h _ c.read_next.new.lines.chunk.items rested (piece-lines _ begun.0 t.bytes _ begun.1 t.holds) (rw is at (rw keeps at kept)), tt);
       asked = each-fails _ _ _ _ _ _ _ _ _ _ _ _ _ c.in_ok-came.ensures.ok (kept-silent _ _ _ _ c.in_ok-keep_chunk.ensures.kept);
       fault = each-failure _ c.args.clerk.now.limit _ _ _ _ _ _ _ _ _ fault.Memory tt
           (λ line e. let t = (c.in_ok-came.ensures.ok line e).0 in (t.bytes, t.taken));
@@ -130,9 +130,10 @@ returns-in_err-feed_chunk-clause-goes g c =
       told = λ off. told-after _ _ _ _ _ c.from_residual-in_err-feed_chunk.result (rw off at c.in_ok-keep_chunk.ensures.kept)
           (told-failed _ _ _ _ c.from_residual-in_err-feed_chunk.result bad c.in_err-feed_chunk.ensures.chunk.told);
       safe = λ keeps live. lives-err _ _ _ _ _ _ _ _ c.feed_chunk.result c.from_residual-in_err-feed_chunk.result bad
-          (piece-safe _ _ _ _ _ _ _ _ _ c.read_next.new.lines.chunk.items _ _ c.feed_chunk.result live (piece-lines _ begun.0 t.bytes _ begun.1 t.holds)
+          (piece-safe c.args.clerk.now.desk.site c.feed_chunk.new.clerk.desk.site c.args.clerk.now.desk.answered c.feed_chunk.new.clerk.desk.answered _ _ _ _ _
+          c.read_next.new.lines.chunk.items _ _ c.feed_chunk.result live (piece-lines _ begun.0 t.bytes _ begun.1 t.holds)
           (rw keeps at kept) c.feed_chunk.ensures.chunk.told (rw c.deref-4.ensures.value at c.feed_chunk.ensures.chunk.ok)
-          (rw c.deref-4.ensures.value at c.feed_chunk.ensures.chunk.err));
+          (rw c.deref-4.ensures.value at c.feed_chunk.ensures.chunk.err) (rw c.deref-4.ensures.value at c.feed_chunk.ensures.chunk.leads));
       asked = on_fault _ c.from_residual-in_err-feed_chunk.result bad (each-fails _ _ _ _ _ _ _ _ _ _ _ _ _ c.in_ok-came.ensures.ok
           (silent-more _ _ _ (kept-silent _ _ _ _ c.in_ok-keep_chunk.ensures.kept) (told-silent _ _ _ _ c.feed_chunk.result c.feed_chunk.ensures.chunk.told)));
       fault = err-is _ _ c.from_residual-in_err-feed_chunk.result _ c.from_residual-in_err-feed_chunk.ensures.1
@@ -170,9 +171,10 @@ returns-clause-goes g c =
           let told = c.in_ok-feed_chunk.ensures.chunk.told in
           (told.0, (told.1.0, tells-after _ _ _ _ told.1.0 [] (rw off at c.in_ok-keep_chunk.ensures.kept) told.1.1));
       safe = λ keeps live. lives-known _ _ _ _ _ _ _ _ c.feed_chunk.result _ c.in_ok-feed_chunk.was
-          (piece-safe _ _ _ _ _ _ _ _ _ c.read_next.new.lines.chunk.items _ _ c.feed_chunk.result live (piece-lines _ begun.0 t.bytes _ begun.1 t.holds)
+          (piece-safe c.args.clerk.now.desk.site c.feed_chunk.new.clerk.desk.site c.args.clerk.now.desk.answered c.feed_chunk.new.clerk.desk.answered _ _ _ _ _
+          c.read_next.new.lines.chunk.items _ _ c.feed_chunk.result live (piece-lines _ begun.0 t.bytes _ begun.1 t.holds)
           (rw keeps at kept) c.feed_chunk.ensures.chunk.told (rw c.deref-4.ensures.value at c.feed_chunk.ensures.chunk.ok)
-          (rw c.deref-4.ensures.value at c.feed_chunk.ensures.chunk.err));
+          (rw c.deref-4.ensures.value at c.feed_chunk.ensures.chunk.err) (rw c.deref-4.ensures.value at c.feed_chunk.ensures.chunk.leads));
       asked = each-asks _ _ _ _ _ _ _ _ _ _ _ _ _ _ _ c.in_ok-came.ensures.ok
           (silent-more _ _ _ (kept-silent _ _ _ _ c.in_ok-keep_chunk.ensures.kept) (told-silent _ _ _ _ c.feed_chunk.result c.feed_chunk.ensures.chunk.told)) led;
       fault = c.in_ok-feed_chunk.ensures.chunk.fault;

@@ -1,4 +1,4 @@
-use Rattle.std.proofs.Common.{◌∙◌, ◌+◌, ap}
+use Rattle.std.proofs.Common.{◌∙◌, ap}
 use Rattle.rubis_keep.proofs.AskFacts.{on_fault}
 use Rattle.rubis_keep.proofs.EachFacts.{on_err}
 use Rattle.rubis_keep.proofs.FaultFacts.{err-is, late-failure, within-still}
@@ -6,7 +6,6 @@ use Rattle.rubis_keep.proofs.HistoryFacts.{told-failed}
 use Rattle.rubis_keep.proofs.ReplyFacts.{each-replied, each-unreplied, lives-any, lives-join, not-asked, replied-still, reply-lives, still-log, told-on, told-same}
 use Rattle.rubis_keep.proofs.SafeFacts.{lives-err, lives-known, lives-more, ok-of-err}
 use Rattle.rubis_keep.proofs.StandFacts.{each-late, each-still}
-use Rattle.rubis_keep.proofs.TellingFacts.{none-told-at-end}
 use Rattle.rubis_keep.proofs.pieces.next_piece.Goals as goal
 
 -- what comes next could not be kept or answered
@@ -44,9 +43,8 @@ returns-in_err-reply_if-clause-goes g c =
       safe = λ keeps live. lives-more _ _ _ _ _ _ _ _ _ _ _ _ c.from_residual-in_err-reply_if.result
           (lives-known _ _ _ _ _ _ _ _ c.next_lines.result _ c.in_ok-came.was (c.next_lines.ensures.goes.safe keeps live))
           (lives-any _ _ _ _ _ _ _ _ c.from_residual-in_err-reply_if.result
-          (reply-lives _ _ _ _ _ _ _ _ _ c.reply_if.result _ _ c.reply_if.ensures.replied
-          (told-same mid.site c.reply_if.new.clerk.desk.site mid.answered c.reply_if.new.clerk.desk.answered same.place same.state same.answered)
-          (ap g.O.Read.remaining c.reply_if.ensures.still.before.0) (ap (λ n. n + 1) same.answered) (none-told-at-end mid.site (mid.answered + 1))));
+          (reply-lives mid.site c.reply_if.new.clerk.desk.site _ _ mid.answered c.reply_if.new.clerk.desk.answered _ _ _ c.reply_if.result _
+          c.reply_if.ensures.replied same.place same.state (ap g.O.Read.remaining c.reply_if.ensures.still.before.0) same.answered));
       asked = on_fault _ c.from_residual-in_err-reply_if.result bad
           (each-unreplied _ _ _ _ _ _ _ _ _ _ _ _ _ _ went.asked (rw c.deref.ensures.value at c.in_err-reply_if.ensures.replied));
       fault = err-is _ _ c.from_residual-in_err-reply_if.result _ c.from_residual-in_err-reply_if.ensures.1
@@ -82,9 +80,8 @@ returns-clause-goes g c =
           c.reply_if.ensures.still.before.1 c.in_ok-reply_if.ensures.replied;
       safe = λ keeps live. lives-join _ _ _ _ _ _ _ _ _ _ _ _
           (lives-known _ _ _ _ _ _ _ _ c.next_lines.result _ c.in_ok-came.was (c.next_lines.ensures.goes.safe keeps live))
-          (reply-lives _ _ _ _ _ _ _ _ _ c.reply_if.result _ _ c.reply_if.ensures.replied
-          (told-same mid.site c.reply_if.new.clerk.desk.site mid.answered c.reply_if.new.clerk.desk.answered same.place same.state same.answered)
-          (ap g.O.Read.remaining c.reply_if.ensures.still.before.0) (ap (λ n. n + 1) same.answered) (none-told-at-end mid.site (mid.answered + 1)));
+          (reply-lives mid.site c.reply_if.new.clerk.desk.site _ _ mid.answered c.reply_if.new.clerk.desk.answered _ _ _ c.reply_if.result _
+          c.reply_if.ensures.replied same.place same.state (ap g.O.Read.remaining c.reply_if.ensures.still.before.0) same.answered);
       asked = each-replied _ _ _ _ _ _ _ _ _ _ _ _ _ _ _ _ went.asked (rw c.deref.ensures.value at c.in_ok-reply_if.ensures.replied) same.place same.state
           same.answered;
       fault = within-still _ _ _ _ _ _ went.fault same.limit same.answered;

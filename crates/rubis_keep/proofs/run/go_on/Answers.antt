@@ -16,8 +16,8 @@ returns-in_err-cut_and_flush-clause-lives g c =
     record {
       ok = ok-of-err _ c.from_residual.result bad;
       err = on_err _ (cut-fails _ _ _ _ _ _ _ cut);
-      safe = λ all kept old h is sound found r. go-safe-uncut all _ kept old _ h _ _ _ sound found (rw is at r) (rw is at cut);
-      shown = λ all kept old h is sound found r. ok-of-err _ c.from_residual.result bad;
+      safe = λ all p s kept old h is sound found led r. go-safe-uncut all _ p s kept old _ h _ _ _ sound found (rw is at r) (rw is at cut);
+      shown = λ all p s kept old h is sound found led r. ok-of-err _ c.from_residual.result bad;
       asked = λ p s kept sound led. replies-none p s kept _ _ _ c.from_residual.result bad (silent-uncut _ _ _ cut);
       fault = λ all kept old sound r l. ends-unread c.args.clerk.now.limit all kept old _ c.from_residual.result _ c.from_residual.ensures.1
           (failure-true c.args.clerk.now.limit all kept old [] _ c.in_err-cut_and_flush.ensures.fault);
@@ -32,9 +32,9 @@ returns-in_err-tell_replayed-clause-lives g c =
     record {
       ok = ok-of-err _ c.from_residual-in_err-tell_replayed.result bad;
       err = on_err _ (begin-fails _ _ _ _ _ _ _ _ cut untold);
-      safe = λ all kept old h is sound found r. go-safe-untold all _ kept old _ h _ _ _ _ sound found (rw is at r)
+      safe = λ all p s kept old h is sound found led r. go-safe-untold all _ p s kept old _ h _ _ _ _ sound found (rw is at r)
           (none-told-at-end c.args.clerk.now.desk.site (c.args.clerk.now.desk.answered + 1)) (rw is at cut) untold;
-      shown = λ all kept old h is sound found r. ok-of-err _ c.from_residual-in_err-tell_replayed.result bad;
+      shown = λ all p s kept old h is sound found led r. ok-of-err _ c.from_residual-in_err-tell_replayed.result bad;
       asked = λ p s kept sound led. replies-none p s kept _ _ _ c.from_residual-in_err-tell_replayed.result bad
           (silent-more _ _ _ (silent-cut _ _ _ cut) (silent-unbegun _ _ untold));
       fault = λ all kept old sound r l. ends-unread c.args.clerk.now.limit all kept old _ c.from_residual-in_err-tell_replayed.result _
@@ -52,12 +52,10 @@ returns-clause-lives g c =
           c.answer_pieces.ensures.goes.ok c.answer_pieces.ensures.end;
       err = on_err_weaker c.answer_pieces.result (go-err-read _ _ _ _ _ _ _ _ _ _ _ _ _ _ _ unread cut.0 c.new.ensures cut.1)
           c.answer_pieces.ensures.goes.err;
-      safe = λ all kept old h is sound found r. go-safe all _ _ kept old _ _ h _ _ _ _ _ _ _ _ c.answer_pieces.result sound found (rw is at r)
-          (none-told-at-end c.args.clerk.now.desk.site (c.args.clerk.now.desk.answered + 1)) refl
-          (rw is at flushed) told (c.answer_pieces.ensures.goes.safe refl refl);
-      shown = λ all kept old h is sound found r. go-shown all _ _ kept old _ _ h _ _ _ _ _ _ _ _ c.answer_pieces.result sound found (rw is at r)
-          (none-told-at-end c.args.clerk.now.desk.site (c.args.clerk.now.desk.answered + 1)) refl
-          (rw is at flushed) told (c.answer_pieces.ensures.goes.safe refl refl);
+      safe = λ all p s kept old h is sound found led r. go-safe all p s c.args.clerk.now.desk.site c.answer_pieces.new.clerk.desk.site kept old _ _ h _ _ _ _ _ _
+          c.answer_pieces.result sound found led (rw is at r) (rw is at flushed) told (c.answer_pieces.ensures.goes.safe refl refl);
+      shown = λ all p s kept old h is sound found led r. go-shown all p s c.args.clerk.now.desk.site c.answer_pieces.new.clerk.desk.site kept old _ _ h _ _ _ _ _ _
+          c.answer_pieces.result sound found led (rw is at r) (rw is at flushed) told (c.answer_pieces.ensures.goes.safe refl refl);
       asked = λ p s kept sound led. go-replies p s kept _ _ _ _ _ _ _ _ _ _ _ _ _ c.answer_pieces.result unread
           (silent-more _ _ _ (silent-cut _ _ _ flushed) (silent-begun _ _ _ _ told))
           c.answer_pieces.ensures.goes.asked c.answer_pieces.ensures.end c.new.ensures sound led;

@@ -1,6 +1,8 @@
 use Rattle.std.proofs.Common.{◌∙◌, []}
 use Rattle.rubis_script.specs.SiteRuns.{told_by}
 use Rattle.std.proofs.lemmas.Result.{on_ok_weaker}
+use Rattle.rubis_script.specs.SiteRuns.{told_by}
+use Rattle.rubis_keep.specs.Saying.{says_of}
 use Rattle.rubis_keep.proofs.EachFacts.{on_err, on_err_weaker}
 use Rattle.rubis_keep.proofs.EndFacts.{edited-true, ends-on, ends-unread, failure-true}
 use Rattle.rubis_keep.proofs.HistoryFacts.{stays-none, still-flushed, still-none, told-kept}
@@ -14,7 +16,7 @@ pub returns-in_err-check_kept-clause-runs : goal.returns-in_err-check_kept-claus
 returns-in_err-check_kept-clause-runs g c = record {
   ok = ok-of-err _ c.from_residual.result c.from_residual.ensures.0;
   err = on_err _ (run-unread _ _ _ _ _ _ _);
-  safe = λ off h kept old is o opened. rw is (stays-none _ h opened.safe);
+  safe = λ off h kept old is o opened. rw is (stays-none (says_of c.args.clerk.now.desk.site.place c.args.clerk.now.desk.site.state) h opened.safe);
   shown = λ off h kept old is o opened. ok-of-err _ c.from_residual.result c.from_residual.ensures.0;
   asked = λ kept old o. replies-none _ _ kept _ _ _ c.from_residual.result c.from_residual.ensures.0 (silent-none _);
   fault = λ kept old o. ends-unread c.args.clerk.now.limit (told_by c.args.clerk.now.desk.site 1) kept old _ c.from_residual.result _ c.from_residual.ensures.1
@@ -26,7 +28,7 @@ returns-in_err-flush-clause-runs g c = record {
   ok = ok-of-err _ c.from_residual-in_err-flush.result c.from_residual-in_err-flush.ensures.0;
   err = let still = still-none _ _ c.in_err-flush.ensures.done in
       on_err _ (run-unflushed _ _ _ _ _ _ _ _ _ still.0 still.1);
-  safe = λ off h kept old is o opened. run-safe-start _ h _ opened (rw is at c.in_err-flush.ensures.done);
+  safe = λ off h kept old is o opened. run-safe-start (says_of c.args.clerk.now.desk.site.place c.args.clerk.now.desk.site.state) h _ opened (rw is at c.in_err-flush.ensures.done);
   shown = λ off h kept old is o opened. ok-of-err _ c.from_residual-in_err-flush.result c.from_residual-in_err-flush.ensures.0;
   asked = λ kept old o. replies-none _ _ kept _ _ _ c.from_residual-in_err-flush.result c.from_residual-in_err-flush.ensures.0 (silent-still _ _ c.in_err-flush.ensures.done);
   fault = λ kept old o. ends-unread c.args.clerk.now.limit (told_by c.args.clerk.now.desk.site 1) kept old _ c.from_residual-in_err-flush.result _
@@ -39,7 +41,7 @@ returns-in_err-replay-clause-runs g c = record {
   err = let still = still-flushed _ _ c.in_ok-flush.ensures.done in
       on_err _ (run-unreplayed _ _ _ _ _ _ _ _ _ _ _ c.in_ok-check_kept.ensures.sound still.0 still.1 (told-kept _ _ _ _ c.replay.result c.replay.ensures.told)
       c.in_err-replay.ensures.err);
-  safe = λ off h kept old is o opened. run-safe-unreplayed _ _ _ _ h _ _ _ _ c.replay.result kept old off c.in_ok-check_kept.ensures.sound o opened (rw is at c.in_ok-flush.ensures.done) c.replay.ensures.told
+  safe = λ off h kept old is o opened. run-safe-unreplayed (told_by c.args.clerk.now.desk.site 1) c.args.clerk.now.desk.site.place c.args.clerk.now.desk.site.state _ _ _ h _ _ _ _ c.replay.result kept old off c.in_ok-check_kept.ensures.sound o opened (rw is at c.in_ok-flush.ensures.done) c.replay.ensures.told
       c.in_err-replay.ensures.err;
   shown = λ off h kept old is o opened. ok-of-err _ c.from_residual-in_err-replay.result c.from_residual-in_err-replay.ensures.0;
   asked = λ kept old o. replies-none _ _ kept _ _ _ c.from_residual-in_err-replay.result c.from_residual-in_err-replay.ensures.0
@@ -58,10 +60,15 @@ returns-clause-runs g c = record {
   err = let still = still-flushed _ _ c.in_ok-flush.ensures.done in
       on_err_weaker c.go_on.result (run-ended _ _ _ _ _ _ _ _ _ _ _ _ _ _ _ _ _ _ c.in_ok-check_kept.ensures.sound still.0 still.1
       (told-kept _ _ _ _ c.replay.result c.replay.ensures.told) c.in_ok-replay.ensures.ok) c.go_on.ensures.lives.err;
-  safe = λ off h kept old is o opened. run-safe _ _ _ _ _ _ h _ _ _ _ _ _ _ kept old off c.in_ok-check_kept.ensures.sound o opened (rw is at c.in_ok-flush.ensures.done) c.in_ok-replay.ensures.told
-      c.in_ok-replay.ensures.ok c.go_on.ensures.lives.safe;
-  shown = λ off h kept old is o opened. run-shown _ _ _ _ _ _ h _ _ _ _ _ _ _ kept old c.go_on.result off c.in_ok-check_kept.ensures.sound o opened
-      (rw is at c.in_ok-flush.ensures.done) c.in_ok-replay.ensures.told c.in_ok-replay.ensures.ok c.go_on.ensures.lives.shown;
+  safe = λ off h kept old is o opened.
+      let s = c.args.clerk.now.desk.site in
+      run-safe (told_by s 1) s.place s.state c.replay.new.clerk.desk.site _ _ _ _ h _ _ _ _ _ _ _ kept old off c.in_ok-check_kept.ensures.sound o opened
+      (rw is at c.in_ok-flush.ensures.done) c.in_ok-replay.ensures.told c.in_ok-replay.ensures.ok c.in_ok-replay.ensures.led c.go_on.ensures.lives.safe;
+  shown = λ off h kept old is o opened.
+      let s = c.args.clerk.now.desk.site in
+      run-shown (told_by s 1) s.place s.state c.replay.new.clerk.desk.site _ _ _ _ h _ _ _ _ _ _ _ kept old c.go_on.result off
+      c.in_ok-check_kept.ensures.sound o opened (rw is at c.in_ok-flush.ensures.done) c.in_ok-replay.ensures.told c.in_ok-replay.ensures.ok
+      c.in_ok-replay.ensures.led c.go_on.ensures.lives.shown;
   asked = λ kept old o. let still = still-flushed _ _ c.in_ok-flush.ensures.done in
       let b = run-begins _ _ _ _ _ _ _ c.in_ok-check_kept.ensures.sound still.0 still.1 kept old o in
       replies-after _ _ kept _ _ _ _ _ c.go_on.result
