@@ -26,7 +26,13 @@ world_setup_of s = record { sites = s.sites; shards = s.shards; workers = s.work
 -- what is asked for of a site in a folder
 abbrev pub wanted_of : KeepOptions → Wanted
 wanted_of k = record {
-  site = k.site; sites = k.sites; keep = k.keep;
-  shards = k.shards; workers = k.workers; batch = k.batch;
-  is_synced = k.sync; shortens = k.shorten; upgrades = k.upgrade;
+  site = k.site;
+  sites = k.sites;
+  keep = k.keep;
+  shards = k.shards;
+  workers = k.workers;
+  batch = k.batch;
+  is_synced = k.sync;
+  shortens = k.shorten;
+  upgrades = k.upgrade;
 }

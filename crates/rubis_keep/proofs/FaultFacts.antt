@@ -1,5 +1,5 @@
 -- What is so where a fault ends a step of a run.
-use Rattle.std.proofs.Common.{◌≡◌, ◌≢◌, ◌∙◌, ◌≤◌, ◌<◌, ◌+◌, ◌⊎◌, inl, inr, ◌++◌, ◌∷◌, [], ℕ, Bool, List, Option, Some, IfSome, Result, Ok, Err, get_or, length}
+use Rattle.std.proofs.Common.{◌≡◌, ◌≢◌, ◌∙◌, ◌≤◌, ◌<◌, ◌+◌, ◌⊎◌, inl, inr, ◌++◌, ◌∷◌, [], ℕ, Bool, List, Option, IfSome, Result, Ok, Err, get_or, length}
 use Rattle.std.proofs.Common.{append_assoc, ap, arith, length-append, sym, subst}
 use Rattle.std.specs.Prelude.{IsErrAnd, MatchResult}
 use Rattle.std.specs.Io.KnownBytes.{Consumes}

@@ -1,5 +1,5 @@
 -- What a site says of its records.
-use Rattle.std.specs.Prelude.{ℕ, List, length}
+use Rattle.std.specs.Prelude.{length}
 use Rattle.rubis_model.specs.Site.{Place, Replica, counts}
 use Rattle.rubis_engine.specs.Accounts.{Account}
 use Rattle.rubis_engine.specs.Accounts.Ending.{AtEnd}

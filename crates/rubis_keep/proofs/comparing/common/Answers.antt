@@ -1,4 +1,4 @@
-use Rattle.std.proofs.Common.{arith, drop}
+use Rattle.std.proofs.Common.{arith}
 use Rattle.rubis_keep.proofs.DifferenceFacts.{same-none}
 use Rattle.rubis_keep.proofs.comparing.common.Goals as goal
 
