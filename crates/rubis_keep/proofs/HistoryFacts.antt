@@ -6,7 +6,7 @@ use Rattle.std.specs.Prelude.{IsErr, MatchBool, MatchResult}
 use Rattle.std.specs.Io.KnownBytes.{Appends, Keeps}
 use Rattle.rubis_keep.specs.History.{Answers, AreSafe, Event, FileState, Grows, History, IsSafe, StaysSafe, Tells, after, after_all, kept_in}
 use Rattle.rubis_keep.specs.Files.{AppendsFront}
-use Rattle.rubis_keep.specs.History.{HasDone, HasKept, HasTold, TellsFront, KeepsLines, Says, log_of, now, out_in, records_in, told_of}
+use Rattle.rubis_keep.specs.History.{HasDone, HasKept, HasTold, IsShown, TellsFront, KeepsLines, Says, log_of, now, out_in, records_in, told_of}
 use Rattle.rubis_keep.specs.History.Event.{Began, CutTo, Flushed, Kept, Replied, Settled, Shown, Told}
 use Rattle.rubis_keep.specs.Kept.{CutsTo, IsFrontOf}
 use Rattle.rubis_keep.specs.Lines.{AreSound}
@@ -89,13 +89,13 @@ shown-tells-none : (text : List ℕ) → told_of (map (λ b. Shown b) text) ≡ 
 shown-tells-none [] = refl
 shown-tells-none (b ∷ text) = shown-tells-none text
 
-answers-told : (live : Bool) (text due : List ℕ) → Answers live (map (λ b. Told b) text) due (cond live (due ++ text) due)
+pub answers-told : (live : Bool) (text due : List ℕ) → Answers live (map (λ b. Told b) text) due (cond live (due ++ text) due)
 answers-told true [] due = append-nil due
 answers-told false [] due = refl
 answers-told true (b ∷ text) due = subst (Answers true (map (λ b. Told b) text) (due ++ b ∷ [])) (append_assoc due (b ∷ []) text) (answers-told true text (due ++ b ∷ []))
 answers-told false (b ∷ text) due = answers-told false text due
 
-answers-shown : (text due : List ℕ) → Answers true (map (λ b. Shown b) text) (text ++ due) due
+pub answers-shown : (text due : List ℕ) → Answers true (map (λ b. Shown b) text) (text ++ due) due
 answers-shown [] due = refl
 answers-shown (b ∷ text) due = (text ++ due, refl, answers-shown text due)
 
@@ -200,13 +200,13 @@ only-keeps (b ∷ bytes) s =
     let r = only-keeps bytes (after s (Kept b)) in
     record { kept = r.kept ∙ append_assoc s.kept (b ∷ []) bytes; flushed = r.flushed; cut = r.cut; begun = r.begun; shown = r.shown; out = r.out }
 
-pub safe-keeps : (says : Says) (bytes : List ℕ) (s : FileState) → IsSafe says.text s → s.begun ≡ true → s.cut ≡ []
+pub safe-keeps : (says : Says) (bytes : List ℕ) (s : FileState) → IsSafe says.text s → IsShown s → s.cut ≡ []
     → AreSound [] (s.kept ++ bytes) → AreSafe says s (map (λ b. Kept b) bytes)
-safe-keeps says [] s safe begun none sound = safe
-safe-keeps says (b ∷ bytes) s safe begun none sound =
+safe-keeps says [] s safe shown none sound = safe
+safe-keeps says (b ∷ bytes) s safe shown none sound =
     let all : AreSound [] ((s.kept ++ b ∷ []) ++ bytes) = subst (AreSound []) (sym (append_assoc s.kept (b ∷ []) bytes)) sound in (
       safe,
-      begun,
+      shown,
       safe-keeps says bytes (after s (Kept b))
           (record {
             sound = subst (λ c. AreSound [] ((s.kept ++ b ∷ []) ++ c)) (sym none)
@@ -215,7 +215,7 @@ safe-keeps says (b ∷ bytes) s safe begun none sound =
             told = safe.told;
             shown = safe.shown;
           })
-          begun none all,
+          shown none all,
     )
 
 -- ---- what the files have

@@ -81,7 +81,7 @@ kept-safe : (all : Account) (p : Place) (s0 : Replica) (site : SiteState) (many 
     → AreSafe (says_by all p s0) s (map (λ b. Kept b) chunk ++ Flushed ∷ [])
 kept-safe all p s0 site many before s chunk r l =
     let o = only-keeps chunk s in
-    let first = safe-keeps (says_by all p s0) chunk s (rested-safe all p s0 site many before s r) r.begun r.cut (sound-more s.kept chunk r.sound r.ends l.sound) in
+    let first = safe-keeps (says_by all p s0) chunk s (rested-safe all p s0 site many before s r) (r.begun, r.shown) r.cut (sound-more s.kept chunk r.sound r.ends l.sound) in
     let s1 = after_all s (map (λ b. Kept b) chunk) in
     let last = safe-last (says_by all p s0) s (map (λ b. Kept b) chunk) first in
     safe-append (says_by all p s0) s (map (λ b. Kept b) chunk) (Flushed ∷ []) first (
@@ -127,7 +127,7 @@ pub piece-unkept : (all : Account) (p : Place) (s0 : Replica) (site : SiteState)
 piece-unkept all p s0 site many before h new chunk n r l g = (
   map (λ b. Kept b) (take n chunk),
   g,
-  safe-keeps (says_by all p s0) (take n chunk) (now h) (rested-safe all p s0 site many before (now h) r) r.begun r.cut
+  safe-keeps (says_by all p s0) (take n chunk) (now h) (rested-safe all p s0 site many before (now h) r) (r.begun, r.shown) r.cut
       (sound-front [] ((now h).kept ++ take n chunk) (drop n chunk)
       (subst (AreSound []) (sym (append_assoc (now h).kept (take n chunk) (drop n chunk)) ∙ ap (λ t. t) refl)
       (subst (λ t. AreSound [] ((now h).kept ++ t)) (sym (take-append-drop n chunk)) (sound-more (now h).kept chunk r.sound r.ends l.sound)))),

@@ -20,14 +20,14 @@ IsTrueFault limit all kept old bytes (fault.Differs d) = IsFrontOf old (all.text
 IsTrueFault limit all kept old bytes fault.TooLong = limit < length (input_records (whole_lines kept ++ kept_of bytes))
 IsTrueFault limit all kept old bytes other = ⊤
 
--- a run ended with a fault that is true, or without one, and had no more records than its limit
+-- a run ended with a fault that is true; or it ended without one, and had no more records than its limit
 abbrev pub EndsTruly : {T : Type 0} → ℕ → Account → List ℕ → List ℕ → Option (List ℕ) → Option (List ℕ) → Result T KeepFault → Type 0
 EndsTruly limit all kept old input input2 r = (bytes : List ℕ) × Consumes input input2 bytes
     × MatchResult r (λ _. length (input_records (whole_lines kept ++ kept_of bytes)) ≤ limit) (IsTrueFault limit all kept old bytes)
 
 -- ---- its steps
 
--- the limit stands, and no more records are answered, if that was so before
+-- the limit stands; and no more records than it are answered, if that was so before
 pub record StaysWithin (limit answered limit2 answered2 : ℕ) : Type 0 where
   pub same : limit2 ≡ limit
   pub within : answered ≤ limit → answered2 ≤ limit2

@@ -113,11 +113,11 @@ IsAnswered text s = s.out ≡ text (records_in s.kept)
 abbrev pub IsShown : FileState → Type 0
 IsShown s = (s.begun ≡ true) × (s.shown ≡ s.out)
 
--- The line `kept,..` is shown once: all that was kept is answered then, and before that it is written down how the site is set up. No byte
--- is kept before it, and no event loses a line that was kept whole. A question is answered once all that was kept is answered, and shown:
--- by what the site says behind that, or some first bytes of it
+-- The line `kept,..` is shown once, and counts what is kept: all of it is answered then, and it was written down how the site is set up. A
+-- byte is kept only after it, and only where all that was told is shown; and no event loses a line that was kept whole. A question is
+-- answered once all that was kept is answered, and shown: by what the site says behind that, or some first bytes of it
 abbrev pub Follows : Says → FileState → Event → Type 0
-Follows says s (Kept b) = s.begun ≡ true
+Follows says s (Kept b) = IsShown s
 Follows says s Flushed = ⊤
 Follows says s (CutTo n) = IsFrontOf (whole_lines s.kept) (take n s.kept)
 Follows says s (Told b) = ⊤

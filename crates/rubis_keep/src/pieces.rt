@@ -40,7 +40,7 @@ fn next_lines<G: Gate, T: Threads + Wait + Sync, R: Read, O: Read, F: SiteFiles>
     let came = read_next(live, lines, keeps)?;
     give_chunk(rt, &lines.chunk, &mut lines.pieces)?;
     keep_chunk(rt, &mut answers.files, keeps, &lines.chunk)?;
-    // No file is as long as that, whatever the limit of records is, and no memory either.
+    // Nothing is as long as that. `TooLong` would say that there are more records than the limit.
     let Some(len) = lines.kept.checked_add(lines.chunk.len() as u64) else {
         return Err(KeepFault::Memory);
     };

@@ -60,6 +60,7 @@ pub(crate) fn reply_if<G: Gate, T: Threads + Wait + Sync, O: Read, F: SiteFiles>
     if !is_asked {
         return Ok(());
     }
+    // Only memory can be wanting.
     let Ok(rows) = answer(rt, clerk, listed, question) else {
         return Err(KeepFault::Memory);
     };

@@ -41,8 +41,8 @@ use Rattle.rubis_lives.specs.Folders.{AreFoldersOfARun}
 use Rattle.rubis_lives.specs.Histories.{ShortensKept, Step, answered_on, keep_after, keeps, moments_in, most, shortened_to, site_keeping, stand_after}
 use Rattle.rubis_lives.specs.Histories.{stands}
 use Rattle.rubis_lives.specs.Histories.Step.{Does, Fails, Happens, Raises, Shortens}
-use Rattle.rubis_keep.specs.History.{AreSafe, Event, FileState, after, after_all, records_in}
-use Rattle.rubis_keep.specs.History.Event.{Began, Flushed, Kept, Settled, Told}
+use Rattle.rubis_keep.specs.History.{Answers, AreSafe, Event, FileState, after, after_all, records_in}
+use Rattle.rubis_keep.specs.History.Event.{Began, Flushed, Kept, Settled, Shown, Told}
 use Rattle.rubis_keep.specs.Lines.{AreSound}
 use Rattle.rubis_keep.specs.Lives.{IsOpened}
 use Rattle.rubis_keep.specs.Shortened.{state_after}
@@ -52,7 +52,7 @@ use Rattle.rubis_lives.specs.Shops.{IsPrefix, text_of, words_of}
 use Rattle.rubis_lives.specs.SiteLives.{AreLives, AreShopLives, SiteLife, happening, own_steps, steps_of}
 use Rattle.rubis_lives.specs.SiteLives.End.{IsRewritten, PowerFails}
 use Rattle.rubis_lives.proofs.FolderFacts.{folders-are-a-run}
-use Rattle.rubis_keep.proofs.HistoryFacts.{safe-answers, safe-append, safe-keeps, safe-last}
+use Rattle.rubis_keep.proofs.HistoryFacts.{answers-append, answers-shown, answers-told, safe-answers, safe-append, safe-keeps, safe-last}
 use Rattle.rubis_lives.proofs.ShopFacts.{Records}
 use Rattle.rubis_lives.proofs.SiteLivesFacts.{shortened-opened}
 
@@ -169,7 +169,7 @@ answering_again = map (λ b. Told b) (drop 4 told_to_ask)
 
 -- site 1 is given the message, lists its log, and is shortened
 abbrev taking : List Event
-taking = beginning ++ map (λ b. Kept b) sent ++ Flushed ∷ map (λ b. Told b) told_to_message ++ map (λ b. Kept b) listed ++ Flushed ∷ map (λ b. Told b) told_to_listing
+taking = beginning ++ map (λ b. Kept b) sent ++ Flushed ∷ (map (λ b. Told b) told_to_message ++ map (λ b. Shown b) told_to_message) ++ map (λ b. Kept b) listed ++ Flushed ∷ map (λ b. Told b) told_to_listing
 
 -- and is killed while it answers what is left
 abbrev taking_again : List Event
@@ -187,6 +187,9 @@ running (suc (suc i)) = []
 
 abbrev told : ℕ → List ℕ → List Step → List Step
 told i text later = happening i (map (λ b. Told b) text) later
+
+abbrev shows : ℕ → List ℕ → List Step → List Step
+shows i text later = happening i (map (λ b. Shown b) text) later
 
 abbrev begun : ℕ → List Step → List Step
 begun i later = happening i beginning later
@@ -212,7 +215,7 @@ abbrev once_listed : List Step
 once_listed = Does (Reads 1 listing) ∷ told 1 told_to_listing once_shortened
 
 abbrev once_sent : List Step
-once_sent = Does (Reads 1 ann_is_sent) ∷ told 1 told_to_message (kept 1 listed once_listed)
+once_sent = Does (Reads 1 ann_is_sent) ∷ told 1 told_to_message (shows 1 told_to_message (kept 1 listed once_listed))
 
 abbrev steps_of_1 : List Step
 steps_of_1 = begun 1 (kept 1 sent once_sent)
@@ -251,7 +254,7 @@ answering-safe =
     let says = words_of (site_keeping 2 0 KEEP_MAX) in
     let lines = map (λ b. Kept b) asked in
     let begins = beginning-safe 0 in
-    let first = safe-keeps says asked once-begun (safe-last says nothing beginning begins) refl refl asked-sound in
+    let first = safe-keeps says asked once-begun (safe-last says nothing beginning begins) (refl, refl) refl asked-sound in
     let s = after_all once-begun lines in
     let answer = map (λ b. Told b) (take 20 told_to_ask) in
     safe-append says nothing beginning (lines ++ Flushed ∷ answer) begins
@@ -273,13 +276,16 @@ taking-safe =
     let says = words_of (site_keeping 2 1 KEEP_MAX) in
     let lines = map (λ b. Kept b) sent in
     let begins = beginning-safe 1 in
-    let first = safe-keeps says sent once-begun (safe-last says nothing beginning begins) refl refl sent-sound in
+    let first = safe-keeps says sent once-begun (safe-last says nothing beginning begins) (refl, refl) refl sent-sound in
     let s = after (after_all once-begun lines) Flushed in
-    let answer = map (λ b. Told b) told_to_message in
-    let answered = safe-answers says true answer [] told_to_message s refl sent-sound ([], refl) (refl, refl) ([], sym message-told) in
+    let answer = map (λ b. Told b) told_to_message ++ map (λ b. Shown b) told_to_message in
+    let is_shown : Answers true answer [] [] =
+    answers-append true (map (λ b. Told b) told_to_message) (map (λ b. Shown b) told_to_message) [] told_to_message [] (answers-told true told_to_message [])
+    (answers-shown told_to_message []) in
+    let answered = safe-answers says true answer [] [] s is_shown sent-sound ([], refl) (refl, refl) ([], sym message-told) in
     let t = after_all s answer in
     let more = map (λ b. Kept b) listed in
-    let second = safe-keeps says listed t (safe-last says s answer answered) refl refl both-sound in
+    let second = safe-keeps says listed t (safe-last says s answer answered) (refl, refl) refl both-sound in
     let rows = map (λ b. Told b) told_to_listing in
     safe-append says nothing beginning (lines ++ Flushed ∷ answer ++ more ++ Flushed ∷ rows) begins
     (safe-append says once-begun lines (Flushed ∷ answer ++ more ++ Flushed ∷ rows) first (
@@ -289,7 +295,7 @@ taking-safe =
           (safe-append says t more (Flushed ∷ rows) second (
             safe-last says t more second,
             tt,
-            safe-answers says true rows told_to_message (told_to_message ++ told_to_listing) (after (after_all t more) Flushed) refl both-sound ([], refl)
+            safe-answers says true rows [] told_to_listing (after (after_all t more) Flushed) refl both-sound ([], refl)
                 (refl, refl) ([], sym both-told),
           )),
     ))
@@ -356,6 +362,9 @@ elsewhere-both i (Does (Reads j fields) ∷ a) b f g = (f.0, elsewhere-both i a 
 elsewhere-both i (Does (Restarts j) ∷ a) b f g = (f.0, elsewhere-both i a b f.1 g)
 elsewhere-both i (Does (Replays j fields) ∷ a) b f g = (f.0, elsewhere-both i a b f.1 g)
 
+shows-elsewhere : (i j : ℕ) (text : List ℕ) (later : List Step) → eqb j i ≡ false → Elsewhere i later → Elsewhere i (shows j text later)
+shows-elsewhere i j text later e h = happens-elsewhere i j (map (λ b. Shown b) text) later e h
+
 skip : {A : Type 0} (b : Bool) (x y : A) → b ≡ false → cond b x y ≡ y
 skip b x y e = ap (λ c. cond c x y) e
 
@@ -384,12 +393,13 @@ second-elsewhere i e =
     begun-elsewhere i 1 (kept 1 sent once_sent) e
     (kept-elsewhere i 1 sent once_sent e (
       e,
-      told-elsewhere i 1 told_to_message (kept 1 listed once_listed) e
+      told-elsewhere i 1 told_to_message (shows 1 told_to_message (kept 1 listed once_listed)) e
+          (shows-elsewhere i 1 told_to_message (kept 1 listed once_listed) e
           (kept-elsewhere i 1 listed once_listed e (
             e,
             told-elsewhere i 1 told_to_listing once_shortened e
                 (e, (e, (e, told-elsewhere i 1 (take 5 told_to_message) [] e tt))),
-          )),
+          ))),
     ))
 
 not-0 : (i : ℕ) → eqb 0 (suc (suc i)) ≡ false
@@ -519,6 +529,17 @@ reads-told sites i keep (b ∷ text) s had n later is p h = (
       (reads-told sites i keep text (after s (Told b)) had n later is p h),
 )
 
+reads-shown : (sites i keep : ℕ) (text : List ℕ) (s : FileState) (had : Records) (n : ℕ) (later : List Step) → eqb i i ≡ true
+    → IsPrefix had (taken_in (site_keeping sites i keep) s.flushed)
+    → ReadsOn sites i keep (after_all s (map (λ b. Shown b) text)) had n later → ReadsOn sites i keep s had n (happening i (map (λ b. Shown b) text) later)
+reads-shown sites i keep [] s had n later is p h = h
+reads-shown sites i keep (b ∷ text) s had n later is p h = (
+  p,
+  tt,
+  subst (λ c. ReadsOn sites i keep (cond c (after s (Shown b)) s) had n (happening i (map (λ b. Shown b) text) later)) (sym is)
+      (reads-shown sites i keep text (after s (Shown b)) had n later is p h),
+)
+
 -- ---- what both sites have read
 
 ask-taken-read : taken_by (site_keeping 2 0 KEEP_MAX) (opening_at 0) (ann_is_asked ∷ []) ≡ ann_is_asked ∷ []
@@ -559,14 +580,14 @@ message-read-first = (listing ∷ [], sym both-taken)
 both-read-too : IsPrefix (ann_is_sent ∷ listing ∷ []) (taken_in (site_keeping 2 1 KEEP_MAX) (sent ++ listed))
 both-read-too = ([], sym both-taken)
 
--- the files of a process that has begun where there were none
-abbrev begun_with : Files → FileState
-begun_with files = record { kept = files.log; flushed = files.log; cut = []; out = files.out; settled = true; begun = true; shown = [] }
+-- the files of a process that has begun where there were none, and has shown this
+abbrev begun_with : Files → List ℕ → FileState
+begun_with files text = record { kept = files.log; flushed = files.log; cut = []; out = files.out; settled = true; begun = true; shown = text }
 
 reads-0 : ReadsOn 2 0 KEEP_MAX nothing [] 0 steps
 unfolding nothing torn once-begun
 reads-0 =
-    let s = begun_with (record { log = asked; out = [] }) in
+    let s = begun_with (record { log = asked; out = [] }) [] in
     let rest : ReadsOn 2 0 KEEP_MAX (after_all (from_disk torn) answering_again) (ann_is_asked ∷ []) 1 steps_of_1 =
     subst (ReadsOn 2 0 KEEP_MAX (after_all (from_disk torn) answering_again) (ann_is_asked ∷ []) 1) (append-nil steps_of_1)
     (reads-elsewhere 2 0 KEEP_MAX (after_all (from_disk torn) answering_again) (ann_is_asked ∷ []) 1 steps_of_1 [] (second-elsewhere 0 refl) ask-read) in
@@ -581,9 +602,10 @@ reads-0 =
 reads-1 : ReadsOn 2 1 KEEP_MAX nothing [] 0 steps
 unfolding nothing torn once-begun
 reads-1 =
-    let s = begun_with (record { log = sent; out = [] }) in
-    let answered = begun_with (record { log = sent; out = told_to_message }) in
-    let t = begun_with (record { log = sent ++ listed; out = told_to_message }) in
+    let s = begun_with (record { log = sent; out = [] }) [] in
+    let unshown = begun_with (record { log = sent; out = told_to_message }) [] in
+    let answered = begun_with (record { log = sent; out = told_to_message }) told_to_message in
+    let t = begun_with (record { log = sent ++ listed; out = told_to_message }) told_to_message in
     let size = length (taken_in (site_keeping 2 1 KEEP_MAX) sent) in
     let last = reads-told 2 1 KEEP_MAX (take 5 told_to_message) (shortened_to sent) (ann_is_sent ∷ []) size [] refl message-read message-read in
     let shorter : ReadsOn 2 1 KEEP_MAX (after_all t (map (λ b. Told b) told_to_listing)) (ann_is_sent ∷ listing ∷ []) 2 once_shortened =
@@ -591,7 +613,8 @@ reads-1 =
     let rows = reads-told 2 1 KEEP_MAX told_to_listing t (ann_is_sent ∷ listing ∷ []) 2 once_shortened refl both-read-too shorter in
     let more = reads-kept 2 1 KEEP_MAX listed answered (ann_is_sent ∷ []) 1 (Happens 1 Flushed ∷ once_listed) refl message-read
     (message-read, tt, (message-read-first, refl, rows)) in
-    let first = reads-told 2 1 KEEP_MAX told_to_message s (ann_is_sent ∷ []) 1 (kept 1 listed once_listed) refl message-read more in
+    let all = reads-shown 2 1 KEEP_MAX told_to_message unshown (ann_is_sent ∷ []) 1 (kept 1 listed once_listed) refl message-read more in
+    let first = reads-told 2 1 KEEP_MAX told_to_message s (ann_is_sent ∷ []) 1 (shows 1 told_to_message (kept 1 listed once_listed)) refl message-read all in
     reads-elsewhere 2 1 KEEP_MAX nothing [] 0 steps_of_0 steps_of_1 (first-elsewhere 1 refl)
     (reads-begun 2 1 KEEP_MAX nothing [] 0 (kept 1 sent once_sent) refl (none-read 2 1 nothing)
     (reads-kept 2 1 KEEP_MAX sent once-begun [] 0 (Happens 1 Flushed ∷ once_sent) refl (none-read 2 1 once-begun)

@@ -91,9 +91,9 @@ power-failures-leave-files says s events extends h first later e files left =
     survives says.text (after_all s first) files extends (safe-at says s first later (subst (AreSafe says s) (sym e) h)) left
 
 pub answered-before-more : AnsweredBeforeMore
-answered-before-more says s [] later b not_yet h = absurd (cc (not_yet, h.1))
+answered-before-more says s [] later b not_yet h = absurd (cc (not_yet, h.1.0))
 answered-before-more says s (Began n counts ∷ first) later b not_yet h = ([], first, n, counts, refl, h.1.0)
-answered-before-more says s (Kept c ∷ first) later b not_yet h = absurd (cc (not_yet, h.1))
+answered-before-more says s (Kept c ∷ first) later b not_yet h = absurd (cc (not_yet, h.1.0))
 answered-before-more says s (Flushed ∷ first) later b not_yet h = one-later says.text s Flushed first (answered-before-more says (after s Flushed) first later b not_yet h.2)
 answered-before-more says s (CutTo n ∷ first) later b not_yet h = one-later says.text s (CutTo n) first (answered-before-more says (after s (CutTo n)) first later b not_yet h.2)
 answered-before-more says s (Told c ∷ first) later b not_yet h = one-later says.text s (Told c) first (answered-before-more says (after s (Told c)) first later b not_yet h.2)

@@ -37,7 +37,8 @@ shown-too-early says s b later early h = go s.begun early (safe-first says (afte
     go false early m = no-end s.shown b m
 
 pub kept-too-early : KeptTooEarlyIsUnsafe
-kept-too-early says s b later early h = cc (early, h.1)
+kept-too-early says s b later (inl early) h = cc (early, h.1.0)
+kept-too-early says s b later (inr early) h = early h.1.1
 
 pub begun-too-early : BegunTooEarlyIsUnsafe
 begun-too-early says s n counts later (inl early) h = cc (early, h.1.3)

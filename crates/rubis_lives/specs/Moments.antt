@@ -1,5 +1,5 @@
 -- A site that is killed at any moment, or loses its power.
-use Rattle.std.specs.Prelude.{◌≡◌, ◌++◌, ◌∷◌, ◌⊎◌, [], ℕ, List, Option, Some, false, map, true}
+use Rattle.std.specs.Prelude.{◌≡◌, ◌≢◌, ◌++◌, ◌∷◌, ◌⊎◌, [], ℕ, List, Option, Some, false, map, true}
 use Rattle.rubis_model.specs.Runs.{answers}
 use Rattle.rubis_model.specs.Site.{Place, Replica}
 use Rattle.rubis_engine.specs.Accounts.{Account}
@@ -75,9 +75,10 @@ abbrev pub ShownTooEarlyIsUnsafe : Type 0
 ShownTooEarlyIsUnsafe = (says : Says) (s : FileState) (b : ℕ) (later : List Event) → (s.begun ≡ false) ⊎ (s.shown ≡ s.out)
     → AreSafe says s (Shown b ∷ later) → ⊥
 
--- a byte is kept before the line `kept,..`
+-- a byte is kept before the line `kept,..`, or before all that was told is shown
 abbrev pub KeptTooEarlyIsUnsafe : Type 0
-KeptTooEarlyIsUnsafe = (says : Says) (s : FileState) (b : ℕ) (later : List Event) → s.begun ≡ false → AreSafe says s (Kept b ∷ later) → ⊥
+KeptTooEarlyIsUnsafe = (says : Says) (s : FileState) (b : ℕ) (later : List Event) → (s.begun ≡ false) ⊎ (s.shown ≢ s.out)
+    → AreSafe says s (Kept b ∷ later) → ⊥
 
 -- the line `kept,..` is shown before it is written down how the site is set up, or a second time
 abbrev pub BegunTooEarlyIsUnsafe : Type 0

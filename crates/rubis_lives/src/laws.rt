@@ -82,7 +82,7 @@ pub fn folders_are_a_run()
 {}
 
 /// A history is refused in which something is told before its line is kept and flushed, or shown before the line `kept,..` or before `out` has
-/// it; in which a line is kept before `kept,..`; and in which that is shown twice, or before it is written down how the site is set up.
+/// it; in which a line is kept before `kept,..`, or before all that was told is shown; and in which that is shown twice, or before it is written down how the site is set up.
 pub fn early_answers_are_unsafe()
     ensures told { ToldTooEarlyIsUnsafe }
     ensures shown { ShownTooEarlyIsUnsafe }
