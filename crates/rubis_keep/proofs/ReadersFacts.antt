@@ -57,7 +57,7 @@ takes-none text o s h is = subst (λ x. TakesFirst text x s) is h
 pub records-split : (text : List ℕ) (many : ℕ) → IsChunk many text
     → input_records text ≡ input_records (take many text) ++ input_records (drop (many - 1) text)
 records-split text many (some, within, whole) =
-    let t = taken text (text ++ []) (Some []) many some within whole refl in
+    let t = taken text (text ++ []) (Some []) many (omega (arith, some)) within whole refl in
     ap input_records (sym (append-nil text)) ∙ t.2 ∙ ap (λ l. input_records (take many text) ++ input_records l) (left t.0 t.1)
   where
     left : (l : List ℕ) → prepend_known (drop (many - 1) text) (Some []) ≡ Some l → l ≡ drop (many - 1) text
