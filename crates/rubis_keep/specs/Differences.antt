@@ -33,7 +33,7 @@ first_line text = before_first (λ b. b == 10) (take 200 text)
 abbrev pub shown_line : List ℕ → List ℕ → List ℕ
 shown_line begun more = utf8_lossy (first_line (begun ++ first_line more))
 
--- the number of the first line in which what came and a text differ, after so many whole lines, and how either has it
+-- the number of the first line in which what came and a text differ, which come after these whole lines, and how either has it
 pub record IsDifference (came text : List ℕ) (lines : ℕ) (d : Difference) : Type 0 where
   pub line : let number = lines + ends_in (take (same_in came text) text) + 1 in number < 2 ^ 64 → d.line ≡ number
   pub found : string_bytes d.found ≡ shown_line (last_line (take (same_in came text) text)) (drop (same_in came text) came)
