@@ -1,44 +1,49 @@
 -- What an event changes: which packets are new, and what is in the memory of those that run folders.
-use Rattle.std.proofs.Common.{◌≡◌, ◌∙◌, ◌≢◌, ◌⊎◌, inl, inr, ⊎_elim, ◌++◌, ◌∷◌, [], ℕ, true, false, cond, eqb, List, refl, sym, subst}
-use Rattle.std.specs.Prelude.{not}
+use Rattle.std.proofs.Common.{◌≡◌, ◌∙◌, ◌≢◌, ◌⊎◌, inl, inr, ⊎_elim, ◌++◌, ◌∷◌, [], ℕ, true, false, cond, eqb, List, refl, sym, ap, subst}
+use Rattle.std.specs.Prelude.{not, ◌==◌}
+use Rattle.std.proofs.lemmas.Bool.{cases_eq}
 use Rattle.rubis_model.specs.Settle.{Has}
 use Rattle.rubis_model.proofs.Lists.{push_cases}
-use Rattle.rubis_carrier.specs.Packets.{Packet, sender}
-use Rattle.rubis_carrier.specs.Shops.{Carrier, Folder, Place, Shop, put, there}
+use Rattle.rubis_carrier.specs.declared.values.Carrier.{Carrier}
+use Rattle.rubis_carrier.specs.declared.values.ShopPacket.{ShopPacket}
+use Rattle.rubis_carrier.specs.Events.{Event, IsFirst, May, after, first, next_message, next_pass, opening, others, without}
+use Rattle.rubis_carrier.specs.Events.Event.{Accepts, Appends, Closes, Gives, IsAsked, IsChanged, IsCopied, IsKilled, IsLost, KeeperStarts, LosesEnd}
+use Rattle.rubis_carrier.specs.Events.Event.{MachineStarts, Opens, OpensAlone, Passes, Reads, Rebuilds, Refuses, ServerLosesAll, Serves, Starts}
+use Rattle.rubis_carrier.specs.Events.Event.{StreamLosesEnd, TakesBack, TakesOver, TellsNothing, TellsOk, TellsPublished, TellsUnknown, WritesAnew}
+use Rattle.rubis_carrier.specs.Events.Event.{Yields}
+use Rattle.rubis_carrier.specs.Packets.{sender}
+use Rattle.rubis_carrier.specs.Shops.{Folder, Place, Shop, asks, folder, folder_in, put_folder, put_stream, stream, stream_in, there}
 use Rattle.rubis_carrier.specs.Shops.Place.{InFolder, InStream}
-use Rattle.rubis_carrier.specs.Events.{Event, IsFirst, May, after, first, forgotten, next_message, next_pass, others, without}
-use Rattle.rubis_carrier.specs.Events.Event.{Accepts, Appends, Gives, IsAsked, IsChanged, IsCopied, IsKilled, IsLost, LosesEnd, MachineStarts, Opens}
-use Rattle.rubis_carrier.specs.Events.Event.{Passes, Reads, Rebuilds, Refuses, Serves, ServerLosesAll, Starts, StreamLosesEnd, TellsNothing, TellsOk, TellsPublished}
-use Rattle.rubis_carrier.specs.Events.Event.{Closes, KeeperStarts, TellsUnknown, WritesAnew}
 use Rattle.rubis_carrier.proofs.PacketFacts.{has_unchanged}
-use Rattle.rubis_carrier.proofs.PutFacts.{eqb_same, has_filter, has_take, put_cases}
+use Rattle.rubis_carrier.proofs.PutFacts.{eqb_other, eqb_same, filter_has, folder_cases, has_filter, has_take, opened_cases, stream_cases}
 use Rattle.rubis_carrier.proofs.Sound.{IsSomewhere, offered}
 
 -- ---- packets
 
 -- what the event makes
-abbrev pub IsNew : Shop → Event → Packet → Type 0
-IsNew s (Accepts k r) x = x ≡ next_message (s.folder k) r
-IsNew s (Passes k to) x = x ≡ next_pass (s.folder k) to
+abbrev pub IsNew : Shop → Event → ShopPacket → Type 0
+IsNew s (Accepts k r) x = x ≡ next_message (folder s k) r
+IsNew s (Passes k to) x = x ≡ next_pass (folder s k) to
 IsNew s e x = ⊥
 
-in_folder : (s : Shop) (e : Event) (k : ℕ) (f : Folder) (x : Packet) → (Has x f.kept → IsSomewhere s x ⊎ IsNew s e x)
-    → (j : ℕ) → Has x (put k f s.folder j).kept → IsSomewhere s x ⊎ IsNew s e x
-in_folder s e k f x here = put_cases (λ j g. Has x g.kept → IsSomewhere s x ⊎ IsNew s e x) k f s.folder here (λ j n h. inl (InFolder j, h))
+in_folder : (s : Shop) (e : Event) (k : ℕ) (f : Folder) (x : ShopPacket) → (Has x f.kept → IsSomewhere s x ⊎ IsNew s e x)
+    → (j : ℕ) → Has x (folder_in (put_folder k f s.folders) j).kept → IsSomewhere s x ⊎ IsNew s e x
+in_folder s e k f x here =
+    folder_cases (λ j g. Has x g.kept → IsSomewhere s x ⊎ IsNew s e x) k f s.folders here (λ j n h. inl (InFolder j, h))
 
-in_stream : (s : Shop) (e : Event) (i : ℕ) (xs : List Packet) (x : Packet) → (Has x xs → IsSomewhere s x ⊎ IsNew s e x)
-    → (j : ℕ) → Has x (put i xs s.stream j) → IsSomewhere s x ⊎ IsNew s e x
-in_stream s e i xs x here = put_cases (λ j ys. Has x ys → IsSomewhere s x ⊎ IsNew s e x) i xs s.stream here (λ j n h. inl (InStream j, h))
+in_stream : (s : Shop) (e : Event) (i : ℕ) (xs : List ShopPacket) (x : ShopPacket) → (Has x xs → IsSomewhere s x ⊎ IsNew s e x)
+    → (j : ℕ) → Has x (stream_in (put_stream i xs s.streams) j) → IsSomewhere s x ⊎ IsNew s e x
+in_stream s e i xs x here = stream_cases (λ j ys. Has x ys → IsSomewhere s x ⊎ IsNew s e x) i xs s.streams here (λ j n h. inl (InStream j, h))
 
-pub in_opened : (s : Shop) (k : ℕ) (f : Folder) (x : Packet) → f.kept ≡ (s.folder k).kept → (j : ℕ)
-    → Has x (put k f (λ i. forgotten (s.folder k).site (s.folder i)) j).kept → IsSomewhere s x ⊎ IsNew s (Opens k) x
-in_opened s k f x e = put_cases (λ j g. Has x g.kept → IsSomewhere s x ⊎ IsNew s (Opens k) x) k f (λ i. forgotten (s.folder k).site (s.folder i))
-    (λ h. inl (InFolder k, subst (Has x) e h)) (λ j n h. inl (InFolder j, h))
+pub opened_from : (s : Shop) (k : ℕ) (x : ShopPacket) (j : ℕ) → Has x (folder (opening k s) j).kept → IsSomewhere s x
+opened_from s k x = opened_cases (λ j g. Has x g.kept → IsSomewhere s x) s k (λ h. (InFolder k, h)) (λ j n h. (InFolder j, h))
 
 -- what stands somewhere after the event stood somewhere before, or is new
-pub from_step : (c : Carrier) (s : Shop) (e : Event) (h : Place) (x : Packet) → May c s e → Has x (there (after s e) h) → IsSomewhere s x ⊎ IsNew s e x
+pub from_step : (c : Carrier) (s : Shop) (e : Event) (h : Place) (x : ShopPacket) → May c s e → Has x (there (after s e) h) → IsSomewhere s x ⊎ IsNew s e x
 from_step c s (Starts k) (InFolder j) x m a = in_folder s (Starts k) k _ x (λ b. inl (InFolder k, b)) j a
-from_step c s (Opens k) (InFolder j) x m a = in_opened s k _ x refl j a
+from_step c s (Opens k) (InFolder j) x m a = inl (opened_from s k x j a)
+from_step c s (TakesOver k) (InFolder j) x m a = inl (opened_from s k x j a)
+from_step c s (OpensAlone k) (InFolder j) x m a = inl (opened_from s k x j a)
 from_step c s (Closes k) (InFolder j) x m a = in_folder s (Closes k) k _ x (λ b. inl (InFolder k, b)) j a
 from_step c s (KeeperStarts k) (InFolder j) x m a = inl (InFolder j, a)
 from_step c s (IsKilled k) (InFolder j) x m a = in_folder s (IsKilled k) k _ x (λ b. inl (InFolder k, b)) j a
@@ -47,21 +52,23 @@ from_step c s (IsAsked r life n) (InFolder j) x m a = inl (InFolder j, a)
 from_step c s (Serves k r) (InFolder j) x m a = in_folder s (Serves k r) k _ x (λ b. inl (InFolder k, b)) j a
 from_step c s (Gives k r) (InFolder j) x m a = in_folder s (Gives k r) k _ x (λ b. inl (InFolder k, b)) j a
 from_step c s (Accepts k r) (InFolder j) x m a =
-    in_folder s (Accepts k r) k _ x (λ b. ⊎_elim (λ o. inl (InFolder k, o)) (λ n. inr n) (push_cases x _ (s.folder k).kept b)) j a
+    in_folder s (Accepts k r) k _ x (λ b. ⊎_elim (λ o. inl (InFolder k, o)) (λ n. inr n) (push_cases x _ (folder s k).kept b)) j a
 from_step c s (Refuses k r) (InFolder j) x m a = in_folder s (Refuses k r) k _ x (λ b. inl (InFolder k, b)) j a
 from_step c s (TellsOk k r n) (InFolder j) x m a = inl (InFolder j, a)
 from_step c s (TellsPublished k r n) (InFolder j) x m a = inl (InFolder j, a)
 from_step c s (TellsNothing k r) (InFolder j) x m a = in_folder s (TellsNothing k r) k _ x (λ b. inl (InFolder k, b)) j a
 from_step c s (TellsUnknown k r) (InFolder j) x m a = inl (InFolder j, a)
+from_step c s (Yields i) (InFolder j) x m a = inl (InFolder j, a)
+from_step c s (TakesBack i) (InFolder j) x m a = inl (InFolder j, a)
 from_step c s (Passes k to) (InFolder j) x m a =
-    in_folder s (Passes k to) k _ x (λ b. ⊎_elim (λ o. inl (InFolder k, o)) (λ n. inr n) (push_cases x _ (s.folder k).kept b)) j a
+    in_folder s (Passes k to) k _ x (λ b. ⊎_elim (λ o. inl (InFolder k, o)) (λ n. inr n) (push_cases x _ (folder s k).kept b)) j a
 from_step c s (Appends k y) (InFolder j) x m a = inl (InFolder j, a)
 from_step c s (Reads k y) (InFolder j) x m a =
     in_folder s (Reads k y) k _ x (λ b. inl (⊎_elim (λ o. (InFolder k, o)) (λ n. subst (IsSomewhere s) (sym n) (offered c s y m.2))
-    (push_cases x y (s.folder k).kept b))) j a
-from_step c s (LosesEnd k n) (InFolder j) x m a = in_folder s (LosesEnd k n) k _ x (λ b. inl (InFolder k, has_take n x (s.folder k).kept b)) j a
+    (push_cases x y (folder s k).kept b))) j a
+from_step c s (LosesEnd k n) (InFolder j) x m a = in_folder s (LosesEnd k n) k _ x (λ b. inl (InFolder k, has_take n x (folder s k).kept b)) j a
 from_step c s (IsChanged k ps) (InFolder j) x m a =
-    in_folder s (IsChanged k ps) k _ x (λ b. inl (InFolder k, has_unchanged x (s.folder k).kept ps b)) j a
+    in_folder s (IsChanged k ps) k _ x (λ b. inl (InFolder k, has_unchanged x (folder s k).kept ps b)) j a
 from_step c s (IsLost k) (InFolder j) x m a = in_folder s (IsLost k) k _ x (λ b. absurd b) j a
 from_step c s (IsCopied k l) (InFolder j) x m a = in_folder s (IsCopied k l) l _ x (λ b. inl (InFolder k, b)) j a
 from_step c s (StreamLosesEnd i n) (InFolder j) x m a = inl (InFolder j, a)
@@ -70,11 +77,11 @@ from_step c s (Rebuilds k ps) (InFolder j) x m a = in_folder s (Rebuilds k ps) k
 from_step c s (WritesAnew k) (InFolder j) x m a = inl (InFolder j, a)
 from_step c s (Appends k y) (InStream i) x m a =
     in_stream s (Appends k y) (sender y) _ x (λ b. inl (⊎_elim (λ o. (InStream (sender y), o))
-    (λ n. (InFolder k, subst (λ z. Has z (s.folder k).kept) (sym n) m.2)) (push_cases x y (s.stream (sender y)) b))) i a
-from_step c s (StreamLosesEnd i n) (InStream j) x m a = in_stream s (StreamLosesEnd i n) i _ x (λ b. inl (InStream i, has_take n x (s.stream i) b)) j a
+    (λ n. (InFolder k, subst (λ z. Has z (folder s k).kept) (sym n) m.1.kept)) (push_cases x y (stream s (sender y)) b))) i a
+from_step c s (StreamLosesEnd i n) (InStream j) x m a = in_stream s (StreamLosesEnd i n) i _ x (λ b. inl (InStream i, has_take n x (stream s i) b)) j a
 from_step c s ServerLosesAll (InStream i) x m a = absurd a
 from_step c s (WritesAnew k) (InStream i) x m a =
-    in_stream s (WritesAnew k) (s.folder k).site _ x (λ b. inl (InFolder k, has_filter _ x (s.folder k).kept b)) i a
+    in_stream s (WritesAnew k) (folder s k).site _ x (λ b. inl (InFolder k, has_filter _ x (folder s k).kept b)) i a
 from_step c s (Starts k) (InStream i) x m a = inl (InStream i, a)
 from_step c s (Opens k) (InStream i) x m a = inl (InStream i, a)
 from_step c s e (InStream i) x m a = inl (InStream i, a)
@@ -93,6 +100,15 @@ has_without r q (a ∷ asks) h = elim (eqb a r) as (λ b. eqb a r ≡ b → Has 
     away here same e =
         let is : eqb a r ≡ true = subst (λ n. eqb n r ≡ true) (sym same ∙ here) (eqb_same r) in
         cc (is, e)
+
+-- others stay
+pub without_other : (r q : ℕ) (asks : List ℕ) → (q ≡ r → ⊥) → Has q asks → Has q (without r asks)
+without_other r q asks n h = filter_has (λ a. not (a == r)) q asks h (ap not (eqb_other q r n))
+
+-- it is there, or not
+pub has_or : (r : ℕ) (asks : List ℕ) → Has r asks ⊎ ¬ (Has r asks)
+has_or r [] = inr (λ h. h)
+has_or r (q ∷ asks) = ⊎_elim (λ e. inl (inl e)) (λ n. ⊎_elim (λ h. inl (inr h)) (λ m. inr (λ h. ⊎_elim n m h)) (has_or r asks)) (cases_eq r q)
 
 -- ---- lists in which each ask is once
 

@@ -2,6 +2,7 @@ pub mod PacketFacts
 pub mod PutFacts
 pub mod Sound
 pub mod Whole
+pub mod Carrying
 pub mod Token
 pub mod Changes
 pub mod Telling
@@ -9,4 +10,5 @@ pub mod Over
 pub mod Needed
 pub mod Sites
 pub mod Standby
+pub mod Computed
 pub mod Examples

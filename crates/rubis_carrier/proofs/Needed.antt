@@ -1,17 +1,21 @@
 -- A site that takes asks while some place is ahead of its folder comes to give a number again.
-use Rattle.std.proofs.Common.{◌≡◌, ◌∙◌, inl, ⊎_elim, ◌≤◌, ◌<◌, ◌+◌, ◌-◌, ◌++◌, ◌∷◌, [], ℕ, true, List, refl, sym, ap, subst, arith}
+use Rattle.std.proofs.lemmas.List.{length_push}
+use Rattle.std.proofs.Common.{◌≡◌, length, ◌∙◌, inl, ⊎_elim, ◌≤◌, ◌<◌, ◌+◌, ◌-◌, ◌++◌, ◌∷◌, [], ℕ, true, List, refl, sym, ap, subst, arith}
 use Rattle.std.specs.Prelude.{zero, suc}
 use Rattle.rubis_model.specs.Settle.{Has}
 use Rattle.rubis_model.proofs.Lists.{has_last}
-use Rattle.rubis_carrier.specs.Packets.{highest}
-use Rattle.rubis_carrier.specs.Packets.Packet.{Message}
-use Rattle.rubis_carrier.specs.Shops.{Carrier, Folder, Place, Request, Shop, put, start, there}
-use Rattle.rubis_carrier.specs.Shops.Place.{InFolder, InStream}
-use Rattle.rubis_carrier.specs.Events.{AreSteps, Event, IsFirst, MayServe, accepting, after, forgotten, giving, others, run}
+use Rattle.rubis_carrier.specs.Laws.{AreGivenOnce, ComparingIsNeeded}
+use Rattle.rubis_carrier.specs.declared.values.Carrier.{Carrier}
+use Rattle.rubis_carrier.specs.declared.values.ShopPacket.TheVariants.{Message}
+use Rattle.rubis_carrier.specs.declared.values.ShopRequest.{ShopRequest}
+use Rattle.rubis_carrier.specs.Events.{AreSteps, Event, IsFirst, MayServe, accepting, after, giving, opened, others, run}
 use Rattle.rubis_carrier.specs.Events.Event.{Accepts, Gives, IsAsked, Opens, Serves}
 use Rattle.rubis_carrier.specs.Laws.{AreGivenOnce, ComparingIsNeeded}
+use Rattle.rubis_carrier.specs.Packets.{highest}
+use Rattle.rubis_carrier.specs.Shops.{Folder, Place, Shop, asks, folder, request, request_in, start, there}
+use Rattle.rubis_carrier.specs.Shops.Place.{InFolder, InStream}
 use Rattle.rubis_carrier.proofs.PacketFacts.{highest_next}
-use Rattle.rubis_carrier.proofs.PutFacts.{put_cases, put_here}
+use Rattle.rubis_carrier.proofs.PutFacts.{folder_here, opened_cases, request_new}
 use Rattle.rubis_carrier.proofs.Telling.{tells_run}
 use Rattle.rubis_carrier.proofs.Whole.{run_append, steps_append, whole_after}
 
@@ -19,76 +23,81 @@ use Rattle.rubis_carrier.proofs.Whole.{run_append, steps_append, whole_after}
 
 -- folder k of site i is open, and takes an ask after the other; its greatest number is this, and the message n of ask r stands at h
 record IsTaking (t : Shop) (k life i high : ℕ) (h : Place) (n r : ℕ) : Type 0 where
-  is_open : (t.folder k).is_open ≡ true
-  life_is : (t.folder k).life ≡ life
+  is_open : (folder t k).is_open ≡ true
+  life_is : (folder t k).life ≡ life
   runs : 0 < life
   begun : life ≤ t.begun
-  served : (q : ℕ) → Has q (t.folder k).served → q ≤ t.asks
-  lines : (t.folder k).lines ≡ []
-  given : (t.folder k).given ≡ []
-  site : (t.folder k).site ≡ i
-  greatest : highest i (t.folder k).kept ≡ high
+  served : (q : ℕ) → Has q (folder t k).served → q ≤ asks t
+  lines : (folder t k).lines ≡ []
+  given : (folder t k).given ≡ []
+  site : (folder t k).site ≡ i
+  greatest : highest i (folder t k).kept ≡ high
   stands : Has (Message i n r) (there t h)
-  asked : r ≤ t.asks
+  asked : r ≤ asks t
+  compared : ¬ (Has i t.uncompared)
 
 module _ (c : Carrier) (t : Shop) (k life i high : ℕ) (h : Place) (n r : ℕ) (q : IsTaking t k life i high h n r) where
   ask : ℕ
-  ask = t.asks + 1
+  ask = asks t + 1
 
   round : List Event
   unfolding ask
   round = IsAsked ask life 1 ∷ Serves k ask ∷ Gives k ask ∷ Accepts k ask ∷ []
 
-  request : Request
-  request = record { life = life; records = 1 }
+  of_one : ShopRequest
+  of_one = record { life = life; records = 1 }
 
-  is_request : put ask request t.request ask ≡ request
+  is_request : request_in (t.requests ++ of_one ∷ []) ask ≡ of_one
   unfolding ask
-  is_request = put_here (t.asks + 1) request t.request
+  is_request = request_new t.requests of_one (asks t + 1) refl
+
+  one_more : length (t.requests ++ of_one ∷ []) ≡ ask
+  unfolding ask
+  one_more = length_push t.requests of_one
 
   -- the folder after each of these steps
   serving : Folder
   unfolding ask
-  serving = record (t.folder k) { served = ask ∷ (t.folder k).served; waiting = ask ∷ (t.folder k).waiting }
+  serving = record (folder t k) { served = ask ∷ (folder t k).served; waiting = ask ∷ (folder t k).waiting }
 
   served_shop : Shop
-  unfolding ask request
+  unfolding ask of_one
   served_shop = after (after t (IsAsked ask life 1)) (Serves k ask)
 
-  is_serving : served_shop.folder k ≡ serving
-  unfolding ask request serving served_shop
-  is_serving = put_here k serving t.folder
+  is_serving : folder served_shop k ≡ serving
+  unfolding ask of_one serving served_shop
+  is_serving = folder_here k serving t.folders
 
   given_shop : Shop
   unfolding ask served_shop
   given_shop = after served_shop (Gives k ask)
 
-  is_giving : given_shop.folder k ≡ giving serving ask 1
-  unfolding ask request is_request served_shop given_shop
+  is_giving : folder given_shop k ≡ giving serving ask 1
+  unfolding ask of_one is_request served_shop given_shop
   is_giving =
-      put_here k (giving (served_shop.folder k) ask (served_shop.request ask).records) served_shop.folder
-      ∙ ap (λ (f : Folder). giving f ask (served_shop.request ask).records) is_serving
-      ∙ ap (λ (x : Request). giving serving ask x.records) is_request
+      folder_here k (giving (folder served_shop k) ask (request served_shop ask).records) served_shop.folders
+      ∙ ap (λ (f : Folder). giving f ask (request served_shop ask).records) is_serving
+      ∙ ap (λ (x : ShopRequest). giving serving ask x.records) is_request
 
   accepted_shop : Shop
   unfolding ask given_shop
   accepted_shop = after given_shop (Accepts k ask)
 
-  is_accepting : accepted_shop.folder k ≡ accepting (giving serving ask 1) ask
+  is_accepting : folder accepted_shop k ≡ accepting (giving serving ask 1) ask
   unfolding ask given_shop accepted_shop
-  is_accepting = put_here k (accepting (given_shop.folder k) ask) given_shop.folder ∙ ap (λ (f : Folder). accepting f ask) is_giving
+  is_accepting = folder_here k (accepting (folder given_shop k) ask) given_shop.folders ∙ ap (λ (f : Folder). accepting f ask) is_giving
 
-  is_first : IsFirst ask (given_shop.folder k).lines
+  is_first : IsFirst ask (folder given_shop k).lines
   unfolding ask serving
   is_first = subst (λ (f : Folder). IsFirst ask f.lines) (sym is_giving) ([], ap (λ xs. xs ++ ask ∷ []) q.lines)
 
   may_serve : MayServe (after t (IsAsked ask life 1)) k ask
-  unfolding ask request is_request
+  unfolding ask of_one is_request
   may_serve = record {
     runs = omega (arith, q.runs, q.life_is);
-    asked = omega arith;
-    life = ap (λ (x : Request). x.life) is_request ∙ sym q.life_is;
-    one = ap (λ (x : Request). x.records) is_request;
+    asked = omega (arith, one_more);
+    life = ap (λ (x : ShopRequest). x.life) is_request ∙ sym q.life_is;
+    one = ap (λ (x : ShopRequest). x.records) is_request;
     once = λ has. absurd (omega (arith, q.served ask has));
   }
 
@@ -106,39 +115,40 @@ module _ (c : Carrier) (t : Shop) (k life i high : ℕ) (h : Place) (n r : ℕ) 
   )
 
   -- the folder has the next message, of this ask
-  round_has : Has (Message i (high + 1) (t.asks + 1)) ((run t round).folder k).kept
+  round_has : Has (Message i (high + 1) (asks t + 1)) (folder (run t round) k).kept
   unfolding ask round serving served_shop given_shop accepted_shop
   round_has =
       subst (λ (f : Folder). Has (Message i (high + 1) ask) f.kept) (sym is_accepting)
-      (subst (λ j. Has (Message i (high + 1) ask) ((t.folder k).kept ++ Message j (highest j (t.folder k).kept + 1) ask ∷ [])) (sym q.site)
-      (subst (λ m. Has (Message i (high + 1) ask) ((t.folder k).kept ++ Message i (m + 1) ask ∷ [])) (sym q.greatest)
-      (has_last (Message i (high + 1) ask) (t.folder k).kept)))
+      (subst (λ j. Has (Message i (high + 1) ask) ((folder t k).kept ++ Message j (highest j (folder t k).kept + 1) ask ∷ [])) (sym q.site)
+      (subst (λ m. Has (Message i (high + 1) ask) ((folder t k).kept ++ Message i (m + 1) ask ∷ [])) (sym q.greatest)
+      (has_last (Message i (high + 1) ask) (folder t k).kept)))
 
   -- and goes on taking asks
   round_takes : IsTaking (run t round) k life i (high + 1) h n r
-  unfolding ask round request serving served_shop given_shop accepted_shop
+  unfolding ask round of_one serving served_shop given_shop accepted_shop
   round_takes =
-      let next : highest i ((t.folder k).kept ++ Message i (highest i (t.folder k).kept + 1) ask ∷ []) ≡ high + 1 =
-      highest_next i (highest i (t.folder k).kept + 1) ask (t.folder k).kept (omega arith) ∙ ap (λ m. m + 1) q.greatest in
+      let next : highest i ((folder t k).kept ++ Message i (highest i (folder t k).kept + 1) ask ∷ []) ≡ high + 1 =
+      highest_next i (highest i (folder t k).kept + 1) ask (folder t k).kept (omega arith) ∙ ap (λ m. m + 1) q.greatest in
       let kept : highest i (accepting (giving serving ask 1) ask).kept ≡ high + 1 =
-      subst (λ j. highest i ((t.folder k).kept ++ Message j (highest j (t.folder k).kept + 1) ask ∷ []) ≡ high + 1) (sym q.site) next in
+      subst (λ j. highest i ((folder t k).kept ++ Message j (highest j (folder t k).kept + 1) ask ∷ []) ≡ high + 1) (sym q.site) next in
       record {
         is_open = subst (λ (f : Folder). f.is_open ≡ true) (sym is_accepting) q.is_open;
         life_is = subst (λ (f : Folder). f.life ≡ life) (sym is_accepting) q.life_is;
         runs = q.runs;
         begun = q.begun;
-        served = λ p has. ⊎_elim (λ e. omega (arith, e)) (λ old. omega (arith, q.served p old))
+        served = λ p has. ⊎_elim (λ e. omega (arith, e, one_more)) (λ old. omega (arith, q.served p old, one_more))
             (subst (λ (f : Folder). Has p f.served) is_accepting has);
         lines = subst (λ (f : Folder). f.lines ≡ []) (sym is_accepting) (none q.lines);
         given = subst (λ (f : Folder). f.given ≡ []) (sym is_accepting) (none q.given);
         site = subst (λ (f : Folder). f.site ≡ i) (sym is_accepting) q.site;
         greatest = subst (λ (f : Folder). highest i f.kept ≡ high + 1) (sym is_accepting) kept;
         stands = whole_after c t round h round_may ((λ z. z), ((λ z. z), ((λ z. z), ((λ z. z), tt)))) (Message i n r) q.stands;
-        asked = omega (arith, q.asked);
+        asked = omega (arith, q.asked, one_more);
+        compared = q.compared;
       }
     where
-      none : {xs : List ℕ} → xs ≡ [] → others (xs ++ (t.asks + 1) ∷ []) ≡ []
-      none e = ap (λ xs. others (xs ++ (t.asks + 1) ∷ [])) e
+      none : {xs : List ℕ} → xs ≡ [] → others (xs ++ (asks t + 1) ∷ []) ≡ []
+      none e = ap (λ xs. others (xs ++ (asks t + 1) ∷ [])) e
 
 -- ---- as many asks as it takes
 
@@ -152,11 +162,12 @@ comes_to_two c k life i h n r zero t high e q =
     both : AreGivenOnce (run t (round c t k life i high h n r q)) → ⊥
     both once =
         let number : high + 1 ≡ n = omega (arith, e) in
-        let mine = subst (λ m. Has (Message i m (t.asks + 1)) ((run t (round c t k life i high h n r q)).folder k).kept) number
+        let mine = subst (λ m. Has (Message i m (asks t + 1)) (folder (run t (round c t k life i high h n r q)) k).kept) number
         (round_has c t k life i high h n r q) in
         let stands = (round_takes c t k life i high h n r q).stands in
-        let same : Message i n r ≡ Message i n (t.asks + 1) = once h (InFolder k) (Message i n r) (Message i n (t.asks + 1)) stands mine refl in
-        let ask : r ≡ t.asks + 1 = cc same in
+        let same : Message i n r ≡ Message i n (asks t + 1) = once h (InFolder k) (Message i n r) (Message i n (asks t + 1)) stands mine refl
+        (round_takes c t k life i high h n r q).compared in
+        let ask : r ≡ asks t + 1 = cc same in
         omega (arith, ask, q.asked)
 comes_to_two c k life i h n r (suc d) t high e q =
     let more = comes_to_two c k life i h n r d (run t (round c t k life i high h n r q)) (high + 1) (omega (arith, e))
@@ -168,24 +179,20 @@ comes_to_two c k life i h n r (suc d) t high e q =
 
 -- ---- a folder that opens all the same
 
-opened_all : (s : Shop) (k : ℕ) → Folder
-opened_all s k = record (s.folder k) { is_open = true; remembered = true }
-
 pub comparing_needed : ComparingIsNeeded
-unfolding opened_all
-comparing_needed c events m k f h n r stands ahead =
+comparing_needed c events m k f h n r stands ahead compared =
     let s = run start events in
     let told = tells_run c events m in
     let t = after s (Opens k) in
-    let i = (s.folder k).site in
-    let here : t.folder k ≡ opened_all s k = put_here k (opened_all s k) (λ j. forgotten (s.folder k).site (s.folder j)) in
-    let kept : (j : ℕ) → (t.folder j).kept ≡ (s.folder j).kept =
-    put_cases (λ j g. g.kept ≡ (s.folder j).kept) k (opened_all s k) (λ j. forgotten (s.folder k).site (s.folder j)) refl (λ j d. refl) in
+    let i = (folder s k).site in
+    let here : folder t k ≡ opened (folder s k) =
+    opened_cases (λ j g. j ≡ k → g ≡ opened (folder s k)) s k (λ e. refl) (λ j d e. absurd (d e)) k refl in
+    let kept : (j : ℕ) → (folder t j).kept ≡ (folder s j).kept = opened_cases (λ j g. g.kept ≡ (folder s j).kept) s k refl (λ j d. refl) in
     let there_too : (g : Place) → Has (Message i n r) (there s g) → Has (Message i n r) (there t g) =
     elim [ InFolder j ↦ λ a. subst (Has (Message i n r)) (sym (kept j)) a | InStream j ↦ λ a. a ] in
-    let taking : IsTaking t k (s.folder k).life i (highest i (s.folder k).kept) h n r = record {
+    let taking : IsTaking t k (folder s k).life i (highest i (folder s k).kept) h n r = record {
       is_open = subst (λ (g : Folder). g.is_open ≡ true) (sym here) refl;
-      life_is = subst (λ (g : Folder). g.life ≡ (s.folder k).life) (sym here) refl;
+      life_is = subst (λ (g : Folder). g.life ≡ (folder s k).life) (sym here) refl;
       runs = f.runs;
       begun = told.begun k;
       served = λ q has. absurd (subst (Has q) f.served (subst (λ (g : Folder). Has q g.served) here has));
@@ -195,5 +202,6 @@ comparing_needed c events m k f h n r stands ahead =
       greatest = ap (highest i) (kept k);
       stands = there_too h stands;
       asked = (told.made h i n r stands).asked;
+      compared = compared;
     } in
-    comes_to_two c k (s.folder k).life i h n r (n - suc (highest i (s.folder k).kept)) t (highest i (s.folder k).kept) (omega (arith, ahead)) taking
+    comes_to_two c k (folder s k).life i h n r (n - suc (highest i (folder s k).kept)) t (highest i (folder s k).kept) (omega (arith, ahead)) taking

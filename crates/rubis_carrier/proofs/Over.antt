@@ -1,16 +1,20 @@
 -- An ask that is over has a message by then, or never.
-use Rattle.std.proofs.Common.{◌≡◌, ◌∙◌, ◌≢◌, inl, inr, ⊎_elim, ◌<◌, ◌++◌, ◌∷◌, [], ℕ, List, refl, sym, ap, subst, arith}
+use Rattle.std.proofs.lemmas.List.{length_push}
+use Rattle.std.proofs.Common.{◌≡◌, ◌∙◌, ◌≢◌, inl, inr, ⊎_elim, ◌<◌, ◌++◌, ◌∷◌, [], ℕ, ◌≤◌, List, length, refl, sym, ap, subst, arith}
 use Rattle.rubis_model.specs.Settle.{Has}
 use Rattle.rubis_model.proofs.Lists.{has_right, push_cases}
-use Rattle.rubis_carrier.specs.Packets.Packet.{Message}
-use Rattle.rubis_carrier.specs.Shops.{Carrier, Folder, Request, Shop, put, start}
-use Rattle.rubis_carrier.specs.Events.{AreSteps, Event, IsFirst, May, after, first, forgotten, run}
-use Rattle.rubis_carrier.specs.Events.Event.{Accepts, Appends, Gives, IsAsked, IsChanged, IsCopied, IsKilled, IsLost, KeeperStarts, LosesEnd}
-use Rattle.rubis_carrier.specs.Events.Event.{MachineStarts, Opens, Passes, Reads, Rebuilds, Refuses, Serves, ServerLosesAll, Starts, StreamLosesEnd}
-use Rattle.rubis_carrier.specs.Events.Event.{Closes, TellsNothing, TellsOk, TellsPublished, TellsUnknown, WritesAnew}
+use Rattle.rubis_carrier.specs.declared.values.Carrier.{Carrier}
+use Rattle.rubis_carrier.specs.declared.values.ShopPacket.TheVariants.{Message}
+use Rattle.rubis_carrier.specs.declared.values.ShopRequest.{ShopRequest}
+use Rattle.rubis_carrier.specs.Events.{AreSteps, Event, IsFirst, May, after, first, opening, run}
+use Rattle.rubis_carrier.specs.Events.Event.{Accepts, Appends, Closes, Gives, IsAsked, IsChanged, IsCopied, IsKilled, IsLost, KeeperStarts, LosesEnd}
+use Rattle.rubis_carrier.specs.Events.Event.{MachineStarts, Opens, OpensAlone, Passes, Reads, Rebuilds, Refuses, ServerLosesAll, Serves, Starts}
+use Rattle.rubis_carrier.specs.Events.Event.{StreamLosesEnd, TakesBack, TakesOver, TellsNothing, TellsOk, TellsPublished, TellsUnknown, WritesAnew}
+use Rattle.rubis_carrier.specs.Events.Event.{Yields}
 use Rattle.rubis_carrier.specs.Laws.{AnswersComeInOrder, IsOver, IsUnmade, WhatIsOverStays}
+use Rattle.rubis_carrier.specs.Shops.{Folder, Shop, folder, folder_in, put_folder, request, request_in, start}
 use Rattle.rubis_carrier.proofs.Changes.{AreApart, IsNew, first_in, from_step, has_others, has_without}
-use Rattle.rubis_carrier.proofs.PutFacts.{put_cases, put_there}
+use Rattle.rubis_carrier.proofs.PutFacts.{folder_cases, opened_cases, request_old}
 use Rattle.rubis_carrier.proofs.Telling.{Tells, tells_run, tells_step}
 use Rattle.rubis_carrier.proofs.Whole.{run_append, steps_left, steps_right}
 
@@ -22,12 +26,12 @@ record IsWithout (r : ℕ) (f g : Folder) : Type 0 where
   given : ¬ (Has r g.given)
 
 module _ (s : Shop) (r : ℕ) (o : IsOver s r) where
-  as_it_was : (k : ℕ) → IsWithout r (s.folder k) (s.folder k)
+  as_it_was : (k : ℕ) → IsWithout r (folder s k) (folder s k)
   as_it_was k = record { life = λ l. refl; served = λ l h. h; waits = o.waits_nowhere k; given = o.given_nowhere k }
 
   -- what is in memory is the same
-  with_memory : (k : ℕ) (g : Folder) → g.life ≡ (s.folder k).life → g.served ≡ (s.folder k).served → g.waiting ≡ (s.folder k).waiting
-      → g.given ≡ (s.folder k).given → IsWithout r (s.folder k) g
+  with_memory : (k : ℕ) (g : Folder) → g.life ≡ (folder s k).life → g.served ≡ (folder s k).served → g.waiting ≡ (folder s k).waiting
+      → g.given ≡ (folder s k).given → IsWithout r (folder s k) g
   with_memory k g a b c d = record {
     life = λ l. a;
     served = λ l h. subst (Has r) (sym b) h;
@@ -35,25 +39,28 @@ module _ (s : Shop) (r : ℕ) (o : IsOver s r) where
     given = λ h. o.given_nowhere k (subst (Has r) d h);
   }
 
-  over_less : (t : Shop) → ((k : ℕ) → IsWithout r (s.folder k) (t.folder k)) → t.request ≡ s.request → t.asks ≡ s.asks → IsOver t r
-  over_less t l e a = record {
-    asked = omega (arith, o.asked, a);
+  over_less : (t : Shop) → ((k : ℕ) → IsWithout r (folder s k) (folder t k)) → t.requests ≡ s.requests → IsOver t r
+  over_less t l e = record {
+    asked = subst (λ rs. r ≤ length rs) (sym e) o.asked;
     served = λ k runs n.
         (l k).served runs
-        (o.served k (omega (arith, runs, (l k).life runs)) (subst (λ (f : ℕ → Request). (f r).life ≡ (t.folder k).life) e n ∙ (l k).life runs));
+        (o.served k (omega (arith, runs, (l k).life runs)) (subst (λ rs. (request_in rs r).life ≡ (folder t k).life) e n ∙ (l k).life runs));
     waits_nowhere = λ k. (l k).waits;
     given_nowhere = λ k. (l k).given;
   }
 
-  over_put : (t : Shop) (k : ℕ) (g : Folder) → t.folder ≡ put k g s.folder → IsWithout r (s.folder k) g → t.request ≡ s.request → t.asks ≡ s.asks
-      → IsOver t r
+  over_put : (t : Shop) (k : ℕ) (g : Folder) → t.folders ≡ put_folder k g s.folders → IsWithout r (folder s k) g → t.requests ≡ s.requests → IsOver t r
   over_put t k g e l =
-      over_less t (λ j. subst (λ (f : ℕ → Folder). IsWithout r (s.folder j) (f j)) (sym e)
-      (put_cases (λ i h. IsWithout r (s.folder i) h) k g s.folder l (λ i n. as_it_was i) j))
+      over_less t (λ j. subst (λ fs. IsWithout r (folder s j) (folder_in fs j)) (sym e)
+      (folder_cases (λ i h. IsWithout r (folder s i) h) k g s.folders l (λ i n. as_it_was i) j))
+
+  over_opened : (k : ℕ) (uncompared : List ℕ) → IsOver (record (opening k s) { uncompared = uncompared }) r
+  over_opened k uncompared = over_less _
+      (opened_cases (λ j g. IsWithout r (folder s j) g) s k (with_memory k _ refl refl refl refl) (λ j n. with_memory j _ refl refl refl refl)) refl
 
   -- nothing runs it
-  over_stopped : (t : Shop) (k : ℕ) (g : Folder) → t.folder ≡ put k g s.folder → g.life ≡ 0 → g.waiting ≡ [] → g.given ≡ [] → t.request ≡ s.request
-      → t.asks ≡ s.asks → IsOver t r
+  over_stopped : (t : Shop) (k : ℕ) (g : Folder) → t.folders ≡ put_folder k g s.folders → g.life ≡ 0 → g.waiting ≡ [] → g.given ≡ []
+      → t.requests ≡ s.requests → IsOver t r
   over_stopped t k g e l w d = over_put t k g e (record {
     life = λ runs. absurd (omega (arith, runs, l));
     served = λ runs. absurd (omega (arith, runs, l));
@@ -64,80 +71,79 @@ module _ (s : Shop) (r : ℕ) (o : IsOver s r) where
 over_step : (c : Carrier) (s : Shop) (e : Event) (r : ℕ) → May c s e → Tells s → IsOver s r → IsOver (after s e) r
 over_step c s (Starts k) r m q o = record {
   asked = o.asked;
-  served = put_cases (λ j g. 0 < g.life → (s.request r).life ≡ g.life → Has r g.served) k _ s.folder
+  served = folder_cases (λ j g. 0 < g.life → (request s r).life ≡ g.life → Has r g.served) k _ s.folders
       (λ runs e. absurd (omega (arith, e, q.named r o.asked))) (λ j n runs e. o.served j runs e);
-  waits_nowhere = put_cases (λ j g. ¬ (Has r g.waiting)) k _ s.folder (λ h. h) (λ j n. o.waits_nowhere j);
-  given_nowhere = put_cases (λ j g. ¬ (Has r g.given)) k _ s.folder (λ h. h) (λ j n. o.given_nowhere j);
+  waits_nowhere = folder_cases (λ j g. ¬ (Has r g.waiting)) k _ s.folders (λ h. h) (λ j n. o.waits_nowhere j);
+  given_nowhere = folder_cases (λ j g. ¬ (Has r g.given)) k _ s.folders (λ h. h) (λ j n. o.given_nowhere j);
 }
-over_step c s (Opens k) r m q o = over_less s r o (after s (Opens k))
-    (put_cases (λ j g. IsWithout r (s.folder j) g) k _ (λ i. forgotten (s.folder k).site (s.folder i)) (with_memory s r o k _ refl refl refl refl)
-    (λ j n. with_memory s r o j _ refl refl refl refl)) refl refl
-over_step c s (Closes k) r m q o = over_put s r o _ k _ refl (with_memory s r o k _ refl refl refl refl) refl refl
+over_step c s (Opens k) r m q o = over_opened s r o k s.uncompared
+over_step c s (TakesOver k) r m q o = over_opened s r o k _
+over_step c s (OpensAlone k) r m q o = over_opened s r o k _
+over_step c s (Closes k) r m q o = over_put s r o _ k _ refl (with_memory s r o k _ refl refl refl refl) refl
 over_step c s (KeeperStarts k) r m q o = o
-over_step c s (IsKilled k) r m q o = over_stopped s r o _ k _ refl refl refl refl refl refl
-over_step c s (MachineStarts k) r m q o = over_stopped s r o _ k _ refl refl refl refl refl refl
+over_step c s (IsKilled k) r m q o = over_stopped s r o _ k _ refl refl refl refl refl
+over_step c s (MachineStarts k) r m q o = over_stopped s r o _ k _ refl refl refl refl refl
 over_step c s (IsAsked p life d) r m q o = record {
-  asked = omega (arith, o.asked, m.0);
-  served = λ k runs e. o.served k runs (ap (λ (x : Request). x.life) (sym (same (λ n. absurd (omega (arith, n, o.asked, m.0))))) ∙ e);
+  asked = omega (arith, o.asked, length_push s.requests (record { life = life; records = d }));
+  served = λ k runs e. o.served k runs (ap (λ (x : ShopRequest). x.life) (sym (request_old s.requests (record { life = life; records = d }) r o.asked)) ∙ e);
   waits_nowhere = o.waits_nowhere;
   given_nowhere = o.given_nowhere;
 }
-  where
-    same : r ≢ p → put p (record { life = life; records = d }) s.request r ≡ s.request r
-    same n = put_there p r (record { life = life; records = d }) s.request n
 over_step c s (Serves k p) r m q o = over_put s r o _ k _ refl (record {
   life = λ l. refl;
   served = λ l h. inr h;
-  waits = λ h. ⊎_elim (λ e. m.once (subst (λ n. Has n (s.folder k).served) e (o.served k m.runs (ap (λ n. (s.request n).life) e ∙ m.life))))
+  waits = λ h. ⊎_elim (λ e. m.once (subst (λ n. Has n (folder s k).served) e (o.served k m.runs (ap (λ n. (request s n).life) e ∙ m.life))))
       (o.waits_nowhere k) h;
   given = o.given_nowhere k;
-}) refl refl
+}) refl
 over_step c s (Gives k p) r m q o = over_put s r o _ k _ refl (record {
   life = λ l. refl;
   served = λ l h. h;
-  waits = λ h. o.waits_nowhere k (has_without p r (s.folder k).waiting h).0;
-  given = λ h. ⊎_elim (o.given_nowhere k) (λ e. o.waits_nowhere k (subst (λ n. Has n (s.folder k).waiting) (sym e) m.1))
-      (push_cases r p (s.folder k).given h);
-}) refl refl
+  waits = λ h. o.waits_nowhere k (has_without p r (folder s k).waiting h).0;
+  given = λ h. ⊎_elim (o.given_nowhere k) (λ e. o.waits_nowhere k (subst (λ n. Has n (folder s k).waiting) (sym e) m.1))
+      (push_cases r p (folder s k).given h);
+}) refl
 over_step c s (Accepts k p) r m q o = over_put s r o _ k _ refl (record {
   life = λ l. refl;
   served = λ l h. h;
   waits = o.waits_nowhere k;
-  given = λ h. o.given_nowhere k (has_others r (s.folder k).given (q.lined k).apart h).0;
-}) refl refl
+  given = λ h. o.given_nowhere k (has_others r (folder s k).given (q.lined k).apart h).0;
+}) refl
 over_step c s (Refuses k p) r m q o = over_put s r o _ k _ refl (record {
   life = λ l. refl;
   served = λ l h. h;
   waits = o.waits_nowhere k;
-  given = λ h. o.given_nowhere k (has_others r (s.folder k).given (q.lined k).apart h).0;
-}) refl refl
-over_step c s (TellsOk k p n) r m q o = over_less s r o _ (as_it_was s r o) refl refl
-over_step c s (TellsPublished k p n) r m q o = over_less s r o _ (as_it_was s r o) refl refl
+  given = λ h. o.given_nowhere k (has_others r (folder s k).given (q.lined k).apart h).0;
+}) refl
+over_step c s (TellsOk k p n) r m q o = over_less s r o _ (as_it_was s r o) refl
+over_step c s (TellsPublished k p n) r m q o = over_less s r o _ (as_it_was s r o) refl
 over_step c s (TellsNothing k p) r m q o = over_put s r o _ k _ refl (record {
   life = λ l. refl;
   served = λ l h. h;
-  waits = λ h. o.waits_nowhere k (has_without p r (s.folder k).waiting h).0;
+  waits = λ h. o.waits_nowhere k (has_without p r (folder s k).waiting h).0;
   given = o.given_nowhere k;
-}) refl refl
-over_step c s (TellsUnknown k p) r m q o = over_less s r o _ (as_it_was s r o) refl refl
-over_step c s (Passes k to) r m q o = over_put s r o _ k _ refl (with_memory s r o k _ refl refl refl refl) refl refl
-over_step c s (Appends k x) r m q o = over_less s r o _ (as_it_was s r o) refl refl
-over_step c s (Reads k x) r m q o = over_put s r o _ k _ refl (with_memory s r o k _ refl refl refl refl) refl refl
-over_step c s (LosesEnd k n) r m q o = over_stopped s r o _ k _ refl refl refl refl refl refl
-over_step c s (IsChanged k ps) r m q o = over_stopped s r o _ k _ refl refl refl refl refl refl
-over_step c s (IsLost k) r m q o = over_stopped s r o _ k _ refl refl refl refl refl refl
-over_step c s (IsCopied k j) r m q o = over_stopped s r o _ j _ refl refl refl refl refl refl
-over_step c s (StreamLosesEnd i n) r m q o = over_less s r o _ (as_it_was s r o) refl refl
-over_step c s ServerLosesAll r m q o = over_less s r o _ (as_it_was s r o) refl refl
-over_step c s (Rebuilds k ps) r m q o = over_stopped s r o _ k _ refl refl refl refl refl refl
-over_step c s (WritesAnew k) r m q o = over_less s r o _ (as_it_was s r o) refl refl
+}) refl
+over_step c s (TellsUnknown k p) r m q o = over_less s r o _ (as_it_was s r o) refl
+over_step c s (Yields i) r m q o = over_less s r o _ (as_it_was s r o) refl
+over_step c s (TakesBack i) r m q o = over_less s r o _ (as_it_was s r o) refl
+over_step c s (Passes k to) r m q o = over_put s r o _ k _ refl (with_memory s r o k _ refl refl refl refl) refl
+over_step c s (Appends k x) r m q o = over_less s r o _ (as_it_was s r o) refl
+over_step c s (Reads k x) r m q o = over_put s r o _ k _ refl (with_memory s r o k _ refl refl refl refl) refl
+over_step c s (LosesEnd k n) r m q o = over_stopped s r o _ k _ refl refl refl refl refl
+over_step c s (IsChanged k ps) r m q o = over_stopped s r o _ k _ refl refl refl refl refl
+over_step c s (IsLost k) r m q o = over_stopped s r o _ k _ refl refl refl refl refl
+over_step c s (IsCopied k j) r m q o = over_stopped s r o _ j _ refl refl refl refl refl
+over_step c s (StreamLosesEnd i n) r m q o = over_less s r o _ (as_it_was s r o) refl
+over_step c s ServerLosesAll r m q o = over_less s r o _ (as_it_was s r o) refl
+over_step c s (Rebuilds k ps) r m q o = over_stopped s r o _ k _ refl refl refl refl refl
+over_step c s (WritesAnew k) r m q o = over_less s r o _ (as_it_was s r o) refl
 
 -- an event makes no message of it
 not_made : (c : Carrier) (s : Shop) (e : Event) (r i n : ℕ) → May c s e → Tells s → IsOver s r → IsNew s e (Message i n r) → ⊥
 not_made c s (Accepts k p) r i n m q o new =
-    let it = first_in p (s.folder k).given (m.1.0, sym (q.lined k).lines ∙ m.1.1) in
+    let it = first_in p (folder s k).given (m.1.0, sym (q.lined k).lines ∙ m.1.1) in
     let same : r ≡ p = cc new in
-    o.given_nowhere k (subst (λ a. Has a (s.folder k).given) (sym same) it.1)
+    o.given_nowhere k (subst (λ a. Has a (folder s k).given) (sym same) it.1)
 not_made c s (Passes k to) r i n m q o new = cc new
 not_made c s (Starts k) r i n m q o new = new
 not_made c s e r i n m q o new = new
@@ -169,6 +175,6 @@ pub in_order : AnswersComeInOrder
 in_order c events m k r q a b d e =
     let l = (tells_run c events m).lined k in
     let s = run start events in
-    let no : IsFirst q (s.folder k).lines → ⊥ =
-    λ f. not_first r q a b d (s.folder k).given e l.apart (first_in q (s.folder k).given (f.0, sym l.lines ∙ f.1)).0 in
+    let no : IsFirst q (folder s k).lines → ⊥ =
+    λ f. not_first r q a b d (folder s k).given e l.apart (first_in q (folder s k).given (f.0, sym l.lines ∙ f.1)).0 in
     ((λ x. no x.1), no)

@@ -27,7 +27,8 @@ use Rattle.rubis_generate.specs.Decision.{decision}
 use Rattle.rubis_model.proofs.Lists.{push_cases}
 use Rattle.rubis_model.proofs.Pasts.{counted_no, counted_yes}
 use Rattle.rubis_model.proofs.Settling.{counted_push, settle_keeps}
-use Rattle.rubis_carrier.specs.Packets.{Holds, Packet, highest, taken}
+use Rattle.rubis_carrier.specs.declared.values.ShopPacket.{ShopPacket}
+use Rattle.rubis_carrier.specs.Packets.{Holds, highest, taken}
 use Rattle.rubis_carrier.specs.Packets.{passed as passed_on}
 use Rattle.rubis_carrier.specs.Sites.{SitesGiveTheseNames, came_by, known_as, packets_by, packets_of, passed_by, sent_by, took_by}
 use Rattle.rubis_carrier.proofs.PacketFacts.{highest_next, highest_other, highest_pass, passed_message, passed_next, passed_other, taken_message}
@@ -42,7 +43,7 @@ WaitsFor i most waiting = (x : Message) → Has x waiting → x.stamp.id.site �
 
 -- the greatest number is the count of the site's own messages, and the greatest turn the last that it took; it has passed that on, or
 -- holds it
-record IsHistory (p : Place) (s : Replica) (kept : List Packet) : Type 0 where
+record IsHistory (p : Place) (s : Replica) (kept : List ShopPacket) : Type 0 where
   number : highest p.site kept ≡ counted p.site s.log
   waits : WaitsFor p.site (counted p.site s.log) s.waiting
   turn : taken p.site kept ≡ s.last
@@ -63,7 +64,7 @@ settled_counts i most n log waiting c w =
     n log waiting (c, w)
 
 -- nothing more is kept
-same_packets : (p : Place) (s : Replica) (kept : List Packet) → IsHistory p s kept → IsHistory p s (kept ++ [])
+same_packets : (p : Place) (s : Replica) (kept : List ShopPacket) → IsHistory p s kept → IsHistory p s (kept ++ [])
 same_packets p s kept h = subst (IsHistory p s) (sym (append-nil kept)) h
 
 -- ---- asks
@@ -76,7 +77,7 @@ held_still x None issued e = by_colour (is_red x) e
     by_colour false f = absurd (cc f)
 held_still x (Some n) issued e = (n, refl)
 
-after_asked : (ask : Message → ℕ) (p : Place) (s : Replica) (kept : List Packet) → IsHistory p s kept → (r : Result Shadow Refusal)
+after_asked : (ask : Message → ℕ) (p : Place) (s : Replica) (kept : List ShopPacket) → IsHistory p s kept → (r : Result Shadow Refusal)
     → IsHistory p (generating p s r).0 (kept ++ sent_by ask (generating p s r).1)
 after_asked ask p s kept q (Err r) = same_packets p s kept q
 after_asked ask p s kept q (Ok x) =
@@ -101,7 +102,7 @@ after_asked ask p s kept q (Ok x) =
 -- ---- messages that come
 
 -- a message of another site is kept, or one of this site isn't
-came_more : (ask : Message → ℕ) (p : Place) (s : Replica) (m : Message) (kept : List Packet) → IsHistory p s kept
+came_more : (ask : Message → ℕ) (p : Place) (s : Replica) (m : Message) (kept : List ShopPacket) → IsHistory p s kept
     → IsHistory p s (kept ++ cond (m.stamp.id.site == p.site) [] (known_as ask m ∷ []))
 came_more ask p s m kept q = cond_both (m.stamp.id.site == p.site) [] (known_as ask m ∷ []) (λ more. IsHistory p s (kept ++ more))
     (λ e. same_packets p s kept q)
@@ -116,7 +117,7 @@ came_more ask p s m kept q = cond_both (m.stamp.id.site == p.site) [] (known_as 
     })
 
 -- the message waits, and what is ready is released
-with_waiting : (p : Place) (s : Replica) (m : Message) (kept : List Packet) → IsHistory p s kept → not_ours p s m ≡ false → IsHistory p (after_came s m) kept
+with_waiting : (p : Place) (s : Replica) (m : Message) (kept : List ShopPacket) → IsHistory p s kept → not_ours p s m ≡ false → IsHistory p (after_came s m) kept
 with_waiting p s m kept q ours =
     let i = p.site in
     let done = settled_counts i (counted i s.log) (length (s.waiting ++ m ∷ [])) s.log (s.waiting ++ m ∷ []) refl
@@ -140,7 +141,7 @@ with_waiting p s m kept q ours =
         ltb-false (counted p.site s.log) m.stamp.id.seq
         (both (m.stamp.id.site == p.site) (nat_lt (counted p.site s.log) m.stamp.id.seq) ours here)
 
-after_message : (ask : Message → ℕ) (p : Place) (s : Replica) (kept : List Packet) → IsHistory p s kept → (m : Message)
+after_message : (ask : Message → ℕ) (p : Place) (s : Replica) (kept : List ShopPacket) → IsHistory p s kept → (m : Message)
     → IsHistory p (arrived p s m).0 (kept ++ came_by ask p m (arrived p s m).1)
 after_message ask p s kept q m =
     cond_both {A = Replica × Result Arrival Refusal} (not_ours p s m) (s, Err NotOurs)
@@ -155,7 +156,7 @@ after_message ask p s kept q m =
 
 -- ---- the token
 
-after_token : (from : Token → ℕ) (p : Place) → ((t : Token) → from t ≢ p.site) → (s : Replica) (kept : List Packet) → IsHistory p s kept → (t : Token)
+after_token : (from : Token → ℕ) (p : Place) → ((t : Token) → from t ≢ p.site) → (s : Replica) (kept : List ShopPacket) → IsHistory p s kept → (t : Token)
     → IsHistory p (took p s t).0 (kept ++ took_by from t (took p s t).1)
 after_token from p away s kept q t =
     cond_both {A = Replica × Result ModelTaken Refusal} (not (t.to == p.site)) (s, Err NotForMe)
@@ -180,7 +181,7 @@ not_either : (a b : Bool) → (a || b) ≡ false → b ≡ false
 not_either true b e = absurd (cc e)
 not_either false b e = e
 
-after_pass : (p : Place) (s : Replica) (kept : List Packet) → IsHistory p s kept → (to : ℕ) (held : Option ℕ) → s.held ≡ held
+after_pass : (p : Place) (s : Replica) (kept : List ShopPacket) → IsHistory p s kept → (to : ℕ) (held : Option ℕ) → s.held ≡ held
     → IsHistory p (passing p s to held).0 (kept ++ passed_by p s (passing p s to held).1)
 after_pass p s kept q to None e = same_packets p s kept q
 after_pass p s kept q to (Some issued) e =
@@ -205,7 +206,7 @@ after_pass p s kept q to (Some issued) e =
 -- ---- all records
 
 module _ (ask : Message → ℕ) (from : Token → ℕ) (p : Place) (away : (t : Token) → from t ≢ p.site) where
-  after_input : (s : Replica) (n : ℕ) (kept : List Packet) → IsHistory p s kept → (input : Input)
+  after_input : (s : Replica) (n : ℕ) (kept : List ShopPacket) → IsHistory p s kept → (input : Input)
       → IsHistory p (input_step p s n input).0 (kept ++ packets_by ask from p s input)
   after_input s n kept q (Asked (request.Ask a)) = after_asked ask p s kept q (decision (rows_at s.log) (standing_of p.keep s) a)
   after_input s n kept q (Asked (request.Pass to)) = after_pass p s kept q to s.held refl
@@ -214,7 +215,7 @@ module _ (ask : Message → ℕ) (from : Token → ℕ) (p : Place) (away : (t :
   after_input s n kept q (Came (packet.Token t)) = after_token from p away s kept q t
   after_input s n kept q Neither = same_packets p s kept q
 
-  after_records : (records : List (List (List ℕ))) (s : Replica) (n : ℕ) (kept : List Packet) → IsHistory p s kept
+  after_records : (records : List (List (List ℕ))) (s : Replica) (n : ℕ) (kept : List ShopPacket) → IsHistory p s kept
       → IsHistory p (site_after p s n records) (kept ++ packets_of ask from p s n records)
   after_records [] s n kept q = same_packets p s kept q
   after_records (fields ∷ rest) s n kept q =
@@ -239,7 +240,7 @@ at_first p = record {
 
 -- ---- what it gives next
 
-gives_message : (p : Place) (s : Replica) (kept : List Packet) → IsHistory p s kept → (r : Result Shadow Refusal) (m : Message)
+gives_message : (p : Place) (s : Replica) (kept : List ShopPacket) → IsHistory p s kept → (r : Result Shadow Refusal) (m : Message)
     → (generating p s r).1 ≡ Ok m → (m.stamp.id.site ≡ p.site) × (m.stamp.id.seq ≡ highest p.site kept + 1)
 gives_message p s kept q (Err r) m e = absurd (cc e)
 gives_message p s kept q (Ok x) m e =
@@ -249,7 +250,7 @@ gives_message p s kept q (Ok x) m e =
 true_not_false : true ≡ false → ⊥
 true_not_false e = cc e
 
-gives_pass : (p : Place) (s : Replica) (kept : List Packet) → IsHistory p s kept → (to : ℕ) (t : Token) (held : Option ℕ) → s.held ≡ held
+gives_pass : (p : Place) (s : Replica) (kept : List ShopPacket) → IsHistory p s kept → (to : ℕ) (t : Token) (held : Option ℕ) → s.held ≡ held
     → (passing p s to held).1 ≡ Ok t → Holds p.site kept × (t.turn ≡ taken p.site kept + 1) × (to ≢ p.site)
 gives_pass p s kept q to t None e f = absurd (cc f)
 gives_pass p s kept q to t (Some issued) e was =

@@ -1,193 +1,220 @@
 -- What every event keeps of a shop, and that so a name is given once.
 use Rattle.std.proofs.Common.{◌≡◌, ◌∙◌, ◌≢◌, ◌⊎◌, inl, inr, ⊎_elim, ◌≤◌, ◌+◌, ◌++◌, ◌∷◌, [], ℕ, Bool, true, false, cond, eqb, List, refl, sym, ap, subst, arith, max}
-use Rattle.std.specs.Prelude.{filter, take, ◌==◌}
+use Rattle.std.specs.Prelude.{take, ◌==◌}
+use Rattle.std.proofs.lemmas.Bool.{eqb-false, eqb-true}
 use Rattle.rubis_model.specs.Settle.{Has}
 use Rattle.rubis_model.proofs.Lists.{has_last, push_cases}
-use Rattle.rubis_carrier.specs.Packets.{IsReached, Packet, highest, name, passed, sender, taken}
-use Rattle.rubis_carrier.specs.Packets.Packet.{Message, Pass}
-use Rattle.rubis_carrier.specs.Shops.{Carrier, Folder, IsCompared, MayOpen, Place, Shop, put, start, there}
-use Rattle.rubis_carrier.specs.Shops.Carrier.{Files, Server}
-use Rattle.rubis_carrier.specs.Shops.Place.{InFolder, InStream}
-use Rattle.rubis_carrier.specs.Events.{AreSteps, Event, IsOffered, May, accepting, after, forgotten, keeping, next_message, next_pass, run}
-use Rattle.rubis_carrier.specs.Events.Event.{Accepts, Appends, Gives, IsAsked, IsChanged, IsCopied, IsKilled, IsLost, LosesEnd, MachineStarts, Opens, Passes}
-use Rattle.rubis_carrier.specs.Events.Event.{Reads, Rebuilds, Refuses, Serves, ServerLosesAll, Starts, StreamLosesEnd, TellsNothing, TellsOk, TellsPublished}
-use Rattle.std.proofs.lemmas.Bool.{eqb-false, eqb-true}
-use Rattle.rubis_carrier.specs.Events.Event.{Closes, KeeperStarts, TellsUnknown, WritesAnew}
 use Rattle.rubis_carrier.specs.Laws.{AreGivenOnce, IdsAreGivenOnce}
+use Rattle.rubis_carrier.specs.Laws.{AreGivenOnce, IdsAreGivenOnce}
+use Rattle.rubis_carrier.specs.declared.values.Carrier.{Carrier}
+use Rattle.rubis_carrier.specs.declared.values.Carrier.TheVariants.{Files, Server}
+use Rattle.rubis_carrier.specs.declared.values.ShopPacket.{ShopPacket}
+use Rattle.rubis_carrier.specs.declared.values.ShopPacket.TheVariants.{Message, Pass}
+use Rattle.rubis_carrier.specs.declared.values.ShopRequest.{ShopRequest}
+use Rattle.rubis_carrier.specs.declared.values.Notice.{Notice}
+use Rattle.rubis_carrier.specs.Events.{AreSteps, Event, IsOffered, May, accepting, after, keeping, next_message, next_pass, opening}
+use Rattle.rubis_carrier.specs.Events.{opening_uncompared, run}
+use Rattle.rubis_carrier.specs.Events.Event.{Accepts, Appends, Closes, Gives, IsAsked, IsChanged, IsCopied, IsKilled, IsLost, KeeperStarts, LosesEnd}
+use Rattle.rubis_carrier.specs.Events.Event.{MachineStarts, Opens, OpensAlone, Passes, Reads, Rebuilds, Refuses, ServerLosesAll, Serves, Starts}
+use Rattle.rubis_carrier.specs.Events.Event.{StreamLosesEnd, TakesBack, TakesOver, TellsNothing, TellsOk, TellsPublished, TellsUnknown, WritesAnew}
+use Rattle.rubis_carrier.specs.Events.Event.{Yields}
+use Rattle.rubis_carrier.specs.Laws.{AreGivenOnce, IdsAreGivenOnce}
+use Rattle.rubis_carrier.specs.Packets.{IsReached, highest, name, passed, sender, taken}
+use Rattle.rubis_carrier.specs.Shops.{Folder, IsCompared, MayOpen, Place, Shop, folder, folder_in, put_folder, put_stream, start, stream, stream_in}
+use Rattle.rubis_carrier.specs.Shops.{there, with_folder}
+use Rattle.rubis_carrier.specs.Shops.Place.{InFolder, InStream}
 use Rattle.rubis_carrier.proofs.PacketFacts.{has_unchanged, reached_more, reached_within}
-use Rattle.rubis_carrier.proofs.PutFacts.{has_filter, has_take, put_cases}
+use Rattle.rubis_carrier.proofs.PutFacts.{folder_cases, has_filter, has_take, opened_cases, stream_cases}
 
 -- the packet stands somewhere
-abbrev pub IsSomewhere : Shop → Packet → Type 0
+abbrev pub IsSomewhere : Shop → ShopPacket → Type 0
 IsSomewhere s x = (h : Place) × Has x (there s h)
 
 -- the turn of a pass is at least 1 and no greater than the greatest, and no site passes to itself
-abbrev pub IsKnown : ℕ → Packet → Type 0
+abbrev pub IsKnown : ℕ → ShopPacket → Type 0
 IsKnown turn (Message i n r) = Unit {0}
 IsKnown turn (Pass i t j a) = (1 ≤ t) × (t ≤ turn) × (j ≢ i)
 
-known_more : (turn later : ℕ) (x : Packet) → turn ≤ later → IsKnown turn x → IsKnown later x
+known_more : (turn later : ℕ) (x : ShopPacket) → turn ≤ later → IsKnown turn x → IsKnown later x
 known_more turn later (Message i n r) t k = tt
 known_more turn later (Pass i u j b) t k = (k.0, omega (arith, t, k.1), k.2)
 
--- names are given once; a remembered folder has all of its site, and an open one is remembered; of each site one at most is
+-- each folder of the site was compared as it was opened
+abbrev pub WasCompared : Shop → ℕ → Type 0
+WasCompared s i = ¬ (Has i s.uncompared)
+
+-- names are given once; a remembered folder has all of its site, and an open one is remembered, where all were compared; of each site
+-- one at most is remembered
 pub record Sound (s : Shop) : Type 0 where
   pub once : AreGivenOnce s
-  pub known : (h : Place) (x : Packet) → Has x (there s h) → IsKnown s.turn x
-  pub whole : (k : ℕ) → (s.folder k).remembered ≡ true → IsCompared s k
-  pub opened : (k : ℕ) → (s.folder k).is_open ≡ true → (s.folder k).remembered ≡ true
-  pub one : (k j : ℕ) → (s.folder k).remembered ≡ true → (s.folder j).remembered ≡ true → (s.folder k).site ≡ (s.folder j).site → k ≡ j
+  pub known : (h : Place) (x : ShopPacket) → Has x (there s h) → IsKnown s.turn x
+  pub whole : (k : ℕ) → (folder s k).remembered ≡ true → WasCompared s (folder s k).site → IsCompared s k
+  pub opened : (k : ℕ) → (folder s k).is_open ≡ true → WasCompared s (folder s k).site → (folder s k).remembered ≡ true
+  pub one : (k j : ℕ) → (folder s k).remembered ≡ true → (folder s j).remembered ≡ true → (folder s k).site ≡ (folder s j).site → k ≡ j
 
 -- ---- events that make nothing
 
 -- a folder in the place of folder k: it has nothing that isn't somewhere; if it is remembered, so was the other one, and it has all of that
 pub record FolderIsLess (s : Shop) (k : ℕ) (f : Folder) : Type 0 where
-  pub from : (x : Packet) → Has x f.kept → IsSomewhere s x
-  pub was : f.remembered ≡ true → (s.folder k).remembered ≡ true
-  pub site : f.remembered ≡ true → (s.folder k).site ≡ f.site
-  pub kept : f.remembered ≡ true → (x : Packet) → IsReached (s.folder k).site (s.folder k).kept x → IsReached f.site f.kept x
-  pub opened : f.is_open ≡ true → f.remembered ≡ true
+  pub from : (x : ShopPacket) → Has x f.kept → IsSomewhere s x
+  pub was : f.remembered ≡ true → (folder s k).remembered ≡ true
+  pub site : f.remembered ≡ true → (folder s k).site ≡ f.site
+  pub kept : f.remembered ≡ true → (x : ShopPacket) → IsReached (folder s k).site (folder s k).kept x → IsReached f.site f.kept x
+  pub opened : f.is_open ≡ true → WasCompared s f.site → f.remembered ≡ true
 
-same_folder : (s : Shop) → Sound s → (k : ℕ) → FolderIsLess s k (s.folder k)
+same_folder : (s : Shop) → Sound s → (k : ℕ) → FolderIsLess s k (folder s k)
 same_folder s q k = record { from = λ x h. (InFolder k, h); was = λ r. r; site = λ r. refl; kept = λ r x h. h; opened = q.opened k }
 
 record IsLess (s t : Shop) : Type 0 where
-  folders : (k : ℕ) → FolderIsLess s k (t.folder k)
-  streams : (i : ℕ) (x : Packet) → Has x (t.stream i) → IsSomewhere s x
+  folders : (k : ℕ) → FolderIsLess s k (folder t k)
+  streams : (i : ℕ) (x : ShopPacket) → Has x (stream t i) → IsSomewhere s x
   turn : s.turn ≤ t.turn
+  uncompared : (i : ℕ) → Has i s.uncompared → Has i t.uncompared
 
-less_from : (s t : Shop) → IsLess s t → (h : Place) (x : Packet) → Has x (there t h) → IsSomewhere s x
+less_from : (s t : Shop) → IsLess s t → (h : Place) (x : ShopPacket) → Has x (there t h) → IsSomewhere s x
 less_from s t l (InFolder k) x h = (l.folders k).from x h
 less_from s t l (InStream i) x h = l.streams i x h
 
 less_sound : (s t : Shop) → Sound s → IsLess s t → Sound t
 less_sound s t q l = record {
-  once = λ h g x y a b e.
+  once = λ h g x y a b e n.
       let from = less_from s t l h x a in
       let other = less_from s t l g y b in
-      q.once from.0 other.0 x y from.1 other.1 e;
+      q.once from.0 other.0 x y from.1 other.1 e (λ u. n (l.uncompared (sender x) u));
   known = λ h x a.
       let from = less_from s t l h x a in
       known_more s.turn t.turn x l.turn (q.known from.0 x from.1);
-  whole = λ k r h x a e.
+  whole = λ k r n h x a e.
       let from = less_from s t l h x a in
-      (l.folders k).kept r x (q.whole k ((l.folders k).was r) from.0 x from.1 (e ∙ sym ((l.folders k).site r)));
-  opened = λ k. (l.folders k).opened;
+      let site = (l.folders k).site r in
+      let all = q.whole k ((l.folders k).was r) (λ u. n (subst (λ i. Has i t.uncompared) site (l.uncompared (folder s k).site u))) in
+      (l.folders k).kept r x (all from.0 x from.1 (e ∙ sym site));
+  opened = λ k o n. (l.folders k).opened o (λ u. n (l.uncompared (folder t k).site u));
   one = λ k j a b e. q.one k j ((l.folders k).was a) ((l.folders j).was b) ((l.folders k).site a ∙ e ∙ sym ((l.folders j).site b));
 }
 
--- one folder is replaced
-put_less : (s : Shop) → Sound s → (k : ℕ) (f : Folder) → FolderIsLess s k f → (j : ℕ) → FolderIsLess s j (put k f s.folder j)
-put_less s q k f l = put_cases (FolderIsLess s) k f s.folder l (λ j n. same_folder s q j)
-
 -- ---- a folder that is open sends a packet
 
-name_sender : (x y : Packet) → name x ≡ name y → sender x ≡ sender y
+name_sender : (x y : ShopPacket) → name x ≡ name y → sender x ≡ sender y
 name_sender (Message i n r) (Message j m q) e = cc e
 name_sender (Message i n r) (Pass j t k a) e = absurd (cc e)
 name_sender (Pass i t k a) (Message j m q) e = absurd (cc e)
 name_sender (Pass i t k a) (Pass j u l b) e = cc e
 
 -- folder k, which is open, has sent the packet y, whose name it hadn't given
-record HasSent (s t : Shop) (k : ℕ) (y : Packet) : Type 0 where
-  is_open : (s.folder k).is_open ≡ true
-  own : sender y ≡ (s.folder k).site
-  new : (x : Packet) → IsReached (s.folder k).site (s.folder k).kept x → name x ≡ name y → ⊥
-  from : (h : Place) (x : Packet) → Has x (there t h) → IsSomewhere s x ⊎ (x ≡ y)
-  kept : (j : ℕ) (x : Packet) → IsReached (s.folder j).site (s.folder j).kept x → IsReached (t.folder j).site (t.folder j).kept x
-  sent : IsReached (t.folder k).site (t.folder k).kept y
-  site : (j : ℕ) → (t.folder j).site ≡ (s.folder j).site
-  was : (j : ℕ) → (t.folder j).remembered ≡ true → (s.folder j).remembered ≡ true
-  opened : (j : ℕ) → (t.folder j).is_open ≡ true → (t.folder j).remembered ≡ true
+record HasSent (s t : Shop) (k : ℕ) (y : ShopPacket) : Type 0 where
+  is_open : (folder s k).is_open ≡ true
+  own : sender y ≡ (folder s k).site
+  new : (x : ShopPacket) → IsReached (folder s k).site (folder s k).kept x → name x ≡ name y → ⊥
+  from : (h : Place) (x : ShopPacket) → Has x (there t h) → IsSomewhere s x ⊎ (x ≡ y)
+  kept : (j : ℕ) (x : ShopPacket) → IsReached (folder s j).site (folder s j).kept x → IsReached (folder t j).site (folder t j).kept x
+  sent : IsReached (folder t k).site (folder t k).kept y
+  site : (j : ℕ) → (folder t j).site ≡ (folder s j).site
+  was : (j : ℕ) → (folder t j).remembered ≡ true → (folder s j).remembered ≡ true
+  opened : (j : ℕ) → (folder t j).is_open ≡ true → WasCompared s (folder t j).site → (folder t j).remembered ≡ true
   known : IsKnown t.turn y
   turn : s.turn ≤ t.turn
+  uncompared : t.uncompared ≡ s.uncompared
 
 -- nothing that is somewhere has its name
-is_new : (s t : Shop) (k : ℕ) (y : Packet) → Sound s → HasSent s t k y → (x : Packet) → IsSomewhere s x → name x ≡ name y → ⊥
-is_new s t k y q l x at e = l.new x (q.whole k (q.opened k l.is_open) at.0 x at.1 (name_sender x y e ∙ l.own)) e
+is_new : (s t : Shop) (k : ℕ) (y : ShopPacket) → Sound s → HasSent s t k y → WasCompared s (folder s k).site → (x : ShopPacket) → IsSomewhere s x
+    → name x ≡ name y → ⊥
+is_new s t k y q l c x at e = l.new x (q.whole k (q.opened k l.is_open c) c at.0 x at.1 (name_sender x y e ∙ l.own)) e
 
-sent_sound : (s t : Shop) (k : ℕ) (y : Packet) → Sound s → HasSent s t k y → Sound t
+sent_sound : (s t : Shop) (k : ℕ) (y : ShopPacket) → Sound s → HasSent s t k y → Sound t
 sent_sound s t k y q l = record {
-  once = λ h g x z a b e.
+  once = λ h g x z a b e n.
+      let c : WasCompared s (sender x) = was (sender x) n in
       ⊎_elim
-      (λ old. ⊎_elim (λ other. q.once old.0 other.0 x z old.1 other.1 e)
-      (λ same. absurd (is_new s t k y q l x old (e ∙ ap name same))) (l.from g z b))
-      (λ same. ⊎_elim (λ other. absurd (is_new s t k y q l z other (sym e ∙ ap name same)))
+      (λ old. ⊎_elim (λ other. q.once old.0 other.0 x z old.1 other.1 e c)
+      (λ same. absurd (is_new s t k y q l (at_k x (name_sender x z e ∙ ap sender same) c) x old (e ∙ ap name same))) (l.from g z b))
+      (λ same. ⊎_elim (λ other. absurd (is_new s t k y q l (at_k x (ap sender same) c) z other (sym e ∙ ap name same)))
       (λ both. same ∙ sym both) (l.from g z b))
       (l.from h x a);
   known = λ h x a.
       ⊎_elim (λ old. known_more s.turn t.turn x l.turn (q.known old.0 x old.1))
       (λ same. subst (IsKnown t.turn) (sym same) l.known) (l.from h x a);
-  whole = λ j r h x a e.
-      ⊎_elim (λ old. l.kept j x (q.whole j (l.was j r) old.0 x old.1 (e ∙ l.site j)))
+  whole = λ j r n h x a e.
+      let c : WasCompared s (folder s j).site = subst (WasCompared s) (l.site j) (was (folder t j).site n) in
+      ⊎_elim (λ old. l.kept j x (q.whole j (l.was j r) c old.0 x old.1 (e ∙ l.site j)))
       (λ same.
-      let here : j ≡ k = q.one j k (l.was j r) (q.opened k l.is_open) (sym (l.site j) ∙ sym e ∙ ap sender same ∙ l.own) in
-      subst (λ n. IsReached (t.folder n).site (t.folder n).kept x) (sym here) (subst (IsReached (t.folder k).site (t.folder k).kept) (sym same) l.sent))
+      let sites : (folder s j).site ≡ (folder s k).site = sym (l.site j) ∙ sym e ∙ ap sender same ∙ l.own in
+      let here : j ≡ k = q.one j k (l.was j r) (q.opened k l.is_open (subst (WasCompared s) sites c)) sites in
+      subst (λ n. IsReached (folder t n).site (folder t n).kept x) (sym here) (subst (IsReached (folder t k).site (folder t k).kept) (sym same) l.sent))
       (l.from h x a);
-  opened = l.opened;
+  opened = λ j o n. l.opened j o (was (folder t j).site n);
   one = λ i j a b e. q.one i j (l.was i a) (l.was j b) (sym (l.site i) ∙ e ∙ l.site j);
 }
+  where
+    was : (i : ℕ) → WasCompared t i → WasCompared s i
+    was i n u = n (subst (Has i) (sym l.uncompared) u)
+
+    at_k : (x : ShopPacket) → sender x ≡ sender y → WasCompared s (sender x) → WasCompared s (folder s k).site
+    at_k x e c = subst (WasCompared s) (e ∙ l.own) c
 
 -- what becomes of folder k as it sends y
-record Keeps (f g : Folder) (y : Packet) : Type 0 where
+record Keeps (f g : Folder) (y : ShopPacket) : Type 0 where
   kept : g.kept ≡ f.kept ++ y ∷ []
   site : g.site ≡ f.site
   remembered : g.remembered ≡ f.remembered
   opened : g.is_open ≡ f.is_open
 
-module _ (s : Shop) (q : Sound s) (k : ℕ) (f : Folder) (y : Packet) (l : Keeps (s.folder k) f y) where
-  put_from : (j : ℕ) (x : Packet) → Has x (put k f s.folder j).kept → IsSomewhere s x ⊎ (x ≡ y)
-  put_from j x = put_cases (λ n g. Has x g.kept → IsSomewhere s x ⊎ (x ≡ y)) k f s.folder
-      (λ h. ⊎_elim (λ a. inl (InFolder k, a)) (λ e. inr e) (push_cases x y (s.folder k).kept (subst (Has x) l.kept h)))
+module _ (s : Shop) (q : Sound s) (k : ℕ) (f : Folder) (y : ShopPacket) (l : Keeps (folder s k) f y) where
+  -- folder j after that
+  abbrev now : ℕ → Folder
+  now j = folder_in (put_folder k f s.folders) j
+
+  put_from : (j : ℕ) (x : ShopPacket) → Has x (now j).kept → IsSomewhere s x ⊎ (x ≡ y)
+  put_from j x = folder_cases (λ n g. Has x g.kept → IsSomewhere s x ⊎ (x ≡ y)) k f s.folders
+      (λ h. ⊎_elim (λ a. inl (InFolder k, a)) (λ e. inr e) (push_cases x y (folder s k).kept (subst (Has x) l.kept h)))
       (λ n d h. inl (InFolder n, h)) j
 
-  put_kept : (j : ℕ) (x : Packet) → IsReached (s.folder j).site (s.folder j).kept x → IsReached (put k f s.folder j).site (put k f s.folder j).kept x
-  put_kept j x = put_cases (λ n g. IsReached (s.folder n).site (s.folder n).kept x → IsReached g.site g.kept x) k f s.folder
-      (λ h. subst (λ i. IsReached i f.kept x) (sym l.site) (subst (λ xs. IsReached (s.folder k).site xs x) (sym l.kept)
-      (reached_more (s.folder k).site (s.folder k).kept (y ∷ []) x h))) (λ n d h. h) j
+  put_kept : (j : ℕ) (x : ShopPacket) → IsReached (folder s j).site (folder s j).kept x → IsReached (now j).site (now j).kept x
+  put_kept j x = folder_cases (λ n g. IsReached (folder s n).site (folder s n).kept x → IsReached g.site g.kept x) k f s.folders
+      (λ h. subst (λ i. IsReached i f.kept x) (sym l.site) (subst (λ xs. IsReached (folder s k).site xs x) (sym l.kept)
+      (reached_more (folder s k).site (folder s k).kept (y ∷ []) x h))) (λ n d h. h) j
 
-  put_sent : sender y ≡ (s.folder k).site → IsReached (put k f s.folder k).site (put k f s.folder k).kept y
-  put_sent own = put_cases (λ n g. n ≡ k → IsReached g.site g.kept y) k f s.folder
+  put_sent : sender y ≡ (folder s k).site → IsReached (now k).site (now k).kept y
+  put_sent own = folder_cases (λ n g. n ≡ k → IsReached g.site g.kept y) k f s.folders
       (λ e. subst (λ i. IsReached i f.kept y) (own ∙ sym l.site)
-      (reached_within y f.kept (subst (Has y) (sym l.kept) (has_last y (s.folder k).kept)))) (λ n d e. absurd (d e)) k refl
+      (reached_within y f.kept (subst (Has y) (sym l.kept) (has_last y (folder s k).kept)))) (λ n d e. absurd (d e)) k refl
 
-  put_site : (j : ℕ) → (put k f s.folder j).site ≡ (s.folder j).site
-  put_site = put_cases (λ n g. g.site ≡ (s.folder n).site) k f s.folder l.site (λ n d. refl)
+  put_site : (j : ℕ) → (now j).site ≡ (folder s j).site
+  put_site = folder_cases (λ n g. g.site ≡ (folder s n).site) k f s.folders l.site (λ n d. refl)
 
-  put_was : (j : ℕ) → (put k f s.folder j).remembered ≡ true → (s.folder j).remembered ≡ true
-  put_was = put_cases (λ n g. g.remembered ≡ true → (s.folder n).remembered ≡ true) k f s.folder (λ r. sym l.remembered ∙ r) (λ n d r. r)
+  put_was : (j : ℕ) → (now j).remembered ≡ true → (folder s j).remembered ≡ true
+  put_was = folder_cases (λ n g. g.remembered ≡ true → (folder s n).remembered ≡ true) k f s.folders (λ r. sym l.remembered ∙ r) (λ n d r. r)
 
-  put_opened : (j : ℕ) → (put k f s.folder j).is_open ≡ true → (put k f s.folder j).remembered ≡ true
-  put_opened = put_cases (λ n g. g.is_open ≡ true → g.remembered ≡ true) k f s.folder
-      (λ o. l.remembered ∙ q.opened k (sym l.opened ∙ o)) (λ n d. q.opened n)
+  put_opened : (j : ℕ) → (now j).is_open ≡ true → WasCompared s (now j).site → (now j).remembered ≡ true
+  put_opened = folder_cases (λ n g. g.is_open ≡ true → WasCompared s g.site → g.remembered ≡ true) k f s.folders
+      (λ o c. l.remembered ∙ q.opened k (sym l.opened ∙ o) (subst (WasCompared s) l.site c)) (λ n d. q.opened n)
 
-  sends : (t : Shop) → t.folder ≡ put k f s.folder → t.stream ≡ s.stream → (s.folder k).is_open ≡ true → sender y ≡ (s.folder k).site
-      → ((x : Packet) → IsReached (s.folder k).site (s.folder k).kept x → name x ≡ name y → ⊥) → IsKnown t.turn y → s.turn ≤ t.turn → HasSent s t k y
-  sends t e g o own new known turn = record {
+  sends : (turn : ℕ) → (folder s k).is_open ≡ true → sender y ≡ (folder s k).site
+      → ((x : ShopPacket) → IsReached (folder s k).site (folder s k).kept x → name x ≡ name y → ⊥) → IsKnown turn y → s.turn ≤ turn
+      → HasSent s (record (with_folder k f s) { turn = turn }) k y
+  sends turn o own new known later = record {
     is_open = o;
     own = own;
     new = new;
-    from = elim [
-      | InFolder j ↦ λ x h. put_from j x (subst (λ (d : ℕ → Folder). Has x (d j).kept) e h)
-      | InStream i ↦ λ x h. inl (InStream i, subst (λ (d : ℕ → List Packet). Has x (d i)) g h)
-    ];
-    kept = λ j x h. subst (λ (d : ℕ → Folder). IsReached (d j).site (d j).kept x) (sym e) (put_kept j x h);
-    sent = subst (λ (d : ℕ → Folder). IsReached (d k).site (d k).kept y) (sym e) (put_sent own);
-    site = λ j. subst (λ (d : ℕ → Folder). (d j).site ≡ (s.folder j).site) (sym e) (put_site j);
-    was = λ j. subst (λ (d : ℕ → Folder). (d j).remembered ≡ true → (s.folder j).remembered ≡ true) (sym e) (put_was j);
-    opened = λ j. subst (λ (d : ℕ → Folder). (d j).is_open ≡ true → (d j).remembered ≡ true) (sym e) (put_opened j);
+    from = elim [ InFolder j ↦ put_from j | InStream i ↦ λ x h. inl (InStream i, h) ];
+    kept = put_kept;
+    sent = put_sent own;
+    site = put_site;
+    was = put_was;
+    opened = put_opened;
     known = known;
-    turn = turn;
+    turn = later;
+    uncompared = refl;
   }
 
 -- the next message, and the next pass, have names that no packet has which the folder has reached
-new_message : (f : Folder) (r : ℕ) (x : Packet) → IsReached f.site f.kept x → name x ≡ name (next_message f r) → ⊥
+new_message : (f : Folder) (r : ℕ) (x : ShopPacket) → IsReached f.site f.kept x → name x ≡ name (next_message f r) → ⊥
 new_message f r (Message i n q) h e =
     let number : n ≡ highest f.site f.kept + 1 = cc e in
     omega (arith, number, h)
 new_message f r (Pass i t j a) h e = cc e
 
-new_pass : (f : Folder) (to : ℕ) → passed f.site f.kept ≤ taken f.site f.kept → (x : Packet) → IsReached f.site f.kept x → name x ≡ name (next_pass f to) → ⊥
+new_pass : (f : Folder) (to : ℕ) → passed f.site f.kept ≤ taken f.site f.kept → (x : ShopPacket) → IsReached f.site f.kept x → name x ≡ name (next_pass f to) → ⊥
 new_pass f to l (Message i n q) h e = cc e
 new_pass f to l (Pass i t j a) h e =
     let turn : t ≡ taken f.site f.kept + 1 = cc e in
@@ -202,173 +229,180 @@ cond_false : (b c : Bool) → cond b false c ≡ true → (b ≡ false) × (c �
 cond_false true c e = absurd (cc e)
 cond_false false c e = (refl, e)
 
-module _ (s : Shop) (q : Sound s) (k : ℕ) (m : MayOpen s k) where
-  opened_folder : Folder
-  opened_folder = record (s.folder k) { is_open = true; remembered = true }
+-- if it may, or else a folder of its site was opened uncompared
+module _ (s : Shop) (q : Sound s) (k : ℕ) (uncompared : List ℕ) (more : (i : ℕ) → Has i s.uncompared → Has i uncompared)
+    (allowed : ¬ (Has (folder s k).site uncompared) → MayOpen s k) where
+  compared_still : (i : ℕ) → ¬ (Has i uncompared) → WasCompared s i
+  compared_still i n u = n (more i u)
 
-  others : ℕ → Folder
-  others j = forgotten (s.folder k).site (s.folder j)
-
-  others_not : (j : ℕ) → j ≢ k → (s.folder j).is_open ≡ true → (others j).remembered ≡ true
-  unfolding others
-  others_not j n o = elim (eqb (s.folder j).site (s.folder k).site) as
-      (λ b. eqb (s.folder j).site (s.folder k).site ≡ b → cond b false (s.folder j).remembered ≡ true) [
-        | true ↦ λ e. absurd (n (m.alone j o (eqb-true (s.folder j).site (s.folder k).site e)))
-        | false ↦ λ e. q.opened j o
+  others_not : (j : ℕ) → j ≢ k → (folder s j).is_open ≡ true → ¬ (Has (folder s j).site uncompared)
+      → cond (eqb (folder s j).site (folder s k).site) false (folder s j).remembered ≡ true
+  others_not j n o c = elim (eqb (folder s j).site (folder s k).site) as
+      (λ b. eqb (folder s j).site (folder s k).site ≡ b → cond b false (folder s j).remembered ≡ true) [
+        | true ↦ λ e.
+            let same = eqb-true (folder s j).site (folder s k).site e in
+            absurd (n ((allowed (subst (λ i. ¬ (Has i uncompared)) same c)).alone j o same))
+        | false ↦ λ e. q.opened j o (compared_still (folder s j).site c)
       ] refl
 
-  is_compared : IsCompared s k
-  is_compared = ⊎_elim (λ r. q.whole k r) (λ a. a) m.knows
+  is_compared : ¬ (Has (folder s k).site uncompared) → IsCompared s k
+  is_compared c = ⊎_elim (λ r. q.whole k r (compared_still (folder s k).site c)) (λ a. a) (allowed c).knows
 
   -- which folders are remembered then
-  which : (j : ℕ) → (put k opened_folder others j).remembered ≡ true → (j ≡ k) ⊎ (((s.folder j).site ≢ (s.folder k).site) × ((s.folder j).remembered ≡ true))
-  unfolding opened_folder others
-  which = put_cases (λ j g. g.remembered ≡ true → (j ≡ k) ⊎ (((s.folder j).site ≢ (s.folder k).site) × ((s.folder j).remembered ≡ true)))
-      k opened_folder others (λ r. inl refl)
+  which : (j : ℕ) → (folder (opening k s) j).remembered ≡ true → (j ≡ k) ⊎ (((folder s j).site ≢ (folder s k).site) × ((folder s j).remembered ≡ true))
+  which = opened_cases (λ j g. g.remembered ≡ true → (j ≡ k) ⊎ (((folder s j).site ≢ (folder s k).site) × ((folder s j).remembered ≡ true)))
+      s k (λ r. inl refl)
       (λ j n r.
-      let both = cond_false (eqb (s.folder j).site (s.folder k).site) (s.folder j).remembered r in
-      inr (eqb-false (s.folder j).site (s.folder k).site both.0, both.1))
+      let both = cond_false (eqb (folder s j).site (folder s k).site) (folder s j).remembered r in
+      inr (eqb-false (folder s j).site (folder s k).site both.0, both.1))
 
-  pub opens_sound : Sound (after s (Opens k))
-  unfolding opened_folder others which
+  opens_sound : Sound (record (opening k s) { uncompared = uncompared })
   opens_sound =
-      let kept : (j : ℕ) → (put k opened_folder others j).kept ≡ (s.folder j).kept =
-      put_cases (λ j g. g.kept ≡ (s.folder j).kept) k opened_folder others refl (λ j n. refl) in
-      let site : (j : ℕ) → (put k opened_folder others j).site ≡ (s.folder j).site =
-      put_cases (λ j g. g.site ≡ (s.folder j).site) k opened_folder others refl (λ j n. refl) in
-      let from : (h : Place) (x : Packet) → Has x (there (after s (Opens k)) h) → Has x (there s h) =
+      let kept : (j : ℕ) → (folder (opening k s) j).kept ≡ (folder s j).kept =
+      opened_cases (λ j g. g.kept ≡ (folder s j).kept) s k refl (λ j n. refl) in
+      let site : (j : ℕ) → (folder (opening k s) j).site ≡ (folder s j).site =
+      opened_cases (λ j g. g.site ≡ (folder s j).site) s k refl (λ j n. refl) in
+      let from : (h : Place) (x : ShopPacket) → Has x (there (opening k s) h) → Has x (there s h) =
       elim [ InFolder j ↦ λ x. subst (Has x) (kept j) | InStream i ↦ λ x a. a ] in
       record {
-        once = λ h g x y a b e. q.once h g x y (from h x a) (from g y b) e;
+        once = λ h g x y a b e n. q.once h g x y (from h x a) (from g y b) e (compared_still (sender x) n);
         known = λ h x a. q.known h x (from h x a);
-        whole = λ j r h x a e.
-            subst (λ i. IsReached i (put k opened_folder others j).kept x) (sym (site j))
-            (subst (λ xs. IsReached (s.folder j).site xs x) (sym (kept j)) (⊎_elim
-            (λ here. subst (λ n. IsReached (s.folder n).site (s.folder n).kept x) (sym here)
-            (is_compared h x (from h x a) (e ∙ site j ∙ ap (λ n. (s.folder n).site) here)))
-            (λ other. q.whole j other.1 h x (from h x a) (e ∙ site j)) (which j r)));
-        opened = put_cases (λ j g. g.is_open ≡ true → g.remembered ≡ true) k opened_folder others (λ o. refl) (λ j n. others_not j n);
+        whole = λ j r n h x a e.
+            let c : ¬ (Has (folder s j).site uncompared) = subst (λ i. ¬ (Has i uncompared)) (site j) n in
+            subst (λ i. IsReached i (folder (opening k s) j).kept x) (sym (site j))
+            (subst (λ xs. IsReached (folder s j).site xs x) (sym (kept j)) (⊎_elim
+            (λ here. subst (λ n. IsReached (folder s n).site (folder s n).kept x) (sym here)
+            (is_compared (subst (λ n. ¬ (Has (folder s n).site uncompared)) here c) h x (from h x a) (e ∙ site j ∙ ap (λ n. (folder s n).site) here)))
+            (λ other. q.whole j other.1 (compared_still (folder s j).site c) h x (from h x a) (e ∙ site j)) (which j r)));
+        opened = opened_cases (λ j g. g.is_open ≡ true → ¬ (Has g.site uncompared) → g.remembered ≡ true) s k (λ o c. refl) others_not;
         one = λ i j a b e.
-            let same : (s.folder i).site ≡ (s.folder j).site = sym (site i) ∙ e ∙ site j in
+            let same : (folder s i).site ≡ (folder s j).site = sym (site i) ∙ e ∙ site j in
             ⊎_elim
             (λ here. ⊎_elim (λ also. here ∙ sym also)
-            (λ away. absurd (away.0 (sym same ∙ ap (λ n. (s.folder n).site) here))) (which j b))
-            (λ away. ⊎_elim (λ also. absurd (away.0 (same ∙ ap (λ n. (s.folder n).site) also)))
+            (λ away. absurd (away.0 (sym same ∙ ap (λ n. (folder s n).site) here))) (which j b))
+            (λ away. ⊎_elim (λ also. absurd (away.0 (same ∙ ap (λ n. (folder s n).site) also)))
             (λ far. q.one i j away.1 far.1 same) (which j b))
             (which i a);
       }
 
+uncompared_sound : (s : Shop) → Sound s → (k : ℕ) → Sound (opening_uncompared k s)
+uncompared_sound s q k = opens_sound s q k ((folder s k).site ∷ s.uncompared) (λ i u. inr u) (λ n. absurd (n (inl refl)))
+
 -- ---- one event
 
--- a folder that keeps its packets, and whose fields that matter here are the same
-module _ (s : Shop) (q : Sound s) (k : ℕ) (f : Folder) where
-  -- an event that only replaces folder k
-  pub less_folder : FolderIsLess s k f → (t : Shop) → t.folder ≡ put k f s.folder → t.stream ≡ s.stream → s.turn ≤ t.turn → Sound t
-  less_folder l t e g u = less_sound s t q (record {
-    folders = λ j. subst (λ (h : ℕ → Folder). FolderIsLess s j (h j)) (sym e) (put_less s q k f l j);
-    streams = λ i x h. (InStream i, subst (λ (m : ℕ → List Packet). Has x (m i)) g h);
-    turn = u;
-  })
-
--- an event that only replaces streams
-less_streams : (s : Shop) → Sound s → (t : Shop) → t.folder ≡ s.folder → ((i : ℕ) (x : Packet) → Has x (t.stream i) → IsSomewhere s x)
-    → t.turn ≡ s.turn → Sound t
-less_streams s q t e from u = less_sound s t q (record {
-  folders = λ j. subst (λ (h : ℕ → Folder). FolderIsLess s j (h j)) (sym e) (same_folder s q j);
-  streams = from;
-  turn = omega (arith, u);
+-- an event that only replaces folder k, and what is in the memory of others
+less_folder : (s : Shop) → Sound s → (k : ℕ) (f : Folder) → FolderIsLess s k f → (requests : List ShopRequest) (told : List Notice) (begun : ℕ)
+    → Sound (record (with_folder k f s) { requests = requests; told = told; begun = begun })
+less_folder s q k f l requests told begun = less_sound s _ q (record {
+  folders = folder_cases (FolderIsLess s) k f s.folders l (λ j n. same_folder s q j);
+  streams = λ i x h. (InStream i, h);
+  turn = omega arith;
+  uncompared = λ i u. u;
 })
 
--- a stream is replaced by packets that are somewhere
-stream_from : (s : Shop) (i : ℕ) (xs : List Packet) → ((x : Packet) → Has x xs → IsSomewhere s x)
-    → (j : ℕ) (x : Packet) → Has x (put i xs s.stream j) → IsSomewhere s x
-stream_from s i xs from = put_cases (λ j ys. (x : Packet) → Has x ys → IsSomewhere s x) i xs s.stream from (λ j n x h. (InStream j, h))
+-- an event that only replaces streams, by packets that are somewhere
+less_streams : (s : Shop) → Sound s → (streams : List (List ShopPacket)) → ((i : ℕ) (x : ShopPacket) → Has x (stream_in streams i) → IsSomewhere s x)
+    → Sound (record s { streams = streams })
+less_streams s q streams from = less_sound s _ q (record { folders = same_folder s q; streams = from; turn = omega arith; uncompared = λ i u. u })
+
+stream_from : (s : Shop) (i : ℕ) (xs : List ShopPacket) → ((x : ShopPacket) → Has x xs → IsSomewhere s x)
+    → (j : ℕ) (x : ShopPacket) → Has x (stream_in (put_stream i xs s.streams) j) → IsSomewhere s x
+stream_from s i xs from = stream_cases (λ j ys. (x : ShopPacket) → Has x ys → IsSomewhere s x) i xs s.streams from (λ j n x h. (InStream j, h))
+
+-- one that replaces neither
+less_else : (s : Shop) → Sound s → (requests : List ShopRequest) (told : List Notice) (yielding : List ℕ)
+    → Sound (record s { requests = requests; told = told; yielding = yielding })
+less_else s q requests told yielding =
+    less_sound s _ q (record { folders = same_folder s q; streams = λ i x h. (InStream i, h); turn = omega arith; uncompared = λ i u. u })
 
 -- what a site finds of a packet is somewhere
-pub offered : (c : Carrier) (s : Shop) (x : Packet) → IsOffered c s x → IsSomewhere s x
+pub offered : (c : Carrier) (s : Shop) (x : ShopPacket) → IsOffered c s x → IsSomewhere s x
 offered Files s x o = (InFolder o.0, o.2)
 offered Server s x o = (InStream (sender x), o)
-
--- a folder of which only what is in memory is another
-same_as : (s : Shop) → Sound s → (k : ℕ) (f : Folder) → f.kept ≡ (s.folder k).kept → f.site ≡ (s.folder k).site
-    → f.remembered ≡ (s.folder k).remembered → f.is_open ≡ (s.folder k).is_open → FolderIsLess s k f
-same_as s q k f a b r o = record {
-  from = λ x h. (InFolder k, subst (Has x) a h);
-  was = λ e. sym r ∙ e;
-  site = λ e. sym b;
-  kept = λ e x h. subst (λ i. IsReached i f.kept x) (sym b) (subst (λ xs. IsReached (s.folder k).site xs x) (sym a) h);
-  opened = λ e. r ∙ q.opened k (sym o ∙ e);
-}
 
 pub gone : {A : Type 0} → false ≡ true → A
 gone e = absurd (cc e)
 
+-- a folder of which only what is in memory is another; or its site takes no asks; or its machine knows nothing of it
+same_as : (s : Shop) → Sound s → (k : ℕ) (f : Folder) → f.kept ≡ (folder s k).kept → f.site ≡ (folder s k).site
+    → f.remembered ≡ (folder s k).remembered → f.is_open ≡ (folder s k).is_open → FolderIsLess s k f
+same_as s q k f a b r o = record {
+  from = λ x h. (InFolder k, subst (Has x) a h);
+  was = λ e. sym r ∙ e;
+  site = λ e. sym b;
+  kept = λ e x h. subst (λ i. IsReached i f.kept x) (sym b) (subst (λ xs. IsReached (folder s k).site xs x) (sym a) h);
+  opened = λ e c. r ∙ q.opened k (sym o ∙ e) (subst (WasCompared s) b c);
+}
+
+shut : (s : Shop) (k : ℕ) (f : Folder) → f.kept ≡ (folder s k).kept → f.site ≡ (folder s k).site → f.remembered ≡ (folder s k).remembered
+    → f.is_open ≡ false → FolderIsLess s k f
+shut s k f a b r o = record {
+  from = λ x h. (InFolder k, subst (Has x) a h);
+  was = λ e. sym r ∙ e;
+  site = λ e. sym b;
+  kept = λ e x h. subst (λ i. IsReached i f.kept x) (sym b) (subst (λ xs. IsReached (folder s k).site xs x) (sym a) h);
+  opened = λ e c. gone (sym o ∙ e);
+}
+
+unknown_less : (s : Shop) (k : ℕ) (f : Folder) → f.remembered ≡ false → f.is_open ≡ false → ((x : ShopPacket) → Has x f.kept → IsSomewhere s x)
+    → FolderIsLess s k f
+unknown_less s k f r o from = record {
+  from = from;
+  was = λ e. gone (sym r ∙ e);
+  site = λ e. gone (sym r ∙ e);
+  kept = λ e. gone (sym r ∙ e);
+  opened = λ e c. gone (sym o ∙ e);
+}
+
 pub sound_step : (c : Carrier) (s : Shop) (e : Event) → May c s e → Sound s → Sound (after s e)
-sound_step c s (Starts k) m q = less_folder s q k _
-    (record { from = λ x h. (InFolder k, h); was = λ r. r; site = λ r. refl; kept = λ r x h. h; opened = λ o. gone o }) _ refl refl (omega arith)
-sound_step c s (Opens k) m q = opens_sound s q k m
-sound_step c s (Closes k) m q = less_folder s q k _
-    (record { from = λ x h. (InFolder k, h); was = λ r. r; site = λ r. refl; kept = λ r x h. h; opened = λ o. gone o }) _ refl refl (omega arith)
+sound_step c s (Starts k) m q = less_folder s q k _ (shut s k _ refl refl refl refl) _ _ _
+sound_step c s (Opens k) m q = opens_sound s q k s.uncompared (λ i u. u) (λ n. m)
+sound_step c s (TakesOver k) m q = uncompared_sound s q k
+sound_step c s (OpensAlone k) m q = uncompared_sound s q k
+sound_step c s (Closes k) m q = less_folder s q k _ (shut s k _ refl refl refl refl) _ _ _
 sound_step c s (KeeperStarts k) m q = q
-sound_step c s (IsKilled k) m q = less_folder s q k _
-    (record { from = λ x h. (InFolder k, h); was = λ r. r; site = λ r. refl; kept = λ r x h. h; opened = λ o. gone o }) _ refl refl (omega arith)
-sound_step c s (MachineStarts k) m q = less_folder s q k _
-    (record { from = λ x h. (InFolder k, h); was = λ r. gone r; site = λ r. refl; kept = λ r x h. h; opened = λ o. gone o }) _ refl refl (omega arith)
-sound_step c s (IsAsked r life n) m q = less_sound s _ q (record {
-  folders = same_folder s q;
-  streams = λ i x h. (InStream i, h);
-  turn = omega arith;
-})
-sound_step c s (Serves k r) m q = less_folder s q k _ (same_as s q k _ refl refl refl refl) _ refl refl (omega arith)
-sound_step c s (Gives k r) m q = less_folder s q k _ (same_as s q k _ refl refl refl refl) _ refl refl (omega arith)
+sound_step c s (IsKilled k) m q = less_folder s q k _ (shut s k _ refl refl refl refl) _ _ _
+sound_step c s (MachineStarts k) m q = less_folder s q k _ (unknown_less s k _ refl refl (λ x h. (InFolder k, h))) _ _ _
+sound_step c s (IsAsked r life n) m q = less_else s q _ _ _
+sound_step c s (Serves k r) m q = less_folder s q k _ (same_as s q k _ refl refl refl refl) _ _ _
+sound_step c s (Gives k r) m q = less_folder s q k _ (same_as s q k _ refl refl refl refl) _ _ _
 sound_step c s (Accepts k r) m q =
-    let y = next_message (s.folder k) r in
-    let f : Folder = accepting (s.folder k) r in
-    let l : Keeps (s.folder k) f y = record { kept = refl; site = refl; remembered = refl; opened = refl } in
-    sent_sound s (after s (Accepts k r)) k y q (sends s q k f y l _ refl refl m.0 refl (new_message (s.folder k) r) tt (omega arith))
-sound_step c s (Refuses k r) m q = less_folder s q k _ (same_as s q k _ refl refl refl refl) _ refl refl (omega arith)
-sound_step c s (TellsOk k r n) m q = less_streams s q _ refl (λ i x h. (InStream i, h)) refl
-sound_step c s (TellsPublished k r n) m q = less_streams s q _ refl (λ i x h. (InStream i, h)) refl
-sound_step c s (TellsNothing k r) m q = less_folder s q k _ (same_as s q k _ refl refl refl refl) _ refl refl (omega arith)
-sound_step c s (TellsUnknown k r) m q = less_streams s q _ refl (λ i x h. (InStream i, h)) refl
+    let y = next_message (folder s k) r in
+    let l : Keeps (folder s k) (accepting (folder s k) r) y = record { kept = refl; site = refl; remembered = refl; opened = refl } in
+    sent_sound s _ k y q (sends s q k _ y l s.turn m.0 refl (new_message (folder s k) r) tt (omega arith))
+sound_step c s (Refuses k r) m q = less_folder s q k _ (same_as s q k _ refl refl refl refl) _ _ _
+sound_step c s (TellsOk k r n) m q = less_else s q _ _ _
+sound_step c s (TellsPublished k r n) m q = less_else s q _ _ _
+sound_step c s (TellsNothing k r) m q = less_folder s q k _ (same_as s q k _ refl refl refl refl) _ _ _
+sound_step c s (TellsUnknown k r) m q = less_else s q _ _ _
+sound_step c s (Yields i) m q = less_else s q _ _ _
+sound_step c s (TakesBack i) m q = less_else s q _ _ _
 sound_step c s (Passes k to) m q =
-    let y = next_pass (s.folder k) to in
-    let f : Folder = keeping (s.folder k) y in
-    let l : Keeps (s.folder k) f y = record { kept = refl; site = refl; remembered = refl; opened = refl } in
-    sent_sound s (after s (Passes k to)) k y q (sends s q k f y l _ refl refl m.0 refl (new_pass (s.folder k) to m.1.0) (omega arith, omega arith, m.2) (omega arith))
-sound_step c s (Appends k x) m q = less_streams s q _ refl (stream_from s (sender x) (s.stream (sender x) ++ x ∷ [])
-    (λ z h. ⊎_elim (λ a. (InStream (sender x), a)) (λ e. (InFolder k, subst (λ v. Has v (s.folder k).kept) (sym e) m.2))
-    (push_cases z x (s.stream (sender x)) h))) refl
+    let y = next_pass (folder s k) to in
+    let l : Keeps (folder s k) (keeping (folder s k) y) y = record { kept = refl; site = refl; remembered = refl; opened = refl } in
+    sent_sound s _ k y q (sends s q k _ y l _ m.0 refl (new_pass (folder s k) to m.1.0) (omega arith, omega arith, m.2) (omega arith))
+sound_step c s (Appends k x) m q = less_streams s q _ (stream_from s (sender x) (stream s (sender x) ++ x ∷ [])
+    (λ z h. ⊎_elim (λ a. (InStream (sender x), a)) (λ e. (InFolder k, subst (λ v. Has v (folder s k).kept) (sym e) m.1.kept))
+    (push_cases z x (stream s (sender x)) h)))
 sound_step c s (Reads k x) m q = less_folder s q k _ (record {
-  from = λ z h. ⊎_elim (λ a. (InFolder k, a)) (λ e. subst (IsSomewhere s) (sym e) (offered c s x m.2)) (push_cases z x (s.folder k).kept h);
+  from = λ z h. ⊎_elim (λ a. (InFolder k, a)) (λ e. subst (IsSomewhere s) (sym e) (offered c s x m.2)) (push_cases z x (folder s k).kept h);
   was = λ r. r;
   site = λ r. refl;
-  kept = λ r z h. reached_more (s.folder k).site (s.folder k).kept (x ∷ []) z h;
+  kept = λ r z h. reached_more (folder s k).site (folder s k).kept (x ∷ []) z h;
   opened = q.opened k;
-}) _ refl refl (omega arith)
-sound_step c s (LosesEnd k n) m q = less_folder s q k _
-    (record { from = λ x h. (InFolder k, has_take n x (s.folder k).kept h); was = λ r. gone r; site = λ r. gone r; kept = λ r. gone r; opened = λ o. gone o }) _
-    refl refl (omega arith)
-sound_step c s (IsChanged k packets) m q = less_folder s q k _
-    (record {
-      from = λ x h. (InFolder k, has_unchanged x (s.folder k).kept packets h);
-      was = λ r. gone r;
-      site = λ r. gone r;
-      kept = λ r. gone r;
-      opened = λ o. gone o;
-    }) _ refl refl (omega arith)
-sound_step c s (IsLost k) m q = less_folder s q k _
-    (record { from = λ x h. absurd h; was = λ r. gone r; site = λ r. gone r; kept = λ r. gone r; opened = λ o. gone o }) _ refl refl (omega arith)
-sound_step c s (IsCopied k j) m q = less_folder s q j _
-    (record { from = λ x h. (InFolder k, h); was = λ r. gone r; site = λ r. gone r; kept = λ r. gone r; opened = λ o. gone o }) _ refl refl (omega arith)
-sound_step c s (StreamLosesEnd i n) m q = less_streams s q _ refl
-    (stream_from s i (take n (s.stream i)) (λ x h. (InStream i, has_take n x (s.stream i) h))) refl
-sound_step c s ServerLosesAll m q = less_streams s q _ refl (λ i x h. absurd h) refl
-sound_step c s (Rebuilds k packets) m q = less_folder s q k _
-    (record { from = m.found; was = λ r. gone r; site = λ r. gone r; kept = λ r. gone r; opened = λ o. gone o }) _ refl refl (omega arith)
-sound_step c s (WritesAnew k) m q = less_streams s q _ refl
-    (stream_from s (s.folder k).site (filter (λ x. sender x == (s.folder k).site) (s.folder k).kept)
-    (λ x h. (InFolder k, has_filter (λ z. sender z == (s.folder k).site) x (s.folder k).kept h))) refl
+}) _ _ _
+sound_step c s (LosesEnd k n) m q =
+    less_folder s q k _ (unknown_less s k _ refl refl (λ x h. (InFolder k, has_take n x (folder s k).kept h))) _ _ _
+sound_step c s (IsChanged k packets) m q =
+    less_folder s q k _ (unknown_less s k _ refl refl (λ x h. (InFolder k, has_unchanged x (folder s k).kept packets h))) _ _ _
+sound_step c s (IsLost k) m q = less_folder s q k _ (unknown_less s k _ refl refl (λ x h. absurd h)) _ _ _
+sound_step c s (IsCopied k j) m q = less_folder s q j _ (unknown_less s j _ refl refl (λ x h. (InFolder k, h))) _ _ _
+sound_step c s (StreamLosesEnd i n) m q =
+    less_streams s q _ (stream_from s i (take n (stream s i)) (λ x h. (InStream i, has_take n x (stream s i) h)))
+sound_step c s ServerLosesAll m q = less_streams s q _ (λ i x h. absurd h)
+sound_step c s (Rebuilds k packets) m q = less_folder s q k _ (unknown_less s k _ refl refl m.found) _ _ _
+sound_step c s (WritesAnew k) m q = less_streams s q _ (stream_from s (folder s k).site _
+    (λ x h. (InFolder k, has_filter (λ z. sender z == (folder s k).site) x (folder s k).kept h)))
 
 sound_start : Sound start
 sound_start = record {
@@ -379,7 +413,7 @@ sound_start = record {
   one = λ k j a b e. gone a;
 }
   where
-    nothing : (h : Place) (x : Packet) → Has x (there start h) → ⊥
+    nothing : (h : Place) (x : ShopPacket) → Has x (there start h) → ⊥
     nothing (InFolder k) x h = h
     nothing (InStream i) x h = h
 

@@ -1,131 +1,157 @@
--- What stands in a stream under a number is one message, whoever appended it.
-use Rattle.std.proofs.Common.{◌≡◌, ◌∙◌, ⊎_elim, ◌++◌, ◌∷◌, [], ℕ, List, sym, ap, subst, arith}
+-- What stands in a stream under a number is one message, whoever appended it; and what is told of a site that yields.
+use Rattle.std.proofs.Common.{◌≡◌, ◌∙◌, ◌≢◌, ◌⊎◌, inl, inr, ⊎_elim, ◌++◌, ◌∷◌, [], ℕ, ◌+◌, List, refl, sym, ap, subst, arith}
 use Rattle.std.specs.Prelude.{take}
 use Rattle.rubis_model.specs.Settle.{Has}
-use Rattle.rubis_model.proofs.Lists.{has_left, push_cases}
-use Rattle.rubis_carrier.specs.Packets.{Packet, sender}
-use Rattle.rubis_carrier.specs.Packets.Packet.{Message, Pass}
-use Rattle.rubis_carrier.specs.Shops.{Carrier, Shop, start}
+use Rattle.rubis_model.proofs.Lists.{push_cases}
+use Rattle.rubis_carrier.specs.declared.values.Carrier.{Carrier}
+use Rattle.rubis_carrier.specs.declared.values.ShopPacket.{ShopPacket}
+use Rattle.rubis_carrier.specs.declared.values.ShopPacket.TheVariants.{Message, Pass}
+use Rattle.rubis_carrier.specs.declared.values.Notice.TheVariants.{Ok}
+use Rattle.rubis_carrier.specs.Events.{AreSteps, Event, IsAtItsPlace, IsWhole, May, after, first, run}
+use Rattle.rubis_carrier.specs.Events.Event.{Appends, OpensAlone, Refuses, ServerLosesAll, Starts, StreamLosesEnd, TakesBack, TakesOver, TellsNothing}
+use Rattle.rubis_carrier.specs.Events.Event.{TellsOk, TellsPublished, TellsUnknown, WritesAnew, Yields}
+use Rattle.rubis_carrier.specs.Packets.{highest, sender}
+use Rattle.rubis_carrier.specs.Shops.{Shop, folder, start, stream, there}
 use Rattle.rubis_carrier.specs.Shops.Place.{InStream}
-use Rattle.rubis_carrier.specs.Events.{Event, Harms, IsWhole, after, run}
-use Rattle.rubis_carrier.specs.Events.Event.{Appends, Opens, ServerLosesAll, Starts, StreamLosesEnd, TellsOk, TellsPublished, WritesAnew}
-use Rattle.rubis_carrier.specs.Shops.Told.{No}
-use Rattle.rubis_carrier.specs.Standby.{AreStepsWithStandby, IdsAreToldOnce, IsAtItsPlace, MayWithStandby, NoIsTrueWithStandby, ToldStaysInStream}
+use Rattle.rubis_carrier.specs.Standby.{IdsAreToldOnce, StaysYielding, ToldStaysInStream, WhatYieldsIsPublished}
+use Rattle.rubis_carrier.proofs.Changes.{has_or, without_other}
 use Rattle.rubis_carrier.proofs.PacketFacts.{number_within}
-use Rattle.rubis_carrier.proofs.PutFacts.{has_take, put_cases}
-use Rattle.rubis_carrier.proofs.Telling.{Tells, opens_tells, tells_start, tells_step, told_after}
-use Rattle.rubis_carrier.proofs.Whole.{run_append, stream_more, stream_other}
-
--- ---- lists of steps
-
-steps_left : (c : Carrier) (s : Shop) (a b : List Event) → AreStepsWithStandby c s (a ++ b) → AreStepsWithStandby c s a
-steps_left c s [] b m = tt
-steps_left c s (e ∷ a) b m = (m.0, steps_left c (after s e) a b m.1)
-
-steps_right : (c : Carrier) (s : Shop) (a b : List Event) → AreStepsWithStandby c s (a ++ b) → AreStepsWithStandby c (run s a) b
-steps_right c s [] b m = m
-steps_right c s (e ∷ a) b m = steps_right c (after s e) a b m.1
+use Rattle.rubis_carrier.proofs.PutFacts.{has_take, stream_cases}
+use Rattle.rubis_carrier.proofs.Sound.{Sound, WasCompared, sound_run, sound_step}
+use Rattle.rubis_carrier.proofs.Telling.{published}
+use Rattle.rubis_carrier.proofs.Whole.{run_append, steps_left, steps_right, whole_after}
 
 -- ---- one message under a number
 
-abbrev IsPlaced : ℕ → List Packet → Type 0
+abbrev IsPlaced : ℕ → List ShopPacket → Type 0
 IsPlaced i xs = (n r q : ℕ) → Has (Message i n r) xs → Has (Message i n q) xs → r ≡ q
 
 abbrev ArePlaced : Shop → Type 0
-ArePlaced s = (i : ℕ) → IsPlaced i (s.stream i)
+ArePlaced s = (i : ℕ) → IsPlaced i (stream s i)
 
-placed_append : (s : Shop) → ArePlaced s → (x : Packet) → IsAtItsPlace s x → IsPlaced (sender x) (s.stream (sender x) ++ x ∷ [])
-placed_append s q (Message i m p) place n r d a b =
+-- where each folder of the site was compared, since ids are given once
+placed_compared : (s : Shop) → Sound s → (i : ℕ) → WasCompared s i → IsPlaced i (stream s i)
+placed_compared s q i c n r p a b =
+    let same : Message i n r ≡ Message i n p = q.once (InStream i) (InStream i) (Message i n r) (Message i n p) a b refl c in
+    cc same
+
+placed_append : (s : Shop) (i : ℕ) → IsPlaced i (stream s i) → (x : ShopPacket) → IsAtItsPlace s x → sender x ≡ i → IsPlaced i (stream s i ++ x ∷ [])
+placed_append s i q (Message j m p) place e n r d a b =
     ⊎_elim
-    (λ old. ⊎_elim (λ other. q i n r d old other)
-    (λ (new : Message i n d ≡ Message i m p). absurd (late r old (cc new))) (push_cases (Message i n d) (Message i m p) (s.stream i) b))
-    (λ (new : Message i n r ≡ Message i m p). ⊎_elim (λ other. absurd (late d other (cc new)))
-    (λ (too : Message i n d ≡ Message i m p). both (cc new) (cc too)) (push_cases (Message i n d) (Message i m p) (s.stream i) b))
-    (push_cases (Message i n r) (Message i m p) (s.stream i) a)
+    (λ old. ⊎_elim (λ other. q n r d old other)
+    (λ (new : Message i n d ≡ Message j m p). absurd (late r old (cc new))) (push_cases (Message i n d) (Message j m p) (stream s i) b))
+    (λ (new : Message i n r ≡ Message j m p). ⊎_elim (λ other. absurd (late d other (cc new)))
+    (λ (too : Message i n d ≡ Message j m p). both (cc new) (cc too)) (push_cases (Message i n d) (Message j m p) (stream s i) b))
+    (push_cases (Message i n r) (Message j m p) (stream s i) a)
   where
-    late : (r : ℕ) → Has (Message i n r) (s.stream i) → n ≡ m → ⊥
-    late r h e =
-        let within = number_within i n r (s.stream i) h in
-        omega (arith, within, e, place)
+    late : (r : ℕ) → Has (Message i n r) (stream s i) → n ≡ m → ⊥
+    late r h f =
+        let within = number_within i n r (stream s i) h in
+        let next : m ≡ highest i (stream s i) + 1 = subst (λ k. m ≡ highest k (stream s k) + 1) e place in
+        omega (arith, within, f, next)
 
     both : r ≡ p → d ≡ p → r ≡ d
-    both e f = e ∙ sym f
-placed_append s q (Pass i t j a) place n r d x y =
+    both f g = f ∙ sym g
+placed_append s i q (Pass j t k a) place e n r d x y =
     ⊎_elim
-    (λ old. ⊎_elim (λ other. q i n r d old other) (λ (new : Message i n d ≡ Pass i t j a). absurd (cc new))
-    (push_cases (Message i n d) (Pass i t j a) (s.stream i) y))
-    (λ (new : Message i n r ≡ Pass i t j a). absurd (cc new)) (push_cases (Message i n r) (Pass i t j a) (s.stream i) x)
+    (λ old. ⊎_elim (λ other. q n r d old other) (λ (new : Message i n d ≡ Pass j t k a). absurd (cc new))
+    (push_cases (Message i n d) (Pass j t k a) (stream s i) y))
+    (λ (new : Message i n r ≡ Pass j t k a). absurd (cc new)) (push_cases (Message i n r) (Pass j t k a) (stream s i) x)
 
-placed_step : (c : Carrier) (s : Shop) (e : Event) → MayWithStandby c s e → ArePlaced s → ArePlaced (after s e)
-placed_step c s (Appends k x) m q =
-    put_cases IsPlaced (sender x) (s.stream (sender x) ++ x ∷ []) s.stream (placed_append s q x m.1) (λ j d. q j)
-placed_step c s (StreamLosesEnd i n) m q = put_cases IsPlaced i (take n (s.stream i)) s.stream
-    (λ a r d x y. q i a r d (has_take n (Message i a r) (s.stream i) x) (has_take n (Message i a d) (s.stream i) y)) (λ j d. q j)
-placed_step c s ServerLosesAll m q = λ i n r d x y. absurd x
-placed_step c s (WritesAnew k) m q = absurd m
-placed_step c s (Starts k) m q = q
-placed_step c s e m q = q
+-- of a site of which a folder was opened uncompared, before the event
+placed_step : (c : Carrier) (s : Shop) (e : Event) → May c s e → ArePlaced s → (i : ℕ) → Has i s.uncompared → IsPlaced i (stream (after s e) i)
+placed_step c s (Appends k x) m q = stream_cases (λ i xs. Has i s.uncompared → IsPlaced i xs) (sender x) (stream s (sender x) ++ x ∷ []) s.streams
+    (λ u. placed_append s (sender x) (q (sender x)) x (m.1.placed u) refl) (λ j d u. q j)
+placed_step c s (StreamLosesEnd j n) m q = stream_cases (λ i xs. Has i s.uncompared → IsPlaced i xs) j (take n (stream s j)) s.streams
+    (λ u a r d x y. q j a r d (has_take n (Message j a r) (stream s j) x) (has_take n (Message j a d) (stream s j) y)) (λ i d u. q i)
+placed_step c s ServerLosesAll m q = λ i u n r d x y. absurd x
+placed_step c s (WritesAnew k) m q = stream_cases (λ i xs. Has i s.uncompared → IsPlaced i xs) (folder s k).site _ s.streams
+    (λ u. absurd (m.1.compared u)) (λ i d u. q i)
+placed_step c s (Starts k) m q = λ i u. q i
+placed_step c s e m q = λ i u. q i
 
-placed_after : (c : Carrier) (s : Shop) (events : List Event) → AreStepsWithStandby c s events → ArePlaced s → ArePlaced (run s events)
-placed_after c s [] m q = q
-placed_after c s (e ∷ rest) m q = placed_after c (after s e) rest m.1 (placed_step c s e m.0 q)
+-- an event in which a folder of the site is opened uncompared changes no stream
+uncompared_new : (c : Carrier) (s : Shop) (e : Event) (i : ℕ) → May c s e → ArePlaced s → Has i (after s e).uncompared
+    → Has i s.uncompared ⊎ IsPlaced i (stream (after s e) i)
+uncompared_new c s (TakesOver k) i m q u = inr (q i)
+uncompared_new c s (OpensAlone k) i m q u = inr (q i)
+uncompared_new c s (Starts k) i m q u = inl u
+uncompared_new c s e i m q u = inl u
 
--- ---- a stream that is whole
+pub placed_after : (c : Carrier) (s : Shop) (events : List Event) → AreSteps c s events → Sound s → ArePlaced s → ArePlaced (run s events)
+placed_after c s [] m q p = p
+placed_after c s (e ∷ rest) m q p =
+    let sound = sound_step c s e m.0 q in
+    placed_after c (after s e) rest m.1 sound (λ i. ⊎_elim
+    (λ u. ⊎_elim (placed_step c s e m.0 p i) (λ placed. placed) (uncompared_new c s e i m.0 p u))
+    (placed_compared (after s e) sound i) (has_or i (after s e).uncompared))
 
-stays_step : (c : Carrier) (s : Shop) (e : Event) (i : ℕ) → MayWithStandby c s e → (Harms e (InStream i) → ⊥) → (x : Packet) → Has x (s.stream i)
-    → Has x ((after s e).stream i)
-stays_step c s (Appends k y) i m n x h = stream_more s (sender y) _ (λ z a. has_left z (s.stream (sender y)) _ a) i x h
-stays_step c s (StreamLosesEnd j d) i m n x h = stream_other s j _ i (λ e. n (ap InStream e)) x h
-stays_step c s ServerLosesAll i m n x h = absurd (n tt)
-stays_step c s (WritesAnew k) i m n x h = absurd m
-stays_step c s (Starts k) i m n x h = h
-stays_step c s e i m n x h = h
+placed_run : (c : Carrier) (events : List Event) → AreSteps c start events → ArePlaced (run start events)
+placed_run c events m = placed_after c start events m (sound_run c [] tt) (λ i a b e x y. absurd x)
 
-stays_after : (c : Carrier) (s : Shop) (later : List Event) (i : ℕ) → AreStepsWithStandby c s later → IsWhole (InStream i) later → (x : Packet)
-    → Has x (s.stream i) → Has x ((run s later).stream i)
-stays_after c s [] i m w x h = h
-stays_after c s (e ∷ rest) i m w x h = stays_after c (after s e) rest i m.1 w.1 x (stays_step c s e i m.0 w.0 x h)
+-- ---- the laws
 
 pub told_stays : ToldStaysInStream
 told_stays c before later k r n m whole =
     let s = run start before in
-    let i = (s.folder k).site in
+    let i = (folder s k).site in
     let steps = steps_right c start before (TellsPublished k r n ∷ later) m in
-    subst (λ (t : Shop). Has (Message i n r) (t.stream i)) (sym (run_append start before (TellsPublished k r n ∷ later)))
-    (stays_after c (after s (TellsPublished k r n)) later i steps.1 whole (Message i n r) steps.0.2)
+    subst (λ (t : Shop). Has (Message i n r) (stream t i)) (sym (run_append start before (TellsPublished k r n ∷ later)))
+    (whole_after c (after s (TellsPublished k r n)) later (InStream i) steps.1 whole (Message i n r) steps.0.2)
 
 pub told_once : IdsAreToldOnce
 told_once c before between k j r q n m site whole =
     let s = run start before in
-    let i = (s.folder k).site in
+    let i = (folder s k).site in
     let last = TellsPublished j q n ∷ [] in
-    let steps = steps_right c start before (TellsPublished k r n ∷ (between ++ last)) m in
+    let all = TellsPublished k r n ∷ (between ++ last) in
+    let steps = steps_right c start before all m in
     let first = after s (TellsPublished k r n) in
     let t = run first between in
-    let mine = stays_after c first between i (steps_left c first between last steps.1) whole (Message i n r) steps.0.2 in
+    let mine = whole_after c first between (InStream i) (steps_left c first between last steps.1) whole (Message i n r) steps.0.2 in
     let told = steps_right c first between last steps.1 in
-    let here : (t.folder j).site ≡ i =
-    ap (λ (z : Shop). (z.folder j).site) (sym (run_append start before (TellsPublished k r n ∷ between))) ∙ site in
-    let theirs : Has (Message i n q) (t.stream i) = subst (λ d. Has (Message d n q) (t.stream d)) here told.0.2 in
-    let placed = placed_after c first between (steps_left c first between last steps.1)
-    (placed_step c s (TellsPublished k r n) steps.0
-    (placed_after c start before (steps_left c start before (TellsPublished k r n ∷ (between ++ last)) m) (λ d a b e x y. absurd x))) in
-    placed i n r q mine theirs
+    let here : (folder t j).site ≡ i =
+    ap (λ (z : Shop). (folder z j).site) (sym (run_append start before (TellsPublished k r n ∷ between))) ∙ site in
+    let theirs : Has (Message i n q) (stream t i) = subst (λ d. Has (Message d n q) (stream t d)) here told.0.2 in
+    let until : AreSteps c s (TellsPublished k r n ∷ between) = (steps.0, steps_left c first between last steps.1) in
+    let sofar = steps_left c start before all m in
+    placed_after c s (TellsPublished k r n ∷ between) until (sound_run c before sofar) (placed_run c before sofar) i n r q mine theirs
 
--- ---- what is told
+-- while the site yields, ok is told of it only where the message stands in the stream
+told_new : (c : Carrier) (s : Shop) (e : Event) (i r n : ℕ) → May c s e → Has i s.yielding → Has (Ok r i n) (after s e).told
+    → Has (Ok r i n) s.told ⊎ Has (Message i n r) (stream (after s e) i)
+told_new c s (Refuses k q) i r n m y h = ⊎_elim (λ e. absurd (cc e)) (λ old. inl old) h
+told_new c s (TellsNothing k q) i r n m y h = ⊎_elim (λ e. absurd (cc e)) (λ old. inl old) h
+told_new c s (TellsUnknown k q) i r n m y h = ⊎_elim (λ e. absurd (cc e)) (λ old. inl old) h
+told_new c s (TellsOk k q d) i r n m y h =
+    ⊎_elim (λ (e : Ok r i n ≡ Ok q (folder s k).site d). absurd (m.1 (subst (λ j. Has j s.yielding) (cc e) y))) (λ old. inl old) h
+told_new c s (TellsPublished k q d) i r n m y h = ⊎_elim (λ (e : Ok r i n ≡ Ok q (folder s k).site d). inr (published (cc e) (cc e) (cc e))) (λ old. inl old) h
+  where
+    published : r ≡ q → i ≡ (folder s k).site → n ≡ d → Has (Message i n r) (stream s i)
+    published a b e = subst (λ j. Has (Message j n r) (stream s j)) (sym b) (subst (λ j. Has (Message (folder s k).site j r) (stream s (folder s k).site))
+        (sym e) (subst (λ j. Has (Message (folder s k).site d j) (stream s (folder s k).site)) (sym a) m.2))
+told_new c s (Starts k) i r n m y h = inl h
+told_new c s e i r n m y h = inl h
 
-tells_step_too : (c : Carrier) (s : Shop) (e : Event) → MayWithStandby c s e → Tells s → Tells (after s e)
-tells_step_too c s (Opens k) m q = opens_tells s k q
-tells_step_too c s (TellsOk k r n) m q = absurd m
-tells_step_too c s (WritesAnew k) m q = absurd m
-tells_step_too c s (Appends k x) m q = tells_step c s (Appends k x) m.0 q
-tells_step_too c s e m q = tells_step c s e m q
+yields_still : (s : Shop) (e : Event) (i : ℕ) → e ≢ TakesBack i → Has i s.yielding → Has i (after s e).yielding
+yields_still s (Yields j) i n y = inr y
+yields_still s (TakesBack j) i n y = without_other j i s.yielding (λ e. n (ap TakesBack (sym e))) y
+yields_still s (Starts k) i n y = y
+yields_still s e i n y = y
 
-tells_after_too : (c : Carrier) (s : Shop) (events : List Event) → AreStepsWithStandby c s events → Tells s → Tells (run s events)
-tells_after_too c s [] m q = q
-tells_after_too c s (e ∷ rest) m q = tells_after_too c (after s e) rest m.1 (tells_step_too c s e m.0 q)
+told_since : (c : Carrier) (s : Shop) (later : List Event) (i : ℕ) → AreSteps c s later → Has i s.yielding → StaysYielding i later → IsWhole (InStream i) later
+    → (r n : ℕ) → Has (Ok r i n) (run s later).told → Has (Ok r i n) s.told ⊎ Has (Message i n r) (stream (run s later) i)
+told_since c s [] i m y stays w r n h = inl h
+told_since c s (e ∷ rest) i m y stays w r n h = ⊎_elim
+    (λ told. ⊎_elim (λ old. inl old) (λ there. inr (whole_after c (after s e) rest (InStream i) m.1 w.1 (Message i n r) there))
+    (told_new c s e i r n m.0 y told))
+    (λ there. inr there) (told_since c (after s e) rest i m.1 (yields_still s e i stays.0 y) stays.1 w.1 r n h)
 
-pub no_is_true : NoIsTrueWithStandby
-no_is_true c before later m r told =
-    let still = subst (λ (s : Shop). Has (No r) s.told) (sym (run_append start before later)) (told_after (run start before) later (No r) told) in
-    ((tells_after_too c start (before ++ later) m tells_start).no r still).1
+pub yields_published : WhatYieldsIsPublished
+yields_published c before later i m stays w r n h =
+    let s = run start before in
+    let t = after s (Yields i) in
+    let steps = steps_right c start before (Yields i ∷ later) m in
+    let same = run_append start before (Yields i ∷ later) in
+    subst (λ (u : Shop). Has (Ok r i n) s.told ⊎ Has (Message i n r) (stream u i)) (sym same)
+    (told_since c t later i steps.1 (inl refl) stays w r n (subst (λ (u : Shop). Has (Ok r i n) u.told) same h))

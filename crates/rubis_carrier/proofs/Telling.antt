@@ -1,20 +1,29 @@
 -- An ask is served by one life, once; so what its asker is told stays true.
-use Rattle.std.proofs.Common.{◌≡◌, ◌∙◌, ◌≢◌, ◌⊎◌, inl, inr, ⊎_elim, ◌≤◌, ◌<◌, ◌+◌, ◌++◌, ◌∷◌, [], ℕ, List, refl, sym, ap, subst, arith}
+use Rattle.std.specs.Prelude.{zero, suc}
+use Rattle.std.proofs.lemmas.Bool.{cases_eq}
+use Rattle.std.proofs.lemmas.List.{length_push}
+use Rattle.std.proofs.Common.{◌≡◌, ◌∙◌, ◌≢◌, ◌⊎◌, inl, inr, ⊎_elim, ◌≤◌, ◌<◌, ◌+◌, ◌++◌, ◌∷◌, [], ℕ, List, length, refl, sym, ap, subst, arith}
 use Rattle.rubis_model.specs.Settle.{Has}
 use Rattle.rubis_model.proofs.Lists.{has_last, has_left, push_cases}
-use Rattle.rubis_carrier.specs.Packets.{Packet, highest}
-use Rattle.rubis_carrier.specs.Packets.Packet.{Message}
-use Rattle.rubis_carrier.specs.Shops.{Answer, Carrier, Folder, Place, Request, Shop, Told, empty, put, start, there}
-use Rattle.rubis_carrier.specs.Shops.Place.{InFolder, InStream}
-use Rattle.rubis_carrier.specs.Shops.Told.{No, Ok}
-use Rattle.rubis_carrier.specs.Events.{AreSteps, Event, IsFirst, May, MayServe, accepting, after, answering, first, forgotten, giving, next_message, others, run, started, times}
-use Rattle.rubis_carrier.specs.Events.{without}
-use Rattle.rubis_carrier.specs.Events.Event.{Accepts, Appends, Gives, IsAsked, IsChanged, IsCopied, IsKilled, IsLost, LosesEnd, MachineStarts, Opens}
-use Rattle.rubis_carrier.specs.Events.Event.{Passes, Reads, Rebuilds, Refuses, Serves, ServerLosesAll, Starts, StreamLosesEnd, TellsNothing, TellsOk, TellsPublished}
-use Rattle.rubis_carrier.specs.Events.Event.{Closes, KeeperStarts, TellsUnknown, WritesAnew}
+use Rattle.rubis_carrier.specs.declared.values.Answer.{Answer}
+use Rattle.rubis_carrier.specs.declared.values.Carrier.{Carrier}
+use Rattle.rubis_carrier.specs.declared.values.ShopPacket.{ShopPacket}
+use Rattle.rubis_carrier.specs.declared.values.ShopPacket.TheVariants.{Message}
+use Rattle.rubis_carrier.specs.declared.values.ShopRequest.{ShopRequest}
+use Rattle.rubis_carrier.specs.declared.values.Notice.{Notice}
+use Rattle.rubis_carrier.specs.declared.values.Notice.TheVariants.{No, Ok}
+use Rattle.rubis_carrier.specs.Events.{AreSteps, Event, IsFirst, May, MayServe, accepting, after, answering, first, giving, next_message, opening}
+use Rattle.rubis_carrier.specs.Events.{others, run, started, times, without}
+use Rattle.rubis_carrier.specs.Events.Event.{Accepts, Appends, Closes, Gives, IsAsked, IsChanged, IsCopied, IsKilled, IsLost, KeeperStarts, LosesEnd}
+use Rattle.rubis_carrier.specs.Events.Event.{MachineStarts, Opens, OpensAlone, Passes, Reads, Rebuilds, Refuses, ServerLosesAll, Serves, Starts}
+use Rattle.rubis_carrier.specs.Events.Event.{StreamLosesEnd, TakesBack, TakesOver, TellsNothing, TellsOk, TellsPublished, TellsUnknown, WritesAnew}
+use Rattle.rubis_carrier.specs.Events.Event.{Yields}
 use Rattle.rubis_carrier.specs.Laws.{AsksAreAcceptedOnce, IsUnmade, NobodyIsToldBoth, PublishedIsInStream, ToldOkIsKept, WhatIsToldIsTrue}
-use Rattle.rubis_carrier.proofs.Changes.{AreApart, IsNew, apart_more, apart_others, first_in, from_step, has_others, in_opened, has_without}
-use Rattle.rubis_carrier.proofs.PutFacts.{put_cases, put_there}
+use Rattle.rubis_carrier.specs.Packets.{highest, taken}
+use Rattle.rubis_carrier.specs.Shops.{Folder, Place, Shop, asks, empty, folder, folder_in, put_folder, request, request_in, start, stream, there}
+use Rattle.rubis_carrier.specs.Shops.Place.{InFolder, InStream}
+use Rattle.rubis_carrier.proofs.Changes.{AreApart, IsNew, apart_more, apart_others, first_in, from_step, has_others, has_without, opened_from}
+use Rattle.rubis_carrier.proofs.PutFacts.{folder_cases, opened_cases, request_new, request_old}
 use Rattle.rubis_carrier.proofs.Sound.{IsSomewhere}
 use Rattle.rubis_carrier.proofs.Whole.{run_append, steps_left, steps_right}
 
@@ -22,15 +31,15 @@ use Rattle.rubis_carrier.proofs.Whole.{run_append, steps_left, steps_right}
 
 -- the ask was taken by the life that it names, which takes it no more; nor does any other
 pub record IsTaken (s : Shop) (r : ℕ) : Type 0 where
-  pub asked : r ≤ s.asks
-  pub served : (k : ℕ) → 0 < (s.folder k).life → (s.request r).life ≡ (s.folder k).life → Has r (s.folder k).served
+  pub asked : r ≤ asks s
+  pub served : (k : ℕ) → 0 < (folder s k).life → (request s r).life ≡ (folder s k).life → Has r (folder s k).served
 
 -- the ask is at this folder
-pub record IsAt (asks : ℕ) (request : ℕ → Request) (f : Folder) (r : ℕ) : Type 0 where
+pub record IsAt (requests : List ShopRequest) (f : Folder) (r : ℕ) : Type 0 where
   pub runs : 0 < f.life
-  pub asked : r ≤ asks
-  pub life : (request r).life ≡ f.life
-  pub one : (request r).records ≡ 1
+  pub asked : r ≤ length requests
+  pub life : (request_in requests r).life ≡ f.life
+  pub one : (request_in requests r).records ≡ 1
   pub served : Has r f.served
 
 -- no message was made of it, and its asker was told neither that it was nor that it wasn't
@@ -46,26 +55,26 @@ pub record IsLined (f : Folder) : Type 0 where
   pub answers : (r n : ℕ) → Has (record { ask = r; number = n }) f.answered → Has (Message f.site n r) f.kept
 
 pub record Tells (s : Shop) : Type 0 where
-  pub lives : (k j : ℕ) → 0 < (s.folder k).life → (s.folder k).life ≡ (s.folder j).life → k ≡ j
-  pub begun : (k : ℕ) → (s.folder k).life ≤ s.begun
-  pub named : (r : ℕ) → r ≤ s.asks → (s.request r).life ≤ s.begun
+  pub lives : (k j : ℕ) → 0 < (folder s k).life → (folder s k).life ≡ (folder s j).life → k ≡ j
+  pub begun : (k : ℕ) → (folder s k).life ≤ s.begun
+  pub named : (r : ℕ) → r ≤ asks s → (request s r).life ≤ s.begun
   pub made : (h : Place) (i n r : ℕ) → Has (Message i n r) (there s h) → IsTaken s r
   pub once : (h g : Place) (r i n j m : ℕ) → Has (Message i n r) (there s h) → Has (Message j m r) (there s g) → (i ≡ j) × (n ≡ m)
   pub no : (r : ℕ) → Has (No r) s.told → IsTaken s r × IsUnmade s r
   pub ok : (r i n : ℕ) → Has (Ok r i n) s.told → IsTaken s r × ¬ (Has (No r) s.told)
-  pub waits : (k r : ℕ) → Has r (s.folder k).waiting → IsAt s.asks s.request (s.folder k) r × IsOpen s r × ¬ (Has r (s.folder k).given)
-  pub gives : (k r : ℕ) → Has r (s.folder k).given → IsAt s.asks s.request (s.folder k) r × IsOpen s r
-  pub lined : (k : ℕ) → IsLined (s.folder k)
+  pub waits : (k r : ℕ) → Has r (folder s k).waiting → IsAt s.requests (folder s k) r × IsOpen s r × ¬ (Has r (folder s k).given)
+  pub gives : (k r : ℕ) → Has r (folder s k).given → IsAt s.requests (folder s k) r × IsOpen s r
+  pub lined : (k : ℕ) → IsLined (folder s k)
 
 -- an ask that is at a folder is at no other
-one_place : (s : Shop) → Tells s → (k j r : ℕ) → IsAt s.asks s.request (s.folder k) r → IsAt s.asks s.request (s.folder j) r → k ≡ j
+one_place : (s : Shop) → Tells s → (k j r : ℕ) → IsAt s.requests (folder s k) r → IsAt s.requests (folder s j) r → k ≡ j
 one_place s q k j r a b = q.lives k j a.runs (sym a.life ∙ b.life)
 
 -- and was taken
-at_taken : (s : Shop) → Tells s → (k r : ℕ) → IsAt s.asks s.request (s.folder k) r → IsTaken s r
+at_taken : (s : Shop) → Tells s → (k r : ℕ) → IsAt s.requests (folder s k) r → IsTaken s r
 at_taken s q k r a = record {
   asked = a.asked;
-  served = λ j runs e. subst (λ n. Has r (s.folder n).served) (q.lives k j a.runs (sym a.life ∙ e)) a.served;
+  served = λ j runs e. subst (λ n. Has r (folder s n).served) (q.lives k j a.runs (sym a.life ∙ e)) a.served;
 }
 
 -- ---- events in which no ask goes on
@@ -79,7 +88,7 @@ pub record IsSame (f g : Folder) : Type 0 where
   pub given : g.given ≡ f.given
   pub lines : g.lines ≡ f.lines
   pub answered : g.answered ≡ f.answered
-  pub kept : (x : Packet) → Has x f.kept → Has x g.kept
+  pub kept : (x : ShopPacket) → Has x f.kept → Has x g.kept
 
 -- nothing runs it
 pub record IsIdle (g : Folder) : Type 0 where
@@ -107,24 +116,23 @@ lined_same f g e l = record {
 
 pub record IsQuiet (s t : Shop) : Type 0 where
   pub from : (h : Place) (i n r : ℕ) → Has (Message i n r) (there t h) → IsSomewhere s (Message i n r)
-  pub memory : (k : ℕ) → IsSame (s.folder k) (t.folder k) ⊎ IsIdle (t.folder k)
-  pub asks : t.asks ≡ s.asks
-  pub request : t.request ≡ s.request
+  pub memory : (k : ℕ) → IsSame (folder s k) (folder t k) ⊎ IsIdle (folder t k)
+  pub requests : t.requests ≡ s.requests
   pub begun : t.begun ≡ s.begun
   pub no : (r : ℕ) → Has (No r) t.told → Has (No r) s.told
   pub ok : (r i n : ℕ) → Has (Ok r i n) t.told → Has (Ok r i n) s.told ⊎ IsSomewhere s (Message i n r)
 
 module _ (s t : Shop) (q : Tells s) (l : IsQuiet s t) where
-  runs_still : (k : ℕ) → 0 < (t.folder k).life → IsSame (s.folder k) (t.folder k)
+  runs_still : (k : ℕ) → 0 < (folder t k).life → IsSame (folder s k) (folder t k)
   runs_still k runs = ⊎_elim (λ same. same) (λ idle. absurd (omega (arith, runs, idle.life))) (l.memory k)
 
   taken_still : (r : ℕ) → IsTaken s r → IsTaken t r
   taken_still r a = record {
-    asked = omega (arith, a.asked, l.asks);
+    asked = subst (λ rs. r ≤ length rs) (sym l.requests) a.asked;
     served = λ k runs e.
         let same = runs_still k runs in
         subst (Has r) (sym same.served)
-        (a.served k (omega (arith, runs, same.life)) (subst (λ (f : ℕ → Request). (f r).life ≡ (t.folder k).life) l.request e ∙ same.life));
+        (a.served k (omega (arith, runs, same.life)) (subst (λ rs. (request_in rs r).life ≡ (folder t k).life) l.requests e ∙ same.life));
   }
 
   open_still : (r : ℕ) → IsTaken s r → IsOpen s r → IsOpen t r
@@ -134,12 +142,12 @@ module _ (s t : Shop) (q : Tells s) (l : IsQuiet s t) where
     not_ok = λ i n b. ⊎_elim (λ old. o.not_ok i n old) (λ at. o.unmade at.0 i n at.1) (l.ok r i n b);
   }
 
-  at_still : (k r : ℕ) → IsSame (s.folder k) (t.folder k) → IsAt s.asks s.request (s.folder k) r → IsAt t.asks t.request (t.folder k) r
+  at_still : (k r : ℕ) → IsSame (folder s k) (folder t k) → IsAt s.requests (folder s k) r → IsAt t.requests (folder t k) r
   at_still k r same a = record {
     runs = omega (arith, a.runs, same.life);
-    asked = omega (arith, a.asked, l.asks);
-    life = subst (λ (f : ℕ → Request). (f r).life ≡ (t.folder k).life) (sym l.request) (a.life ∙ sym same.life);
-    one = subst (λ (f : ℕ → Request). (f r).records ≡ 1) (sym l.request) a.one;
+    asked = subst (λ rs. r ≤ length rs) (sym l.requests) a.asked;
+    life = subst (λ rs. (request_in rs r).life ≡ (folder t k).life) (sym l.requests) (a.life ∙ sym same.life);
+    one = subst (λ rs. (request_in rs r).records ≡ 1) (sym l.requests) a.one;
     served = subst (Has r) (sym same.served) a.served;
   }
 
@@ -150,7 +158,8 @@ module _ (s t : Shop) (q : Tells s) (l : IsQuiet s t) where
         let b = runs_still j (omega (arith, runs, e)) in
         q.lives k j (omega (arith, runs, a.life)) (sym a.life ∙ e ∙ b.life);
     begun = λ k. ⊎_elim (λ same. omega (arith, q.begun k, same.life, l.begun)) (λ idle. omega (arith, idle.life)) (l.memory k);
-    named = λ r a. subst (λ (f : ℕ → Request). (f r).life ≤ t.begun) (sym l.request) (omega (arith, q.named r (omega (arith, a, l.asks)), l.begun));
+    named = λ r a. subst (λ rs. (request_in rs r).life ≤ t.begun) (sym l.requests)
+        (omega (arith, q.named r (subst (λ rs. r ≤ length rs) l.requests a), l.begun));
     made = λ h i n r b. let from = l.from h i n r b in taken_still r (q.made from.0 i n r from.1);
     once = λ h g r i n j m a b.
         let from = l.from h i n r a in
@@ -172,28 +181,19 @@ module _ (s t : Shop) (q : Tells s) (l : IsQuiet s t) where
         let was = q.gives k r (subst (Has r) same.given b) in
         (at_still k r same was.0, open_still r (at_taken s q k r was.0) was.1))
         (λ idle. absurd (subst (Has r) idle.given b)) (l.memory k);
-    lined = λ k. ⊎_elim (λ same. lined_same (s.folder k) (t.folder k) same (q.lined k))
-        (λ idle. lined_idle (t.folder k) idle.given idle.lines idle.answered) (l.memory k);
+    lined = λ k. ⊎_elim (λ same. lined_same (folder s k) (folder t k) same (q.lined k))
+        (λ idle. lined_idle (folder t k) idle.given idle.lines idle.answered) (l.memory k);
   }
 
 same : (f g : Folder) → g.site ≡ f.site → g.life ≡ f.life → g.served ≡ f.served → g.waiting ≡ f.waiting → g.given ≡ f.given → g.lines ≡ f.lines
-    → g.answered ≡ f.answered → ((x : Packet) → Has x f.kept → Has x g.kept) → IsSame f g
+    → g.answered ≡ f.answered → ((x : ShopPacket) → Has x f.kept → Has x g.kept) → IsSame f g
 same f g i a b c d e h kept = record { site = i; life = a; served = b; waiting = c; given = d; lines = e; answered = h; kept = kept }
 
 idle : (g : Folder) → g.life ≡ 0 → g.waiting ≡ [] → g.given ≡ [] → g.lines ≡ [] → g.answered ≡ [] → IsIdle g
 idle g a b c d e = record { life = a; waiting = b; given = c; lines = d; answered = e }
 
-all_same : (s : Shop) (k : ℕ) → IsSame (s.folder k) (s.folder k) ⊎ IsIdle (s.folder k)
-all_same s k = inl (same (s.folder k) (s.folder k) refl refl refl refl refl refl refl (λ x h. h))
-
--- folder k is replaced
-memory_put : (s : Shop) (k : ℕ) (f : Folder) → IsSame (s.folder k) f ⊎ IsIdle f → (j : ℕ) → IsSame (s.folder j) (put k f s.folder j) ⊎ IsIdle (put k f s.folder j)
-memory_put s k f here = put_cases (λ j g. IsSame (s.folder j) g ⊎ IsIdle g) k f s.folder here (λ j n. all_same s j)
-
-memory_opened : (s : Shop) (k : ℕ) (f : Folder) → IsSame (s.folder k) f → (j : ℕ)
-    → IsSame (s.folder j) (put k f (λ i. forgotten (s.folder k).site (s.folder i)) j) ⊎ IsIdle (put k f (λ i. forgotten (s.folder k).site (s.folder i)) j)
-memory_opened s k f here = put_cases (λ j g. IsSame (s.folder j) g ⊎ IsIdle g) k f (λ i. forgotten (s.folder k).site (s.folder i)) (inl here)
-    (λ j n. inl (same (s.folder j) _ refl refl refl refl refl refl refl (λ x h. h)))
+all_same : (s : Shop) (k : ℕ) → IsSame (folder s k) (folder s k) ⊎ IsIdle (folder s k)
+all_same s k = inl (same (folder s k) (folder s k) refl refl refl refl refl refl refl (λ x h. h))
 
 -- ---- one event: what else is new
 
@@ -203,27 +203,26 @@ nothing_new c s e m none h i n r a = ⊎_elim (λ old. old) (λ new. absurd (non
 
 -- the events in which no ask goes on, but for a folder that starts and an asker that asks
 quiet_put : (c : Carrier) (s : Shop) (e : Event) (k : ℕ) (f : Folder) → Tells s → May c s e → ((i n r : ℕ) → IsNew s e (Message i n r) → ⊥)
-    → (after s e).folder ≡ put k f s.folder → (IsSame (s.folder k) f ⊎ IsIdle f) → (after s e).asks ≡ s.asks → (after s e).request ≡ s.request
+    → (after s e).folders ≡ put_folder k f s.folders → (IsSame (folder s k) f ⊎ IsIdle f) → (after s e).requests ≡ s.requests
     → (after s e).begun ≡ s.begun → (after s e).told ≡ s.told → Tells (after s e)
-quiet_put c s e k f q m none folder here asks request begun told = quiet_tells s (after s e) q (record {
+quiet_put c s e k f q m none changed here requests begun told = quiet_tells s (after s e) q (record {
   from = nothing_new c s e m none;
-  memory = λ j. subst (λ (d : ℕ → Folder). IsSame (s.folder j) (d j) ⊎ IsIdle (d j)) (sym folder) (memory_put s k f here j);
-  asks = asks;
-  request = request;
+  memory = λ j. subst (λ fs. IsSame (folder s j) (folder_in fs j) ⊎ IsIdle (folder_in fs j)) (sym changed)
+      (folder_cases (λ j g. IsSame (folder s j) g ⊎ IsIdle g) k f s.folders here (λ j n. all_same s j) j);
+  requests = requests;
   begun = begun;
   no = λ r a. subst (Has (No r)) told a;
   ok = λ r i n a. inl (subst (Has (Ok r i n)) told a);
 })
 
 quiet_streams : (c : Carrier) (s : Shop) (e : Event) → Tells s → May c s e → ((i n r : ℕ) → IsNew s e (Message i n r) → ⊥)
-    → (after s e).folder ≡ s.folder → (after s e).asks ≡ s.asks → (after s e).request ≡ s.request
+    → (after s e).folders ≡ s.folders → (after s e).requests ≡ s.requests
     → (after s e).begun ≡ s.begun → ((r : ℕ) → Has (No r) (after s e).told → Has (No r) s.told)
     → ((r i n : ℕ) → Has (Ok r i n) (after s e).told → Has (Ok r i n) s.told ⊎ IsSomewhere s (Message i n r)) → Tells (after s e)
-quiet_streams c s e q m none folder asks request begun told_no told_ok = quiet_tells s (after s e) q (record {
+quiet_streams c s e q m none same requests begun told_no told_ok = quiet_tells s (after s e) q (record {
   from = nothing_new c s e m none;
-  memory = λ j. subst (λ (d : ℕ → Folder). IsSame (s.folder j) (d j) ⊎ IsIdle (d j)) (sym folder) (all_same s j);
-  asks = asks;
-  request = request;
+  memory = λ j. subst (λ fs. IsSame (folder s j) (folder_in fs j) ⊎ IsIdle (folder_in fs j)) (sym same) (all_same s j);
+  requests = requests;
   begun = begun;
   no = told_no;
   ok = told_ok;
@@ -232,10 +231,9 @@ quiet_streams c s e q m none folder asks request begun told_no told_ok = quiet_t
 -- ---- events in which an ask goes on at a folder
 
 record IsGoing (s t : Shop) : Type 0 where
-  life : (j : ℕ) → (t.folder j).life ≡ (s.folder j).life
-  served : (j r : ℕ) → Has r (s.folder j).served → Has r (t.folder j).served
-  asks : t.asks ≡ s.asks
-  request : t.request ≡ s.request
+  life : (j : ℕ) → (folder t j).life ≡ (folder s j).life
+  served : (j r : ℕ) → Has r (folder s j).served → Has r (folder t j).served
+  requests : t.requests ≡ s.requests
   begun : t.begun ≡ s.begun
 
 -- of which asks there may be a message then that there wasn't, and which may be told no
@@ -257,19 +255,20 @@ open_almost s t Made Refused l r a b o = record {
 module _ (s t : Shop) (q : Tells s) (g : IsGoing s t) where
   taken_going : (r : ℕ) → IsTaken s r → IsTaken t r
   taken_going r a = record {
-    asked = omega (arith, a.asked, g.asks);
+    asked = subst (λ rs. r ≤ length rs) (sym g.requests) a.asked;
     served = λ k runs e.
-        g.served k r (a.served k (omega (arith, runs, g.life k)) (subst (λ (f : ℕ → Request). (f r).life ≡ (t.folder k).life) g.request e ∙ g.life k));
+        g.served k r (a.served k (omega (arith, runs, g.life k)) (subst (λ rs. (request_in rs r).life ≡ (folder t k).life) g.requests e ∙ g.life k));
   }
 
   -- with what waits at each folder, and what was given
   going_tells : (Made Refused : ℕ → Type 0) → IsAlmost s t Made Refused
-      → ((k r : ℕ) → Has r (t.folder k).waiting → IsAt t.asks t.request (t.folder k) r × IsOpen t r × ¬ (Has r (t.folder k).given))
-      → ((k r : ℕ) → Has r (t.folder k).given → IsAt t.asks t.request (t.folder k) r × IsOpen t r) → ((k : ℕ) → IsLined (t.folder k)) → Tells t
+      → ((k r : ℕ) → Has r (folder t k).waiting → IsAt t.requests (folder t k) r × IsOpen t r × ¬ (Has r (folder t k).given))
+      → ((k r : ℕ) → Has r (folder t k).given → IsAt t.requests (folder t k) r × IsOpen t r) → ((k : ℕ) → IsLined (folder t k)) → Tells t
   going_tells Made Refused l waits gives lined = record {
     lives = λ k j runs e. q.lives k j (omega (arith, runs, g.life k)) (sym (g.life k) ∙ e ∙ g.life j);
     begun = λ k. omega (arith, q.begun k, g.life k, g.begun);
-    named = λ r a. subst (λ (f : ℕ → Request). (f r).life ≤ t.begun) (sym g.request) (omega (arith, q.named r (omega (arith, a, g.asks)), g.begun));
+    named = λ r a. subst (λ rs. (request_in rs r).life ≤ t.begun) (sym g.requests)
+        (omega (arith, q.named r (subst (λ rs. r ≤ length rs) g.requests a), g.begun));
     made = λ h i n r a. ⊎_elim (λ old. taken_going r (q.made old.0 i n r old.1)) (λ made. taken_going r (l.made_was r made).0) (l.from h i n r a);
     once = λ h f r i n j m a b. ⊎_elim
         (λ old. ⊎_elim (λ other. q.once old.0 other.0 r i n j m old.1 other.1) (λ made. l.made_once h f r i n j m made a b) (l.from f j m r b))
@@ -291,15 +290,14 @@ module _ (s t : Shop) (q : Tells s) (g : IsGoing s t) where
   }
 
 -- folder k is replaced by one of the same life, which has served as much
-going_put : (s t : Shop) (k : ℕ) (f : Folder) → t.folder ≡ put k f s.folder → f.life ≡ (s.folder k).life
-    → ((r : ℕ) → Has r (s.folder k).served → Has r f.served) → t.asks ≡ s.asks → t.request ≡ s.request → t.begun ≡ s.begun → IsGoing s t
-going_put s t k f e life served asks request begun = record {
-  life = λ j. subst (λ (d : ℕ → Folder). (d j).life ≡ (s.folder j).life) (sym e)
-      (put_cases (λ i g. g.life ≡ (s.folder i).life) k f s.folder life (λ i n. refl) j);
-  served = λ j r. subst (λ (d : ℕ → Folder). Has r (s.folder j).served → Has r (d j).served) (sym e)
-      (put_cases (λ i g. Has r (s.folder i).served → Has r g.served) k f s.folder (served r) (λ i n a. a) j);
-  asks = asks;
-  request = request;
+going_put : (s t : Shop) (k : ℕ) (f : Folder) → t.folders ≡ put_folder k f s.folders → f.life ≡ (folder s k).life
+    → ((r : ℕ) → Has r (folder s k).served → Has r f.served) → t.requests ≡ s.requests → t.begun ≡ s.begun → IsGoing s t
+going_put s t k f e life served requests begun = record {
+  life = λ j. subst (λ fs. (folder_in fs j).life ≡ (folder s j).life) (sym e)
+      (folder_cases (λ i g. g.life ≡ (folder s i).life) k f s.folders life (λ i n. refl) j);
+  served = λ j r. subst (λ fs. Has r (folder s j).served → Has r (folder_in fs j).served) (sym e)
+      (folder_cases (λ i g. Has r (folder s i).served → Has r g.served) k f s.folders (served r) (λ i n a. a) j);
+  requests = requests;
   begun = begun;
 }
 
@@ -310,7 +308,7 @@ none r = ⊥
 serves_tells : (c : Carrier) (s : Shop) (k r : ℕ) → Tells s → MayServe s k r → Tells (after s (Serves k r))
 serves_tells c s k r q m =
     let t = after s (Serves k r) in
-    let f : Folder = record (s.folder k) { served = r ∷ (s.folder k).served; waiting = r ∷ (s.folder k).waiting } in
+    let f : Folder = record (folder s k) { served = r ∷ (folder s k).served; waiting = r ∷ (folder s k).waiting } in
     let l : IsAlmost s t none none = record {
       from = λ h i n p a. inl (nothing_new c s (Serves k r) m (λ i n p e. e) h i n p a);
       no = λ p a. inl a;
@@ -325,32 +323,32 @@ serves_tells c s k r q m =
       not_no = λ a. m.once ((q.no r a).0.served k m.runs m.life);
       not_ok = λ i n a. m.once ((q.ok r i n a).0.served k m.runs m.life);
     } in
-    going_tells s t q (going_put s t k f refl refl (λ p a. inr a) refl refl refl) none none l
-    (put_cases (λ j g. (p : ℕ) → Has p g.waiting → IsAt s.asks s.request g p × IsOpen t p × ¬ (Has p g.given)) k f s.folder
+    going_tells s t q (going_put s t k f refl refl (λ p a. inr a) refl refl) none none l
+    (folder_cases (λ j g. (p : ℕ) → Has p g.waiting → IsAt s.requests g p × IsOpen t p × ¬ (Has p g.given)) k f s.folders
     (λ p. elim [
       | inl e ↦
-          let at : IsAt s.asks s.request f r = record { runs = m.runs; asked = m.asked; life = m.life; one = m.one; served = inl refl } in
+          let at : IsAt s.requests f r = record { runs = m.runs; asked = m.asked; life = m.life; one = m.one; served = inl refl } in
           let new = still r (λ z. z) (λ z. z) fresh in
-          subst (λ n. IsAt s.asks s.request f n × IsOpen t n × ¬ (Has n f.given)) (sym e)
+          subst (λ n. IsAt s.requests f n × IsOpen t n × ¬ (Has n f.given)) (sym e)
           (at, new, λ g. m.once (q.gives k r g).0.served)
       | inr a ↦
           let was = q.waits k p a in
           (record { runs = was.0.runs; asked = was.0.asked; life = was.0.life; one = was.0.one; served = inr was.0.served }, still p (λ z. z) (λ z. z) was.1, was.2)
     ])
     (λ j n p a. let was = q.waits j p a in (was.0, still p (λ z. z) (λ z. z) was.1, was.2)))
-    (put_cases (λ j g. (p : ℕ) → Has p g.given → IsAt s.asks s.request g p × IsOpen t p) k f s.folder
+    (folder_cases (λ j g. (p : ℕ) → Has p g.given → IsAt s.requests g p × IsOpen t p) k f s.folders
     (λ p a.
     let was = q.gives k p a in
     (record { runs = was.0.runs; asked = was.0.asked; life = was.0.life; one = was.0.one; served = inr was.0.served }, still p (λ z. z) (λ z. z) was.1))
     (λ j n p a. let was = q.gives j p a in (was.0, still p (λ z. z) (λ z. z) was.1)))
-    (put_cases (λ j g. IsLined g) k f s.folder (record { lines = (q.lined k).lines; apart = (q.lined k).apart; answers = (q.lined k).answers })
+    (folder_cases (λ j g. IsLined g) k f s.folders (record { lines = (q.lined k).lines; apart = (q.lined k).apart; answers = (q.lined k).answers })
     (λ j n. q.lined j))
 
 -- it is given to the site
 gives_tells : (c : Carrier) (s : Shop) (k r : ℕ) → Tells s → May c s (Gives k r) → Tells (after s (Gives k r))
 gives_tells c s k r q m =
     let t = after s (Gives k r) in
-    let f : Folder = giving (s.folder k) r (s.request r).records in
+    let f : Folder = giving (folder s k) r (request s r).records in
     let l : IsAlmost s t none none = record {
       from = λ h i n p a. inl (nothing_new c s (Gives k r) m (λ i n p e. e) h i n p a);
       no = λ p a. inl a;
@@ -361,32 +359,32 @@ gives_tells c s k r q m =
     } in
     let still = open_almost s t none none l in
     let waited = q.waits k r m.1 in
-    going_tells s t q (going_put s t k f refl refl (λ p a. a) refl refl refl) none none l
-    (put_cases (λ j g. (p : ℕ) → Has p g.waiting → IsAt s.asks s.request g p × IsOpen t p × ¬ (Has p g.given)) k f s.folder
+    going_tells s t q (going_put s t k f refl refl (λ p a. a) refl refl) none none l
+    (folder_cases (λ j g. (p : ℕ) → Has p g.waiting → IsAt s.requests g p × IsOpen t p × ¬ (Has p g.given)) k f s.folders
     (λ p a.
-    let left = has_without r p (s.folder k).waiting a in
+    let left = has_without r p (folder s k).waiting a in
     let was = q.waits k p left.0 in (
       record { runs = was.0.runs; asked = was.0.asked; life = was.0.life; one = was.0.one; served = was.0.served },
       still p (λ z. z) (λ z. z) was.1,
-      λ b. ⊎_elim was.2 left.1 (push_cases p r (s.folder k).given b),
+      λ b. ⊎_elim was.2 left.1 (push_cases p r (folder s k).given b),
     ))
     (λ j n p a. let was = q.waits j p a in (was.0, still p (λ z. z) (λ z. z) was.1, was.2)))
-    (put_cases (λ j g. (p : ℕ) → Has p g.given → IsAt s.asks s.request g p × IsOpen t p) k f s.folder
+    (folder_cases (λ j g. (p : ℕ) → Has p g.given → IsAt s.requests g p × IsOpen t p) k f s.folders
     (λ p a. ⊎_elim
     (λ old.
     let was = q.gives k p old in
     (record { runs = was.0.runs; asked = was.0.asked; life = was.0.life; one = was.0.one; served = was.0.served }, still p (λ z. z) (λ z. z) was.1))
     (λ e.
-    let at : IsAt s.asks s.request f r =
+    let at : IsAt s.requests f r =
     record { runs = waited.0.runs; asked = waited.0.asked; life = waited.0.life; one = waited.0.one; served = waited.0.served } in
     let new = still r (λ z. z) (λ z. z) waited.1 in
-    subst (λ n. IsAt s.asks s.request f n × IsOpen t n) (sym e) (at, new))
-    (push_cases p r (s.folder k).given a))
+    subst (λ n. IsAt s.requests f n × IsOpen t n) (sym e) (at, new))
+    (push_cases p r (folder s k).given a))
     (λ j n p a. let was = q.gives j p a in (was.0, still p (λ z. z) (λ z. z) was.1)))
-    (put_cases (λ j g. IsLined g) k f s.folder
+    (folder_cases (λ j g. IsLined g) k f s.folders
     (record {
-      lines = ap (λ n. (s.folder k).lines ++ times n r) waited.0.one ∙ ap (λ xs. xs ++ r ∷ []) (q.lined k).lines;
-      apart = apart_more r (s.folder k).given (q.lined k).apart waited.2;
+      lines = ap (λ n. (folder s k).lines ++ times n r) waited.0.one ∙ ap (λ xs. xs ++ r ∷ []) (q.lined k).lines;
+      apart = apart_more r (folder s k).given (q.lined k).apart waited.2;
       answers = (q.lined k).answers;
     })
     (λ j n. q.lined j))
@@ -395,10 +393,10 @@ gives_tells c s k r q m =
 accepts_tells : (c : Carrier) (s : Shop) (k r : ℕ) → Tells s → May c s (Accepts k r) → Tells (after s (Accepts k r))
 accepts_tells c s k r q m =
     let t = after s (Accepts k r) in
-    let y = next_message (s.folder k) r in
-    let f : Folder = accepting (s.folder k) r in
-    let line : IsFirst r (s.folder k).given = (m.1.0, sym (q.lined k).lines ∙ m.1.1) in
-    let it = first_in r (s.folder k).given line in
+    let y = next_message (folder s k) r in
+    let f : Folder = accepting (folder s k) r in
+    let line : IsFirst r (folder s k).given = (m.1.0, sym (q.lined k).lines ∙ m.1.1) in
+    let it = first_in r (folder s k).given line in
     let given = q.gives k r it.1 in
     let Made : ℕ → Type 0 = λ p. p ≡ r in
     let from : (h : Place) (i n p : ℕ) → Has (Message i n p) (there t h) → IsSomewhere s (Message i n p) ⊎ (Message i n p ≡ y) =
@@ -417,35 +415,35 @@ accepts_tells c s k r q m =
       refused_was = λ p z. absurd z;
     } in
     let still = open_almost s t Made none l in
-    let elsewhere : (j p : ℕ) → j ≢ k → IsAt s.asks s.request (s.folder j) p → p ≢ r =
-    λ j p n at e. n (one_place s q j k r (subst (IsAt s.asks s.request (s.folder j)) e at) given.0) in
-    going_tells s t q (going_put s t k f refl refl (λ p a. a) refl refl refl) Made none l
-    (put_cases (λ j g. (p : ℕ) → Has p g.waiting → IsAt s.asks s.request g p × IsOpen t p × ¬ (Has p g.given)) k f s.folder
+    let elsewhere : (j p : ℕ) → j ≢ k → IsAt s.requests (folder s j) p → p ≢ r =
+    λ j p n at e. n (one_place s q j k r (subst (IsAt s.requests (folder s j)) e at) given.0) in
+    going_tells s t q (going_put s t k f refl refl (λ p a. a) refl refl) Made none l
+    (folder_cases (λ j g. (p : ℕ) → Has p g.waiting → IsAt s.requests g p × IsOpen t p × ¬ (Has p g.given)) k f s.folders
     (λ p a.
     let was = q.waits k p a in
-    let not_it : p ≢ r = λ e. was.2 (subst (λ n. Has n (s.folder k).given) (sym e) it.1) in (
+    let not_it : p ≢ r = λ e. was.2 (subst (λ n. Has n (folder s k).given) (sym e) it.1) in (
       record { runs = was.0.runs; asked = was.0.asked; life = was.0.life; one = was.0.one; served = was.0.served },
       still p not_it (λ z. z) was.1,
-      λ b. was.2 (has_others p (s.folder k).given (q.lined k).apart b).0,
+      λ b. was.2 (has_others p (folder s k).given (q.lined k).apart b).0,
     ))
     (λ j n p a. let was = q.waits j p a in (was.0, still p (elsewhere j p n was.0) (λ z. z) was.1, was.2)))
-    (put_cases (λ j g. (p : ℕ) → Has p g.given → IsAt s.asks s.request g p × IsOpen t p) k f s.folder
+    (folder_cases (λ j g. (p : ℕ) → Has p g.given → IsAt s.requests g p × IsOpen t p) k f s.folders
     (λ p a.
-    let left = has_others p (s.folder k).given (q.lined k).apart a in
+    let left = has_others p (folder s k).given (q.lined k).apart a in
     let was = q.gives k p left.0 in
     (record { runs = was.0.runs; asked = was.0.asked; life = was.0.life; one = was.0.one; served = was.0.served }, still p (λ e. left.1 (e ∙ sym it.0)) (λ z. z) was.1))
     (λ j n p a. let was = q.gives j p a in (was.0, still p (elsewhere j p n was.0) (λ z. z) was.1)))
-    (put_cases (λ j g. IsLined g) k f s.folder
+    (folder_cases (λ j g. IsLined g) k f s.folders
     (record {
       lines = ap others (q.lined k).lines;
-      apart = apart_others (s.folder k).given (q.lined k).apart;
+      apart = apart_others (folder s k).given (q.lined k).apart;
       answers = λ p n h. ⊎_elim
           (λ e.
-          let who : p ≡ first (s.folder k).given = ap (λ (x : Answer). x.ask) e in
-          let number : n ≡ highest (s.folder k).site (s.folder k).kept + 1 = ap (λ (x : Answer). x.number) e in
-          let is : Message (s.folder k).site n p ≡ y = cc (who ∙ it.0, number) in
-          subst (λ x. Has x ((s.folder k).kept ++ y ∷ [])) (sym is) (has_last y (s.folder k).kept))
-          (λ old. has_left (Message (s.folder k).site n p) (s.folder k).kept (y ∷ []) ((q.lined k).answers p n old)) h;
+          let who : p ≡ first (folder s k).given = ap (λ (x : Answer). x.ask) e in
+          let number : n ≡ highest (folder s k).site (folder s k).kept + 1 = ap (λ (x : Answer). x.number) e in
+          let is : Message (folder s k).site n p ≡ y = cc (who ∙ it.0, number) in
+          subst (λ x. Has x ((folder s k).kept ++ y ∷ [])) (sym is) (has_last y (folder s k).kept))
+          (λ old. has_left (Message (folder s k).site n p) (folder s k).kept (y ∷ []) ((q.lined k).answers p n old)) h;
     })
     (λ j n. q.lined j))
 
@@ -462,10 +460,10 @@ ok_from s r p i n (inr a) = a
 refuses_tells : (c : Carrier) (s : Shop) (k r : ℕ) → Tells s → May c s (Refuses k r) → Tells (after s (Refuses k r))
 refuses_tells c s k p0 q m =
     let t = after s (Refuses k p0) in
-    let f : Folder = answering (s.folder k) in
-    let r = first (s.folder k).given in
-    let it = first_in p0 (s.folder k).given (m.0, sym (q.lined k).lines ∙ m.1) in
-    let here : Has r (s.folder k).given = subst (λ n. Has n (s.folder k).given) (sym it.0) it.1 in
+    let f : Folder = answering (folder s k) in
+    let r = first (folder s k).given in
+    let it = first_in p0 (folder s k).given (m.0, sym (q.lined k).lines ∙ m.1) in
+    let here : Has r (folder s k).given = subst (λ n. Has n (folder s k).given) (sym it.0) it.1 in
     let given = q.gives k r here in
     let Refused : ℕ → Type 0 = λ p. p ≡ r in
     let l : IsAlmost s t none Refused = record {
@@ -477,33 +475,33 @@ refuses_tells c s k p0 q m =
       refused_was = λ p e. subst (λ n. IsTaken s n × IsOpen s n × ¬ (none n)) (sym e) (at_taken s q k r given.0, given.1, λ z. z);
     } in
     let still = open_almost s t none Refused l in
-    let elsewhere : (j p : ℕ) → j ≢ k → IsAt s.asks s.request (s.folder j) p → p ≢ r =
-    λ j p n at e. n (one_place s q j k r (subst (IsAt s.asks s.request (s.folder j)) e at) given.0) in
-    going_tells s t q (going_put s t k f refl refl (λ p a. a) refl refl refl) none Refused l
-    (put_cases (λ j g. (p : ℕ) → Has p g.waiting → IsAt s.asks s.request g p × IsOpen t p × ¬ (Has p g.given)) k f s.folder
+    let elsewhere : (j p : ℕ) → j ≢ k → IsAt s.requests (folder s j) p → p ≢ r =
+    λ j p n at e. n (one_place s q j k r (subst (IsAt s.requests (folder s j)) e at) given.0) in
+    going_tells s t q (going_put s t k f refl refl (λ p a. a) refl refl) none Refused l
+    (folder_cases (λ j g. (p : ℕ) → Has p g.waiting → IsAt s.requests g p × IsOpen t p × ¬ (Has p g.given)) k f s.folders
     (λ p a.
     let was = q.waits k p a in
-    let not_it : p ≢ r = λ e. was.2 (subst (λ n. Has n (s.folder k).given) (sym e) here) in (
+    let not_it : p ≢ r = λ e. was.2 (subst (λ n. Has n (folder s k).given) (sym e) here) in (
       record { runs = was.0.runs; asked = was.0.asked; life = was.0.life; one = was.0.one; served = was.0.served },
       still p (λ z. z) not_it was.1,
-      λ b. was.2 (has_others p (s.folder k).given (q.lined k).apart b).0,
+      λ b. was.2 (has_others p (folder s k).given (q.lined k).apart b).0,
     ))
     (λ j n p a. let was = q.waits j p a in (was.0, still p (λ z. z) (elsewhere j p n was.0) was.1, was.2)))
-    (put_cases (λ j g. (p : ℕ) → Has p g.given → IsAt s.asks s.request g p × IsOpen t p) k f s.folder
+    (folder_cases (λ j g. (p : ℕ) → Has p g.given → IsAt s.requests g p × IsOpen t p) k f s.folders
     (λ p a.
-    let left = has_others p (s.folder k).given (q.lined k).apart a in
+    let left = has_others p (folder s k).given (q.lined k).apart a in
     let was = q.gives k p left.0 in
     (record { runs = was.0.runs; asked = was.0.asked; life = was.0.life; one = was.0.one; served = was.0.served }, still p (λ z. z) left.1 was.1))
     (λ j n p a. let was = q.gives j p a in (was.0, still p (λ z. z) (elsewhere j p n was.0) was.1)))
-    (put_cases (λ j g. IsLined g) k f s.folder
-    (record { lines = ap others (q.lined k).lines; apart = apart_others (s.folder k).given (q.lined k).apart; answers = (q.lined k).answers })
+    (folder_cases (λ j g. IsLined g) k f s.folders
+    (record { lines = ap others (q.lined k).lines; apart = apart_others (folder s k).given (q.lined k).apart; answers = (q.lined k).answers })
     (λ j n. q.lined j))
 
 -- it is taken back before it was given
 withdraws_tells : (c : Carrier) (s : Shop) (k r : ℕ) → Tells s → May c s (TellsNothing k r) → Tells (after s (TellsNothing k r))
 withdraws_tells c s k r q m =
     let t = after s (TellsNothing k r) in
-    let f : Folder = record (s.folder k) { waiting = without r (s.folder k).waiting } in
+    let f : Folder = record (folder s k) { waiting = without r (folder s k).waiting } in
     let waited = q.waits k r m in
     let Refused : ℕ → Type 0 = λ p. p ≡ r in
     let l : IsAlmost s t none Refused = record {
@@ -515,22 +513,22 @@ withdraws_tells c s k r q m =
       refused_was = λ p e. subst (λ n. IsTaken s n × IsOpen s n × ¬ (none n)) (sym e) (at_taken s q k r waited.0, waited.1, λ z. z);
     } in
     let still = open_almost s t none Refused l in
-    let elsewhere : (j p : ℕ) → j ≢ k → IsAt s.asks s.request (s.folder j) p → p ≢ r =
-    λ j p n at e. n (one_place s q j k r (subst (IsAt s.asks s.request (s.folder j)) e at) waited.0) in
-    going_tells s t q (going_put s t k f refl refl (λ p a. a) refl refl refl) none Refused l
-    (put_cases (λ j g. (p : ℕ) → Has p g.waiting → IsAt s.asks s.request g p × IsOpen t p × ¬ (Has p g.given)) k f s.folder
+    let elsewhere : (j p : ℕ) → j ≢ k → IsAt s.requests (folder s j) p → p ≢ r =
+    λ j p n at e. n (one_place s q j k r (subst (IsAt s.requests (folder s j)) e at) waited.0) in
+    going_tells s t q (going_put s t k f refl refl (λ p a. a) refl refl) none Refused l
+    (folder_cases (λ j g. (p : ℕ) → Has p g.waiting → IsAt s.requests g p × IsOpen t p × ¬ (Has p g.given)) k f s.folders
     (λ p a.
-    let left = has_without r p (s.folder k).waiting a in
+    let left = has_without r p (folder s k).waiting a in
     let was = q.waits k p left.0 in
     (record { runs = was.0.runs; asked = was.0.asked; life = was.0.life; one = was.0.one; served = was.0.served }, still p (λ z. z) left.1 was.1, was.2))
     (λ j n p a. let was = q.waits j p a in (was.0, still p (λ z. z) (elsewhere j p n was.0) was.1, was.2)))
-    (put_cases (λ j g. (p : ℕ) → Has p g.given → IsAt s.asks s.request g p × IsOpen t p) k f s.folder
+    (folder_cases (λ j g. (p : ℕ) → Has p g.given → IsAt s.requests g p × IsOpen t p) k f s.folders
     (λ p a.
     let was = q.gives k p a in
-    let not_it : p ≢ r = λ e. waited.2 (subst (λ n. Has n (s.folder k).given) e a) in
+    let not_it : p ≢ r = λ e. waited.2 (subst (λ n. Has n (folder s k).given) e a) in
     (record { runs = was.0.runs; asked = was.0.asked; life = was.0.life; one = was.0.one; served = was.0.served }, still p (λ z. z) not_it was.1))
     (λ j n p a. let was = q.gives j p a in (was.0, still p (λ z. z) (elsewhere j p n was.0) was.1)))
-    (put_cases (λ j g. IsLined g) k f s.folder
+    (folder_cases (λ j g. IsLined g) k f s.folders
     (record { lines = (q.lined k).lines; apart = (q.lined k).apart; answers = (q.lined k).answers }) (λ j n. q.lined j))
 
 -- ---- a folder is started, and an asker asks
@@ -538,18 +536,18 @@ withdraws_tells c s k r q m =
 starts_tells : (c : Carrier) (s : Shop) (k : ℕ) → Tells s → May c s (Starts k) → Tells (after s (Starts k))
 starts_tells c s k q m =
     let t = after s (Starts k) in
-    let f : Folder = started (s.folder k) (s.begun + 1) in
+    let f : Folder = started (folder s k) (s.begun + 1) in
     let from = nothing_new c s (Starts k) m (λ i n p e. e) in
-    let begun : (j : ℕ) → (t.folder j).life ≤ t.begun =
-    put_cases (λ j g. g.life ≤ s.begun + 1) k f s.folder (omega arith) (λ j n. omega (arith, q.begun j)) in
+    let begun : (j : ℕ) → (folder t j).life ≤ t.begun =
+    folder_cases (λ j g. g.life ≤ s.begun + 1) k f s.folders (omega arith) (λ j n. omega (arith, q.begun j)) in
     -- which folder has which life
-    let which : (j : ℕ) → ((t.folder j).life ≡ s.begun + 1) × (j ≡ k) ⊎ ((t.folder j).life ≡ (s.folder j).life) × ((s.folder j).life ≤ s.begun) =
-    put_cases (λ j g. (g.life ≡ s.begun + 1) × (j ≡ k) ⊎ (g.life ≡ (s.folder j).life) × ((s.folder j).life ≤ s.begun)) k f s.folder (inl (refl, refl))
+    let which : (j : ℕ) → ((folder t j).life ≡ s.begun + 1) × (j ≡ k) ⊎ ((folder t j).life ≡ (folder s j).life) × ((folder s j).life ≤ s.begun) =
+    folder_cases (λ j g. (g.life ≡ s.begun + 1) × (j ≡ k) ⊎ (g.life ≡ (folder s j).life) × ((folder s j).life ≤ s.begun)) k f s.folders (inl (refl, refl))
     (λ j n. inr (refl, q.begun j)) in
     let taken : (r : ℕ) → IsTaken s r → IsTaken t r =
     λ r a. record {
       asked = a.asked;
-      served = put_cases (λ j g. 0 < g.life → (s.request r).life ≡ g.life → Has r g.served) k f s.folder
+      served = folder_cases (λ j g. 0 < g.life → (request s r).life ≡ g.life → Has r g.served) k f s.folders
           (λ runs e. absurd (omega (arith, e, q.named r a.asked))) (λ j n runs e. a.served j runs e);
     } in
     let still : (r : ℕ) → IsOpen s r → IsOpen t r =
@@ -568,50 +566,51 @@ starts_tells c s k q m =
           q.once old.0 other.0 r i n j d old.1 other.1;
       no = λ r a. let was = q.no r a in (taken r was.0, λ h i n b. let old = from h i n r b in was.1 old.0 i n old.1);
       ok = λ r i n a. let was = q.ok r i n a in (taken r was.0, was.1);
-      waits = put_cases (λ j g. (p : ℕ) → Has p g.waiting → IsAt s.asks s.request g p × IsOpen t p × ¬ (Has p g.given)) k f s.folder (λ p a. absurd a)
+      waits = folder_cases (λ j g. (p : ℕ) → Has p g.waiting → IsAt s.requests g p × IsOpen t p × ¬ (Has p g.given)) k f s.folders (λ p a. absurd a)
           (λ j n p a. let was = q.waits j p a in (was.0, still p was.1, was.2));
-      gives = put_cases (λ j g. (p : ℕ) → Has p g.given → IsAt s.asks s.request g p × IsOpen t p) k f s.folder (λ p a. absurd a)
+      gives = folder_cases (λ j g. (p : ℕ) → Has p g.given → IsAt s.requests g p × IsOpen t p) k f s.folders (λ p a. absurd a)
           (λ j n p a. let was = q.gives j p a in (was.0, still p was.1));
-      lined = put_cases (λ j g. IsLined g) k f s.folder (lined_idle f refl refl refl) (λ j n. q.lined j);
+      lined = folder_cases (λ j g. IsLined g) k f s.folders (lined_idle f refl refl refl) (λ j n. q.lined j);
     }
 
 asked_tells : (c : Carrier) (s : Shop) (r life d : ℕ) → Tells s → May c s (IsAsked r life d) → Tells (after s (IsAsked r life d))
 asked_tells c s r life d q m =
     let t = after s (IsAsked r life d) in
     let from = nothing_new c s (IsAsked r life d) m (λ i n p e. e) in
-    let request : Request = record { life = life; records = d } in
-    let old_name : (p : ℕ) → p ≤ s.asks → put r request s.request p ≡ s.request p =
-    λ p a. put_there r p request s.request (λ e. absurd (omega (arith, a, e, m.0))) in
+    let new : ShopRequest = record { life = life; records = d } in
+    let more : asks t ≡ asks s + 1 = length_push s.requests new in
+    let old : (p : ℕ) → p ≤ asks s → request t p ≡ request s p = request_old s.requests new in
     let taken : (p : ℕ) → IsTaken s p → IsTaken t p =
-    λ p a. record { asked = omega (arith, a.asked, m.0); served = λ k runs e. a.served k runs (ap (λ (x : Request). x.life) (sym (old_name p a.asked)) ∙ e) } in
+    λ p a. record { asked = omega (arith, a.asked, more); served = λ k runs e. a.served k runs (ap (λ (x : ShopRequest). x.life) (sym (old p a.asked)) ∙ e) } in
     let still : (p : ℕ) → IsOpen s p → IsOpen t p =
-    λ p o. record { unmade = λ h i n a. let old = from h i n p a in o.unmade old.0 i n old.1; not_no = o.not_no; not_ok = o.not_ok } in
-    let at : (k p : ℕ) → IsAt s.asks s.request (s.folder k) p → IsAt t.asks t.request (s.folder k) p =
+    λ p o. record { unmade = λ h i n a. let was = from h i n p a in o.unmade was.0 i n was.1; not_no = o.not_no; not_ok = o.not_ok } in
+    let at : (k p : ℕ) → IsAt s.requests (folder s k) p → IsAt t.requests (folder s k) p =
     λ k p a. record {
       runs = a.runs;
-      asked = omega (arith, a.asked, m.0);
-      life = ap (λ (x : Request). x.life) (old_name p a.asked) ∙ a.life;
-      one = ap (λ (x : Request). x.records) (old_name p a.asked) ∙ a.one;
+      asked = omega (arith, a.asked, more);
+      life = ap (λ (x : ShopRequest). x.life) (old p a.asked) ∙ a.life;
+      one = ap (λ (x : ShopRequest). x.records) (old p a.asked) ∙ a.one;
       served = a.served;
     } in
     record {
       lives = q.lives;
       begun = q.begun;
-      named = put_cases (λ p (x : Request). p ≤ r → x.life ≤ s.begun) r request s.request (λ a. m.1) (λ p n a. q.named p (below p n a));
-      made = λ h i n p a. let old = from h i n p a in taken p (q.made old.0 i n p old.1);
+      named = λ p a. ⊎_elim (λ l. subst (λ (x : ShopRequest). x.life ≤ s.begun) (sym (old p l)) (q.named p l))
+          (λ e. subst (λ (x : ShopRequest). x.life ≤ s.begun) (sym (request_new s.requests new p e)) m.1) (last_or p (omega (arith, a, more)));
+      made = λ h i n p a. let was = from h i n p a in taken p (q.made was.0 i n p was.1);
       once = λ h g p i n j d a b.
-          let old = from h i n p a in
+          let was = from h i n p a in
           let other = from g j d p b in
-          q.once old.0 other.0 p i n j d old.1 other.1;
-      no = λ p a. let was = q.no p a in (taken p was.0, λ h i n b. let old = from h i n p b in was.1 old.0 i n old.1);
+          q.once was.0 other.0 p i n j d was.1 other.1;
+      no = λ p a. let was = q.no p a in (taken p was.0, λ h i n b. let at = from h i n p b in was.1 at.0 i n at.1);
       ok = λ p i n a. let was = q.ok p i n a in (taken p was.0, was.1);
       waits = λ k p a. let was = q.waits k p a in (at k p was.0, still p was.1, was.2);
       gives = λ k p a. let was = q.gives k p a in (at k p was.0, still p was.1);
       lined = q.lined;
     }
   where
-    below : (p : ℕ) → p ≢ r → p ≤ r → p ≤ s.asks
-    below p n a = omega (arith, n, a, m.0)
+    last_or : (p : ℕ) → p ≤ asks s + 1 → (p ≤ asks s) ⊎ (p ≡ asks s + 1)
+    last_or p l = ⊎_elim (λ e. inr e) (λ n. inl (omega (arith, l, n))) (cases_eq p (asks s + 1))
 
 -- ---- one event
 
@@ -619,69 +618,73 @@ no_message : (s : Shop) (k to i n r : ℕ) → IsNew s (Passes k to) (Message i 
 no_message s k to i n r e = cc e
 
 -- a folder opens, whether it may or not
-pub opens_tells : (s : Shop) (k : ℕ) → Tells s → Tells (after s (Opens k))
-opens_tells s k q = quiet_tells s (after s (Opens k)) q (record {
+opens_tells : (s : Shop) (k : ℕ) (uncompared : List ℕ) → Tells s → Tells (record (opening k s) { uncompared = uncompared })
+opens_tells s k uncompared q = quiet_tells s _ q (record {
   from = from;
-  memory = memory_opened s k _ (same (s.folder k) _ refl refl refl refl refl refl refl (λ x h. h));
-  asks = refl;
-  request = refl;
+  memory = opened_cases (λ j g. IsSame (folder s j) g ⊎ IsIdle g) s k (inl (same (folder s k) _ refl refl refl refl refl refl refl (λ x h. h)))
+      (λ j n. inl (same (folder s j) _ refl refl refl refl refl refl refl (λ x h. h)));
+  requests = refl;
   begun = refl;
   no = λ r a. a;
   ok = λ r i n a. inl a;
 })
   where
-    from : (h : Place) (i n r : ℕ) → Has (Message i n r) (there (after s (Opens k)) h) → IsSomewhere s (Message i n r)
-    from (InFolder j) i n r a = ⊎_elim (λ old. old) (λ z. absurd z) (in_opened s k _ (Message i n r) refl j a)
+    from : (h : Place) (i n r : ℕ) → Has (Message i n r) (there (opening k s) h) → IsSomewhere s (Message i n r)
+    from (InFolder j) i n r a = opened_from s k (Message i n r) j a
     from (InStream j) i n r a = (InStream j, a)
 
 pub tells_step : (c : Carrier) (s : Shop) (e : Event) → May c s e → Tells s → Tells (after s e)
 tells_step c s (Starts k) m q = starts_tells c s k q m
-tells_step c s (Opens k) m q = opens_tells s k q
+tells_step c s (Opens k) m q = opens_tells s k s.uncompared q
+tells_step c s (TakesOver k) m q = opens_tells s k _ q
+tells_step c s (OpensAlone k) m q = opens_tells s k _ q
 tells_step c s (Closes k) m q = quiet_put c s (Closes k) k _ q m (λ i n p e. e) refl
-    (inl (same (s.folder k) _ refl refl refl refl refl refl refl (λ x h. h))) refl refl refl refl
+    (inl (same (folder s k) _ refl refl refl refl refl refl refl (λ x h. h))) refl refl refl
 tells_step c s (KeeperStarts k) m q = q
-tells_step c s (IsKilled k) m q = quiet_put c s (IsKilled k) k _ q m (λ i n p e. e) refl (inr (idle _ refl refl refl refl refl)) refl refl refl refl
-tells_step c s (MachineStarts k) m q = quiet_put c s (MachineStarts k) k _ q m (λ i n p e. e) refl (inr (idle _ refl refl refl refl refl)) refl refl refl refl
+tells_step c s (IsKilled k) m q = quiet_put c s (IsKilled k) k _ q m (λ i n p e. e) refl (inr (idle _ refl refl refl refl refl)) refl refl refl
+tells_step c s (MachineStarts k) m q = quiet_put c s (MachineStarts k) k _ q m (λ i n p e. e) refl (inr (idle _ refl refl refl refl refl)) refl refl refl
 tells_step c s (IsAsked r life d) m q = asked_tells c s r life d q m
 tells_step c s (Serves k r) m q = serves_tells c s k r q m
 tells_step c s (Gives k r) m q = gives_tells c s k r q m
 tells_step c s (Accepts k r) m q = accepts_tells c s k r q m
 tells_step c s (Refuses k r) m q = refuses_tells c s k r q m
-tells_step c s (TellsOk k r n) m q = quiet_streams c s (TellsOk k r n) q m (λ i d p e. e) refl refl refl refl
+tells_step c s (TellsOk k r n) m q = quiet_streams c s (TellsOk k r n) q m (λ i d p e. e) refl refl refl
     (λ p a. ⊎_elim (λ e. absurd (cc e)) (λ b. b) a)
-    (λ p i d a. ⊎_elim (λ e. inr (InFolder k, subst (λ x. Has x (s.folder k).kept) (said p i d e) ((q.lined k).answers r n m))) (λ b. inl b) a)
+    (λ p i d a. ⊎_elim (λ e. inr (InFolder k, subst (λ x. Has x (folder s k).kept) (said p i d e) ((q.lined k).answers r n m.0))) (λ b. inl b) a)
   where
-    said : (p i d : ℕ) → Ok p i d ≡ Ok r (s.folder k).site n → Message (s.folder k).site n r ≡ Message i d p
+    said : (p i d : ℕ) → Ok p i d ≡ Ok r (folder s k).site n → Message (folder s k).site n r ≡ Message i d p
     said p i d e =
         let a : p ≡ r = cc e in
-        let b : i ≡ (s.folder k).site = cc e in
+        let b : i ≡ (folder s k).site = cc e in
         let d' : d ≡ n = cc e in
         cc (a, b, d')
-tells_step c s (TellsPublished k r n) m q = quiet_streams c s (TellsPublished k r n) q m (λ i d p e. e) refl refl refl refl
+tells_step c s (TellsPublished k r n) m q = quiet_streams c s (TellsPublished k r n) q m (λ i d p e. e) refl refl refl
     (λ p a. ⊎_elim (λ e. absurd (cc e)) (λ b. b) a)
-    (λ p i d a. ⊎_elim (λ e. inr (InFolder k, subst (λ x. Has x (s.folder k).kept) (said p i d e) ((q.lined k).answers r n m.1))) (λ b. inl b) a)
+    (λ p i d a. ⊎_elim (λ e. inr (InFolder k, subst (λ x. Has x (folder s k).kept) (said p i d e) ((q.lined k).answers r n m.1))) (λ b. inl b) a)
   where
-    said : (p i d : ℕ) → Ok p i d ≡ Ok r (s.folder k).site n → Message (s.folder k).site n r ≡ Message i d p
+    said : (p i d : ℕ) → Ok p i d ≡ Ok r (folder s k).site n → Message (folder s k).site n r ≡ Message i d p
     said p i d e =
         let a : p ≡ r = cc e in
-        let b : i ≡ (s.folder k).site = cc e in
+        let b : i ≡ (folder s k).site = cc e in
         let d' : d ≡ n = cc e in
         cc (a, b, d')
 tells_step c s (TellsNothing k r) m q = withdraws_tells c s k r q m
-tells_step c s (TellsUnknown k r) m q = quiet_streams c s (TellsUnknown k r) q m (λ i d p e. e) refl refl refl refl
+tells_step c s (TellsUnknown k r) m q = quiet_streams c s (TellsUnknown k r) q m (λ i d p e. e) refl refl refl
     (λ p a. ⊎_elim (λ e. absurd (cc e)) (λ b. b) a) (λ p i d a. ⊎_elim (λ e. absurd (cc e)) (λ b. inl b) a)
-tells_step c s (Passes k to) m q = quiet_put c s (Passes k to) k _ q m (no_message s k to) refl (inl (same (s.folder k) _ refl refl refl refl refl refl refl (λ x h. has_left x (s.folder k).kept _ h))) refl refl refl refl
-tells_step c s (Appends k x) m q = quiet_streams c s (Appends k x) q m (λ i d p e. e) refl refl refl refl (λ p a. a) (λ p i d a. inl a)
+tells_step c s (Yields i) m q = quiet_streams c s (Yields i) q m (λ i d p e. e) refl refl refl (λ p a. a) (λ p i d a. inl a)
+tells_step c s (TakesBack i) m q = quiet_streams c s (TakesBack i) q m (λ i d p e. e) refl refl refl (λ p a. a) (λ p i d a. inl a)
+tells_step c s (Passes k to) m q = quiet_put c s (Passes k to) k _ q m (no_message s k to) refl (inl (same (folder s k) _ refl refl refl refl refl refl refl (λ x h. has_left x (folder s k).kept _ h))) refl refl refl
+tells_step c s (Appends k x) m q = quiet_streams c s (Appends k x) q m (λ i d p e. e) refl refl refl (λ p a. a) (λ p i d a. inl a)
 tells_step c s (Reads k x) m q = quiet_put c s (Reads k x) k _ q m (λ i n p e. e) refl
-    (inl (same (s.folder k) _ refl refl refl refl refl refl refl (λ z h. has_left z (s.folder k).kept _ h))) refl refl refl refl
-tells_step c s (LosesEnd k n) m q = quiet_put c s (LosesEnd k n) k _ q m (λ i d p e. e) refl (inr (idle _ refl refl refl refl refl)) refl refl refl refl
-tells_step c s (IsChanged k ps) m q = quiet_put c s (IsChanged k ps) k _ q m (λ i d p e. e) refl (inr (idle _ refl refl refl refl refl)) refl refl refl refl
-tells_step c s (IsLost k) m q = quiet_put c s (IsLost k) k _ q m (λ i d p e. e) refl (inr (idle _ refl refl refl refl refl)) refl refl refl refl
-tells_step c s (IsCopied k j) m q = quiet_put c s (IsCopied k j) j _ q m (λ i d p e. e) refl (inr (idle _ refl refl refl refl refl)) refl refl refl refl
-tells_step c s (StreamLosesEnd i n) m q = quiet_streams c s (StreamLosesEnd i n) q m (λ i d p e. e) refl refl refl refl (λ p a. a) (λ p i d a. inl a)
-tells_step c s ServerLosesAll m q = quiet_streams c s ServerLosesAll q m (λ i d p e. e) refl refl refl refl (λ p a. a) (λ p i d a. inl a)
-tells_step c s (Rebuilds k ps) m q = quiet_put c s (Rebuilds k ps) k _ q m (λ i d p e. e) refl (inr (idle _ refl refl refl refl refl)) refl refl refl refl
-tells_step c s (WritesAnew k) m q = quiet_streams c s (WritesAnew k) q m (λ i d p e. e) refl refl refl refl (λ p a. a) (λ p i d a. inl a)
+    (inl (same (folder s k) _ refl refl refl refl refl refl refl (λ z h. has_left z (folder s k).kept _ h))) refl refl refl
+tells_step c s (LosesEnd k n) m q = quiet_put c s (LosesEnd k n) k _ q m (λ i d p e. e) refl (inr (idle _ refl refl refl refl refl)) refl refl refl
+tells_step c s (IsChanged k ps) m q = quiet_put c s (IsChanged k ps) k _ q m (λ i d p e. e) refl (inr (idle _ refl refl refl refl refl)) refl refl refl
+tells_step c s (IsLost k) m q = quiet_put c s (IsLost k) k _ q m (λ i d p e. e) refl (inr (idle _ refl refl refl refl refl)) refl refl refl
+tells_step c s (IsCopied k j) m q = quiet_put c s (IsCopied k j) j _ q m (λ i d p e. e) refl (inr (idle _ refl refl refl refl refl)) refl refl refl
+tells_step c s (StreamLosesEnd i n) m q = quiet_streams c s (StreamLosesEnd i n) q m (λ i d p e. e) refl refl refl (λ p a. a) (λ p i d a. inl a)
+tells_step c s ServerLosesAll m q = quiet_streams c s ServerLosesAll q m (λ i d p e. e) refl refl refl (λ p a. a) (λ p i d a. inl a)
+tells_step c s (Rebuilds k ps) m q = quiet_put c s (Rebuilds k ps) k _ q m (λ i d p e. e) refl (inr (idle _ refl refl refl refl refl)) refl refl refl
+tells_step c s (WritesAnew k) m q = quiet_streams c s (WritesAnew k) q m (λ i d p e. e) refl refl refl (λ p a. a) (λ p i d a. inl a)
 
 -- ---- the laws
 
@@ -689,7 +692,7 @@ pub tells_start : Tells start
 tells_start = record {
   lives = λ k j runs e. absurd (omega (arith, runs));
   begun = λ k. omega arith;
-  named = λ r a. omega arith;
+  named = elim [ zero ↦ λ a. omega arith | suc r ↦ λ a. omega arith ];
   made = λ h i n r a. absurd (nothing h (Message i n r) a);
   once = λ h g r i n j m a b. absurd (nothing h (Message i n r) a);
   no = λ r a. absurd a;
@@ -699,7 +702,7 @@ tells_start = record {
   lined = λ k. lined_idle (empty k) refl refl refl;
 }
   where
-    nothing : (h : Place) (x : Packet) → Has x (there start h) → ⊥
+    nothing : (h : Place) (x : ShopPacket) → Has x (there start h) → ⊥
     nothing (InFolder k) x h = h
     nothing (InStream i) x h = h
 
@@ -711,7 +714,7 @@ pub tells_run : (c : Carrier) (events : List Event) → AreSteps c start events 
 tells_run c events m = tells_after c start events m tells_start
 
 -- what was told is told for ever
-told_step : (s : Shop) (e : Event) (w : Told) → Has w s.told → Has w (after s e).told
+told_step : (s : Shop) (e : Event) (w : Notice) → Has w s.told → Has w (after s e).told
 told_step s (Refuses k r) w h = inr h
 told_step s (TellsOk k r n) w h = inr h
 told_step s (TellsPublished k r n) w h = inr h
@@ -720,7 +723,7 @@ told_step s (TellsUnknown k r) w h = inr h
 told_step s (Starts k) w h = h
 told_step s e w h = h
 
-pub told_after : (s : Shop) (events : List Event) (w : Told) → Has w s.told → Has w (run s events).told
+pub told_after : (s : Shop) (events : List Event) (w : Notice) → Has w s.told → Has w (run s events).told
 told_after s [] w h = h
 told_after s (e ∷ rest) w h = told_after (after s e) rest w (told_step s e w h)
 
@@ -739,12 +742,12 @@ pub told_ok : ToldOkIsKept
 told_ok c before k r n m =
     let s = run start before in
     let last = steps_right c start before (TellsOk k r n ∷ []) m in
-    let kept = ((tells_run c before (steps_left c start before (TellsOk k r n ∷ []) m)).lined k).answers r n last.0 in
-    subst (λ (t : Shop). Has (Ok r (t.folder k).site n) t.told × Has (Message (t.folder k).site n r) (t.folder k).kept)
+    let kept = ((tells_run c before (steps_left c start before (TellsOk k r n ∷ []) m)).lined k).answers r n last.0.0 in
+    subst (λ (t : Shop). Has (Ok r (folder t k).site n) t.told × Has (Message (folder t k).site n r) (folder t k).kept)
     (sym (run_append start before (TellsOk k r n ∷ []))) (inl refl, kept)
 
 pub published : PublishedIsInStream
 published c before k r n m =
     let last = steps_right c start before (TellsPublished k r n ∷ []) m in
-    subst (λ (t : Shop). Has (Ok r (t.folder k).site n) t.told × Has (Message (t.folder k).site n r) (t.stream (t.folder k).site))
+    subst (λ (t : Shop). Has (Ok r (folder t k).site n) t.told × Has (Message (folder t k).site n r) (stream t (folder t k).site))
     (sym (run_append start before (TellsPublished k r n ∷ []))) (inl refl, last.0.2)

@@ -2,16 +2,20 @@
 use Rattle.std.proofs.Common.{◌≡◌, ◌≢◌, ◌++◌, ◌∷◌, [], ℕ, List, refl, sym, ap, subst}
 use Rattle.rubis_model.specs.Settle.{Has}
 use Rattle.rubis_model.proofs.Lists.{has_left}
-use Rattle.rubis_carrier.specs.Packets.{Packet, sender}
-use Rattle.rubis_carrier.specs.Packets.Packet.{Message}
-use Rattle.rubis_carrier.specs.Shops.{Carrier, Folder, Place, Shop, put, start, there}
+use Rattle.rubis_carrier.specs.Laws.{GivenAgainOnlyWhereLost}
+use Rattle.rubis_carrier.specs.Laws.{GivenAgainOnlyWhereLost}
+use Rattle.rubis_carrier.specs.declared.values.Carrier.{Carrier}
+use Rattle.rubis_carrier.specs.declared.values.ShopPacket.{ShopPacket}
+use Rattle.rubis_carrier.specs.Events.{AreSteps, Event, Harms, IsWhole, May, after, opening, run}
+use Rattle.rubis_carrier.specs.Events.Event.{Accepts, Appends, Closes, Gives, IsAsked, IsChanged, IsCopied, IsKilled, IsLost, KeeperStarts, LosesEnd}
+use Rattle.rubis_carrier.specs.Events.Event.{MachineStarts, Opens, OpensAlone, Passes, Reads, Rebuilds, Refuses, ServerLosesAll, Serves, Starts}
+use Rattle.rubis_carrier.specs.Events.Event.{StreamLosesEnd, TakesBack, TakesOver, TellsNothing, TellsOk, TellsPublished, TellsUnknown, WritesAnew}
+use Rattle.rubis_carrier.specs.Events.Event.{Yields}
+use Rattle.rubis_carrier.specs.Laws.{GivenAgainOnlyWhereLost}
+use Rattle.rubis_carrier.specs.Packets.{sender}
+use Rattle.rubis_carrier.specs.Shops.{Folder, Place, Shop, folder, folder_in, put_folder, put_stream, start, stream, stream_in, there}
 use Rattle.rubis_carrier.specs.Shops.Place.{InFolder, InStream}
-use Rattle.rubis_carrier.specs.Events.{AreSteps, Event, Harms, IsWhole, May, after, forgotten, run}
-use Rattle.rubis_carrier.specs.Events.Event.{Accepts, Appends, Gives, IsAsked, IsChanged, IsCopied, IsKilled, IsLost, LosesEnd, MachineStarts, Opens}
-use Rattle.rubis_carrier.specs.Events.Event.{Passes, Reads, Rebuilds, Refuses, Serves, ServerLosesAll, Starts, StreamLosesEnd, TellsNothing, TellsOk, TellsPublished}
-use Rattle.rubis_carrier.specs.Events.Event.{Closes, KeeperStarts, TellsUnknown, WritesAnew}
-use Rattle.rubis_carrier.specs.Laws.{GivenAgainOnlyWhereLost, NothingAcceptedIsLost}
-use Rattle.rubis_carrier.proofs.PutFacts.{put_cases}
+use Rattle.rubis_carrier.proofs.PutFacts.{folder_cases, opened_cases, stream_cases}
 use Rattle.rubis_carrier.proofs.Sound.{ids_once}
 
 -- ---- lists of events
@@ -35,30 +39,34 @@ steps_append c s (e ∷ a) b m n = (m.0, steps_append c (after s e) a b m.1 n)
 -- ---- one event
 
 -- folder k is replaced by one that has all that it had
-same_or_more : (s : Shop) (k : ℕ) (f : Folder) → ((x : Packet) → Has x (s.folder k).kept → Has x f.kept) → (j : ℕ) (x : Packet)
-    → Has x (s.folder j).kept → Has x (put k f s.folder j).kept
-same_or_more s k f more j x = put_cases (λ n g. Has x (s.folder n).kept → Has x g.kept) k f s.folder (more x) (λ n d h. h) j
+same_or_more : (s : Shop) (k : ℕ) (f : Folder) → ((x : ShopPacket) → Has x (folder s k).kept → Has x f.kept) → (j : ℕ) (x : ShopPacket)
+    → Has x (folder s j).kept → Has x (folder_in (put_folder k f s.folders) j).kept
+same_or_more s k f more j x = folder_cases (λ n g. Has x (folder s n).kept → Has x g.kept) k f s.folders (more x) (λ n d h. h) j
 
 -- folder k is replaced, and this is another one
-another : (s : Shop) (k : ℕ) (f : Folder) (j : ℕ) → j ≢ k → (x : Packet) → Has x (s.folder j).kept → Has x (put k f s.folder j).kept
-another s k f j n x h = put_cases (λ i g. i ≢ k → Has x (s.folder i).kept → Has x g.kept) k f s.folder (λ d. absurd (d refl)) (λ i d e a. a) j n h
+another : (s : Shop) (k : ℕ) (f : Folder) (j : ℕ) → j ≢ k → (x : ShopPacket) → Has x (folder s j).kept
+    → Has x (folder_in (put_folder k f s.folders) j).kept
+another s k f j n x h =
+    folder_cases (λ i g. i ≢ k → Has x (folder s i).kept → Has x g.kept) k f s.folders (λ d. absurd (d refl)) (λ i d e a. a) j n h
 
-opened_kept : (s : Shop) (k : ℕ) (f : Folder) (x : Packet) → f.kept ≡ (s.folder k).kept → (j : ℕ) → Has x (s.folder j).kept
-    → Has x (put k f (λ i. forgotten (s.folder k).site (s.folder i)) j).kept
-opened_kept s k f x e = put_cases (λ i g. Has x (s.folder i).kept → Has x g.kept) k f (λ i. forgotten (s.folder k).site (s.folder i))
-    (subst (Has x) (sym e)) (λ i d h. h)
+opened_kept : (s : Shop) (k j : ℕ) (x : ShopPacket) → Has x (folder s j).kept → Has x (folder (opening k s) j).kept
+opened_kept s k j x = opened_cases (λ i g. Has x (folder s i).kept → Has x g.kept) s k (λ h. h) (λ i d h. h) j
 
-pub stream_more : (s : Shop) (i : ℕ) (xs : List Packet) → ((x : Packet) → Has x (s.stream i) → Has x xs) → (j : ℕ) (x : Packet)
-    → Has x (s.stream j) → Has x (put i xs s.stream j)
-stream_more s i xs more j x = put_cases (λ n ys. Has x (s.stream n) → Has x ys) i xs s.stream (more x) (λ n d h. h) j
+stream_more : (s : Shop) (i : ℕ) (xs : List ShopPacket) → ((x : ShopPacket) → Has x (stream s i) → Has x xs) → (j : ℕ) (x : ShopPacket)
+    → Has x (stream s j) → Has x (stream_in (put_stream i xs s.streams) j)
+stream_more s i xs more j x = stream_cases (λ n ys. Has x (stream s n) → Has x ys) i xs s.streams (more x) (λ n d h. h) j
 
-pub stream_other : (s : Shop) (i : ℕ) (xs : List Packet) (j : ℕ) → j ≢ i → (x : Packet) → Has x (s.stream j) → Has x (put i xs s.stream j)
-stream_other s i xs j n x h = put_cases (λ k ys. k ≢ i → Has x (s.stream k) → Has x ys) i xs s.stream (λ d. absurd (d refl)) (λ k d e a. a) j n h
+stream_other : (s : Shop) (i : ℕ) (xs : List ShopPacket) (j : ℕ) → j ≢ i → (x : ShopPacket) → Has x (stream s j)
+    → Has x (stream_in (put_stream i xs s.streams) j)
+stream_other s i xs j n x h =
+    stream_cases (λ k ys. k ≢ i → Has x (stream s k) → Has x ys) i xs s.streams (λ d. absurd (d refl)) (λ k d e a. a) j n h
 
-pub folder_step : (c : Carrier) (s : Shop) (e : Event) (j : ℕ) → May c s e → (Harms e (InFolder j) → ⊥) → (x : Packet)
-    → Has x (s.folder j).kept → Has x ((after s e).folder j).kept
+folder_step : (c : Carrier) (s : Shop) (e : Event) (j : ℕ) → May c s e → (Harms e (InFolder j) → ⊥) → (x : ShopPacket)
+    → Has x (folder s j).kept → Has x (folder (after s e) j).kept
 folder_step c s (Starts k) j m n x h = same_or_more s k _ (λ z a. a) j x h
-folder_step c s (Opens k) j m n x h = opened_kept s k _ x refl j h
+folder_step c s (Opens k) j m n x h = opened_kept s k j x h
+folder_step c s (TakesOver k) j m n x h = opened_kept s k j x h
+folder_step c s (OpensAlone k) j m n x h = opened_kept s k j x h
 folder_step c s (Closes k) j m n x h = same_or_more s k _ (λ z a. a) j x h
 folder_step c s (KeeperStarts k) j m n x h = h
 folder_step c s (IsKilled k) j m n x h = same_or_more s k _ (λ z a. a) j x h
@@ -66,15 +74,17 @@ folder_step c s (MachineStarts k) j m n x h = same_or_more s k _ (λ z a. a) j x
 folder_step c s (IsAsked r life d) j m n x h = h
 folder_step c s (Serves k r) j m n x h = same_or_more s k _ (λ z a. a) j x h
 folder_step c s (Gives k r) j m n x h = same_or_more s k _ (λ z a. a) j x h
-folder_step c s (Accepts k r) j m n x h = same_or_more s k _ (λ z a. has_left z (s.folder k).kept _ a) j x h
+folder_step c s (Accepts k r) j m n x h = same_or_more s k _ (λ z a. has_left z (folder s k).kept _ a) j x h
 folder_step c s (Refuses k r) j m n x h = same_or_more s k _ (λ z a. a) j x h
 folder_step c s (TellsOk k r d) j m n x h = h
 folder_step c s (TellsPublished k r d) j m n x h = h
 folder_step c s (TellsNothing k r) j m n x h = same_or_more s k _ (λ z a. a) j x h
 folder_step c s (TellsUnknown k r) j m n x h = h
-folder_step c s (Passes k to) j m n x h = same_or_more s k _ (λ z a. has_left z (s.folder k).kept _ a) j x h
+folder_step c s (Yields i) j m n x h = h
+folder_step c s (TakesBack i) j m n x h = h
+folder_step c s (Passes k to) j m n x h = same_or_more s k _ (λ z a. has_left z (folder s k).kept _ a) j x h
 folder_step c s (Appends k y) j m n x h = h
-folder_step c s (Reads k y) j m n x h = same_or_more s k _ (λ z a. has_left z (s.folder k).kept _ a) j x h
+folder_step c s (Reads k y) j m n x h = same_or_more s k _ (λ z a. has_left z (folder s k).kept _ a) j x h
 folder_step c s (LosesEnd k d) j m n x h = another s k _ j (λ e. n (ap InFolder e)) x h
 folder_step c s (IsChanged k d) j m n x h = another s k _ j (λ e. n (ap InFolder e)) x h
 folder_step c s (IsLost k) j m n x h = another s k _ j (λ e. n (ap InFolder e)) x h
@@ -84,34 +94,31 @@ folder_step c s ServerLosesAll j m n x h = h
 folder_step c s (Rebuilds k packets) j m n x h = same_or_more s k _ (λ z a. m.left z a) j x h
 folder_step c s (WritesAnew k) j m n x h = h
 
-pub stream_step : (c : Carrier) (s : Shop) (e : Event) (i : ℕ) → May c s e → (Harms e (InStream i) → ⊥) → (x : Packet)
-    → Has x (s.stream i) → Has x ((after s e).stream i)
-stream_step c s (Appends k y) i m n x h = stream_more s (sender y) _ (λ z a. has_left z (s.stream (sender y)) _ a) i x h
+stream_step : (c : Carrier) (s : Shop) (e : Event) (i : ℕ) → May c s e → (Harms e (InStream i) → ⊥) → (x : ShopPacket)
+    → Has x (stream s i) → Has x (stream (after s e) i)
+stream_step c s (Appends k y) i m n x h = stream_more s (sender y) _ (λ z a. has_left z (stream s (sender y)) _ a) i x h
 stream_step c s (StreamLosesEnd j d) i m n x h = stream_other s j _ i (λ e. n (ap InStream e)) x h
 stream_step c s ServerLosesAll i m n x h = absurd (n tt)
-stream_step c s (WritesAnew k) i m n x h = stream_more s (s.folder k).site _ m.2 i x h
+stream_step c s (WritesAnew k) i m n x h = stream_more s (folder s k).site _ m.1.has i x h
 stream_step c s (Starts k) i m n x h = h
 stream_step c s e i m n x h = h
 
-pub whole_step : (c : Carrier) (s : Shop) (e : Event) (h : Place) → May c s e → (Harms e h → ⊥) → (x : Packet) → Has x (there s h) → Has x (there (after s e) h)
+whole_step : (c : Carrier) (s : Shop) (e : Event) (h : Place) → May c s e → (Harms e h → ⊥) → (x : ShopPacket) → Has x (there s h) → Has x (there (after s e) h)
 whole_step c s e (InFolder j) m n x a = folder_step c s e j m n x a
 whole_step c s e (InStream i) m n x a = stream_step c s e i m n x a
 
-pub whole_after : (c : Carrier) (s : Shop) (later : List Event) (h : Place) → AreSteps c s later → IsWhole h later → (x : Packet)
+pub whole_after : (c : Carrier) (s : Shop) (later : List Event) (h : Place) → AreSteps c s later → IsWhole h later → (x : ShopPacket)
     → Has x (there s h) → Has x (there (run s later) h)
 whole_after c s [] h m w x a = a
 whole_after c s (e ∷ rest) h m w x a = whole_after c (after s e) rest h m.1 w.1 x (whole_step c s e h m.0 w.0 x a)
 
 -- after these events, and then those
-pub whole_then : (c : Carrier) (before later : List Event) (h : Place) → AreSteps c start (before ++ later) → IsWhole h later → (x : Packet)
+pub whole_then : (c : Carrier) (before later : List Event) (h : Place) → AreSteps c start (before ++ later) → IsWhole h later → (x : ShopPacket)
     → Has x (there (run start before) h) → Has x (there (run start (before ++ later)) h)
 whole_then c before later h m w x a = subst (λ s. Has x (there s h)) (sym (run_append start before later))
     (whole_after c (run start before) later h (steps_right c start before later m) w x a)
 
--- ---- the laws
-
-pub nothing_lost : NothingAcceptedIsLost
-nothing_lost c before later m r i n h told a w k all = all h i n r (whole_then c before later h m w (Message i n r) a)
+-- ---- the law
 
 pub given_again : GivenAgainOnlyWhereLost
-given_again c before later m h g x y a b e other f still = other (ids_once c (before ++ later) m f g x y still b e)
+given_again c before later m h g x y a b e other n f still = other (ids_once c (before ++ later) m f g x y still b e n)

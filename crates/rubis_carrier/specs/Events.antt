@@ -1,19 +1,26 @@
 -- What happens to a shop, event by event: when it may, and what it leads to.
-use Rattle.std.specs.Prelude.{◌≡◌, ◌≢◌, ℕ, ◌+◌, ◌<◌, ◌≤◌, ◌==◌, true, false, not, zero, suc, cond, List, [], ◌∷◌, ◌++◌, filter, max, take}
+use Rattle.std.specs.Prelude.{◌≡◌, ◌≢◌, ℕ, ◌+◌, ◌<◌, ◌≤◌, ◌==◌, true, false, not, zero, suc, cond, List, [], ◌∷◌, ◌++◌, filter, map, max, take}
 use Rattle.rubis_model.specs.Settle.{Has}
-use Rattle.rubis_carrier.specs.Packets.{Holds, Packet, highest, own, sender, taken, unchanged}
-use Rattle.rubis_carrier.specs.Packets.Packet.{Message, Pass}
-use Rattle.rubis_carrier.specs.Shops.{Carrier, Folder, MayOpen, Place, Shop, empty, put, there, with_folder, with_stream}
-use Rattle.rubis_carrier.specs.Shops.Carrier.{Files, Server}
+use Rattle.rubis_carrier.specs.declared.values.Carrier.{Carrier}
+use Rattle.rubis_carrier.specs.declared.values.Carrier.TheVariants.{Files, Server}
+use Rattle.rubis_carrier.specs.declared.values.ShopPacket.{ShopPacket}
+use Rattle.rubis_carrier.specs.declared.values.ShopPacket.TheVariants.{Message, Pass}
+use Rattle.rubis_carrier.specs.Packets.{Holds, highest, own, sender, taken, unchanged}
+use Rattle.rubis_carrier.specs.Shops.{Folder, MayOpen, Place, Shop, asks, empty, folder, put_folder, request, stream, there, with_folder, with_stream}
 use Rattle.rubis_carrier.specs.Shops.Place.{InFolder, InStream}
-use Rattle.rubis_carrier.specs.Shops.{Told as told}
+use Rattle.rubis_carrier.specs.declared.values.Notice.{Notice}
+use Rattle.rubis_carrier.specs.declared.values.Notice.TheVariants as told
 
+-- what happens in a shop
 pub data Event : Type 0 where
-  -- a supervisor begins to run a folder, in a new life; its site may take asks; it may not any more, but runs on, as one does that doesn't
-  -- know that another folder of its site was opened; the keeper that it has for it ends, and is started again, and is given again what it
-  -- hadn't kept; the supervisor ends; the machine is started, and remembers nothing
+  -- a supervisor begins to run a folder, in a new life; its site may take asks; the same of a standby, which takes over from a folder
+  -- that may go on; the same with `--alone`; it may not any more, but runs on, as one does that doesn't know that another folder of its
+  -- site was opened; the keeper that it has for it ends, and is started again, and is given again what it hadn't kept; the supervisor
+  -- ends; the machine is started, and remembers nothing
   Starts : (folder : ℕ) → Event
   Opens : (folder : ℕ) → Event
+  TakesOver : (folder : ℕ) → Event
+  OpensAlone : (folder : ℕ) → Event
   Closes : (folder : ℕ) → Event
   KeeperStarts : (folder : ℕ) → Event
   IsKilled : (folder : ℕ) → Event
@@ -31,67 +38,92 @@ pub data Event : Type 0 where
   TellsPublished : (folder ask number : ℕ) → Event
   TellsNothing : (folder ask : ℕ) → Event
   TellsUnknown : (folder ask : ℕ) → Event
+  -- a standby was told off for the site, which yields to it; it takes that back
+  Yields : (site : ℕ) → Event
+  TakesBack : (site : ℕ) → Event
   -- the site passes the token on; a packet that stands in a folder is appended to the stream of its sender; a site reads a packet
   Passes : (folder to : ℕ) → Event
-  Appends : (folder : ℕ) (packet : Packet) → Event
-  Reads : (folder : ℕ) (packet : Packet) → Event
+  Appends : (folder : ℕ) (packet : ShopPacket) → Event
+  Reads : (folder : ℕ) (packet : ShopPacket) → Event
   -- only the first n packets of a folder are left; other packets stand there, of which a start takes those in front of the first that
   -- isn't as it was, by its sum; nothing is left; another folder becomes a copy of it, or is put back to that
   LosesEnd : (folder n : ℕ) → Event
-  IsChanged : (folder : ℕ) (packets : List Packet) → Event
+  IsChanged : (folder : ℕ) (packets : List ShopPacket) → Event
   IsLost : (folder : ℕ) → Event
   IsCopied : (folder other : ℕ) → Event
   -- the server has only the first n packets of a stream; it has nothing
   StreamLosesEnd : (site n : ℕ) → Event
   ServerLosesAll : Event
   -- a folder that doesn't run is made again; the stream of its site is written anew from a folder
-  Rebuilds : (folder : ℕ) (packets : List Packet) → Event
+  Rebuilds : (folder : ℕ) (packets : List ShopPacket) → Event
   WritesAnew : (folder : ℕ) → Event
 
 -- ---- when it may happen
 
 -- a site finds the packet: over files in a folder of its sender, over a server in its sender's stream
-abbrev pub IsOffered : Carrier → Shop → Packet → Type 0
-IsOffered Files s x = (j : ℕ) × ((s.folder j).site ≡ sender x) × Has x (s.folder j).kept
-IsOffered Server s x = Has x (s.stream (sender x))
+abbrev pub IsOffered : Carrier → Shop → ShopPacket → Type 0
+IsOffered Files s x = (j : ℕ) × ((folder s j).site ≡ sender x) × Has x (folder s j).kept
+IsOffered Server s x = Has x (stream s (sender x))
 
 -- a supervisor in the life that the ask names takes it, once, and only if it is one record
 pub record MayServe (s : Shop) (k r : ℕ) : Type 0 where
-  pub runs : 0 < (s.folder k).life
-  pub asked : r ≤ s.asks
-  pub life : (s.request r).life ≡ (s.folder k).life
-  pub one : (s.request r).records ≡ 1
-  pub once : Has r (s.folder k).served → ⊥
+  pub runs : 0 < (folder s k).life
+  pub asked : r ≤ asks s
+  pub life : (request s r).life ≡ (folder s k).life
+  pub one : (request s r).records ≡ 1
+  pub once : Has r (folder s k).served → ⊥
 
 -- it is the first of the list
 abbrev pub IsFirst : ℕ → List ℕ → Type 0
 IsFirst r asks = (rest : List ℕ) × (asks ≡ r ∷ rest)
 
 -- it has what was left of the folder, and nothing that isn't somewhere
-pub record MayRebuild (s : Shop) (k : ℕ) (packets : List Packet) : Type 0 where
-  pub stopped : (s.folder k).life ≡ 0
-  pub left : (x : Packet) → Has x (s.folder k).kept → Has x packets
-  pub found : (x : Packet) → Has x packets → (h : Place) × Has x (there s h)
+pub record MayRebuild (s : Shop) (k : ℕ) (packets : List ShopPacket) : Type 0 where
+  pub stopped : (folder s k).life ≡ 0
+  pub left : (x : ShopPacket) → Has x (folder s k).kept → Has x packets
+  pub found : (x : ShopPacket) → Has x packets → (h : Place) × Has x (there s h)
 
+-- a message is the next of its stream
+abbrev pub IsAtItsPlace : Shop → ShopPacket → Type 0
+IsAtItsPlace s (Message i n r) = n ≡ highest i (stream s i) + 1
+IsAtItsPlace s (Pass i t j a) = Unit {0}
+
+-- a folder that runs appends a packet that it has; of a site of which a folder was opened uncompared, a message only at its place
+pub record MayAppend (s : Shop) (k : ℕ) (x : ShopPacket) : Type 0 where
+  pub runs : 0 < (folder s k).life
+  pub kept : Has x (folder s k).kept
+  pub placed : Has (sender x) s.uncompared → IsAtItsPlace s x
+
+-- a folder that runs has all that stands in its site's stream, and none of that site was opened uncompared
+pub record MayWriteAnew (s : Shop) (k : ℕ) : Type 0 where
+  pub runs : 0 < (folder s k).life
+  pub has : (x : ShopPacket) → Has x (stream s (folder s k).site) → Has x (own (folder s k).site (folder s k).kept)
+  pub compared : ¬ (Has (folder s k).site s.uncompared)
+
+-- when an event may happen
 abbrev pub May : Carrier → Shop → Event → Type 0
-May c s (Starts k) = (s.folder k).life ≡ 0
+May c s (Starts k) = (folder s k).life ≡ 0
 May c s (Opens k) = MayOpen s k
+May c s (TakesOver k) = (0 < (folder s k).life) × Has (folder s k).site s.yielding
+May c s (OpensAlone k) = 0 < (folder s k).life
 May c s (Closes k) = Unit {0}
 May c s (KeeperStarts k) = Unit {0}
 May c s (IsKilled k) = Unit {0}
 May c s (MachineStarts k) = Unit {0}
-May c s (IsAsked r life n) = (r ≡ s.asks + 1) × (life ≤ s.begun)
+May c s (IsAsked r life n) = (r ≡ asks s + 1) × (life ≤ s.begun)
 May c s (Serves k r) = MayServe s k r
-May c s (Gives k r) = ((s.folder k).is_open ≡ true) × Has r (s.folder k).waiting
-May c s (Accepts k r) = ((s.folder k).is_open ≡ true) × IsFirst r (s.folder k).lines
-May c s (Refuses k r) = IsFirst r (s.folder k).lines
-May c s (TellsOk k r n) = Has (record { ask = r; number = n }) (s.folder k).answered
-May c s (TellsPublished k r n) = (c ≡ Server) × Has (record { ask = r; number = n }) (s.folder k).answered × Has (Message (s.folder k).site n r) (s.stream (s.folder k).site)
-May c s (TellsNothing k r) = Has r (s.folder k).waiting
+May c s (Gives k r) = ((folder s k).is_open ≡ true) × Has r (folder s k).waiting
+May c s (Accepts k r) = ((folder s k).is_open ≡ true) × IsFirst r (folder s k).lines
+May c s (Refuses k r) = IsFirst r (folder s k).lines
+May c s (TellsOk k r n) = Has (record { ask = r; number = n }) (folder s k).answered × ¬ (Has (folder s k).site s.yielding)
+May c s (TellsPublished k r n) = (c ≡ Server) × Has (record { ask = r; number = n }) (folder s k).answered × Has (Message (folder s k).site n r) (stream s (folder s k).site)
+May c s (TellsNothing k r) = Has r (folder s k).waiting
 May c s (TellsUnknown k r) = Unit {0}
-May c s (Passes k to) = ((s.folder k).is_open ≡ true) × Holds (s.folder k).site (s.folder k).kept × (to ≢ (s.folder k).site)
-May c s (Appends k x) = (0 < (s.folder k).life) × (c ≡ Server) × Has x (s.folder k).kept
-May c s (Reads k x) = (0 < (s.folder k).life) × (sender x ≢ (s.folder k).site) × IsOffered c s x
+May c s (Yields i) = Unit {0}
+May c s (TakesBack i) = Unit {0}
+May c s (Passes k to) = ((folder s k).is_open ≡ true) × Holds (folder s k).site (folder s k).kept × (to ≢ (folder s k).site)
+May c s (Appends k x) = (c ≡ Server) × MayAppend s k x
+May c s (Reads k x) = (0 < (folder s k).life) × (sender x ≢ (folder s k).site) × IsOffered c s x
 May c s (LosesEnd k n) = Unit {0}
 May c s (IsChanged k packets) = Unit {0}
 May c s (IsLost k) = Unit {0}
@@ -99,7 +131,7 @@ May c s (IsCopied k j) = Unit {0}
 May c s (StreamLosesEnd i n) = Unit {0}
 May c s ServerLosesAll = Unit {0}
 May c s (Rebuilds k packets) = MayRebuild s k packets
-May c s (WritesAnew k) = (0 < (s.folder k).life) × (c ≡ Server) × ((x : Packet) → Has x (s.stream (s.folder k).site) → Has x (own (s.folder k).site (s.folder k).kept))
+May c s (WritesAnew k) = (c ≡ Server) × MayWriteAnew s k
 
 -- ---- what it leads to
 
@@ -112,7 +144,7 @@ abbrev pub unknown : Folder → Folder
 unknown f = record (stopped f) { remembered = false }
 
 -- it has these packets, and nothing runs it
-abbrev pub replaced : Folder → List Packet → Folder
+abbrev pub replaced : Folder → List ShopPacket → Folder
 replaced f packets = record (unknown f) { kept = packets }
 
 -- no other folder of that site is remembered as the last one that took asks
@@ -128,6 +160,7 @@ abbrev pub first : List ℕ → ℕ
 first [] = 0
 first (r ∷ asks) = r
 
+-- all asks but the first
 abbrev pub others : List ℕ → List ℕ
 others [] = []
 others (r ∷ asks) = asks
@@ -138,13 +171,15 @@ times zero r = []
 times (suc n) r = r ∷ times n r
 
 -- the next message, of that ask; the next turn of the token
-abbrev pub next_message : Folder → ℕ → Packet
+abbrev pub next_message : Folder → ℕ → ShopPacket
 next_message f r = Message f.site (highest f.site f.kept + 1) r
 
-abbrev pub next_pass : Folder → ℕ → Packet
+-- the next pass of the token: its turn is one above the greatest that the site took
+abbrev pub next_pass : Folder → ℕ → ShopPacket
 next_pass f to = Pass f.site (taken f.site f.kept + 1) to (highest f.site f.kept)
 
-abbrev pub keeping : Folder → Packet → Folder
+-- the folder with one packet more on its disk
+abbrev pub keeping : Folder → ShopPacket → Folder
 keeping f x = record f { kept = f.kept ++ x ∷ [] }
 
 -- an ask that waited is given to the site, as n records
@@ -161,47 +196,66 @@ accepting f r = record (keeping (answering f) (next_message f r)) {
   answered = record { ask = first f.given; number = highest f.site f.kept + 1 } ∷ f.answered;
 }
 
-abbrev pub telling : told → Shop → Shop
+-- the shop after an asker was told something
+abbrev pub telling : Notice → Shop → Shop
 telling what s = record s { told = what ∷ s.told }
 
 -- its site may take no asks
 abbrev pub closed : Folder → Folder
 closed f = record f { is_open = false }
 
+-- the folder after a supervisor began to run it, in a new life
 abbrev pub started : Folder → ℕ → Folder
 started f life = record (stopped f) { life = life }
 
+-- its site may take asks, and its machine knows that no other did since
+abbrev pub opened : Folder → Folder
+opened f = record f { is_open = true; remembered = true }
+
+-- the shop where that folder opens
+abbrev pub opening : ℕ → Shop → Shop
+opening k s = record s { folders = put_folder k (opened (folder s k)) (map (forgotten (folder s k).site) s.folders) }
+
+-- the same, where it was compared with nothing
+abbrev pub opening_uncompared : ℕ → Shop → Shop
+opening_uncompared k s = record (opening k s) { uncompared = (folder s k).site ∷ s.uncompared }
+
+-- what an event leads to
 abbrev pub after : Shop → Event → Shop
-after s (Starts k) = record (with_folder k (started (s.folder k) (s.begun + 1)) s) { begun = s.begun + 1 }
-after s (Opens k) =
-    record s { folder = put k (record (s.folder k) { is_open = true; remembered = true }) (λ j. forgotten (s.folder k).site (s.folder j)) }
-after s (Closes k) = with_folder k (closed (s.folder k)) s
+after s (Starts k) = record (with_folder k (started (folder s k) (s.begun + 1)) s) { begun = s.begun + 1 }
+after s (Opens k) = opening k s
+after s (TakesOver k) = opening_uncompared k s
+after s (OpensAlone k) = opening_uncompared k s
+after s (Closes k) = with_folder k (closed (folder s k)) s
 after s (KeeperStarts k) = s
-after s (IsKilled k) = with_folder k (stopped (s.folder k)) s
-after s (MachineStarts k) = with_folder k (unknown (s.folder k)) s
-after s (IsAsked r life n) = record s { asks = r; request = put r (record { life = life; records = n }) s.request }
-after s (Serves k r) = with_folder k (record (s.folder k) { served = r ∷ (s.folder k).served; waiting = r ∷ (s.folder k).waiting }) s
-after s (Gives k r) = with_folder k (giving (s.folder k) r (s.request r).records) s
-after s (Accepts k r) = with_folder k (accepting (s.folder k) r) s
-after s (Refuses k r) = telling (told.No (first (s.folder k).given)) (with_folder k (answering (s.folder k)) s)
-after s (TellsOk k r n) = telling (told.Ok r (s.folder k).site n) s
-after s (TellsPublished k r n) = telling (told.Ok r (s.folder k).site n) s
-after s (TellsNothing k r) = telling (told.No r) (with_folder k (record (s.folder k) { waiting = without r (s.folder k).waiting }) s)
+after s (IsKilled k) = with_folder k (stopped (folder s k)) s
+after s (MachineStarts k) = with_folder k (unknown (folder s k)) s
+after s (IsAsked r life n) = record s { requests = s.requests ++ record { life = life; records = n } ∷ [] }
+after s (Serves k r) = with_folder k (record (folder s k) { served = r ∷ (folder s k).served; waiting = r ∷ (folder s k).waiting }) s
+after s (Gives k r) = with_folder k (giving (folder s k) r (request s r).records) s
+after s (Accepts k r) = with_folder k (accepting (folder s k) r) s
+after s (Refuses k r) = telling (told.No (first (folder s k).given)) (with_folder k (answering (folder s k)) s)
+after s (TellsOk k r n) = telling (told.Ok r (folder s k).site n) s
+after s (TellsPublished k r n) = telling (told.Ok r (folder s k).site n) s
+after s (TellsNothing k r) = telling (told.No r) (with_folder k (record (folder s k) { waiting = without r (folder s k).waiting }) s)
 after s (TellsUnknown k r) = telling (told.Unknown r) s
-after s (Passes k to) = record (with_folder k (keeping (s.folder k) (next_pass (s.folder k) to)) s) { turn = max (taken (s.folder k).site (s.folder k).kept + 1) s.turn }
-after s (Appends k x) = with_stream (sender x) (s.stream (sender x) ++ x ∷ []) s
-after s (Reads k x) = with_folder k (keeping (s.folder k) x) s
-after s (LosesEnd k n) = with_folder k (replaced (s.folder k) (take n (s.folder k).kept)) s
-after s (IsChanged k packets) = with_folder k (replaced (s.folder k) (unchanged (s.folder k).kept packets)) s
-after s (IsLost k) = with_folder k (empty (s.folder k).site) s
-after s (IsCopied k j) = with_folder j (unknown (s.folder k)) s
-after s (StreamLosesEnd i n) = with_stream i (take n (s.stream i)) s
-after s ServerLosesAll = record s { stream = λ i. [] }
-after s (Rebuilds k packets) = with_folder k (replaced (s.folder k) packets) s
-after s (WritesAnew k) = with_stream (s.folder k).site (own (s.folder k).site (s.folder k).kept) s
+after s (Yields i) = record s { yielding = i ∷ s.yielding }
+after s (TakesBack i) = record s { yielding = without i s.yielding }
+after s (Passes k to) = record (with_folder k (keeping (folder s k) (next_pass (folder s k) to)) s) { turn = max (taken (folder s k).site (folder s k).kept + 1) s.turn }
+after s (Appends k x) = with_stream (sender x) (stream s (sender x) ++ x ∷ []) s
+after s (Reads k x) = with_folder k (keeping (folder s k) x) s
+after s (LosesEnd k n) = with_folder k (replaced (folder s k) (take n (folder s k).kept)) s
+after s (IsChanged k packets) = with_folder k (replaced (folder s k) (unchanged (folder s k).kept packets)) s
+after s (IsLost k) = with_folder k (empty (folder s k).site) s
+after s (IsCopied k j) = with_folder j (unknown (folder s k)) s
+after s (StreamLosesEnd i n) = with_stream i (take n (stream s i)) s
+after s ServerLosesAll = record s { streams = [] }
+after s (Rebuilds k packets) = with_folder k (replaced (folder s k) packets) s
+after s (WritesAnew k) = with_stream (folder s k).site (own (folder s k).site (folder s k).kept) s
 
 -- ---- one event after the other
 
+-- what several events lead to, one after the other
 abbrev pub run : Shop → List Event → Shop
 run s [] = s
 run s (e ∷ rest) = run (after s e) rest
@@ -237,6 +291,7 @@ Carries (Appends k x) = Unit {0}
 Carries (Reads k x) = Unit {0}
 Carries e = ⊥
 
+-- each of the events starts a folder or carries a packet
 abbrev pub AllCarry : List Event → Type 0
 AllCarry [] = Unit {0}
 AllCarry (e ∷ rest) = Carries e × AllCarry rest

@@ -1,12 +1,14 @@
 -- What holds of a shop, whatever happens to it.
 use Rattle.std.specs.Prelude.{◌≡◌, ◌≢◌, ℕ, ◌<◌, ◌≤◌, List, [], ◌∷◌, ◌++◌}
 use Rattle.rubis_model.specs.Settle.{Has}
-use Rattle.rubis_carrier.specs.Packets.{Holds, Packet, highest, name}
-use Rattle.rubis_carrier.specs.Packets.Packet.{Message, Pass}
-use Rattle.rubis_carrier.specs.Shops.{Carrier, Folder, Place, Shop, there, start}
-use Rattle.rubis_carrier.specs.Shops.Carrier.{Server}
+use Rattle.rubis_carrier.specs.declared.values.Carrier.{Carrier}
+use Rattle.rubis_carrier.specs.declared.values.Carrier.TheVariants.{Server}
+use Rattle.rubis_carrier.specs.declared.values.ShopPacket.{ShopPacket}
+use Rattle.rubis_carrier.specs.declared.values.ShopPacket.TheVariants.{Message, Pass}
+use Rattle.rubis_carrier.specs.Packets.{Holds, highest, name, sender}
+use Rattle.rubis_carrier.specs.Shops.{Folder, Place, Shop, asks, folder, request, start, stream, there}
 use Rattle.rubis_carrier.specs.Shops.Place.{InFolder, InStream}
-use Rattle.rubis_carrier.specs.Shops.Told.{No, Ok}
+use Rattle.rubis_carrier.specs.declared.values.Notice.TheVariants.{No, Ok}
 use Rattle.rubis_carrier.specs.Events.{AllCarry, AreSteps, Event, IsWhole, May, after, run}
 use Rattle.rubis_carrier.specs.Events.Event.{Accepts, Opens, Refuses, TellsOk, TellsPublished}
 
@@ -14,66 +16,72 @@ use Rattle.rubis_carrier.specs.Events.Event.{Accepts, Opens, Refuses, TellsOk, T
 abbrev pub EveryShop : (Shop → Type 0) → Type 0
 EveryShop claim = (c : Carrier) (events : List Event) → AreSteps c start events → claim (run start events)
 
--- two packets of one name, wherever they are at that moment, are the same one
+-- two packets of one name, wherever they are at that moment, are the same one, but of a site of which a folder was opened uncompared
 abbrev pub AreGivenOnce : Shop → Type 0
-AreGivenOnce s = (h g : Place) (x y : Packet) → Has x (there s h) → Has y (there s g) → name x ≡ name y → x ≡ y
+AreGivenOnce s = (h g : Place) (x y : ShopPacket) → Has x (there s h) → Has y (there s g) → name x ≡ name y → ¬ (Has (sender x) s.uncompared) → x ≡ y
 
 abbrev pub IdsAreGivenOnce : Type 0
 IdsAreGivenOnce = EveryShop AreGivenOnce
 
 -- so a name was given to another packet only where nothing is left that had the first
 abbrev pub GivenAgainOnlyWhereLost : Type 0
-GivenAgainOnlyWhereLost = (c : Carrier) (before later : List Event) → AreSteps c start (before ++ later) → (h g : Place) (x y : Packet)
+GivenAgainOnlyWhereLost = (c : Carrier) (before later : List Event) → AreSteps c start (before ++ later) → (h g : Place) (x y : ShopPacket)
     → Has x (there (run start before) h) → Has y (there (run start (before ++ later)) g) → name x ≡ name y → x ≢ y
-    → (f : Place) → ¬ (Has x (there (run start (before ++ later)) f))
+    → ¬ (Has (sender x) (run start (before ++ later)).uncompared) → (f : Place) → ¬ (Has x (there (run start (before ++ later)) f))
 
 -- ---- what was accepted
 
--- the folder has each message that stands anywhere
-abbrev pub HasReadAll : Shop → ℕ → Type 0
-HasReadAll s k = (h : Place) (i n r : ℕ) → Has (Message i n r) (there s h) → Has (Message i n r) (s.folder k).kept
+-- the folder comes to have the packet, by folders that are started and packets that are carried alone
+abbrev pub CanHave : Carrier → Shop → ℕ → ShopPacket → Type 0
+CanHave c s k x = (more : List Event) × AllCarry more × AreSteps c s more × Has x (folder (run s more) k).kept
 
--- an ask that was told ok, with that id: its message is in each folder that has read everything, as long as one of the places where it
--- stood is whole
+-- a folder of site i; or, over a server, its stream
+abbrev pub IsOf : Carrier → Shop → ℕ → Place → Type 0
+IsOf c s i (InFolder k) = (folder s k).site ≡ i
+IsOf c s i (InStream j) = (j ≡ i) × (c ≡ Server)
+
+-- from a folder a server's stream takes messages at their places alone, if a folder of the site was opened uncompared
+abbrev pub IsAppended : Carrier → Shop → ℕ → Place → Type 0
+IsAppended c s i (InFolder k) = c ≡ Server → ¬ (Has i s.uncompared)
+IsAppended c s i (InStream j) = Unit {0}
+
+-- a message that stood in a place that is whole since stands there still; and if the place is one of its site's, each folder of another
+-- site comes to have it
 abbrev pub NothingAcceptedIsLost : Type 0
 NothingAcceptedIsLost = (c : Carrier) (before later : List Event) → AreSteps c start (before ++ later) → (r i n : ℕ) (h : Place)
-    → Has (Ok r i n) (run start before).told → Has (Message i n r) (there (run start before) h) → IsWhole h later
-    → (k : ℕ) → HasReadAll (run start (before ++ later)) k → Has (Message i n r) ((run start (before ++ later)).folder k).kept
+    → Has (Message i n r) (there (run start before) h) → IsWhole h later
+    → let s = run start (before ++ later) in
+    Has (Message i n r) (there s h) × (IsOf c s i h → IsAppended c s i h → (k : ℕ) → (folder s k).site ≢ i → CanHave c s k (Message i n r))
 
 -- where it is told, it stands in the folder
 abbrev pub ToldOkIsKept : Type 0
 ToldOkIsKept = (c : Carrier) (before : List Event) (k r n : ℕ) → AreSteps c start (before ++ TellsOk k r n ∷ [])
     → let s = run start (before ++ TellsOk k r n ∷ []) in
-    Has (Ok r (s.folder k).site n) s.told × Has (Message (s.folder k).site n r) (s.folder k).kept
+    Has (Ok r (folder s k).site n) s.told × Has (Message (folder s k).site n r) (folder s k).kept
 
 -- with `--published`, it stands in the stream
 abbrev pub PublishedIsInStream : Type 0
 PublishedIsInStream = (c : Carrier) (before : List Event) (k r n : ℕ) → AreSteps c start (before ++ TellsPublished k r n ∷ [])
     → let s = run start (before ++ TellsPublished k r n ∷ []) in
-    Has (Ok r (s.folder k).site n) s.told × Has (Message (s.folder k).site n r) (s.stream (s.folder k).site)
+    Has (Ok r (folder s k).site n) s.told × Has (Message (folder s k).site n r) (stream s (folder s k).site)
 
 -- ---- the token
 
 -- the site of that folder comes to hold the token, by folders that are started and packets that are carried alone
 abbrev pub CanHold : Carrier → Shop → ℕ → Type 0
-CanHold c s k = (more : List Event) × AllCarry more × AreSteps c s more × Holds ((run s more).folder k).site ((run s more).folder k).kept
+CanHold c s k = (more : List Event) × AllCarry more × AreSteps c s more × Holds (folder (run s more) k).site (folder (run s more) k).kept
 
--- a folder of site i; or, over a server, its stream
-abbrev pub IsOf : Carrier → Shop → ℕ → Place → Type 0
-IsOf c s i (InFolder k) = (s.folder k).site ≡ i
-IsOf c s i (InStream j) = (j ≡ i) × (c ≡ Server)
-
--- the pass of the greatest turn that there ever was, of site i to site j, stands where it did: in a folder of site i that is whole, or in its stream. Then site j holds
--- the token, or reads that pass and holds it
+-- the pass of the greatest turn that there ever was, of site i to site j, stands where it did: in a folder of site i that is whole, or
+-- in its stream. Then site j holds the token, or reads that pass and holds it
 abbrev pub TheTokenComesBack : Type 0
 TheTokenComesBack = (c : Carrier) (before later : List Event) → AreSteps c start (before ++ later) → (i t j a : ℕ) (h : Place)
     → Has (Pass i t j a) (there (run start before) h) → IsWhole h later
     → let s = run start (before ++ later) in
-    t ≡ s.turn → IsOf c s i h → (k : ℕ) → (s.folder k).site ≡ j → CanHold c s k
+    t ≡ s.turn → IsOf c s i h → (k : ℕ) → (folder s k).site ≡ j → CanHold c s k
 
 -- before the first pass site 0 holds it
 abbrev pub TheFirstSiteHolds : Type 0
-TheFirstSiteHolds = EveryShop (λ s. s.turn ≡ 0 → (k : ℕ) → (s.folder k).site ≡ 0 → Holds 0 (s.folder k).kept)
+TheFirstSiteHolds = EveryShop (λ s. s.turn ≡ 0 → (k : ℕ) → (folder s k).site ≡ 0 → Holds 0 (folder s k).kept)
 
 -- ---- what askers are told
 
@@ -96,10 +104,10 @@ AsksAreAcceptedOnce = EveryShop (λ s. (h g : Place) (r i n j m : ℕ) → Has (
 
 -- the life that the ask names took it, and no other will; and it waits nowhere, nor does any site have it to read
 pub record IsOver (s : Shop) (r : ℕ) : Type 0 where
-  pub asked : r ≤ s.asks
-  pub served : (k : ℕ) → 0 < (s.folder k).life → (s.request r).life ≡ (s.folder k).life → Has r (s.folder k).served
-  pub waits_nowhere : (k : ℕ) → ¬ (Has r (s.folder k).waiting)
-  pub given_nowhere : (k : ℕ) → ¬ (Has r (s.folder k).given)
+  pub asked : r ≤ asks s
+  pub served : (k : ℕ) → 0 < (folder s k).life → (request s r).life ≡ (folder s k).life → Has r (folder s k).served
+  pub waits_nowhere : (k : ℕ) → ¬ (Has r (folder s k).waiting)
+  pub given_nowhere : (k : ℕ) → ¬ (Has r (folder s k).given)
 
 -- then, if there is no message of it, there never is
 abbrev pub WhatIsOverStays : Type 0
@@ -109,7 +117,7 @@ WhatIsOverStays = (c : Carrier) (before later : List Event) → AreSteps c start
 -- as long as an ask that was given to a site has no answer, none that was given after it gets one
 abbrev pub AnswersComeInOrder : Type 0
 AnswersComeInOrder = (c : Carrier) (events : List Event) → AreSteps c start events → let s = run start events in
-    (k r q : ℕ) (a b d : List ℕ) → (s.folder k).given ≡ a ++ r ∷ (b ++ q ∷ d) → ¬ (May c s (Accepts k q)) × ¬ (May c s (Refuses k q))
+    (k r q : ℕ) (a b d : List ℕ) → (folder s k).given ≡ a ++ r ∷ (b ++ q ∷ d) → ¬ (May c s (Accepts k q)) × ¬ (May c s (Refuses k q))
 
 -- ---- how weak the rule is
 
@@ -124,6 +132,6 @@ pub record IsFresh (f : Folder) : Type 0 where
 -- takes asks all the same, allowed steps lead to two messages under one number
 abbrev pub ComparingIsNeeded : Type 0
 ComparingIsNeeded = (c : Carrier) (events : List Event) → AreSteps c start events → let s = run start events in
-    (k : ℕ) → IsFresh (s.folder k) → (h : Place) (n r : ℕ) → Has (Message (s.folder k).site n r) (there s h)
-    → highest (s.folder k).site (s.folder k).kept < n
+    (k : ℕ) → IsFresh (folder s k) → (h : Place) (n r : ℕ) → Has (Message (folder s k).site n r) (there s h)
+    → highest (folder s k).site (folder s k).kept < n → ¬ (Has (folder s k).site s.uncompared)
     → (more : List Event) × AreSteps c (after s (Opens k)) more × ¬ (AreGivenOnce (run (after s (Opens k)) more))

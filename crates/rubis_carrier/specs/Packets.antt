@@ -1,13 +1,10 @@
 -- What a site sends: messages, and the passes of the token.
 use Rattle.std.specs.Prelude.{◌≡◌, ◌⊎◌, ℕ, ◌<◌, ◌≤◌, ◌==◌, ◌&&◌, Bool, false, cond, filter, List, [], ◌∷◌, max}
+use Rattle.rubis_carrier.specs.declared.values.ShopPacket.{ShopPacket}
+use Rattle.rubis_carrier.specs.declared.values.ShopPacket.TheVariants.{Message, Pass}
 
--- a message of a site: its number, and the ask that it was made of. The asks are numbered, so that two asks with one text are two.
--- A pass of the token: its turn, the site that it goes to, and how many messages the sender had given before
-pub data Packet : Type 0 where
-  Message : (site number ask : ℕ) → Packet
-  Pass : (site turn to after : ℕ) → Packet
-
-abbrev pub sender : Packet → ℕ
+-- the site that sent the packet
+abbrev pub sender : ShopPacket → ℕ
 sender (Message i n r) = i
 sender (Pass i t j a) = i
 
@@ -16,18 +13,20 @@ pub data Name : Type 0 where
   Id : (site number : ℕ) → Name
   Turn : (site turn : ℕ) → Name
 
-abbrev pub name : Packet → Name
+-- the packet's name: a message's id, or the site and turn of a pass
+abbrev pub name : ShopPacket → Name
 name (Message i n r) = Id i n
 name (Pass i t j a) = Turn i t
 
-abbrev pub same_packet : Packet → Packet → Bool
+-- whether two packets are equal in all they have
+abbrev pub same_packet : ShopPacket → ShopPacket → Bool
 same_packet (Message i n r) (Message j m q) = (i == j) && (n == m) && (r == q)
 same_packet (Pass i t j a) (Pass k u l b) = (i == k) && (t == u) && (j == l) && (a == b)
 same_packet (Message i n r) (Pass k u l b) = false
 same_packet (Pass i t j a) (Message k m q) = false
 
 -- the packets in front of the first that is another one
-abbrev pub unchanged : List Packet → List Packet → List Packet
+abbrev pub unchanged : List ShopPacket → List ShopPacket → List ShopPacket
 unchanged [] ys = []
 unchanged (x ∷ xs) [] = []
 unchanged (x ∷ xs) (y ∷ ys) = cond (same_packet x y) (x ∷ unchanged xs ys) []
@@ -35,36 +34,36 @@ unchanged (x ∷ xs) (y ∷ ys) = cond (same_packet x y) (x ∷ unchanged xs ys)
 -- ---- what a list of packets says of a site
 
 -- what the site sent
-abbrev pub own : ℕ → List Packet → List Packet
+abbrev pub own : ℕ → List ShopPacket → List ShopPacket
 own i kept = filter (λ x. sender x == i) kept
 
 -- the greatest number that the site gave
-abbrev pub highest : ℕ → List Packet → ℕ
+abbrev pub highest : ℕ → List ShopPacket → ℕ
 highest i [] = 0
 highest i (Message j n r ∷ rest) = cond (j == i) (max n (highest i rest)) (highest i rest)
 highest i (Pass j t k a ∷ rest) = highest i rest
 
 -- the greatest turn that it took
-abbrev pub taken : ℕ → List Packet → ℕ
+abbrev pub taken : ℕ → List ShopPacket → ℕ
 taken i [] = 0
 taken i (Message j n r ∷ rest) = taken i rest
 taken i (Pass j t k a ∷ rest) = cond (k == i) (max t (taken i rest)) (taken i rest)
 
 -- the greatest turn that it passed on
-abbrev pub passed : ℕ → List Packet → ℕ
+abbrev pub passed : ℕ → List ShopPacket → ℕ
 passed i [] = 0
 passed i (Message j n r ∷ rest) = passed i rest
 passed i (Pass j t k a ∷ rest) = cond (j == i) (max t (passed i rest)) (passed i rest)
 
 -- the greatest turn that it passed on or took: those that it passes on from now on are later
-abbrev pub last_turn : ℕ → List Packet → ℕ
+abbrev pub last_turn : ℕ → List ShopPacket → ℕ
 last_turn i kept = max (passed i kept) (taken i kept)
 
 -- the site has the token: it took one, or is the first to have it, and hasn't passed a later one on
-abbrev pub Holds : ℕ → List Packet → Type 0
+abbrev pub Holds : ℕ → List ShopPacket → Type 0
 Holds i kept = (passed i kept ≤ taken i kept) × ((i ≡ 0) ⊎ (0 < taken i kept))
 
 -- it has given such a number, or a greater one; it has passed such a turn on, or a later one, or taken one, and never passes it on again
-abbrev pub IsReached : ℕ → List Packet → Packet → Type 0
+abbrev pub IsReached : ℕ → List ShopPacket → ShopPacket → Type 0
 IsReached i kept (Message j n r) = n ≤ highest i kept
 IsReached i kept (Pass j t k a) = t ≤ last_turn i kept

@@ -1,12 +1,11 @@
 -- A shop: the folders of its sites, with what runs them, and what carries packets between them.
-use Rattle.std.specs.Prelude.{◌≡◌, ◌⊎◌, ℕ, ◌<◌, ◌==◌, Bool, true, false, cond, List, []}
+use Rattle.std.specs.Prelude.{◌≡◌, ◌⊎◌, ℕ, ◌<◌, zero, suc, Bool, true, false, List, [], ◌∷◌, get_or, length}
 use Rattle.rubis_model.specs.Settle.{Has}
-use Rattle.rubis_carrier.specs.Packets.{IsReached, Packet, sender}
-
--- an answer of a site that accepted: the ask that it is taken to be of, and the number that it says
-pub record Answer : Type 0 where
-  pub ask : ℕ
-  pub number : ℕ
+use Rattle.rubis_carrier.specs.declared.values.Answer.{Answer}
+use Rattle.rubis_carrier.specs.declared.values.ShopPacket.{ShopPacket}
+use Rattle.rubis_carrier.specs.declared.values.ShopRequest.{ShopRequest}
+use Rattle.rubis_carrier.specs.declared.values.Notice.{Notice}
+use Rattle.rubis_carrier.specs.Packets.{IsReached, sender}
 
 -- A folder of a site, of which there may be several: a copy is a folder of its own. `kept` is on the disk: all that its site sent and
 -- took in, in order. The other fields are in memory: the life in which a supervisor runs the folder, or 0; whether its site may take
@@ -15,7 +14,7 @@ pub record Answer : Type 0 where
 -- that the site has still to read, each as the ask that it came from; and the answers
 pub record Folder : Type 0 where
   pub site : ℕ
-  pub kept : List Packet
+  pub kept : List ShopPacket
   pub life : ℕ
   pub is_open : Bool
   pub remembered : Bool
@@ -25,65 +24,89 @@ pub record Folder : Type 0 where
   pub lines : List ℕ
   pub answered : List Answer
 
--- what an asker was told: `ok`, with an id; that the ask was refused, or that nothing was given to the site; or that it isn't known
-pub data Told : Type 0 where
-  Ok : (ask site number : ℕ) → Told
-  No : (ask : ℕ) → Told
-  Unknown : (ask : ℕ) → Told
-
--- what carries packets: a site's folder itself, over files; or a stream for each site, on a server
-pub data Carrier : Type 0 where
-  Files : Carrier
-  Server : Carrier
-
--- what an asker sends: which life is to serve it, and how many records its text has. An ask is one record
-pub record Request : Type 0 where
-  pub life : ℕ
-  pub records : ℕ
-
--- all folders, by number, and all streams, by site; how many lives were begun, and how many asks were asked; what each of them is;
--- all that askers were told; and the greatest turn of the token that was passed
-pub record Shop : Type 0 where
-  pub folder : ℕ → Folder
-  pub stream : ℕ → List Packet
-  pub begun : ℕ
-  pub asks : ℕ
-  pub request : ℕ → Request
-  pub told : List Told
-  pub turn : ℕ
-
 -- a folder that has nothing: a new one, or one that was lost
 abbrev pub empty : ℕ → Folder
 empty i = record { site = i; kept = []; life = 0; is_open = false; remembered = false; served = []; waiting = []; given = []; lines = []; answered = [] }
 
--- folder i is that of site i, until it becomes a copy of another one. Nothing was sent
+-- The folders, by number, and the streams, by site: those that aren't listed have nothing. How many lives were begun; the asks that were
+-- asked, from number 1 on; the sites that yield to a standby; those of which a folder was ever opened that was compared with nothing;
+-- all that askers were told; and the greatest turn of the token that was passed
+pub record Shop : Type 0 where
+  pub folders : List Folder
+  pub streams : List (List ShopPacket)
+  pub begun : ℕ
+  pub requests : List ShopRequest
+  pub yielding : List ℕ
+  pub uncompared : List ℕ
+  pub told : List Notice
+  pub turn : ℕ
+
+-- nothing has happened
 abbrev pub start : Shop
-start = record { folder = empty; stream = λ i. []; begun = 0; asks = 0; request = λ r. record { life = 0; records = 0 }; told = []; turn = 0 }
+start = record { folders = []; streams = []; begun = 0; requests = []; yielding = []; uncompared = []; told = []; turn = 0 }
+
+-- ---- by number
+
+-- the list with x under that number; what comes to be listed before it has nothing
+abbrev pub put : {A : Type 0} → (ℕ → A) → ℕ → A → List A → List A
+put nothing zero x [] = x ∷ []
+put nothing zero x (y ∷ ys) = x ∷ ys
+put nothing (suc k) x [] = nothing 0 ∷ put (λ j. nothing (suc j)) k x []
+put nothing (suc k) x (y ∷ ys) = y ∷ put (λ j. nothing (suc j)) k x ys
+
+-- folder k is that of site k, until it becomes a copy of another one
+abbrev pub folder_in : List Folder → ℕ → Folder
+folder_in folders k = get_or folders k (empty k)
+
+abbrev pub stream_in : List (List ShopPacket) → ℕ → List ShopPacket
+stream_in streams i = get_or streams i []
+
+abbrev pub request_in : List ShopRequest → ℕ → ShopRequest
+request_in requests zero = record { life = 0; records = 0 }
+request_in requests (suc r) = get_or requests r (record { life = 0; records = 0 })
+
+abbrev pub folder : Shop → ℕ → Folder
+folder s k = folder_in s.folders k
+
+abbrev pub stream : Shop → ℕ → List ShopPacket
+stream s i = stream_in s.streams i
+
+abbrev pub request : Shop → ℕ → ShopRequest
+request s r = request_in s.requests r
+
+-- how many asks were asked
+abbrev pub asks : Shop → ℕ
+asks s = length s.requests
+
+abbrev pub put_folder : ℕ → Folder → List Folder → List Folder
+put_folder k f folders = put empty k f folders
+
+abbrev pub put_stream : ℕ → List ShopPacket → List (List ShopPacket) → List (List ShopPacket)
+put_stream i xs streams = put (λ j. []) i xs streams
+
+-- the shop with another folder of this number
+abbrev pub with_folder : ℕ → Folder → Shop → Shop
+with_folder k f s = record s { folders = put_folder k f s.folders }
+
+-- the shop with another stream of this site
+abbrev pub with_stream : ℕ → List ShopPacket → Shop → Shop
+with_stream i xs s = record s { streams = put_stream i xs s.streams }
 
 -- where packets are
 pub data Place : Type 0 where
   InFolder : (folder : ℕ) → Place
   InStream : (site : ℕ) → Place
 
-abbrev pub there : Shop → Place → List Packet
-there s (InFolder k) = (s.folder k).kept
-there s (InStream i) = s.stream i
-
--- the same, but for that number
-abbrev pub put : {A : Type 0} → ℕ → A → (ℕ → A) → ℕ → A
-put k x f j = cond (j == k) x (f j)
-
-abbrev pub with_folder : ℕ → Folder → Shop → Shop
-with_folder k f s = record s { folder = put k f s.folder }
-
-abbrev pub with_stream : ℕ → List Packet → Shop → Shop
-with_stream i xs s = record s { stream = put i xs s.stream }
+-- the packets that stand at a place
+abbrev pub there : Shop → Place → List ShopPacket
+there s (InFolder k) = (folder s k).kept
+there s (InStream i) = stream s i
 
 -- ---- may a site take asks?
 
 -- nothing of the folder's site stands there under a number, or a turn, that is greater than those of the folder
 abbrev pub IsNotAhead : Shop → ℕ → Place → Type 0
-IsNotAhead s k h = (x : Packet) → Has x (there s h) → sender x ≡ (s.folder k).site → IsReached (s.folder k).site (s.folder k).kept x
+IsNotAhead s k h = (x : ShopPacket) → Has x (there s h) → sender x ≡ (folder s k).site → IsReached (folder s k).site (folder s k).kept x
 
 -- it was compared with everything that there is: all streams, all folders of other sites, and all copies
 abbrev pub IsCompared : Shop → ℕ → Type 0
@@ -91,10 +114,10 @@ IsCompared s k = (h : Place) → IsNotAhead s k h
 
 -- no other folder of its site takes asks
 abbrev pub IsAlone : Shop → ℕ → Type 0
-IsAlone s k = (j : ℕ) → (s.folder j).is_open ≡ true → (s.folder j).site ≡ (s.folder k).site → j ≡ k
+IsAlone s k = (j : ℕ) → (folder s j).is_open ≡ true → (folder s j).site ≡ (folder s k).site → j ≡ k
 
 -- a supervisor runs it, its machine remembers that it lacks nothing, or it was compared; and no other folder of the site is open
 pub record MayOpen (s : Shop) (k : ℕ) : Type 0 where
-  pub runs : 0 < (s.folder k).life
-  pub knows : ((s.folder k).remembered ≡ true) ⊎ IsCompared s k
+  pub runs : 0 < (folder s k).life
+  pub knows : ((folder s k).remembered ≡ true) ⊎ IsCompared s k
   pub alone : IsAlone s k

@@ -16,34 +16,39 @@ use Rattle.rubis_model.specs.Runs.{input_step}
 use Rattle.rubis_message.specs.declared.inputs.Input.TheVariants.{Asked, Came, Neither}
 use Rattle.rubis_model.specs.Settle.{counted}
 use Rattle.rubis_model.specs.Site.{Place, Replica, arrived, asked, opening_at, passed, took}
-use Rattle.rubis_carrier.specs.Packets.{Holds, Packet, highest, taken}
-use Rattle.rubis_carrier.specs.Packets.{Packet as known}
+use Rattle.rubis_carrier.specs.declared.values.ShopPacket.{ShopPacket}
+use Rattle.rubis_carrier.specs.declared.values.ShopPacket.TheVariants as known
+use Rattle.rubis_carrier.specs.Packets.{Holds, highest, taken}
 
 -- a message as the carrier knows it, if `ask` says of which ask each message was made
-abbrev pub known_as : (Message → ℕ) → Message → Packet
+abbrev pub known_as : (Message → ℕ) → Message → ShopPacket
 known_as ask m = known.Message m.stamp.id.site m.stamp.id.seq (ask m)
 
 -- ---- what one record sends, or takes in
 
-abbrev pub sent_by : (Message → ℕ) → Result Message Refusal → List Packet
+-- what an ask sends: its message, unless it is refused
+abbrev pub sent_by : (Message → ℕ) → Result Message Refusal → List ShopPacket
 sent_by ask (Ok m) = known_as ask m ∷ []
 sent_by ask (Err r) = []
 
-abbrev pub passed_by : Place → Replica → Result Token Refusal → List Packet
+-- what a pass sends: the pass with its turn, unless it is refused
+abbrev pub passed_by : Place → Replica → Result Token Refusal → List ShopPacket
 passed_by p s (Ok t) = known.Pass p.site t.turn t.to (counted p.site s.log) ∷ []
 passed_by p s (Err r) = []
 
-abbrev pub came_by : (Message → ℕ) → Place → Message → Result Arrival Refusal → List Packet
+-- what an arriving message brings: itself, unless it is refused or the site's own
+abbrev pub came_by : (Message → ℕ) → Place → Message → Result Arrival Refusal → List ShopPacket
 came_by ask p m (Ok a) = cond (m.stamp.id.site == p.site) [] (known_as ask m ∷ [])
 came_by ask p m (Err r) = []
 
 -- a token doesn't say who sent it: `from` does
-abbrev pub took_by : (Token → ℕ) → Token → Result Taken Refusal → List Packet
+abbrev pub took_by : (Token → ℕ) → Token → Result Taken Refusal → List ShopPacket
 took_by from t (Ok taken_as.Holding) = known.Pass (from t) t.turn t.to 0 ∷ []
 took_by from t (Ok taken_as.Repeat) = []
 took_by from t (Err r) = []
 
-abbrev pub packets_by : (Message → ℕ) → (Token → ℕ) → Place → Replica → Input → List Packet
+-- the packets that one record sends or takes in
+abbrev pub packets_by : (Message → ℕ) → (Token → ℕ) → Place → Replica → Input → List ShopPacket
 packets_by ask from p s (Asked (request.Ask a)) = sent_by ask (asked p s a).1
 packets_by ask from p s (Asked (request.Pass to)) = passed_by p s (passed p s to).1
 packets_by ask from p s (Asked (request.List l)) = []
@@ -54,13 +59,13 @@ packets_by ask from p s Neither = []
 -- ---- all records of a folder
 
 -- the first of which has that number
-abbrev pub packets_of : (Message → ℕ) → (Token → ℕ) → Place → Replica → ℕ → List (List (List ℕ)) → List Packet
+abbrev pub packets_of : (Message → ℕ) → (Token → ℕ) → Place → Replica → ℕ → List (List (List ℕ)) → List ShopPacket
 packets_of ask from p s n [] = []
 packets_of ask from p s n (fields ∷ rest) =
     packets_by ask from p s (input_of p.sites fields) ++ packets_of ask from p (input_step p s n (input_of p.sites fields)).0 (n + 1) rest
 
 -- what a site with that state, and these packets, gives next
-pub record GivesTheseNames (p : Place) (s : Replica) (kept : List Packet) : Type 0 where
+pub record GivesTheseNames (p : Place) (s : Replica) (kept : List ShopPacket) : Type 0 where
   -- a message that it accepts has its site, and the next number
   pub messages : (a : Ask) (m : Message) → (asked p s a).1 ≡ Ok m → (m.stamp.id.site ≡ p.site) × (m.stamp.id.seq ≡ highest p.site kept + 1)
   -- it passes the token on only where it holds it, under the next turn, and not to itself

@@ -1,21 +1,25 @@
 //! The laws of shops, each with its statement in specs/.
 
 ghost use Rattle.rubis_carrier.specs.Laws.{AnswersComeInOrder, AsksAreAcceptedOnce, ComparingIsNeeded, GivenAgainOnlyWhereLost, IdsAreGivenOnce, NothingAcceptedIsLost, TheFirstSiteHolds, TheTokenComesBack};
-ghost use Rattle.rubis_carrier.specs.Standby.{IdsAreToldOnce, NoIsTrueWithStandby, ToldStaysInStream};
+ghost use Rattle.rubis_carrier.specs.Standby.{IdsAreToldOnce, ToldStaysInStream, WhatYieldsIsPublished};
+ghost use Rattle.rubis_carrier.specs.Tests.{MayIsComputed};
 ghost use Rattle.rubis_carrier.specs.Sites.{SitesGiveTheseNames};
 ghost use Rattle.rubis_carrier.specs.Laws.{NobodyIsToldBoth, PublishedIsInStream, ToldOkIsKept, WhatIsOverStays, WhatIsToldIsTrue};
 
-/// Two messages of one site under one number, and two passes of one site under one turn, are the same one, in whatever folder or stream
-/// they stand at that moment. So a number is given again only where nothing is left that had the first. A site is asked to compare no
-/// more than it has to: if any place has a greater number of it, and it takes asks all the same, a number comes to be given twice.
+/// Two messages of one site under one number, and two passes of one site under one turn, are the same one, in whatever folders and streams
+/// they stand at that moment. So a number is given again only where nothing is left that had the first. Not so of a site of which a folder
+/// was ever opened that was compared with nothing: by a standby, or with `--alone`. A site is asked to compare no more than it has to: if
+/// any place has a greater number of it, and it takes asks all the same, a number comes to be given twice.
 pub fn ids_are_given_once()
     ensures once { IdsAreGivenOnce }
     ensures again { GivenAgainOnlyWhereLost }
     ensures needed { ComparingIsNeeded }
 {}
 
-/// The message of an ask that was told ok, under the id that was told, is in every folder that has read everything, as long as one of
-/// the places where it stood, a folder or a stream, is whole. Where it is told, it stands in the folder; with `--published`, in the stream.
+/// Where an ask is told ok, its message stands in the folder under the id that is told; with `--published`, in the stream. As long as a
+/// place where a message stood is whole, it stands there; and from a folder of its site, or that site's stream, each folder of another
+/// site comes to have it by starting folders and carrying packets alone. Over a server, of a site of which a folder was opened uncompared,
+/// from the stream alone.
 pub fn nothing_accepted_is_lost()
     ensures kept { ToldOkIsKept }
     ensures published { PublishedIsInStream }
@@ -47,11 +51,16 @@ pub fn sites_give_these_names()
     ensures { SitesGiveTheseNames }
 {}
 
-/// Sites with a standby, of which any folder may take asks at any time, compared with nothing: as long as the stream is whole, no two
-/// asks are told one id, by whichever folders, and what was told ok stands in the stream. Ok is told only once the message stands
-/// there, and a message is appended only as the next of its stream. An ask that was told no stands nowhere, then and for ever.
+/// Any folder of a site that yields to a standby may take over, compared with nothing, while others of it go on. From where a site yields,
+/// until it takes that back, all that is told ok of it stands in its stream, as long as that is whole; and no two asks are told one id
+/// there, by whichever folders, since from the first takeover on a message is appended only as the next of its stream.
 pub fn a_standby_takes_over()
     ensures once { IdsAreToldOnce }
     ensures stays { ToldStaysInStream }
-    ensures never { NoIsTrueWithStandby }
+    ensures yields { WhatYieldsIsPublished }
+{}
+
+/// Whether an event may happen is computed by a test.
+pub fn may_is_computed()
+    ensures { MayIsComputed }
 {}

@@ -4,7 +4,8 @@ ghost use Rattle.std.specs.Prelude.{◌≡◌, IfOk, IfSome};
 ghost use Rattle.rubis_decider.specs.Written.{step_text};
 
 use crate::written::is_text_of;
-use rubis_steps::{ShopEvent, ShopPacket};
+use rubis_carrier::ShopPacket;
+use rubis_steps::{FolderEvent, ShopEvent};
 use std::alloc::{AllocError, Global};
 
 fn packet_of(kind: &str, numbers: &[u64]) -> Option<ShopPacket> {
@@ -37,92 +38,72 @@ fn read_packet(alloc: Global, word: &str) -> Result<Option<ShopPacket>, AllocErr
     Ok(packet_of(kind, &numbers))
 }
 
-// The events that have a folder, or a stream, and no other number.
-fn event_of_one(kind: &str, folder: u64) -> Option<ShopEvent> {
+// What happens at a folder, and has no number of its own.
+fn plain_event(kind: &str) -> Option<FolderEvent> {
     match kind {
-        "Starts" => Some(ShopEvent::Starts { folder }),
-        "Opens" => Some(ShopEvent::Opens { folder }),
-        "Closes" => Some(ShopEvent::Closes { folder }),
-        "KeeperStarts" => Some(ShopEvent::KeeperStarts { folder }),
-        "IsKilled" => Some(ShopEvent::IsKilled { folder }),
-        "MachineStarts" => Some(ShopEvent::MachineStarts { folder }),
-        "IsLost" => Some(ShopEvent::IsLost { folder }),
-        "WritesAnew" => Some(ShopEvent::WritesAnew { folder }),
+        "Starts" => Some(FolderEvent::Starts),
+        "Opens" => Some(FolderEvent::Opens),
+        "TakesOver" => Some(FolderEvent::TakesOver),
+        "OpensAlone" => Some(FolderEvent::OpensAlone),
+        "Closes" => Some(FolderEvent::Closes),
+        "KeeperStarts" => Some(FolderEvent::KeeperStarts),
+        "IsKilled" => Some(FolderEvent::IsKilled),
+        "MachineStarts" => Some(FolderEvent::MachineStarts),
+        "IsLost" => Some(FolderEvent::IsLost),
+        "WritesAnew" => Some(FolderEvent::WritesAnew),
         _ => None,
     }
 }
 
-// Those that have two.
-fn event_of_two(kind: &str, folder: u64, other: u64) -> Option<ShopEvent> {
+// What has a number.
+fn event_with(kind: &str, number: u64) -> Option<FolderEvent> {
     match kind {
-        "Serves" => Some(ShopEvent::Serves { folder, ask: other }),
-        "Gives" => Some(ShopEvent::Gives { folder, ask: other }),
-        "Accepts" => Some(ShopEvent::Accepts { folder, ask: other }),
-        "Refuses" => Some(ShopEvent::Refuses { folder, ask: other }),
-        "TellsNothing" => Some(ShopEvent::TellsNothing { folder, ask: other }),
-        "TellsUnknown" => Some(ShopEvent::TellsUnknown { folder, ask: other }),
-        "Passes" => Some(ShopEvent::Passes { folder, to: other }),
-        "LosesEnd" => Some(ShopEvent::LosesEnd {
-            folder,
-            count: other,
-        }),
-        "IsCopied" => Some(ShopEvent::IsCopied { folder, other }),
-        "StreamLosesEnd" => Some(ShopEvent::StreamLosesEnd {
-            site: folder,
-            count: other,
-        }),
+        "Serves" => Some(FolderEvent::Serves(number)),
+        "Gives" => Some(FolderEvent::Gives(number)),
+        "Accepts" => Some(FolderEvent::Accepts(number)),
+        "Refuses" => Some(FolderEvent::Refuses(number)),
+        "TellsNothing" => Some(FolderEvent::TellsNothing(number)),
+        "TellsUnknown" => Some(FolderEvent::TellsUnknown(number)),
+        "Passes" => Some(FolderEvent::Passes(number)),
+        "LosesEnd" => Some(FolderEvent::LosesEnd(number)),
+        "IsCopied" => Some(FolderEvent::IsCopied(number)),
         _ => None,
     }
 }
 
-// Those that have three.
-fn event_of_three(kind: &str, first: u64, second: u64, third: u64) -> Option<ShopEvent> {
-    match kind {
-        "IsAsked" => Some(ShopEvent::IsAsked {
-            ask: first,
-            life: second,
-            records: third,
-        }),
-        "TellsOk" => Some(ShopEvent::TellsOk {
-            folder: first,
-            ask: second,
-            number: third,
-        }),
-        "TellsPublished" => Some(ShopEvent::TellsPublished {
-            folder: first,
-            ask: second,
-            number: third,
-        }),
+// What has packets.
+fn event_of_packets(kind: &str, packets: Vec<ShopPacket>) -> Option<FolderEvent> {
+    match (kind, packets.as_slice()) {
+        ("Appends", [packet]) => Some(FolderEvent::Appends(*packet)),
+        ("Reads", [packet]) => Some(FolderEvent::Reads(*packet)),
+        ("IsChanged", _) => Some(FolderEvent::IsChanged(packets)),
+        ("Rebuilds", _) => Some(FolderEvent::Rebuilds(packets)),
         _ => None,
     }
 }
 
-// Those of a packet.
-fn event_of_packet(kind: &str, folder: u64, packet: ShopPacket) -> Option<ShopEvent> {
-    match kind {
-        "Appends" => Some(ShopEvent::Appends { folder, packet }),
-        "Reads" => Some(ShopEvent::Reads { folder, packet }),
-        _ => None,
-    }
-}
-
-// Those of any packets.
-fn event_of_packets(kind: &str, folder: u64, packets: Vec<ShopPacket>) -> Option<ShopEvent> {
-    match kind {
-        "IsChanged" => Some(ShopEvent::IsChanged { folder, packets }),
-        "Rebuilds" => Some(ShopEvent::Rebuilds { folder, packets }),
+fn event_at(kind: &str, numbers: &[u64], packets: Vec<ShopPacket>) -> Option<FolderEvent> {
+    match (kind, numbers) {
+        ("Appends" | "Reads" | "IsChanged" | "Rebuilds", []) => event_of_packets(kind, packets),
+        ("TellsOk", [ask, number]) => Some(FolderEvent::TellsOk(*ask, *number)),
+        ("TellsPublished", [ask, number]) => Some(FolderEvent::TellsPublished(*ask, *number)),
+        (_, [number]) => event_with(kind, *number),
+        (_, []) => plain_event(kind),
         _ => None,
     }
 }
 
 fn event_of(kind: &str, numbers: &[u64], packets: Vec<ShopPacket>) -> Option<ShopEvent> {
-    match (kind, numbers, packets.as_slice()) {
-        ("ServerLosesAll", [], []) => Some(ShopEvent::ServerLosesAll),
-        ("Appends" | "Reads", [folder], [packet]) => event_of_packet(kind, *folder, *packet),
-        ("IsChanged" | "Rebuilds", [folder], _) => event_of_packets(kind, *folder, packets),
-        (_, [folder], []) => event_of_one(kind, *folder),
-        (_, [folder, other], []) => event_of_two(kind, *folder, *other),
-        (_, [first, second, third], []) => event_of_three(kind, *first, *second, *third),
+    match (kind, numbers) {
+        ("ServerLosesAll", []) => Some(ShopEvent::ServerLosesAll),
+        ("Yields", [site]) => Some(ShopEvent::Yields(*site)),
+        ("TakesBack", [site]) => Some(ShopEvent::TakesBack(*site)),
+        ("StreamLosesEnd", [site, count]) => Some(ShopEvent::StreamLosesEnd(*site, *count)),
+        ("IsAsked", [ask, life, records]) => Some(ShopEvent::IsAsked(*ask, *life, *records)),
+        (_, [folder, rest @ ..]) => match event_at(kind, rest, packets) {
+            Some(what) => Some(ShopEvent::At(*folder, what)),
+            None => None,
+        },
         _ => None,
     }
 }

@@ -7,7 +7,8 @@ mod written;
 
 use anyhow::{Result, bail};
 use lines::read_event;
-use rubis_steps::{Carrier, ShopEvent, decide};
+use rubis_carrier::Carrier;
+use rubis_steps::{ShopEvent, decide};
 use std::alloc::Global;
 use std::io::{BufRead, BufReader};
 

@@ -2,9 +2,10 @@
 //! `m:SITE:NUMBER:ASK`, and a pass of the token `p:SITE:TURN:TO:AFTER`.
 
 ghost use Rattle.std.specs.Prelude.{◌≡◌, ◌++◌, IfOk, OnOk, string_bytes, true};
-ghost use Rattle.rubis_decider.specs.Written.{comma, packet_text, packets_text, step_text};
+ghost use Rattle.rubis_decider.specs.Written.{at_text, comma, packet_text, packets_text, step_text};
 
-use rubis_steps::{ShopEvent, ShopPacket};
+use rubis_carrier::ShopPacket;
+use rubis_steps::{FolderEvent, ShopEvent};
 use std::alloc::{AllocError, Global};
 
 // Puts a packet behind the text.
@@ -76,50 +77,56 @@ fn of_packets(
     Ok(text)
 }
 
+// The line of what happens at a folder.
+fn text_at(alloc: Global, folder: u64, what: &FolderEvent) -> Result<String, AllocError>
+    ensures { IfOk result (λ text. string_bytes text ≡ at_text folder what.now) }
+{
+    match what {
+        FolderEvent::Starts => one(alloc, "Starts", folder),
+        FolderEvent::Opens => one(alloc, "Opens", folder),
+        FolderEvent::TakesOver => one(alloc, "TakesOver", folder),
+        FolderEvent::OpensAlone => one(alloc, "OpensAlone", folder),
+        FolderEvent::Closes => one(alloc, "Closes", folder),
+        FolderEvent::KeeperStarts => one(alloc, "KeeperStarts", folder),
+        FolderEvent::IsKilled => one(alloc, "IsKilled", folder),
+        FolderEvent::MachineStarts => one(alloc, "MachineStarts", folder),
+        FolderEvent::Serves(ask) => two(alloc, "Serves", folder, *ask),
+        FolderEvent::Gives(ask) => two(alloc, "Gives", folder, *ask),
+        FolderEvent::Accepts(ask) => two(alloc, "Accepts", folder, *ask),
+        FolderEvent::Refuses(ask) => two(alloc, "Refuses", folder, *ask),
+        FolderEvent::TellsOk(ask, number) => three(alloc, "TellsOk", folder, *ask, *number),
+        FolderEvent::TellsPublished(ask, number) => three(
+            alloc,
+            "TellsPublished",
+            folder,
+            *ask,
+            *number,
+        ),
+        FolderEvent::TellsNothing(ask) => two(alloc, "TellsNothing", folder, *ask),
+        FolderEvent::TellsUnknown(ask) => two(alloc, "TellsUnknown", folder, *ask),
+        FolderEvent::Passes(to) => two(alloc, "Passes", folder, *to),
+        FolderEvent::Appends(packet) => of_packet(alloc, "Appends", folder, *packet),
+        FolderEvent::Reads(packet) => of_packet(alloc, "Reads", folder, *packet),
+        FolderEvent::LosesEnd(count) => two(alloc, "LosesEnd", folder, *count),
+        FolderEvent::IsChanged(packets) => of_packets(alloc, "IsChanged", folder, packets),
+        FolderEvent::IsLost => one(alloc, "IsLost", folder),
+        FolderEvent::IsCopied(other) => two(alloc, "IsCopied", folder, *other),
+        FolderEvent::Rebuilds(packets) => of_packets(alloc, "Rebuilds", folder, packets),
+        FolderEvent::WritesAnew => one(alloc, "WritesAnew", folder),
+    }
+}
+
 /// The line that the step is.
 pub(crate) fn text_of(alloc: Global, event: &ShopEvent) -> Result<String, AllocError>
     ensures { IfOk result (λ text. string_bytes text ≡ step_text event.now) }
 {
     match event {
-        ShopEvent::Starts { folder } => one(alloc, "Starts", *folder),
-        ShopEvent::Opens { folder } => one(alloc, "Opens", *folder),
-        ShopEvent::Closes { folder } => one(alloc, "Closes", *folder),
-        ShopEvent::KeeperStarts { folder } => one(alloc, "KeeperStarts", *folder),
-        ShopEvent::IsKilled { folder } => one(alloc, "IsKilled", *folder),
-        ShopEvent::MachineStarts { folder } => one(alloc, "MachineStarts", *folder),
-        ShopEvent::IsAsked { ask, life, records } => three(alloc, "IsAsked", *ask, *life, *records),
-        ShopEvent::Serves { folder, ask } => two(alloc, "Serves", *folder, *ask),
-        ShopEvent::Gives { folder, ask } => two(alloc, "Gives", *folder, *ask),
-        ShopEvent::Accepts { folder, ask } => two(alloc, "Accepts", *folder, *ask),
-        ShopEvent::Refuses { folder, ask } => two(alloc, "Refuses", *folder, *ask),
-        ShopEvent::TellsOk {
-            folder,
-            ask,
-            number,
-        } => three(alloc, "TellsOk", *folder, *ask, *number),
-        ShopEvent::TellsPublished {
-            folder,
-            ask,
-            number,
-        } => three(alloc, "TellsPublished", *folder, *ask, *number),
-        ShopEvent::TellsNothing { folder, ask } => two(alloc, "TellsNothing", *folder, *ask),
-        ShopEvent::TellsUnknown { folder, ask } => two(alloc, "TellsUnknown", *folder, *ask),
-        ShopEvent::Passes { folder, to } => two(alloc, "Passes", *folder, *to),
-        ShopEvent::Appends { folder, packet } => of_packet(alloc, "Appends", *folder, *packet),
-        ShopEvent::Reads { folder, packet } => of_packet(alloc, "Reads", *folder, *packet),
-        ShopEvent::LosesEnd { folder, count } => two(alloc, "LosesEnd", *folder, *count),
-        ShopEvent::IsChanged { folder, packets } => of_packets(
-            alloc,
-            "IsChanged",
-            *folder,
-            packets,
-        ),
-        ShopEvent::IsLost { folder } => one(alloc, "IsLost", *folder),
-        ShopEvent::IsCopied { folder, other } => two(alloc, "IsCopied", *folder, *other),
-        ShopEvent::StreamLosesEnd { site, count } => two(alloc, "StreamLosesEnd", *site, *count),
+        ShopEvent::At(folder, what) => text_at(alloc, *folder, what),
+        ShopEvent::IsAsked(ask, life, records) => three(alloc, "IsAsked", *ask, *life, *records),
+        ShopEvent::Yields(site) => one(alloc, "Yields", *site),
+        ShopEvent::TakesBack(site) => one(alloc, "TakesBack", *site),
+        ShopEvent::StreamLosesEnd(site, count) => two(alloc, "StreamLosesEnd", *site, *count),
         ShopEvent::ServerLosesAll => String::from_str(alloc, "ServerLosesAll"),
-        ShopEvent::Rebuilds { folder, packets } => of_packets(alloc, "Rebuilds", *folder, packets),
-        ShopEvent::WritesAnew { folder } => one(alloc, "WritesAnew", *folder),
     }
 }
 

@@ -1,224 +1,217 @@
--- What each event leads to: what the code changes is what the model does.
-use Rattle.std.proofs.Common.{◌≡◌, ◌∙◌, ◌<◌, ◌+◌, ◌++◌, ◌∷◌, [], ℕ, true, List, refl, sym, ap, subst, length, get_or, set, take}
+-- What the code changes is what the model does: folders and streams by number, of which those that aren't listed have nothing.
+use Rattle.std.proofs.Common.{◌≡◌, ◌∙◌, ◌≤◌, ◌<◌, ◌+◌, ◌++◌, ◌∷◌, [], ℕ, List, refl, sym, ap, ap₂, arith, length, get_or, set, map, drop, take, ◌-◌}
+use Rattle.std.specs.Prelude.{zero, suc, ◌&&◌, ◌||◌, ◌==◌, true, false, Bool}
 use Rattle.std.specs.Global.{Vec}
 use Rattle.std.specs.Vec.{with_item}
-use Rattle.std.proofs.lemmas.List.{length_push, map_push, take-map}
-use Rattle.rubis_carrier.specs.Packets.{Packet, own, sender, unchanged}
-use Rattle.rubis_carrier.specs.Shops.{Folder, Request, Shop, Told, empty, put, with_folder, with_stream}
-use Rattle.rubis_carrier.specs.Events.{accepting, answering, closed, forgotten, giving, keeping, next_pass, replaced, started, stopped, unknown, without}
-use Rattle.rubis_carrier.specs.Events.Event.{Accepts, Appends, Gives, IsAsked, IsChanged, IsCopied, IsKilled, IsLost, LosesEnd}
-use Rattle.rubis_carrier.specs.Events.Event.{MachineStarts, Opens, Passes, Reads, Rebuilds, Refuses, Serves, ServerLosesAll, Starts, StreamLosesEnd}
-use Rattle.rubis_carrier.specs.Events.Event.{Closes, TellsNothing, TellsOk, TellsPublished, TellsUnknown, WritesAnew}
-use Rattle.rubis_steps.specs.declared.events.ShopRequest.{ShopRequest}
+use Rattle.std.specs.List.{list_all, list_any}
+use Rattle.std.proofs.lemmas.List.{drop-set-lt, drop_more, get_or-map, get_or_past, length-map, map-set, map_push, take_more, take_more_set}
+use Rattle.std.proofs.lemmas.Grind.{drop_more_same}
+use Rattle.rubis_carrier.specs.declared.values.Carrier.{Carrier}
+use Rattle.rubis_carrier.specs.declared.values.ShopPacket.{ShopPacket}
+use Rattle.rubis_carrier.specs.declared.values.ShopRequest.{ShopRequest}
+use Rattle.rubis_carrier.specs.Shops.{Folder, Shop, empty, folder, folder_in, put, put_folder, put_stream, request_in, stream_in, with_folder, with_stream}
+use Rattle.rubis_carrier.specs.Events.{forgotten, opened, opening}
+use Rattle.rubis_carrier.specs.declared.values.Carrier.TheVariants.{Files}
+use Rattle.rubis_carrier.specs.Packets.{sender}
+use Rattle.rubis_carrier.specs.Tests.{are_reached, has_packet, is_offered, is_somewhere, may, reaches_all}
+use Rattle.rubis_steps.specs.Parts.{are_found, folders_reached, in_own_folder, streams_reached}
+use Rattle.rubis_carrier.proofs.PutFacts.{forget_in}
+use Rattle.rubis_steps.specs.declared.events.FolderEvent.{FolderEvent}
+use Rattle.rubis_steps.specs.declared.events.FolderEvent.TheVariants as at
 use Rattle.rubis_steps.specs.declared.folders.Folder.{Folder as CodeFolder}
-use Rattle.rubis_steps.specs.declared.packets.ShopPacket.{ShopPacket}
 use Rattle.rubis_steps.specs.declared.shops.Shop.{Shop as CodeShop}
-use Rattle.rubis_steps.specs.Answers.{Leads}
-use Rattle.rubis_steps.specs.Finite.{IsAs, folder_at, folder_of, packet_of, packets_of, request_at, request_of, serving, stream_at, stream_of}
-use Rattle.rubis_steps.proofs.ByNumber.{folder_put, folder_read, request_put, stream_read}
-use Rattle.rubis_steps.proofs.Steps.{IsElse, changes, its_folder, with_folders, with_streams}
+use Rattle.rubis_steps.specs.Answers.{IsListed, IsStreamListed, may_at}
+use Rattle.rubis_steps.specs.Views.{at_folder, folder_at, folder_of, folders_of, packets_of, shop_of, stream_at, streams_of}
 
--- one folder was changed, and nothing else
-pub record Changed (old new : CodeShop) (k : ℕ) (f g : CodeFolder) : Type 0 where
-  pub listed : k < length old.folders.items
-  pub read : f ≡ get_or old.folders.items k f
-  pub folders : new.folders.items ≡ set old.folders.items k g
-  pub streams : new.streams.items ≡ old.streams.items
-  pub rest : IsElse old new
+-- ---- any list by number
 
--- a list with another folder at one place
-abbrev pub with_new : CodeShop → ℕ → CodeFolder → CodeShop
-with_new old k g = record old { folders = with_item old.folders k g }
+module _ {A : Type 0} where
+  -- where it is listed, it is put there; and one more that has nothing changes nothing
+  pub put_set : (nothing : ℕ → A) (k : ℕ) (x : A) (xs : List A) → k < length xs → put nothing k x xs ≡ set xs k x
+  put_set nothing zero x [] l = absurd (omega (arith, l))
+  put_set nothing zero x (y ∷ ys) l = refl
+  put_set nothing (suc k) x [] l = absurd (omega (arith, l))
+  put_set nothing (suc k) x (y ∷ ys) l = ap (λ zs. y ∷ zs) (put_set (λ j. nothing (suc j)) k x ys (omega (arith, l)))
 
-pub changed : (old : CodeShop) (k : ℕ) (f g : CodeFolder) → k < length old.folders.items → f ≡ get_or old.folders.items k f
-    → Changed old (with_new old k g) k f g
-changed old k f g lt read =
-    record { listed = lt; read = read; folders = refl; streams = refl; rest = record { begun = refl; requests = refl } }
+  pub put_more : (nothing : ℕ → A) (k : ℕ) (x : A) (xs : List A) → length xs ≤ k → put nothing k x (xs ++ nothing (length xs) ∷ []) ≡ put nothing k x xs
+  put_more nothing zero x [] l = refl
+  put_more nothing (suc k) x [] l = refl
+  put_more nothing zero x (y ∷ ys) l = absurd (omega (arith, l))
+  put_more nothing (suc k) x (y ∷ ys) l = ap (λ zs. y ∷ zs) (put_more (λ j. nothing (suc j)) k x ys (omega (arith, l)))
 
-changes_by : (F : Folder → Folder) (old new : CodeShop) (k : ℕ) (f g : CodeFolder) → Changed old new k f g → folder_of g ≡ F (folder_of f)
-    → (s : Shop) → IsAs old s → IsAs new (with_folder k (F (s.folder k)) s)
-changes_by F old new k f g c e = changes F old new k f g c.listed c.read e c.folders c.streams c.rest
+  pub at_more : (nothing : ℕ → A) (k : ℕ) (xs : List A) → get_or (xs ++ nothing (length xs) ∷ []) k (nothing k) ≡ get_or xs k (nothing k)
+  at_more nothing zero [] = refl
+  at_more nothing (suc k) [] = refl
+  at_more nothing zero (y ∷ ys) = refl
+  at_more nothing (suc k) (y ∷ ys) = at_more (λ j. nothing (suc j)) k ys
 
--- what askers were told, and the turn, no event looks at
-with_told : (c : CodeShop) (s : Shop) (told : List Told) (turn : ℕ) → IsAs c s → IsAs c (record s { told = told; turn = turn })
-with_told c s told turn is = record { folders = is.folders; streams = is.streams; begun = is.begun; asks = is.asks; requests = is.requests }
+-- all, and some, of what stands for each
+pub all_map : {A B : Type 0} (f : A → B) (q : B → Bool) (xs : List A) → list_all q (map f xs) ≡ list_all (λ x. q (f x)) xs
+all_map f q [] = refl
+all_map f q (x ∷ xs) = ap (λ b. q (f x) && b) (all_map f q xs)
 
-module _ (old new : CodeShop) (k : ℕ) (f g : CodeFolder) (c : Changed old new k f g) where
-  pub leads_closes : folder_of g ≡ closed (folder_of f) → Leads (Closes k) old new
-  leads_closes e = changes_by closed old new k f g c e
+pub any_map : {A B : Type 0} (f : A → B) (q : B → Bool) (xs : List A) → list_any q (map f xs) ≡ list_any (λ x. q (f x)) xs
+any_map f q [] = refl
+any_map f q (x ∷ xs) = ap (λ b. q (f x) || b) (any_map f q xs)
 
-  pub leads_killed : folder_of g ≡ stopped (folder_of f) → Leads (IsKilled k) old new
-  leads_killed e = changes_by stopped old new k f g c e
+pub second : (a b r : Bool) → a ≡ true → r ≡ b → r ≡ (a && b)
+second a b r e f = f ∙ ap (λ t. t && b) (sym e)
 
-  pub leads_machine : folder_of g ≡ unknown (folder_of f) → Leads (MachineStarts k) old new
-  leads_machine e = changes_by unknown old new k f g c e
+pub first_false : (a b r : Bool) → a ≡ false → r ≡ a → r ≡ (a && b)
+first_false a b r e f = f ∙ e ∙ ap (λ t. t && b) (sym e)
 
-  pub leads_serves : (r : ℕ) → folder_of g ≡ serving (folder_of f) r → Leads (Serves k r) old new
-  leads_serves r e = changes_by (λ x. serving x r) old new k f g c e
+-- ---- what stands somewhere
 
-  pub leads_accepts : (r : ℕ) → folder_of g ≡ accepting (folder_of f) r → Leads (Accepts k r) old new
-  leads_accepts r e = changes_by (λ x. accepting x r) old new k f g c e
+pub compared_is : (s : CodeShop) (i number turn : ℕ)
+    → (folders_reached i number turn s.folders.items && streams_reached i number turn s.streams.items) ≡ reaches_all i number turn (shop_of s)
+compared_is s i number turn = sym (ap₂ (λ a b. a && b) (all_map folder_of (λ f. are_reached i number turn f.kept) s.folders.items)
+    (all_map packets_of (λ xs. are_reached i number turn xs) s.streams.items))
 
-  pub leads_refuses : (r : ℕ) → folder_of g ≡ answering (folder_of f) → Leads (Refuses k r) old new
-  leads_refuses r e s is = with_told new (with_folder k (answering (s.folder k)) s) _ s.turn (changes_by answering old new k f g c e s is)
+pub offered_is : (s : CodeShop) (x : ShopPacket) → in_own_folder x s.folders.items ≡ is_offered Files (shop_of s) x
+offered_is s x = sym (any_map folder_of (λ f. (f.site == sender x) && has_packet x f.kept) s.folders.items)
 
-  pub leads_nothing : (r : ℕ) → folder_of g ≡ record (folder_of f) { waiting = without r (folder_of f).waiting } → Leads (TellsNothing k r) old new
-  leads_nothing r e s is =
-      with_told new (with_folder k (record (s.folder k) { waiting = without r (s.folder k).waiting }) s) _ s.turn
-      (changes_by (λ x. record x { waiting = without r x.waiting }) old new k f g c e s is)
+pub found_is : (s : CodeShop) (packets : List ShopPacket) → are_found s.folders.items s.streams.items packets ≡ list_all (λ x. is_somewhere (shop_of s) x) packets
+found_is s [] = refl
+found_is s (x ∷ packets) = ap₂ (λ a b. a && b)
+    (sym (ap₂ (λ a b. a || b) (any_map folder_of (λ f. has_packet x f.kept) s.folders.items) (any_map packets_of (λ xs. has_packet x xs) s.streams.items)))
+    (found_is s packets)
 
-  pub leads_passes : (to : ℕ) → folder_of g ≡ keeping (folder_of f) (next_pass (folder_of f) to) → Leads (Passes k to) old new
-  leads_passes to e s is =
-      with_told new (with_folder k (keeping (s.folder k) (next_pass (s.folder k) to)) s) s.told _
-      (changes_by (λ x. keeping x (next_pass x to)) old new k f g c e s is)
+-- ---- folders and streams
 
-  pub leads_reads : (x : Packet) → folder_of g ≡ keeping (folder_of f) x → Leads (Reads k x) old new
-  leads_reads x e = changes_by (λ y. keeping y x) old new k f g c e
+pub is_listed : (s : CodeShop) (k : ℕ) → k < length s.folders.items → IsListed k s s
+is_listed s k l = record { listed = l; here = refl; same = λ f. refl }
 
-  pub leads_loses : (n : ℕ) → folder_of g ≡ replaced (folder_of f) (take n (folder_of f).kept) → Leads (LosesEnd k n) old new
-  leads_loses n e = changes_by (λ x. replaced x (take n x.kept)) old new k f g c e
+-- one more folder
+pub list_more : (init old : CodeShop) (k : ℕ) (fs : Vec CodeFolder) (g : CodeFolder) → fs.items ≡ old.folders.items ++ g ∷ []
+    → folder_of g ≡ empty (length old.folders.items) → length old.folders.items ≤ k
+    → ((f : Folder) → with_folder k f (shop_of old) ≡ with_folder k f (shop_of init)) → folder_at old k ≡ folder_at init k
+    → ((f : Folder) → with_folder k f (shop_of (record old { folders = fs })) ≡ with_folder k f (shop_of init))
+    × (folder_at (record old { folders = fs }) k ≡ folder_at init k)
+list_more init old k fs g e empty_is l same here =
+    let pushed : map folder_of fs.items ≡ folders_of old.folders ++ empty (length (folders_of old.folders)) ∷ [] =
+    ap (map folder_of) e ∙ map_push folder_of old.folders.items g ∙ ap (λ x. folders_of old.folders ++ x ∷ [])
+    (empty_is ∙ ap empty (sym (length-map old.folders.items folder_of))) in (
+      λ f. ap (λ gs. record (shop_of old) { folders = put_folder k f gs }) pushed
+          ∙ ap (λ gs. record (shop_of old) { folders = gs }) (put_more empty k f (folders_of old.folders) (omega (arith, l, length-map old.folders.items folder_of)))
+          ∙ same f,
+      ap (λ gs. folder_in gs k) pushed ∙ at_more empty k (folders_of old.folders) ∙ here,
+    )
 
-  pub leads_changed : (ps : List Packet) → folder_of g ≡ replaced (folder_of f) (unchanged (folder_of f).kept ps) → Leads (IsChanged k ps) old new
-  leads_changed ps e = changes_by (λ x. replaced x (unchanged x.kept ps)) old new k f g c e
+pub stream_list_more : (init old : CodeShop) (i : ℕ) (xs : Vec (Vec ShopPacket)) (v : Vec ShopPacket) → xs.items ≡ old.streams.items ++ v ∷ []
+    → v.items ≡ [] → length old.streams.items ≤ i
+    → ((ys : List ShopPacket) → with_stream i ys (shop_of old) ≡ with_stream i ys (shop_of init)) → stream_at old i ≡ stream_at init i
+    → ((ys : List ShopPacket) → with_stream i ys (shop_of (record old { streams = xs })) ≡ with_stream i ys (shop_of init))
+    × (stream_at (record old { streams = xs }) i ≡ stream_at init i)
+stream_list_more init old i xs v e none l same here =
+    let pushed : map packets_of xs.items ≡ streams_of old.streams ++ [] ∷ [] =
+    ap (map packets_of) e ∙ map_push packets_of old.streams.items v ∙ ap (λ x. streams_of old.streams ++ x ∷ []) none in (
+      λ ys. ap (λ zs. record (shop_of old) { streams = put_stream i ys zs }) pushed
+          ∙ ap (λ zs. record (shop_of old) { streams = zs }) (put_more (λ j. []) i ys (streams_of old.streams) (omega (arith, l, length-map old.streams.items packets_of)))
+          ∙ same ys,
+      ap (λ zs. stream_in zs i) pushed ∙ at_more (λ j. []) i (streams_of old.streams) ∙ here,
+    )
 
-  pub leads_lost : folder_of g ≡ empty (folder_of f).site → Leads (IsLost k) old new
-  leads_lost e = changes_by (λ x. empty x.site) old new k f g c e
+-- what stands there
+pub folder_read : (fs : List CodeFolder) (k : ℕ) (f : CodeFolder) → k < length fs → f ≡ get_or fs k f → folder_in (map folder_of fs) k ≡ folder_of f
+folder_read fs k f lt read = get_or-map folder_of fs k f (empty k) lt ∙ ap folder_of (sym read)
 
-  pub leads_rebuilds : (ps : List Packet) → folder_of g ≡ replaced (folder_of f) ps → Leads (Rebuilds k ps) old new
-  leads_rebuilds ps e = changes_by (λ x. replaced x ps) old new k f g c e
+pub folder_past : (fs : List CodeFolder) (k : ℕ) → length fs ≤ k → folder_in (map folder_of fs) k ≡ empty k
+folder_past fs k out = get_or_past (map folder_of fs) k (empty k) (omega (arith, length-map fs folder_of, out))
 
-  -- as many records as its text has
-  pub leads_gives : (r : ℕ) (q : ShopRequest) → request_of q ≡ request_at old.requests.items r → folder_of g ≡ giving (folder_of f) r q.records
-      → Leads (Gives k r) old new
-  leads_gives r q a e s is =
-      subst (λ (n : ℕ). IsAs new (with_folder k (giving (s.folder k) r n) s)) (ap (λ (x : Request). x.records) (a ∙ sym (is.requests r)))
-      (changes_by (λ x. giving x r q.records) old new k f g c e s is)
+pub stream_read : (xs : List (Vec ShopPacket)) (i : ℕ) (v : Vec ShopPacket) → i < length xs → v ≡ get_or xs i v → stream_in (map packets_of xs) i ≡ v.items
+stream_read xs i v lt read = get_or-map packets_of xs i v [] lt ∙ ap packets_of (sym read)
 
--- a folder is started, in the next life
-pub leads_starts : (old new : CodeShop) (k : ℕ) (f g : CodeFolder) → k < length old.folders.items → f ≡ get_or old.folders.items k f
-    → folder_of g ≡ started (folder_of f) (old.begun + 1) → new.folders.items ≡ set old.folders.items k g → new.streams.items ≡ old.streams.items
-    → new.begun ≡ old.begun + 1 → new.requests.items ≡ old.requests.items → Leads (Starts k) old new
-leads_starts old new k f g lt read e fs xs b rs s is =
-    let its = its_folder old s k f is lt read in
-    let same : folder_of g ≡ started (s.folder k) (s.begun + 1) =
-    e ∙ ap (λ n. started (folder_of f) (n + 1)) (sym is.begun) ∙ ap (λ x. started x (s.begun + 1)) (sym its) in
-    record {
-      folders = λ j. folder_put old.folders.items s.folder k g (started (s.folder k) (s.begun + 1)) is.folders lt same j ∙ ap (λ ys. folder_at ys j) (sym fs);
-      streams = λ i. is.streams i ∙ ap (λ ys. stream_at ys i) (sym xs);
-      begun = ap (λ n. n + 1) is.begun ∙ sym b;
-      asks = is.asks ∙ ap length (sym rs);
-      requests = λ r. is.requests r ∙ ap (λ ys. request_at ys r) (sym rs);
-    }
+-- a folder that is listed is replaced
+pub replaced_is : (old mid : CodeShop) (k : ℕ) (f g : CodeFolder) (F : Folder → Folder) → IsListed k old mid → f ≡ get_or mid.folders.items k f
+    → folder_of g ≡ F (folder_of f) → shop_of (record mid { folders = with_item mid.folders k g }) ≡ with_folder k (F (folder_at old k)) (shop_of old)
+replaced_is old mid k f g F l read e =
+    let fs = mid.folders.items in
+    let its : folder_at mid k ≡ folder_of f = folder_read fs k f l.listed read in
+    ap (λ gs. record (shop_of mid) { folders = gs })
+    (map-set folder_of fs k g ∙ sym (put_set empty k (folder_of g) (map folder_of fs) (omega (arith, length-map fs folder_of, l.listed))))
+    ∙ ap (λ h. with_folder k h (shop_of mid)) (e ∙ ap F (sym its ∙ l.here)) ∙ l.same (F (folder_at old k))
 
-abbrev opened : Folder → Folder
-opened x = record x { is_open = true; remembered = true }
+-- and a stream
+pub stream_replaced : (old mid : CodeShop) (i : ℕ) (v w : Vec ShopPacket) (F : List ShopPacket → List ShopPacket) → IsStreamListed i old mid
+    → v ≡ get_or mid.streams.items i v → w.items ≡ F v.items
+    → shop_of (record mid { streams = with_item mid.streams i w }) ≡ with_stream i (F (stream_at old i)) (shop_of old)
+stream_replaced old mid i v w F l read e =
+    let xs = mid.streams.items in
+    let its : stream_at mid i ≡ v.items = stream_read xs i v l.listed read in
+    ap (λ zs. record (shop_of mid) { streams = zs })
+    (map-set packets_of xs i w ∙ sym (put_set (λ j. []) i w.items (map packets_of xs) (omega (arith, length-map xs packets_of, l.listed))))
+    ∙ ap (λ h. with_stream i h (shop_of mid)) (e ∙ ap F (sym its ∙ l.here)) ∙ l.same (F (stream_at old i))
 
--- a site takes asks, and no other folder of it is remembered; `mid` are the folders once they were forgotten
-pub leads_opens : (old new : CodeShop) (mid : List CodeFolder) (k i : ℕ) (f g : CodeFolder) → k < length mid → f ≡ get_or mid k f
-    → ((j : ℕ) → folder_at mid j ≡ forgotten i (folder_at old.folders.items j)) → i ≡ (folder_at old.folders.items k).site
-    → folder_of g ≡ record (folder_of f) { is_open = true; remembered = true } → new.folders.items ≡ set mid k g
-    → new.streams.items ≡ old.streams.items → IsElse old new → Leads (Opens k) old new
-leads_opens old new mid k i f g lt read m at e fs xs rest s is = record {
-  folders = λ j. folder_put mid (λ n. forgotten (s.folder k).site (s.folder n)) k g (opened (s.folder k)) same lt now j ∙ ap (λ ys. folder_at ys j) (sym fs);
-  streams = λ j. is.streams j ∙ ap (λ ys. stream_at ys j) (sym xs);
-  begun = is.begun ∙ sym rest.begun;
-  asks = is.asks ∙ ap length (sym rest.requests);
-  requests = λ r. is.requests r ∙ ap (λ ys. request_at ys r) (sym rest.requests);
-}
-  where
-    same : (j : ℕ) → forgotten (s.folder k).site (s.folder j) ≡ folder_at mid j
-    same j =
-        ap (λ n. forgotten n (s.folder j)) (ap (λ (x : Folder). x.site) (is.folders k) ∙ sym at) ∙ ap (forgotten i) (is.folders j) ∙ sym (m j)
+-- ---- a folder opens
 
-    now : folder_of g ≡ opened (s.folder k)
-    now = e ∙ ap opened (sym (folder_read mid k f lt read) ∙ m k) ∙ ap opened (sym (is.folders k))
+-- all folders of the site were forgotten, that one was listed, and opens
+pub opens_is : (old first mid : CodeShop) (k : ℕ) (f g : CodeFolder) → shop_of first ≡ record (shop_of old) { folders = map (forgotten (folder_at old k).site) (folders_of old.folders) }
+    → IsListed k first mid → f ≡ get_or mid.folders.items k f → folder_of g ≡ opened (folder_of f)
+    → shop_of (record mid { folders = with_item mid.folders k g }) ≡ opening k (shop_of old)
+opens_is old first mid k f g e l read is =
+    replaced_is first mid k f g opened l read is ∙ ap (λ s. with_folder k (opened (folder s k)) s) e
+    ∙ ap (λ h. record (shop_of old) { folders = put_folder k (opened h) (map (forgotten (folder_at old k).site) (folders_of old.folders)) })
+    (forget_in (folder_at old k).site (folders_of old.folders) k)
 
--- a folder becomes a copy of another one
-pub leads_copied : (old new : CodeShop) (k j : ℕ) (f g : CodeFolder) → k < length old.folders.items → j < length old.folders.items
-    → f ≡ get_or old.folders.items k f → folder_of g ≡ unknown (folder_of f) → new.folders.items ≡ set old.folders.items j g
-    → new.streams.items ≡ old.streams.items → IsElse old new → Leads (IsCopied k j) old new
-leads_copied old new k j f g lt near read e fs xs rest s is =
-    with_folders old new s j g (unknown (s.folder k)) is near (e ∙ ap unknown (sym (its_folder old s k f is lt read))) fs xs rest
+-- ---- an event at a folder
 
--- only the first n packets are left
-pub cut_is : (m old : CodeFolder) (kept : List ShopPacket) (n : ℕ) → folder_of m ≡ unknown (folder_of old) → kept ≡ take n m.kept.items
-    → record (folder_of m) { kept = packets_of kept } ≡ replaced (folder_of old) (take n (packets_of old.kept.items))
-cut_is m old kept n e k =
-    ap (λ (x : Folder). record x { kept = packets_of kept }) e
-    ∙ ap (λ (ps : List Packet). record (unknown (folder_of old)) { kept = ps })
-    (ap packets_of k ∙ sym (take-map packet_of n m.kept.items) ∙ ap (take n) (ap (λ (x : Folder). x.kept) e))
-
--- those in front of the first that is another one
-pub change_is : (m old : CodeFolder) (kept found : List ShopPacket) (n : ℕ) → folder_of m ≡ unknown (folder_of old) → kept ≡ take n m.kept.items
-    → packets_of (take n old.kept.items) ≡ unchanged (packets_of old.kept.items) (packets_of found)
-    → record (folder_of m) { kept = packets_of kept } ≡ replaced (folder_of old) (unchanged (packets_of old.kept.items) (packets_of found))
-change_is m old kept found n e k u =
-    cut_is m old kept n e k
-    ∙ ap (λ (ps : List Packet). record (unknown (folder_of old)) { kept = ps }) (take-map packet_of n old.kept.items ∙ u)
-
--- ---- streams
-
--- one stream was changed, and nothing else
-pub record StreamChanged (old new : CodeShop) (i : ℕ) (v w : Vec ShopPacket) : Type 0 where
-  pub listed : i < length old.streams.items
-  pub read : v ≡ get_or old.streams.items i v
-  pub streams : new.streams.items ≡ set old.streams.items i w
-  pub folders : new.folders.items ≡ old.folders.items
-  pub rest : IsElse old new
-
-streams_by : (F : List Packet → List Packet) (old new : CodeShop) (i : ℕ) (v w : Vec ShopPacket) → StreamChanged old new i v w → stream_of w ≡ F (stream_of v)
-    → (s : Shop) → IsAs old s → IsAs new (with_stream i (F (s.stream i)) s)
-streams_by F old new i v w c e s is =
-    with_streams old new s i w (F (s.stream i)) is c.listed (e ∙ ap F (sym (is.streams i ∙ stream_read old.streams.items i v c.listed c.read)))
-    c.streams c.folders c.rest
-
-pub leads_appends : (old new : CodeShop) (k : ℕ) (x : ShopPacket) (v w : Vec ShopPacket) → StreamChanged old new (sender (packet_of x)) v w
-    → w.items ≡ v.items ++ x ∷ [] → Leads (Appends k (packet_of x)) old new
-leads_appends old new k x v w c e =
-    streams_by (λ xs. xs ++ packet_of x ∷ []) old new (sender (packet_of x)) v w c (ap packets_of e ∙ map_push packet_of v.items x)
-
-pub leads_stream_loses : (old new : CodeShop) (i n : ℕ) (v w : Vec ShopPacket) → StreamChanged old new i v w → w.items ≡ take n v.items
-    → Leads (StreamLosesEnd i n) old new
-leads_stream_loses old new i n v w c e = streams_by (take n) old new i v w c (ap packets_of e ∙ sym (take-map packet_of n v.items))
-
-pub leads_lost_all : (old new : CodeShop) → new.streams.items ≡ [] → new.folders.items ≡ old.folders.items → IsElse old new → Leads ServerLosesAll old new
-leads_lost_all old new e f rest s is = record {
-  folders = λ j. is.folders j ∙ ap (λ ys. folder_at ys j) (sym f);
-  streams = λ i. ap (λ ys. stream_at ys i) (sym e);
-  begun = is.begun ∙ sym rest.begun;
-  asks = is.asks ∙ ap length (sym rest.requests);
-  requests = λ r. is.requests r ∙ ap (λ ys. request_at ys r) (sym rest.requests);
-}
-
--- the stream of a folder's site becomes what that folder has of it
-pub leads_writes_anew : (old new : CodeShop) (k : ℕ) (f : CodeFolder) (w : Vec ShopPacket) → k < length old.folders.items
-    → f ≡ get_or old.folders.items k f → f.site < length old.streams.items → stream_of w ≡ own f.site (packets_of f.kept.items)
-    → new.streams.items ≡ set old.streams.items f.site w → new.folders.items ≡ old.folders.items → IsElse old new → Leads (WritesAnew k) old new
-leads_writes_anew old new k f w lt read near e xs fs rest s is =
-    subst (λ (x : Folder). IsAs new (with_stream x.site (own x.site x.kept) s)) (sym (its_folder old s k f is lt read))
-    (with_streams old new s f.site w (own f.site (packets_of f.kept.items)) is near e xs fs rest)
+pub may_at_is : (c : Carrier) (s : Shop) (k : ℕ) (what : FolderEvent) → may_at c s k (folder s k) what ≡ may c s (at_folder k what)
+may_at_is c s k at.Starts = refl
+may_at_is c s k at.Opens = refl
+may_at_is c s k at.TakesOver = refl
+may_at_is c s k at.OpensAlone = refl
+may_at_is c s k at.Closes = refl
+may_at_is c s k at.KeeperStarts = refl
+may_at_is c s k at.IsKilled = refl
+may_at_is c s k at.MachineStarts = refl
+may_at_is c s k (at.Serves r) = refl
+may_at_is c s k (at.Gives r) = refl
+may_at_is c s k (at.Accepts r) = refl
+may_at_is c s k (at.Refuses r) = refl
+may_at_is c s k (at.TellsOk r n) = refl
+may_at_is c s k (at.TellsPublished r n) = refl
+may_at_is c s k (at.TellsNothing r) = refl
+may_at_is c s k (at.TellsUnknown r) = refl
+may_at_is c s k (at.Passes to) = refl
+may_at_is c s k (at.Appends x) = refl
+may_at_is c s k (at.Reads x) = refl
+may_at_is c s k (at.LosesEnd n) = refl
+may_at_is c s k (at.IsChanged packets) = refl
+may_at_is c s k at.IsLost = refl
+may_at_is c s k (at.IsCopied j) = refl
+may_at_is c s k (at.Rebuilds packets) = refl
+may_at_is c s k at.WritesAnew = refl
 
 -- ---- asks
 
-pub leads_asked : (old new : CodeShop) (r life n : ℕ) (q : ShopRequest) → request_of q ≡ record { life = life; records = n }
-    → r ≡ length old.requests.items + 1 → new.requests.items ≡ old.requests.items ++ q ∷ [] → new.folders.items ≡ old.folders.items
-    → new.streams.items ≡ old.streams.items → new.begun ≡ old.begun → Leads (IsAsked r life n) old new
-leads_asked old new r life n q e next rs fs xs b s is = record {
-  folders = λ j. is.folders j ∙ ap (λ ys. folder_at ys j) (sym fs);
-  streams = λ j. is.streams j ∙ ap (λ ys. stream_at ys j) (sym xs);
-  begun = is.begun ∙ sym b;
-  asks = next ∙ sym (ap length rs ∙ length_push old.requests.items q);
-  requests = λ j. ap (λ x. put r x s.request j) (sym e) ∙ request_put old.requests.items s.request r q is.requests next j
-      ∙ ap (λ ys. request_at ys j) (sym rs);
-}
+pub request_read : (rs : List ShopRequest) (r : ℕ) (q : ShopRequest) → r - 1 < length rs → ¬ (r ≡ 0) → q ≡ get_or rs (r - 1) q → request_in rs r ≡ q
+request_read rs zero q lt n read = absurd (n refl)
+request_read rs (suc r) q lt n read =
+    let e : suc r - 1 ≡ r = omega arith in
+    let lt' : r < length rs = omega (arith, lt, e) in
+    get_or_any rs r _ q lt' ∙ sym (read ∙ ap (λ j. get_or rs j q) e)
+  where
+    get_or_any : (rs : List ShopRequest) (r : ℕ) (a b : ShopRequest) → r < length rs → get_or rs r a ≡ get_or rs r b
+    get_or_any [] r a b l = absurd (omega (arith, l))
+    get_or_any (x ∷ rs) zero a b l = refl
+    get_or_any (x ∷ rs) (suc r) a b l = get_or_any rs r a b (omega (arith, l))
 
--- ---- nothing changes
+-- ---- all folders of a site are forgotten
 
-pub leads_unknown : (c : CodeShop) (k r : ℕ) → Leads (TellsUnknown k r) c c
-leads_unknown c k r s is = with_told c s _ s.turn is
-
-pub leads_ok : (c : CodeShop) (k r n : ℕ) → Leads (TellsOk k r n) c c
-leads_ok c k r n s is = with_told c s _ s.turn is
-
-pub leads_published : (c : CodeShop) (k r n : ℕ) → Leads (TellsPublished k r n) c c
-leads_published c k r n s is = with_told c s _ s.turn is
+-- one folder more
+pub forget_more : (i : ℕ) (init fs : List CodeFolder) (at : ℕ) (f g : CodeFolder) → at < length fs → length fs ≡ length init → f ≡ get_or fs at f
+    → folder_of g ≡ forgotten i (folder_of f) → map folder_of (take at fs) ≡ map (forgotten i) (map folder_of (take at init))
+    → drop at fs ≡ drop at init
+    → (map folder_of (take (at + 1) (set fs at g)) ≡ map (forgotten i) (map folder_of (take (at + 1) init)))
+    × (drop (at + 1) (set fs at g) ≡ drop (at + 1) init)
+forget_more i init fs at f g lt many read e before rest =
+    let same : get_or init at f ≡ f =
+    ap (λ zs. get_or zs 0 f) (sym (drop_more init at f (omega (arith, lt, many))) ∙ sym rest ∙ drop_more fs at f lt) ∙ sym read in (
+      ap (map folder_of) (take_more_set fs at g lt) ∙ map_push folder_of (take at fs) g
+          ∙ ap (λ zs. zs ++ folder_of g ∷ []) before
+          ∙ ap (λ z. map (forgotten i) (map folder_of (take at init)) ++ z ∷ []) (e ∙ ap (λ x. forgotten i (folder_of x)) (sym same))
+          ∙ sym (map_push (forgotten i) (map folder_of (take at init)) (folder_of (get_or init at f)))
+          ∙ ap (map (forgotten i)) (sym (map_push folder_of (take at init) (get_or init at f)))
+          ∙ ap (λ zs. map (forgotten i) (map folder_of zs)) (sym (take_more init at f (omega (arith, lt, many)))),
+      drop-set-lt (at + 1) fs at g (omega arith) ∙ drop_more_same fs init at rest,
+    )

@@ -1,6 +1,2 @@
-pub mod Lists
-pub mod PacketFacts
-pub mod ByNumber
-pub mod AskFacts
-pub mod Steps
+pub mod Facts
 pub mod Leading

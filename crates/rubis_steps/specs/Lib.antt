@@ -1,3 +1,3 @@
-pub mod Finite
-pub mod Tests
+pub mod Parts
+pub mod Views
 pub mod Answers

@@ -1,118 +1,52 @@
-//! What carries packets, what an asker sends, and what happens to a shop.
+//! What happens to a shop, in the words of the model. Folders, sites, asks and lives go by their numbers.
 
-use crate::packets::ShopPacket;
+use rubis_carrier::ShopPacket;
 
-/// What carries packets: a site's folder itself, over files; or a stream for each site, on a server.
-#[derive(Clone, Copy)]
-pub enum Carrier {
-    Files,
-    Server,
+/// What happens at a folder.
+#[derive(Drop)]
+pub enum FolderEvent {
+    Starts,
+    Opens,
+    TakesOver,
+    OpensAlone,
+    Closes,
+    KeeperStarts,
+    IsKilled,
+    MachineStarts,
+    /// An ask.
+    Serves(u64),
+    Gives(u64),
+    Accepts(u64),
+    Refuses(u64),
+    /// An ask, and the number of its message.
+    TellsOk(u64, u64),
+    TellsPublished(u64, u64),
+    TellsNothing(u64),
+    TellsUnknown(u64),
+    /// To a site.
+    Passes(u64),
+    Appends(ShopPacket),
+    Reads(ShopPacket),
+    /// How many packets are left.
+    LosesEnd(u64),
+    IsChanged(Vec<ShopPacket>),
+    IsLost,
+    /// To another folder.
+    IsCopied(u64),
+    Rebuilds(Vec<ShopPacket>),
+    WritesAnew,
 }
 
-/// What an asker sends: which life is to serve it, and how many records its text has.
-#[derive(Clone, Copy)]
-pub struct ShopRequest {
-    pub life: u64,
-    pub records: u64,
-}
-
-/// What happens to a shop. Folders, sites, asks and lives go by their numbers.
+/// What happens to a shop.
 #[derive(Drop)]
 pub enum ShopEvent {
-    Starts {
-        folder: u64,
-    },
-    Opens {
-        folder: u64,
-    },
-    Closes {
-        folder: u64,
-    },
-    KeeperStarts {
-        folder: u64,
-    },
-    IsKilled {
-        folder: u64,
-    },
-    MachineStarts {
-        folder: u64,
-    },
-    IsAsked {
-        ask: u64,
-        life: u64,
-        records: u64,
-    },
-    Serves {
-        folder: u64,
-        ask: u64,
-    },
-    Gives {
-        folder: u64,
-        ask: u64,
-    },
-    Accepts {
-        folder: u64,
-        ask: u64,
-    },
-    Refuses {
-        folder: u64,
-        ask: u64,
-    },
-    TellsOk {
-        folder: u64,
-        ask: u64,
-        number: u64,
-    },
-    TellsPublished {
-        folder: u64,
-        ask: u64,
-        number: u64,
-    },
-    TellsNothing {
-        folder: u64,
-        ask: u64,
-    },
-    TellsUnknown {
-        folder: u64,
-        ask: u64,
-    },
-    Passes {
-        folder: u64,
-        to: u64,
-    },
-    Appends {
-        folder: u64,
-        packet: ShopPacket,
-    },
-    Reads {
-        folder: u64,
-        packet: ShopPacket,
-    },
-    LosesEnd {
-        folder: u64,
-        count: u64,
-    },
-    IsChanged {
-        folder: u64,
-        packets: Vec<ShopPacket>,
-    },
-    IsLost {
-        folder: u64,
-    },
-    IsCopied {
-        folder: u64,
-        other: u64,
-    },
-    StreamLosesEnd {
-        site: u64,
-        count: u64,
-    },
+    At(u64, FolderEvent),
+    /// An ask, the life that it names, and how many records it has.
+    IsAsked(u64, u64, u64),
+    /// A site.
+    Yields(u64),
+    TakesBack(u64),
+    /// A site, and how many packets its stream has left.
+    StreamLosesEnd(u64, u64),
     ServerLosesAll,
-    Rebuilds {
-        folder: u64,
-        packets: Vec<ShopPacket>,
-    },
-    WritesAnew {
-        folder: u64,
-    },
 }

@@ -1,57 +1,36 @@
 -- Small runs, computed on the definitions, that the other examples begin with.
-use Rattle.std.proofs.Common.{◌≡◌, inl, inr, ◌++◌, ◌∷◌, [], ℕ, List, refl, true, arith}
-use Rattle.rubis_model.specs.Settle.{Has}
-use Rattle.rubis_carrier.specs.Packets.{Packet}
-use Rattle.rubis_carrier.specs.Packets.Packet.{Message}
-use Rattle.rubis_carrier.specs.Shops.{Carrier, Folder, Place, empty, start, there}
-use Rattle.rubis_carrier.specs.Shops.Place.{InFolder, InStream}
-use Rattle.rubis_carrier.specs.Events.{AreSteps, Event, after}
+use Rattle.std.proofs.Common.{◌≡◌, ◌++◌, ◌∷◌, [], ℕ, List, refl}
+use Rattle.rubis_carrier.specs.declared.values.Carrier.{Carrier}
+use Rattle.rubis_carrier.specs.declared.values.ShopPacket.{ShopPacket}
+use Rattle.rubis_carrier.specs.declared.values.ShopPacket.TheVariants.{Message}
+use Rattle.rubis_carrier.specs.Events.{AreSteps, Event}
 use Rattle.rubis_carrier.specs.Events.Event.{Accepts, Gives, IsAsked, Opens, Serves, Starts}
-use Rattle.rubis_carrier.proofs.PutFacts.{put_cases}
-use Rattle.rubis_carrier.proofs.Sound.{gone}
+use Rattle.rubis_carrier.specs.Shops.{start}
+use Rattle.rubis_carrier.proofs.Computed.{are_steps_true}
 
 -- the first message of site 0, of the first ask; and another one of that number, of the second ask
-abbrev pub first_message : Packet
+abbrev pub first_message : ShopPacket
 first_message = Message 0 1 1
 
-abbrev pub other_message : Packet
+abbrev pub other_message : ShopPacket
 other_message = Message 0 1 2
 
 pub not_the_same : first_message ≡ other_message → ⊥
 not_the_same e = absurd (cc e)
 
 -- site 0 is started and opened
-abbrev pub opening : List Event
-opening = Starts 0 ∷ Opens 0 ∷ []
+abbrev pub opening_first : List Event
+opening_first = Starts 0 ∷ Opens 0 ∷ []
 
--- an ask, of one record, goes to site 0 in that life, and is accepted
+-- an ask, of one record, goes to a folder in that life, and is accepted
+abbrev pub asking_at : ℕ → ℕ → ℕ → List Event
+asking_at k r life = IsAsked r life 1 ∷ Serves k r ∷ Gives k r ∷ Accepts k r ∷ []
+
 abbrev pub asking : ℕ → ℕ → List Event
-asking r life = IsAsked r life 1 ∷ Serves 0 r ∷ Gives 0 r ∷ Accepts 0 r ∷ []
+asking r life = asking_at 0 r life
 
 abbrev pub asked_once : List Event
-asked_once = opening ++ asking 1 1
-
-nothing_there : (h : Place) (x : Packet) → Has x (there (after start (Starts 0)) h) → ⊥
-nothing_there (InFolder j) x a = put_cases (λ i (f : Folder). Has x f.kept → ⊥) 0 _ empty (λ h. h) (λ i n h. h) j a
-nothing_there (InStream i) x a = a
-
-none_open : (j : ℕ) → ((after start (Starts 0)).folder j).is_open ≡ true → ⊥
-none_open j o = put_cases (λ i (f : Folder). f.is_open ≡ true → ⊥) 0 _ empty (λ e. gone e) (λ i n e. gone e) j o
+asked_once = opening_first ++ asking 1 1
 
 pub asked_once_may : (c : Carrier) → AreSteps c start asked_once
-asked_once_may c = (
-  refl,
-  (
-    record { runs = omega arith; knows = inr (λ h x a e. absurd (nothing_there h x a)); alone = λ j o e. absurd (none_open j o) },
-    (
-      (refl, omega arith),
-      (
-        record { runs = omega arith; asked = omega arith; life = refl; one = refl; once = λ h. h },
-        (
-          (refl, inl refl),
-          ((refl, ([], refl)), tt),
-        ),
-      ),
-    ),
-  ),
-)
+asked_once_may c = are_steps_true c start asked_once refl

@@ -1,34 +1,33 @@
 -- What an asker may be told, and what may be put in the place of what was kept: each rule is needed.
-use Rattle.std.proofs.Common.{◌≡◌, inl, ⊎_elim, ◌++◌, ◌∷◌, [], List, refl, arith}
+use Rattle.std.proofs.Common.{◌≡◌, inl, ⊎_elim, ◌++◌, ◌∷◌, [], List, refl}
 use Rattle.rubis_model.specs.Settle.{Has}
-use Rattle.rubis_carrier.specs.Packets.{Packet}
-use Rattle.rubis_carrier.specs.Packets.Packet.{Message}
-use Rattle.rubis_carrier.specs.Shops.{Shop, start}
-use Rattle.rubis_carrier.specs.Shops.Carrier.{Files}
-use Rattle.rubis_carrier.specs.Shops.Place.{InFolder}
-use Rattle.rubis_carrier.specs.Shops.Told.{No, Ok}
-use Rattle.rubis_carrier.specs.Events.{AreSteps, Event, IsWhole, MayRebuild, MayServe, after, run}
-use Rattle.rubis_carrier.specs.Events.Event.{Accepts, Appends, Gives, IsAsked, IsCopied, IsKilled, LosesEnd, Rebuilds, Serves}
-use Rattle.rubis_carrier.specs.Events.Event.{Starts, TellsNothing, TellsOk, WritesAnew}
+use Rattle.rubis_carrier.specs.declared.values.Carrier.TheVariants.{Files, Server}
+use Rattle.rubis_carrier.specs.declared.values.ShopPacket.TheVariants.{Message}
+use Rattle.rubis_carrier.specs.declared.values.Notice.TheVariants.{No, Ok}
+use Rattle.rubis_carrier.specs.Events.{AreSteps, Event, IsWhole, May, MayRebuild, MayServe, after, run}
+use Rattle.rubis_carrier.specs.Events.Event.{Accepts, Appends, Gives, IsAsked, IsCopied, IsKilled, LosesEnd, Rebuilds, Serves, Starts, TellsNothing}
+use Rattle.rubis_carrier.specs.Events.Event.{TellsOk, WritesAnew}
 use Rattle.rubis_carrier.specs.Laws.{IsUnmade}
-use Rattle.rubis_carrier.proofs.Examples.ExampleRuns.{asked_once, first_message, opening}
+use Rattle.rubis_carrier.specs.Shops.{Shop, folder, start, stream}
+use Rattle.rubis_carrier.specs.Shops.Place.{InFolder}
+use Rattle.rubis_carrier.proofs.Computed.{are_steps_true, may_not}
+use Rattle.rubis_carrier.proofs.Examples.ExampleRuns.{asked_once, first_message, opening_first}
 
 -- ---- a copy that answers
 
 -- folder 5 is a copy of folder 0, and runs, but isn't open. An ask names the life of folder 0
 abbrev copy_runs : List Event
-copy_runs = opening ++ IsCopied 0 5 ∷ Starts 5 ∷ IsAsked 1 1 1 ∷ []
+copy_runs = opening_first ++ IsCopied 0 5 ∷ Starts 5 ∷ IsAsked 1 1 1 ∷ []
 
-copy_may_not_serve : MayServe (run start copy_runs) 5 1 → ⊥
-copy_may_not_serve m = let same : 1 ≡ 2 = m.life in absurd (cc same)
+copy_may_not_serve : ¬ (MayServe (run start copy_runs) 5 1)
+copy_may_not_serve = may_not Files (run start copy_runs) (Serves 5 1) refl
 
 -- if it serves the ask all the same, it tells that nothing was given to the site, and folder 0 accepts the ask
 abbrev copy_answers : Shop
 copy_answers = run (after (run start copy_runs) (Serves 5 1)) (TellsNothing 5 1 ∷ Serves 0 1 ∷ Gives 0 1 ∷ Accepts 0 1 ∷ [])
 
 copy_goes_on : AreSteps Files (after (run start copy_runs) (Serves 5 1)) (TellsNothing 5 1 ∷ Serves 0 1 ∷ Gives 0 1 ∷ Accepts 0 1 ∷ [])
-copy_goes_on =
-    (inl refl, (record { runs = omega arith; asked = omega arith; life = refl; one = refl; once = λ h. h }, ((refl, inl refl), ((refl, ([], refl)), tt))))
+copy_goes_on = are_steps_true Files (after (run start copy_runs) (Serves 5 1)) (TellsNothing 5 1 ∷ Serves 0 1 ∷ Gives 0 1 ∷ Accepts 0 1 ∷ []) refl
 
 copy_told_no : Has (No 1) copy_answers.told
 copy_told_no = inl refl
@@ -40,10 +39,10 @@ copy_is_wrong none = none (InFolder 0) 0 1 (inl refl)
 
 -- the first ask is two records, the second is one
 abbrev two_asked : List Event
-two_asked = opening ++ IsAsked 1 1 2 ∷ IsAsked 2 1 1 ∷ []
+two_asked = opening_first ++ IsAsked 1 1 2 ∷ IsAsked 2 1 1 ∷ []
 
-two_are_refused : MayServe (run start two_asked) 0 1 → ⊥
-two_are_refused m = let same : 2 ≡ 1 = m.one in absurd (cc same)
+two_are_refused : ¬ (MayServe (run start two_asked) 0 1)
+two_are_refused = may_not Files (run start two_asked) (Serves 0 1) refl
 
 -- if it is served all the same, its second record is taken to be the second ask: that is told ok, with the id of another message, and
 -- isn't there
@@ -54,27 +53,21 @@ abbrev two_served : Shop
 two_served = run (after (run start two_asked) (Serves 0 1)) two_lines
 
 two_go_on : AreSteps Files (after (run start two_asked) (Serves 0 1)) two_lines
-two_go_on = (
-  (refl, inl refl),
-  (
-    record { runs = omega arith; asked = omega arith; life = refl; one = refl; once = λ h. ⊎_elim (λ (e : 2 ≡ 1). absurd (cc e)) (λ z. z) h },
-    ((refl, inl refl), ((refl, (1 ∷ 2 ∷ [], refl)), ((refl, (2 ∷ [], refl)), (inl refl, tt)))),
-  ),
-)
+two_go_on = are_steps_true Files (after (run start two_asked) (Serves 0 1)) two_lines refl
 
 two_told_ok : Has (Ok 2 0 2) two_served.told
 two_told_ok = inl refl
 
-two_is_wrong : Has (Message 0 2 2) (two_served.folder 0).kept → ⊥
+two_is_wrong : Has (Message 0 2 2) (folder two_served 0).kept → ⊥
 two_is_wrong h = ⊎_elim (λ (e : Message 0 2 2 ≡ Message 0 1 1). absurd (cc e))
     (λ (g : Has (Message 0 2 2) (Message 0 2 1 ∷ [])). ⊎_elim (λ (e : Message 0 2 2 ≡ Message 0 2 1). absurd (cc e)) (λ z. z) g) h
 
 -- an ask of no record is refused as well; if it is served, the refusal of the next ask is told to its asker, and so on
 abbrev none_asked : List Event
-none_asked = opening ++ IsAsked 1 1 0 ∷ IsAsked 2 1 1 ∷ []
+none_asked = opening_first ++ IsAsked 1 1 0 ∷ IsAsked 2 1 1 ∷ []
 
-none_is_refused : MayServe (run start none_asked) 0 1 → ⊥
-none_is_refused m = let same : 0 ≡ 1 = m.one in absurd (cc same)
+none_is_refused : ¬ (MayServe (run start none_asked) 0 1)
+none_is_refused = may_not Files (run start none_asked) (Serves 0 1) refl
 
 -- ---- a folder that is made again without what was left of it
 
@@ -82,8 +75,8 @@ none_is_refused m = let same : 0 ≡ 1 = m.one in absurd (cc same)
 abbrev told_ok : List Event
 told_ok = asked_once ++ TellsOk 0 1 1 ∷ IsKilled 0 ∷ []
 
-dropping_is_refused : MayRebuild (run start told_ok) 0 [] → ⊥
-dropping_is_refused m = m.left first_message (inl refl)
+dropping_is_refused : ¬ (MayRebuild (run start told_ok) 0 [])
+dropping_is_refused = may_not Files (run start told_ok) (Rebuilds 0 []) refl
 
 -- a rebuild is no loss: the folder is whole. But it hasn't the message, and has all that is anywhere
 rebuilds_are_whole : IsWhole (InFolder 0) (Rebuilds 0 [] ∷ [])
@@ -92,10 +85,10 @@ rebuilds_are_whole = ((λ h. h), tt)
 abbrev dropped : Shop
 dropped = after (run start told_ok) (Rebuilds 0 [])
 
-was_told_ok : Has (Ok 1 0 1) (run start told_ok).told × Has (Message 0 1 1) ((run start told_ok).folder 0).kept
+was_told_ok : Has (Ok 1 0 1) (run start told_ok).told × Has (Message 0 1 1) (folder (run start told_ok) 0).kept
 was_told_ok = (inl refl, inl refl)
 
-dropped_is_lost : Has (Message 0 1 1) (dropped.folder 0).kept → ⊥
+dropped_is_lost : Has (Message 0 1 1) (folder dropped 0).kept → ⊥
 dropped_is_lost h = h
 
 -- ---- a stream that is written anew from a folder that has less
@@ -104,11 +97,11 @@ dropped_is_lost h = h
 abbrev in_stream : List Event
 in_stream = asked_once ++ TellsOk 0 1 1 ∷ Appends 0 first_message ∷ LosesEnd 0 0 ∷ Starts 0 ∷ []
 
-rewriting_is_refused : ((x : Packet) → Has x ((run start in_stream).stream 0) → Has x ((run start in_stream).folder 0).kept) → ⊥
-rewriting_is_refused all = all first_message (inl refl)
+rewriting_is_refused : ¬ (May Server (run start in_stream) (WritesAnew 0))
+rewriting_is_refused = may_not Server (run start in_stream) (WritesAnew 0) refl
 
-rewritten_is_lost : (after (run start in_stream) (WritesAnew 0)).stream 0 ≡ []
+rewritten_is_lost : stream (after (run start in_stream) (WritesAnew 0)) 0 ≡ []
 rewritten_is_lost = refl
 
-stream_had_it : Has first_message ((run start in_stream).stream 0)
+stream_had_it : Has first_message (stream (run start in_stream) 0)
 stream_had_it = inl refl

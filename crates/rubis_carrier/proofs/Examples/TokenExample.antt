@@ -1,28 +1,30 @@
 -- A token that is looked for at its place, and not by its turn, is lost for good.
-use Rattle.std.proofs.Common.{◌≡◌, ◌∙◌, inl, inr, ⊎_elim, ◌≤◌, ◌+◌, ◌++◌, ◌∷◌, [], ℕ, List, refl, sym, ap, subst, arith}
+use Rattle.std.proofs.lemmas.Bool.{and_parts, eqb-true}
+use Rattle.std.specs.Prelude.{◌==◌, ◌&&◌}
+use Rattle.std.proofs.Common.{◌≡◌, ◌∙◌, inr, ⊎_elim, ◌≤◌, ◌+◌, ◌++◌, ◌∷◌, [], ℕ, Bool, true, List, refl, sym, ap, subst, arith}
 use Rattle.rubis_model.specs.Settle.{Has}
-use Rattle.rubis_carrier.specs.Packets.{Holds, Packet, highest, taken}
-use Rattle.rubis_carrier.specs.Packets.Packet.{Message, Pass}
-use Rattle.rubis_carrier.specs.Shops.{Folder, Place, Shop, put, start, there}
-use Rattle.rubis_carrier.specs.Shops.Carrier.{Server}
-use Rattle.rubis_carrier.specs.Shops.Place.{InFolder, InStream}
+use Rattle.rubis_carrier.specs.declared.values.Carrier.TheVariants.{Server}
+use Rattle.rubis_carrier.specs.declared.values.ShopPacket.{ShopPacket}
+use Rattle.rubis_carrier.specs.declared.values.ShopPacket.TheVariants.{Message, Pass}
 use Rattle.rubis_carrier.specs.Events.{AllCarry, AreSteps, Carries, Event, May, after, keeping, run, started}
-use Rattle.rubis_carrier.specs.Events.Event.{Accepts, Appends, Gives, IsAsked, IsKilled, Opens}
-use Rattle.rubis_carrier.specs.Events.Event.{Passes, Reads, Serves, ServerLosesAll, Starts}
+use Rattle.rubis_carrier.specs.Events.Event.{Accepts, Appends, Gives, IsAsked, IsKilled, Opens, Passes, Reads, ServerLosesAll, Serves, Starts}
 use Rattle.rubis_carrier.specs.Laws.{CanHold}
+use Rattle.rubis_carrier.specs.Packets.{Holds, highest, taken}
+use Rattle.rubis_carrier.specs.Shops.{Folder, Place, Shop, folder, folder_in, put_folder, start, there}
+use Rattle.rubis_carrier.specs.Shops.Place.{InFolder, InStream}
 use Rattle.rubis_carrier.proofs.Changes.{IsNew, from_step}
+use Rattle.rubis_carrier.proofs.Computed.{are_steps_true}
+use Rattle.rubis_carrier.proofs.Examples.ExampleRuns.{asked_once, first_message}
 use Rattle.rubis_carrier.proofs.PacketFacts.{number_more, taken_message}
-use Rattle.rubis_carrier.proofs.PutFacts.{put_cases}
-use Rattle.rubis_carrier.proofs.Whole.{steps_append}
-use Rattle.rubis_carrier.proofs.Examples.ExampleRuns.{asked_once, asked_once_may, first_message}
+use Rattle.rubis_carrier.proofs.PutFacts.{folder_cases}
 
 -- ---- the run
 
-abbrev second_message : Packet
+abbrev second_message : ShopPacket
 second_message = Message 0 2 2
 
 -- site 0 passes the token to site 1 after its first message
-abbrev the_pass : Packet
+abbrev the_pass : ShopPacket
 the_pass = Pass 0 1 1 1
 
 -- a second message follows, and site 2 reads both; the server loses all while site 0 is stopped, and site 2 puts back what it has. Site
@@ -36,73 +38,18 @@ passing =
 abbrev passed_on : Shop
 passed_on = run start (asked_once ++ passing)
 
-passing_may : AreSteps Server (run start asked_once) passing
-passing_may = (
-  (refl, (omega arith, inl refl), (λ (e : 1 ≡ 0). absurd (cc e))),
-  (
-    (refl, omega arith),
-    (
-      record { runs = omega arith; asked = omega arith; life = refl; one = refl; once = λ h. ⊎_elim (λ (e : 2 ≡ 1). absurd (cc e)) (λ z. z) h },
-      (
-        (refl, inl refl),
-        (
-          (refl, ([], refl)),
-          (
-            (omega arith, refl, inl refl),
-            (
-              (omega arith, refl, inr (inl refl)),
-              (
-                (omega arith, refl, inr (inr (inl refl))),
-                (
-                  refl,
-                  (
-                    (omega arith, (λ (e : 0 ≡ 2). absurd (cc e)), inl refl),
-                    (
-                      (omega arith, (λ (e : 0 ≡ 2). absurd (cc e)), inr (inr (inl refl))),
-                      (
-                        tt,
-                        (
-                          tt,
-                          (
-                            (omega arith, refl, inl refl),
-                            (
-                              (omega arith, refl, inr (inl refl)),
-                              (
-                                refl,
-                                (
-                                  (omega arith, (λ (e : 0 ≡ 1). absurd (cc e)), inl refl),
-                                  (
-                                    (omega arith, (λ (e : 0 ≡ 1). absurd (cc e)), inr (inl refl)),
-                                    (refl, ((omega arith, refl, inr (inl refl)), tt)),
-                                  ),
-                                ),
-                              ),
-                            ),
-                          ),
-                        ),
-                      ),
-                    ),
-                  ),
-                ),
-              ),
-            ),
-          ),
-        ),
-      ),
-    ),
-  ),
-)
+passed_on_may : AreSteps Server start (asked_once ++ passing)
+passed_on_may = are_steps_true Server start (asked_once ++ passing) refl
 
 -- site 1 reads the pass by its turn, and holds the token
 comes_back : CanHold Server passed_on 1
-comes_back =
-    (Reads 1 the_pass ∷ [], (tt, tt), ((omega arith, (λ (e : 0 ≡ 1). absurd (cc e)), inr (inr (inl refl))), tt), (omega arith, inr (omega arith)))
+comes_back = (Reads 1 the_pass ∷ [], (tt, tt), are_steps_true Server passed_on (Reads 1 the_pass ∷ []) refl, (omega arith, inr (omega arith)))
 
 -- ---- by its place
 
 -- a site reads a pass only where it has no later message of the sender
 abbrev IsAtPlace : Shop → Event → Type 0
-IsAtPlace s (Reads k (Pass i t j a)) = highest i (s.folder k).kept ≤ a
+IsAtPlace s (Reads k (Pass i t j a)) = highest i (folder s k).kept ≤ a
 IsAtPlace s e = Unit {0}
 
 abbrev AreStepsByPlace : Shop → List Event → Type 0
@@ -110,22 +57,22 @@ AreStepsByPlace s [] = Unit {0}
 AreStepsByPlace s (e ∷ rest) = May Server s e × IsAtPlace s e × AreStepsByPlace (after s e) rest
 
 -- it is a message, or a pass of site 0 after its first message
-abbrev IsFine : Packet → Type 0
+abbrev IsFine : ShopPacket → Type 0
 IsFine (Message i n r) = Unit {0}
 IsFine (Pass i t j a) = (i ≡ 0) × (a ≡ 1)
 
 abbrev AllFine : Shop → Type 0
-AllFine s = (h : Place) (x : Packet) → Has x (there s h) → IsFine x
+AllFine s = (h : Place) (x : ShopPacket) → Has x (there s h) → IsFine x
 
-fine_step : (s : Shop) (e : Event) → May Server s e → AllFine s → ((x : Packet) → IsNew s e x → IsFine x) → AllFine (after s e)
+fine_step : (s : Shop) (e : Event) → May Server s e → AllFine s → ((x : ShopPacket) → IsNew s e x → IsFine x) → AllFine (after s e)
 fine_step s e m f new h x a = ⊎_elim (λ old. f old.0 x old.1) (new x) (from_step Server s e h x m a)
 
 -- site 1 has two messages of site 0, and no token
 record IsStuck (s : Shop) : Type 0 where
   fine : AllFine s
-  ahead : 2 ≤ highest 0 (s.folder 1).kept
-  site : (s.folder 1).site ≡ 1
-  none : taken 1 (s.folder 1).kept ≡ 0
+  ahead : 2 ≤ highest 0 (folder s 1).kept
+  site : (folder s 1).site ≡ 1
+  none : taken 1 (folder s 1).kept ≡ 0
 
 -- what a folder needs for that
 record IsBehind (f : Folder) : Type 0 where
@@ -133,32 +80,32 @@ record IsBehind (f : Folder) : Type 0 where
   site : f.site ≡ 1
   none : taken 1 f.kept ≡ 0
 
-at_one : (s : Shop) → IsStuck s → (k : ℕ) (f : Folder) → (k ≡ 1 → IsBehind f) → IsBehind (put k f s.folder 1)
-at_one s q k f here = put_cases (λ j g. j ≡ 1 → IsBehind g) k f s.folder here
-    (λ j n e. subst (λ i. IsBehind (s.folder i)) (sym e) (record { ahead = q.ahead; site = q.site; none = q.none })) 1 refl
+at_one : (s : Shop) → IsStuck s → (k : ℕ) (f : Folder) → (k ≡ 1 → IsBehind f) → IsBehind (folder_in (put_folder k f s.folders) 1)
+at_one s q k f here = folder_cases (λ j g. j ≡ 1 → IsBehind g) k f s.folders here
+    (λ j n e. subst (λ i. IsBehind (folder s i)) (sym e) (record { ahead = q.ahead; site = q.site; none = q.none })) 1 refl
 
-stuck : (s : Shop) → AllFine s → IsBehind (s.folder 1) → IsStuck s
+stuck : (s : Shop) → AllFine s → IsBehind (folder s 1) → IsStuck s
 stuck s f b = record { fine = f; ahead = b.ahead; site = b.site; none = b.none }
 
-stuck_reads : (s : Shop) (k : ℕ) (x : Packet) → May Server s (Reads k x) → IsAtPlace s (Reads k x) → IsStuck s → IsStuck (after s (Reads k x))
+stuck_reads : (s : Shop) (k : ℕ) (x : ShopPacket) → May Server s (Reads k x) → IsAtPlace s (Reads k x) → IsStuck s → IsStuck (after s (Reads k x))
 stuck_reads s k (Message i n r) m p q = stuck (after s (Reads k (Message i n r))) (fine_step s (Reads k (Message i n r)) m q.fine (λ x z. absurd z))
-    (at_one s q k (keeping (s.folder k) (Message i n r)) (λ e. subst (λ j. IsBehind (keeping (s.folder j) (Message i n r))) (sym e) (record {
-      ahead = omega (arith, q.ahead, number_more 0 (s.folder 1).kept (Message i n r ∷ []));
+    (at_one s q k (keeping (folder s k) (Message i n r)) (λ e. subst (λ j. IsBehind (keeping (folder s j) (Message i n r))) (sym e) (record {
+      ahead = omega (arith, q.ahead, number_more 0 (folder s 1).kept (Message i n r ∷ []));
       site = q.site;
-      none = taken_message 1 i n r (s.folder 1).kept ∙ q.none;
+      none = taken_message 1 i n r (folder s 1).kept ∙ q.none;
     })))
 stuck_reads s k (Pass i t j a) m p q = stuck (after s (Reads k (Pass i t j a))) (fine_step s (Reads k (Pass i t j a)) m q.fine (λ x z. absurd z))
-    (at_one s q k (keeping (s.folder k) (Pass i t j a)) (λ e. absurd (late e)))
+    (at_one s q k (keeping (folder s k) (Pass i t j a)) (λ e. absurd (late e)))
   where
     late : k ≡ 1 → ⊥
     late e =
         let is = q.fine (InStream i) (Pass i t j a) m.2 in
-        let place : highest 0 (s.folder 1).kept ≤ a = subst (λ d. highest d (s.folder 1).kept ≤ a) is.0 (subst (λ n. highest i (s.folder n).kept ≤ a) e p) in
+        let place : highest 0 (folder s 1).kept ≤ a = subst (λ d. highest d (folder s 1).kept ≤ a) is.0 (subst (λ n. highest i (folder s n).kept ≤ a) e p) in
         omega (arith, place, is.1, q.ahead)
 
 stuck_step : (s : Shop) (e : Event) → Carries e → May Server s e → IsAtPlace s e → IsStuck s → IsStuck (after s e)
 stuck_step s (Starts k) c m p q = stuck (after s (Starts k)) (fine_step s (Starts k) m q.fine (λ x z. absurd z))
-    (at_one s q k (started (s.folder k) (s.begun + 1)) (λ e. subst (λ j. IsBehind (started (s.folder j) (s.begun + 1))) (sym e)
+    (at_one s q k (started (folder s k) (s.begun + 1)) (λ e. subst (λ j. IsBehind (started (folder s j) (s.begun + 1))) (sym e)
     (record { ahead = q.ahead; site = q.site; none = q.none })))
 stuck_step s (Appends k x) c m p q = stuck (after s (Appends k x)) (fine_step s (Appends k x) m q.fine (λ z y. absurd y))
     (record { ahead = q.ahead; site = q.site; none = q.none })
@@ -172,95 +119,32 @@ stuck_after s (e ∷ rest) c m q = stuck_after (after s e) rest c.1 m.2 (stuck_s
 
 -- ---- so it is lost for good
 
--- what each event of the run makes is fine
-abbrev MakesFine : Shop → List Event → Type 0
-MakesFine s [] = Unit {0}
-MakesFine s (e ∷ rest) = ((x : Packet) → IsNew s e x → IsFine x) × MakesFine (after s e) rest
+-- what an event makes is fine, by a test
+abbrev makes_fine : Shop → Event → Bool
+makes_fine s (Passes k to) = ((folder s k).site == 0) && (highest (folder s k).site (folder s k).kept == 1)
+makes_fine s e = true
 
-fine_after : (s : Shop) (events : List Event) → AreSteps Server s events → MakesFine s events → AllFine s → AllFine (run s events)
-fine_after s [] m n f = f
-fine_after s (e ∷ rest) m n f = fine_after (after s e) rest m.1 n.1 (fine_step s e m.0 f n.0)
+new_fine : (s : Shop) (e : Event) → makes_fine s e ≡ true → (x : ShopPacket) → IsNew s e x → IsFine x
+new_fine s (Passes k to) t x e =
+    let both = and_parts ((folder s k).site == 0) (highest (folder s k).site (folder s k).kept == 1) t in
+    subst IsFine (sym e) (eqb-true (folder s k).site 0 both.0, eqb-true (highest (folder s k).site (folder s k).kept) 1 both.1)
+new_fine s (Accepts k r) t x e = subst IsFine (sym e) tt
+new_fine s (Starts k) t x z = absurd z
+new_fine s e t x z = absurd z
 
-abbrev nothing : (x : Packet) → ⊥ → IsFine x
-nothing x z = absurd z
+-- and what all of them make
+abbrev make_fine : Shop → List Event → Bool
+make_fine s [] = true
+make_fine s (e ∷ rest) = makes_fine s e && make_fine (after s e) rest
 
-makes_fine : MakesFine start (asked_once ++ passing)
-makes_fine = (
-  nothing,
-  (
-    nothing,
-    (
-      nothing,
-      (
-        nothing,
-        (
-          nothing,
-          (
-            (λ x e. subst IsFine (sym e) tt),
-            (
-              (λ x e. subst IsFine (sym e) (refl, refl)),
-              (
-                nothing,
-                (
-                  nothing,
-                  (
-                    nothing,
-                    (
-                      (λ x e. subst IsFine (sym e) tt),
-                      (
-                        nothing,
-                        (
-                          nothing,
-                          (
-                            nothing,
-                            (
-                              nothing,
-                              (
-                                nothing,
-                                (
-                                  nothing,
-                                  (
-                                    nothing,
-                                    (
-                                      nothing,
-                                      (
-                                        nothing,
-                                        (
-                                          nothing,
-                                          (
-                                            nothing,
-                                            (
-                                              nothing,
-                                              (
-                                                nothing,
-                                                (nothing, (nothing, tt)),
-                                              ),
-                                            ),
-                                          ),
-                                        ),
-                                      ),
-                                    ),
-                                  ),
-                                ),
-                              ),
-                            ),
-                          ),
-                        ),
-                      ),
-                    ),
-                  ),
-                ),
-              ),
-            ),
-          ),
-        ),
-      ),
-    ),
-  ),
-)
+fine_after : (s : Shop) (events : List Event) → AreSteps Server s events → make_fine s events ≡ true → AllFine s → AllFine (run s events)
+fine_after s [] m t f = f
+fine_after s (e ∷ rest) m t f =
+    let both = and_parts (makes_fine s e) (make_fine (after s e) rest) t in
+    fine_after (after s e) rest m.1 both.1 (fine_step s e m.0 f (new_fine s e both.0))
 
 all_fine : AllFine passed_on
-all_fine = fine_after start (asked_once ++ passing) (steps_append Server start asked_once passing (asked_once_may Server) passing_may) makes_fine none_yet
+all_fine = fine_after start (asked_once ++ passing) passed_on_may refl none_yet
   where
     none_yet : AllFine start
     none_yet (InFolder k) x h = absurd h
@@ -268,9 +152,9 @@ all_fine = fine_after start (asked_once ++ passing) (steps_append Server start a
 
 -- site 1 never holds the token: by whatever folders that are started, and packets that are carried
 lost_for_good : (more : List Event) → AllCarry more → AreStepsByPlace passed_on more
-    → Holds ((run passed_on more).folder 1).site ((run passed_on more).folder 1).kept → ⊥
+    → Holds (folder (run passed_on more) 1).site (folder (run passed_on more) 1).kept → ⊥
 lost_for_good more c m h =
     let q = stuck_after passed_on more c m (stuck passed_on all_fine (record { ahead = omega arith; site = refl; none = refl })) in
-    let none : taken ((run passed_on more).folder 1).site ((run passed_on more).folder 1).kept ≡ 0 =
-    ap (λ i. taken i ((run passed_on more).folder 1).kept) q.site ∙ q.none in
+    let none : taken (folder (run passed_on more) 1).site (folder (run passed_on more) 1).kept ≡ 0 =
+    ap (λ i. taken i (folder (run passed_on more) 1).kept) q.site ∙ q.none in
     ⊎_elim (λ e. absurd (omega (arith, e, q.site))) (λ l. absurd (omega (arith, l, none))) h.1

@@ -1,5 +1,5 @@
 use Rattle.rubis_carrier.proofs.Telling.{published, told_ok}
-use Rattle.rubis_carrier.proofs.Whole.{nothing_lost}
+use Rattle.rubis_carrier.proofs.Carrying.{nothing_lost}
 use Rattle.rubis_carrier.proofs.laws.nothing_accepted_is_lost.Goals as goal
 
 pub returns : goal.returns

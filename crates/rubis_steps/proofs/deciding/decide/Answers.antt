@@ -1,29 +1,31 @@
-use Rattle.std.proofs.Common.{◌∙◌, ◌∷◌, [], sym, ap, subst, arith, take}
+use Rattle.std.proofs.Common.{◌≡◌, ◌∙◌, ◌∷◌, [], true, false, sym, ap, subst, arith, take}
 use Rattle.std.proofs.lemmas.List.{length-map, take_all}
-use Rattle.rubis_carrier.specs.Events.{AreSteps, run}
+use Rattle.rubis_carrier.specs.Events.{AreSteps, May, after, run}
 use Rattle.rubis_carrier.specs.Shops.{start}
-use Rattle.rubis_carrier.proofs.Whole.{run_append}
-use Rattle.rubis_steps.specs.Answers.{IsMet, events_of}
-use Rattle.rubis_steps.specs.Finite.{IsAs, carrier_of, event_of}
-use Rattle.rubis_steps.proofs.Steps.{last_step, steps_more, taken_more}
+use Rattle.rubis_carrier.specs.Tests.{may}
+use Rattle.rubis_carrier.proofs.Computed.{may_decides, may_not}
+use Rattle.rubis_carrier.proofs.Whole.{run_append, steps_append, steps_right}
+use Rattle.rubis_steps.specs.Views.{event_of, events_of}
+use Rattle.rubis_steps.proofs.Facts.{events_more}
 use Rattle.rubis_steps.proofs.deciding.decide.Goals as goal
 
 pub loop-at-init : goal.loop-at-init
 loop-at-init c = record { steps = tt; stands = c.new-shop.ensures }
 
 -- with this one they are no steps
-pub returns-then-not-branch : goal.returns-then-not-branch
-returns-then-not-branch c =
+pub returns-then-not-may : goal.returns-then-not-may
+returns-then-not-may c =
     let xs = c.args.events.now in
     let n = c.loop-at.at in
     let x = c.index-events-at.result in
-    let v = carrier_of c.args.carrier in
+    let e = event_of x in
     let before = take n (events_of xs) in
-    let not_met = subst (IsMet v (event_of x) c.loop-at.shop c.happens.new.shop) c.if-not-branch.true c.in_ok-happens.ensures in (
+    let more = events_more xs n x c.loop-at-test.true c.index-events-at.is in
+    let no : may c.args.carrier (run start before) e ≡ false =
+    ap (λ s. may c.args.carrier s e) (sym c.loop-at.invariant.stands) ∙ sym c.may.ensures ∙ c.if-not-may.true in (
       omega (arith, length-map xs event_of, c.loop-at-test.true),
       c.loop-at.invariant.steps,
-      λ m. not_met (run start before) c.loop-at.invariant.stands
-          (last_step v before (event_of x) (subst (AreSteps v start) (taken_more xs n x c.loop-at-test.true c.index-events-at.is) m)),
+      λ m. may_not c.args.carrier (run start before) e no (steps_right c.args.carrier start before (e ∷ []) (subst (AreSteps c.args.carrier start) more m)).0,
     )
 
 pub loop-at-preserved : goal.loop-at-preserved
@@ -32,18 +34,20 @@ loop-at-preserved c =
     let n = c.loop-at.at in
     let x = c.index-events-at.result in
     let e = event_of x in
-    let v = carrier_of c.args.carrier in
     let before = take n (events_of xs) in
-    let more = taken_more xs n x c.loop-at-test.true c.index-events-at.is in
-    let met = subst (IsMet v e c.loop-at.shop c.happens.new.shop) c.if-not-branch.false c.in_ok-happens.ensures in
-    let done = met (run start before) c.loop-at.invariant.stands in
+    let more = events_more xs n x c.loop-at-test.true c.index-events-at.is in
+    let yes : may c.args.carrier (run start before) e ≡ true =
+    ap (λ s. may c.args.carrier s e) (sym c.loop-at.invariant.stands) ∙ sym c.may.ensures ∙ c.if-not-may.false in
+    let allowed : May c.args.carrier (run start before) e = (may_decides c.args.carrier (run start before) e).0 yes in
     record {
-      steps = subst (AreSteps v start) (sym more) (steps_more v before e c.loop-at.invariant.steps done.0);
-      stands = subst (IsAs c.happens.new.shop) (sym (ap (run start) more ∙ run_append start before (e ∷ []))) done.1;
+      steps = subst (AreSteps c.args.carrier start) (sym more)
+          (steps_append c.args.carrier start before (e ∷ []) c.loop-at.invariant.steps (allowed, tt));
+      stands = c.in_ok-happens.ensures ∙ ap (λ s. after s e) c.loop-at.invariant.stands
+          ∙ sym (ap (run start) more ∙ run_append start before (e ∷ []));
     }
 
 pub returns : goal.returns
 returns c =
     let es = events_of c.args.events.now in
-    subst (AreSteps (carrier_of c.args.carrier) start)
+    subst (AreSteps c.args.carrier start)
     (take_all c.loop-at.at es (omega (arith, length-map c.args.events.now event_of, c.loop-at-test.false))) c.loop-at.invariant.steps

@@ -1,29 +1,34 @@
-use Rattle.std.proofs.Common.{◌≡◌, true, false}
-use Rattle.std.proofs.lemmas.Bool.Decides.{Decides-at}
+use Rattle.std.proofs.Common.{◌≡◌, ◌∙◌, sym, ap, ap₂}
 use Rattle.rubis_carrier.specs.Packets.{highest, last_turn}
-use Rattle.rubis_steps.specs.Finite.{packets_of}
-use Rattle.rubis_steps.specs.Tests.{folders_reached, streams_reached}
-use Rattle.rubis_steps.proofs.Steps.{compared_decides, first_false, second}
+use Rattle.rubis_carrier.specs.Tests.{reaches_all}
+use Rattle.rubis_steps.specs.Parts.{folders_reached, streams_reached}
+use Rattle.rubis_steps.specs.Views.{shop_of}
+use Rattle.rubis_steps.proofs.Leading.{compared_is, first_false, second}
 use Rattle.rubis_steps.proofs.shops.Shop.is_compared.Goals as goal
 
 pub returns-then-folders_reached : goal.returns-then-folders_reached
-returns-then-folders_reached c = λ s is.
-    let f = c.index-it.result.now in
-    let n = highest f.site (packets_of f.kept.items) in
-    let t = last_turn f.site (packets_of f.kept.items) in
-    let fs = folders_reached f.site n t c.args.self.now.folders.items in
-    let xs = streams_reached f.site n t c.args.self.now.streams.items in
-    let a : fs ≡ true = cc in
-    let b : c.streams_reached.result ≡ xs = cc in
-    Decides-at _ _ (second fs xs c.streams_reached.result a b) (compared_decides c.args.self.now s c.args.folder f is c.requires c.index-it.ensures)
+returns-then-folders_reached c =
+    let s = c.args.self.now in
+    let i = c.args.it.now.site in
+    let n = c.highest-number.result in
+    let t = c.last_turn-turn.result in
+    second (folders_reached i n t s.folders.items) (streams_reached i n t s.streams.items) c.streams_reached.result
+    (sym (c.folders_reached.ensures ∙ ap (folders_reached i n t) c.deref-3.ensures.value) ∙ c.if-folders_reached.true)
+    (c.streams_reached.ensures ∙ ap (streams_reached i n t) c.deref-then-folders_reached.ensures.value)
+    ∙ compared_is s i n t
+    ∙ ap₂ (λ n t. reaches_all i n t (shop_of s)) (c.highest-number.ensures ∙ ap (highest i) c.deref.ensures.value)
+    (c.last_turn-turn.ensures ∙ ap (last_turn i) c.deref-2.ensures.value)
 
 pub returns-else-folders_reached : goal.returns-else-folders_reached
-returns-else-folders_reached c = λ s is.
-    let f = c.index-it.result.now in
-    let n = highest f.site (packets_of f.kept.items) in
-    let t = last_turn f.site (packets_of f.kept.items) in
-    let fs = folders_reached f.site n t c.args.self.now.folders.items in
-    let xs = streams_reached f.site n t c.args.self.now.streams.items in
-    let a : fs ≡ false = cc in
-    let b : c.folders_reached.result ≡ fs = cc in
-    Decides-at _ _ (first_false fs xs c.folders_reached.result a b) (compared_decides c.args.self.now s c.args.folder f is c.requires c.index-it.ensures)
+returns-else-folders_reached c =
+    let s = c.args.self.now in
+    let i = c.args.it.now.site in
+    let n = c.highest-number.result in
+    let t = c.last_turn-turn.result in
+    let reached : c.folders_reached.result ≡ folders_reached i n t s.folders.items =
+    c.folders_reached.ensures ∙ ap (folders_reached i n t) c.deref-3.ensures.value in
+    first_false (folders_reached i n t s.folders.items) (streams_reached i n t s.streams.items) c.folders_reached.result
+    (sym reached ∙ c.if-folders_reached.false) reached
+    ∙ compared_is s i n t
+    ∙ ap₂ (λ n t. reaches_all i n t (shop_of s)) (c.highest-number.ensures ∙ ap (highest i) c.deref.ensures.value)
+    (c.last_turn-turn.ensures ∙ ap (last_turn i) c.deref-2.ensures.value)

@@ -1,25 +1,24 @@
-use Rattle.std.proofs.Common.{◌∙◌, sym, ap, ap₂}
+use Rattle.std.proofs.Common.{◌≡◌, ◌∙◌, sym, ap, ap₂, true}
+use Rattle.std.specs.Prelude.{◌==◌, ◌&&◌}
 use Rattle.std.specs.List.{list_all}
-use Rattle.std.proofs.lemmas.Bool.Decides.{Decides-at}
-use Rattle.rubis_steps.specs.Finite.{packet_of, packets_of}
-use Rattle.rubis_steps.specs.Tests.{has_packet, is_found}
-use Rattle.rubis_steps.proofs.Steps.{never, rebuild_found, rebuild_lacks, rebuild_runs}
+use Rattle.std.proofs.lemmas.Bool.{and_from, eq-eqb, eqb-true}
+use Rattle.rubis_carrier.specs.Tests.{has_packets, is_somewhere}
+use Rattle.rubis_steps.specs.Parts.{are_found}
+use Rattle.rubis_steps.specs.Views.{shop_of}
+use Rattle.rubis_steps.proofs.Leading.{found_is, second}
 use Rattle.rubis_steps.proofs.shops.Shop.may_rebuild.Goals as goal
+use Rattle.rubis_steps.proofs.shops.Shop.may_rebuild.Goals.{then-it-eq0, else-it-eq0}
 
-pub returns-then-it-ne0 : goal.returns-then-it-ne0
-returns-then-it-ne0 c = λ s is. never (rebuild_runs c.args.self.now s c.args.folder c.index-it.result.now is c.requires c.index-it.ensures
-    (packets_of c.args.packets.now) c.if-it-ne0.true)
-
-pub returns-then-not-are_all_in : goal.returns-then-not-are_all_in
-returns-then-not-are_all_in c = λ s is.
+pub returns-then-has_packets : goal.returns-then-has_packets
+returns-then-has_packets c =
+    let s = c.args.self.now in
+    let it = c.args.it.now in
     let ps = c.args.packets.now in
-    let all = c.are_all_in.ensures ∙ ap (list_all (λ x. has_packet (packet_of x) ps)) c.deref.ensures.value in
-    never (rebuild_lacks c.args.self.now s c.args.folder c.index-it.result.now is c.requires c.index-it.ensures ps (sym all ∙ c.if-not-are_all_in.true))
-
-pub returns : goal.returns
-returns c = λ s is.
-    let ps = c.args.packets.now in
-    let all = c.are_all_in.ensures ∙ ap (list_all (λ x. has_packet (packet_of x) ps)) c.deref.ensures.value in
-    Decides-at _ _ (c.are_found.ensures ∙ ap₂ (λ fs xs. list_all (λ x. is_found fs xs (packet_of x)) ps) c.deref-2.ensures.value c.deref-3.ensures.value)
-    (rebuild_found c.args.self.now s c.args.folder c.index-it.result.now is c.requires c.index-it.ensures ps c.if-it-ne0.false
-    (sym all ∙ c.if-not-are_all_in.false))
+    let left : ((it.life == 0) && has_packets it.kept.items ps) ≡ true =
+    elim c.if-it-eq0.branch [
+      | then-it-eq0 w ↦ and_from (it.life == 0) (has_packets it.kept.items ps) (eq-eqb it.life 0 w.if-it-eq0.true)
+          (sym (w.has_packets.ensures ∙ ap (λ kept. has_packets kept ps) w.deref.ensures.value) ∙ sym w.value-is ∙ c.if-has_packets.true)
+      | else-it-eq0 w ↦ absurd (w.if-it-eq0.false (eqb-true it.life 0 (sym w.value-is ∙ c.if-has_packets.true)))
+    ] in
+    second ((it.life == 0) && has_packets it.kept.items ps) (list_all (λ x. is_somewhere (shop_of s) x) ps) c.are_found.result left
+    (c.are_found.ensures ∙ ap₂ (λ fs xs. are_found fs xs ps) c.deref-then-has_packets.ensures.value c.deref-then-has_packets-2.ensures.value ∙ found_is s ps)

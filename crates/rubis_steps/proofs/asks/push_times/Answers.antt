@@ -1,9 +1,0 @@
-use Rattle.std.proofs.Common.{◌∙◌, arith}
-use Rattle.rubis_steps.proofs.AskFacts.{pushed_more}
-use Rattle.rubis_steps.proofs.asks.push_times.Goals as goal
-
-pub loop-done-preserved : goal.loop-done-preserved
-loop-done-preserved c = record {
-  within = omega arith;
-  pushed = c.in_ok-push.ensures.items ∙ pushed_more c.loop-done.done c.args.ask c.loop-done.asks.items c.args.asks.now.items c.loop-done.invariant.pushed;
-}
