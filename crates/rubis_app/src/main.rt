@@ -77,16 +77,9 @@ fn answer_world<R: Print + Input + AllocGlobal + Threads + Wait + Sync>(
     rt: &R,
     config: &WorldConfig,
 ) -> Result<Count, RunFault> {
-    let mut desk = WorldDesk::new(rt.alloc(), config)?;
+    let mut desk = WorldDesk::new(rt, rt.alloc(), config)?;
     let mut writer = io::writer(rt);
-    let ended = run_world_desk(
-        rt,
-        rt.alloc(),
-        rt.reader(),
-        &mut writer,
-        &mut desk,
-        RECORDS_MAX,
-    );
+    let ended = run_world_desk(rt.alloc(), rt.reader(), &mut writer, &mut desk, RECORDS_MAX);
     mem::forget(desk);
     ended
 }

@@ -1,4 +1,9 @@
 -- What is written of the records of an input.
+-- A record of a site gets no row exactly when `packet_of` or `request_of` has a value for it, and one of a world exactly when `world_input`
+-- is an event, with a request if it is one at a site. Not proved: that `site_fault` and `world_fault` find something in every other record
+-- (its row would say `not in the grammar`), that `audit_fault` finds something exactly in what an audit calls BadRecord, in which lines a
+-- record stands, and what was written at an error. Every conversation of the tests is checked, and has to get rows for the records that
+-- were refused there, and for no others.
 use Rattle.std.specs.Prelude.{◌≡◌, ◌<◌, ◌≤◌, ℕ, ◌+◌, Bool, true, false, unwrap_or, List, [], ◌∷◌, ◌++◌, codes, decimal, drop, get_or, Option, Some, None}
 use Rattle.std.specs.Io.KnownBytes.{Appends}
 use Rattle.rubis_schema.specs.declared.limits.TheConstants.{COUNTED_MAX, RECORDS_MAX}

@@ -26,6 +26,7 @@ known_in t v (key.Item i) = is_some (t (key.Item i)) && counts_id v i
 known_in t v (key.Bid i) = is_some (t (key.Bid i)) && counts_id v i
 known_in t v k = false
 
+-- the close names another category than its item's row has
 abbrev pub wrong_category_in : Rows → Shadow → Bool
 wrong_category_in t (User n) = false
 wrong_category_in t (Item n) = false
@@ -36,6 +37,7 @@ wrong_category_in t (Comment c) = false
 wrong_category_in t (Restock r) = false
 wrong_category_in t (Rename r) = false
 
+-- Refers: a row that the message names is missing or wasn't made by a message that precedes it, or the category is wrong
 abbrev pub wrong_reference_in : Rows → Message → Bool
 wrong_reference_in t v = list_any (λ k. not (known_in t v k)) (refers_of v.shadow) || wrong_category_in t v.shadow
 
@@ -43,6 +45,7 @@ wrong_reference_in t v = list_any (λ k. not (known_in t v k)) (refers_of v.shad
 abbrev pub shows_nick : Rows → Id → List ℕ → Bool
 shows_nick t user n = option_map_or (λ (u : UserRow). bytes_eq n u.nick) (user_in t user) false
 
+-- Nick: the nickname has a row already, or a rename's old nickname isn't in its user's row
 abbrev pub nick_taken_in : Rows → Shadow → Bool
 nick_taken_in t (User n) = is_some (t (key.Nick n))
 nick_taken_in t (Item n) = false
@@ -53,6 +56,7 @@ nick_taken_in t (Comment c) = false
 nick_taken_in t (Restock r) = false
 nick_taken_in t (Rename r) = is_some (t (key.Nick r.to)) || not (shows_nick t r.user r.from)
 
+-- Stock: more is bought than the item's row has in stock
 abbrev pub stock_short_in : Rows → Shadow → Bool
 stock_short_in t (User n) = false
 stock_short_in t (Item n) = false
@@ -63,12 +67,15 @@ stock_short_in t (Comment c) = false
 stock_short_in t (Restock r) = false
 stock_short_in t (Rename r) = false
 
+-- the item's row says that it is closed
 abbrev pub closed_in : Rows → Id → Bool
 closed_in t item = option_map_or (λ (i : ItemRow). is_ended i.sale) (item_in t item) false
 
+-- the item's row has another best bid than this winner
 abbrev pub outbid_in : Rows → Id → Option Id → Bool
 outbid_in t item winner = option_map_or (λ (i : ItemRow). not (option_eq same_id winner (option_map (λ (b : Best). b.bid) i.best))) (item_in t item) false
 
+-- Winner: the item is closed already, or a close names another winner than the best bid
 abbrev pub wrong_winner_in : Rows → Shadow → Bool
 wrong_winner_in t (User n) = false
 wrong_winner_in t (Item n) = false

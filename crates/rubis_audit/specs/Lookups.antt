@@ -39,19 +39,24 @@ taken_by_red all v = option_map_or (λ u. not (same_id u.stamp.id v.stamp.id)) (
 -- ---- `counts` has how many messages of each site stand before v in its log, `reds` how many red ones, `last` the last of
 -- these
 
+-- the message isn't the next of its origin, by how many messages of each site came before
 abbrev pub not_next_by : List ℕ → Message → Bool
 not_next_by counts v = not (v.stamp.id.seq == slice_index counts v.stamp.id.site + 1)
 
+-- the message counts a message of another site that hasn't come before
 abbrev pub early_by : List ℕ → Message → Bool
 early_by counts v = at_some_site v (λ j. not (j == v.stamp.id.site) && nat_lt (slice_index counts j) (dep v j))
 
+-- the message doesn't count exactly what came before
 abbrev pub differs_by : List ℕ → Message → Bool
 differs_by counts v = at_some_site v (λ j. not (dep v j == slice_index counts j))
 
+-- Order, by look-ups and counts: the message isn't next, is early, miscounts the log of its own site, or forgets what it should count
 abbrev pub order_by : ℕ → List ℕ → List Message → Message → Bool
 order_by site counts all v =
     not_next_by counts v || (early_by counts v || (((v.stamp.id.site == site) && differs_by counts v) || forgets_by_id all v))
 
+-- RedGap, by look-ups: a red message without the next red number, with one that is taken, or that the last red message doesn't precede
 abbrev pub gap_by : ℕ → Option Message → List Message → Message → Bool
 gap_by reds last all v =
     is_red v.shadow && (not (v.stamp.red == reds + 1) || (taken_by_red all v || option_map_or (λ u. not (comes_before u v)) last false))

@@ -101,5 +101,6 @@ text_by sites lines fields field BehindRows = codes "no message follows the rows
 text_by sites lines fields field LineEnd = quote_text lines
 text_by sites lines fields field Other = codes "not in the grammar"
 
+-- why the record is wrong, in words
 abbrev pub reason_text : ℕ → Lines → RecordFault → List (List ℕ) → List ℕ
 reason_text sites lines fault fields = text_by sites lines fields (field_at fields fault.field) fault.reason

@@ -102,6 +102,7 @@ abbrev pub line_end_at : List (List ℕ) → ℕ → Option ℕ
 line_end_at fields number =
     if number == 0 then line_end_from 1 fields else cond (has_line_end (field_at fields number)) (Some number) None
 
+-- the fault, or, if its field has a line end in it, that a quote was left open
 abbrev pub in_quotes : List (List ℕ) → RecordFault → RecordFault
 in_quotes fields f = elim (line_end_at fields f.field) [ None ↦ f | Some number ↦ fault number LineEnd ]
 
@@ -117,6 +118,7 @@ site_fault sites fields = option_map (in_quotes fields) (fault_by sites fields (
 abbrev pub event_fault : ℕ → List (List ℕ) → Option RecordFault
 event_fault sites fields = if bytes_eq (field_at fields 1) (codes "at") then at_fault sites fields else fault_by sites fields (world_shape fields)
 
+-- what is wrong with a record for a world, or that a quote was left open
 abbrev pub world_fault : ℕ → List (List ℕ) → Option RecordFault
 world_fault sites fields = option_map (in_quotes fields) (event_fault sites fields)
 
@@ -132,6 +134,7 @@ abbrev pub line_fault : ℕ → LinePlace → List (List ℕ) → Option Shape �
 line_fault sites place fields None = Some (unknown fields)
 line_fault sites place fields (Some shape) = option_or (fault_in sites 0 shape fields) (misplaced place shape)
 
+-- what is wrong with a record for an audit, at its place among the lines of a log, or that a quote was left open
 abbrev pub audit_fault : ℕ → LinePlace → List (List ℕ) → Option RecordFault
 audit_fault sites place fields = option_map (in_quotes fields) (line_fault sites place fields (audit_shape fields))
 

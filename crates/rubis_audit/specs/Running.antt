@@ -35,6 +35,7 @@ logs_so_far ended (Some log) = log ∷ reverse ended
 abbrev pub HasMessagesAmong : ℕ → Log → Type 0
 HasMessagesAmong sites log = (m : Message) → Has m log.messages → sites_of m ≡ sites
 
+-- the messages of the log that is being read, if there is one, are of `sites` sites
 abbrev pub IsCurrentAmong : ℕ → Option Log → Type 0
 IsCurrentAmong sites current = (log : Log) → current ≡ Some log → HasMessagesAmong sites log
 
@@ -102,5 +103,6 @@ account_from asked sites n logs = record {
 abbrev pub audit_account : ℕ → Account
 audit_account sites = account_from Agreement sites 1 []
 
+-- what a run answers that tells what each log lacks
 abbrev pub lack_account : ℕ → Account
 lack_account sites = account_from Lacks sites 1 []

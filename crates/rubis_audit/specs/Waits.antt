@@ -10,6 +10,7 @@ use Rattle.rubis_model.specs.Lack.{awaited}
 abbrev pub for_row : Message → Id → List (List ℕ)
 for_row m id = codes "waits" ∷ id_text m.stamp.id ∷ codes "for" ∷ id_text id ∷ []
 
+-- the row for what a message waits for, if it waits for something
 abbrev pub for_rows : Message → Option Id → List (List (List ℕ))
 for_rows m None = []
 for_rows m (Some id) = for_row m id ∷ []

@@ -1,7 +1,7 @@
 //! The auditor as a service: it reads logs, record by record, and answers once it has read them all.
 
-ghost use Rattle.std.proofs.Common.{inl, rules};
-ghost use Rattle.std.specs.Prelude.{◌≡◌, ◌++◌, ◌≤◌, ℕ, List, [], IfOk, None, Ok, OnErr, OnOk, Some, false, refl, reverse};
+ghost use Rattle.std.proofs.Common.{rules};
+ghost use Rattle.std.specs.Prelude.{◌≡◌, ◌++◌, ◌≤◌, ℕ, List, [], IfOk, None, Ok, OnErr, OnOk, Some, false, refl, reverse, ⊤};
 ghost use Rattle.rubis_message.specs.Message.{sites_of};
 ghost use Rattle.rubis_model.specs.Logs as logs;
 ghost use Rattle.std.specs.Bool.{MatchBool};
@@ -18,10 +18,11 @@ use crate::lines::{Line, read_line};
 use crate::logs::Log;
 use crate::pools::MessagePool;
 use crate::verdicts::{write_bad_record, write_verdict};
-use rubis_engine::{Answering, Course, InputRecord, OutOfMemory, Reply, Service, Sink};
+use rubis_engine::{Course, InputRecord, OutOfMemory, Reply, RunFault, Service, Sink};
 use rubis_message::{Message, Verdict};
 use rubis_schema::{Fields, Hashes, Items, Shared};
 use std::alloc::{AllocError, Global};
+use std::io::Write;
 use std::marker::Model;
 
 /// What is answered once all logs are read.
@@ -208,34 +209,22 @@ impl Service for Auditor {
 
     ghost leads = { λ old n records new. LeadsAuditor old records new };
 
+    ghost Setup = { ⊤ };
+
+    ghost setup = { λ s. tt };
+
+    ghost shares = { ⊤ };
+
     ghost reads_none = { λ s n. refl };
 
     ghost reads_next = { Prim.search rules };
 
-    ghost leads_none = { λ s n. inl refl };
-
-    fn answer_held(&mut self, _sink: &mut Sink) -> Result<(), OutOfMemory> {
-        Ok(())
-    }
-
-    fn answer_end(&mut self, sink: &mut Sink) -> Result<(), OutOfMemory> {
-        let current = self.current.take();
-        end_log(&mut self.ended, current)?;
-        let verdict = audit_hashed(self.alloc, &self.ended, self.sites, self.hashes)?;
-        self.well = write_answer(
-            self.alloc,
-            sink,
-            self.asked,
-            self.sites,
-            &self.ended,
-            verdict,
-        )?;
-        Ok(())
-    }
-}
-
-impl Answering for Auditor {
-    fn answer(&mut self, fields: &InputRecord, reply: &mut Reply) -> Result<Course, OutOfMemory> {
+    fn answer<W: Write>(
+        &mut self,
+        fields: &InputRecord,
+        reply: &mut Reply,
+        _writer: &mut W,
+    ) -> Result<Course, RunFault> {
         if let Some(line) = read_line(self.alloc, fields, self.sites)?
             && self.take(fields, line)?
         {
@@ -243,5 +232,24 @@ impl Answering for Auditor {
         }
         write_bad_record(&mut reply.draft.fields, &mut reply.sink, reply.number)?;
         Ok(Course::Ends)
+    }
+
+    fn answer_held(&mut self, _reply: &mut Reply) -> Result<(), OutOfMemory> {
+        Ok(())
+    }
+
+    fn answer_end(&mut self, reply: &mut Reply) -> Result<(), OutOfMemory> {
+        let current = self.current.take();
+        end_log(&mut self.ended, current)?;
+        let verdict = audit_hashed(self.alloc, &self.ended, self.sites, self.hashes)?;
+        self.well = write_answer(
+            self.alloc,
+            &mut reply.sink,
+            self.asked,
+            self.sites,
+            &self.ended,
+            verdict,
+        )?;
+        Ok(())
     }
 }

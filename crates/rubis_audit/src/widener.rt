@@ -18,9 +18,7 @@ ghost use Rattle.rubis_audit.specs.declared.widener.LinePlace.TheVariants.{Befor
 ghost use Rattle.rubis_audit.specs.Widening.{bad_record, widening_account, widening_from};
 
 use crate::lines::{Line, read_line};
-use rubis_engine::{
-    Answering, Count, Course, InputRecord, OutOfMemory, Reply, RunFault, Service, Sink,
-};
+use rubis_engine::{Count, Course, InputRecord, OutOfMemory, Reply, RunFault, Service, Sink};
 use rubis_message::{Message, append_message};
 use rubis_reading::Chunks;
 use rubis_schema::{Fields, RECORDS_MAX, push_number};
@@ -154,23 +152,22 @@ impl Service for Widener {
 
     ghost leads = { λ old n records new. ⊤ };
 
+    ghost Setup = { ⊤ };
+
+    ghost setup = { λ s. tt };
+
+    ghost shares = { ⊤ };
+
     ghost reads_none = { λ s n. refl };
 
     ghost reads_next = { Prim.search rules };
 
-    ghost leads_none = { λ s n. tt };
-
-    fn answer_held(&mut self, _sink: &mut Sink) -> Result<(), OutOfMemory> {
-        Ok(())
-    }
-
-    fn answer_end(&mut self, _sink: &mut Sink) -> Result<(), OutOfMemory> {
-        Ok(())
-    }
-}
-
-impl Answering for Widener {
-    fn answer(&mut self, fields: &InputRecord, reply: &mut Reply) -> Result<Course, OutOfMemory> {
+    fn answer<W: Write>(
+        &mut self,
+        fields: &InputRecord,
+        reply: &mut Reply,
+        _writer: &mut W,
+    ) -> Result<Course, RunFault> {
         if let Some(line) = read_line(self.alloc, fields, self.from)?
             && let Some(place) = self.place.after(&line)
         {
@@ -180,6 +177,14 @@ impl Answering for Widener {
         }
         write_bad_record(&mut reply.draft.fields, &mut reply.sink, reply.number)?;
         Ok(Course::Ends)
+    }
+
+    fn answer_held(&mut self, _reply: &mut Reply) -> Result<(), OutOfMemory> {
+        Ok(())
+    }
+
+    fn answer_end(&mut self, _reply: &mut Reply) -> Result<(), OutOfMemory> {
+        Ok(())
     }
 }
 

@@ -9,7 +9,7 @@ use Rattle.rubis_board.specs.declared.rule.Item.{Item}
 use Rattle.rubis_board.specs.declared.rule.Item.TheVariants.{Work, Mark}
 use Rattle.rubis_board.specs.Rule.{Ruled, first_view, spent, posting, content, HasPosted, HasTaken, HasMarked, split_view, new_view, both}
 
--- whatever the queue holds and whatever the other passes know
+-- each step keeps the rule, whatever the queue holds and whatever the other passes know
 pub record StepsKeepTheRule : Type 0 where
   pub opening : Ruled [] (first_view ∷ [])
   pub post : (room place : ℕ) (v : PassView) (p : Piece) → v ≡ posting v.posted

@@ -64,6 +64,7 @@ pub record AgreesWith (posted rest : List Piece) (v : PassView) : Type 0 where
   pub common : 0 < v.parts → v.posted ≡ posted
   pub empty : v.seen_none ≡ true → rest ≡ []
 
+-- the rule of a board: what the queue's items and what all passes know have to do with each other
 pub record Ruled (items : List Item) (views : List PassView) : Type 0 where
   -- all passes have one list of posted pieces; what is on the board is a suffix of it
   pub posted : List Piece

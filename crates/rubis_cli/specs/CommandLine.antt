@@ -36,12 +36,15 @@ number_option name low high default = record (new_rule name) { long = Some name;
 abbrev pub flag_option : Text → Rule
 flag_option name = record (new_rule name) { long = Some name; action = Some SetTrue }
 
+-- `--sites`, from 1 to 16: 1 unless given
 abbrev pub sites_option : Rule
 sites_option = number_option (codes "sites") 1 SITES_MAX (codes "1")
 
+-- `--site`, from 0 to 15: 0 unless given
 abbrev pub site_option : Rule
 site_option = number_option (codes "site") 0 (SITES_MAX - 1) (codes "0")
 
+-- `--keep`, from 1 to the most that a site can keep: 1,000,000 unless given
 abbrev pub keep_option : Rule
 keep_option = number_option (codes "keep") 1 KEEP_MAX (codes "1000000")
 
@@ -56,12 +59,15 @@ with_work a = with_rule (with_rule (with_rule a
 abbrev pub with_setup : App → App
 with_setup a = with_rule (with_work (with_rule a sites_option)) keep_option
 
+-- `site`, with six options
 abbrev pub site_command : App
 site_command = with_setup (with_rule (new_app (codes "site")) site_option)
 
+-- `world`, with five options
 abbrev pub world_command : App
 world_command = with_setup (new_app (codes "world"))
 
+-- `audit`, with `--sites` and the flag `--status`
 abbrev pub audit_command : App
 audit_command = with_rule (with_rule (new_app (codes "audit")) sites_option) (flag_option (codes "status"))
 
@@ -69,9 +75,11 @@ audit_command = with_rule (with_rule (new_app (codes "audit")) sites_option) (fl
 abbrev pub reading_option : Rule
 reading_option = record (new_rule (codes "reading")) { value_names = 1; defaults = codes "site" ∷ [] }
 
+-- `check`, with `--sites` and the name of the command that would read the records
 abbrev pub check_command : App
 check_command = with_rule (with_rule (new_app (codes "check")) reading_option) sites_option
 
+-- `widen`, with `--sites` and `--to`
 abbrev pub widen_command : App
 widen_command = with_rule (with_rule (new_app (codes "widen")) sites_option) (number_option (codes "to") 1 SITES_MAX (codes "16"))
 
@@ -84,12 +92,15 @@ abbrev pub with_input : App → App
 with_input a = with_rule (with_rule (with_rule a (flag_option (codes "waiting"))) (given_option (codes "site") 0 (SITES_MAX - 1)))
     (given_option (codes "keep") 1 KEEP_MAX)
 
+-- `lack`, with `--sites` and those for an input whose waiting messages are told
 abbrev pub lack_command : App
 lack_command = with_input (with_rule (new_app (codes "lack")) sites_option)
 
+-- the folder, which has to be given
 abbrev pub folder_option : Rule
 folder_option = record (new_rule (codes "folder")) { value_names = 1; required = true }
 
+-- with a folder and the options of its site, none of which need be given
 abbrev pub with_place : App → App
 with_place a = with_rule (with_rule (with_rule (with_rule a
     folder_option)
@@ -97,9 +108,11 @@ with_place a = with_rule (with_rule (with_rule (with_rule a
     (given_option (codes "sites") 1 SITES_MAX))
     (given_option (codes "keep") 1 KEEP_MAX)
 
+-- with the options of `keep` that have no value
 abbrev pub with_flags : App → App
 with_flags a = with_rule (with_rule (with_rule a (flag_option (codes "sync"))) (flag_option (codes "shorten"))) (flag_option (codes "upgrade"))
 
+-- `keep`: one site in a folder
 abbrev pub keep_command : App
 keep_command = with_flags (with_work (with_place (new_app (codes "keep"))))
 
@@ -107,9 +120,11 @@ keep_command = with_flags (with_work (with_place (new_app (codes "keep"))))
 abbrev pub described : App → App
 described a = record a { top = record a.top { has_version = true; subcommand_required = true } }
 
+-- the program with its version, without commands
 abbrev pub program_alone : App
 program_alone = described (new_app (codes "rubis"))
 
+-- the program, which requires one of its seven commands
 abbrev pub command_line : App
 command_line =
     with_subcommand (with_subcommand (with_subcommand (with_subcommand (with_subcommand (with_subcommand (with_subcommand program_alone
@@ -132,14 +147,17 @@ pub record IsSetupIn (rows : List Row) (s : SetupOptions) : Type 0 where
   pub batch : IsNumberOf 32 (one_of (codes "batch") rows) s.batch
   pub keep : IsNumberOf 32 (one_of (codes "keep") rows) s.keep
 
+-- the options of `site` are the numbers that the words give, or their defaults
 pub record AreOptionsIn (rows : List Row) (o : Options) : Type 0 where
   pub site : IsNumberOf 8 (one_of (codes "site") rows) o.site
   pub setup : IsSetupIn rows o.setup
 
+-- the options of `audit` are what the words give, or their defaults
 pub record AreAuditOptionsIn (rows : List Row) (a : AuditOptions) : Type 0 where
   pub sites : IsNumberOf 8 (one_of (codes "sites") rows) a.sites
   pub status : IsFlag (one_of (codes "status") rows) a.status
 
+-- the options of `widen` are the numbers that the words give, or their defaults
 pub record AreCountsIn (rows : List Row) (w : Widening) : Type 0 where
   pub sites : IsNumberOf 8 (one_of (codes "sites") rows) w.sites
   pub to : IsNumberOf 8 (one_of (codes "to") rows) w.to
@@ -150,12 +168,14 @@ IsGivenNumber bits text n = (text ≡ None → n ≡ None)
     × ((t : Text) → text ≡ Some t → IsNumeral 10 (without_leading_plus t) → digits_value 10 (without_leading_plus t) < 2 ^ bits
     → n ≡ Some (digits_value 10 (without_leading_plus t)))
 
+-- the options of `lack` are what the words give; of what need not be given, None
 pub record AreLackOptionsIn (rows : List Row) (l : LackOptions) : Type 0 where
   pub sites : IsNumberOf 8 (one_of (codes "sites") rows) l.sites
   pub waiting : IsFlag (one_of (codes "waiting") rows) l.waiting
   pub site : IsGivenNumber 8 (one_of (codes "site") rows) l.site
   pub keep : IsGivenNumber 32 (one_of (codes "keep") rows) l.keep
 
+-- what `check` reads records as, by the name of a command
 abbrev pub reading_named : Text → Option ReadAs
 reading_named name =
     if bytes_eq name (codes "site") then Some reading.Site
@@ -163,16 +183,20 @@ reading_named name =
     else if bytes_eq name (codes "audit") then Some reading.Audit
     else None
 
+-- what `check` reads records as is what the words name
 abbrev pub IsReading : Option Text → Option ReadAs → Type 0
 IsReading found r = (t : Text) → found ≡ Some t → r ≡ reading_named t
 
+-- the options of `check` are what the words give, or their defaults
 pub record AreCheckOptionsIn (rows : List Row) (c : CheckOptions) : Type 0 where
   pub reading : IsReading (first_of (codes "reading") rows) c.reading
   pub sites : IsNumberOf 8 (one_of (codes "sites") rows) c.sites
 
+-- the text is what the words give
 abbrev pub IsText : Option Text → Text → Type 0
 IsText found text = (t : Text) → found ≡ Some t → text ≡ t
 
+-- the options of `keep` are what the words give, or their defaults; of what need not be given, None
 pub record AreKeepOptionsIn (rows : List Row) (o : KeepOptions) : Type 0 where
   pub folder : IsText (first_of (codes "folder") rows) (string_bytes o.folder)
   pub site : IsGivenNumber 8 (one_of (codes "site") rows) o.site

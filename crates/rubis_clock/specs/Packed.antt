@@ -12,5 +12,6 @@ joined [] high = []
 joined (l ∷ low) [] = []
 joined (l ∷ low) (h ∷ high) = (l + 65536 * h) ∷ joined low high
 
+-- the counts that are packed in two rows: their lower 16 bits, and what is above these, two in each byte
 abbrev pub counts_of : List ℕ → List ℕ → List ℕ
 counts_of low pairs = joined low (halves pairs)

@@ -16,6 +16,7 @@ IsAt first second both = (both.first.helper.crew ≡ first) × (both.second.help
 abbrev pub IsToldOnce : {J R : Type 0} {job : Ghosts J R} → ℕ → Post J R job → Type 0
 IsToldOnce before post = post.helper.heard ≡ before + from_bool post.over
 
+-- if it took once that no more come, if and only if the crew is over, that stays so
 abbrev pub StaysToldOnce : {J R : Type 0} {job : Ghosts J R} → Post J R job → Post J R job → Type 0
 StaysToldOnce old new = (before : ℕ) → IsToldOnce before old → IsToldOnce before new
 

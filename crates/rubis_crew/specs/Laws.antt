@@ -19,6 +19,7 @@ use Rattle.rubis_crew.specs.Results.{IsPaid, AreResults, unnamed, newcomer, HasN
 
 -- ---- one step, whatever a queue holds and whatever the other passes know
 
+-- each step on the queue of jobs keeps its rule, whatever the queue holds and the other passes know
 pub record JobStepsKeepTheRule {J : Type 0} (Fits : J → Type 0) : Type 0 where
   pub opening : Ruled Fits [] (first_view ∷ [])
   pub give : (room place : ℕ) (v : JobView J) (x : Given J) → v.leads ≡ true → x.number ≡ v.next → Fits x.job
@@ -31,6 +32,7 @@ pub record JobStepsKeepTheRule {J : Type 0} (Fits : J → Type 0) : Type 0 where
   pub settle : (place : ℕ) (v : JobView J) (x : Given J) → v.leads ≡ true → v.held ≡ x ∷ []
       → Forks (Ruled Fits) place v (settled v) idle
 
+-- each step on the queue of results keeps its rule, whatever the queue holds and the other passes know
 pub record ResultStepsKeepTheRule {J R : Type 0} (Worked : J → R → Type 0) : Type 0 where
   pub opening : AreResults Worked [] (unnamed ∷ [])
   pub name : (room place : ℕ) (v : ResultView J) (token : Pass (JobEntry J) (JobView J)) → v ≡ unnamed
@@ -79,7 +81,7 @@ module _ {J : Type 0} where
   moves_of (Popped (Work x) ∷ steps) = Taken x ∷ moves_of steps
   moves_of (Popped Over ∷ steps) = moves_of steps
 
--- whatever is pushed and popped, one after the other
+-- whatever is pushed and popped, in any order, what waits changes as a schedule's posted list does by posts and takes
 abbrev pub StepsMoveTheWaiting : Type 0 → Type 0
 StepsMoveTheWaiting J =
     (before : List (JobEntry J)) (steps : List (QueueStep J)) (after : List (JobEntry J)) → QueueStepsAll before steps after
@@ -155,13 +157,15 @@ module _ {J : Type 0} where
   held_by pays [] = []
   held_by pays (v ∷ views) = held_if pays v.pays v.held ++ held_by pays views
 
+  -- what is held by passes that don't go back with a result
   abbrev pub out : List (JobView J) → List (Given J)
   out views = held_by false views
 
+  -- what is held by passes that go back with a result
   abbrev pub coming_back : List (JobView J) → List (Given J)
   coming_back views = held_by true views
 
--- each job that is given waits, is out or comes back, once, and under its own number
+-- each job that is given waits, is out or comes back, once, and under its own number; no other does
 pub record IsAccounted {J : Type 0} (s : JobState J) : Type 0 where
   pub given : List (Given J)
   pub next : ℕ
@@ -174,5 +178,6 @@ pub record IsAccounted {J : Type 0} (s : JobState J) : Type 0 where
   -- and under it the job that was given
   pub same : (x : Given J) → Contains (waiting s.items ++ (out s.views ++ coming_back s.views)) x → Contains given x
 
+-- after any list of steps of any passes, in any order, the jobs are accounted for
 abbrev pub EveryListOfStepsAccounts : {J : Type 0} → (J → Type 0) → Type 0
 EveryListOfStepsAccounts {J} Fits = (steps : List (Step J)) (t : JobState J) → StepsAll Fits opening steps t → IsAccounted t

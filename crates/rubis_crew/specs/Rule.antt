@@ -43,6 +43,7 @@ module _ {J : Type 0} where
   waiting (Work x ∷ items) = x ∷ waiting items
   waiting (Over ∷ items) = waiting items
 
+  -- how often the queue says that no more come
   abbrev pub overs_in : List (JobEntry J) → ℕ
   overs_in [] = 0
   overs_in (Work x ∷ items) = overs_in items
@@ -81,6 +82,7 @@ pub record AgreesWith {J : Type 0} (lead : ℕ) (given : List (Given J)) (next o
   pub held : (x : Given J) → Contains v.held x → Contains given x
   pub leads : v.leads ≡ true → GivesThem lead given next overs place v
 
+-- the rule of the jobs: what the queue's items and what all passes know have to do with each other
 pub record Ruled {J : Type 0} (Fits : J → Type 0) (items : List (JobEntry J)) (views : List (JobView J)) : Type 0 where
   -- the jobs that are given and aren't back, under numbers that differ
   pub given : List (Given J)
@@ -116,6 +118,7 @@ module _ {J : Type 0} where
   abbrev pub emptied : JobView J → JobView J
   emptied v = record v { held = [] }
 
+  -- a new pass that holds what this one held, and goes back with the result
   abbrev pub token_view : JobView J → JobView J
   token_view v = record { leads = false; next = 0; given = []; overs = 0; held = v.held; taken = []; pays = true; heard = 0 }
 

@@ -44,6 +44,7 @@ module _ {J : Type 0} where
   abbrev pub new_lead : CrewId → LeadState J
   new_lead crew = record { crew = crew; next = 0; given = []; ended = false; told = 0 }
 
+  -- nothing is taken
   abbrev pub new_helper : CrewId → HelperState J
   new_helper crew = record { crew = crew; taken = []; paid = []; heard = 0 }
 

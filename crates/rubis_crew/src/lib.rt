@@ -8,7 +8,6 @@ mod laws;
 mod post;
 mod results;
 mod rule;
-mod staying;
 #[cfg(test)]
 mod tests;
 

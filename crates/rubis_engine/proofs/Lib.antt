@@ -5,4 +5,5 @@ pub mod EndFacts
 pub mod FrontFacts
 pub mod RunFacts
 pub mod TextFacts
+pub mod AnswerFacts
 pub mod ReadBack

@@ -1,9 +1,7 @@
 -- What a run makes of its records.
-use Rattle.std.specs.Prelude.{◌≡◌, ◌+◌, ◌++◌, ◌∷◌, ℕ, IfOk, List, Result}
-use Rattle.rubis_engine.specs.declared.fault.OutOfMemory.{OutOfMemory}
+use Rattle.std.specs.Prelude.{◌≡◌, ◌+◌, ◌++◌, ◌∷◌, ℕ, List}
 use Rattle.rubis_engine.specs.declared.service.Course.{Course}
 use Rattle.rubis_engine.specs.declared.service.Course.TheVariants.{GoesOn, Ends}
-use Rattle.rubis_engine.specs.declared.service.Reply.{Reply}
 
 -- how a run ends after some records: the input ends there, or the run is cut short, since the reader failed or no more
 -- records are taken
@@ -41,10 +39,3 @@ abbrev pub LeadsOn : {S : Type 0} → Course → (S → ℕ → List (List (List
 LeadsOn GoesOn leads number fields old new = (more : List (List (List ℕ))) (last : _)
     → leads new (number + 1) more last → leads old number (fields ∷ more) last
 LeadsOn Ends leads number fields old new = (more : List (List (List ℕ))) → leads old number (fields ∷ more) new
-
--- a record with these fields was answered, as far as the reply goes and as where it leads; or memory ran out
-abbrev pub IsAnswer : {S : Type 0} → (S → ℕ → Account) → (S → ℕ → List (List (List ℕ)) → S → Type 0) → S → S → Reply → Reply → List (List ℕ)
-    → Result Course OutOfMemory → Type 0
-IsAnswer account leads old new before after fields result = IfOk result (λ course.
-    AnswersRecord course (account old before.number) (account new (before.number + 1)) before.sink after.sink fields
-    × LeadsOn course leads before.number fields old new)

@@ -3,6 +3,7 @@ pub mod Lines
 pub mod Rows
 pub mod Reading
 pub mod Accounts
+pub mod Answers
 pub mod Endings
 pub mod Progress
 pub mod Adding

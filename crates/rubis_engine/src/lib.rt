@@ -16,6 +16,6 @@ pub use input_record::InputRecord;
 pub use lines::sent_lines_are_read_as_sent;
 pub use plain_sinks::{FRONT_ROOM, PlainSink};
 pub use record_list::Records;
-pub use service::{Answering, Course, Draft, Reply, Service};
+pub use service::{Course, Draft, Reply, Service};
 pub use sink::Sink;
 pub use streams::{read_through_signals, write_front};

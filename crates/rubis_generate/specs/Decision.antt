@@ -150,6 +150,7 @@ shadow_of t (Comment c) = shadow.Comment c
 shadow_of t (Restock r) = shadow.Restock (record { item = r.item; quantity = r.quantity })
 shadow_of t (Rename r) = renaming t r
 
+-- the refusal, if there is one, or the shadow
 abbrev pub refused_or : Option Refusal → Shadow → Result Shadow Refusal
 refused_or None x = Ok x
 refused_or (Some r) x = Err r

@@ -16,23 +16,29 @@ use Rattle.rubis_schema.specs.declared.rows.Sale.TheVariants.{Open, Ended}
 abbrev pub Rows : Type 0
 Rows = RowKey → Option Row
 
+-- the rows of these tables, by key
 abbrev pub row_by_key : Tables → Rows
 row_by_key t k = map.get t k
 
+-- the row, if it is a user's
 abbrev pub as_user_row : Row → Option UserRow
 as_user_row (row.User u) = Some u
 as_user_row r = None
 
+-- the row, if it is an item's
 abbrev pub as_item_row : Row → Option ItemRow
 as_item_row (row.Item i) = Some i
 as_item_row r = None
 
+-- the row of a user, if there is one
 abbrev pub user_in : Rows → Id → Option UserRow
 user_in t id = option_and_then as_user_row (t (key.User id))
 
+-- the row of an item, if there is one
 abbrev pub item_in : Rows → Id → Option ItemRow
 item_in t id = option_and_then as_item_row (t (key.Item id))
 
+-- the item was closed
 abbrev pub is_ended : Sale → Bool
 is_ended Open = false
 is_ended (Ended winner) = true

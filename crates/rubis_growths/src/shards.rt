@@ -1,16 +1,14 @@
 //! Shards and tables.
 
-ghost use Rattle.std.specs.Prelude.{◌<◌, ◌≤◌, length, IfOk};
-ghost use Rattle.rubis_pieces.specs.Batches.{AreUnfinished};
+ghost use Rattle.std.specs.Prelude.{◌≤◌, length};
 ghost use Rattle.rubis_pieces.specs.Pieces.{IsShareOf};
 
 use crate::records::{Window, message, packet_text};
-use crate::teams::tell_finished;
 use crate::telling::{tell_refused, tell_rows};
 use crate::tries::{Stop, TRIES, again};
 use rubis_listing as listings;
 use rubis_message::{Message, ReadFault};
-use rubis_pieces::{Left, apply_batch, misfits, split};
+use rubis_pieces::{misfits, split};
 use rubis_schema::{Fields, Id, IdTable, Items, Listing, Table, shard_of};
 use rubis_shadow::Numbered;
 use rubis_shard::{Group, Shard, Share, Tables};
@@ -329,36 +327,12 @@ fn tell_shares<R: Print + Threads + Sync>(
     Ok(())
 }
 
-// Applies a batch in shares, again where memory is refused.
-fn apply_shares<R: Print>(
-    rt: &R,
-    alloc: Global,
-    tables: &mut Tables,
-    messages: &[Message],
-) -> Result<Items<Left>, Stop>
-    requires some { 0 < length tables.old }
-    requires entries { length messages.now ≤ 1000 }
-    ensures { IfOk result (AreUnfinished 0 (length tables.new)) }
-{
-    if let Ok(left) = apply_batch(alloc, tables, messages, 1) {
-        return Ok(left);
-    }
-    tell_refused(rt, "apply_batch", true);
-    match apply_batch(alloc, tables, messages, 1) {
-        Ok(left) => Ok(left),
-        Err(_) => Err(Stop::GaveUp),
-    }
-}
-
-/// A batch that is cut into shares, applied by one thread, and finished where memory was refused.
+/// A batch that is cut into shares.
 pub fn batch_in_shares<R: Print + AllocGlobal + Threads + Sync>(rt: &R) -> Result<(), Stop> {
     let alloc = rt.alloc();
     let messages = again!(rt, "read_packet", Window::shop(alloc)).messages;
     if messages.len() > 1000 {
         return Err(Stop::GaveUp);
     }
-    tell_shares(rt, alloc, &messages)?;
-    let mut tables = again!(rt, "Tables::new", Tables::new(alloc, 5));
-    let left = apply_shares(rt, alloc, &mut tables, &messages)?;
-    tell_finished(rt, &mut tables, left)
+    tell_shares(rt, alloc, &messages)
 }

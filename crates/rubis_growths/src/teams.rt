@@ -2,7 +2,7 @@
 
 ghost use Rattle.std.specs.Prelude.{◌<◌, ◌≤◌, IfOk, length};
 ghost use Rattle.std.specs.List.{All};
-ghost use Rattle.rubis_pieces.specs.Batches.{AreUnfinished, Belong};
+ghost use Rattle.rubis_pieces.specs.Batches.{Belong};
 ghost use Rattle.rubis_pieces.specs.Work.{IsPiece};
 ghost use Rattle.rubis_shard.specs.Holdings.{AreInOrder};
 
@@ -12,7 +12,7 @@ use crate::tries::{Stop, TRIES, again};
 use rubis_board::Poster;
 use rubis_listing::tables as list_tables;
 use rubis_message::Message;
-use rubis_pieces::{Left, Piece, Places, count_behind, finish, follow_rest, gather};
+use rubis_pieces::{Left, Piece, Places, count_behind, follow_rest, gather};
 use rubis_pool_core::{Event, Pool, run};
 use rubis_schema::{Id, Items, PurchaseRow, Row, RowKey, shard_of};
 use rubis_shadow::{Change, Effect, Numbered};
@@ -183,32 +183,6 @@ pub fn two_shares_again<R: Print + AllocGlobal + Threads + Wait + Sync>(
         }
     }
     Err(Stop::GaveUp)
-}
-
-/// Finishes what is left of a batch, and tells the rows of the tables.
-pub fn tell_finished<R: Print + AllocGlobal>(
-    rt: &R,
-    tables: &mut Tables,
-    left: Items<Left>,
-) -> Result<(), Stop>
-    requires { AreUnfinished 0 (length tables.old) left }
-{
-    let mut left: Vec<Left> = left.into();
-    if !left.is_empty() {
-        let shares = left.len();
-        let _ = println!(rt; "! apply_batch: {shares} parts");
-        finish(tables, &mut left);
-    }
-    tell_rows(
-        rt,
-        1,
-        &again!(rt, "tables", list_tables(rt.alloc(), tables)),
-    );
-    if left.is_empty() {
-        Ok(())
-    } else {
-        Err(Stop::GaveUp)
-    }
 }
 
 // Has workers apply messages, and goes on with them where memory is refused.

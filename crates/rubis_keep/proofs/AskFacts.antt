@@ -22,7 +22,7 @@ use Rattle.rubis_engine.specs.declared.service.Course.TheVariants.{GoesOn}
 use Rattle.rubis_script.specs.Desks.{TakesNext, left_at}
 use Rattle.rubis_script.specs.Headline.{Settles, StepsOn}
 use Rattle.rubis_script.specs.declared.desk.Desk.{Desk}
-use Rattle.rubis_keep.specs.Asking.{AreFirst, Asks, AsksFirst, GoesOnAsking, LeadsHeld, LedBy, OfEachAsking, RepliesTo, Reply, StepsDesk, owed, replied_in, replies, reply_to}
+use Rattle.rubis_keep.specs.Asking.{AreFirst, Asks, AsksFirst, GoesOnAsking, LeadsHeld, LedBy, OfEachAsking, RepliesTo, Reply, owed, replied_in, replies, reply_to}
 use Rattle.rubis_keep.specs.Cuts.{asked_by}
 use Rattle.rubis_keep.specs.History.{Answers, Event, Grows, HasTold, History, KeepsLines, Tells}
 use Rattle.rubis_keep.specs.History.Event.{Began, CutTo, Flushed, Kept, Replied, Settled, Shown, Told}
@@ -55,14 +55,14 @@ step-any p s n m (Came (packet.Token t)) = refl
 step-any p s n m Neither = refl
 
 -- a record that was read leads from one desk to the next
-pub reads-next : {G : Type 0} (d d2 : Desk G) (read : Input) (fields fields2 : List (List ℕ)) → IsInput d.site.place.sites fields read → fields ≡ fields2
-    → TakesNext read d d2
-    → AnswersRecord GoesOn (left_at d) (left_at d2) d.reply.sink d2.reply.sink fields2 × (d2.answered ≡ d.answered + 1) × StepsDesk d d2 fields2
-reads-next d d2 read fields fields2 is same took =
+pub reads-next : {T : Type 0} (d d2 : Desk T) (n : ℕ) (sink sink2 : List ℕ) (read : Input) (fields fields2 : List (List ℕ))
+    → IsInput d.site.place.sites fields read → fields ≡ fields2 → TakesNext read n d d2 sink sink2
+    → AnswersRecord GoesOn (left_at d n) (left_at d2 (n + 1)) sink sink2 fields2
+    × StepsOn n (input_of d.site.place.sites fields2) d.site d.window.items d2.site d2.window.items
+reads-next d d2 n sink sink2 read fields fields2 is same took =
     let means = ap (input_of d.site.place.sites) (sym same) ∙ is.means in (
       took.text fields2 means,
-      took.count,
-      subst (λ i. StepsOn (d.answered + 1) i d.site d.window.items d2.site d2.window.items) (sym means) took.leads,
+      subst (λ i. StepsOn n i d.site d.window.items d2.site d2.window.items) (sym means) took.leads,
     )
 
 pub led-step : (p : Place) (s0 : Replica) (mid new : SiteState) (w w2 : List Message) (n : ℕ) (fields : List (List ℕ)) (done : List (List (List ℕ)))

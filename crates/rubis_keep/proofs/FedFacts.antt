@@ -7,7 +7,7 @@ use Rattle.rubis_engine.specs.Accounts.{Account}
 use Rattle.rubis_engine.specs.Text.{input_records}
 use Rattle.rubis_engine.specs.Reading.{Advances, Gives, fields_now}
 use Rattle.rubis_engine.specs.declared.record_list.Records.{Records}
-use Rattle.rubis_message.specs.Inputs.{FitsIn, IsInput}
+use Rattle.rubis_message.specs.Inputs.{IsInput}
 use Rattle.rubis_message.specs.Message.{Message}
 use Rattle.rubis_message.specs.declared.inputs.Input.{Input}
 use Rattle.rubis_reading.specs.Inputs.{AreInputs}
@@ -15,8 +15,7 @@ use Rattle.rubis_replica.specs.Arrivals.{after_all}
 use Rattle.rubis_replica.specs.State.{SiteState}
 use Rattle.rubis_script.specs.Desks.{TakesNext, left_at}
 use Rattle.rubis_script.specs.SiteRuns.{told_by}
-use Rattle.rubis_script.specs.declared.desk.Desk.{Desk}
-use Rattle.rubis_keep.specs.Asking.{LeadsHeld, LeadsOn}
+use Rattle.rubis_keep.specs.Asking.{LeadsHeld, LeadsOn, still_at}
 use Rattle.rubis_keep.specs.Differences.{MayDiffer}
 use Rattle.rubis_keep.specs.Faults.{FinishedUnlike, HasCause, StaysWithin}
 use Rattle.rubis_keep.specs.Fed.{FailsFed, Feeds, FeedsAt, FeedsInputs, FeedsRows, HasFed}
@@ -43,8 +42,8 @@ use Rattle.rubis_keep.proofs.WholeFacts.{whole-append}
 
 -- ---- where records lead
 
-leads-none : {G : Type 0} (d d2 : Desk G) → d2 ≡ d → LeadsOn d d2 []
-leads-none d d2 same = rw same (record { place = refl; state = refl; count = omega arith })
+leads-none : {T : Type 0} (c c2 : Clerk T) → c2 ≡ c → LeadsOn c c2 []
+leads-none c c2 same = rw same (record { place = refl; state = refl; count = omega arith })
 
 pub leads-both : (s0 s1 s2 : SiteState) (w0 w1 w2 : List Message) (n0 n1 n2 : ℕ) (rows rows2 : List (List (List ℕ)))
     → LeadsHeld s0 w0 n0 s1 w1 n1 rows → LeadsHeld s1 w1 n1 s2 w2 n2 rows2 → LeadsHeld s0 w0 n0 s2 w2 n2 (rows ++ rows2)
@@ -71,7 +70,7 @@ pub fed-none : {O F G : Type 0} (before : O → Option (List ℕ)) (history : F 
 fed-none before history c a = record {
   goes = λ rest all told was out0 kept f. f;
   told = (refl, ([], tells-none a.is_live (history a.files)));
-  leads = leads-none c.desk c.desk refl;
+  leads = leads-none c c refl;
   limits = record { same = refl; within = λ l. l };
 }
 
@@ -83,14 +82,14 @@ fed-both before history rows rows2 c c1 c2 a a1 a2 one two = record {
       (subst (λ t. FeedsAt before history t c a all told was out0 kept) (append_assoc rows rows2 rest) f));
   told = tells-later a.is_live a1.is_live a2.is_live (history a.files) (history a1.files) (history a2.files) one.told.0 one.told.1.0 one.told.1.1 two.told;
   leads = leads-both c.desk.site c1.desk.site c2.desk.site _ _ _ _ _ _ rows rows2 one.leads two.leads;
-  limits = within-more c.limit c.desk.answered c1.limit c1.desk.answered c2.limit c2.desk.answered one.limits two.limits;
+  limits = within-more c.limit c.answered c1.limit c1.answered c2.limit c2.answered one.limits two.limits;
 }
 
 pub fed-fails : {O F G : Type 0} (before : O → Option (List ℕ)) (history : F → Option History) (rows : List (List (List ℕ))) (c c1 : Clerk G)
     (a a1 : Answers O F) (e : KeepFault) → HasFed before history rows c c1 a a1 → IsFailure e → FailsFed before history rows c a a1 e
 fed-fails before history rows c c1 a a1 e h fails = record {
-  ends = λ rest all told was out0 kept f. feeds-ends rest all (left_at c1.desk) told was (before a1.before) out0 (out_in (history a1.files))
-      c1.desk.reply.sink (c1.desk.answered + 1) kept (h.goes rest all told was out0 kept f);
+  ends = λ rest all told was out0 kept f. feeds-ends rest all (still_at c1) told was (before a1.before) out0 (out_in (history a1.files))
+      c1.reply.sink (c1.answered + 1) kept (h.goes rest all told was out0 kept f);
   told = (h.told.0, (h.told.1.0, [], h.told.1.1));
   fault = λ rest all told was out0 kept f. failure-cause c.limit all (told ++ was) kept e fails;
 }
@@ -133,71 +132,71 @@ feeds-failed before history rows c c2 a a2 r e bad h =
 
 -- it was answered
 pub step-fed : {O F G : Type 0} (before : O → Option (List ℕ)) (history : F → Option History) (fields : List (List ℕ)) (p : Input) (c c2 : Clerk G)
-    (a : Answers O F) → c2.limit ≡ c.limit → c.desk.answered < c.limit → IsInput c.desk.site.place.sites fields p → TakesNext p c.desk c2.desk
-    → HasFed before history (fields ∷ []) c c2 a a
-step-fed before history fields p c c2 a limit few is takes =
-    let next = reads-next c.desk c2.desk p fields fields is refl takes in
+    (a : Answers O F) → c2.limit ≡ c.limit → c.answered < c.limit → c2.answered ≡ c.answered + 1 → IsInput c.desk.site.place.sites fields p
+    → TakesNext p (c.answered + 1) c.desk c2.desk c.reply.sink c2.reply.sink → HasFed before history (fields ∷ []) c c2 a a
+step-fed before history fields p c c2 a limit few count is takes =
+    let next = reads-next c.desk c2.desk (c.answered + 1) c.reply.sink c2.reply.sink p fields fields is refl takes in
     let led = led-step c.desk.site.place (after_all c.desk.site.place c.desk.site.state c.desk.window.items) c.desk.site c2.desk.site
-    c.desk.window.items c2.desk.window.items (c.desk.answered + 1) fields [] refl refl next.2 in
+    c.desk.window.items c2.desk.window.items (c.answered + 1) fields [] refl refl next.1 in
     record {
       goes = λ rest all told was out0 kept f. subst
-          (λ n. Feeds rest all (left_at c2.desk) told was (before a.before) out0 (out_in (history a.files)) c2.desk.reply.sink n kept)
-          (ap (λ n. n + 1) (sym next.1))
-          (feeds-step fields rest all (left_at c.desk) (left_at c2.desk) told was (before a.before) out0 (out_in (history a.files)) c.desk.reply.sink
-          c2.desk.reply.sink (c.desk.answered + 1) kept f next.0);
+          (λ n. Feeds rest all (left_at c2.desk n) told was (before a.before) out0 (out_in (history a.files)) c2.reply.sink n kept)
+          (ap (λ n. n + 1) (sym count))
+          (feeds-step fields rest all (still_at c) (left_at c2.desk (c.answered + 1 + 1)) told was (before a.before) out0 (out_in (history a.files)) c.reply.sink
+          c2.reply.sink (c.answered + 1) kept f next.0);
       told = (refl, ([], tells-none a.is_live (history a.files)));
-      leads = record { place = led.0; state = led.1; count = omega (arith, next.1) };
-      limits = record { same = limit; within = λ l. let more = next.1 in omega (arith, more, limit, few) };
+      leads = record { place = led.0; state = led.1; count = omega (arith, count) };
+      limits = record { same = limit; within = λ l. omega (arith, count, limit, few) };
     }
 
 -- what was answered so far was put
 pub put-fed : {O F G : Type 0} (before : O → Option (List ℕ)) (history : F → Option History) (c c2 : Clerk G) (a a2 : Answers O F)
-    → c2.limit ≡ c.limit → c2.desk.site ≡ c.desk.site → c2.desk.window ≡ c.desk.window → c2.desk.answered ≡ c.desk.answered → c2.desk.reply.sink ≡ []
-    → Puts (before a.before) (before a2.before) (out_in (history a.files)) (out_in (history a2.files)) c.desk.reply.sink
+    → c2.limit ≡ c.limit → c2.desk ≡ c.desk → c2.answered ≡ c.answered → c2.reply.sink ≡ []
+    → Puts (before a.before) (before a2.before) (out_in (history a.files)) (out_in (history a2.files)) c.reply.sink
     → (a2.is_live ≡ a.is_live) × ((text : List ℕ) × Tells a.is_live (history a.files) (history a2.files) text [])
     → HasFed before history [] c c2 a a2
-put-fed before history c c2 a a2 limit site window answered empty puts told = record {
-  goes = λ rest all told was out0 kept f. rw (site, window, answered, empty)
-      (feeds-put rest all (left_at c.desk) told was (before a.before) (before a2.before) out0 (out_in (history a.files)) (out_in (history a2.files))
-      c.desk.reply.sink (c.desk.answered + 1) kept f puts);
+put-fed before history c c2 a a2 limit desk answered empty puts told = record {
+  goes = λ rest all told was out0 kept f. rw (desk, answered, empty)
+      (feeds-put rest all (still_at c) told was (before a.before) (before a2.before) out0 (out_in (history a.files)) (out_in (history a2.files))
+      c.reply.sink (c.answered + 1) kept f puts);
   told = told;
-  leads = rw (site, window, answered) (record { place = refl; state = refl; count = omega arith });
+  leads = rw (desk, answered) (record { place = refl; state = refl; count = omega arith });
   limits = record { same = limit; within = λ l. omega (arith, l, limit, answered) };
 }
 
 pub put-fails : {O F G : Type 0} (before : O → Option (List ℕ)) (history : F → Option History) (c : Clerk G) (a a2 : Answers O F) (e : KeepFault)
-    → PutsFront (before a.before) (before a2.before) (out_in (history a.files)) (out_in (history a2.files)) c.desk.reply.sink
+    → PutsFront (before a.before) (before a2.before) (out_in (history a.files)) (out_in (history a2.files)) c.reply.sink
     → (a2.is_live ≡ a.is_live) × ((text : List ℕ) × (due : List ℕ) × Tells a.is_live (history a.files) (history a2.files) text due)
-    → MayDiffer e (λ _. IfSome (before a.before) (λ left. DiffersFrom left c.desk.reply.sink)) → FailsFed before history [] c a a2 e
+    → MayDiffer e (λ _. IfSome (before a.before) (λ left. DiffersFrom left c.reply.sink)) → FailsFed before history [] c a a2 e
 put-fails before history c a a2 e front told unlike = record {
-  ends = λ rest all told was out0 kept f. feeds-put-ends rest all (left_at c.desk) told was (before a.before) (before a2.before) out0
-      (out_in (history a.files)) (out_in (history a2.files)) c.desk.reply.sink (c.desk.answered + 1) kept f front;
+  ends = λ rest all told was out0 kept f. feeds-put-ends rest all (still_at c) told was (before a.before) (before a2.before) out0
+      (out_in (history a.files)) (out_in (history a2.files)) c.reply.sink (c.answered + 1) kept f front;
   told = told;
-  fault = λ rest all told was out0 kept f. differs-cause c.limit all (told ++ was) kept e (λ _. IfSome (before a.before) (λ left. DiffersFrom left c.desk.reply.sink))
-      (λ d there. feeds-unlike rest all (left_at c.desk) told was (before a.before) out0 (out_in (history a.files)) c.desk.reply.sink (c.desk.answered + 1) kept f
+  fault = λ rest all told was out0 kept f. differs-cause c.limit all (told ++ was) kept e (λ _. IfSome (before a.before) (λ left. DiffersFrom left c.reply.sink))
+      (λ d there. feeds-unlike rest all (still_at c) told was (before a.before) out0 (out_in (history a.files)) c.reply.sink (c.answered + 1) kept f
       there) unlike;
 }
 
 pub put-rows : {T O F G : Type 0} (before : O → Option (List ℕ)) (history : F → Option History) (c c2 : Clerk G) (a a2 : Answers O F) (r : Result T KeepFault)
-    → c2.limit ≡ c.limit → c2.desk.site ≡ c.desk.site → c2.desk.window ≡ c.desk.window → c2.desk.answered ≡ c.desk.answered → c2.desk.reply.sink ≡ []
-    → OnOk r (Puts (before a.before) (before a2.before) (out_in (history a.files)) (out_in (history a2.files)) c.desk.reply.sink)
-    → OnErr r (PutsFront (before a.before) (before a2.before) (out_in (history a.files)) (out_in (history a2.files)) c.desk.reply.sink)
+    → c2.limit ≡ c.limit → c2.desk ≡ c.desk → c2.answered ≡ c.answered → c2.reply.sink ≡ []
+    → OnOk r (Puts (before a.before) (before a2.before) (out_in (history a.files)) (out_in (history a2.files)) c.reply.sink)
+    → OnErr r (PutsFront (before a.before) (before a2.before) (out_in (history a.files)) (out_in (history a2.files)) c.reply.sink)
     → HasTold a.is_live a2.is_live (history a.files) (history a2.files) r
-    → IfErr r (λ e. MayDiffer e (λ _. IfSome (before a.before) (λ left. DiffersFrom left c.desk.reply.sink))) → FeedsRows before history [] c c2 a a2 r
-put-rows before history c c2 a a2 (Ok x) limit site window answered empty puts front told unlike =
-    put-fed before history c c2 a a2 limit site window answered empty puts told
-put-rows before history c c2 a a2 (Err e) limit site window answered empty puts front told unlike = put-fails before history c a a2 e front told unlike
+    → IfErr r (λ e. MayDiffer e (λ _. IfSome (before a.before) (λ left. DiffersFrom left c.reply.sink))) → FeedsRows before history [] c c2 a a2 r
+put-rows before history c c2 a a2 (Ok x) limit desk answered empty puts front told unlike =
+    put-fed before history c c2 a a2 limit desk answered empty puts told
+put-rows before history c c2 a a2 (Err e) limit desk answered empty puts front told unlike = put-fails before history c a a2 e front told unlike
 
 finish-fails : {O F G : Type 0} (before : O → Option (List ℕ)) (history : F → Option History) (rows : List (List (List ℕ))) (c : Clerk G) (more : Account)
     (a a2 : Answers O F) (e : KeepFault)
-    → FinishedFront (left_at c.desk) more c.desk.reply.sink (before a.before) (before a2.before) (out_in (history a.files)) (out_in (history a2.files))
+    → FinishedFront (still_at c) more c.reply.sink (before a.before) (before a2.before) (out_in (history a.files)) (out_in (history a2.files))
     → (a2.is_live ≡ a.is_live) × ((text : List ℕ) × (due : List ℕ) × Tells a.is_live (history a.files) (history a2.files) text due)
     → ((rest : List (List (List ℕ))) (all : Account) (told was : List ℕ) (out0 : Option (List ℕ)) (kept : List ℕ)
     → FeedsAt before history (rows ++ rest) c a all told was out0 kept → HasCause c.limit all (told ++ was) kept e)
     → FailsFed before history rows c a a2 e
 finish-fails before history rows c more a a2 e front told caused = record {
-  ends = λ rest all told was out0 kept f. feeds-finish-ends (rows ++ rest) all (left_at c.desk) more told was (before a.before) (before a2.before) out0
-      (out_in (history a.files)) (out_in (history a2.files)) c.desk.reply.sink (c.desk.answered + 1) kept f front;
+  ends = λ rest all told was out0 kept f. feeds-finish-ends (rows ++ rest) all (still_at c) more told was (before a.before) (before a2.before) out0
+      (out_in (history a.files)) (out_in (history a2.files)) c.reply.sink (c.answered + 1) kept f front;
   told = told;
   fault = caused;
 }
@@ -209,39 +208,25 @@ pub finish-failed : {T O F G : Type 0} (before : O → Option (List ℕ)) (histo
 finish-failed before history rows c c2 a a2 (Ok x) e f bad = absurd bad
 finish-failed before history rows c c2 a a2 (Err x) e f bad =
     subst (FailsFed before history rows c a a2) bad
-    (finish-fails before history rows c (told_by c2.desk.site (c.desk.answered + 1)) a a2 x f.err f.told
+    (finish-fails before history rows c (told_by c2.desk.site (c.answered + 1)) a a2 x f.err f.told
     (λ rest all told was out0 kept g. differs-cause c.limit all (told ++ was) kept x
-    (λ _. FinishedUnlike (left_at c.desk) (told_by c2.desk.site (c.desk.answered + 1)) c.desk.reply.sink (before a.before))
-    (λ d there. finish-unlike (rows ++ rest) all (left_at c.desk) (told_by c2.desk.site (c.desk.answered + 1)) told was (before a.before) out0
-    (out_in (history a.files)) c.desk.reply.sink (c.desk.answered + 1) kept g there) f.fault))
+    (λ _. FinishedUnlike (still_at c) (told_by c2.desk.site (c.answered + 1)) c.reply.sink (before a.before))
+    (λ d there. finish-unlike (rows ++ rest) all (still_at c) (told_by c2.desk.site (c.answered + 1)) told was (before a.before) out0
+    (out_in (history a.files)) c.reply.sink (c.answered + 1) kept g there) f.fault))
 
 -- it is answered, and nothing more is: that is as many records as the clerk answers
 pub finish-full : {T O F G : Type 0} (before : O → Option (List ℕ)) (history : F → Option History) (rows : List (List (List ℕ))) (c c2 : Clerk G)
-    (a a2 : Answers O F) (r : Result T KeepFault) → Finishes before history c c2 a a2 r → IsOk r → 0 < length rows → c.limit ≤ c.desk.answered
+    (a a2 : Answers O F) (r : Result T KeepFault) → Finishes before history c c2 a a2 r → IsOk r → 0 < length rows → c.limit ≤ c.answered
     → FailsFed before history rows c a a2 fault.TooLong
 finish-full before history rows c c2 a a2 (Ok x) f good some full =
-    finish-fails before history rows c (told_by c2.desk.site (c.desk.answered + 1)) a a2 fault.TooLong
+    finish-fails before history rows c (told_by c2.desk.site (c.answered + 1)) a a2 fault.TooLong
     (inr (f.ok.0, f.ok.1, puts-all (before a.before) (before a2.before) (out_in (history a.files)) (out_in (history a2.files)) f.ok.0 f.ok.2))
     (f.told.0, (f.told.1.0, [], f.told.1.1))
-    (λ rest all told was out0 kept g. too-many rows rest all (left_at c.desk) told was (before a.before) out0 (out_in (history a.files)) c.desk.reply.sink c.limit
-    c.desk.answered kept g some full)
+    (λ rest all told was out0 kept g. too-many rows rest all (still_at c) told was (before a.before) out0 (out_in (history a.files)) c.reply.sink c.limit
+    c.answered kept g some full)
 finish-full before history rows c c2 a a2 (Err e) f good some full = absurd (cc good)
 
 -- ---- many records, some of which are answered
-
--- of these records the first were answered, and the others are these inputs
-pub record HasFedSome {O F G : Type 0} (before : O → Option (List ℕ)) (history : F → Option History) (rows : List (List (List ℕ))) (ps : List Input)
-    (c c2 : Clerk G) (a a2 : Answers O F) : Type 0 where
-  pub done : List (List (List ℕ))
-  pub left : List (List (List ℕ))
-  pub parts : rows ≡ done ++ left
-  pub inputs : AreInputs c2.desk.site.place.sites left ps
-  pub fed : HasFed before history done c c2 a a2
-
-pub some-starts : {O F G : Type 0} (before : O → Option (List ℕ)) (history : F → Option History) (rows : List (List (List ℕ))) (ps all : List Input)
-    (c : Clerk G) (a : Answers O F) → all ≡ ps → AreInputs c.desk.site.place.sites rows ps → HasFedSome before history rows all c c a a
-some-starts before history rows ps all c a is inputs =
-    record { done = []; left = rows; parts = refl; inputs = subst (AreInputs c.desk.site.place.sites rows) (sym is) inputs; fed = fed-none before history c a }
 
 pub record IsSplit (sites : ℕ) (rows : List (List (List ℕ))) (ps qs : List Input) : Type 0 where
   pub first : List (List (List ℕ))
@@ -250,69 +235,10 @@ pub record IsSplit (sites : ℕ) (rows : List (List (List ℕ))) (ps qs : List I
   pub ones : AreInputs sites first ps
   pub others : AreInputs sites later qs
 
-pub inputs-split : (sites : ℕ) (rows : List (List (List ℕ))) (ps qs : List Input) → AreInputs sites rows (ps ++ qs) → IsSplit sites rows ps qs
-unfolding AreInputs
-inputs-split sites rows [] qs h = record { first = []; later = rows; parts = refl; ones = tt; others = h }
-inputs-split sites [] (p ∷ ps) qs h = absurd h
-inputs-split sites (r ∷ rows) (p ∷ ps) qs h =
-    let s = inputs-split sites rows ps qs h.1 in
-    record { first = r ∷ s.first; later = s.later; parts = ap (λ t. r ∷ t) s.parts; ones = (h.0, s.ones); others = s.others }
-
-pub some-known : {O F G : Type 0} (before : O → Option (List ℕ)) (history : F → Option History) (rows : List (List (List ℕ))) (all ps qs : List Input)
-    (c c2 : Clerk G) (a a2 : Answers O F) → HasFedSome before history rows all c c2 a a2 → all ≡ ps ++ qs
-    → (first : List (List (List ℕ))) × AreInputs c2.desk.site.place.sites first ps
-some-known before history rows all ps qs c c2 a a2 h is =
-    let s = inputs-split c2.desk.site.place.sites h.left ps qs (subst (AreInputs c2.desk.site.place.sites h.left) is h.inputs) in (s.first, s.ones)
-
-one-fits : (sites : ℕ) (rows : List (List (List ℕ))) (p : Input) (qs : List Input) → AreInputs sites rows (p ∷ qs) → FitsIn sites p
-unfolding AreInputs
-one-fits sites [] p qs h = absurd h
-one-fits sites (fields ∷ rows) p qs h = h.0.fits
-
-pub some-fits : {O F G : Type 0} (before : O → Option (List ℕ)) (history : F → Option History) (rows : List (List (List ℕ))) (all : List Input) (p : Input)
-    (qs : List Input) (c c2 : Clerk G) (a a2 : Answers O F) → HasFedSome before history rows all c c2 a a2 → all ≡ p ∷ qs → FitsIn c2.desk.site.place.sites p
-some-fits before history rows all p qs c c2 a a2 h is =
-    one-fits c2.desk.site.place.sites h.left p qs (subst (AreInputs c2.desk.site.place.sites h.left) is h.inputs)
-
-pub first-fits : (sites : ℕ) (rows : List (List (List ℕ))) (p : Input) → AreInputs sites rows (p ∷ []) → FitsIn sites p
-first-fits sites rows p h = one-fits sites rows p [] h
-
-pub some-next : {O F G : Type 0} (before : O → Option (List ℕ)) (history : F → Option History) (rows : List (List (List ℕ))) (all ps qs : List Input)
-    (c c1 c2 : Clerk G) (a a1 a2 : Answers O F) → HasFedSome before history rows all c c1 a a1 → all ≡ ps ++ qs
-    → ((first : List (List (List ℕ))) → AreInputs c1.desk.site.place.sites first ps → HasFed before history first c1 c2 a1 a2)
-    → HasFedSome before history rows qs c c2 a a2
-some-next before history rows all ps qs c c1 c2 a a1 a2 h is next =
-    let s = inputs-split c1.desk.site.place.sites h.left ps qs (subst (AreInputs c1.desk.site.place.sites h.left) is h.inputs) in
-    let more = next s.first s.ones in
-    record {
-      done = h.done ++ s.first;
-      left = s.later;
-      parts = h.parts ∙ ap (λ t. h.done ++ t) s.parts ∙ sym (append_assoc h.done s.first s.later);
-      inputs = subst (λ p. AreInputs p.sites s.later qs) (sym more.leads.place) s.others;
-      fed = fed-both before history h.done s.first c c1 c2 a a1 a2 h.fed more;
-    }
-
-pub some-fails : {O F G : Type 0} (before : O → Option (List ℕ)) (history : F → Option History) (rows : List (List (List ℕ))) (all ps qs : List Input)
-    (c c1 : Clerk G) (a a1 a2 : Answers O F) (e : KeepFault) → HasFedSome before history rows all c c1 a a1 → all ≡ ps ++ qs
-    → ((first : List (List (List ℕ))) → AreInputs c1.desk.site.place.sites first ps → FailsFed before history first c1 a1 a2 e)
-    → FailsFed before history rows c a a2 e
-some-fails before history rows all ps qs c c1 a a1 a2 e h is next =
-    let s = inputs-split c1.desk.site.place.sites h.left ps qs (subst (AreInputs c1.desk.site.place.sites h.left) is h.inputs) in
-    subst (λ t. FailsFed before history t c a a2 e)
-    (append_assoc h.done s.first s.later ∙ ap (λ t. h.done ++ t) (sym s.parts) ∙ sym h.parts)
-    (fails-sooner before history (h.done ++ s.first) s.later c a a2 e
-    (fails-later before history h.done s.first c c1 a a1 a2 e h.fed (next s.first s.ones)))
-
 none-of : (sites : ℕ) (rows : List (List (List ℕ))) → AreInputs sites rows [] → rows ≡ []
 unfolding AreInputs
 none-of sites [] h = refl
 none-of sites (fields ∷ rows) h = absurd h
-
-pub some-all : {O F G : Type 0} (before : O → Option (List ℕ)) (history : F → Option History) (rows : List (List (List ℕ))) (ps : List Input)
-    (c c2 : Clerk G) (a a2 : Answers O F) → ps ≡ [] → HasFedSome before history rows ps c c2 a a2 → HasFed before history rows c c2 a a2
-some-all before history rows ps c c2 a a2 none h =
-    let last = none-of c2.desk.site.place.sites h.left (subst (AreInputs c2.desk.site.place.sites h.left) none h.inputs) in
-    subst (λ t. HasFed before history t c c2 a a2) (sym (h.parts ∙ ap (λ t. h.done ++ t) last ∙ append-nil h.done)) h.fed
 
 -- of one record
 pub one-fed : {T O F G : Type 0} (before : O → Option (List ℕ)) (history : F → Option History) (p : Input) (c c2 : Clerk G) (a a2 : Answers O F)
@@ -325,12 +251,13 @@ one-fed before history p c c2 a a2 r h (fields ∷ (more ∷ rows)) inputs = abs
 
 -- it was answered, and nothing was put
 pub input-fed : {O F G : Type 0} (before : O → Option (List ℕ)) (history : F → Option History) (p : Input) (c c2 : Clerk G) (a : Answers O F)
-    → c2.limit ≡ c.limit → c.desk.answered < c.limit → TakesNext p c.desk c2.desk → (rows : List (List (List ℕ)))
+    → c2.limit ≡ c.limit → c.answered < c.limit → c2.answered ≡ c.answered + 1
+    → TakesNext p (c.answered + 1) c.desk c2.desk c.reply.sink c2.reply.sink → (rows : List (List (List ℕ)))
     → AreInputs c.desk.site.place.sites rows (p ∷ []) → HasFed before history rows c c2 a a
 unfolding AreInputs
-input-fed before history p c c2 a limit few takes [] inputs = absurd inputs
-input-fed before history p c c2 a limit few takes (fields ∷ []) inputs = step-fed before history fields p c c2 a limit few inputs.0 takes
-input-fed before history p c c2 a limit few takes (fields ∷ (more ∷ rows)) inputs = absurd inputs.1
+input-fed before history p c c2 a limit few count takes [] inputs = absurd inputs
+input-fed before history p c c2 a limit few count takes (fields ∷ []) inputs = step-fed before history fields p c c2 a limit few count inputs.0 takes
+input-fed before history p c c2 a limit few count takes (fields ∷ (more ∷ rows)) inputs = absurd inputs.1
 
 pub some-input : (sites : ℕ) (rows : List (List (List ℕ))) (p : Input) (ps : List Input) → AreInputs sites rows (p ∷ ps) → 0 < length rows
 unfolding AreInputs
@@ -397,76 +324,76 @@ given-all before history rem r r2 rows c c2 a a2 h end =
 -- ---- a text of whole records
 
 chunk-starts : {O F G : Type 0} (before : O → Option (List ℕ)) (history : F → Option History) (chunk : List ℕ) (c : Clerk G) (a : Answers O F)
-    → IsIdle c.desk.window.items c.desk.reply.sink → IsWhole chunk → (all : Account) (told was : List ℕ) (out0 : Option (List ℕ)) (kept : List ℕ)
-    → Rests all (left_at c.desk) told was (before a.before) out0 (out_in (history a.files)) (c.desk.answered + 1) kept
+    → IsIdle c.desk.window.items c.reply.sink → IsWhole chunk → (all : Account) (told was : List ℕ) (out0 : Option (List ℕ)) (kept : List ℕ)
+    → Rests all (still_at c) told was (before a.before) out0 (out_in (history a.files)) (c.answered + 1) kept
     → FeedsAt before history (input_records chunk ++ []) c a all told was out0 (kept ++ chunk)
 chunk-starts before history chunk c a idle whole all told was out0 kept rests =
-    subst (λ t. Feeds t all (left_at c.desk) told was (before a.before) out0 (out_in (history a.files)) c.desk.reply.sink (c.desk.answered + 1) (kept ++ chunk))
+    subst (λ t. Feeds t all (still_at c) told was (before a.before) out0 (out_in (history a.files)) c.reply.sink (c.answered + 1) (kept ++ chunk))
     (sym (append-nil (input_records chunk)))
-    (subst (λ t. Feeds (input_records chunk) all (left_at c.desk) told was (before a.before) out0 (out_in (history a.files)) t (c.desk.answered + 1) (kept ++ chunk))
+    (subst (λ t. Feeds (input_records chunk) all (still_at c) told was (before a.before) out0 (out_in (history a.files)) t (c.answered + 1) (kept ++ chunk))
     (sym idle.empty)
-    (feeds-start all (left_at c.desk) told was (before a.before) out0 (out_in (history a.files)) (c.desk.answered + 1) kept chunk rests whole))
+    (feeds-start all (still_at c) told was (before a.before) out0 (out_in (history a.files)) (c.answered + 1) kept chunk rests whole))
 
 -- how that ends
 chunk-ends : {T O F G : Type 0} (before : O → Option (List ℕ)) (history : F → Option History) (chunk : List ℕ) (c c1 c2 : Clerk G) (a a1 a2 : Answers O F)
-    (r : Result T KeepFault) → IsIdle c.desk.window.items c.desk.reply.sink → IsWhole chunk → HasFed before history (input_records chunk) c c1 a a1
-    → Finishes before history c1 c2 a1 a2 r → MatchResult r (λ _. StaysWithin c.limit c.desk.answered c2.limit c2.desk.answered)
-    (λ e. InEachRest (told_by c.desk.site (c.desk.answered + 1)) (before a.before) (out_in (history a.files)) (c.desk.answered + 1)
+    (r : Result T KeepFault) → IsIdle c.desk.window.items c.reply.sink → IsWhole chunk → HasFed before history (input_records chunk) c c1 a a1
+    → Finishes before history c1 c2 a1 a2 r → MatchResult r (λ _. StaysWithin c.limit c.answered c2.limit c2.answered)
+    (λ e. InEachRest (told_by c.desk.site (c.answered + 1)) (before a.before) (out_in (history a.files)) (c.answered + 1)
     (λ all told was out0 kept. HasCause c.limit all (told ++ was) (kept ++ chunk) e))
 chunk-ends before history chunk c c1 c2 a a1 a2 (Ok x) idle whole fed ends =
-    within-still c.limit c.desk.answered c1.limit c1.desk.answered c2.limit c2.desk.answered fed.limits ends.limit ends.same.0
+    within-still c.limit c.answered c1.limit c1.answered c2.limit c2.answered fed.limits ends.limit ends.same.0
 chunk-ends before history chunk c c1 c2 a a1 a2 (Err e) idle whole fed ends =
-    rests-told c.desk.site c.desk.window.items (c.desk.answered + 1) (before a.before) (out_in (history a.files)) (c.desk.answered + 1)
+    rests-told c.desk.site c.desk.window.items c.desk.first (c.answered + 1) (before a.before) (out_in (history a.files)) (c.answered + 1)
     (λ all told was out0 kept. HasCause c.limit all (told ++ was) (kept ++ chunk) e) idle.window
     (λ all told was out0 kept rests. subst (λ n. HasCause n all (told ++ was) (kept ++ chunk) e) fed.limits.same
     (differs-cause c1.limit all (told ++ was) (kept ++ chunk) e
-    (λ _. FinishedUnlike (left_at c1.desk) (told_by c2.desk.site (c1.desk.answered + 1)) c1.desk.reply.sink (before a1.before))
-    (λ d there. finish-unlike [] all (left_at c1.desk) (told_by c2.desk.site (c1.desk.answered + 1)) told was (before a1.before) out0 (out_in (history a1.files))
-    c1.desk.reply.sink (c1.desk.answered + 1) (kept ++ chunk)
+    (λ _. FinishedUnlike (still_at c1) (told_by c2.desk.site (c1.answered + 1)) c1.reply.sink (before a1.before))
+    (λ d there. finish-unlike [] all (still_at c1) (told_by c2.desk.site (c1.answered + 1)) told was (before a1.before) out0 (out_in (history a1.files))
+    c1.reply.sink (c1.answered + 1) (kept ++ chunk)
     (fed.goes [] all told was out0 (kept ++ chunk) (chunk-starts before history chunk c a idle whole all told was out0 kept rests)) there) ends.fault))
 
 -- its records are answered, and then what is held is
 pub chunk-done : {T O F G : Type 0} (before : O → Option (List ℕ)) (history : F → Option History) (chunk : List ℕ) (c c1 c2 : Clerk G) (a a1 a2 : Answers O F)
-    (r : Result T KeepFault) → IsIdle c.desk.window.items c.desk.reply.sink → IsWhole chunk → HasFed before history (input_records chunk) c c1 a a1
+    (r : Result T KeepFault) → IsIdle c.desk.window.items c.reply.sink → IsWhole chunk → HasFed before history (input_records chunk) c c1 a a1
     → Finishes before history c1 c2 a1 a2 r → FeedsChunk before history chunk c c2 a a2 r
 chunk-done before history chunk c c1 c2 a a1 a2 r idle whole fed ends =
     let starts = λ (all : Account) (told was : List ℕ) (out0 : Option (List ℕ)) (kept : List ℕ)
-    (rests : Rests all (left_at c.desk) told was (before a.before) out0 (out_in (history a.files)) (c.desk.answered + 1) kept).
+    (rests : Rests all (still_at c) told was (before a.before) out0 (out_in (history a.files)) (c.answered + 1) kept).
     fed.goes [] all told was out0 (kept ++ chunk) (chunk-starts before history chunk c a idle whole all told was out0 kept rests) in
     record {
-      ok = on_ok_both r (λ f same. rests-told c.desk.site c.desk.window.items (c.desk.answered + 1) _ _ _ _ idle.window (λ all told was out0 kept rests.
+      ok = on_ok_both r (λ f same. rests-told c.desk.site c.desk.window.items c.desk.first (c.answered + 1) _ _ _ _ idle.window (λ all told was out0 kept rests.
           subst (λ n. Rests all (told_by c2.desk.site (n + 1)) told was (before a2.before) out0 (out_in (history a2.files)) (n + 1) (kept ++ chunk)) (sym same.0)
-          (feeds-rest all (told_by c2.desk.site (c1.desk.answered + 1)) told was (before a2.before) out0 (out_in (history a2.files)) (c1.desk.answered + 1) (kept ++ chunk)
-          (feeds-finish [] all (left_at c1.desk) (told_by c2.desk.site (c1.desk.answered + 1)) told was (before a1.before) (before a2.before) out0
-          (out_in (history a1.files)) (out_in (history a2.files)) c1.desk.reply.sink (c1.desk.answered + 1) (kept ++ chunk)
+          (feeds-rest all (told_by c2.desk.site (c1.answered + 1)) told was (before a2.before) out0 (out_in (history a2.files)) (c1.answered + 1) (kept ++ chunk)
+          (feeds-finish [] all (still_at c1) (told_by c2.desk.site (c1.answered + 1)) told was (before a1.before) (before a2.before) out0
+          (out_in (history a1.files)) (out_in (history a2.files)) c1.reply.sink (c1.answered + 1) (kept ++ chunk)
           (starts all told was out0 kept rests) f)
-          (none-told c2.desk.site (c1.desk.answered + 1)) (whole-append kept chunk rests.answered.whole whole)))) ends.ok ends.same;
+          (none-told c2.desk.site (c1.answered + 1)) (whole-append kept chunk rests.answered.whole whole)))) ends.ok ends.same;
       idle = ends.idle;
-      err = on_err_weaker r (λ f. rests-told c.desk.site c.desk.window.items (c.desk.answered + 1) _ _ _ _ idle.window (λ all told was out0 kept rests.
-          feeds-finish-ends [] all (left_at c1.desk) (told_by c2.desk.site (c1.desk.answered + 1)) told was (before a1.before) (before a2.before) out0
-          (out_in (history a1.files)) (out_in (history a2.files)) c1.desk.reply.sink (c1.desk.answered + 1) (kept ++ chunk)
+      err = on_err_weaker r (λ f. rests-told c.desk.site c.desk.window.items c.desk.first (c.answered + 1) _ _ _ _ idle.window (λ all told was out0 kept rests.
+          feeds-finish-ends [] all (still_at c1) (told_by c2.desk.site (c1.answered + 1)) told was (before a1.before) (before a2.before) out0
+          (out_in (history a1.files)) (out_in (history a2.files)) c1.reply.sink (c1.answered + 1) (kept ++ chunk)
           (starts all told was out0 kept rests) f)) ends.err;
       told = told-more a.is_live a1.is_live a2.is_live (history a.files) (history a1.files) (history a2.files) r fed.told.0 fed.told.1.0 fed.told.1.1 ends.told;
-      leads = on_ok_both r (chunk-led c.desk.site c1.desk.site c2.desk.site c.desk.window.items c1.desk.window.items c2.desk.window.items c.desk.answered
-          c1.desk.answered c2.desk.answered (input_records chunk) idle.window fed.leads) ends.same (on_ok_weaker r (λ i. i.window) ends.idle);
+      leads = on_ok_both r (chunk-led c.desk.site c1.desk.site c2.desk.site c.desk.window.items c1.desk.window.items c2.desk.window.items c.answered
+          c1.answered c2.answered (input_records chunk) idle.window fed.leads) ends.same (on_ok_weaker r (λ i. i.window) ends.idle);
       fault = chunk-ends before history chunk c c1 c2 a a1 a2 r idle whole fed ends;
     }
 
 -- they could not all be
 pub chunk-failed : {T O F G : Type 0} (before : O → Option (List ℕ)) (history : F → Option History) (chunk : List ℕ) (c c2 : Clerk G) (a a2 : Answers O F)
-    (r : Result T KeepFault) (e : KeepFault) → IsErr r → IsErrAnd r (λ x. x ≡ e) → IsIdle c.desk.window.items c.desk.reply.sink → IsWhole chunk
+    (r : Result T KeepFault) (e : KeepFault) → IsErr r → IsErrAnd r (λ x. x ≡ e) → IsIdle c.desk.window.items c.reply.sink → IsWhole chunk
     → FailsFed before history (input_records chunk) c a a2 e → FeedsChunk before history chunk c c2 a a2 r
 chunk-failed before history chunk c c2 a a2 r e bad is idle whole fails = record {
   ok = ok-of-err _ r bad;
   idle = ok-of-err _ r bad;
-  err = on_err r (rests-told c.desk.site c.desk.window.items (c.desk.answered + 1) _ _ _ _ idle.window (λ all told was out0 kept rests.
+  err = on_err r (rests-told c.desk.site c.desk.window.items c.desk.first (c.answered + 1) _ _ _ _ idle.window (λ all told was out0 kept rests.
       fails.ends [] all told was out0 (kept ++ chunk) (chunk-starts before history chunk c a idle whole all told was out0 kept rests)));
   told = told-failed a.is_live a2.is_live (history a.files) (history a2.files) r bad fails.told;
   leads = ok-of-err _ r bad;
-  fault = err-is (λ _. StaysWithin c.limit c.desk.answered c2.limit c2.desk.answered)
-      (λ x. InEachRest (told_by c.desk.site (c.desk.answered + 1)) (before a.before) (out_in (history a.files)) (c.desk.answered + 1)
+  fault = err-is (λ _. StaysWithin c.limit c.answered c2.limit c2.answered)
+      (λ x. InEachRest (told_by c.desk.site (c.answered + 1)) (before a.before) (out_in (history a.files)) (c.answered + 1)
       (λ all told was out0 kept. HasCause c.limit all (told ++ was) (kept ++ chunk) x)) r e is
-      (rests-told c.desk.site c.desk.window.items (c.desk.answered + 1) (before a.before) (out_in (history a.files)) (c.desk.answered + 1)
+      (rests-told c.desk.site c.desk.window.items c.desk.first (c.answered + 1) (before a.before) (out_in (history a.files)) (c.answered + 1)
       (λ all told was out0 kept. HasCause c.limit all (told ++ was) (kept ++ chunk) e) idle.window
       (λ all told was out0 kept rests.
       fails.fault [] all told was out0 (kept ++ chunk) (chunk-starts before history chunk c a idle whole all told was out0 kept rests)));

@@ -24,7 +24,6 @@ pub mod SafeFacts
 pub mod StartFacts
 pub mod AskFacts
 pub mod FedFacts
-pub mod ReadersFacts
 pub mod ReplyFacts
 pub mod QuestionFacts
 pub mod PlainFacts

@@ -3,11 +3,10 @@ use Rattle.std.specs.Prelude.{◌≡◌, ◌⊎◌, ◌+◌, ◌++◌, ◌∷◌
 use Rattle.std.specs.Io.KnownBytes.{Consumes}
 use Rattle.rubis_message.specs.Message.{Message}
 use Rattle.rubis_model.specs.Site.{Place, Replica}
-use Rattle.rubis_message.specs.Inputs.{input_of}
 use Rattle.rubis_replica.specs.Arrivals.{after_all}
 use Rattle.rubis_replica.specs.State.{SiteState}
-use Rattle.rubis_script.specs.Headline.{StepsOn}
-use Rattle.rubis_script.specs.declared.desk.Desk.{Desk}
+use Rattle.rubis_engine.specs.Accounts.{Account}
+use Rattle.rubis_script.specs.Desks.{left_at}
 use Rattle.rubis_engine.specs.Text.{input_records}
 use Rattle.rubis_keep.specs.History.{Event, Grows, History}
 use Rattle.rubis_keep.specs.History.Event.{Began, CutTo, Flushed, Kept, Replied, Settled, Shown, Told}
@@ -25,6 +24,7 @@ pub record Reply : Type 0 where
   pub question : List ℕ
   pub text : List ℕ
 
+-- what a history replied, question by question
 abbrev pub replied_in : List Event → List Reply
 replied_in [] = []
 replied_in (Replied question text ∷ later) = record { question = question; text = text } ∷ replied_in later
@@ -69,9 +69,9 @@ RepliesIf asked old new r question text = MatchResult r (λ _. Grows old new (co
 pub record IsUnmoved {G : Type 0} (old new : Clerk G) : Type 0 where
   pub place : new.desk.site.place ≡ old.desk.site.place
   pub state : new.desk.site.state ≡ old.desk.site.state
-  pub answered : new.desk.answered ≡ old.desk.answered
+  pub answered : new.answered ≡ old.answered
   pub window : new.desk.window.items ≡ old.desk.window.items
-  pub sink : new.desk.reply.sink ≡ old.desk.reply.sink
+  pub sink : new.reply.sink ≡ old.reply.sink
   pub limit : new.limit ≡ old.limit
 
 -- these records led a site, which stood in state s0 and had answered n0, to where it is
@@ -80,10 +80,9 @@ pub record LedBy (p : Place) (s0 : Replica) (n0 : ℕ) (s : SiteState) (answered
   pub state : s.state ≡ state_after p s0 records
   pub count : answered ≡ n0 + length records
 
--- the next record, of these fields, was answered at a desk, or is held
-abbrev pub StepsDesk : {G : Type 0} → Desk G → Desk G → List (List ℕ) → Type 0
-StepsDesk old new fields =
-    StepsOn (old.answered + 1) (input_of old.site.place.sites fields) old.site old.window.items new.site new.window.items
+-- what is still to be made of the messages that a clerk holds and of the records to come
+abbrev pub still_at : {T : Type 0} → Clerk T → Account
+still_at c = left_at c.desk (c.answered + 1)
 
 -- these records led a site from the one state to the other, where the messages that are held count as taken in
 pub record LeadsHeld (old : SiteState) (held : List Message) (n : ℕ) (new : SiteState) (held2 : List Message) (n2 : ℕ) (records : List (List (List ℕ))) :
@@ -92,8 +91,9 @@ pub record LeadsHeld (old : SiteState) (held : List Message) (n : ℕ) (new : Si
   pub state : after_all new.place new.state held2 ≡ state_after old.place (after_all old.place old.state held) records
   pub count : n2 ≡ n + length records
 
-abbrev pub LeadsOn : {G : Type 0} → Desk G → Desk G → List (List (List ℕ)) → Type 0
-LeadsOn old new records = LeadsHeld old.site old.window.items old.answered new.site new.window.items new.answered records
+abbrev pub LeadsOn : {T : Type 0} → Clerk T → Clerk T → List (List (List ℕ)) → Type 0
+LeadsOn old new records =
+    LeadsHeld old.desk.site old.desk.window.items old.answered new.desk.site new.desk.window.items new.answered records
 
 -- the answer that a site owes to a question, if it was asked
 abbrev pub owed : Bool → SiteState → ℕ → List ℕ → List Reply

@@ -4,8 +4,7 @@ use Rattle.rubis_message.specs.declared.inputs.Input.{Input}
 use Rattle.rubis_engine.specs.Accounts.{Account, Ending}
 use Rattle.rubis_engine.specs.Text.{input_records}
 use Rattle.rubis_reading.specs.Inputs.{AreInputs}
-use Rattle.rubis_script.specs.Desks.{left_at}
-use Rattle.rubis_keep.specs.Asking.{LeadsOn}
+use Rattle.rubis_keep.specs.Asking.{LeadsOn, still_at}
 use Rattle.rubis_keep.specs.Faults.{HasCause, StaysWithin}
 use Rattle.rubis_keep.specs.History.{History, Tells, out_in}
 use Rattle.rubis_keep.specs.Kept.{OutEnds, Wrote}
@@ -27,8 +26,8 @@ pub record Feeds (rest : List (List (List ℕ))) (all more : Account) (told old 
 -- a clerk stands there
 abbrev pub FeedsAt : {O F G : Type 0} → (O → Option (List ℕ)) → (F → Option History) → List (List (List ℕ)) → Clerk G → Answers O F
     → Account → List ℕ → List ℕ → Option (List ℕ) → List ℕ → Type 0
-FeedsAt before history rest clerk answers all told old out0 kept = Feeds rest all (left_at clerk.desk) told old (before answers.before) out0
-    (out_in (history answers.files)) clerk.desk.reply.sink (clerk.desk.answered + 1) kept
+FeedsAt before history rest clerk answers all told old out0 kept = Feeds rest all (still_at clerk) told old (before answers.before) out0
+    (out_in (history answers.files)) clerk.reply.sink (clerk.answered + 1) kept
 
 -- these records, the next ones, are answered, wherever the clerk stood
 pub record HasFed {O F G : Type 0} (before : O → Option (List ℕ)) (history : F → Option History) (rows : List (List (List ℕ))) (old new : Clerk G)
@@ -37,8 +36,8 @@ pub record HasFed {O F G : Type 0} (before : O → Option (List ℕ)) (history :
       → FeedsAt before history (rows ++ rest) old answers all told was out0 kept → FeedsAt before history rest new answers2 all told was out0 kept
   pub told : (answers2.is_live ≡ answers.is_live)
       × ((text : List ℕ) × Tells answers.is_live (history answers.files) (history answers2.files) text [])
-  pub leads : LeadsOn old.desk new.desk rows
-  pub limits : StaysWithin old.limit old.desk.answered new.limit new.desk.answered
+  pub leads : LeadsOn old new rows
+  pub limits : StaysWithin old.limit old.answered new.limit new.answered
 
 -- or this fault came before they were: what stands in `out` answers nothing else
 pub record FailsFed {O F G : Type 0} (before : O → Option (List ℕ)) (history : F → Option History) (rows : List (List (List ℕ))) (old : Clerk G)

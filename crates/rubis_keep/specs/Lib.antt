@@ -17,6 +17,5 @@ pub mod Questions
 pub mod Saying
 pub mod Asking
 pub mod Fed
-pub mod Reading
 pub mod Standing
 pub mod Steps

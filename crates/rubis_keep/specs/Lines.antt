@@ -81,6 +81,7 @@ pub record Asked : Type 0 where
 abbrev pub asked_line : Bool → List ℕ → List ℕ → List Asked
 asked_line asks kept line = if asks && is_question line then record { kept = kept; question = take (line_max + 1) line } ∷ [] else []
 
+-- the questions of an input that goes on with a line that was begun, each with what was kept before it
 abbrev pub asked_after : Bool → List ℕ → List ℕ → List ℕ → List Asked
 asked_after asks kept line [] = []
 asked_after asks kept line (b ∷ rest) =
@@ -92,6 +93,7 @@ without_after line [] = line
 without_after line (b ∷ rest) =
     if b == 10 then (if is_question line then [] else line ++ 10 ∷ []) ++ without_after [] rest else without_after (line ++ b ∷ []) rest
 
+-- an input without its questions
 abbrev pub without_questions : List ℕ → List ℕ
 without_questions input = without_after [] input
 

@@ -16,5 +16,6 @@ says_by all p s = record {
   reply = λ records question. reply_text (reply_rows p (state_after p s records) (length records) question);
 }
 
+-- what a site says in a state: the answers to the records from there on, and what it replies to a question
 abbrev pub says_of : Place → Replica → Says
 says_of p s = says_by (site_account p s 1) p s

@@ -13,6 +13,7 @@ opening_setup w = record { site = unwrap_or w.site 0; sites = unwrap_or w.sites 
 abbrev pub GoesOn : Wanted → Setup → Type 0
 GoesOn w s = (unwrap_or w.site s.site ≡ s.site) × (unwrap_or w.sites s.sites ≡ s.sites) × (s.keep ≤ unwrap_or w.keep s.keep)
 
+-- the site of the folder, which from now on keeps as much as is asked for
 abbrev pub next_setup : Wanted → Setup → Setup
 next_setup w s = record s { keep = unwrap_or w.keep s.keep }
 

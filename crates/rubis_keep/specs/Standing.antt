@@ -9,8 +9,6 @@ use Rattle.rubis_keep.specs.History.{HasTold, History, log_of, out_in}
 use Rattle.rubis_keep.specs.Kept.{CameOrEnded, Fails, InEachStand, IsBegun, Stands, left_of}
 use Rattle.rubis_keep.specs.Lives.{LivesSafe}
 use Rattle.rubis_keep.specs.Pages.{AreListed}
-use Rattle.rubis_keep.specs.Reading.{AreFree, ReadFor, readers}
-use Rattle.rubis_reading.specs.declared.pieces.Pieces.{Pieces}
 use Rattle.rubis_keep.specs.declared.answers.Answers.{Answers}
 use Rattle.rubis_keep.specs.declared.site.Clerk.{Clerk}
 use Rattle.rubis_keep.specs.declared.fault.KeepFault.{KeepFault}
@@ -20,7 +18,7 @@ use Rattle.rubis_keep.specs.declared.pages.Listed.{Listed}
 
 -- the site at its desk, with how many records were answered and how many are to be, and with what is held there and waits to be put; what
 -- is left of the input and of the answers of before; what happened to the files; of the lines that are kept, which one is begun, how long
--- they are, and what is held of a listing; and what helpers read
+-- they are, and what is held of a listing
 pub record Standing : Type 0 where
   pub site : SiteState
   pub answered : ℕ
@@ -34,15 +32,14 @@ pub record Standing : Type 0 where
   pub begun : List ℕ
   pub kept : ℕ
   pub listed : Option Listed
-  pub pieces : Option Pieces
 
 abbrev pub standing : {R O F G : Type 0} → (R → Option (List ℕ)) → (O → Option (List ℕ)) → (F → Option History) → R → KeptLines → Clerk G → Answers O F → Standing
 standing input before history live lines clerk answers = record {
   site = clerk.desk.site;
-  answered = clerk.desk.answered;
+  answered = clerk.answered;
   limit = clerk.limit;
   held = clerk.desk.window.items;
-  sink = clerk.desk.reply.sink;
+  sink = clerk.reply.sink;
   is_live = answers.is_live;
   input = left_of lines.unread (input live);
   before = before answers.before;
@@ -50,7 +47,6 @@ standing input before history live lines clerk answers = record {
   begun = lines.cutter;
   kept = lines.kept;
   listed = lines.listed;
-  pieces = lines.pieces;
 }
 
 -- what came of an input: a question, only if it asks them; and some bytes, or it is at its end
@@ -58,15 +54,12 @@ pub record HasCome (asks : Bool) (came : Came) (input input2 : Option (List ℕ)
   pub question : came.is_asked ≡ true → asks ≡ true
   pub end : CameOrEnded came.more input input2
 
--- nothing is held, and nothing waits to be put; some line is begun; what is held of a listing is that of this moment; and helpers, of whom
--- messages are read as at this site, have nothing to read
+-- nothing is held, and nothing waits to be put; some line is begun; and what is held of a listing is that of this moment
 pub record IsAtRest (s : Standing) : Type 0 where
   pub window : s.held ≡ []
   pub empty : s.sink ≡ []
   pub begun : IsBegun s.begun
   pub listed : AreListed s.site.state s.listed
-  pub free : AreFree s.pieces
-  pub fits : ReadFor s.site.place.sites s.pieces
 
 -- a run went on from the one to the other, or failed there. It keeps what it reads, or doesn't; `owes` is what it then owes to a question
 pub record GoesOn {T : Type 0} (keeps : Bool) (old new : Standing) (owes : T → List Reply) (r : Result T KeepFault) : Type 0 where
@@ -78,7 +71,6 @@ pub record GoesOn {T : Type 0} (keeps : Bool) (old new : Standing) (owes : T →
       (old.answered + 1) old.kept (λ all told was base line input0 log0 out0 len0. Fails keeps all told was base line input0 new.input log0
       (log_of keeps new.history) out0 (out_in new.history)))
   pub live : new.is_live ≡ old.is_live
-  pub readers : readers new.pieces ≡ readers old.pieces
   pub told : keeps ≡ false → HasTold old.is_live new.is_live old.history new.history r
   pub safe : keeps ≡ true → old.is_live ≡ true → LivesSafe old.site old.before old.answered old.history new.site new.before new.answered new.history r
   pub asked : GoesOnAsking keeps old.input old.history old.begun old.site old.answered new.input new.history new.begun new.site new.answered owes r

@@ -5,11 +5,10 @@ use Rattle.rubis_engine.specs.Accounts.{Account}
 use Rattle.rubis_engine.specs.Accounts.Ending.{AtEnd}
 use Rattle.rubis_engine.specs.Text.{input_records}
 use Rattle.rubis_model.specs.Site.{Place, Replica}
-use Rattle.rubis_script.specs.Desks.{left_at}
 use Rattle.rubis_script.specs.Headline.{Settles}
 use Rattle.rubis_replica.specs.State.{SiteState}
 use Rattle.rubis_script.specs.SiteRuns.{told_by}
-use Rattle.rubis_keep.specs.Asking.{IsUnmoved, LedBy, RepliesTo}
+use Rattle.rubis_keep.specs.Asking.{IsUnmoved, LedBy, RepliesTo, still_at}
 use Rattle.rubis_keep.specs.Differences.{MayDiffer}
 use Rattle.rubis_keep.specs.Faults.{EndsTruly, FinishedUnlike, HasCause, IsTrueFault, StaysWithin}
 use Rattle.rubis_keep.specs.History.{HasTold, History, IsShown, StaysSafe, kept_in, now, out_in, records_in}
@@ -17,7 +16,6 @@ use Rattle.rubis_keep.specs.Kept.{Begins, Ended, Finished, FinishedFront, InEach
 use Rattle.rubis_keep.specs.Lines.{AreSound, whole_lines}
 use Rattle.rubis_keep.specs.Lives.{Found, IsOpened}
 use Rattle.rubis_keep.specs.Pages.{AreListed}
-use Rattle.rubis_keep.specs.Reading.{AreFree, ReadFor, readers}
 use Rattle.rubis_keep.specs.Saying.{says_by, says_of}
 use Rattle.rubis_keep.specs.Standing.{Standing}
 use Rattle.rubis_keep.specs.declared.answers.Answers.{Answers}
@@ -34,32 +32,32 @@ pub record IsIdle (held : List Message) (sink : List ℕ) : Type 0 where
 -- the messages that a clerk holds are taken in, and the answers are put; at a fault only a prefix of them is
 pub record Finishes {T O F G : Type 0} (before : O → Option (List ℕ)) (history : F → Option History) (old new : Clerk G) (answers answers2 : Answers O F)
     (r : Result T KeepFault) : Type 0 where
-  pub ok : OnOk r (Finished (left_at old.desk) (told_by new.desk.site (old.desk.answered + 1)) old.desk.reply.sink
+  pub ok : OnOk r (Finished (still_at old) (told_by new.desk.site (old.answered + 1)) old.reply.sink
       (before answers.before) (before answers2.before) (out_in (history answers.files)) (out_in (history answers2.files)))
-  pub same : OnOk r ((new.desk.answered ≡ old.desk.answered)
+  pub same : OnOk r ((new.answered ≡ old.answered)
       × Settles old.desk.site old.desk.window.items new.desk.site new.desk.window.items)
-  pub idle : OnOk r (IsIdle new.desk.window.items new.desk.reply.sink)
-  pub err : OnErr r (FinishedFront (left_at old.desk) (told_by new.desk.site (old.desk.answered + 1)) old.desk.reply.sink
+  pub idle : OnOk r (IsIdle new.desk.window.items new.reply.sink)
+  pub err : OnErr r (FinishedFront (still_at old) (told_by new.desk.site (old.answered + 1)) old.reply.sink
       (before answers.before) (before answers2.before) (out_in (history answers.files)) (out_in (history answers2.files)))
   pub told : HasTold answers.is_live answers2.is_live (history answers.files) (history answers2.files) r
   pub limit : new.limit ≡ old.limit
-  pub fault : IfErr r (λ e. MayDiffer e (λ _. FinishedUnlike (left_at old.desk) (told_by new.desk.site (old.desk.answered + 1)) old.desk.reply.sink
+  pub fault : IfErr r (λ e. MayDiffer e (λ _. FinishedUnlike (still_at old) (told_by new.desk.site (old.answered + 1)) old.reply.sink
       (before answers.before)))
 
 -- a clerk has answered a text of whole records; at a fault what stands in `out` answers nothing else
 pub record FeedsChunk {T O F G : Type 0} (before : O → Option (List ℕ)) (history : F → Option History) (chunk : List ℕ) (old new : Clerk G)
     (answers answers2 : Answers O F) (r : Result T KeepFault) : Type 0 where
-  pub ok : OnOk r (InEachRest (told_by old.desk.site (old.desk.answered + 1)) (before answers.before) (out_in (history answers.files))
-      (old.desk.answered + 1)
-      (λ all told was out0 kept. Rests all (told_by new.desk.site (new.desk.answered + 1)) told was (before answers2.before) out0
-      (out_in (history answers2.files)) (new.desk.answered + 1) (kept ++ chunk)))
-  pub idle : OnOk r (IsIdle new.desk.window.items new.desk.reply.sink)
-  pub err : OnErr r (InEachRest (told_by old.desk.site (old.desk.answered + 1)) (before answers.before) (out_in (history answers.files))
-      (old.desk.answered + 1) (λ all told was out0 kept. OutEnds all told was out0 (out_in (history answers2.files)) (kept ++ chunk)))
+  pub ok : OnOk r (InEachRest (told_by old.desk.site (old.answered + 1)) (before answers.before) (out_in (history answers.files))
+      (old.answered + 1)
+      (λ all told was out0 kept. Rests all (told_by new.desk.site (new.answered + 1)) told was (before answers2.before) out0
+      (out_in (history answers2.files)) (new.answered + 1) (kept ++ chunk)))
+  pub idle : OnOk r (IsIdle new.desk.window.items new.reply.sink)
+  pub err : OnErr r (InEachRest (told_by old.desk.site (old.answered + 1)) (before answers.before) (out_in (history answers.files))
+      (old.answered + 1) (λ all told was out0 kept. OutEnds all told was out0 (out_in (history answers2.files)) (kept ++ chunk)))
   pub told : HasTold answers.is_live answers2.is_live (history answers.files) (history answers2.files) r
-  pub leads : OnOk r (LedBy old.desk.site.place old.desk.site.state old.desk.answered new.desk.site new.desk.answered (input_records chunk))
-  pub fault : MatchResult r (λ _. StaysWithin old.limit old.desk.answered new.limit new.desk.answered)
-      (λ e. InEachRest (told_by old.desk.site (old.desk.answered + 1)) (before answers.before) (out_in (history answers.files)) (old.desk.answered + 1)
+  pub leads : OnOk r (LedBy old.desk.site.place old.desk.site.state old.answered new.desk.site new.answered (input_records chunk))
+  pub fault : MatchResult r (λ _. StaysWithin old.limit old.answered new.limit new.answered)
+      (λ e. InEachRest (told_by old.desk.site (old.answered + 1)) (before answers.before) (out_in (history answers.files)) (old.answered + 1)
       (λ all told was out0 kept. HasCause old.limit all (told ++ was) (kept ++ chunk) e))
 
 -- nothing of what a clerk answers has changed, nor what it holds, nor the answers of before; and what is held of a listing is that of this moment
@@ -79,8 +77,6 @@ pub record Replays {T : Type 0} (past : Option (List ℕ)) (old new : Standing) 
   pub ok : OnOk r ((kept was : List ℕ) → Begins kept was past (Some kept) old.before (out_in old.history)
       → Replayed (told_by old.site 1) (told_by new.site (new.answered + 1)) kept was new.before (out_in new.history) (new.answered + 1) new.kept)
   pub idle : OnOk r (IsIdle new.held new.sink)
-  pub free : OnOk r (AreFree new.pieces × ReadFor new.site.place.sites new.pieces)
-  pub readers : readers new.pieces ≡ readers old.pieces
   pub err : OnErr r ((kept was : List ℕ) (input : Option (List ℕ)) → Begins kept was past (Some kept) old.before (out_in old.history)
       → Ended (told_by old.site 1) kept was input input (Some kept) (out_in new.history))
   pub told : HasTold old.is_live new.is_live old.history new.history r

@@ -12,21 +12,19 @@ use crate::lines::LineCutter;
 use crate::pages::Listed;
 use crate::site_files::SiteFiles;
 use crate::unread::Unread;
-use rubis_reading::Pieces;
 use std::alloc::{AllocError, Global};
 use std::io;
 use std::io::{ErrorKind, Read};
 use std::sync::Wait;
 
 /// The lines of an input that are kept: the line that is begun, and those that came last.
-pub struct KeptLines<'a> {
+#[derive(Drop)]
+pub struct KeptLines {
     pub cutter: LineCutter,
     /// What was read and isn't looked at yet.
     pub unread: Unread,
     /// What is kept of what came last.
     pub chunk: Vec<u8>,
-    /// The pieces of it that helpers read, in a run that has helpers.
-    pub pieces: Option<Pieces<'a>>,
     /// The question that came last.
     pub question: Vec<u8>,
     /// The listing of which a page was asked last, until a record is answered.
@@ -35,37 +33,20 @@ pub struct KeptLines<'a> {
     pub kept: u64,
 }
 
-impl<'a> KeptLines<'a> {
+impl KeptLines {
     /// Before the first line of all.
-    pub(crate) fn new(alloc: Global, unread: Unread, pieces: Option<Pieces<'a>>) -> KeptLines<'a>
+    pub(crate) fn new(alloc: Global, unread: Unread) -> KeptLines
         ensures none { (result.cutter ≡ []) × (result.kept ≡ 0) }
-        ensures given { (result.unread ≡ unread) × (result.pieces ≡ pieces.entry) }
+        ensures unread { result.unread ≡ unread }
     {
         KeptLines {
             cutter: LineCutter::new(alloc),
             unread,
             chunk: Vec::new(alloc),
-            pieces,
             question: Vec::new(alloc),
             listed: None,
             kept: 0,
         }
-    }
-
-    /// Lets the lines go, but for the pieces.
-    pub(crate) fn into_pieces(self) -> Option<Pieces<'a>>
-        ensures { result ≡ self.entry.pieces }
-    {
-        let KeptLines {
-            cutter: _,
-            unread: _,
-            chunk: _,
-            pieces,
-            question: _,
-            listed: _,
-            kept: _,
-        } = self;
-        pieces
     }
 }
 
@@ -121,7 +102,7 @@ fn keep_lines<T: Wait, F: SiteFiles>(rt: &T, files: &mut F, chunk: &[u8]) -> io:
 /// the lines that end in it, and `question` the question: of a long one the first bytes.
 pub(crate) fn read_next<R: Read>(
     live: &mut R,
-    lines: &mut KeptLines<'_>,
+    lines: &mut KeptLines,
     asks: bool,
 ) -> Result<Came, KeepFault>
     ensures ok { IfOk result (λ came. (line : List ℕ) → lines.old.cutter ≡ begun_bytes line
@@ -130,13 +111,12 @@ pub(crate) fn read_next<R: Read>(
     ensures came { IfOk result (λ came. HasCome asks came (left_of lines.old.unread (R.remaining live.old)) (left_of lines.new.unread (R.remaining live.new))) }
     ensures err { IfErr result (λ e. IsFailure e × ((line : List ℕ) → lines.old.cutter ≡ begun_bytes line
         → KeptFront asks line (left_of lines.old.unread (R.remaining live.old)) (left_of lines.new.unread (R.remaining live.new)) None None)) }
-    ensures others { (lines.new.kept ≡ lines.old.kept) × (lines.new.listed ≡ lines.old.listed) × (lines.new.pieces ≡ lines.old.pieces) }
+    ensures others { (lines.new.kept ≡ lines.old.kept) × (lines.new.listed ≡ lines.old.listed) }
 {
     let KeptLines {
         cutter,
         unread,
         chunk,
-        pieces: _,
         question,
         listed: _,
         kept: _,

@@ -4,13 +4,11 @@
 
 mod answers;
 mod checking;
-mod chunks;
 mod comparing;
 mod counts;
 mod fault;
 mod feeding;
 mod files;
-mod helped;
 mod keep;
 mod keeping;
 mod lines;

@@ -17,7 +17,7 @@ use crate::site::Clerk;
 use rubis_engine::{OutOfMemory, Sink};
 use rubis_message::{ReadFault, Request, read_request};
 use rubis_schema::{Fields, Items, Listing, Record, Text, read_number};
-use rubis_script::{Gate, write_rows};
+use rubis_script::write_rows;
 use std::alloc::{AllocError, Global};
 use std::sync::Wait;
 use std::thread::Threads;
@@ -275,24 +275,25 @@ fn held_rows(held: Option<Listed>, listing: &Listing) -> Option<Items<Fields>>
 }
 
 // The rows of a listing.
-fn list_rows<G: Gate, T: Threads + Wait + Sync>(
+fn list_rows<T: Threads + Wait + Sync>(
     rt: &T,
-    clerk: &mut Clerk<G>,
+    clerk: &mut Clerk<'_, T>,
     listing: &Listing,
 ) -> Result<Items<Fields>, KeepFault>
     ensures same { IsUnmoved clerk.old clerk.new }
     ensures rows { IfOk result (λ rows. rows ≡ rows_in clerk.old.desk.site.state listing.now) }
 {
-    match clerk.desk.site.list(rt, listing) {
+    let desk = &mut clerk.desk;
+    match desk.site.list(rt, listing) {
         Ok(rows) => Ok(rows),
         Err(_) => Err(KeepFault::Memory),
     }
 }
 
 // The rows of a listing: those that are held, if they are that one's.
-fn take_rows<G: Gate, T: Threads + Wait + Sync>(
+fn take_rows<T: Threads + Wait + Sync>(
     rt: &T,
-    clerk: &mut Clerk<G>,
+    clerk: &mut Clerk<'_, T>,
     held: Option<Listed>,
     listing: &Listing,
 ) -> Result<Items<Fields>, KeepFault>
@@ -307,9 +308,9 @@ fn take_rows<G: Gate, T: Threads + Wait + Sync>(
 }
 
 /// Shows a page of a listing. The rows of the listing are held for the next page, if they aren't too many.
-pub(crate) fn turn_page<G: Gate, T: Threads + Wait + Sync>(
+pub(crate) fn turn_page<T: Threads + Wait + Sync>(
     rt: &T,
-    clerk: &mut Clerk<G>,
+    clerk: &mut Clerk<'_, T>,
     listed: &mut Option<Listed>,
     page: &Page,
 ) -> Result<Sink, KeepFault>

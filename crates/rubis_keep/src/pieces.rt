@@ -4,60 +4,57 @@ ghost use Rattle.std.specs.Prelude.{◌≡◌, [], IfOk, OnOk, true};
 ghost use Rattle.std.specs.Io.KnownBytes.{IsAtEnd};
 ghost use Rattle.rubis_keep.specs.Asking.{owed};
 ghost use Rattle.rubis_keep.specs.Kept.{CameOrEnded, IsBegun, left_of};
-ghost use Rattle.rubis_keep.specs.Reading.{AreFree, ReadFor};
 ghost use Rattle.rubis_keep.specs.Standing.{GoesOn, IsAtRest, standing};
 ghost use Rattle.rubis_keep.specs.Steps.{IsIdle};
 
 use crate::answers::Answers;
-use crate::chunks::{feed_chunk, give_chunk};
 use crate::fault::KeepFault;
+use crate::feeding::feed_chunk;
 use crate::keeping::{Came, KeptLines, keep_chunk, read_next};
 use crate::pages::let_go;
 use crate::replying::reply_if;
 use crate::site::Clerk;
 use crate::site_files::SiteFiles;
-use rubis_script::Gate;
 use std::io::Read;
 use std::sync::Wait;
 use std::thread::Threads;
 
 // Takes what comes next of an input, up to a question, keeps it if this run keeps what it reads, and answers it, but for the question.
-fn next_lines<G: Gate, T: Threads + Wait + Sync, R: Read, O: Read, F: SiteFiles>(
+fn next_lines<T: Threads + Wait + Sync, R: Read, O: Read, F: SiteFiles>(
     rt: &T,
     live: &mut R,
     keeps: bool,
-    lines: &mut KeptLines<'_>,
-    clerk: &mut Clerk<G>,
+    lines: &mut KeptLines,
+    clerk: &mut Clerk<'_, T>,
     answers: &mut Answers<O, F>,
 ) -> Result<Came, KeepFault>
     requires { IsAtRest (standing R.remaining O.remaining F.history live.old lines.old clerk.old answers.old) }
     ensures goes { GoesOn keeps (standing R.remaining O.remaining F.history live.old lines.old clerk.old answers.old)
         (standing R.remaining O.remaining F.history live.new lines.new clerk.new answers.new)
-        (λ came. owed came.is_asked clerk.new.desk.site clerk.new.desk.answered lines.new.question.items) result }
+        (λ came. owed came.is_asked clerk.new.desk.site clerk.new.answered lines.new.question.items) result }
     ensures end { IfOk result (λ came. CameOrEnded came.more (left_of lines.old.unread (R.remaining live.old)) (left_of lines.new.unread (R.remaining live.new))) }
     ensures question { IfOk result (λ came. came.is_asked ≡ true → keeps ≡ true) }
 {
     let came = read_next(live, lines, keeps)?;
-    give_chunk(rt, &lines.chunk, &mut lines.pieces)?;
     keep_chunk(rt, &mut answers.files, keeps, &lines.chunk)?;
     // Nothing is as long as that. `TooLong` would say that there are more records than the limit.
     let Some(len) = lines.kept.checked_add(lines.chunk.len() as u64) else {
         return Err(KeepFault::Memory);
     };
     let_go(&mut lines.listed, &lines.chunk);
-    feed_chunk(rt, &lines.chunk, &mut lines.pieces, clerk, answers)?;
+    feed_chunk(rt, &lines.chunk, clerk, answers)?;
     lines.kept = len;
     Ok(came)
 }
 
 // Takes what comes next of an input, up to the end of a question, keeps it if this run keeps what it reads, and answers it. Whether the
 // input goes on.
-fn next_piece<G: Gate, T: Threads + Wait + Sync, R: Read, O: Read, F: SiteFiles>(
+fn next_piece<T: Threads + Wait + Sync, R: Read, O: Read, F: SiteFiles>(
     rt: &T,
     live: &mut R,
     keeps: bool,
-    lines: &mut KeptLines<'_>,
-    clerk: &mut Clerk<G>,
+    lines: &mut KeptLines,
+    clerk: &mut Clerk<'_, T>,
     answers: &mut Answers<O, F>,
 ) -> Result<bool, KeepFault>
     requires { IsAtRest (standing R.remaining O.remaining F.history live.old lines.old clerk.old answers.old) }
@@ -79,16 +76,16 @@ fn next_piece<G: Gate, T: Threads + Wait + Sync, R: Read, O: Read, F: SiteFiles>
 }
 
 /// Reads an input to its end, keeps each piece if this run keeps what it reads, and answers it.
-pub(crate) fn answer_pieces<G: Gate, T: Threads + Wait + Sync, R: Read, O: Read, F: SiteFiles>(
+pub(crate) fn answer_pieces<T: Threads + Wait + Sync, R: Read, O: Read, F: SiteFiles>(
     rt: &T,
     live: &mut R,
     keeps: bool,
-    lines: &mut KeptLines<'_>,
-    clerk: &mut Clerk<G>,
+    lines: &mut KeptLines,
+    clerk: &mut Clerk<'_, T>,
     answers: &mut Answers<O, F>,
 ) -> Result<(), KeepFault>
-    requires idle { IsIdle clerk.old.desk.window.items clerk.old.desk.reply.sink }
-    requires begun { IsBegun lines.old.cutter × AreFree lines.old.pieces × ReadFor clerk.old.desk.site.place.sites lines.old.pieces }
+    requires idle { IsIdle clerk.old.desk.window.items clerk.old.reply.sink }
+    requires begun { IsBegun lines.old.cutter }
     ensures goes { GoesOn keeps (standing R.remaining O.remaining F.history live.old lines.old clerk.old answers.old)
         (standing R.remaining O.remaining F.history live.new lines.new clerk.new answers.new)
         (λ over. []) result }

@@ -21,7 +21,7 @@ use rubis_engine::{OutOfMemory, Records, Sink};
 use rubis_message::{ReadFault, Request, read_request};
 use rubis_replica::put_record;
 use rubis_schema::{CAT_MAX, Counted, Fields, Id, Listing, Nick, Row, RowKey, read_number};
-use rubis_script::{Fault, Gate};
+use rubis_script::Fault;
 use std::alloc::{AllocError, Global};
 use std::sync::Wait;
 use std::thread::Threads;
@@ -150,7 +150,7 @@ fn read_line(alloc: Global, rest: &[u8], sites: u8) -> Result<Option<Question>, 
 }
 
 // How many messages a site released of its own.
-fn own_count<G: Gate>(clerk: &Clerk<G>) -> u32
+fn own_count<T>(clerk: &Clerk<'_, T>) -> u32
     ensures { result ≡ counted clerk.now.desk.site.place.site clerk.now.desk.site.state.log }
 {
     let intake = clerk.desk.site.intake();
@@ -158,13 +158,13 @@ fn own_count<G: Gate>(clerk: &Clerk<G>) -> u32
 }
 
 // How far a site has come.
-fn state_of<G: Gate>(clerk: &Clerk<G>) -> Result<Fields, AllocError>
-    ensures { IfOk result (λ fields. fields ≡ state_row clerk.now.desk.site.place clerk.now.desk.site.state clerk.now.desk.answered) }
+fn state_of<T>(clerk: &Clerk<'_, T>) -> Result<Fields, AllocError>
+    ensures { IfOk result (λ fields. fields ≡ state_row clerk.now.desk.site.place clerk.now.desk.site.state clerk.now.answered) }
 {
     let intake = clerk.desk.site.intake();
     let mut fields = Fields::new(clerk.alloc);
     fields.push_plain(b"state")?;
-    fields.push_number(clerk.desk.answered)?;
+    fields.push_number(clerk.answered)?;
     fields.push_number(u64::from(own_count(clerk)))?;
     push_counts(&mut fields, intake.clock().deps().as_slice())?;
     match intake.token() {
@@ -177,25 +177,26 @@ fn state_of<G: Gate>(clerk: &Clerk<G>) -> Result<Fields, AllocError>
 }
 
 // Shows how far a site has come.
-fn show_state<G: Gate>(clerk: &Clerk<G>) -> Result<Sink, AllocError>
-    ensures { IfOk result (λ sink. sink ≡ rows_text (state_row clerk.now.desk.site.place clerk.now.desk.site.state clerk.now.desk.answered ∷ [])) }
+fn show_state<T>(clerk: &Clerk<'_, T>) -> Result<Sink, AllocError>
+    ensures { IfOk result (λ sink. sink ≡ rows_text (state_row clerk.now.desk.site.place clerk.now.desk.site.state clerk.now.answered ∷ [])) }
 {
     let fields = state_of(clerk)?;
     row(clerk.alloc, &fields)
 }
 
 // Shows the rows of a listing.
-fn show_listing<G: Gate, T: Threads + Wait + Sync>(
+fn show_listing<T: Threads + Wait + Sync>(
     rt: &T,
-    clerk: &mut Clerk<G>,
+    clerk: &mut Clerk<'_, T>,
     listing: &Listing,
 ) -> Result<Sink, KeepFault>
     ensures same { IsUnmoved clerk.old clerk.new }
-    ensures rows { IfOk result (λ sink. sink ≡ rows_text (shown_to clerk.old.desk.site.place clerk.old.desk.site.state clerk.old.desk.answered
+    ensures rows { IfOk result (λ sink. sink ≡ rows_text (shown_to clerk.old.desk.site.place clerk.old.desk.site.state clerk.old.answered
         (Some (Question.List listing.now)))) }
 {
     let mut rows = Counted::new(Sink::new(clerk.alloc));
-    match clerk.desk.site.list_into(rt, listing, &mut rows) {
+    let desk = &mut clerk.desk;
+    match desk.site.list_into(rt, listing, &mut rows) {
         Ok(()) => Ok(show_counted(clerk.alloc, rows)?),
         Err(_) => Err(KeepFault::Memory),
     }
@@ -217,7 +218,7 @@ fn put_shown(fields: &mut Fields, key: &RowKey, row: &Row) -> Result<bool, Alloc
 }
 
 // Shows the row at a key, or that there is none.
-fn show_row<G: Gate>(clerk: &Clerk<G>, key: &RowKey) -> Result<Sink, AllocError>
+fn show_row<T>(clerk: &Clerk<'_, T>, key: &RowKey) -> Result<Sink, AllocError>
     requires { clerk.now.desk.site.progress ≡ resting_at (length clerk.now.desk.site.state.log) }
     ensures { IfOk result (λ sink. sink ≡ rows_text (or_none (row_shown key.now (rows_at clerk.now.desk.site.state.log key.now)))) }
 {
@@ -234,16 +235,17 @@ fn show_row<G: Gate>(clerk: &Clerk<G>, key: &RowKey) -> Result<Sink, AllocError>
 }
 
 // Applies all that is pending, and shows the row at a key.
-fn look_up<G: Gate, T: Threads + Wait + Sync>(
+fn look_up<T: Threads + Wait + Sync>(
     rt: &T,
-    clerk: &mut Clerk<G>,
+    clerk: &mut Clerk<'_, T>,
     key: &RowKey,
 ) -> Result<Sink, KeepFault>
     ensures same { IsUnmoved clerk.old clerk.new }
-    ensures rows { IfOk result (λ sink. sink ≡ rows_text (shown_to clerk.old.desk.site.place clerk.old.desk.site.state clerk.old.desk.answered
+    ensures rows { IfOk result (λ sink. sink ≡ rows_text (shown_to clerk.old.desk.site.place clerk.old.desk.site.state clerk.old.answered
         (Some (Question.Row key.now)))) }
 {
-    if clerk.desk.site.cut(rt).is_err() {
+    let desk = &mut clerk.desk;
+    if desk.site.cut(rt).is_err() {
         return Err(KeepFault::Memory);
     }
     Ok(show_row(clerk, key)?)
@@ -251,16 +253,16 @@ fn look_up<G: Gate, T: Threads + Wait + Sync>(
 
 /// Answers a line that is a question, or the first bytes of it: with '?' before them, these rows are its answer. What is pending may be
 /// applied; nothing else changes of the site. What is held of a listing is that of this moment, before and afterwards.
-pub(crate) fn answer<G: Gate, T: Threads + Wait + Sync>(
+pub(crate) fn answer<T: Threads + Wait + Sync>(
     rt: &T,
-    clerk: &mut Clerk<G>,
+    clerk: &mut Clerk<'_, T>,
     listed: &mut Option<Listed>,
     line: &[u8],
 ) -> Result<Sink, KeepFault>
     requires listed { AreListed clerk.old.desk.site.state listed.old }
     ensures same { IsUnmoved clerk.old clerk.new }
     ensures listed { AreListed clerk.old.desk.site.state listed.new }
-    ensures rows { IfOk result (λ sink. sink ≡ rows_text (reply_rows clerk.old.desk.site.place clerk.old.desk.site.state clerk.old.desk.answered line.now)) }
+    ensures rows { IfOk result (λ sink. sink ≡ rows_text (reply_rows clerk.old.desk.site.place clerk.old.desk.site.state clerk.old.answered line.now)) }
 {
     if line.len() > LINE_MAX {
         return Ok(refuse(clerk.alloc, b"TooLong")?);

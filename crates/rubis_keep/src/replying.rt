@@ -14,7 +14,6 @@ use crate::questions::answer;
 use crate::site::Clerk;
 use crate::site_files::SiteFiles;
 use rubis_engine::Sink;
-use rubis_script::Gate;
 use std::alloc::{AllocError, Global};
 use std::io::Read;
 use std::sync::Wait;
@@ -43,18 +42,18 @@ fn text_of(alloc: Global, mut rows: Sink) -> Result<Vec<u8>, KeepFault>
 
 /// Answers a line on standard output alone, if it is a question that was asked. What is pending at the site may be applied; nothing
 /// else changes.
-pub(crate) fn reply_if<G: Gate, T: Threads + Wait + Sync, O: Read, F: SiteFiles>(
+pub(crate) fn reply_if<T: Threads + Wait + Sync, O: Read, F: SiteFiles>(
     rt: &T,
     is_asked: bool,
     question: &[u8],
     listed: &mut Option<Listed>,
-    clerk: &mut Clerk<G>,
+    clerk: &mut Clerk<'_, T>,
     answers: &mut Answers<O, F>,
 ) -> Result<(), KeepFault>
     requires listed { AreListed clerk.old.desk.site.state listed.old }
     ensures still { IsStill clerk.old clerk.new answers.old answers.new listed.new }
     ensures replied { RepliesIf is_asked (F.history answers.old.files) (F.history answers.new.files) result question.now
-        (reply_text (reply_rows clerk.old.desk.site.place clerk.old.desk.site.state clerk.old.desk.answered question.now)) }
+        (reply_text (reply_rows clerk.old.desk.site.place clerk.old.desk.site.state clerk.old.answered question.now)) }
     ensures fault { IfErr result IsFailure }
 {
     if !is_asked {

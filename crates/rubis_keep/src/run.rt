@@ -13,7 +13,6 @@ ghost use Rattle.rubis_keep.specs.History.Event.{Began, CutTo, Flushed, Settled}
 ghost use Rattle.rubis_keep.specs.Kept.{Ended, Lived, Opens};
 ghost use Rattle.rubis_keep.specs.Lives.{IsOpened};
 ghost use Rattle.rubis_keep.specs.Saying.{says_of};
-ghost use Rattle.rubis_keep.specs.Reading.{AreFree, ReadFor, readers};
 ghost use Rattle.rubis_keep.specs.Standing.{standing};
 ghost use Rattle.rubis_keep.specs.Steps.{HasReadNone, IsIdle, LivesOn, Replays, Runs};
 
@@ -21,14 +20,12 @@ use crate::answers::Answers;
 use crate::checking::check_kept;
 use crate::counts::counts_of;
 use crate::fault::KeepFault;
-use crate::helped::run_helped;
 use crate::keeping::KeptLines;
 use crate::lines::LineCutter;
 use crate::pieces::answer_pieces;
 use crate::site::Clerk;
 use crate::site_files::SiteFiles;
 use crate::unread::{PIECE, Unread};
-use rubis_script::Gate;
 use std::io::Read;
 use std::sync::Wait;
 use std::thread::Threads;
@@ -51,16 +48,15 @@ fn of_kept(fault: KeepFault) -> KeepFault
 }
 
 // Answers what was kept before, and finds the answers in what stands there.
-fn replay<G: Gate, T: Threads + Wait + Sync, P: Read, O: Read, F: SiteFiles>(
+fn replay<T: Threads + Wait + Sync, P: Read, O: Read, F: SiteFiles>(
     rt: &T,
     past: &mut P,
-    lines: &mut KeptLines<'_>,
-    clerk: &mut Clerk<G>,
+    lines: &mut KeptLines,
+    clerk: &mut Clerk<'_, T>,
     answers: &mut Answers<O, F>,
 ) -> Result<(), KeepFault>
-    requires idle { IsIdle clerk.old.desk.window.items clerk.old.desk.reply.sink }
-    requires fresh { HasReadNone lines.old × (clerk.old.desk.answered ≡ 0) }
-    requires free { AreFree lines.old.pieces × ReadFor clerk.old.desk.site.place.sites lines.old.pieces }
+    requires idle { IsIdle clerk.old.desk.window.items clerk.old.reply.sink }
+    requires fresh { HasReadNone lines.old × (clerk.old.answered ≡ 0) }
     ensures { Replays (P.remaining past.old) (standing P.remaining O.remaining F.history past.old lines.old clerk.old answers.old)
         (standing P.remaining O.remaining F.history past.new lines.new clerk.new answers.new) result }
 {
@@ -71,9 +67,9 @@ fn replay<G: Gate, T: Threads + Wait + Sync, P: Read, O: Read, F: SiteFiles>(
 }
 
 // Says that all that was kept is answered.
-fn tell_replayed<G: Gate, F: SiteFiles>(clerk: &Clerk<G>, files: &mut F) -> Result<(), KeepFault>
+fn tell_replayed<T, F: SiteFiles>(clerk: &Clerk<'_, T>, files: &mut F) -> Result<(), KeepFault>
     ensures ok { OnOk result (Grows (F.history files.old) (F.history files.new)
-        (Settled ∷ Began clerk.now.desk.answered (map (λ i. counted i clerk.now.desk.site.state.log) (range_with_len 0 clerk.now.desk.site.place.sites)) ∷ [])) }
+        (Settled ∷ Began clerk.now.answered (map (λ i. counted i clerk.now.desk.site.state.log) (range_with_len 0 clerk.now.desk.site.place.sites)) ∷ [])) }
     ensures err { OnErr result (Grows (F.history files.old) (F.history files.new) [] ⊎ Grows (F.history files.old) (F.history files.new) (Settled ∷ [])) }
     ensures fault { IfErr result IsFailure }
 {
@@ -82,7 +78,7 @@ fn tell_replayed<G: Gate, F: SiteFiles>(clerk: &Clerk<G>, files: &mut F) -> Resu
     if let Err(e) = files.settle() {
         return Err(KeepFault::WriteOut(e));
     }
-    match files.begin(clerk.desk.answered, &counts) {
+    match files.begin(clerk.answered, &counts) {
         Ok(()) => Ok(()),
         Err(e) => Err(KeepFault::Show(e)),
     }
@@ -112,18 +108,16 @@ fn cut_and_flush<F: SiteFiles>(files: &mut F, len: u64) -> Result<(), KeepFault>
 }
 
 // Cuts off the line that isn't whole, and then keeps and answers an input to its end.
-fn go_on<G: Gate, T: Threads + Wait + Sync, O: Read, F: SiteFiles, R: Read>(
+fn go_on<T: Threads + Wait + Sync, O: Read, F: SiteFiles, R: Read>(
     rt: &T,
     live: &mut R,
-    lines: &mut KeptLines<'_>,
-    clerk: &mut Clerk<G>,
+    lines: &mut KeptLines,
+    clerk: &mut Clerk<'_, T>,
     answers: &mut Answers<O, F>,
 ) -> Result<(), KeepFault>
-    requires idle { IsIdle clerk.old.desk.window.items clerk.old.desk.reply.sink }
-    requires free { AreFree lines.old.pieces × ReadFor clerk.old.desk.site.place.sites lines.old.pieces }
-    ensures lives { LivesOn (R.remaining live.old) (R.remaining live.new) (standing R.remaining O.remaining F.history live.old lines.old clerk.old answers.old)
+    requires { IsIdle clerk.old.desk.window.items clerk.old.reply.sink }
+    ensures { LivesOn (R.remaining live.old) (R.remaining live.new) (standing R.remaining O.remaining F.history live.old lines.old clerk.old answers.old)
         (F.history answers.new.files) result }
-    ensures readers { readers lines.new.pieces ≡ readers lines.old.pieces }
 {
     cut_and_flush(&mut answers.files, lines.kept)?;
     lines.cutter = LineCutter::new(clerk.alloc);
@@ -133,28 +127,18 @@ fn go_on<G: Gate, T: Threads + Wait + Sync, O: Read, F: SiteFiles, R: Read>(
     answer_pieces(rt, live, true, lines, clerk, answers)
 }
 
-/// The run, over lines of which none came yet.
-pub(crate) fn run_lines<
-    G: Gate,
-    T: Threads + Wait + Sync,
-    C: Read,
-    P: Read,
-    O: Read,
-    F: SiteFiles,
-    R: Read,
->(
+// The run, over lines of which none came yet.
+fn run_lines<T: Threads + Wait + Sync, C: Read, P: Read, O: Read, F: SiteFiles, R: Read>(
     rt: &T,
     recording: &mut Recording<C, P>,
     live: &mut R,
-    lines: &mut KeptLines<'_>,
-    clerk: &mut Clerk<G>,
+    lines: &mut KeptLines,
+    clerk: &mut Clerk<'_, T>,
     answers: &mut Answers<O, F>,
 ) -> Result<(), KeepFault>
-    requires idle { IsIdle clerk.old.desk.window.items clerk.old.desk.reply.sink × HasReadNone lines.old × (clerk.old.desk.answered ≡ 0) }
-    requires free { AreFree lines.old.pieces × ReadFor clerk.old.desk.site.place.sites lines.old.pieces }
-    ensures runs { Runs clerk.old.desk.site clerk.old.limit (C.remaining recording.old.first) (P.remaining recording.old.past) (O.remaining answers.old.before) answers.old.is_live
+    requires { IsIdle clerk.old.desk.window.items clerk.old.reply.sink × HasReadNone lines.old × (clerk.old.answered ≡ 0) }
+    ensures { Runs clerk.old.desk.site clerk.old.limit (C.remaining recording.old.first) (P.remaining recording.old.past) (O.remaining answers.old.before) answers.old.is_live
         (R.remaining live.old) (R.remaining live.new) (F.history answers.old.files) (F.history answers.new.files) result }
-    ensures readers { readers lines.new.pieces ≡ readers lines.old.pieces }
 {
     check_kept(rt, clerk.alloc, &mut recording.first)?;
     flush(&mut answers.files)?;
@@ -162,26 +146,22 @@ pub(crate) fn run_lines<
     go_on(rt, live, lines, clerk, answers)
 }
 
-// The run, with no helpers.
-fn run_alone<G: Gate, T: Threads + Wait + Sync, C: Read, P: Read, O: Read, F: SiteFiles, R: Read>(
+// The run, from its first line on.
+fn run_alone<T: Threads + Wait + Sync, C: Read, P: Read, O: Read, F: SiteFiles, R: Read>(
     rt: &T,
     recording: &mut Recording<C, P>,
     live: &mut R,
-    clerk: &mut Clerk<G>,
+    clerk: &mut Clerk<'_, T>,
     answers: &mut Answers<O, F>,
 ) -> Result<(), KeepFault>
-    requires idle { IsIdle clerk.old.desk.window.items clerk.old.desk.reply.sink }
-    requires answered { clerk.old.desk.answered ≡ 0 }
+    requires idle { IsIdle clerk.old.desk.window.items clerk.old.reply.sink }
+    requires answered { clerk.old.answered ≡ 0 }
     ensures { Runs clerk.old.desk.site clerk.old.limit (C.remaining recording.old.first) (P.remaining recording.old.past) (O.remaining answers.old.before) answers.old.is_live
         (R.remaining live.old) (R.remaining live.new) (F.history answers.old.files) (F.history answers.new.files) result }
 {
     let unread = Unread::new(clerk.alloc, PIECE)?;
-    let mut lines = KeptLines::new(clerk.alloc, unread, None);
-    let ended = run_lines(rt, recording, live, &mut lines, clerk, answers);
-    if let Some(pieces) = lines.into_pieces() {
-        let _lead = pieces.into_lead();
-    }
-    ended
+    let mut lines = KeptLines::new(clerk.alloc, unread);
+    run_lines(rt, recording, live, &mut lines, clerk, answers)
 }
 
 /// Answers what was kept before, as far as it isn't answered yet, and then keeps and answers an input to its end: each line is
@@ -195,24 +175,16 @@ fn run_alone<G: Gate, T: Threads + Wait + Sync, C: Read, P: Read, O: Read, F: Si
 /// `Memory` if memory ran out, and `TooLong` if there are more records than the clerk answers. Whatever the fault, the log is
 /// lines that are kept as they are, the last maybe torn, and `out` is the beginning of the answers to them; or both are as they
 /// were. So the next run goes on from there.
-pub fn run_kept<
-    G: Gate,
-    T: Threads + Wait + Sync,
-    C: Read,
-    P: Read,
-    O: Read,
-    F: SiteFiles,
-    R: Read,
->(
+pub fn run_kept<T: Threads + Wait + Sync, C: Read, P: Read, O: Read, F: SiteFiles, R: Read>(
     rt: &T,
     recording: &mut Recording<C, P>,
     live: &mut R,
-    clerk: &mut Clerk<G>,
+    clerk: &mut Clerk<'_, T>,
     answers: &mut Answers<O, F>,
 ) -> Result<(), KeepFault>
     requires window { clerk.old.desk.window.items ≡ [] }
-    requires empty { clerk.old.desk.reply.sink ≡ [] }
-    requires answered { clerk.old.desk.answered ≡ 0 }
+    requires empty { clerk.old.reply.sink ≡ [] }
+    requires answered { clerk.old.answered ≡ 0 }
     ensures ok { OnOk result ((kept old : List ℕ) → Opens kept old (C.remaining recording.old.first) (P.remaining recording.old.past)
         (kept_in (F.history answers.old.files)) (O.remaining answers.old.before) (out_in (F.history answers.old.files))
         → Lived (told_by clerk.old.desk.site 1) kept old (R.remaining live.old) (R.remaining live.new)
@@ -236,9 +208,5 @@ pub fn run_kept<
         (kept_in (F.history answers.old.files)) (O.remaining answers.old.before) (out_in (F.history answers.old.files))
         → EndsTruly clerk.old.limit (told_by clerk.old.desk.site 1) kept old (R.remaining live.old) (R.remaining live.new) result }
 {
-    if clerk.desk.plan.helpers > 0 {
-        run_helped(rt, recording, live, clerk, answers)
-    } else {
-        run_alone(rt, recording, live, clerk, answers)
-    }
+    run_alone(rt, recording, live, clerk, answers)
 }

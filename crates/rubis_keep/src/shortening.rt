@@ -19,7 +19,7 @@ ghost use Rattle.rubis_keep.specs.Shortened.{IsShort, Shortens, TakesRecord, Tak
 use crate::fault::KeepFault;
 use rubis_engine::{InputRecord, OutOfMemory, Records, read_through_signals, write_front};
 use rubis_message::{Arrival, Input, Message, Packet, Request, Taken, Token};
-use rubis_script::{Config, Desk, Fault, Free, Gate, Site};
+use rubis_script::{Config, Desk, Fault, Site, SiteGate};
 use std::alloc::{AllocError, Global};
 use std::io::{Read, Write};
 use std::sync::Wait;
@@ -30,9 +30,9 @@ use std::{io, mem};
 const PIECE: usize = 65_536;
 
 // Takes a message in. Whether it changed the site.
-fn take_message<G: Gate, T: Threads + Wait + Sync>(
+fn take_message<T: Threads + Wait + Sync>(
     rt: &T,
-    site: &mut Site<G>,
+    site: &mut Site<SiteGate>,
     message: Message,
 ) -> Result<bool, OutOfMemory>
     requires { sites_of message ≡ site.old.place.sites }
@@ -48,7 +48,7 @@ fn take_message<G: Gate, T: Threads + Wait + Sync>(
 }
 
 // Takes a token in. Whether it changed the site.
-fn take_token<G: Gate>(site: &mut Site<G>, token: Token) -> Result<bool, OutOfMemory>
+fn take_token(site: &mut Site<SiteGate>, token: Token) -> Result<bool, OutOfMemory>
     ensures place { site.new.place ≡ site.old.place }
     ensures takes { IfOk result (TakesRecord site.old site.new (Came (Packet.Token token))) }
 {
@@ -61,9 +61,9 @@ fn take_token<G: Gate>(site: &mut Site<G>, token: Token) -> Result<bool, OutOfMe
 }
 
 // Takes a packet in. Whether it changed the site.
-fn take_packet<G: Gate, T: Threads + Wait + Sync>(
+fn take_packet<T: Threads + Wait + Sync>(
     rt: &T,
-    site: &mut Site<G>,
+    site: &mut Site<SiteGate>,
     packet: Packet,
 ) -> Result<bool, OutOfMemory>
     requires { IsPacket site.old.place.sites packet }
@@ -87,9 +87,9 @@ fn unchanged(fault: Fault) -> Result<bool, OutOfMemory>
 }
 
 // Takes a request. Whether it changed the site.
-fn take_request<G: Gate, T: Threads + Wait + Sync>(
+fn take_request<T: Threads + Wait + Sync>(
     rt: &T,
-    site: &mut Site<G>,
+    site: &mut Site<SiteGate>,
     request: Request,
 ) -> Result<bool, OutOfMemory>
     requires { IsRequest site.old.place.sites request }
@@ -110,9 +110,9 @@ fn take_request<G: Gate, T: Threads + Wait + Sync>(
 }
 
 // Takes a record. Whether it changed the site.
-fn take_record<G: Gate, T: Threads + Wait + Sync>(
+fn take_record<T: Threads + Wait + Sync>(
     rt: &T,
-    desk: &mut Desk<G>,
+    desk: &mut Desk<'_, T>,
     fields: &InputRecord,
 ) -> Result<bool, OutOfMemory>
     ensures place { desk.new.site.place ≡ desk.old.site.place }
@@ -126,10 +126,10 @@ fn take_record<G: Gate, T: Threads + Wait + Sync>(
 }
 
 // Takes the records of a line. Whether any of them changed the site.
-fn take_line<G: Gate, T: Threads + Wait + Sync>(
+fn take_line<T: Threads + Wait + Sync>(
     rt: &T,
     alloc: Global,
-    desk: &mut Desk<G>,
+    desk: &mut Desk<'_, T>,
     line: &[u8],
 ) -> Result<bool, KeepFault>
     ensures place { desk.new.site.place ≡ desk.old.site.place }
@@ -166,9 +166,9 @@ fn add_if(is_kept: bool, line: &[u8], text: &mut Vec<u8>) -> Result<(), AllocErr
 }
 
 // Takes the next byte. A line that ends with it is added to `text`, if any of its records changed the site.
-fn take_next<G: Gate, T: Threads + Wait + Sync>(
+fn take_next<T: Threads + Wait + Sync>(
     rt: &T,
-    desk: &mut Desk<G>,
+    desk: &mut Desk<'_, T>,
     line: &mut Vec<u8>,
     byte: u8,
     text: &mut Vec<u8>,
@@ -190,9 +190,9 @@ fn take_next<G: Gate, T: Threads + Wait + Sync>(
 }
 
 // Takes the bytes of a piece.
-fn take_piece<G: Gate, T: Threads + Wait + Sync>(
+fn take_piece<T: Threads + Wait + Sync>(
     rt: &T,
-    desk: &mut Desk<G>,
+    desk: &mut Desk<'_, T>,
     line: &mut Vec<u8>,
     piece: &[u8],
     text: &mut Vec<u8>,
@@ -218,12 +218,12 @@ fn write_and_flush<W: Write>(writer: &mut W, bytes: &[u8]) -> io::Result<()>
 }
 
 // Reads what was kept to its end, and writes it without the lines whose records change nothing.
-fn shorten_at<G: Gate, T: Threads + Wait + Sync, P: Read, W: Write>(
+fn shorten_at<T: Threads + Wait + Sync, P: Read, W: Write>(
     rt: &T,
     alloc: Global,
     past: &mut P,
     fresh: &mut W,
-    desk: &mut Desk<G>,
+    desk: &mut Desk<'_, T>,
 ) -> Result<(), KeepFault>
     ensures { OnOk result (Shortens desk.old.site.place desk.old.site.state (P.remaining past.old) (W.contents fresh.old) (W.contents fresh.new)) }
 {
@@ -263,7 +263,7 @@ pub fn shorten<T: Threads + Wait + Sync, P: Read, W: Write>(
     ensures { OnOk result (Shortens (setup_place config.now) (opening_at config.now.site) (P.remaining past.old) (W.contents fresh.old)
         (W.contents fresh.new)) }
 {
-    let mut desk = Desk::new(alloc, config, Free)?;
+    let mut desk = Desk::new(rt, alloc, config, SiteGate::free())?;
     let ended = shorten_at(rt, alloc, past, fresh, &mut desk);
     mem::forget(desk);
     ended

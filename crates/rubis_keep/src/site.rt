@@ -1,6 +1,6 @@
 //! A site at its desk, for as long as records come, and its run from its configuration on.
 
-ghost use Rattle.std.specs.Prelude.{◌≡◌, ℕ, IfSome, List, OnErr, OnOk, Some, false, IfOk};
+ghost use Rattle.std.specs.Prelude.{◌≡◌, [], ℕ, IfSome, List, OnErr, OnOk, Some, false, IfOk};
 ghost use Rattle.rubis_model.specs.Site.{opening_at};
 ghost use Rattle.rubis_script.specs.Replica.{setup_place};
 ghost use Rattle.rubis_script.specs.SiteRuns.{site_account};
@@ -11,36 +11,45 @@ ghost use Rattle.rubis_keep.specs.History.{History, IsShown, StaysSafe, kept_in,
 ghost use Rattle.rubis_keep.specs.Kept.{Ended, Lived, Opens};
 ghost use Rattle.rubis_keep.specs.Lives.{IsOpened};
 ghost use Rattle.rubis_keep.specs.Saying.{says_of};
-ghost use Rattle.rubis_script.specs.Desks.{IsFresh};
 
 use crate::answers::Answers;
 use crate::fault::KeepFault;
 use crate::run::{Recording, run_kept};
 use crate::site_files::SiteFiles;
-use rubis_script::{Config, Desk, Free, Gate};
+use rubis_engine::Reply;
+use rubis_script::{Config, Desk, SiteGate};
 use std::alloc::{AllocError, Global};
 use std::io::Read;
 use std::mem;
 use std::sync::Wait;
 use std::thread::Threads;
 
-/// A site at its desk, and how many records it answers.
+/// A site at its desk, what it answers a record with, how many records were answered or are held, and how many it answers.
 #[derive(Drop)]
-pub struct Clerk<G: Gate = Free> {
-    pub desk: Desk<G>,
+pub struct Clerk<'a, T> {
+    pub desk: Desk<'a, T>,
+    pub reply: Reply,
+    pub answered: u64,
     pub(crate) limit: u64,
     pub(crate) alloc: Global,
 }
 
-impl<G: Gate + Drop> Clerk<G> {
+impl<'a, T> Clerk<'a, T> {
     /// A site with nothing done, set up so, that answers up to `limit` records.
-    pub fn new(alloc: Global, config: &Config, gate: G, limit: u64) -> Result<Clerk<G>, AllocError>
+    pub fn new(
+        rt: &'a T,
+        alloc: Global,
+        config: &Config,
+        limit: u64,
+    ) -> Result<Clerk<'a, T>, AllocError>
         ensures site { IfOk result (λ clerk. (clerk.desk.site.place ≡ setup_place config.now) × (clerk.desk.site.state ≡ opening_at config.now.site)) }
-        ensures fresh { IfOk result (λ clerk. IsFresh clerk.desk) }
+        ensures fresh { IfOk result (λ clerk. (clerk.desk.window.items ≡ []) × (clerk.reply.sink ≡ []) × (clerk.answered ≡ 0)) }
         ensures limit { IfOk result (λ clerk. clerk.limit ≡ limit) }
     {
         Ok(Clerk {
-            desk: Desk::new(alloc, config, gate)?,
+            desk: Desk::new(rt, alloc, config, SiteGate::free())?,
+            reply: Reply::new(alloc),
+            answered: 0,
             limit,
             alloc,
         })
@@ -85,7 +94,7 @@ pub fn keep_site<T: Threads + Wait + Sync, C: Read, P: Read, O: Read, F: SiteFil
         (kept_in (F.history answers.old.files)) (O.remaining answers.old.before) (out_in (F.history answers.old.files))
         → EndsTruly limit (site_account (setup_place config.now) (opening_at config.now.site) 1) kept old (R.remaining live.old) (R.remaining live.new) result }
 {
-    let mut clerk = Clerk::new(answers.alloc(), config, Free, limit)?;
+    let mut clerk = Clerk::new(rt, answers.alloc(), config, limit)?;
     let ended = run_kept(rt, recording, live, &mut clerk, answers);
     mem::forget(clerk);
     ended

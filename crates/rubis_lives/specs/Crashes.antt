@@ -29,6 +29,7 @@ after_life text files life = record {
   out = take life.out_bytes (text (input_records (whole_lines (take life.log_bytes (whole_lines files.log ++ kept_of life.input)))));
 }
 
+-- the files after several runs, each cut off somewhere
 abbrev pub after_lives : (List (List (List ℕ)) → List ℕ) → Files → List Life → Files
 after_lives text files [] = files
 after_lives text files (life ∷ lives) = after_lives text (after_life text files life) lives

@@ -32,6 +32,7 @@ use Rattle.rubis_lives.specs.SiteLives.{AreShopLives, SiteLife}
 
 -- ---- what is promised
 
+-- what is promised of the auctions of a run
 pub record KeepsItsPromises (w : World) : Type 0 where
   -- sites that have the same messages have equal tables
   pub tables : (i j : ℕ) → SameSet (site w i).log (site w j).log → tables_at w i ≡ tables_at w j

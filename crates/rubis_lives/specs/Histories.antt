@@ -108,6 +108,7 @@ answered_on sites i keep n (Does (Replays j fields) ∷ later) = answered_on sit
 abbrev pub takes : ℕ → ℕ → ℕ → FileState → List Step → List (List (List ℕ))
 takes sites i keep s steps = taken_in (site_keeping sites i (keeps i keep steps)) (stands i s steps).flushed
 
+-- how many of the records that a site takes were answered after these steps
 abbrev pub answered_by : ℕ → ℕ → ℕ → List Step → ℕ
 answered_by sites i keep steps = answered_on sites i keep 0 steps
 

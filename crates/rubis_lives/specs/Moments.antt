@@ -24,6 +24,7 @@ SiteTextsExtend = (p : Place) (s : Replica) (n : ℕ) → Extends (λ records. r
 abbrev pub opened_again : FileState → FileState
 opened_again s = record s { settled = false; begun = false; shown = [] }
 
+-- the files as the next process finds them after a power failure: whatever is there was flushed
 abbrev pub from_disk : Files → FileState
 from_disk files = record { kept = files.log; flushed = files.log; cut = []; out = files.out; settled = false; begun = false; shown = [] }
 

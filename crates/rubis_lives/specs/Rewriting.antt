@@ -22,6 +22,7 @@ pub record KeepsThePromise (p : Place) (short full more : List (List (List ℕ))
   pub was : output_of p (full ++ more) ≡ output_of p full ++ answers p (site_after p (opening_at p.site) 1 full) (1 + length full) more
   pub is : output_of p (short ++ more) ≡ output_of p short ++ answers p (site_after p (opening_at p.site) 1 full) (1 + length short) more
 
+-- a site that reads a shortened recording keeps the promise of the full one
 abbrev pub ShorteningKeepsThePromise : Type 0
 ShorteningKeepsThePromise = (p : Place) (short full more : List (List (List ℕ))) → IsShortened p (opening_at p.site) short full → KeepsThePromise p short full more
 
@@ -78,6 +79,7 @@ IsOfFresh r log = IsFrontOf r.flushed log × IsFrontOf log r.fresh
 abbrev pub IsOfKept : FileState → List ℕ → Type 0
 IsOfKept s log = IsFrontOf s.flushed log × IsFrontOf log (s.kept ++ s.cut)
 
+-- what a power failure may leave, as far as the rewriting has come
 abbrev pub MayBeLeft : FileState → Rewritten → Files → Type 0
 MayBeLeft s r files = MatchBool r.stays_named (IsOfFresh r files.log) (IsOfKept s files.log ⊎ ((r.is_named ≡ true) × IsOfFresh r files.log))
     × MatchBool r.stays_empty (files.out ≡ []) (IsFrontOf files.out s.out)

@@ -22,6 +22,7 @@ text_of p records = rows_text (output_of p records)
 abbrev pub words_of : Place → Says
 words_of p = says_of p (opening_at p.site)
 
+-- the second list begins with the first
 abbrev pub IsPrefix : List (List (List ℕ)) → List (List (List ℕ)) → Type 0
 IsPrefix xs ys = (rest : List (List (List ℕ))) × (xs ++ rest ≡ ys)
 

@@ -72,6 +72,7 @@ abbrev pub happening : ℕ → List Event → List Step → List Step
 happening i [] later = later
 happening i (e ∷ events) later = Happens i e ∷ happening i events later
 
+-- the lives of one site, one after the other, as steps of a shop; the last one is still running
 abbrev pub steps_of : ℕ → List SiteLife → List Event → List Step
 steps_of i [] running = happening i running []
 steps_of i (life ∷ lives) running = happening i life.events (ending i life.end (steps_of i lives running))

@@ -119,6 +119,7 @@ Decides-shadow (Restock a) (Restock b) = Decides-like _ (ap Restock) (λ e. cc) 
 Decides-shadow (Rename a) (Rename b) = Decides-like _ (ap Rename) (λ e. cc) (Decides-same_rename a b)
 Decides-shadow a b = (λ e. absurd (true≢false (sym e)), λ e. absurd cc)
 
+-- `same_message` is true if and only if the messages are equal
 pub Decides-same_message : (m n : Message) → Decides (same_message m n) (m ≡ n)
 Decides-same_message m n = Decides-like _
     (λ h i. record { stamp = h.0 i; shadow = h.1 i })

@@ -11,7 +11,7 @@ use Rattle.rubis_message.specs.declared.faults.ReadFault.TheVariants.{BadRecord,
 abbrev pub Form : Type 0 → Type 0
 Form A = List (List ℕ) → Option (A × List (List ℕ))
 
--- what a reader of that form promises
+-- what a reader of that form promises: an Ok is what the form reads, and BadRecord says that it reads nothing
 abbrev pub Takes : {A : Type 0} → Form A → List (List ℕ) → List (List ℕ) → Result A ReadFault → Type 0
 Takes form fields rest (Ok x) = form fields ≡ Some (x, rest)
 Takes form fields rest (Err BadRecord) = form fields ≡ None
@@ -30,9 +30,11 @@ infixl 10 ◌>>◌
 abbrev pub ◌>>◌ : {A B : Type 0} → Form A → Form B → Form B
 (form >> next) fields = followed_by (form fields) (λ _. next)
 
+-- reads nothing and gives this value
 abbrev pub give : {A : Type 0} → A → Form A
 give x fields = Some (x, fields)
 
+-- gives none
 abbrev pub none : {A : Type 0} → Form A
 none fields = None
 
@@ -40,12 +42,12 @@ none fields = None
 abbrev pub mapped : {A B : Type 0} → (A → B) → Form A → Form B
 mapped make form fields = followed_by (form fields) (λ x. give (make x))
 
--- nothing is read, and the test holds
+-- nothing is read; none if the test fails
 abbrev pub check : Bool → Form (Unit {0})
 check true fields = Some (tt, fields)
 check false fields = None
 
--- what the form reads, if the test holds
+-- what the form reads; none if the test fails of it
 abbrev pub kept : {A : Type 0} → (A → Bool) → Form A → Form A
 kept test form = form >>= (λ x. check (test x) >> give x)
 
@@ -67,6 +69,7 @@ whole form fields = no_more (form fields)
 abbrev pub beside : {A : Type 0} → List (List ℕ) → Option A → Option (A × List (List ℕ))
 beside rest o = option_map (λ x. (x, rest)) o
 
+-- one field, by what it is read as
 abbrev pub one : {A : Type 0} → (List ℕ → Option A) → Form A
 one read [] = None
 one read (field ∷ rest) = beside rest (read field)
@@ -91,18 +94,23 @@ take_id sites = one (id_of sites)
 unfoldable pub id_or_none : ℕ → List ℕ → Option (Option Id)
 id_or_none sites field = cond (bytes_eq field (codes "none")) (Some None) (option_map Some (id_of sites field))
 
+-- a winner: an id, or `none`
 abbrev pub take_winner : ℕ → Form (Option Id)
 take_winner sites = one (id_or_none sites)
 
+-- a rating
 abbrev pub take_rating : Form ℤ
 take_rating = one rating_of
 
+-- a nickname
 abbrev pub take_nick : Form (List ℕ)
 take_nick = one nick_of
 
+-- a name
 abbrev pub take_name : Form (List ℕ)
 take_name = one name_of
 
+-- a text
 abbrev pub take_text : Form (List ℕ)
 take_text = one text_of
 

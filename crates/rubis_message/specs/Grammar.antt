@@ -31,18 +31,24 @@ use Rattle.rubis_message.specs.declared.tokens.Packet.{Packet}
 use Rattle.rubis_message.specs.declared.tokens.Packet.TheVariants as packet
 
 -- ---- what follows the word for a kind
+
+-- of a new item: seller, name, category, stock, start price, price to buy at once
 abbrev pub item_fields : NewItem → List (List ℕ)
 item_fields n = id_text n.seller ∷ n.name ∷ decimal n.cat ∷ decimal n.stock ∷ decimal n.start ∷ decimal n.price ∷ []
 
+-- of a bid: item, bidder, amount
 abbrev pub bid_fields : NewBid → List (List ℕ)
 bid_fields b = id_text b.item ∷ id_text b.bidder ∷ decimal b.amount ∷ []
 
+-- of a purchase: item, buyer, quantity
 abbrev pub purchase_fields : PurchaseRow → List (List ℕ)
 purchase_fields p = id_text p.item ∷ id_text p.buyer ∷ decimal p.quantity ∷ []
 
+-- of a comment: item, who writes it, to whom, rating, text
 abbrev pub comment_fields : CommentRow → List (List ℕ)
 comment_fields c = id_text c.item ∷ id_text c.from ∷ id_text c.to ∷ int_text c.rating ∷ c.text ∷ []
 
+-- of a close that is asked for: item, seller
 abbrev pub asked_close_fields : AskedClose → List (List ℕ)
 asked_close_fields c = id_text c.item ∷ id_text c.seller ∷ []
 
@@ -51,22 +57,29 @@ abbrev pub winner_text : Option Id → List ℕ
 winner_text None = codes "none"
 winner_text (Some id) = id_text id
 
+-- of a close that was decided: item, category, winner, which is an id or `none`
 abbrev pub close_fields : NewClose → List (List ℕ)
 close_fields c = id_text c.item ∷ decimal c.cat ∷ winner_text c.winner ∷ []
 
+-- of a restock that is asked for: item, seller, quantity
 abbrev pub asked_restock_fields : AskedRestock → List (List ℕ)
 asked_restock_fields r = id_text r.item ∷ id_text r.seller ∷ decimal r.quantity ∷ []
 
+-- of a restock that was decided: item, quantity
 abbrev pub restock_fields : NewRestock → List (List ℕ)
 restock_fields r = id_text r.item ∷ decimal r.quantity ∷ []
 
+-- of a rename that is asked for: user, new nickname
 abbrev pub asked_rename_fields : AskedRename → List (List ℕ)
 asked_rename_fields r = id_text r.user ∷ r.nick ∷ []
 
+-- of a rename that was decided: user, old nickname, new nickname
 abbrev pub rename_fields : NewRename → List (List ℕ)
 rename_fields r = id_text r.user ∷ r.from ∷ r.to ∷ []
 
 -- ---- requests
+
+-- the record of an ask: the word for its kind, then its fields
 abbrev pub ask_record : Ask → List (List ℕ)
 ask_record (ask.User n) = codes "user" ∷ n ∷ []
 ask_record (ask.Item n) = codes "item" ∷ item_fields n
@@ -77,6 +90,7 @@ ask_record (ask.Comment c) = codes "comment" ∷ comment_fields c
 ask_record (ask.Restock r) = codes "restock" ∷ asked_restock_fields r
 ask_record (ask.Rename r) = codes "rename" ∷ asked_rename_fields r
 
+-- what a listing shows, and of which row
 abbrev pub listing_fields : Listing → List (List ℕ)
 listing_fields Users = codes "users" ∷ []
 listing_fields (Items cat) = codes "items" ∷ decimal cat ∷ []
@@ -88,6 +102,7 @@ listing_fields Log = codes "log" ∷ []
 listing_fields Misfits = codes "misfits" ∷ []
 listing_fields Tables = codes "tables" ∷ []
 
+-- the record of a request: an ask, `pass` and a site, or `list` and what is shown
 abbrev pub request_record : Request → List (List ℕ)
 request_record (request.Ask a) = ask_record a
 request_record (request.Pass to) = codes "pass" ∷ decimal to ∷ []
@@ -127,6 +142,7 @@ IsRequest sites (request.List l) = IsListing sites l
 abbrev pub deps_text : List ℕ → List ℕ
 deps_text counts = join_with_byte 58 (map decimal counts)
 
+-- the word for the shadow's kind, then its fields
 abbrev pub shadow_fields : Shadow → List (List ℕ)
 shadow_fields (shadow.User n) = codes "user" ∷ n ∷ []
 shadow_fields (shadow.Item n) = codes "item" ∷ item_fields n
@@ -137,12 +153,15 @@ shadow_fields (shadow.Comment c) = codes "comment" ∷ comment_fields c
 shadow_fields (shadow.Restock r) = codes "restock" ∷ restock_fields r
 shadow_fields (shadow.Rename r) = codes "rename" ∷ rename_fields r
 
+-- site, number, red number, and the counts
 abbrev pub stamp_fields : Stamp → List (List ℕ)
 stamp_fields s = decimal s.id.site ∷ decimal s.id.seq ∷ decimal s.red ∷ deps_text s.deps ∷ []
 
+-- a message: its stamp, then its shadow
 abbrev pub message_fields : Message → List (List ℕ)
 message_fields m = stamp_fields m.stamp ++ shadow_fields m.shadow
 
+-- the token: turn, site that it is for, red numbers that were issued
 abbrev pub token_fields : Token → List (List ℕ)
 token_fields t = decimal t.turn ∷ decimal t.to ∷ decimal t.issued ∷ []
 
@@ -150,12 +169,15 @@ token_fields t = decimal t.turn ∷ decimal t.to ∷ decimal t.issued ∷ []
 abbrev pub message_record : Message → List (List ℕ)
 message_record m = codes "msg" ∷ version_of m.shadow ∷ message_fields m
 
+-- the version of a token's record
 abbrev pub token_version : List ℕ
 token_version = codes "1"
 
+-- the record of a token; its second field is the version
 abbrev pub token_record : Token → List (List ℕ)
 token_record t = codes "token" ∷ token_version ∷ token_fields t
 
+-- the record of what is sent: of a message or of the token
 abbrev pub packet_record : Packet → List (List ℕ)
 packet_record (packet.Msg m) = message_record m
 packet_record (packet.Token t) = token_record t

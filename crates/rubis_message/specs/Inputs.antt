@@ -7,11 +7,13 @@ use Rattle.rubis_message.specs.declared.inputs.Input.TheVariants.{Asked, Came, N
 use Rattle.rubis_message.specs.declared.requests.Request.{Request}
 use Rattle.rubis_message.specs.declared.tokens.Packet.{Packet}
 
+-- a request, or else a packet, or else neither
 abbrev pub input_by : Option Request → Option Packet → Input
 input_by (Some r) p = Asked r
 input_by None (Some p) = Came p
 input_by None None = Neither
 
+-- what a record is to a site
 abbrev pub input_of : ℕ → List (List ℕ) → Input
 input_of sites fields = input_by (request_of sites fields) (packet_of sites fields)
 

@@ -3,6 +3,7 @@ use Rattle.std.specs.Prelude.{ℕ, List, codes}
 use Rattle.rubis_message.specs.declared.answers.Kind.{Kind}
 use Rattle.rubis_message.specs.declared.answers.Kind.TheVariants.{Clash, Order, RedGap, Refers, Nick, Stock, Winner, Rows}
 
+-- the name of a kind of fault in a verdict's record
 abbrev pub fault_kind_name : Kind → List ℕ
 fault_kind_name Clash = codes "Clash"
 fault_kind_name Order = codes "Order"

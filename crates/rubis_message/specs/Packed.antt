@@ -8,5 +8,6 @@ use Rattle.rubis_message.specs.Message.{Message}
 abbrev pub stamp_of : ℕ → List ℕ → ℕ → Stamp
 stamp_of red deps site = record { id = record { site = site; seq = slice_index deps site + 1 }; red = red; deps = deps }
 
+-- the message of which these are kept: its number is one more than the count of its site
 abbrev pub message_of : ℕ → List ℕ → ℕ → Shadow → Message
 message_of red deps site shadow = record { stamp = stamp_of red deps site; shadow = shadow }

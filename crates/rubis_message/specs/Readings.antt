@@ -51,6 +51,7 @@ kind_text kind.List = codes "list"
 kind_text kind.Restock = codes "restock"
 kind_text kind.Rename = codes "rename"
 
+-- all kinds
 abbrev pub kinds : List RecordKind
 kinds = kind.User ∷ kind.Item ∷ kind.Bid ∷ kind.Buy ∷ kind.Close ∷ kind.Comment ∷ kind.Pass ∷ kind.List ∷ kind.Restock ∷ kind.Rename ∷ []
 
@@ -70,6 +71,7 @@ shown_text shown.Log = codes "log"
 shown_text shown.Misfits = codes "misfits"
 shown_text shown.Tables = codes "tables"
 
+-- all that a listing can show
 abbrev pub all_shown : List Shown
 all_shown =
     shown.Users ∷ shown.Items ∷ shown.Bids ∷ shown.Purchases ∷ shown.Comments
@@ -81,6 +83,7 @@ shown_of = said shown_text all_shown
 
 -- ---- what follows the word for a kind
 
+-- a new item, from its fields in the order of `item_fields`
 unfoldable pub take_item : ℕ → Form NewItem
 take_item sites = do
   seller ← take_id sites
@@ -91,6 +94,7 @@ take_item sites = do
   price ← take_number AMOUNT_MAX
   give (record { seller = seller; name = name; cat = cat; stock = stock; start = start; price = price })
 
+-- a bid, from the fields of `bid_fields`
 unfoldable pub take_bid : ℕ → Form NewBid
 take_bid sites = do
   item ← take_id sites
@@ -98,6 +102,7 @@ take_bid sites = do
   amount ← take_positive AMOUNT_MAX
   give (record { item = item; bidder = bidder; amount = amount })
 
+-- a purchase, from the fields of `purchase_fields`
 unfoldable pub take_purchase : ℕ → Form PurchaseRow
 take_purchase sites = do
   item ← take_id sites
@@ -105,12 +110,14 @@ take_purchase sites = do
   quantity ← take_positive QUANTITY_MAX
   give (record { item = item; buyer = buyer; quantity = quantity })
 
+-- a close that is asked for, from the fields of `asked_close_fields`
 unfoldable pub take_asked_close : ℕ → Form AskedClose
 take_asked_close sites = do
   item ← take_id sites
   seller ← take_id sites
   give (record { item = item; seller = seller })
 
+-- a close that was decided, from the fields of `close_fields`
 unfoldable pub take_close : ℕ → Form NewClose
 take_close sites = do
   item ← take_id sites
@@ -118,6 +125,7 @@ take_close sites = do
   winner ← take_winner sites
   give (record { item = item; cat = cat; winner = winner })
 
+-- a comment, from the fields of `comment_fields`
 unfoldable pub take_comment : ℕ → Form CommentRow
 take_comment sites = do
   item ← take_id sites
@@ -127,6 +135,7 @@ take_comment sites = do
   text ← take_text
   give (record { item = item; from = from; to = to; rating = rating; text = text })
 
+-- a restock that is asked for, from the fields of `asked_restock_fields`
 unfoldable pub take_asked_restock : ℕ → Form AskedRestock
 take_asked_restock sites = do
   item ← take_id sites
@@ -134,12 +143,14 @@ take_asked_restock sites = do
   quantity ← take_positive QUANTITY_MAX
   give (record { item = item; seller = seller; quantity = quantity })
 
+-- a restock that was decided, from the fields of `restock_fields`
 unfoldable pub take_restock : ℕ → Form NewRestock
 take_restock sites = do
   item ← take_id sites
   quantity ← take_positive QUANTITY_MAX
   give (record { item = item; quantity = quantity })
 
+-- a rename that is asked for, from the fields of `asked_rename_fields`
 unfoldable pub take_asked_rename : ℕ → Form AskedRename
 take_asked_rename sites = do
   user ← take_id sites
@@ -157,12 +168,15 @@ take_rename sites = do
 
 -- ---- requests
 
+-- the word for a kind
 unfoldable pub take_kind : Form RecordKind
 take_kind = one kind_of
 
+-- the word for what a listing shows
 unfoldable pub take_shown : Form Shown
 take_shown = one shown_of
 
+-- what follows the word for what a listing shows, and the listing
 abbrev pub listing_by : ℕ → Shown → Form Listing
 listing_by sites shown.Users = give listing.Users
 listing_by sites shown.Items = mapped listing.Items (take_number CAT_MAX)
@@ -174,9 +188,11 @@ listing_by sites shown.Log = give listing.Log
 listing_by sites shown.Misfits = give listing.Misfits
 listing_by sites shown.Tables = give listing.Tables
 
+-- a listing: the word for what it shows, and what follows that
 unfoldable pub take_listing : ℕ → Form Listing
 take_listing sites = take_shown >>= listing_by sites
 
+-- what follows the word for a kind, and the request
 abbrev pub request_by : ℕ → RecordKind → Form Request
 request_by sites kind.User = mapped (λ n. request.Ask (ask.User n)) take_nick
 request_by sites kind.Item = mapped (λ n. request.Ask (ask.Item n)) (take_item sites)
@@ -189,6 +205,7 @@ request_by sites kind.List = mapped request.List (take_listing sites)
 request_by sites kind.Restock = mapped (λ r. request.Ask (ask.Restock r)) (take_asked_restock sites)
 request_by sites kind.Rename = mapped (λ r. request.Ask (ask.Rename r)) (take_asked_rename sites)
 
+-- a request: the word for its kind, and what follows that
 unfoldable pub take_request : ℕ → Form Request
 take_request sites = take_kind >>= request_by sites
 
@@ -198,6 +215,7 @@ request_of sites = whole (take_request sites)
 
 -- ---- packets
 
+-- a stamp: its number is one more than its own count
 unfoldable pub take_stamp : ℕ → Form Stamp
 take_stamp sites = do
   site ← take_site sites
@@ -207,6 +225,7 @@ take_stamp sites = do
   check (seq == slice_index deps site + 1)
   give (record { id = record { site = site; seq = seq }; red = red; deps = deps })
 
+-- what follows the word for a kind, and the shadow
 abbrev pub shadow_by : ℕ → RecordKind → Form Shadow
 shadow_by sites kind.User = mapped shadow.User take_nick
 shadow_by sites kind.Item = mapped shadow.Item (take_item sites)
@@ -219,6 +238,7 @@ shadow_by sites kind.List = none
 shadow_by sites kind.Restock = mapped shadow.Restock (take_restock sites)
 shadow_by sites kind.Rename = mapped shadow.Rename (take_rename sites)
 
+-- a shadow: the word for its kind, and what follows that
 unfoldable pub take_shadow : ℕ → Form Shadow
 take_shadow sites = take_kind >>= shadow_by sites
 
@@ -235,6 +255,7 @@ take_message sites version = do
   check (agrees shadow stamp.red)
   give (record { stamp = stamp; shadow = shadow })
 
+-- a token, after its version
 unfoldable pub take_token : ℕ → List ℕ → Form Token
 take_token sites version = do
   check (bytes_eq version token_version)
@@ -243,11 +264,13 @@ take_token sites version = do
   issued ← take_number COUNT_MAX
   give (record { turn = turn; to = to; issued = issued })
 
+-- what follows `msg` or `token` and the version, and the packet
 abbrev pub packet_by : ℕ → List ℕ → List ℕ → Form Packet
 packet_by sites word version =
     cond (bytes_eq word (codes "msg")) (mapped packet.Msg (take_message sites version))
     (cond (bytes_eq word (codes "token")) (mapped packet.Token (take_token sites version)) none)
 
+-- a packet: `msg` or `token`, the version, and what follows these
 unfoldable pub take_packet : ℕ → Form Packet
 take_packet sites = do
   word ← one Some

@@ -23,6 +23,7 @@ abbrev pub asked_with : ℕ → ℕ → List (List ℕ) → Option WorldInput
 asked_with sites i [] = None
 asked_with sites i (field ∷ rest) = Some (Asked i (request_of sites (field ∷ rest)))
 
+-- `at`, a site below `sites`, and at least one field: the request, or fields that are none
 unfoldable pub request_at : ℕ → List (List ℕ) → Option WorldInput
 request_at sites fields = option_and_then (λ p. asked_with sites p.0 p.1) (take_at sites fields)
 
@@ -34,9 +35,11 @@ take_delivery sites = do
   which ← take_number RECORDS_MAX
   give (Delivered site which)
 
+-- `audit` alone
 unfoldable pub take_audit : Form WorldInput
 take_audit = take_word (codes "audit") >> give Audit
 
+-- what a record says to a world: a request at a site, a delivery, an audit, or none of these
 abbrev pub world_input : ℕ → List (List ℕ) → WorldInput
 world_input sites fields =
     unwrap_or (option_or (request_at sites fields) (option_or (whole (take_delivery sites) fields) (whole take_audit fields))) Neither

@@ -15,6 +15,7 @@ use Rattle.rubis_message.specs.declared.tokens.Token.{Token}
 abbrev pub reply : ℕ → List (List ℕ) → List (List ℕ)
 reply n rest = codes "reply" ∷ decimal n ∷ rest
 
+-- the answer that refuses: the refusal's number and name
 abbrev pub refused_row : ℕ → Refusal → List (List ℕ)
 refused_row n r = reply n (codes "refused" ∷ decimal (code_of r) ∷ refusal_name r ∷ [])
 
@@ -38,6 +39,7 @@ arrival_row n (arrival.Released k) = reply n (codes "released" ∷ decimal k ∷
 arrival_row n arrival.Held = reply n (codes "held" ∷ [])
 arrival_row n arrival.Repeat = reply n (codes "repeat" ∷ [])
 
+-- the records that answer a message that arrived
 abbrev pub arrived_rows : ℕ → Result Arrival Refusal → List (List (List ℕ))
 arrived_rows n (Ok a) = arrival_row n a ∷ []
 arrived_rows n (Err r) = refused_row n r ∷ []
@@ -47,6 +49,7 @@ abbrev pub taken_row : ℕ → Taken → List (List ℕ)
 taken_row n taken.Holding = reply n (codes "holding" ∷ [])
 taken_row n taken.Repeat = reply n (codes "repeat" ∷ [])
 
+-- the records that answer a token that arrived
 abbrev pub took_rows : ℕ → Result Taken Refusal → List (List (List ℕ))
 took_rows n (Ok t) = taken_row n t ∷ []
 took_rows n (Err r) = refused_row n r ∷ []

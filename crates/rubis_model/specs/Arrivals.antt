@@ -10,6 +10,7 @@ abbrev pub after_all : Place → Replica → List Message → Replica
 after_all p s [] = s
 after_all p s (m ∷ ms) = after_all p (arrived p s m).0 ms
 
+-- what a site answers to messages that arrive one after the other
 abbrev pub answers_to : Place → Replica → List Message → List (Result Arrival Refusal)
 answers_to p s [] = []
 answers_to p s (m ∷ ms) = (arrived p s m).1 ∷ answers_to p (arrived p s m).0 ms

@@ -33,6 +33,7 @@ pub record IsOrdered (i : ℕ) (past : List Message) (v : Message) : Type 0 wher
   pub carries : (u : Message) → Has u past → u.stamp.id.seq ≡ dep v u.stamp.id.site → (j : ℕ) → dep u j ≤ dep v j
   pub red_before : (u : Message) → Has u past → 0 < u.stamp.red → v.stamp.red ≡ u.stamp.red + 1 → Precedes u v
 
+-- each message of a log, the newest first, is in order after those before it
 abbrev pub AllOrdered : ℕ → List Message → Type 0
 AllOrdered i [] = ⊤
 AllOrdered i (v ∷ past) = IsOrdered i past v × AllOrdered i past

@@ -69,6 +69,7 @@ abbrev pub verdict_record : Verdict → List (List ℕ)
 verdict_record Agree = codes "audit" ∷ codes "Agree" ∷ []
 verdict_record (Found kind log entry) = codes "audit" ∷ fault_kind_name kind ∷ decimal log ∷ decimal entry ∷ []
 
+-- the one record that answers an audit: the verdict, or BadRecord with the number of the first malformed record
 abbrev pub audit_record : Result (List Log) ℕ → List (List ℕ)
 audit_record (Ok logs) = verdict_record (verdict (reverse logs))
 audit_record (Err n) = codes "audit" ∷ codes "BadRecord" ∷ decimal n ∷ []

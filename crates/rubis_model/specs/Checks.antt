@@ -68,6 +68,7 @@ pub record Follows (before : List Core) (m : Core) : Type 0 where
   pub fits : Fits before m.shadow
   pub limits : IsLimited m.shadow
 
+-- each message follows those before it
 abbrev pub CheckedFrom : List Core → List Core → Type 0
 CheckedFrom before [] = ⊤
 CheckedFrom before (m ∷ ms) = Follows before m × CheckedFrom (before ++ m ∷ []) ms

@@ -23,7 +23,7 @@ abbrev pub frees : List ℕ → Id → Shadow → Bool
 frees n user (Rename r) = bytes_eq n r.from && same_id r.user user
 frees n user x = false
 
--- the row of a nickname stays until its user is renamed from it
+-- the row of a nickname stays until the user that it names is renamed from it
 abbrev pub NamesStay : Type 0
 NamesStay = (log : List Core) (m : Core) (n : List ℕ) (user : Id) → frees n user m.shadow ≡ false
     → map.get (fold_of log).tables (key.Nick n) ≡ Some (row.Nick user) → map.get (fold_of (log ++ m ∷ [])).tables (key.Nick n) ≡ Some (row.Nick user)
@@ -34,11 +34,13 @@ abbrev pub still_named : List ℕ → Option Id → Shadow → Option Id
 still_named n None x = None
 still_named n (Some user) x = cond (frees n user x) None (Some user)
 
+-- who gets the nickname by this shadow: its new user, or the user that is renamed to it
 abbrev pub named_by : List ℕ → Id → Shadow → Option Id
 named_by n id (User k) = when (bytes_eq n k) (Some id)
 named_by n id (Rename r) = when (bytes_eq n r.to) (Some r.user)
 named_by n id x = None
 
+-- who holds the nickname after the log, message by message
 abbrev pub holder : List ℕ → List Core → Option Id
 holder n log = fold (λ o m. option_or (still_named n o m.shadow) (named_by n m.id m.shadow)) None log
 
@@ -52,6 +54,7 @@ abbrev pub supplied : Id → Bool → Option ℕ → Shadow → Option ℕ
 supplied i own None x = when own (option_map (λ (n : NewItem). n.stock) (as_item x))
 supplied i own (Some s) x = Some (s + restocked_of i x)
 
+-- what there was to sell of an item, with the restocks since its listing
 abbrev pub supply_at : Id → List Core → Option ℕ
 supply_at i log = fold (λ s m. supplied i (same_id i m.id) s m.shadow) None log
 
@@ -60,7 +63,7 @@ abbrev pub IsKept : Option ℕ → Option Row → Type 0
 IsKept None r = r ≡ None
 IsKept (Some s) r = (x : ItemRow) × (r ≡ Some (row.Item x)) × (x.sold + x.stock ≡ s)
 
--- no stock is below zero: each item's row is one of these
+-- no stock is below zero: each item's row is one of these, if what there was to sell is below 2^64
 abbrev pub StockIsKept : Type 0
 StockIsKept = (log : List Core) (i : Id) → IfSome (supply_at i log) (λ s. s < 2 ^ 64) → IsKept (supply_at i log) (map.get (fold_of log).tables (key.Item i))
 

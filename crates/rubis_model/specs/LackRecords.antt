@@ -50,7 +50,7 @@ abbrev pub lack_rows_read : Result (List Log) ℕ → List (List (List ℕ))
 lack_rows_read (Ok logs) = lack_rows_of (reverse logs) (verdict (reverse logs))
 lack_rows_read (Err n) = audit_record (Err n) ∷ []
 
--- the records that answer these records
+-- the records that tell what logs lack, in answer to the records of these logs
 abbrev pub lack_of : ℕ → List (List (List ℕ)) → List (List (List ℕ))
 lack_of sites records = lack_rows_read (logs_after sites 1 [] records)
 
@@ -75,6 +75,6 @@ waits_rows log m =
     map (λ id. codes "waits" ∷ id_text m.stamp.id ∷ codes "for" ∷ id_text id ∷ []) (filter_map (awaited log m) (range_with_len 0 (sites_of m)))
     ++ red_rows m (awaited_red log m)
 
--- of each message that waits at a site, in arrival order
+-- the records that tell what each message that waits at a site waits for, in arrival order
 abbrev pub waiting_rows : Replica → List (List (List ℕ))
 waiting_rows s = flat_map (waits_rows s.log) s.waiting

@@ -133,6 +133,7 @@ pub record InOrder (w : World) : Type 0 where
 abbrev pub known_at : World → ℕ → List Core
 known_at w i = cores (site w i).log
 
+-- the tables of a site's log
 abbrev pub tables_at : World → ℕ → Tables
 tables_at w i = (fold_of (known_at w i)).tables
 
@@ -143,7 +144,8 @@ pub record InRun (w : World) : Type 0 where
   pub invariants : KeepInvariants (Sent w) (IsLogOf w)
   pub agree : (i j : ℕ) → SameSet (site w i).log (site w j).log → tables_at w i ≡ tables_at w j
 
--- what any events at n sites lead to, where each site keeps at most `keep` messages
+-- the claim holds of what any events at n sites lead to: n is at least 1, and each site keeps at most `keep` messages, which is at most
+-- KEEP_MAX
 abbrev pub EveryRun : (World → Type 0) → Type 0
 EveryRun claim = (n keep : ℕ) (events : List Event) → 1 ≤ n → keep ≤ KEEP_MAX → AreEvents n events → claim (run keep events (start n))
 

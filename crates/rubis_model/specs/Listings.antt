@@ -28,6 +28,7 @@ use Rattle.rubis_message.specs.Message.{Message}
 
 -- ---- the record of a row
 
+-- a user's row: nickname, items listed, pieces bought, sum of ratings, comments
 abbrev pub user_fields : UserRow → List (List ℕ)
 user_fields u = u.nick ∷ decimal u.items ∷ decimal u.bought ∷ int_text u.rating ∷ decimal u.comments ∷ []
 
@@ -41,11 +42,13 @@ abbrev pub sale_fields : Sale → List (List ℕ)
 sale_fields Open = codes "open" ∷ codes "none" ∷ []
 sale_fields (Ended winner) = codes "closed" ∷ winner_text winner ∷ []
 
+-- an item's row: seller, name, category, stock, sold, start price, price to buy at once, bids, the best bid, the sale
 abbrev pub item_row_fields : ItemRow → List (List ℕ)
 item_row_fields i =
     id_text i.seller ∷ i.name ∷ decimal i.cat ∷ decimal i.stock ∷ decimal i.sold ∷ decimal i.start ∷ decimal i.price ∷ decimal i.bids ∷ []
     ++ (best_fields i.best ++ sale_fields i.sale)
 
+-- a bid's row: item, bidder, amount, red number
 abbrev pub bid_row_fields : BidRow → List (List ℕ)
 bid_row_fields b = id_text b.item ∷ id_text b.bidder ∷ decimal b.amount ∷ decimal b.red ∷ []
 
@@ -53,6 +56,7 @@ bid_row_fields b = id_text b.item ∷ id_text b.bidder ∷ decimal b.amount ∷ 
 abbrev pub by_id : List ℕ → Id → List (List ℕ) → List (List ℕ)
 by_id kind id fields = codes "row" ∷ kind ∷ id_text id ∷ fields
 
+-- the record of a category: its number, its items, and those that aren't closed
 abbrev pub category_record : ℕ → CatRow → List (List ℕ)
 category_record k c = codes "row" ∷ codes "category" ∷ decimal k ∷ decimal c.items ∷ int_text c.live ∷ []
 
@@ -89,6 +93,7 @@ table_rows l t = records_of l (map.entries t)
 
 -- ---- the log, and what didn't fit
 
+-- the record of a message, with its entry in the log
 abbrev pub log_record : ℕ → Message → List (List ℕ)
 log_record entry m = codes "row" ∷ codes "log" ∷ decimal entry ∷ message_record m
 
@@ -108,8 +113,10 @@ kind_name ClosedItem = codes "ClosedItem"
 kind_name StockShort = codes "StockShort"
 kind_name OtherUser = codes "OtherUser"
 
+-- the record of a misfit: its entry, its part, the message's id, and why it didn't fit
 abbrev pub misfit_record : Misfit → List (List ℕ)
 misfit_record m = codes "row" ∷ codes "misfit" ∷ decimal m.entry ∷ decimal m.part ∷ id_text m.id ∷ kind_name m.kind ∷ []
 
+-- the records of misfits, in order
 abbrev pub misfit_rows : List Misfit → List (List (List ℕ))
 misfit_rows ms = flat_map (λ m. misfit_record m ∷ []) ms

@@ -19,12 +19,15 @@ pub record Core : Type 0 where
   pub red : ℕ
   pub shadow : Shadow
 
+-- what the tables know of a message: id, red number and shadow
 abbrev pub core : Message → Core
 core m = record { id = m.stamp.id; red = m.stamp.red; shadow = m.shadow }
 
+-- what the tables know of a log
 abbrev pub cores : List Message → List Core
 cores log = map core log
 
+-- the parts of a message
 abbrev pub parts_of : Core → List Effect
 parts_of m = parts m.id m.red m.shadow
 
@@ -43,6 +46,7 @@ pub record Folded : Type 0 where
   pub tables : Tables
   pub misfits : List Misfit
 
+-- the misfit of a part, if there is one
 abbrev pub noted : Numbered → Option MisfitKind → List Misfit
 noted n None = []
 noted n (Some kind) = record { entry = n.entry; part = n.part; id = n.id; kind = kind } ∷ []
@@ -51,9 +55,11 @@ noted n (Some kind) = record { entry = n.entry; part = n.part; id = n.id; kind =
 abbrev pub step : Folded → Numbered → Folded
 step f n = record { tables = after_part f.tables n.effect; misfits = f.misfits ++ noted n (misfit_of f.tables n.effect) }
 
+-- some parts more, in order, folded on tables with the misfits so far
 abbrev pub fold_on : Folded → List Numbered → Folded
 fold_on f ns = fold step f ns
 
+-- the opening tables, without misfits
 abbrev pub before_any : Folded
 before_any = record { tables = opening; misfits = [] }
 

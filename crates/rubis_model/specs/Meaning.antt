@@ -38,6 +38,7 @@ abbrev pub rates : Id → Shadow → Bool
 rates u (Comment c) = same_id u c.to
 rates u s = false
 
+-- the rating that a comment gives the user
 abbrev pub rating_for : Id → Shadow → ℤ
 rating_for u (Comment c) = cond (same_id u c.to) c.rating (pos 0)
 rating_for u s = pos 0
@@ -87,18 +88,22 @@ abbrev pub lists_in : ℕ → Shadow → Bool
 lists_in k (Item n) = nat_eq k n.cat
 lists_in k s = false
 
+-- it closes an item of the category
 abbrev pub closes_in : ℕ → Shadow → Bool
 closes_in k (Close c) = nat_eq k c.cat
 closes_in k s = false
 
 -- ---- sums, counts and choices over a set
 
+-- a sum of whole numbers over the messages
 abbrev pub int_sum_by : (Core → ℤ) → List Core → ℤ
 int_sum_by f a = fold (λ s m. s +ℤ f m) (pos 0) a
 
+-- how many messages have a shadow that passes the test
 abbrev pub count : (Shadow → Bool) → List Core → ℕ
 count p a = count_by (λ m. p m.shadow) a
 
+-- a sum over the shadows
 abbrev pub total : (Shadow → ℕ) → List Core → ℕ
 total f a = sum_by (λ m. f m.shadow) a
 
@@ -107,6 +112,7 @@ abbrev pub choice : (Core → Core → Bool) → (Core → Bool) → Option Core
 choice beats p None m = cond (p m) (Some m) None
 choice beats p (Some old) m = cond (p m && beats m old) (Some m) (Some old)
 
+-- of the messages that pass the test, the one that beats the others; None if none passes
 abbrev pub choose : (Core → Core → Bool) → (Core → Bool) → List Core → Option Core
 choose beats p a = fold (choice beats p) None a
 
@@ -122,10 +128,11 @@ later m old = nat_lt old.red m.red
 abbrev pub higher : Core → Core → Bool
 higher m old = nat_lt (amount_of old.shadow) (amount_of m.shadow) || (nat_eq (amount_of m.shadow) (amount_of old.shadow) && earlier m old)
 
--- the highest bid of the item, and the item's close
+-- the highest bid of the item
 abbrev pub best_bid : Id → List Core → Option Core
 best_bid i a = choose higher (λ m. bids_on i m.shadow) a
 
+-- the item's close; of several, the one with the smallest red number
 abbrev pub close_of : Id → List Core → Option Core
 close_of i a = choose earlier (λ m. closes i m.shadow) a
 
@@ -135,39 +142,49 @@ last_rename u a = choose later (λ m. renames u m.shadow) a
 
 -- ---- the shadow of an id, by kind
 
+-- the nickname, if it makes a user
 abbrev pub as_user : Shadow → Option (List ℕ)
 as_user (User n) = Some n
 as_user s = None
 
+-- the new item, if it makes one
 abbrev pub as_item : Shadow → Option NewItem
 as_item (Item n) = Some n
 as_item s = None
 
+-- the row of the bid, if it is one
 abbrev pub as_bid : ℕ → Shadow → Option BidRow
 as_bid red (Bid b) = Some (record { item = b.item; bidder = b.bidder; amount = b.amount; red = red })
 as_bid red s = None
 
+-- the purchase, if it is one
 abbrev pub as_purchase : Shadow → Option PurchaseRow
 as_purchase (Buy p) = Some p
 as_purchase s = None
 
+-- the comment, if it is one
 abbrev pub as_comment : Shadow → Option CommentRow
 as_comment (Comment c) = Some c
 as_comment s = None
 
+-- the first value that there is
 abbrev pub first : {X : Type 0} → (Core → Option X) → List Core → Option X
 first f [] = None
 first f (m ∷ ms) = option_or (f m) (first f ms)
 
+-- the value, if the test holds
 abbrev pub when : {X : Type 0} → Bool → Option X → Option X
 when b o = cond b o None
 
+-- what a message of this id is read as
 abbrev pub at_id : {X : Type 0} → (Core → Option X) → Id → List Core → Option X
 at_id f i a = first (λ m. when (same_id i m.id) (f m)) a
 
+-- the user's first nickname
 abbrev pub user_at : Id → List Core → Option (List ℕ)
 user_at = at_id (λ m. as_user m.shadow)
 
+-- the new item of this id
 abbrev pub item_at : Id → List Core → Option NewItem
 item_at = at_id (λ m. as_item m.shadow)
 
@@ -180,6 +197,7 @@ nick_after (Some m) first = new_nick m.shadow
 abbrev pub nick_at : Id → List Core → Option (List ℕ)
 nick_at u a = option_map (nick_after (last_rename u a)) (user_at u a)
 
+-- the nickname is this one
 abbrev pub is_same_nick : List ℕ → Option (List ℕ) → Bool
 is_same_nick n None = false
 is_same_nick n (Some k) = bytes_eq n k
@@ -200,9 +218,11 @@ user_row a u nick = row.User (record {
   comments = count (rates u) a;
 })
 
+-- a bid, with its amount
 abbrev pub best_of : Core → Best
 best_of m = record { bid = m.id; amount = amount_of m.shadow }
 
+-- open until there is a close; then ended, with the winner that the close names
 abbrev pub sale_after : Option Core → Sale
 sale_after None = Open
 sale_after (Some m) = Ended (winner_of m.shadow)

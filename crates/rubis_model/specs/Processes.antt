@@ -46,6 +46,7 @@ site_after p s n (fields ∷ rest) = site_after p (input_step p s n (input_of p.
 abbrev pub state_of : ℕ → (ℕ → ℕ) → List Reading → ℕ → Replica
 state_of sites keep readings i = site_after (process sites keep i) (opening_at i) 1 (read_by i readings)
 
+-- all that process i answered to these readings
 abbrev pub answers_of : ℕ → (ℕ → ℕ) → List Reading → ℕ → List (List (List ℕ))
 answers_of sites keep readings i = output_of (process sites keep i) (read_by i readings)
 
@@ -61,7 +62,7 @@ abbrev pub Carried : ℕ → (ℕ → ℕ) → List Reading → Type 0
 Carried sites keep readings = (before later : List Reading) (r : Reading) (p : Packet)
     → readings ≡ before ++ r ∷ later → packet_of sites r.fields ≡ Some p → WasSent sites keep before r.fields
 
--- what holds of processes whose packets are carried unchanged
+-- what holds of any readings of 1 to 16 processes whose packets are carried unchanged
 abbrev pub OfProcesses : (ℕ → (ℕ → ℕ) → List Reading → Type 0) → Type 0
 OfProcesses claim =
     (sites : ℕ) (keep : ℕ → ℕ) (readings : List Reading) → 1 ≤ sites → sites ≤ COUNTED_MAX → ((i : ℕ) → keep i ≤ KEEP_MAX)

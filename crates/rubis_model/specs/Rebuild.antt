@@ -85,7 +85,7 @@ abbrev pub is_lacking : ℕ → List Message → Message → Message → Bool
 is_lacking i log m u =
     not (u.stamp.id.site == i) && (nat_lt (counted u.stamp.id.site log) u.stamp.id.seq && nat_le u.stamp.id.seq (dep m u.stamp.id.site))
 
--- of all messages those that are lacking for m, in the order in which they stand
+-- of all messages those that m counts and the log hasn't, in the order in which they stand
 abbrev pub lacking : ℕ → List Message → Message → List Message → List Message
 lacking i log m all = filter (is_lacking i log m) all
 
@@ -122,7 +122,8 @@ abbrev pub sent_again : Place → List Token → List Message → Replica → Pa
 sent_again p tokens all s (packet.Msg m) = sends_as packet.Msg (asked p (prepared p tokens all s m) (ask_of all m.shadow))
 sent_again p tokens all s (packet.Token t) = sends_as packet.Token (passed p (holding p tokens s) t.to)
 
--- what a site comes to, and what it sends, where its packets are sent again one after the other
+-- what a site comes to, and what it sends, where its packets are sent again one after the other: for each it is given what it needs, and
+-- its ask
 abbrev pub rebuilt : Place → List Token → List Message → Replica → List Packet → Replica × List Packet
 rebuilt p tokens all s [] = (s, [])
 rebuilt p tokens all s (x ∷ packets) = (
@@ -189,6 +190,7 @@ abbrev pub inputs_for : Place → List Token → List Message → Replica → Pa
 inputs_for p tokens all s (packet.Msg m) = inputs_before p tokens all s m ++ Asked (request.Ask (ask_of all m.shadow)) ∷ []
 inputs_for p tokens all s (packet.Token t) = token_before p tokens s ++ Asked (request.Pass t.to) ∷ []
 
+-- what the rebuilt site is given, as a list of inputs
 abbrev pub inputs_to_rebuild : Place → List Token → List Message → Replica → List Packet → List Input
 inputs_to_rebuild p tokens all s [] = []
 inputs_to_rebuild p tokens all s (x ∷ packets) = inputs_for p tokens all s x ++ inputs_to_rebuild p tokens all (sent_again p tokens all s x).0 packets

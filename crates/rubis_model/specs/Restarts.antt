@@ -42,6 +42,7 @@ read_on i so_far (Reads j fields ∷ rest) = read_on i (cond (j == i) (so_far ++
 read_on i so_far (Restarts j ∷ rest) = read_on i (cond (j == i) [] so_far) rest
 read_on i so_far (Replays j fields ∷ rest) = read_on i (cond (j == i) (so_far ++ fields ∷ []) so_far) rest
 
+-- what process i has read since its last start
 abbrev pub has_read : ℕ → List Moment → List (List (List ℕ))
 has_read i moments = read_on i [] moments
 
@@ -65,6 +66,7 @@ pub record Replayed (sites : ℕ) (keep : ℕ → ℕ) (i : ℕ) (before later :
   pub again : IsShortened (process sites keep i) (opening_at i) (has_read i before) first
   pub whole : (fields : List (List ℕ)) (more : List Moment) → later ≡ Reads i fields ∷ more → rest ≡ []
 
+-- at every moment, each restarted process has read of its recording what `Replayed` says
 abbrev pub AreReplayed : ℕ → (ℕ → ℕ) → List Moment → Type 0
 AreReplayed sites keep moments = (i : ℕ) (before later : List Moment) → moments ≡ before ++ later → Replayed sites keep i before later
 

@@ -43,6 +43,6 @@ unfoldable pub answers : Place → Replica → ℕ → List (List (List ℕ)) �
 answers p s n [] = []
 answers p s n (fields ∷ rest) = (input_step p s n (input_of p.sites fields)).1 ++ answers p (input_step p s n (input_of p.sites fields)).0 (n + 1) rest
 
--- all that a site answers to a run of records
+-- all that a site answers to a run of records: of its configuration this knows only `Place`
 abbrev pub output_of : Place → List (List (List ℕ)) → List (List (List ℕ))
 output_of p records = answers p (opening_at p.site) 1 records

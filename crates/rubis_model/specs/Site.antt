@@ -45,6 +45,7 @@ settled s = record s { log = (settle (length s.waiting) s.log s.waiting).0; wait
 
 -- ---- asks
 
+-- the site has as many messages, released or waiting, as it keeps
 abbrev pub is_full : ℕ → Replica → Bool
 is_full keep s = nat_le keep (length s.log + length s.waiting)
 
@@ -52,6 +53,7 @@ is_full keep s = nat_le keep (length s.log + length s.waiting)
 abbrev pub is_current : Replica → Bool
 is_current s = option_map_or (λ issued. reds s.log == issued) s.held false
 
+-- what a decision has to know of its site: whether it is full, holds the token, and has every red message that was issued
 abbrev pub standing_of : ℕ → Replica → Standing
 standing_of keep s = record { full = is_full keep s; holds = is_some s.held; current = is_current s }
 
@@ -63,6 +65,7 @@ rows_at log = row_by_key (fold_of (cores log)).tables
 abbrev pub red_for : Shadow → Option ℕ → ℕ
 red_for x held = cond (is_red x) (unwrap_or held 0 + 1) 0
 
+-- the red numbers issued once the message is made
 abbrev pub issued_after : Shadow → Option ℕ → Option ℕ
 issued_after x held = cond (is_red x) (option_map (λ issued. issued + 1) held) held
 
@@ -104,9 +107,12 @@ is_repeat s m = list_any (λ u. same_id m.stamp.id u.stamp.id) s.log || list_any
 abbrev pub after_came : Replica → Message → Replica
 after_came s m = settled (record s { waiting = s.waiting ++ m ∷ [] })
 
+-- held, or how many were released
 abbrev pub arrival_of : ℕ → Arrival
 arrival_of n = cond (n == 0) arrival.Held (arrival.Released n)
 
+-- a message that arrives is refused if it falsely claims to be the site's own, a repeat if its id is released or waiting, and refused if
+-- the site is full; else it is put last among the waiting ones, and the site settles
 abbrev pub arrived : Place → Replica → Message → Replica × Result Arrival Refusal
 arrived p s m =
     cond (not_ours p s m) (s, Err NotOurs)
@@ -116,6 +122,7 @@ arrived p s m =
 
 -- ---- the token
 
+-- a token is refused if it is for another site, and a repeat if its turn isn't above the last taken; else the site holds it
 abbrev pub took : Place → Replica → Token → Replica × Result Taken Refusal
 took p s t =
     cond (not (t.to == p.site)) (s, Err NotForMe)
@@ -126,6 +133,7 @@ took p s t =
 abbrev pub token_for : Replica → ℕ → ℕ → Token
 token_for s to issued = record { turn = s.last + 1; to = to; issued = issued }
 
+-- the token goes to another site, with all red numbers issued so far; where that is refused, nothing changes
 abbrev pub passing : Place → Replica → ℕ → Option ℕ → Replica × Result Token Refusal
 passing p s to None = (s, Err NoToken)
 passing p s to (Some issued) =
@@ -133,5 +141,6 @@ passing p s to (Some issued) =
     (cond (nat_le 1000000000 s.last) (s, Err LastTurn)
     (record s { held = None }, Ok (token_for s to issued)))
 
+-- the site after it passed the token on, and the token that it sent
 abbrev pub passed : Place → Replica → ℕ → Replica × Result Token Refusal
 passed p s to = passing p s to s.held

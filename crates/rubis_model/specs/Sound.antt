@@ -90,6 +90,7 @@ abbrev pub IsDeliverable : ℕ → Packet → Type 0
 IsDeliverable sites (packet.Msg m) = IsMessage m × (sites_of m ≡ sites)
 IsDeliverable sites (packet.Token t) = t.to < sites
 
+-- each packet that was sent can be taken in
 abbrev pub AllDeliverable : ℕ → List Packet → Type 0
 AllDeliverable sites sent = (p : Packet) → Has p sent → IsDeliverable sites p
 

@@ -34,6 +34,7 @@ IsEvent sites (At i (request.Pass to)) = ⊤
 IsEvent sites (At i (request.List l)) = ⊤
 IsEvent sites (Deliver i k) = ⊤
 
+-- each is an event of `sites` sites
 abbrev pub AreEvents : ℕ → List Event → Type 0
 AreEvents sites [] = ⊤
 AreEvents sites (e ∷ es) = IsEvent sites e × AreEvents sites es
@@ -42,6 +43,7 @@ AreEvents sites (e ∷ es) = IsEvent sites e × AreEvents sites es
 abbrev pub site : World → ℕ → Replica
 site w i = slice_index_or w.sites i (opening_at 1)
 
+-- which site it is, of how many; all keep equally many messages
 abbrev pub place : ℕ → World → ℕ → Place
 place keep w i = record { site = i; sites = length w.sites; keep = keep }
 
@@ -59,6 +61,7 @@ abbrev pub sending : {A : Type 0} → (A → Packet) → Result A Refusal → Li
 sending pack (Ok x) = pack x ∷ []
 sending pack (Err r) = []
 
+-- the site's new state, and what it sends, if it doesn't refuse, last among the packets
 abbrev pub answering : {A : Type 0} → (A → Packet) → World → ℕ → Replica × Result A Refusal → World
 answering pack w i p = record { sites = slice_set w.sites i p.0; sent = w.sent ++ sending pack p.1 }
 
@@ -99,7 +102,7 @@ coming keep w i (Some (packet.Token t)) = takes happened.Token w i (took (place 
 abbrev pub at_site : World → ℕ → World × Result Happened Refusal → World × Result Happened Refusal
 at_site w i step = cond (nat_lt i (length w.sites)) step (w, Err BadEvent)
 
--- what an event leads to, and what is answered
+-- what an event leads to, and what is answered: without such a site BadEvent, without such a packet NoSuchPacket, and then nothing changes
 abbrev pub happens : ℕ → World → Event → World × Result Happened Refusal
 happens keep w (At i r) = at_site w i (requested keep w i r)
 happens keep w (Deliver i k) = at_site w i (coming keep w i (packet_at w.sent k))

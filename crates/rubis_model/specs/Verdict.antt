@@ -109,6 +109,7 @@ first_of (c ∷ cs) = cond c.1 (Some c.0) (first_of cs)
 
 -- ---- the check of a whole log
 
+-- the rows are equal, byte for byte and in order
 abbrev pub same_rows : List (List (List ℕ)) → List (List (List ℕ)) → Bool
 same_rows = pointwise (pointwise bytes_eq)
 

@@ -21,11 +21,11 @@ use Rattle.rubis_model.specs.Verdict.{verdict}
 
 -- ---- answers
 
--- a record that a site gives
+-- a record that a site gives, after `at` and the site
 abbrev pub site_row : ℕ → List (List ℕ) → List (List ℕ)
 site_row site row = codes "at" ∷ decimal site ∷ row
 
--- record n is no event
+-- record n is no event, and is refused, after `world` and n
 abbrev pub world_row : ℕ → Refusal → List (List ℕ)
 world_row n r = codes "world" ∷ decimal n ∷ codes "refused" ∷ decimal (code_of r) ∷ refusal_name r ∷ []
 
@@ -35,6 +35,7 @@ sent_rows n None = []
 sent_rows n (Some (packet.Msg m)) = asked_rows n (Ok m)
 sent_rows n (Some (packet.Token t)) = passed_rows n (Ok t)
 
+-- the records that answer an event which wasn't refused
 abbrev pub happened_rows : ℕ → List Packet → Happened → List (List (List ℕ))
 happened_rows n sent (happened.Sent k) = sent_rows n (packet_at sent k)
 happened_rows n sent (happened.Came a) = arrived_rows n (Ok a)

@@ -1,11 +1,11 @@
 -- Shards with a beginning of their shares folded on, in order of number.
 use Rattle.std.proofs.Common.{◌≡◌, ℕ, zero, suc, ◌+◌, ◌<◌, ◌≤◌, List, [], ◌∷◌, ◌++◌, length, take, drop, get_or, true, false}
-use Rattle.std.proofs.Common.{cond, refl, sym, ap, ◌∙◌, subst, arith, append_assoc}
+use Rattle.std.proofs.Common.{cond, refl, sym, ap, ◌∙◌, subst, arith}
 use Rattle.std.specs.Prelude.{Some, nat_eq, nat_lt, slice_get, map, flat_map}
 use Rattle.std.specs.Option.{option_map}
 use Rattle.std.specs.List.{All, Contains}
 use Rattle.std.proofs.lemmas.Bool.Decides.{Decides-eqb, nat_tests}
-use Rattle.std.proofs.lemmas.List.{append-nil, length-map, drop_all, same_lists, take-append-drop}
+use Rattle.std.proofs.lemmas.List.{length-map, drop_all, same_lists, take-append-drop}
 use Rattle.std.proofs.lemmas.List.Elements.{All-cons}
 use Rattle.std.proofs.lemmas.List.Sorted.{IsPermutation-sym, Contains-permutation}
 use Rattle.std.proofs.lemmas.Option.{slice_get-get_or, slice_get-map, slice_get_within, get_or_from_slice_get}
@@ -13,17 +13,16 @@ use Rattle.rubis_schema.specs.Keys.{home}
 use Rattle.rubis_shadow.specs.declared.numbered.Numbered.{Numbered}
 use Rattle.rubis_model.specs.Log.{Core, numbered_from, share}
 use Rattle.rubis_shard.specs.States.{ShardState, with_parts, IsHomeOf}
-use Rattle.rubis_shard.specs.Holdings.{shard_of_log, parts_at, AreInOrder, HoldsLog, IsSet}
+use Rattle.rubis_shard.specs.Holdings.{shard_of_log, parts_at, AreInOrder, HoldsLog}
 use Rattle.rubis_shard.specs.declared.shares.Share.{Share}
 use Rattle.rubis_shard.proofs.Folds.{not_equal, with_append}
 use Rattle.rubis_shard.proofs.Logs.{shard_with_share}
 use Rattle.rubis_shard.proofs.Unions.{AreFrom, from_rest, from_first}
-use Rattle.rubis_pieces.specs.Batches.{IsFolded, Belong, AreFolded, AreFoldedTo, rest_of, AreLeft, IsBegun, AreUnfinished}
+use Rattle.rubis_pieces.specs.Batches.{IsFolded, Belong, AreFolded, rest_of, AreLeft, IsBegun, AreUnfinished}
 use Rattle.rubis_pieces.specs.Batches.{HoldsBut, TakesBatch, TakesWholeBatch}
 use Rattle.rubis_pieces.specs.Faults.{IsFault, numbers_of}
 use Rattle.rubis_pieces.specs.Gathered.{left_of, IsInOrder}
 use Rattle.rubis_pieces.specs.Shares.{AreShares}
-use Rattle.rubis_pieces.specs.declared.gathers.Gathered.{Gathered}
 use Rattle.rubis_pieces.specs.declared.gathers.FaultKind.{FaultKind}
 use Rattle.rubis_pieces.specs.declared.gathers.FaultKind.TheVariants.{Stranger, Twice, Missing}
 use Rattle.rubis_pieces.specs.declared.pieces.Done.{Done}
@@ -95,33 +94,6 @@ folded_at (t ∷ ss) (h ∷ hs) [] f k s e = absurd f
 folded_at (t ∷ ss) (h ∷ hs) (d ∷ ds) f zero s e = let is : t ≡ s = cc in (h, d, refl, refl, subst (λ x. IsFolded x h d) is f.0)
 folded_at (t ∷ ss) (h ∷ hs) (d ∷ ds) f (suc k) s e = folded_at ss hs ds f.1 k s e
 
--- one share more, whatever follows
-pub fold_turn : (every_s : List ShardState) (every_h : List Share) (ss rest_s : List ShardState) (hs rest_h : List Share) (s :
-    ShardState) (h : Share) (d : Done) (done more : List Done)
-    → ss ≡ s ∷ rest_s → hs ≡ h ∷ rest_h → more ≡ done ++ d ∷ [] → IsFolded s h d
-    → ((ds : List Done) → AreFolded ss hs ds → AreFolded every_s every_h (done ++ ds)) → (ds : List Done)
-    → AreFolded rest_s rest_h ds → AreFolded every_s every_h (more ++ ds)
-fold_turn every_s every_h ss rest_s hs rest_h s h d done more a b m one all ds f = subst (AreFolded every_s every_h) (sym
-    (append_assoc done (d ∷ []) ds) ∙ ap (λ xs. xs ++ ds) (sym m))
-    (all (d ∷ ds) (subst (λ xs. AreFolded xs hs (d ∷ ds)) (sym a) (subst (λ xs. AreFolded (s ∷ rest_s) xs (d ∷ ds)) (sym b)
-    (one, f))))
-
-pub belong_rest : (ss rest_s : List ShardState) (hs rest_h : List Share) (s : ShardState) (h : Share) → ss ≡ s ∷ rest_s
-    → hs ≡ h ∷ rest_h → Belong ss hs → Belong rest_s rest_h
-belong_rest ss rest_s hs rest_h s h a b belong = let w = subst (λ xs. Belong (s ∷ rest_s) xs) b (subst (λ xs. Belong xs hs) a
-    belong) in w.1
-
--- no share more
-pub fold_end : (every_s : List ShardState) (every_h : List Share) (ss : List ShardState) (hs : List Share) (done : List Done)
-    → ss ≡ [] → Belong ss hs
-    → ((ds : List Done) → AreFolded ss hs ds → AreFolded every_s every_h (done ++ ds)) → AreFolded every_s every_h done
-fold_end every_s every_h ss hs done none belong all = subst (AreFolded every_s every_h) (append-nil done)
-    (all [] (subst (λ xs. AreFolded xs hs []) (sym none) (folded_none hs (subst (λ xs. Belong xs hs) none belong))))
-  where
-    folded_none : (gs : List Share) → Belong [] gs → AreFolded [] gs []
-    folded_none [] b = tt
-    folded_none (h ∷ gs) b = absurd b
-
 -- ---- the numbers of the shards are their places
 number_of : (ds : List Done) (k : ℕ) (d : Done) → slice_get ds k ≡ Some d → slice_get (numbers_of ds) k ≡ Some d.shard.number
 number_of ds k d e = slice_get-map (λ (x : Done). x.shard.number) ds k ∙ ap (option_map (λ (x : Done). x.shard.number)) e
@@ -178,14 +150,6 @@ same_order shards list ds many each h = same_lists ds list (h.many ∙ sym many)
     let second : x.shard.number ≡ j = cc in
     let same : j ≡ k = sym second ∙ first in
     sym (get_or_from_slice_get list k x e (ap (slice_get list) (sym same) ∙ there)))
-
--- both of what is folded
-pub no_fault_folded : (ss : List ShardState) (hs : List Share) (list : List Done) (fault : FaultKind) → AreInOrder ss
-    → AreFolded ss hs list
-    → IsFault (length ss) (numbers_of list) fault → ⊥
-no_fault_folded ss hs list fault order f =
-    no_fault (length ss) (numbers_of list) fault (length-map list (λ (d : Done). d.shard.number)
-    ∙ folded_length ss hs list f) (folded_numbers ss hs list order f)
 
 pub order_folded : (ss : List ShardState) (hs : List Share) (list ds : List Done) → AreInOrder ss → AreFolded ss hs list
     → IsInOrder (length ss) list ds → ds ≡ list
@@ -358,32 +322,3 @@ pub takes_whole : (first : ℕ) (batch : List Core) (old new : List ShardState) 
     → IsBegun first batch old new left → TakesWholeBatch first batch old new left
 takes_whole first batch old new left b none shards log next holds = holds_all shards (log ++ batch) left new none (takes_batch
     first batch old new left b shards log next holds)
-
--- ---- from the clauses of the calls
-pub begun_all : (first : ℕ) (batch : List Core) (many : ℕ) (old ss new : List ShardState) (hs : List Share) (g : Gathered)
-    → ss ≡ old → many ≡ length ss
-    → AreShares many first batch hs → AreFoldedTo ss hs g → new ≡ g.shards → IsBegun first batch old new g.left
-begun_all first batch many old ss new hs g is count dealt w new_is =
-    subst (λ ts. IsBegun first batch ts new g.left) is
-    (begun first batch ss hs w.0 (subst (λ n. AreShares n first batch hs) count dealt) w.1 new g.left (new_is ∙ w.2) w.3)
-
--- they are still all the shards of one set
-pub set_again : (ss new : List ShardState) (hs : List Share) (g : Gathered) → 0 < length ss → AreInOrder ss
-    → AreFoldedTo ss hs g → new ≡ g.shards → IsSet new
-set_again ss new hs g some order w is = record {
-  some = (let m = many in omega (arith, some, m));
-  order = λ k s e.
-      let l : k < length ss = let a = slice_get_within new k s e in let m = many in omega (arith, a, m) in
-      let t = get_or ss k s in
-      let at = slice_get-get_or ss k s l in
-      let f = folded_at ss hs w.0 w.1 k t at in
-      let here : slice_get new k ≡ Some f.1.shard =
-      ap (λ ts. slice_get ts k) (is ∙ w.2) ∙ slice_get-map (λ (x : Done). x.shard) w.0 k
-      ∙ ap (option_map (λ (x : Done). x.shard)) f.3 in
-      let same : s ≡ with_parts t (take f.1.done f.0.effects) = let b = f.4.shard in cc in
-      let o = order k t at in
-      (ap (λ (x : ShardState). x.number) same ∙ o.0, ap (λ (x : ShardState). x.shards) same ∙ o.1 ∙ sym many);
-}
-  where
-    many : length new ≡ length ss
-    many = ap length (is ∙ w.2) ∙ length-map w.0 (λ (d : Done). d.shard) ∙ folded_length ss hs w.0 w.1

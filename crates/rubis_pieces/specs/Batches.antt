@@ -58,7 +58,7 @@ pub record IsBegun (first : ℕ) (batch : List Core) (old new : List ShardState)
       × (rest_of left k ≡ drop d (share (length old) first batch k))
   pub rest : AreLeft 0 (length old) first batch left
 
--- the shards hold the log, but for the parts that are left
+-- the shards hold the log, but for the parts that are left: with these folded on, each would be that of the log
 pub record HoldsBut (shards : ℕ) (log : List Core) (left : List Left) (ts : List ShardState) : Type 0 where
   pub many : length ts ≡ shards
   pub each : (k : ℕ) → k < shards → (s : ShardState) × (slice_get ts k ≡ Some s)
@@ -91,17 +91,3 @@ parts_left ls = sum_by (λ (l : Left). length l.share.effects - l.done) ls
 pub record LeavesNoMore (batch : List Core) (old new : List ShardState) (left : List Left) : Type 0 where
   pub few : parts_left left ≤ length (flat_map parts_of batch)
   pub none : parts_left left ≡ length (flat_map parts_of batch) → new ≡ old
-
--- on each shard more of what was left of its share is folded, in order, and `rest` says how much is left now
-pub record FoldsRests (old : List ShardState) (left : List Left) (new : List ShardState) (rest : List Left) : Type 0 where
-  pub each : (k : ℕ) (s : ShardState) → slice_get old k ≡ Some s → (more : ℕ)
-      × (slice_get new k ≡ Some (with_parts s (take more (rest_of left k))))
-      × (rest_of rest k ≡ drop more (rest_of left k))
-
--- shards that hold a log but for what is left, go on so
-abbrev pub GoesOn : List ShardState → List Left → List ShardState → List Left → Type 0
-GoesOn old left new rest = (shards : ℕ) (log : List Core) → HoldsBut shards log left old → HoldsBut shards log rest new
-
--- and hold it wholly, where nothing is left any more
-abbrev pub EndsWhole : List ShardState → List Left → List ShardState → List Left → Type 0
-EndsWhole old left new rest = rest ≡ [] → (shards : ℕ) (log : List Core) → HoldsBut shards log left old → HoldsLog shards log new

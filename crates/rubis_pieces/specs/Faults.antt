@@ -25,7 +25,7 @@ pub record IsGatherable (shards : ℕ) (ns : List ℕ) : Type 0 where
   pub all : (k : ℕ) → k < shards → StandsBelow (length ns) ns k
   pub many : length ns ≡ shards
 
--- what a walk through the list finds first; after it the smallest absent number
+-- what a walk through the list finds first: a number that is none of the set, or a duplicate; after it the smallest absent number
 abbrev pub IsFault : ℕ → List ℕ → FaultKind → Type 0
 IsFault shards ns (Stranger p) = (i : ℕ) × IsSoundTo shards i ns × (slice_get ns i ≡ Some p) × (shards ≤ p)
 IsFault shards ns (Twice p) = (i : ℕ) × IsSoundTo shards i ns × (slice_get ns i ≡ Some p) × StandsBelow i ns p

@@ -13,6 +13,7 @@ abbrev pub Moves : List Piece → Move → List Piece → Type 0
 Moves before (Posted p) after = after ≡ before ++ p ∷ []
 Moves before (Taken p) after = before ≡ p ∷ after
 
+-- several moves, one after the other, lead from one list to the other
 abbrev pub MovesAll : List Piece → List Move → List Piece → Type 0
 MovesAll before [] after = before ≡ after
 MovesAll before (m ∷ ms) after = (between : List Piece) × Moves before m between × MovesAll between ms after

@@ -7,7 +7,7 @@ use Rattle.rubis_pieces.specs.Pieces.{IsShareOf}
 use Rattle.rubis_pieces.specs.declared.pieces.Piece.{Piece}
 use Rattle.rubis_pieces.specs.declared.pieces.Done.{Done}
 
--- the share is the shard's own
+-- the share is the shard's own: it has its number, and each part's key has its home there
 abbrev pub IsPiece : Piece → Type 0
 IsPiece p = IsShareOf p.shard p.share
 

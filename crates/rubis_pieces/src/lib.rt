@@ -7,17 +7,15 @@ mod following;
 mod gathers;
 mod ordering;
 mod pieces;
-mod rests;
 mod splits;
 mod waiting;
 
-pub use batches::{apply_batch, fold_share};
+pub use batches::fold_share;
 pub use following::{follow, follow_rest, homes_of};
 pub use gathers::{
     CountedShards, FaultKind, GatherFault, Gathered, Places, gather, gather_counted,
 };
 pub use ordering::misfits;
 pub use pieces::{Done, Left, Piece};
-pub use rests::finish;
 pub use splits::{SPLIT_MIN, split, split_alone};
 pub use waiting::count_behind;

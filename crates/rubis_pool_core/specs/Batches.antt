@@ -32,7 +32,7 @@ pub record HoldsTheBatch (shards : ℕ) (log batch : List Core) (g : Gathered) :
   pub misfits : 0 < shards → (ms : List Misfit) → IsPermutation (all_misfits g.shards) ms → IsNonDecreasingBy misfit_order ms
       → ms ≡ (fold_of (log ++ batch)).misfits
 
--- the returned pieces can be gathered, and then hold the batch
+-- the returned pieces can be gathered without fault, and then hold the batch, however they are gathered
 pub record FoldsTheBatch (shards : ℕ) (log batch : List Core) (returned : List Done) : Type 0 where
   pub no_fault : (kind : FaultKind) → IsFault shards (numbers_of returned) kind → ⊥
   pub gathered : (g : Gathered) → IsGathered shards returned g → HoldsTheBatch shards log batch g

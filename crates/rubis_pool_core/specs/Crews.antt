@@ -41,6 +41,7 @@ module _ {J : Type 0} where
   job_move (Gives x) = Put x
   job_move (Gets w x) = Taken x
 
+  -- how giving and getting jobs moves what waits
   abbrev pub job_moves : List (JobStep J) → List (Move J)
   job_moves steps = map job_move steps
 
@@ -82,6 +83,7 @@ abbrev pub piece_for : SharedBatch → ShardState → Piece
 piece_for b s = in_batch (b.span.from + 1) (cores_of b) (bare s)
 
 module _ {G : Type 0} where
+  -- what a job stands for, by its shard and its own batch
   abbrev pub stands_for : Given (Folding G) → Piece
   stands_for x = piece_for (arc_value x.job.batch) x.job.shard
 
@@ -90,6 +92,7 @@ module _ {G : Type 0} where
   board_step (Gives x) = Posts (stands_for x)
   board_step (Gets w x) = TakesPiece w (stands_for x)
 
+  -- the steps on the crew's queue as posts and takes: each job as what it stands for, and each pass as a worker
   abbrev pub board_steps : List (JobStep (Folding G)) → List BoardStep
   board_steps steps = map board_step steps
 
@@ -121,13 +124,13 @@ PassesMoveTheWaiting {J} Fits =
     (s : JobState J) (steps : List (Step J)) (t : JobState J) → StepsAll Fits s steps t
     → MovesAll (waiting s.items) (job_moves (job_steps s.items steps)) (waiting t.items)
 
--- whatever jobs are given and got, as a queue allows
+-- whatever jobs are given and got, as a queue allows, the machine has a schedule with these steps
 abbrev pub EveryCrewIsScheduled : Type 0 → Type 0
 EveryCrewIsScheduled G =
     (workers : ℕ) (steps : List (JobStep (Folding G))) (waits : List (Given (Folding G))) → AreTakenBy workers (board_steps steps)
     → MovesAll [] (job_moves steps) waits → IsScheduled workers (board_steps steps)
 
--- and wherever the workers fold the parts of their shards between them, each in its turn
+-- and it goes along wherever the workers fold the parts of their shards between them, each in its turn; in the end it has posted what waits
 abbrev pub EveryRunOfACrewIsASchedule : Type 0 → Type 0
 EveryRunOfACrewIsASchedule G =
     (workers : ℕ) (steps : List (JobStep (Folding G))) (waits : List (Given (Folding G))) (actions : List Action)
@@ -149,8 +152,8 @@ JobsFoldTheShare G =
     (x : Given (Folding G)) (result : Done) → HasFolded x.job result
     → (d : Done) × (d.shard ≡ result.shard) × IsWorked (stands_for x) d × (result.done ≡ length (cores_of (arc_value x.job.batch)) → IsWhole d)
 
--- shards that hold a log are given for the batch that comes next, whatever else is given before, between and after; once none of them is
--- out, whatever the schedule, and whatever else is out
+-- shards that hold a log are given for the batch that comes next, whatever else is given before, between and after. Once none of them is
+-- out, whatever the schedule, and whatever else is out, they are among what was returned, and hold the log with the batch
 abbrev pub EveryCrewFoldsTheBatch : Type 0 → Type 0
 EveryCrewFoldsTheBatch G =
     (shards workers : ℕ) (log : List Core) (b : SharedBatch) (ts : List ShardState) (steps : List (JobStep (Folding G)))

@@ -7,6 +7,7 @@ use Rattle.rubis_pool_core.specs.declared.event.Event.{Event}
 use Rattle.rubis_pool_core.specs.declared.event.Event.TheVariants.{Take, Apply, Back}
 use Rattle.rubis_pool_core.specs.Pieces.{begun, next_part, one_part_more}
 
+-- the posted pieces, in order; what each worker holds, if anything; the returned pieces, in order
 pub record PoolState : Type 0 where
   pub posted : List Piece
   -- of each worker, the piece that it holds
@@ -37,6 +38,7 @@ applied_to (Some n) d s w =
     Some (record { posted = s.posted; held = slice_set s.held w (Some (one_part_more d n)); returned = s.returned })
 applied_to None d s w = None
 
+-- Apply: the next part of what a worker holds is folded; None if there is none
 abbrev pub applied : Option (Option Done) → PoolState → ℕ → Option PoolState
 applied (Some (Some d)) s w = applied_to (next_part d) d s w
 applied (Some None) s w = None
@@ -47,6 +49,7 @@ abbrev pub back_of : Option Numbered → Done → PoolState → ℕ → Option P
 back_of (Some n) d s w = None
 back_of None d s w = Some (record { posted = s.posted; held = slice_set s.held w None; returned = s.returned ++ d ∷ [] })
 
+-- Back: a piece whose share is done goes from its worker to the end of the returned list; None if it isn't
 abbrev pub backed : Option (Option Done) → PoolState → ℕ → Option PoolState
 backed (Some (Some d)) s w = back_of (next_part d) d s w
 backed (Some None) s w = None
@@ -63,6 +66,7 @@ abbrev pub or_same : PoolState → Option PoolState → PoolState
 or_same s (Some t) = t
 or_same s None = s
 
+-- the state after an event; an impossible one changes nothing
 abbrev pub after_event : PoolState → Event → PoolState
 after_event s e = or_same s (stepped s e)
 
@@ -79,6 +83,8 @@ abbrev pub run_of : ℕ → List Piece → List Event → PoolState
 run_of workers pieces events = run_from (posted_all (opening_pool workers) pieces) events
 
 -- ---- a pool: the machine, how many pieces were posted, and how many may be
+
+-- how many pieces may be posted, how many were, and the machine
 pub record PoolOf : Type 0 where
   pub capacity : ℕ
   pub count : ℕ

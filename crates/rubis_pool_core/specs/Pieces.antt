@@ -17,6 +17,7 @@ next_part d = slice_get d.share.effects d.done
 abbrev pub one_part_more : Done → Numbered → Done
 one_part_more d n = record { shard = with_parts d.shard (n ∷ []); share = d.share; done = d.done + 1 }
 
+-- all of its share is done
 abbrev pub IsWhole : Done → Type 0
 IsWhole d = d.done ≡ length d.share.effects
 

@@ -14,6 +14,7 @@ MovesPosted s (Take w) t = (p : Piece) × Moves s.posted (Taken p) t.posted × (
 MovesPosted s (Apply w) t = t.posted ≡ s.posted
 MovesPosted s (Back w) t = t.posted ≡ s.posted
 
+-- what Post and each event do to the posted list
 pub record EventsMoveThePosted : Type 0 where
   pub post : (s : PoolState) (p : Piece) → Moves s.posted (Posted p) (with_posted s p).posted
   pub event : (s : PoolState) (e : Event) (t : PoolState) → stepped s e ≡ Some t → MovesPosted s e t

@@ -33,12 +33,13 @@ steps_in_batch first batch steps = map (step_in_batch first batch) steps
 
 -- ---- the laws
 
--- whatever steps its board allows, and wherever the workers fold the parts of their shards between them, each in its turn
+-- whatever steps the board of a team allows, the machine has a schedule with these steps
 abbrev pub EveryTeamIsScheduled : Type 0
 EveryTeamIsScheduled =
     (workers first : ℕ) (batch : List Core) (steps : List BoardStep) (board : List Piece) → AreTakenBy workers steps
     → MovesAll [] (map move_of steps) board → IsScheduled workers (steps_in_batch first batch steps)
 
+-- wherever the workers of a team fold the parts of their shards between the steps on the board, each in its turn, the machine goes along
 abbrev pub EveryRunOfATeamIsASchedule : Type 0
 EveryRunOfATeamIsASchedule =
     (workers first : ℕ) (batch : List Core) (steps : List BoardStep) (board : List Piece) (actions : List Action)
@@ -52,7 +53,8 @@ FollowingFoldsTheShare =
     (first : ℕ) (batch : List Core) (p : Piece) (messages : ℕ) (shard : ShardState) → IsFollowed first batch p.shard messages shard
     → (d : Done) × (d.shard ≡ shard) × IsWorked (in_batch first batch p) d × (messages ≡ length batch → IsWhole d)
 
--- shards that hold a log are posted with no parts, in any order; whatever the schedule, at its end
+-- shards that hold a log are posted with no parts, in any order: once all are returned, whatever the schedule, they hold the log with the
+-- batch
 abbrev pub EveryTeamFoldsTheBatch : Type 0
 EveryTeamFoldsTheBatch =
     (shards workers : ℕ) (log batch : List Core) (ts : List ShardState) (posted : List Piece) (events : List Event)

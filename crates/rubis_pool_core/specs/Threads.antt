@@ -81,7 +81,7 @@ pub record GoesAlong (s : PoolState) (actions : List Action) : Type 0 where
 
 -- ---- the laws
 
--- wherever workers do their own work between steps that a board allows, each in its turn
+-- wherever workers do their own work between steps that a board allows, each in its turn, the machine goes along
 abbrev pub EveryRunIsASchedule : Type 0
 EveryRunIsASchedule =
     (workers : ℕ) (actions : List Action) (board : List Piece) → InTurn (empty_hands workers) actions
@@ -100,7 +100,7 @@ pub record IsScheduled (workers : ℕ) (steps : List BoardStep) : Type 0 where
   pub in_turn : InTurn (empty_hands workers) actions
   pub along : GoesAlong (opening_pool workers) actions
 
--- whatever steps a board allows
+-- whatever steps a board allows, there is a list of actions with these steps with which the machine goes along
 abbrev pub EveryListOfStepsIsScheduled : Type 0
 EveryListOfStepsIsScheduled =
     (workers : ℕ) (steps : List BoardStep) (board : List Piece) → AreTakenBy workers steps

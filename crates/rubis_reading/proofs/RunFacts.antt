@@ -4,10 +4,9 @@ use Rattle.std.proofs.Common.{length-drop, refl, sym}
 use Rattle.std.proofs.lemmas.List.{nil_from_length}
 use Rattle.rubis_message.specs.Message.{Message}
 use Rattle.rubis_message.specs.declared.tokens.Packet.TheVariants.{Msg}
-use Rattle.rubis_reading.specs.Runs.{AreSingle, FitWindow, FitsWindow, IsSingle, all_came, flat, of_stretch}
+use Rattle.rubis_reading.specs.Runs.{FitWindow, FitsWindow, all_came, flat, of_stretch}
 use Rattle.rubis_message.specs.declared.inputs.Input.TheVariants.{Came}
 use Rattle.rubis_reading.specs.declared.stretches.Stretch.{Stretch}
-use Rattle.rubis_reading.specs.declared.stretches.Stretch.TheVariants.{Messages, One}
 
 pub flat-both : (a b : List Stretch) → flat (a ++ b) ≡ flat a ++ flat b
 flat-both [] b = refl
@@ -20,19 +19,10 @@ pub came-more : (ms : List Message) (m : Message) → all_came (ms ++ m ∷ []) 
 came-more [] m = refl
 came-more (x ∷ ms) m = ap (λ t. Came (Msg x) ∷ t) (came-more ms m)
 
--- what holds of each run still holds with one more, and of two lists
-pub singles-more : (a : List Stretch) (r : Stretch) → AreSingle a → IsSingle r → AreSingle (a ++ r ∷ [])
-singles-more [] r all one = (one, tt)
-singles-more (x ∷ a) r all one = (all.0, singles-more a r all.1 one)
-
+-- what holds of each run still holds with one more
 pub window-more : (window : ℕ) (a : List Stretch) (r : Stretch) → FitWindow window a → FitsWindow window r → FitWindow window (a ++ r ∷ [])
 window-more window [] r all one = (one, tt)
 window-more window (x ∷ a) r all one = (all.0, window-more window a r all.1 one)
-
-pub window-singles : (window : ℕ) (a : List Stretch) → AreSingle a → FitWindow window a
-window-singles window [] all = tt
-window-singles window (Messages list ∷ a) all = absurd all.0
-window-singles window (One p ∷ a) all = (tt, window-singles window a all.1)
 
 pub came-length : (ms : List Message) → length (all_came ms) ≡ length ms
 came-length [] = refl

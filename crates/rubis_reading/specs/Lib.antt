@@ -3,7 +3,6 @@ pub mod Chunked
 pub mod Standings
 pub mod Looks
 pub mod Inputs
-pub mod Steps
 pub mod Runs
 pub mod Readings
 pub mod Feeding

@@ -30,16 +30,6 @@ abbrev pub of_next : Option Stretch → List Stretch
 of_next None = []
 of_next (Some r) = r ∷ []
 
--- it is one record
-abbrev pub IsSingle : Stretch → Type 0
-IsSingle (Messages list) = ⊥
-IsSingle (One p) = ⊤
-
--- each of them is
-abbrev pub AreSingle : List Stretch → Type 0
-AreSingle [] = ⊤
-AreSingle (r ∷ rest) = IsSingle r × AreSingle rest
-
 -- no more messages came together than a window has; a window of 0 sets no limit
 abbrev pub FitsWindow : ℕ → Stretch → Type 0
 FitsWindow window (Messages list) = 0 < window → length list.items ≤ window

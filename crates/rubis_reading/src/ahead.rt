@@ -1,12 +1,11 @@
 //! Records that were read and wait for their answers.
 
-ghost use Rattle.std.specs.Prelude.{◌≡◌, ◌++◌, [], length, IfNone, IfOk, IfSome, OnOk};
+ghost use Rattle.std.specs.Prelude.{◌≡◌, ◌++◌, [], length, IfNone, IfOk, IfSome};
 ghost use Rattle.std.specs.Vec.Iter.{into_iter_items};
-ghost use Rattle.rubis_reading.specs.Runs.{AreSingle, flat, of_next, of_stretch};
+ghost use Rattle.rubis_reading.specs.Runs.{flat, of_next, of_stretch};
 
-use crate::stretches::{Stretch, push_stretch};
+use crate::stretches::Stretch;
 use rubis_engine::OutOfMemory;
-use rubis_message::{Input, Packet};
 use std::alloc::Global;
 use std::marker::Model;
 use std::vec::IntoIter;
@@ -34,35 +33,6 @@ fn count_stretches(list: &[Stretch]) -> Option<usize>
         many = more;
     }
     Some(many)
-}
-
-// Puts the records of a run behind, one by one.
-fn add_singles(list: &mut Vec<Stretch>, run: Stretch) -> Result<(), OutOfMemory>
-    requires { AreSingle list.old.items }
-    ensures same { OnOk result (flat list.new.items ≡ flat list.old.items ++ of_stretch run) }
-    ensures single { OnOk result (AreSingle list.new.items) }
-{
-    let messages = match run {
-        Stretch::One(parsed) => return push_stretch(list, Stretch::One(parsed)),
-        Stretch::Messages(messages) => messages,
-    };
-    let mut rest = messages.into_iter();
-    'messages: while let Some(message) = rest.next() {
-        push_stretch(list, Stretch::One(Input::Came(Packet::Msg(message))))?;
-    }
-    Ok(())
-}
-
-// Puts the records of several runs behind, one by one.
-fn add_all_singles(list: &mut Vec<Stretch>, mut rest: IntoIter<Stretch>) -> Result<(), OutOfMemory>
-    requires { AreSingle list.old.items }
-    ensures same { OnOk result (flat list.new.items ≡ flat list.old.items ++ flat (into_iter_items rest)) }
-    ensures single { OnOk result (AreSingle list.new.items) }
-{
-    'runs: while let Some(run) = rest.next() {
-        add_singles(list, run)?;
-    }
-    Ok(())
 }
 
 /// Records that were read, in order, messages that came together in one run. Contracts see the runs that are left.
@@ -129,19 +99,5 @@ impl Ahead {
         };
         self.many -= count_stretch(&run);
         Some(run)
-    }
-
-    /// The same records, one by one.
-    pub fn singles(self, alloc: Global) -> Result<Ahead, OutOfMemory>
-        ensures same { IfOk result (λ ahead. flat ahead ≡ flat self) }
-        ensures single { IfOk result (λ ahead. AreSingle ahead) }
-    {
-        let Ahead { rest, many } = self;
-        let mut list = Vec::new(alloc);
-        add_all_singles(&mut list, rest)?;
-        Ok(Ahead {
-            rest: list.into_iter(),
-            many,
-        })
     }
 }

@@ -8,6 +8,7 @@ use Rattle.rubis_model.specs.Settle.{Has, counted, reds}
 use Rattle.rubis_model.specs.Order.{Released}
 use Rattle.rubis_model.specs.Site.{Place, counts}
 
+-- the message's id
 abbrev pub message_id : Message → Id
 message_id m = m.stamp.id
 

@@ -8,6 +8,7 @@ use Rattle.rubis_clock.specs.Clocks.{MessageCounts, IsReady}
 use Rattle.rubis_message.specs.Message.{Message}
 use Rattle.rubis_release.specs.Release.{IsFirst, NoneReady}
 
+-- the waiting messages' slots, by id, in arrival order; empty where the message was released
 abbrev pub Slots : Type 0
 Slots = List (Id × Option Message)
 
@@ -33,6 +34,7 @@ HaveTheirIds (e ∷ es) = IsItsSlot e.0 e.1 × HaveTheirIds es
 abbrev pub AreApart : Slots → Type 0
 AreApart es = IsDistinct same_id (keys_of es)
 
+-- each message is in the slot of its id, ids differ, and this many slots are empty
 pub record AreSlots (es : Slots) (empty : ℕ) : Type 0 where
   pub own : HaveTheirIds es
   pub apart : AreApart es

@@ -31,13 +31,16 @@ pub data Value : Type 0 where
   Rows : List (List (List ℕ)) → Value
   Applied : Value
 
+-- the answer to a call: a value or a refusal
 abbrev pub Answer : Type 0
 Answer = Result Value Refusal
 
+-- the answer of a result, as what calls answer
 abbrev pub said : {A : Type 0} → (A → Value) → Result A Refusal → Answer
 said value (Ok a) = Ok (value a)
 said value (Err r) = Err r
 
+-- a step of the model, with its answer as what calls answer
 abbrev pub telling : {A : Type 0} → (A → Value) → Replica × Result A Refusal → Replica × Answer
 telling value step = (step.0, said value step.1)
 
@@ -79,14 +82,17 @@ abbrev pub with_call : Call → Option Answer → List Call → List Call
 with_call call (Some answer) calls = call ∷ calls
 with_call call None calls = calls
 
+-- the calls of those tries that were answered
 abbrev pub calls_answered : List Try → List Call
 calls_answered [] = []
 calls_answered (t ∷ more) = with_call t.call t.answer (calls_answered more)
 
+-- the answers, with this one before them if there is one
 abbrev pub with_answer : Option Answer → List Answer → List Answer
 with_answer (Some answer) answers = answer ∷ answers
 with_answer None answers = answers
 
+-- the answers of those tries that were answered
 abbrev pub answers_given : List Try → List Answer
 answers_given [] = []
 answers_given (t ∷ more) = with_answer t.answer (answers_given more)
@@ -96,6 +102,7 @@ abbrev pub after_calls : Place → Replica → List Call → Replica
 after_calls p s [] = s
 after_calls p s (call ∷ more) = after_calls p (called p s call).0 more
 
+-- what a site answers to calls of which each is made once
 abbrev pub answers_of : Place → Replica → List Call → List Answer
 answers_of p s [] = []
 answers_of p s (call ∷ more) = (called p s call).1 ∷ answers_of p (called p s call).0 more

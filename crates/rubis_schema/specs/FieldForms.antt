@@ -28,8 +28,10 @@ id_of sites field = do
 unfoldable pub nick_of : List ℕ → Option (List ℕ)
 nick_of field = only_if (is_nick field) field
 
+-- the field itself, if it is a name
 unfoldable pub name_of : List ℕ → Option (List ℕ)
 name_of field = only_if (is_name field) field
 
+-- the field itself, if it is a text
 unfoldable pub text_of : List ℕ → Option (List ℕ)
 text_of field = only_if (is_text field) field

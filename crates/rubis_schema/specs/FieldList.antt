@@ -6,6 +6,7 @@ use Rattle.std.specs.List.{flat_map, list_all, list_any}
 abbrev pub Fields : Type 0
 Fields = List (List ℕ)
 
+-- the byte `,`
 abbrev pub comma : ℕ
 comma = 44
 
@@ -36,5 +37,6 @@ is_mark b = (b == comma) || (b == 34) || (b == 13) || (b == 10)
 abbrev pub is_plain : List ℕ → Bool
 is_plain field = not (list_any is_mark field)
 
+-- no field has a byte that calls for quotes
 abbrev pub all_plain : List (List ℕ) → Bool
 all_plain fields = list_all is_plain fields

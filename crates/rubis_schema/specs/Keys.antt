@@ -28,7 +28,7 @@ key_order = on key_code (slice_cmp nat_cmp)
 abbrev pub tied : RowKey → RowKey → Bool
 tied = eq_by_cmp key_order
 
--- the home shard of a key, among `shards` shards
+-- the home shard of a key, among `shards` shards; no answer shows it
 unfoldable pub home : ℕ → RowKey → ℕ
 home shards (User i) = (0 * 7 + i.site * 31 + i.seq) % shards
 home shards (Item i) = (1 * 7 + i.site * 31 + i.seq) % shards
@@ -59,6 +59,7 @@ holds Nicks (Nick n) = true
 holds Cats (Cat k) = true
 holds t k = false
 
+-- whether two ids are equal
 abbrev pub same_id : Id → Id → Bool
 same_id i j = nat_eq i.site j.site && nat_eq i.seq j.seq
 

@@ -5,6 +5,7 @@ use Rattle.rubis_schema.specs.declared.refusals.Refusal.TheVariants.{BadRecord, 
 use Rattle.rubis_schema.specs.declared.refusals.Refusal.TheVariants.{LowBid, StockShort, NotSeller, OwnItem, NoBuyNow, SelfComment}
 use Rattle.rubis_schema.specs.declared.refusals.Refusal.TheVariants.{BadTarget, LastTurn, NotOurs, NotForMe, BadEvent, NoSuchPacket}
 
+-- a refusal's number in answers
 abbrev pub code_of : Refusal → ℕ
 code_of BadRecord = 1
 code_of Full = 2
@@ -27,6 +28,7 @@ code_of NotForMe = 21
 code_of BadEvent = 30
 code_of NoSuchPacket = 31
 
+-- a refusal's name in answers
 abbrev pub refusal_name : Refusal → List ℕ
 refusal_name BadRecord = codes "BadRecord"
 refusal_name Full = codes "Full"

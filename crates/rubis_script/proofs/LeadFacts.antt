@@ -1,13 +1,11 @@
 -- Where records lead a site, one after the other.
-use Rattle.std.proofs.Common.{◌≡◌, ◌∙◌, ◌+◌, ◌++◌, ◌∷◌, [], ℕ, List, Option, Some, None, ap, append-nil, append_assoc, arith, length, length-append, refl}
+use Rattle.std.proofs.Common.{◌≡◌, ◌∙◌, ◌+◌, ◌++◌, ◌∷◌, [], ℕ, List, Option, Some, None, ap, append-nil, refl}
 use Rattle.std.proofs.Common.{subst, sym, take}
 use Rattle.std.specs.Prelude.{IfSome, Result, Ok, Err}
-use Rattle.std.proofs.Math.Seq.{take-append_seam}
 use Rattle.std.specs.Io.KnownBytes.{Appends}
 use Rattle.rubis_message.specs.Message.{Message}
 use Rattle.rubis_message.specs.declared.tokens.Packet.TheVariants.{Msg}
 use Rattle.rubis_model.specs.Processes.{process, site_after}
-use Rattle.rubis_message.specs.Inputs.{input_of}
 use Rattle.rubis_message.specs.declared.inputs.Input.{Input}
 use Rattle.rubis_model.specs.Runs.{answers, input_step}
 use Rattle.rubis_message.specs.declared.inputs.Input.TheVariants.{Came}
@@ -20,7 +18,7 @@ use Rattle.rubis_engine.specs.Text.{input_records, rows_text}
 use Rattle.rubis_engine.specs.declared.fault.Count.{Count}
 use Rattle.rubis_engine.specs.declared.fault.RunFault.{RunFault}
 use Rattle.rubis_engine.specs.declared.fault.RunFault.TheVariants as fault
-use Rattle.rubis_script.specs.Headline.{AnswersAll, AnswersFirst, HasAnswered, HasLed, Lead, OfRead, Settles, StandsAsProcess, StepsOn, WritesAsProcess}
+use Rattle.rubis_script.specs.Headline.{AnswersAll, AnswersFirst, HasAnswered, OfRead, Settles, StandsAsProcess, StepsOn, WritesAsProcess}
 use Rattle.rubis_script.specs.SiteRuns.{told_by}
 
 -- ---- messages that are held
@@ -28,11 +26,6 @@ use Rattle.rubis_script.specs.SiteRuns.{told_by}
 pub after_more : (p : Place) (s : Replica) (ms : List Message) (m : Message) → after_all p s (ms ++ m ∷ []) ≡ (arrived p (after_all p s ms) m).0
 after_more p s [] m = refl
 after_more p s (x ∷ ms) m = after_more p (arrived p s x).0 ms m
-
--- a message more is held
-pub held_steps : (s : SiteState) (n : ℕ) (w : List Message) (m : Message) (input : Input) → input ≡ Came (Msg m) → StepsOn n input s w s (w ++ m ∷ [])
-held_steps s n w m input is =
-    (refl, after_more s.place s.state w m ∙ ap (λ i. (input_step s.place (after_all s.place s.state w) n i).0) (sym is))
 
 -- those that are held are settled, and then one more is held
 pub settled_steps : (old mid : SiteState) (n : ℕ) (w w1 w2 : List Message) (m : Message) → Settles old w mid w1 → w2 ≡ w1 ++ m ∷ []
@@ -58,61 +51,6 @@ flush_steps old mid new w w2 n input (same, settled) none place state =
       place ∙ same,
       ap (after_all new.place new.state) none ∙ state ∙ (λ i. (input_step (same i) (taken i) n (input (same i))).0),
     )
-
--- ---- a record more
-
-pub take_at : (xs ys : List (List (List ℕ))) (k : ℕ) → length xs ≡ k → take k (xs ++ ys) ≡ xs
-take_at xs ys k e = subst (λ j. take j (xs ++ ys) ≡ xs) e (take-append_seam xs ys)
-
-pub take_all : (xs : List (List (List ℕ))) (k : ℕ) → k ≡ length xs → take k xs ≡ xs
-take_all xs k e = ap (take k) (sym (append-nil xs)) ∙ take_at xs [] k (sym e)
-
-after_one_more : (p : Place) (s : Replica) (n : ℕ) (done : List (List (List ℕ))) (fields : List (List ℕ))
-    → site_after p s n (done ++ fields ∷ []) ≡ (input_step p (site_after p s n done) (n + length done) (input_of p.sites fields)).0
-after_one_more p s n [] fields = ap (λ k. (input_step p s k (input_of p.sites fields)).0) (omega arith)
-after_one_more p s n (x ∷ done) fields =
-    let t = (input_step p s n (input_of p.sites x)).0 in
-    let u = site_after p t (n + 1) done in
-    after_one_more p t (n + 1) done fields ∙ ap (λ k. (input_step p u k (input_of p.sites fields)).0) (omega arith)
-
--- before its first record a run has led nowhere
-pub led_none : (s : SiteState) (w : List Message) (answered : ℕ) (records : List (List (List ℕ))) → w ≡ [] → answered ≡ 0 → HasLed s s w answered records
-led_none s w answered records none zero = record {
-  place = refl;
-  state = ap (after_all s.place s.state) none ∙ ap (site_after s.place s.state 1) (sym (take_at [] records answered (sym zero)));
-}
-
--- messages that were held are taken in
-pub led_kept : (first s s2 : SiteState) (w w2 : List Message) (answered : ℕ) (records : List (List (List ℕ))) → Settles s w s2 w2
-    → HasLed first s w answered records → HasLed first s2 w2 answered records
-led_kept first s s2 w w2 answered records (place, state) h = record { place = place ∙ h.place; state = state ∙ h.state }
-
--- a record more leads on
-pub led_more : (first s s2 : SiteState) (w w2 : List Message) (done rest : List (List (List ℕ))) (fields : List (List ℕ)) (answered : ℕ)
-    (records : List (List (List ℕ)))
-    → records ≡ done ++ (fields ∷ rest) → length done ≡ answered → StepsOn (answered + 1) (input_of s.place.sites fields) s w s2 w2
-    → HasLed first s w answered records → HasLed first s2 w2 (answered + 1) records
-led_more first s s2 w w2 done rest fields answered records parts count (place, state) h =
-    let step = λ (p : Place) (t : Replica) (k : ℕ). (input_step p t k (input_of p.sites fields)).0 in
-    let here : take answered records ≡ done = ap (take answered) parts ∙ take_at done (fields ∷ rest) answered count in
-    let next : take (answered + 1) records ≡ done ++ fields ∷ [] =
-    ap (take (answered + 1)) (parts ∙ sym (append_assoc done (fields ∷ []) rest))
-    ∙ take_at (done ++ fields ∷ []) rest (answered + 1) (omega (arith, length-append done (fields ∷ []), count)) in
-    let number : answered + 1 ≡ 1 + length done = omega (arith, count) in
-    record {
-      place = place ∙ h.place;
-      state = state
-          ∙ (λ i. step (h.place i) (h.state i) (answered + 1))
-          ∙ (λ i. step first.place (site_after first.place first.state 1 (here i)) (number i))
-          ∙ sym (after_one_more first.place first.state 1 done fields)
-          ∙ ap (site_after first.place first.state 1) (sym next);
-    }
-
--- the records that were answered led there, where nothing is held
-pub led_all : (first s : SiteState) (w : List Message) (answered : ℕ) (records taken : List (List (List ℕ))) → w ≡ [] → take answered records ≡ taken
-    → HasLed first s w answered records → Lead taken first s
-led_all first s w answered records taken none same h =
-    (h.place, sym (ap (after_all s.place s.state) none) ∙ h.state ∙ ap (site_after first.place first.state 1) same)
 
 -- ---- how a run ends
 

@@ -1,4 +1,3 @@
-pub mod LoopFacts
 pub mod SiteAnswers
 pub mod WindowFacts
 pub mod ReplayFacts
@@ -6,8 +5,7 @@ pub mod HeadlineExamples
 pub mod LeadFacts
 pub mod DrainFacts
 pub mod DeskFacts
-pub mod StepFacts
-pub mod AloneFacts
-pub mod ChunkFacts
+pub mod StretchFacts
+pub mod EndFacts
 mod HelpFacts
 pub mod Names

@@ -2,50 +2,58 @@
 use Rattle.std.specs.Prelude.{◌≡◌, ◌+◌, [], ℕ, List, Option}
 use Rattle.rubis_message.specs.Inputs.{input_of}
 use Rattle.rubis_message.specs.declared.inputs.Input.{Input}
+use Rattle.rubis_model.specs.Processes.{site_after}
+use Rattle.rubis_model.specs.Site.{Place}
+use Rattle.rubis_replica.specs.Arrivals.{after_all}
 use Rattle.rubis_engine.specs.Accounts.{Account, AnswersRecord, Keeps}
+use Rattle.rubis_engine.specs.Answers.{BreaksOff, WritesRecord}
 use Rattle.rubis_engine.specs.declared.service.Course.TheVariants.{GoesOn}
-use Rattle.rubis_script.specs.Drains.{AnswersAnyOut, WritesFrontFromAny}
 use Rattle.rubis_script.specs.Headline.{Settles, StepsOn}
 use Rattle.rubis_script.specs.Windows.{held_by}
 use Rattle.rubis_script.specs.declared.desk.Desk.{Desk}
+use Rattle.rubis_script.specs.declared.plan.Plan.{Plan}
 
--- what is still to be made of the messages that it holds and of the records to come
-abbrev pub left_at : {G : Type 0} → Desk G → Account
-left_at d = held_by d.site d.window.items (d.answered + 1)
+-- what is still to be made of the messages that it holds, and of the records to come, the first of which has that number
+abbrev pub left_at : {T : Type 0} → Desk T → ℕ → Account
+left_at d = held_by d.site d.window.items d.first
+
+-- with the messages that it holds taken in, these records, the first of which has that number, lead it to the other, which holds none
+abbrev pub LeadsSite : {T : Type 0} → Desk T → ℕ → List (List (List ℕ)) → Desk T → Type 0
+LeadsSite d number records last = (last.window.items ≡ []) × (last.site.place ≡ d.site.place)
+    × (last.site.state ≡ site_after d.site.place (after_all d.site.place d.site.state d.window.items) number records)
 
 -- it is set up as it was
-abbrev pub KeepsSetup : {G : Type 0} → Desk G → Desk G → Type 0
+abbrev pub KeepsSetup : {T : Type 0} → Desk T → Desk T → Type 0
 KeepsSetup old new = (new.site.place ≡ old.site.place) × (new.plan ≡ old.plan)
 
--- it has answered nothing, holds nothing, and nothing waits to be written
-pub record IsFresh {G : Type 0} (d : Desk G) : Type 0 where
-  pub none : d.window.items ≡ []
-  pub empty : d.reply.sink ≡ []
-  pub zero : d.answered ≡ 0
+-- what it is set up as
+abbrev pub setup_of : {T : Type 0} → Desk T → Place × Plan
+setup_of d = (d.site.place, d.plan)
 
--- it holds nothing, and nothing waits to be written
-abbrev pub IsSettled : {G : Type 0} → Desk G → Type 0
-IsSettled d = (d.window.items ≡ []) × (d.reply.sink ≡ [])
+-- nothing of it changed but how far the site's tables are
+pub record IsFolded {T : Type 0} (old new : Desk T) : Type 0 where
+  pub setup : KeepsSetup old new
+  pub state : new.site.state ≡ old.site.state
+  pub held : (new.window.items ≡ old.window.items) × (new.first ≡ old.first)
 
 -- messages that it held were taken in and answered, or none
-pub record TakesHeld {G : Type 0} (old new : Desk G) : Type 0 where
-  pub count : new.answered ≡ old.answered
-  pub text : Keeps (left_at old) (left_at new) old.reply.sink new.reply.sink
+pub record TakesHeld {T : Type 0} (old new : Desk T) (sink sink2 : List ℕ) : Type 0 where
+  pub text : (number : ℕ) → Keeps (left_at old number) (left_at new number) sink sink2
   pub leads : Settles old.site old.window.items new.site new.window.items
 
--- the next record, which means that, was answered or is held
-pub record TakesNext {G : Type 0} (input : Input) (old new : Desk G) : Type 0 where
-  pub count : new.answered ≡ old.answered + 1
+-- the record with that number, which means that, was answered or is held
+pub record TakesNext {T : Type 0} (input : Input) (number : ℕ) (old new : Desk T) (sink sink2 : List ℕ) : Type 0 where
   pub text : (fields : List (List ℕ)) → input_of old.site.place.sites fields ≡ input
-      → AnswersRecord GoesOn (left_at old) (left_at new) old.reply.sink new.reply.sink fields
-  pub leads : StepsOn (old.answered + 1) input old.site old.window.items new.site new.window.items
+      → AnswersRecord GoesOn (left_at old number) (left_at new (number + 1)) sink sink2 fields
+  pub leads : StepsOn number input old.site old.window.items new.site new.window.items
 
--- the next record, which means that, was answered, and text was written out in part
-pub record WritesNext {G : Type 0} (input : Input) (old new : Desk G) (before after : Option (List ℕ)) : Type 0 where
-  pub count : new.answered ≡ old.answered + 1
-  pub text : AnswersAnyOut input old.site old.window.items new.site new.window.items (old.answered + 1) old.reply.sink new.reply.sink before after
-  pub leads : StepsOn (old.answered + 1) input old.site old.window.items new.site new.window.items
+-- the same, and some of what waits was written out
+pub record WritesNext {T : Type 0} (input : Input) (number : ℕ) (old new : Desk T) (sink sink2 : List ℕ) (before after : Option (List ℕ)) : Type 0 where
+  pub text : (fields : List (List ℕ)) → input_of old.site.place.sites fields ≡ input
+      → WritesRecord GoesOn (left_at old number) (left_at new (number + 1)) sink sink2 before after fields
+  pub leads : StepsOn number input old.site old.window.items new.site new.window.items
 
--- from before the next record on, which means that, a prefix of the text was written
-abbrev pub WritesPrefixFrom : {G : Type 0} → Input → Desk G → Option (List ℕ) → Option (List ℕ) → Type 0
-WritesPrefixFrom input d before after = WritesFrontFromAny input d.site d.window.items (d.answered + 1) d.reply.sink before after
+-- from before that record on, which means that, a prefix of the text was written
+abbrev pub WritesPrefixFrom : {T : Type 0} → Input → ℕ → Desk T → List ℕ → Option (List ℕ) → Option (List ℕ) → Type 0
+WritesPrefixFrom input number d sink before after = (fields : List (List ℕ)) → input_of d.site.place.sites fields ≡ input
+    → BreaksOff (left_at d number) sink fields before after

@@ -58,11 +58,6 @@ abbrev pub StepsOn : ℕ → Input → SiteState → List Message → SiteState 
 StepsOn n input old held new left =
     (new.place ≡ old.place) × (after_all new.place new.state left ≡ (input_step old.place (after_all old.place old.state held) n input).0)
 
--- the first `answered` of these records have led there, once the messages that are held are taken in
-pub record HasLed (first s : SiteState) (held : List Message) (answered : ℕ) (records : List (List (List ℕ))) : Type 0 where
-  pub place : s.place ≡ first.place
-  pub state : after_all s.place s.state held ≡ site_after first.place first.state 1 (take answered records)
-
 -- all records are answered, at most `limit`
 abbrev pub AnswersAll : ℕ → SiteState → SiteState → Option (List ℕ) → Option (List ℕ) → List (List (List ℕ)) → ℕ → Type 0
 AnswersAll limit first new old now records count = HasAnswered first new old now records × (count ≡ length records) × (count ≤ limit)

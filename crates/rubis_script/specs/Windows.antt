@@ -1,5 +1,5 @@
 -- Messages that a run holds, to take them in together.
-use Rattle.std.specs.Prelude.{◌+◌, ◌-◌, ◌++◌, ◌∷◌, [], ℕ, List, Result, length}
+use Rattle.std.specs.Prelude.{◌+◌, ◌++◌, ◌∷◌, [], ℕ, List, Result, length}
 use Rattle.rubis_schema.specs.declared.refusals.Refusal.{Refusal}
 use Rattle.rubis_message.specs.Message.{Message}
 use Rattle.rubis_message.specs.declared.answers.Arrival.{Arrival}
@@ -23,9 +23,9 @@ abbrev pub window_rows : Place → Replica → ℕ → List Message → List (Li
 window_rows p s n [] = []
 window_rows p s n (m ∷ ms) = (input_step p s n (Came (Msg m))).1 ++ window_rows p (arrived p s m).0 (n + 1) ms
 
--- what is still to be made at a site that holds the last messages before record n
-abbrev pub held_by : SiteState → List Message → ℕ → Account
-held_by s window n = record {
-  text = λ ending records. rows_text (window_rows s.place s.state (n - length window) window ++ answers s.place (after_all s.place s.state window) n records);
+-- what is still to be made at a site that holds messages, the first of which was record `first`, of these and of the records from n on
+abbrev pub held_by : SiteState → List Message → ℕ → ℕ → Account
+held_by s window first n = record {
+  text = λ ending records. rows_text (window_rows s.place s.state first window ++ answers s.place (after_all s.place s.state window) n records);
   read = λ records. length records;
 }

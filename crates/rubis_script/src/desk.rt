@@ -1,22 +1,26 @@
 //! A site as a service: a record in, its answers out.
 
-ghost use Rattle.std.specs.Prelude.{◌≡◌, ◌≤◌, ◌<◌, ◌+◌, ◌++◌, ◌∷◌, ◌^◌, [], All, IfOk, OnOk, length, max};
+ghost use Rattle.std.proofs.Common.{rules};
+ghost use Rattle.std.specs.Prelude.{◌≡◌, ◌≤◌, ◌<◌, ◌+◌, ◌++◌, ◌∷◌, ◌^◌, [], All, IfOk, OnOk, length, max, refl};
 ghost use Rattle.rubis_schema.specs.declared.limits.TheConstants.{COUNTED_MAX};
 ghost use Rattle.rubis_message.specs.Grammar.{IsPacket, IsRequest};
 ghost use Rattle.rubis_message.specs.Message.{sites_of};
 ghost use Rattle.rubis_message.specs.declared.requests.Request.TheVariants as Request;
 ghost use Rattle.rubis_message.specs.declared.tokens.Packet.TheVariants as Packet;
 ghost use Rattle.rubis_model.specs.Answers.{refused_row};
-ghost use Rattle.rubis_message.specs.Inputs.{FitsIn, IsInput, input_of};
+ghost use Rattle.rubis_message.specs.Inputs.{FitsIn, IsInput};
 ghost use Rattle.rubis_message.specs.declared.inputs.Input.TheVariants.{Asked, Came};
-ghost use Rattle.rubis_model.specs.Site.{opening_at};
+ghost use Rattle.rubis_model.specs.Site.{Place, opening_at};
+ghost use Rattle.std.specs.Thread.{IsSync};
 ghost use Rattle.rubis_replica.specs.Setup.{setup_place};
 ghost use Rattle.rubis_script.specs.Drains.{WritesFront, WritesOff, listed_behind};
+ghost use Rattle.rubis_script.specs.declared.plan.Plan.{Plan};
 ghost use Rattle.rubis_script.specs.declared.plan.TheConstants.{WINDOW_MIN};
 ghost use Rattle.rubis_script.specs.Inputs.{IsAnswered, IsRefusedBy};
 ghost use Rattle.rubis_engine.specs.Endings.{ByEnd};
 ghost use Rattle.rubis_engine.specs.Text.{rows_text};
 
+use crate::gate::SiteGate;
 use crate::plan::Plan;
 use crate::replies::{
     write_arrival, write_listed_text, write_number, write_passed, write_refusal, write_sent,
@@ -24,9 +28,9 @@ use crate::replies::{
 };
 use crate::rows_out::write_rows;
 use crate::windows::{window_of, write_arrivals};
-use rubis_engine::{InputRecord, OutOfMemory, Reply, RunFault};
+use rubis_engine::{Course, InputRecord, OutOfMemory, Reply, RunFault, Service};
 use rubis_message::{Input, Message, Packet, Request, Token, read_input};
-use rubis_replica::{Config, Fault, Free, Gate, Site};
+use rubis_replica::{Config, Fault, Site};
 use rubis_schema::{Counted, Listing, Record, Refusal};
 use rubis_shadow::Ask;
 use std::alloc::{AllocError, Global};
@@ -56,9 +60,9 @@ fn answer_fault(reply: &mut Reply, fault: Fault) -> Result<(), OutOfMemory>
 
 // Answers a request for a listing. The rows are buffered: the reply line before them carries their count.
 #[inline(never)]
-fn answer_list<G: Gate, R: Threads + Wait + Sync>(
+fn answer_list<R: Threads + Wait + Sync>(
     rt: &R,
-    site: &mut Site<G>,
+    site: &mut Site<SiteGate>,
     reply: &mut Reply,
     listing: &Listing,
 ) -> Result<(), OutOfMemory>
@@ -74,9 +78,9 @@ fn answer_list<G: Gate, R: Threads + Wait + Sync>(
 
 // Answers a request.
 #[inline(always)]
-fn answer_request<G: Gate, R: Threads + Wait + Sync>(
+fn answer_request<R: Threads + Wait + Sync>(
     rt: &R,
-    site: &mut Site<G>,
+    site: &mut Site<SiteGate>,
     reply: &mut Reply,
     request: Request,
 ) -> Result<(), OutOfMemory>
@@ -109,9 +113,9 @@ fn answer_request<G: Gate, R: Threads + Wait + Sync>(
 
 // Answers a packet.
 #[inline(always)]
-fn answer_packet<G: Gate, R: Threads + Wait + Sync>(
+fn answer_packet<R: Threads + Wait + Sync>(
     rt: &R,
-    site: &mut Site<G>,
+    site: &mut Site<SiteGate>,
     reply: &mut Reply,
     packet: Packet,
 ) -> Result<(), OutOfMemory>
@@ -143,9 +147,9 @@ fn answer_packet<G: Gate, R: Threads + Wait + Sync>(
 
 // Answers what a record was read as.
 #[inline(always)]
-fn answer<G: Gate, R: Threads + Wait + Sync>(
+fn answer<R: Threads + Wait + Sync>(
     rt: &R,
-    site: &mut Site<G>,
+    site: &mut Site<SiteGate>,
     reply: &mut Reply,
     read: Input,
 ) -> Result<(), OutOfMemory>
@@ -161,9 +165,9 @@ fn answer<G: Gate, R: Threads + Wait + Sync>(
 }
 
 // Answers a request for a listing. Its rows are written out while they are made: at the end the last of them wait in the reply.
-fn list_rows<G: Gate, R: Threads + Wait + Sync, W: Write>(
+fn list_rows<R: Threads + Wait + Sync, W: Write>(
     rt: &R,
-    site: &mut Site<G>,
+    site: &mut Site<SiteGate>,
     reply: &mut Reply,
     listing: &Listing,
     writer: &mut W,
@@ -191,8 +195,9 @@ fn list_rows<G: Gate, R: Threads + Wait + Sync, W: Write>(
 
 /// A site with what it needs to read records and to write its answers.
 #[derive(Drop)]
-pub struct Desk<G: Gate = Free> {
-    pub site: Site<G>,
+pub struct Desk<'a, T> {
+    rt: &'a T,
+    pub site: Site<SiteGate>,
     sites: u8,
     // How many messages are taken in together, where they are read one by one.
     together: usize,
@@ -200,12 +205,10 @@ pub struct Desk<G: Gate = Free> {
     may_wait: usize,
     /// How it reads ahead.
     pub plan: Plan,
-    /// The messages that it holds, the last of the records so far, to take them in together.
+    /// The messages that it holds, to take them in together: they came one after the other.
     pub window: Vec<Message>,
-    /// What is answered next, and the text that waits to be written.
-    pub reply: Reply,
-    /// How many records were answered or are held.
-    pub answered: u64,
+    /// The number of the first of them.
+    pub first: u64,
     alloc: Global,
     ghost same: { sites ≡ site.place.sites },
     ghost few: { sites ≤ COUNTED_MAX },
@@ -213,36 +216,40 @@ pub struct Desk<G: Gate = Free> {
     ghost most: { together ≤ plan.window },
     ghost held: { All (λ m. sites_of m ≡ sites) window.items },
     ghost fits: { length window.items ≤ plan.window },
-    ghost so_far: { length window.items ≤ answered },
+    ghost numbered: { first + length window.items ≤ 2 ^ 64 },
 }
 
-impl<G: Gate + Drop> Desk<G> {
-    ghost use Rattle.rubis_script.specs.Desks.{IsFresh};
-
+impl<'a, T> Desk<'a, T> {
     /// A site with nothing done, set up so, whose batches are applied under the gate.
-    pub fn new(alloc: Global, config: &Config, gate: G) -> Result<Desk<G>, AllocError>
+    pub fn new(
+        rt: &'a T,
+        alloc: Global,
+        config: &Config,
+        gate: SiteGate,
+    ) -> Result<Desk<'a, T>, AllocError>
         ensures site { IfOk result (λ desk. (desk.site.place ≡ setup_place config.now) × (desk.site.state ≡ opening_at config.now.site)) }
         ensures helpers { IfOk result (λ desk. desk.plan.helpers + 1 ≡ config.now.workers) }
         ensures window { IfOk result (λ desk. desk.plan.window ≡ max config.now.batch WINDOW_MIN) }
         ensures batch { IfOk result (λ desk. desk.site.batch ≡ config.now.batch) }
-        ensures fresh { IfOk result (λ desk. IsFresh desk) }
+        ensures fresh { IfOk result (λ desk. desk.window.items ≡ []) }
     {
         Ok(Desk {
+            rt,
             site: Site::new(alloc, config, gate)?,
             sites: config.sites(),
             together: window_of(config),
             may_wait: 0,
             plan: Plan::of(config),
             window: Vec::new(alloc),
-            reply: Reply::new(alloc),
-            answered: 0,
+            first: 1,
             alloc,
         })
     }
-}
 
-impl<G: Gate> Desk<G> {
-    ghost use Rattle.rubis_script.specs.Desks.{IsFresh, KeepsSetup, TakesHeld, TakesNext, WritesNext, WritesPrefixFrom};
+    /// What its answers may share with other threads.
+    pub fn runtime(&self) -> &'a T {
+        self.rt
+    }
 
     /// How many sites there are.
     pub fn sites(&self) -> u8
@@ -252,18 +259,6 @@ impl<G: Gate> Desk<G> {
         self.sites
     }
 
-    /// Begins a run: it has answered nothing and holds nothing.
-    pub fn start(&mut self)
-        ensures site { self.new.site ≡ self.old.site }
-        ensures plan { self.new.plan ≡ self.old.plan }
-        ensures fresh { IsFresh self.new }
-    {
-        self.may_wait = self.plan.window;
-        self.window = Vec::new(self.alloc);
-        self.reply = Reply::new(self.alloc);
-        self.answered = 0;
-    }
-
     /// What a record is.
     #[inline(always)]
     pub fn read(&self, fields: &InputRecord) -> Result<Input, OutOfMemory>
@@ -271,50 +266,51 @@ impl<G: Gate> Desk<G> {
     {
         Ok(read_input(self.alloc, fields, self.sites)?)
     }
+}
 
-    /// Answers a record, whose number is the reply's. It doesn't count it, and those that it holds are held on.
-    pub fn respond<R: Threads + Wait + Sync>(
-        &mut self,
-        rt: &R,
-        fields: &InputRecord,
-    ) -> Result<(), OutOfMemory>
-        ensures same { KeepsSetup self.old self.new }
-        ensures answered { OnOk result (IsAnswered self.old.reply.number
-            (input_of self.old.site.place.sites fields.now) self.old.site self.new.site self.old.reply.sink self.new.reply.sink) }
-        ensures held { (self.new.window.items ≡ self.old.window.items) × (self.new.answered ≡ self.old.answered) }
+impl<T: Threads + Wait + Sync> Desk<'_, T> {
+    ghost use Rattle.rubis_script.specs.Desks.{KeepsSetup, TakesHeld, TakesNext, WritesNext, WritesPrefixFrom};
+
+    /// Begins a run: it holds nothing.
+    pub fn start(&mut self)
+        ensures site { self.new.site ≡ self.old.site }
+        ensures plan { self.new.plan ≡ self.old.plan }
+        ensures fresh { self.new.window.items ≡ [] }
     {
-        let read = self.read(fields)?;
-        answer(rt, &mut self.site, &mut self.reply, read)
+        self.may_wait = self.plan.window;
+        self.window = Vec::new(self.alloc);
+        self.first = 1;
     }
 
-    /// Takes in the messages that are held, the last of the records so far, and answers them, if there are any.
+    /// Takes in the messages that are held, and answers them, if there are any.
     #[inline(always)]
-    pub fn flush<R: Threads + Wait + Sync>(&mut self, rt: &R) -> Result<(), OutOfMemory>
+    pub fn flush(&mut self, reply: &mut Reply) -> Result<(), OutOfMemory>
         ensures same { KeepsSetup self.old self.new }
+        ensures number { reply.new.number ≡ reply.old.number }
         ensures empty { self.new.window.items ≡ [] }
-        ensures flushed { OnOk result (TakesHeld self.old self.new) }
+        ensures flushed { OnOk result (TakesHeld self.old self.new reply.old.sink reply.new.sink) }
     {
         if self.window.is_empty() {
             return Ok(());
         }
-        self.take_in(rt)
+        self.take_in(reply)
     }
 
-    // Takes in the messages that are held, the last of the records so far, and answers them.
+    // Takes in the messages that are held, and answers them.
     #[inline(never)]
-    fn take_in<R: Threads + Wait + Sync>(&mut self, rt: &R) -> Result<(), OutOfMemory>
-        requires { 0 < length self.old.window.items }
+    #[tactic(auto, using(crate::proofs::DeskFacts::held_as))]
+    fn take_in(&mut self, reply: &mut Reply) -> Result<(), OutOfMemory>
         ensures same { KeepsSetup self.old self.new }
+        ensures number { reply.new.number ≡ reply.old.number }
         ensures empty { self.new.window.items ≡ [] }
-        ensures flushed { OnOk result (TakesHeld self.old self.new) }
+        ensures flushed { OnOk result (TakesHeld self.old self.new reply.old.sink reply.new.sink) }
     {
-        let first = self.answered - self.window.len() as u64 + 1;
         let messages = mem::replace(&mut self.window, Vec::new(self.alloc));
-        let arrived = self.site.arrive_within(rt, messages, self.may_wait);
+        let arrived = self.site.arrive_within(self.rt, messages, self.may_wait);
         write_arrivals(
-            &mut self.reply.draft.row,
-            &mut self.reply.sink,
-            first,
+            &mut reply.draft.row,
+            &mut reply.sink,
+            self.first,
             arrived.answers.as_slice(),
         )?;
         if arrived.fault.is_some() {
@@ -323,85 +319,135 @@ impl<G: Gate> Desk<G> {
         Ok(())
     }
 
-    // Takes in the messages that are held, if there is no room for one more.
-    fn make_room<R: Threads + Wait + Sync>(&mut self, rt: &R) -> Result<(), OutOfMemory>
+    // Takes in the messages that are held, unless there is room behind them for the next record, whose number the reply has.
+    fn make_room(&mut self, reply: &mut Reply) -> Result<(), OutOfMemory>
         ensures same { KeepsSetup self.old self.new }
+        ensures number { reply.new.number ≡ reply.old.number }
         ensures room { length self.new.window.items < self.new.plan.window }
-        ensures kept { OnOk result (TakesHeld self.old self.new) }
+        ensures next { OnOk result ((self.new.first + length self.new.window.items ≡ reply.old.number) × (reply.old.number < 2 ^ 64)) }
+        ensures kept { OnOk result (TakesHeld self.old self.new reply.old.sink reply.new.sink) }
     {
-        if self.window.len() < self.together {
+        let many = self.window.len();
+        let number = reply.number;
+        if many < self.together && self.first <= number && number - self.first == many as u64 {
             return Ok(());
         }
-        self.flush(rt)
+        self.flush(reply)?;
+        self.first = number;
+        Ok(())
     }
 
     // Holds one more message. Where there is no room for it, those that are held are taken in before.
     #[inline(always)]
-    fn hold_next<R: Threads + Wait + Sync>(
-        &mut self,
-        rt: &R,
-        message: Message,
-    ) -> Result<(), OutOfMemory>
-        requires room { self.old.answered + 1 < 2 ^ 64 }
-        requires sites { sites_of message ≡ self.old.site.place.sites }
+    fn hold_next(&mut self, reply: &mut Reply, message: Message) -> Result<(), OutOfMemory>
+        requires { sites_of message ≡ self.old.site.place.sites }
         ensures same { KeepsSetup self.old self.new }
-        ensures takes { OnOk result (TakesNext (Came (Packet.Msg message)) self.old self.new) }
+        ensures takes { OnOk result (TakesNext (Came (Packet.Msg message)) reply.old.number self.old self.new reply.old.sink reply.new.sink) }
     {
-        self.make_room(rt)?;
+        self.make_room(reply)?;
         if self.window.push(message).is_err() {
             return Err(OutOfMemory);
         }
-        self.answered += 1;
         Ok(())
     }
 
-    /// Holds what the next record was read as, if it is a message and messages are held at all, at most as many as the plan says;
-    /// otherwise takes in those that are held, and answers it.
+    /// Holds what the next record was read as, whose number the reply has, if it is a message and messages are held at all, at most as
+    /// many as the plan says; otherwise takes in those that are held, and answers it.
     #[inline(always)]
-    pub fn take_read<R: Threads + Wait + Sync>(
-        &mut self,
-        rt: &R,
-        read: Input,
-    ) -> Result<(), OutOfMemory>
-        requires room { self.old.answered + 1 < 2 ^ 64 }
-        requires fits { FitsIn self.old.site.place.sites read }
+    pub fn take_read(&mut self, reply: &mut Reply, read: Input) -> Result<(), OutOfMemory>
+        requires { FitsIn self.old.site.place.sites read }
         ensures same { KeepsSetup self.old self.new }
-        ensures takes { OnOk result (TakesNext read self.old self.new) }
+        ensures takes { OnOk result (TakesNext read reply.old.number self.old self.new reply.old.sink reply.new.sink) }
     {
         match read {
-            Input::Came(Packet::Msg(message)) if self.together > 1 => self.hold_next(rt, message),
+            Input::Came(Packet::Msg(message)) if self.together > 1 => self.hold_next(
+                reply, message,
+            ),
             other => {
-                self.flush(rt)?;
-                self.reply.number = self.answered + 1;
-                answer(rt, &mut self.site, &mut self.reply, other)?;
-                self.answered += 1;
-                Ok(())
+                self.flush(reply)?;
+                answer(self.rt, &mut self.site, reply, other)
             }
         }
     }
 
-    /// Takes in the messages that are held, and answers a request for a listing, the next record. Its rows are written out while they
-    /// are made: at the end the last of them wait in the reply.
+    // Takes in the messages that are held, and answers a request for a listing, the next record. Its rows are written out while they
+    // are made: at the end the last of them wait in the reply.
+    fn list_out<W: Write>(
+        &mut self,
+        reply: &mut Reply,
+        listing: &Listing,
+        writer: &mut W,
+    ) -> Result<(), RunFault>
+        ensures same { KeepsSetup self.old self.new }
+        ensures listed { let asked = Asked (Request.List listing.now) in
+            ByEnd result
+            (λ _. WritesNext asked reply.old.number self.old self.new reply.old.sink reply.new.sink (W.contents writer.old) (W.contents writer.new)) ⊥ ⊥
+            (WritesPrefixFrom asked reply.old.number self.old reply.old.sink (W.contents writer.old) (W.contents writer.new)) }
+    {
+        self.flush(reply)?;
+        list_rows(self.rt, &mut self.site, reply, listing, writer)
+    }
+
+    /// Takes what the next record was read as, as `take_read` does. The rows of a listing are written out while they are made: at the end
+    /// the last of them wait in the reply.
     ///
     /// # Errors
     ///
     /// `Write` where the writer failed, and `Memory` if memory ran out or the site is behind: a prefix of the text was written then.
-    pub fn list_out<R: Threads + Wait + Sync, W: Write>(
+    #[inline(always)]
+    pub fn take<W: Write>(
         &mut self,
-        rt: &R,
-        listing: &Listing,
+        reply: &mut Reply,
+        read: Input,
         writer: &mut W,
     ) -> Result<(), RunFault>
-        requires { self.old.answered + 1 < 2 ^ 64 }
+        requires { FitsIn self.old.site.place.sites read }
         ensures same { KeepsSetup self.old self.new }
-        ensures listed { let asked = Asked (Request.List listing.now) in
-            ByEnd result (λ _. WritesNext asked self.old self.new (W.contents writer.old) (W.contents writer.new)) ⊥ ⊥
-            (WritesPrefixFrom asked self.old (W.contents writer.old) (W.contents writer.new)) }
+        ensures takes { ByEnd result
+            (λ _. WritesNext read reply.old.number self.old self.new reply.old.sink reply.new.sink (W.contents writer.old) (W.contents writer.new)) ⊥ ⊥
+            (WritesPrefixFrom read reply.old.number self.old reply.old.sink (W.contents writer.old) (W.contents writer.new)) }
     {
-        self.flush(rt)?;
-        self.reply.number = self.answered + 1;
-        list_rows(rt, &mut self.site, &mut self.reply, listing, writer)?;
-        self.answered += 1;
-        Ok(())
+        match read {
+            Input::Asked(Request::List(listing)) => self.list_out(reply, &listing, writer),
+            other => Ok(self.take_read(reply, other)?),
+        }
+    }
+}
+
+impl<T: Threads + Wait + Sync> Service for Desk<'_, T> {
+    ghost use Rattle.rubis_script.specs.Desks.{LeadsSite, left_at, setup_of};
+
+    ghost account = { left_at };
+
+    ghost leads = { LeadsSite };
+
+    ghost Setup = { Place × Plan };
+
+    ghost setup = { setup_of };
+
+    ghost shares = { IsSync T.row };
+
+    ghost reads_none = { λ s n. refl };
+
+    ghost reads_next = { Prim.search rules };
+
+    #[inline(always)]
+    fn answer<W: Write>(
+        &mut self,
+        fields: &InputRecord,
+        reply: &mut Reply,
+        writer: &mut W,
+    ) -> Result<Course, RunFault> {
+        let read = self.read(fields)?;
+        self.take(reply, read, writer)?;
+        Ok(Course::GoesOn)
+    }
+
+    fn answer_held(&mut self, reply: &mut Reply) -> Result<(), OutOfMemory> {
+        self.flush(reply)
+    }
+
+    fn answer_end(&mut self, reply: &mut Reply) -> Result<(), OutOfMemory> {
+        self.flush(reply)
     }
 }

@@ -1,18 +1,22 @@
 //! A run for which helpers stay: they read its text and fold its messages, while the desk answers.
 
-ghost use Rattle.std.specs.Prelude.{◌≡◌, ◌≤◌, ◌<◌, []};
+ghost use Rattle.std.specs.Prelude.{◌≡◌, ◌≤◌, ◌<◌, ◌-◌, OnOk, drop, take};
 ghost use Rattle.std.specs.Thread.{IsSync};
 ghost use Rattle.rubis_crew.specs.Both.{IsAt};
 ghost use Rattle.rubis_script.specs.Helped.{AreHeld, AreOver, StayHeld, StayWith};
-ghost use Rattle.rubis_script.specs.Runs.{RunEnds, TakesAll, TurnEnds};
+ghost use Rattle.rubis_reading.specs.Chunked.{IsChunk, held_text};
+ghost use Rattle.rubis_reading.specs.Readings.{AreRead};
+ghost use Rattle.rubis_script.specs.Desks.{IsFolded, KeepsSetup, LeadsSite, left_at};
+ghost use Rattle.rubis_serving.specs.Serving.{Finishes, Turns};
 
+use crate::answering::answer_all;
 use crate::desk::Desk;
-use crate::helpers::Helpers;
-use crate::run::{answer_read, turn};
+use crate::gate::SiteGate;
 use rubis_crew::{Both, Crew};
 use rubis_engine::{Count, RunFault};
-use rubis_reading::{Chunks, Pieces};
-use rubis_replica::{Gate, Hands};
+use rubis_reading::{Ahead, Chunks, Pieces, ReadPiece};
+use rubis_replica::Hands;
+use rubis_serving::{Served, answer_front, turn};
 use std::alloc::Global;
 use std::io::{Read, Write};
 use std::sync::Wait;
@@ -27,10 +31,18 @@ const SHARDS: usize = 256;
 // How long a piece is at most that the caller's thread reads and answers alone.
 const PIECE_ALONE: usize = 65_536;
 
+/// What helpers do for a run: the pieces that they read, and the hands by which they fold.
+pub struct Helpers<'a> {
+    pub pieces: Pieces<'a>,
+    pub hands: Hands<'a, SiteGate>,
+    /// How many messages were released when they folded last.
+    pub folded: usize,
+}
+
 // Has the messages folded that are pending at the site, where they are at least half as many as a window has: of fewer the caller's
 // thread folds most, since a helper that reads a piece takes a shard only after that. If it fails, the site's next call says so.
-fn fold<G: Gate + Drop, T: Wait>(rt: &T, helpers: &mut Helpers<'_, G>, desk: &mut Desk<G>)
-    ensures takes { TakesAll [] desk.old desk.new }
+fn fold<T: Wait>(rt: &T, helpers: &mut Helpers<'_>, desk: &mut Desk<'_, T>)
+    ensures folded { IsFolded desk.old desk.new }
     ensures pieces { helpers.new.pieces ≡ helpers.old.pieces }
     ensures crew { helpers.new.hands.lead.crew ≡ helpers.old.hands.lead.crew }
 {
@@ -42,46 +54,77 @@ fn fold<G: Gate + Drop, T: Wait>(rt: &T, helpers: &mut Helpers<'_, G>, desk: &mu
     helpers.folded = released;
 }
 
-// Answers the next piece that was read, while helpers read those after it. With none, reads and answers one alone, or asks for more text.
-fn helped_turn<G: Gate + Drop, T: Threads + Wait + Sync, R: Read, W: Write>(
-    rt: &T,
-    helpers: &mut Helpers<'_, G>,
+// Answers or holds the records of a piece that was read, the first of what is held. One in which the run comes to its limit is read again,
+// record by record.
+fn answer_read<T: Threads + Wait + Sync, R: Read, W: Write>(
     chunks: &mut Chunks<R>,
-    desk: &mut Desk<G>,
+    desk: &mut Desk<'_, T>,
+    run: &mut Served,
+    writer: &mut W,
+    piece: ReadPiece,
+    limit: u64,
+) -> Result<Option<Count>, RunFault>
+    requires chunk { IsChunk piece.many (held_text chunks.old) }
+    requires read { AreRead desk.old.site.place.sites desk.old.plan.window (take piece.many (held_text chunks.old)) piece.list.items }
+    requires within { run.old.answered ≤ limit }
+    ensures same { KeepsSetup desk.old desk.new }
+    ensures turns { Turns left_at LeadsSite limit R.remaining chunks.old desk.old run.old (W.contents writer.old)
+        chunks.new desk.new run.new (W.contents writer.new) result }
+    ensures held { OnOk result (held_text chunks.new ≡ drop (piece.many - 1) (held_text chunks.old)) }
+{
+    let ReadPiece { many, list } = piece;
+    let mut ahead = Ahead::of(list)?;
+    let left = limit - run.answered;
+    if ahead.len() as u64 >= left {
+        return answer_front(chunks, desk, run, writer, many, limit);
+    }
+    answer_all(desk, run, &mut ahead, writer)?;
+    chunks.pass(many);
+    Ok(None)
+}
+
+// Answers the next piece that was read, while helpers read those after it. With none, reads and answers one alone, or asks for more text.
+fn helped_turn<T: Threads + Wait + Sync, R: Read, W: Write>(
+    rt: &T,
+    helpers: &mut Helpers<'_>,
+    chunks: &mut Chunks<R>,
+    desk: &mut Desk<'_, T>,
+    run: &mut Served,
     writer: &mut W,
     limit: u64,
 ) -> Result<Option<Count>, RunFault>
     requires held { AreHeld chunks.old desk.old helpers.old.pieces }
-    requires within { desk.old.answered ≤ limit }
-    ensures run { TurnEnds limit R.remaining chunks.old desk.old (W.contents writer.old) chunks.new desk.new (W.contents writer.new) result }
+    requires within { run.old.answered ≤ limit }
+    ensures turns { Turns left_at LeadsSite limit R.remaining chunks.old desk.old run.old (W.contents writer.old)
+        chunks.new desk.new run.new (W.contents writer.new) result }
     ensures held { StayHeld helpers.old chunks.new desk.new helpers.new result }
 {
     helpers.pieces.give_all(rt, chunks.held())?;
     let Some(piece) = helpers.pieces.next(rt)? else {
-        return turn(rt, chunks, desk, writer, PIECE_ALONE, limit);
+        return turn(chunks, desk, run, writer, PIECE_ALONE, limit);
     };
     fold(rt, helpers, desk);
-    answer_read(rt, chunks, desk, writer, piece, limit)?;
-    desk.reply.sink.drain_full(writer)?;
-    Ok(None)
+    answer_read(chunks, desk, run, writer, piece, limit)
 }
 
 // Answers records until there are no more, or up to `limit` of them.
-fn serve<G: Gate + Drop, T: Threads + Wait + Sync, R: Read, W: Write>(
+fn serve<T: Threads + Wait + Sync, R: Read, W: Write>(
     rt: &T,
-    helpers: &mut Helpers<'_, G>,
+    helpers: &mut Helpers<'_>,
     chunks: &mut Chunks<R>,
-    desk: &mut Desk<G>,
+    desk: &mut Desk<'_, T>,
+    run: &mut Served,
     writer: &mut W,
     limit: u64,
 ) -> Result<Count, RunFault>
     requires held { AreHeld chunks.old desk.old helpers.old.pieces }
-    requires within { desk.old.answered ≤ limit }
-    ensures run { RunEnds limit R.remaining chunks.old desk.old (W.contents writer.old) chunks.new desk.new (W.contents writer.new) result }
+    requires within { run.old.answered ≤ limit }
+    ensures run { Finishes left_at LeadsSite limit R.remaining chunks.old desk.old run.old (W.contents writer.old)
+        chunks.new desk.new run.new (W.contents writer.new) result }
     ensures crews { StayWith helpers.old helpers.new }
 {
     for _ in rt.forever() {
-        if let Some(count) = helped_turn(rt, helpers, chunks, desk, writer, limit)? {
+        if let Some(count) = helped_turn(rt, helpers, chunks, desk, run, writer, limit)? {
             return Ok(count);
         }
     }
@@ -89,64 +132,71 @@ fn serve<G: Gate + Drop, T: Threads + Wait + Sync, R: Read, W: Write>(
 }
 
 // The same, and whatever it ends with, tells the helpers that no more comes.
-fn serve_to_end<G: Gate + Drop, T: Threads + Wait + Sync, R: Read, W: Write>(
+fn serve_to_end<T: Threads + Wait + Sync, R: Read, W: Write>(
     rt: &T,
-    helpers: &mut Helpers<'_, G>,
+    helpers: &mut Helpers<'_>,
     chunks: &mut Chunks<R>,
-    desk: &mut Desk<G>,
+    desk: &mut Desk<'_, T>,
+    run: &mut Served,
     writer: &mut W,
     limit: u64,
 ) -> Result<Count, RunFault>
     requires held { AreHeld chunks.old desk.old helpers.old.pieces }
-    requires within { desk.old.answered ≤ limit }
-    ensures run { RunEnds limit R.remaining chunks.old desk.old (W.contents writer.old) chunks.new desk.new (W.contents writer.new) result }
+    requires within { run.old.answered ≤ limit }
+    ensures run { Finishes left_at LeadsSite limit R.remaining chunks.old desk.old run.old (W.contents writer.old)
+        chunks.new desk.new run.new (W.contents writer.new) result }
     ensures over { AreOver helpers.old helpers.new }
 {
-    let served = serve(rt, helpers, chunks, desk, writer, limit);
+    let served = serve(rt, helpers, chunks, desk, run, writer, limit);
     helpers.pieces.end(rt);
     helpers.hands.end(rt);
     served
 }
 
 // The run, beside what the helpers do.
-fn serve_beside<F: FnMut() + Send, G: Gate + Drop, T: Threads + Wait + Sync, R: Read, W: Write>(
+fn serve_beside<F: FnMut() + Send, T: Threads + Wait + Sync, R: Read, W: Write>(
     rt: &T,
     stay: &mut F,
-    helpers: &mut Helpers<'_, G>,
+    helpers: &mut Helpers<'_>,
     chunks: &mut Chunks<R>,
-    desk: &mut Desk<G>,
+    desk: &mut Desk<'_, T>,
+    run: &mut Served,
     writer: &mut W,
     limit: u64,
 ) -> Result<Count, RunFault>
     requires stay { F.pre stay.old }
-    requires held { AreHeld chunks.old desk.old helpers.old.pieces × (desk.old.answered ≤ limit) }
-    ensures run { RunEnds limit R.remaining chunks.old desk.old (W.contents writer.old) chunks.new desk.new (W.contents writer.new) result }
+    requires held { AreHeld chunks.old desk.old helpers.old.pieces × (run.old.answered ≤ limit) }
+    ensures run { Finishes left_at LeadsSite limit R.remaining chunks.old desk.old run.old (W.contents writer.old)
+        chunks.new desk.new run.new (W.contents writer.new) result }
     ensures over { AreOver helpers.old helpers.new }
 {
     let ((), served) = join_mut(
         rt,
         stay,
         &mut || -> Result<Count, RunFault>
-            requires { IsSync T.row × AreHeld chunks.now desk.now helpers.now.pieces × (desk.now.answered ≤ limit) }
-            ensures { RunEnds limit R.remaining chunks.entry.now desk.entry.now (W.contents writer.entry.now) chunks.exit.now desk.exit.now (W.contents writer.exit.now) result
+            requires { IsSync T.row × AreHeld chunks.now desk.now helpers.now.pieces × (run.now.answered ≤ limit) }
+            ensures { Finishes left_at LeadsSite limit R.remaining chunks.entry.now desk.entry.now run.entry.now (W.contents writer.entry.now)
+                chunks.exit.now desk.exit.now run.exit.now (W.contents writer.exit.now) result
                 × AreOver helpers.entry.now helpers.exit.now }
-        { serve_to_end(rt, helpers, chunks, desk, writer, limit) },
+        { serve_to_end(rt, helpers, chunks, desk, run, writer, limit) },
     );
     served
 }
 
 // The run, beside the helpers.
-fn serve_helped<G: Gate + Drop, T: Threads + Wait + Sync, R: Read, W: Write>(
+fn serve_helped<T: Threads + Wait + Sync, R: Read, W: Write>(
     rt: &T,
-    helpers: &mut Helpers<'_, G>,
+    helpers: &mut Helpers<'_>,
     chunks: &mut Chunks<R>,
-    desk: &mut Desk<G>,
+    desk: &mut Desk<'_, T>,
+    run: &mut Served,
     writer: &mut W,
     limit: u64,
 ) -> Result<Count, RunFault>
     requires held { AreHeld chunks.old desk.old helpers.old.pieces }
-    requires within { desk.old.answered ≤ limit }
-    ensures run { RunEnds limit R.remaining chunks.old desk.old (W.contents writer.old) chunks.new desk.new (W.contents writer.new) result }
+    requires within { run.old.answered ≤ limit }
+    ensures run { Finishes left_at LeadsSite limit R.remaining chunks.old desk.old run.old (W.contents writer.old)
+        chunks.new desk.new run.new (W.contents writer.new) result }
     ensures over { AreOver helpers.old helpers.new }
 {
     let folding = helpers.hands.crew();
@@ -161,6 +211,7 @@ fn serve_helped<G: Gate + Drop, T: Threads + Wait + Sync, R: Read, W: Write>(
         helpers,
         chunks,
         desk,
+        run,
         writer,
         limit,
     )
@@ -168,18 +219,20 @@ fn serve_helped<G: Gate + Drop, T: Threads + Wait + Sync, R: Read, W: Write>(
 
 /// Runs the desk of a site over chunks of text, whose records are read, and whose messages are folded, by a crew of helpers and by the
 /// caller's thread. The helpers stay for the run. A thread that can't be started leaves its work to the others.
-pub fn run_helped<G: Gate + Drop, T: Threads + Wait + Sync, R: Read, W: Write>(
+pub(crate) fn run_helped<T: Threads + Wait + Sync, R: Read, W: Write>(
     rt: &T,
-    alloc: Global,
     chunks: &mut Chunks<R>,
-    desk: &mut Desk<G>,
+    desk: &mut Desk<'_, T>,
+    run: &mut Served,
     writer: &mut W,
     limit: u64,
 ) -> Result<Count, RunFault>
     requires some { 0 < desk.old.plan.helpers }
-    requires within { desk.old.answered ≤ limit }
-    ensures { RunEnds limit R.remaining chunks.old desk.old (W.contents writer.old) chunks.new desk.new (W.contents writer.new) result }
+    requires within { run.old.answered ≤ limit }
+    ensures { Finishes left_at LeadsSite limit R.remaining chunks.old desk.old run.old (W.contents writer.old)
+        chunks.new desk.new run.new (W.contents writer.new) result }
 {
+    let alloc = run.alloc;
     let (reading, mut lead) = Crew::new(rt, alloc, PIECES, usize::from(desk.plan.helpers))?;
     let Ok((folding, shards)) = Crew::beside(rt, alloc, SHARDS, &reading) else {
         reading.end(rt, &mut lead);
@@ -192,7 +245,7 @@ pub fn run_helped<G: Gate + Drop, T: Threads + Wait + Sync, R: Read, W: Write>(
         hands: Hands::new(&folding, shards),
         folded: 0,
     };
-    let served = serve_helped(rt, &mut helpers, chunks, desk, writer, limit);
+    let served = serve_helped(rt, &mut helpers, chunks, desk, run, writer, limit);
     let Helpers {
         pieces,
         hands,

@@ -1,12 +1,11 @@
-//! A site over records, bytes of CSV in, bytes of CSV out: its desk, which answers each record in its turn, and the run
-//! that reads the next chunk of text meanwhile.
+//! A site over records, bytes of CSV in, bytes of CSV out: its desk, which answers each record in its turn, and the run for which helpers
+//! read the next pieces of text meanwhile.
 #![tactic(auto)]
 
-mod alone;
 mod answering;
 mod desk;
+mod gate;
 mod helped;
-mod helpers;
 mod laws;
 mod plan;
 mod replies;
@@ -16,6 +15,7 @@ mod site_run;
 mod windows;
 
 pub use desk::Desk;
+pub use gate::{SiteGate, Watch};
 pub use laws::replays_go_on;
 pub use replies::{
     write_arrival, write_listed, write_listed_text, write_passed, write_refusal, write_rows,

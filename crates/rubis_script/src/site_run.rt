@@ -9,9 +9,10 @@ ghost use Rattle.rubis_script.specs.Headline.{OfRead, WritesAsProcess};
 ghost use Rattle.rubis_script.specs.SiteRuns.{answers_of};
 
 use crate::desk::Desk;
+use crate::gate::SiteGate;
 use crate::run::run_desk;
 use rubis_engine::{Count, RunFault};
-use rubis_replica::{Config, Free, Gate};
+use rubis_replica::Config;
 use rubis_schema::RECORDS_MAX;
 use std::alloc::Global;
 use std::io::{Read, Write};
@@ -20,12 +21,11 @@ use std::sync::Wait;
 use std::thread::Threads;
 
 // Runs the desk of a site with which nothing was done yet.
-fn run_opened<G: Gate + Drop, T: Threads + Wait + Sync, R: Read + Drop, W: Write>(
-    rt: &T,
+fn run_opened<T: Threads + Wait + Sync, R: Read + Drop, W: Write>(
     alloc: Global,
     reader: R,
     writer: &mut W,
-    desk: &mut Desk<G>,
+    desk: &mut Desk<'_, T>,
     limit: u64,
 ) -> Result<Count, RunFault>
     requires opened { desk.old.site.state ≡ opening_at desk.old.site.place.site }
@@ -33,7 +33,7 @@ fn run_opened<G: Gate + Drop, T: Threads + Wait + Sync, R: Read + Drop, W: Write
     ensures process { OfRead limit (R.remaining reader) result (λ records.
         WritesAsProcess desk.old.site.place (W.contents writer.old) (W.contents writer.new) records) }
 {
-    run_desk(rt, alloc, reader, writer, desk, limit)
+    run_desk(alloc, reader, writer, desk, limit)
 }
 
 /// Runs a site over the records of `reader` until its end, or up to `limit` of them: appends the text of its answers to
@@ -45,21 +45,21 @@ fn run_opened<G: Gate + Drop, T: Threads + Wait + Sync, R: Read + Drop, W: Write
 /// `Read` if the reader failed: the records that came whole before are answered then, as if there were no more. `Write` if the writer
 /// failed, and `Memory` if memory ran out: what was written is a prefix of the whole text. `TooLong` if the input has more
 /// than `limit` records: the first `limit` are answered then.
-pub fn run_site_upto<G: Gate + Drop, T: Threads + Wait + Sync, R: Read + Drop, W: Write>(
+pub fn run_site_upto<T: Threads + Wait + Sync, R: Read + Drop, W: Write>(
     rt: &T,
     alloc: Global,
     reader: R,
     writer: &mut W,
     config: &Config,
     limit: u64,
-    gate: G,
+    gate: SiteGate,
 ) -> Result<Count, RunFault>
     ensures run { IsRun (answers_of (setup_place config.now)) limit (R.remaining reader) (W.contents writer.old) (W.contents writer.new) result }
     ensures process { OfRead limit (R.remaining reader) result (λ records.
         WritesAsProcess (setup_place config.now) (W.contents writer.old) (W.contents writer.new) records) }
 {
-    let mut desk = Desk::new(alloc, config, gate)?;
-    run_opened(rt, alloc, reader, writer, &mut desk, limit)
+    let mut desk = Desk::new(rt, alloc, config, gate)?;
+    run_opened(alloc, reader, writer, &mut desk, limit)
 }
 
 /// Runs a site over at most 4,000,000 records, as `run_site_upto`.
@@ -78,7 +78,8 @@ pub fn run_site<T: Threads + Wait + Sync, R: Read + Drop, W: Write>(
     ensures process { OfRead RECORDS_MAX (R.remaining reader) result (λ records.
         WritesAsProcess (setup_place config.now) (W.contents writer.old) (W.contents writer.new) records) }
 {
-    run_site_upto(rt, alloc, reader, writer, config, RECORDS_MAX, Free)
+    let gate = SiteGate::free();
+    run_site_upto(rt, alloc, reader, writer, config, RECORDS_MAX, gate)
 }
 
 /// Runs a site as `run_site` does, as the last thing that a process does: its tables and its log aren't given back, row by row, before the
@@ -98,8 +99,8 @@ pub fn run_last_site<T: Threads + Wait + Sync, R: Read + Drop, W: Write>(
     ensures process { OfRead RECORDS_MAX (R.remaining reader) result (λ records.
         WritesAsProcess (setup_place config.now) (W.contents writer.old) (W.contents writer.new) records) }
 {
-    let mut desk = Desk::new(alloc, config, Free)?;
-    let ended = run_opened(rt, alloc, reader, writer, &mut desk, RECORDS_MAX);
+    let mut desk = Desk::new(rt, alloc, config, SiteGate::free())?;
+    let ended = run_opened(alloc, reader, writer, &mut desk, RECORDS_MAX);
     mem::forget(desk);
     ended
 }

@@ -70,13 +70,12 @@ module _ {S : Type 0} (account : S → ℕ → Account) (leads : S → ℕ → L
       (old now now2 : Option (List ℕ)) (sink sink2 : List ℕ) (answered limit : ℕ) (records rest : List (List (List ℕ)))
       → Advances rem piece piece2 true → answered ≡ limit → Settles account leads s s2 sink sink2 now now2
       → ((number : ℕ) (fields : List (List ℕ)) (more : List (List (List ℕ))) → 0 < (account s2 number).read (fields ∷ more))
-      → ((number : ℕ) → leads s2 number [] s2)
       → HasYet account leads rem piece first s old now sink answered records rest → AnswersFirst account leads limit first s2 old now2 records
-  yet-too_long rem piece piece2 first s s2 old now now2 sink sink2 answered limit records rest takes last settles some none h =
+  yet-too_long rem piece piece2 first s s2 old now now2 sink sink2 answered limit records rest takes last settles some h =
       let (left, gives, one) = yet-one rem piece piece2 first s old now sink answered records rest (fields_now piece2) takes refl h in
       let later = left ++ rest in
       stands-too_long account leads first s2 old now2 sink2 answered limit records later (fields_now piece2) settles.empty
-      (settles.none (answered + 1)) (some (answered + 1) (fields_now piece2) later) (none (answered + 1)) last
+      (settles.none (answered + 1)) (some (answered + 1) (fields_now piece2) later) (settles.rests (answered + 1)) last
       (settled first s s2 old now now2 sink sink2 answered records (fields_now piece2 ∷ later) settles one)
 
   -- ---- between pieces
@@ -106,13 +105,13 @@ module _ {S : Type 0} (account : S → ℕ → Account) (leads : S → ℕ → L
   -- the reader failed where everything that came was answered and written out
   pub served-cut : {R : Type 0} (rem : R → Option (List ℕ)) (chunks chunks2 : Chunks R) (first s s2 : S)
       (old now now2 : Option (List ℕ)) (sink sink2 : List ℕ) (answered : ℕ) (input : List ℕ) → Settles account leads s s2 sink sink2 now now2
-      → FailsShort rem chunks chunks2 → EndsNoRecord (held_text chunks) → ((number : ℕ) → leads s2 number [] s2)
+      → FailsShort rem chunks chunks2 → EndsNoRecord (held_text chunks)
       → HasServed account leads rem chunks first s old now sink answered input
       → AnswersJust account leads answered first s2 old now2 (input_records input) × CameWhole rem chunks2 input answered
-  served-cut rem chunks chunks2 first s s2 old now now2 sink sink2 answered input settles failed short none h =
+  served-cut rem chunks chunks2 first s s2 old now now2 sink sink2 answered input settles failed short h =
       let h2 = served-settled rem chunks chunks2 first s s2 old now now2 sink sink2 answered input settles failed.pending failed.come h in (
         stands-cut account leads first s2 old now2 sink2 answered (input_records input) h2.later settles.empty (settles.none (answered + 1))
-            (none (answered + 1)) h2.stands,
+            (settles.rests (answered + 1)) h2.stands,
         record { come = h2.come; count = served-count rem chunks2 first s2 old now2 sink2 answered input h2; none = failed.none short },
       )
 

@@ -4,7 +4,7 @@ use Rattle.std.proofs.Common.{refl, subst, sym, take}
 use Rattle.std.specs.Io.KnownBytes.{Appends}
 use Rattle.std.proofs.Math.Seq.{take-append_seam}
 use Rattle.csv.proofs.WriteFacts.{appends-more, appends-none}
-use Rattle.rubis_engine.specs.Accounts.{Account, AnswersRecord, Ending, LeadsAlike, LeadsOn}
+use Rattle.rubis_engine.specs.Accounts.{Account, AnswersRecord, Ending, Keeps, LeadsAlike, LeadsOn}
 use Rattle.rubis_engine.specs.Accounts.Ending.{AtEnd, Cut}
 use Rattle.rubis_engine.specs.Progress.{AppendsFront, Drained, IsWrittenOrWaits, WrotePrefix}
 use Rattle.rubis_engine.specs.declared.service.Course.TheVariants.{Ends, GoesOn}
@@ -57,6 +57,34 @@ module _ {S : Type 0} (account : S → ℕ → Account) (leads : S → ℕ → L
             (h.led (fields ∷ to_come) last (on to_come last led));
       }
 
+  -- several records were answered together
+  pub stands-steps : (first s s2 : S) (old now : Option (List ℕ)) (sink sink2 : List ℕ) (answered : ℕ) (records rows later : List (List (List ℕ)))
+      → ((ending : Ending) (more : List (List (List ℕ)))
+      → sink ++ (account s (answered + 1)).text ending (rows ++ more) ≡ sink2 ++ (account s2 (answered + length rows + 1)).text ending more)
+      → ((more : List (List (List ℕ)))
+      → (account s (answered + 1)).read (rows ++ more) ≡ length rows + (account s2 (answered + length rows + 1)).read more)
+      → ((more : List (List (List ℕ))) (last : S) → leads s2 (answered + length rows + 1) more last → leads s (answered + 1) (rows ++ more) last)
+      → Stands account leads first s old now sink answered records (rows ++ later)
+      → Stands account leads first s2 old now sink2 (answered + length rows) records later
+  stands-steps first s s2 old now sink sink2 answered records rows later text read on h =
+      let all = account first 1 in
+      let size = length-append h.done rows in
+      record {
+        done = h.done ++ rows;
+        written = h.written;
+        parts = h.parts ∙ sym (append_assoc h.done rows later);
+        count = omega (arith, size, h.count);
+        appended = h.appended;
+        told = λ ending to_come. ap (all.text ending) (append_assoc h.done rows to_come) ∙ h.told ending (rows ++ to_come)
+            ∙ ap (λ t. h.written ++ t) (text ending to_come);
+        counted = λ to_come.
+            let whole = ap all.read (append_assoc h.done rows to_come) ∙ h.counted (rows ++ to_come) in
+            let next = read to_come in
+            omega (arith, whole, next, size);
+        led = λ to_come last led. subst (λ more. leads first 1 more last) (sym (append_assoc h.done rows to_come))
+            (h.led (rows ++ to_come) last (on to_come last led));
+      }
+
   -- what was held is written out
   pub stands-drained : (first s s2 : S) (old now now2 : Option (List ℕ)) (sink : List ℕ) (answered : ℕ) (records later : List (List (List ℕ)))
       → Drained (account s (answered + 1)) (account s2 (answered + 1)) sink now now2 → LeadsAlike leads s s2
@@ -71,6 +99,38 @@ module _ {S : Type 0} (account : S → ℕ → Account) (leads : S → ℕ → L
         ∙ sym (append_assoc h.written d.out ((account s2 (answered + 1)).text ending to_come));
     counted = λ to_come. h.counted to_come ∙ ap (λ k. length h.done + k) (d.counted to_come);
     led = λ to_come last led. h.led to_come last (alike (answered + 1) to_come last led);
+  }
+
+  -- what is still to be made stays what it was
+  pub stands-kept : (first s s2 : S) (old now : Option (List ℕ)) (sink sink2 : List ℕ) (answered : ℕ) (records later : List (List (List ℕ)))
+      → Keeps (account s (answered + 1)) (account s2 (answered + 1)) sink sink2 → LeadsAlike leads s s2
+      → Stands account leads first s old now sink answered records later → Stands account leads first s2 old now sink2 answered records later
+  stands-kept first s s2 old now sink sink2 answered records later keeps alike h = record {
+    done = h.done;
+    written = h.written;
+    parts = h.parts;
+    count = h.count;
+    appended = h.appended;
+    told = λ ending to_come. h.told ending to_come ∙ ap (λ t. h.written ++ t) ((keeps to_come).0 ending);
+    counted = λ to_come. h.counted to_come ∙ ap (λ k. length h.done + k) (keeps to_come).1;
+    led = λ to_come last led. h.led to_come last (alike (answered + 1) to_come last led);
+  }
+
+  -- some of what waited was written out
+  pub stands-out : (first s : S) (old now now2 : Option (List ℕ)) (out sink : List ℕ) (answered : ℕ) (records later : List (List (List ℕ)))
+      → Appends now now2 out → Stands account leads first s old now (out ++ sink) answered records later
+      → Stands account leads first s old now2 sink answered records later
+  stands-out first s old now now2 out sink answered records later appended h = record {
+    done = h.done;
+    written = h.written ++ out;
+    parts = h.parts;
+    count = h.count;
+    appended = appends-more old now now2 h.written out h.appended appended;
+    told = λ ending to_come.
+        let more = (account s (answered + 1)).text ending to_come in
+        h.told ending to_come ∙ ap (λ t. h.written ++ t) (append_assoc out sink more) ∙ sym (append_assoc h.written out (sink ++ more));
+    counted = h.counted;
+    led = h.led;
   }
 
   -- a text that waited was written out, or waits on

@@ -1,40 +1,22 @@
 -- Where a run over chunks stands.
 use Rattle.std.specs.Prelude.{◌≡◌, ◌≤◌, ◌+◌, ◌++◌, ◌∷◌, [], ℕ, List, MatchOption, Option, Result, length}
-use Rattle.std.specs.Borrow.{Bor, MutBor}
-use Rattle.std.specs.Fn.{Shared}
 use Rattle.std.specs.Io.KnownBytes.{Appends}
-use Rattle.rubis_engine.specs.Accounts.{Account, Ending, IsAnswer, LeadsAlike}
+use Rattle.rubis_engine.specs.Accounts.{Account, Ending, LeadsAlike}
 use Rattle.rubis_engine.specs.Accounts.Ending.{AtEnd, Cut}
 use Rattle.rubis_engine.specs.Endings.{ByEnd}
 use Rattle.rubis_engine.specs.Progress.{Drained, WrotePrefix}
 use Rattle.rubis_engine.specs.Reading.{Gives}
 use Rattle.rubis_engine.specs.Text.{input_records}
 use Rattle.rubis_engine.specs.declared.fault.Count.{Count}
-use Rattle.rubis_engine.specs.declared.fault.OutOfMemory.{OutOfMemory}
 use Rattle.rubis_engine.specs.declared.fault.RunFault.{RunFault}
 use Rattle.rubis_engine.specs.declared.record_list.Records.{Records}
-use Rattle.rubis_engine.specs.declared.service.Course.{Course}
-use Rattle.rubis_engine.specs.declared.service.Reply.{Reply}
-use Rattle.rubis_reading.specs.Chunked.{CameWhole, ComesNearer, HasCome, HasPending, IsChunk, IsLast, held_text}
+use Rattle.rubis_reading.specs.Chunked.{CameWhole, ComesNearer, HasCome, HasPending}
 use Rattle.rubis_reading.specs.declared.chunks.Chunks.{Chunks}
 use Rattle.rubis_serving.specs.Whole.{AnswersAll, AnswersFirst, AnswersJust}
 use Rattle.rubis_serving.specs.declared.pieces.Served.{Served}
 
--- that many of the bytes that are held are whole records, or what is held is the rest
-abbrev pub IsAtHand : {R : Type 0} → (R → Option (List ℕ)) → Chunks R → Option ℕ → Type 0
-IsAtHand rem chunks piece = MatchOption piece (IsLast rem chunks) (λ many. IsChunk many (held_text chunks))
-
 -- a service is a state of type S: `account` is what is to be made of the records that follow from it on, and `leads` where they lead it
 module _ {S : Type 0} (account : S → ℕ → Account) (leads : S → ℕ → List (List (List ℕ)) → S → Type 0) where
-  -- `answer` may be called on each service, record and reply, and what it writes is an answer that leads on
-  pub record AnswersEach {F : Type 0}
-      (call : Shared F (MutBor S × (Bor (List (List ℕ)) × (MutBor Reply × Unit {0}))) (Result Course OutOfMemory × (MutBor S × (MutBor Reply × Unit {0}))))
-      (answer : F) : Type 0 where
-    pub may : (s : MutBor S) (fields : Bor (List (List ℕ))) (reply : MutBor Reply) → call.pre answer (s, (fields, (reply, tt)))
-    pub gives : (s : MutBor S) (fields : Bor (List (List ℕ))) (reply : MutBor Reply) (result : Result Course OutOfMemory) (s2 : MutBor S) (reply2 : MutBor Reply)
-        → call.post answer (s, (fields, (reply, tt))) (result, (s2, (reply2, tt)))
-        → IsAnswer account leads s.now s2.now reply.now reply2.now fields.now result
-
   -- the run began with the service `first`, which is s now; the first `answered` of these records are answered, and `later` are to come;
   -- `sink` waits to be written
   pub record Stands (first s : S) (old now : Option (List ℕ)) (sink : List ℕ) (answered : ℕ) (records later : List (List (List ℕ))) : Type 0 where
@@ -53,6 +35,7 @@ module _ {S : Type 0} (account : S → ℕ → Account) (leads : S → ℕ → L
     pub drained : (number : ℕ) → Drained (account s number) (account s2 number) sink before after
     pub none : (number : ℕ) → (account s2 number).text Cut [] ≡ []
     pub empty : sink2 ≡ []
+    pub rests : (number : ℕ) → leads s2 number [] s2
     pub alike : LeadsAlike leads s s2
 
   -- ---- a record, and the end

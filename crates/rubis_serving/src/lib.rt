@@ -6,4 +6,4 @@ mod pieces;
 mod run;
 
 pub use pieces::{BLOCK, Served};
-pub use run::{run_service, turn};
+pub use run::{answer_front, run_service, turn};

@@ -1,15 +1,13 @@
 //! A run of a service over the chunks of a text.
 
-ghost use Rattle.std.specs.Prelude.{◌≤◌, ◌<◌, ◌+◌, ◌^◌, ℕ, List};
+ghost use Rattle.std.specs.Prelude.{◌≡◌, ◌≤◌, ◌<◌, ◌+◌, ◌-◌, ◌^◌, ℕ, List, OnOk, drop};
 ghost use Rattle.rubis_engine.specs.Reading.{Gives};
-ghost use Rattle.rubis_reading.specs.Chunked.{HasAll, IsLast};
-ghost use Rattle.rubis_serving.specs.Serving.{AnswersEach, Finishes, OfEachNext, OfEachPiece, OfEachYet, PieceEnds, RecordEnds, Turns};
+ghost use Rattle.rubis_reading.specs.Chunked.{HasAll, IsChunk, IsLast, held_text};
+ghost use Rattle.rubis_serving.specs.Serving.{Finishes, OfEachNext, OfEachPiece, OfEachYet, PieceEnds, RecordEnds, Turns};
 ghost use Rattle.rubis_serving.specs.Whole.{EndsLed};
 
-use crate::pieces::{Served, end, next_piece, settle};
-use rubis_engine::{
-    Answering, Count, Course, InputRecord, OutOfMemory, Records, Reply, RunFault, Service,
-};
+use crate::pieces::{Served, ask_for_more, end, settle};
+use rubis_engine::{Count, Course, InputRecord, Records, RunFault, Service};
 use rubis_reading::Chunks;
 use std::alloc::Global;
 use std::io::{Read, Write};
@@ -21,24 +19,20 @@ const PAST_ALL_PIECES: RunFault = RunFault::Memory;
 
 // Answers a record. `None` if the run goes on, otherwise how many records were read.
 #[inline(always)]
-fn answer_record<
-    S: Service,
-    W: Write,
-    F: Fn(&mut S, &InputRecord, &mut Reply) -> Result<Course, OutOfMemory>,
->(
+fn answer_record<S: Service, W: Write>(
     fields: &InputRecord,
     service: &mut S,
     run: &mut Served,
     writer: &mut W,
-    answer: &F,
 ) -> Result<Option<Count>, RunFault>
     requires room { run.old.answered + 1 < 2 ^ 64 }
-    requires answers { AnswersEach S.account S.leads F.Fn answer.now }
-    ensures { RecordEnds S.account S.leads (run.old.answered + 1) service.new run.new
+    requires shares { S.shares }
+    ensures same { S.setup service.new ≡ S.setup service.old }
+    ensures answered { RecordEnds S.account S.leads (run.old.answered + 1) service.new run.new
         (OfEachNext S.account S.leads fields.now service.old run.old (W.contents writer.old)) (W.contents writer.new) result }
 {
     run.reply.number = run.answered + 1;
-    let course = answer(service, fields, &mut run.reply)?;
+    let course = service.answer(fields, &mut run.reply, writer)?;
     run.answered += 1;
     match course {
         Course::Ends => {
@@ -56,23 +50,18 @@ fn answer_record<
 
 // Answers the records of a piece of text until one ends the run, unless that makes more than `limit` of them: the first `limit` are
 // answered then. `None` if the run goes on, otherwise how many records were read.
-fn answer_records<
-    S: Service,
-    R: Read,
-    W: Write,
-    F: Fn(&mut S, &InputRecord, &mut Reply) -> Result<Course, OutOfMemory>,
->(
+fn answer_records<S: Service, R: Read, W: Write>(
     piece: &mut Records<R>,
     service: &mut S,
     run: &mut Served,
     writer: &mut W,
     limit: u64,
-    answer: &F,
 ) -> Result<Option<Count>, RunFault>
     requires within { run.old.answered ≤ limit }
     requires known { (rows : List (List (List ℕ))) × Gives R.remaining piece.old rows }
-    requires answers { AnswersEach S.account S.leads F.Fn answer.now }
-    ensures { PieceEnds S.account S.leads limit service.new run.new
+    requires shares { S.shares }
+    ensures same { S.setup service.new ≡ S.setup service.old }
+    ensures answered { PieceEnds S.account S.leads limit service.new run.new
         (OfEachYet S.account S.leads R.remaining piece.old service.old run.old (W.contents writer.old)) (W.contents writer.new) result }
 {
     'records: loop {
@@ -83,10 +72,10 @@ fn answer_records<
             return Ok(None);
         }
         if run.answered >= limit {
-            settle(service, &mut run.reply.sink, writer)?;
+            settle(service, &mut run.reply, writer)?;
             return Err(RunFault::TooLong);
         }
-        if let Some(count) = answer_record(piece.fields(), service, run, writer, answer)? {
+        if let Some(count) = answer_record(piece.fields(), service, run, writer)? {
             return Ok(Some(count));
         }
     }
@@ -94,104 +83,122 @@ fn answer_records<
 
 // The same of the records of a text.
 #[inline(never)]
-fn answer_piece<
-    S: Service,
-    W: Write,
-    F: Fn(&mut S, &InputRecord, &mut Reply) -> Result<Course, OutOfMemory>,
->(
+fn answer_piece<S: Service, W: Write>(
     text: &[u8],
     service: &mut S,
     run: &mut Served,
     writer: &mut W,
     limit: u64,
-    answer: &F,
 ) -> Result<Option<Count>, RunFault>
     requires within { run.old.answered ≤ limit }
-    requires answers { AnswersEach S.account S.leads F.Fn answer.now }
-    ensures { PieceEnds S.account S.leads limit service.new run.new
+    requires shares { S.shares }
+    ensures same { S.setup service.new ≡ S.setup service.old }
+    ensures answered { PieceEnds S.account S.leads limit service.new run.new
         (OfEachPiece S.account S.leads text.now service.old run.old (W.contents writer.old)) (W.contents writer.new) result }
 {
     let mut piece = Records::new(run.alloc, text);
-    answer_records(&mut piece, service, run, writer, limit, answer)
+    answer_records(&mut piece, service, run, writer, limit)
 }
 
 // Answers what is held, which is the rest of the text, and ends the run.
-fn finish<
-    S: Service,
-    R: Read,
-    W: Write,
-    F: Fn(&mut S, &InputRecord, &mut Reply) -> Result<Course, OutOfMemory>,
->(
+fn finish<S: Service, R: Read, W: Write>(
     chunks: &Chunks<R>,
     service: &mut S,
     run: &mut Served,
     writer: &mut W,
     limit: u64,
-    answer: &F,
 ) -> Result<Count, RunFault>
     requires within { run.old.answered ≤ limit }
     requires last { IsLast R.remaining chunks.now }
-    requires answers { AnswersEach S.account S.leads F.Fn answer.now }
-    ensures { Finishes S.account S.leads limit R.remaining chunks.now service.old run.old (W.contents writer.old)
+    requires shares { S.shares }
+    ensures same { S.setup service.new ≡ S.setup service.old }
+    ensures ended { Finishes S.account S.leads limit R.remaining chunks.now service.old run.old (W.contents writer.old)
         chunks.now service.new run.new (W.contents writer.new) result }
 {
-    if let Some(count) = answer_piece(chunks.held(), service, run, writer, limit, answer)? {
+    if let Some(count) = answer_piece(chunks.held(), service, run, writer, limit)? {
         return Ok(count);
     }
     end(service, run, writer)
 }
 
-/// Answers the next piece of a text, each record by a call of `answer`: the whole records that came, or at the end of the text the rest,
-/// with the service's last answers. `None` if the run goes on, otherwise how many records were read. Where no whole record is at hand, the
-/// answers are written out before the reader is asked for more. A run answers at most `limit` records.
+/// Answers the records of the first `many` bytes that are held, and hands these on. `None` if the run goes on, otherwise how many records
+/// were read.
+///
+/// # Errors
+///
+/// Those of `turn`, but for `Read`.
+pub fn answer_front<S: Service, R: Read, W: Write>(
+    chunks: &mut Chunks<R>,
+    service: &mut S,
+    run: &mut Served,
+    writer: &mut W,
+    many: usize,
+    limit: u64,
+) -> Result<Option<Count>, RunFault>
+    requires chunk { IsChunk many (held_text chunks.old) }
+    requires within { run.old.answered ≤ limit }
+    requires shares { S.shares }
+    ensures same { S.setup service.new ≡ S.setup service.old }
+    ensures turns { Turns S.account S.leads limit R.remaining chunks.old service.old run.old (W.contents writer.old)
+        chunks.new service.new run.new (W.contents writer.new) result }
+    ensures held { OnOk result (held_text chunks.new ≡ drop (many - 1) (held_text chunks.old)) }
+{
+    let (text, _) = chunks.held().split_at(many);
+    let over = answer_piece(text, service, run, writer, limit)?;
+    chunks.pass(many);
+    Ok(over)
+}
+
+/// Takes the next step through a text. If whole records are held, these are answered, up to `most` bytes of them. Otherwise all that came is
+/// answered and written out, and only then the reader is asked for more: what comes is held, so that the caller may have other threads read
+/// it. At the end of the text the rest is answered, with the service's last answers. `None` if the run goes on, otherwise how many records
+/// were read. A run answers at most `limit` records.
 ///
 /// # Errors
 ///
 /// `Read` if the reader failed: the records that came whole are answered then, as if there were no more. `Write` if the writer failed,
 /// and `Memory` if memory ran out: what was written is a prefix of the whole text. `TooLong` if the text has more than `limit` records
 /// and none of the first `limit` ends the run: these are answered then.
-pub fn turn<
-    S: Service,
-    R: Read,
-    W: Write,
-    F: Fn(&mut S, &InputRecord, &mut Reply) -> Result<Course, OutOfMemory>,
->(
+pub fn turn<S: Service, R: Read, W: Write>(
     chunks: &mut Chunks<R>,
     service: &mut S,
     run: &mut Served,
     writer: &mut W,
+    most: usize,
     limit: u64,
-    answer: &F,
 ) -> Result<Option<Count>, RunFault>
     requires within { run.old.answered ≤ limit }
-    requires answers { AnswersEach S.account S.leads F.Fn answer.now }
-    ensures { Turns S.account S.leads limit R.remaining chunks.old service.old run.old (W.contents writer.old)
+    requires shares { S.shares }
+    ensures same { S.setup service.new ≡ S.setup service.old }
+    ensures turns { Turns S.account S.leads limit R.remaining chunks.old service.old run.old (W.contents writer.old)
         chunks.new service.new run.new (W.contents writer.new) result }
 {
-    let Some(many) = next_piece(chunks, service, run, writer)? else {
-        let count = finish(chunks, service, run, writer, limit, answer)?;
-        return Ok(Some(count));
-    };
-    let (text, _) = chunks.held().split_at(many);
-    let over = answer_piece(text, service, run, writer, limit, answer)?;
-    chunks.pass(many);
-    Ok(over)
+    let many = chunks.whole(most);
+    if many > 1 {
+        return answer_front(chunks, service, run, writer, many, limit);
+    }
+    if ask_for_more(chunks, service, run, writer)? {
+        return Ok(None);
+    }
+    let count = finish(chunks, service, run, writer, limit)?;
+    Ok(Some(count))
 }
 
 // Answers records until there are no more or one ends the run, or up to `limit` of them.
-fn serve<S: Answering, R: Read, W: Write>(
+fn serve<S: Service, R: Read, W: Write>(
     chunks: &mut Chunks<R>,
     service: &mut S,
     run: &mut Served,
     writer: &mut W,
     limit: u64,
 ) -> Result<Count, RunFault>
-    requires { run.old.answered ≤ limit }
+    requires within { run.old.answered ≤ limit }
+    requires shares { S.shares }
     ensures { Finishes S.account S.leads limit R.remaining chunks.old service.old run.old (W.contents writer.old)
         chunks.new service.new run.new (W.contents writer.new) result }
 {
     'pieces: for _ in 0..u64::MAX {
-        if let Some(count) = turn(chunks, service, run, writer, limit, &S::answer)? {
+        if let Some(count) = turn(chunks, service, run, writer, usize::MAX, limit)? {
             return Ok(count);
         }
     }
@@ -208,13 +215,14 @@ fn serve<S: Answering, R: Read, W: Write>(
 /// `Read` if the reader failed: the records that came whole are answered then, as if there were no more. `Write` if the writer failed,
 /// and `Memory` if memory ran out, or once 2^64 pieces of the text were taken: what was written is a prefix of the whole text. `TooLong`
 /// if the text has more than `limit` records and none of the first `limit` ends the run: these are answered then.
-pub fn run_service<S: Answering, R: Read, W: Write>(
+pub fn run_service<S: Service, R: Read, W: Write>(
     alloc: Global,
     chunks: &mut Chunks<R>,
     writer: &mut W,
     service: &mut S,
     limit: u64,
 ) -> Result<Count, RunFault>
+    requires { S.shares }
     ensures { (input : List ℕ) → HasAll R.remaining chunks.old input → EndsLed S.account S.leads R.remaining chunks.new limit service.old service.new
         (W.contents writer.old) (W.contents writer.new) input result }
 {

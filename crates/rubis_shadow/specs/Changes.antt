@@ -24,10 +24,12 @@ use Rattle.rubis_shadow.specs.Shadows.{new_item, new_user}
 abbrev pub count_up : ℕ → ℕ → ℕ
 count_up a b = min (a + b) (2 ^ 64 - 1)
 
+-- a number that is beyond the range of 64 bits with sign becomes the end of that range
 abbrev pub saturated : ℤ → ℤ
 saturated (pos n) = pos (min n (2 ^ 63 - 1))
 saturated (negsuc n) = negsuc (min n (2 ^ 63 - 1))
 
+-- a sum that saturates
 abbrev pub int_up : ℤ → ℤ → ℤ
 int_up a b = saturated (a +ℤ b)
 
@@ -39,6 +41,7 @@ pub record Done : Type 0 where
 abbrev pub fits_as : Row → Done
 fits_as row = record { row = Some row; misfit = None }
 
+-- the change doesn't fit, for this reason, and leaves this row
 abbrev pub misfits_as : MisfitKind → Option Row → Done
 misfits_as kind row = record { row = row; misfit = Some kind }
 
@@ -51,16 +54,18 @@ abbrev pub better : Option Best → Best → Option Best
 better None new = Some new
 better (Some old) new = cond (nat_lt old.amount new.amount) (Some new) (Some old)
 
+-- the item wasn't closed
 abbrev pub is_open : Sale → Bool
 is_open Open = true
 is_open (Ended winner) = false
 
--- what fits an item that can still be bid for
+-- what fits an item that isn't closed: a bid, a buy or a close; a restock fits any
 abbrev pub if_open : ItemRow → Sale → Done → Done
 if_open item Open done = done
 if_open item (Ended winner) done = misfits_as ClosedItem (Some (Item item))
 
--- an insert wants a free key, and each other change a row of its table, a nickname's that of its user; else the row stays as it is
+-- what a change makes of the row at its key. An insert wants a free key, and each other change a row of its table; else it doesn't fit, and
+-- the row stays as it is. To give a nickname up removes its row if that names the user, and is the misfit OtherUser if it names another
 unfoldable pub change_row : Change → Option Row → Done
 change_row (Insert row) None = fits_as row
 change_row (Insert row) (Some old) = misfits_as RowThere (Some old)
@@ -84,6 +89,7 @@ abbrev pub with_row : Tables → RowKey → Option Row → Tables
 with_row t k None = map.remove t k
 with_row t k (Some row) = map.insert t k row
 
+-- what a part does to the row at its key, and to no other
 abbrev pub doing : Tables → Effect → Done
 doing t e = change_row e.change (map.get t e.key)
 

@@ -6,6 +6,7 @@ use Rattle.rubis_schema.specs.declared.row_keys.RowKey.TheVariants.{Nick}
 use Rattle.rubis_shadow.specs.declared.changes.Change.{Change}
 use Rattle.rubis_shadow.specs.declared.changes.Change.TheVariants.{NickFreed}
 
+-- the key is a nickname's
 abbrev pub IsNick : RowKey → Type 0
 IsNick (Nick n) = ⊤
 IsNick key = ⊥

@@ -26,7 +26,7 @@ use Rattle.rubis_schema.specs.declared.offers.NewItem.{NewItem}
 use Rattle.rubis_shadow.specs.declared.shadows.Shadow.{Shadow}
 use Rattle.rubis_shadow.specs.declared.shadows.Shadow.TheVariants.{User, Item, Bid, Buy, Close, Comment, Restock, Rename}
 
--- users, bids, buys, closes and renames are totally ordered
+-- users, bids, buys, closes and renames are red: they are totally ordered; items, comments and restocks are blue
 abbrev pub is_red : Shadow → Bool
 is_red (User n) = true
 is_red (Item n) = false
@@ -37,10 +37,11 @@ is_red (Comment c) = false
 is_red (Restock r) = false
 is_red (Rename r) = true
 
+-- red or blue
 abbrev pub colour_of : Shadow → Colour
 colour_of shadow = cond (is_red shadow) Red Blue
 
--- restocks and renames came with the second version of the format
+-- the version of a message's record: restocks and renames came with the second version of the format, the six other kinds with the first
 abbrev pub version_of : Shadow → List ℕ
 version_of (User n) = codes "1"
 version_of (Item n) = codes "1"
@@ -66,7 +67,7 @@ abbrev pub new_item : NewItem → ItemRow
 new_item n =
     record { seller = n.seller; name = n.name; cat = n.cat; stock = n.stock; sold = 0; start = n.start; price = n.price; bids = 0; best = None; sale = Open }
 
--- the parts of the shadow with that id and red number
+-- the one to three parts of the shadow with that id and red number, in order, each a change of the row at one key
 abbrev pub parts : Id → ℕ → Shadow → List Effect
 parts id red (User n) =
     part (key.User id) (Insert (row.User (new_user n))) tt
@@ -87,6 +88,7 @@ parts id red (Rename r) =
     part (key.User r.user) (Renamed r.to) tt ∷ part (key.Nick r.from) (NickFreed r.user) tt
     ∷ part (key.Nick r.to) (Insert (row.Nick r.user)) tt ∷ []
 
+-- the key of the one row that the part changes
 abbrev pub key_of : Effect → RowKey
 key_of e = e.key
 
@@ -94,11 +96,12 @@ key_of e = e.key
 abbrev pub footprint_of : Id → Shadow → List RowKey
 footprint_of id shadow = map key_of (parts id 0 shadow)
 
+-- the key of the winning bid, if there is one
 abbrev pub winner_key : Option Id → List RowKey
 winner_key None = []
 winner_key (Some bid) = key.Bid bid ∷ []
 
--- the rows that the shadow takes to be there
+-- the keys of the rows that the shadow takes to be there
 abbrev pub refers_of : Shadow → List RowKey
 refers_of (User n) = []
 refers_of (Item n) = key.User n.seller ∷ []
@@ -121,6 +124,7 @@ pub record IsAmount (n : ℕ) : Type 0 where
   pub positive : 1 ≤ n
   pub small : n ≤ AMOUNT_MAX
 
+-- a new item with its ids and numbers within the limits, among `sites` sites
 pub record IsNewItem (sites : ℕ) (n : NewItem) : Type 0 where
   pub seller : IsId sites n.seller
   pub cat : n.cat < CATEGORIES
@@ -128,16 +132,19 @@ pub record IsNewItem (sites : ℕ) (n : NewItem) : Type 0 where
   pub start : IsAmount n.start
   pub price : n.price ≤ AMOUNT_MAX
 
+-- a bid with its ids and its amount within the limits, among `sites` sites
 pub record IsNewBid (sites : ℕ) (b : NewBid) : Type 0 where
   pub item : IsId sites b.item
   pub bidder : IsId sites b.bidder
   pub amount : IsAmount b.amount
 
+-- a purchase with its ids and its quantity within the limits, among `sites` sites
 pub record IsPurchase (sites : ℕ) (p : PurchaseRow) : Type 0 where
   pub item : IsId sites p.item
   pub buyer : IsId sites p.buyer
   pub quantity : IsQuantity p.quantity
 
+-- a comment with its ids and its rating within the limits, among `sites` sites
 pub record IsComment (sites : ℕ) (c : CommentRow) : Type 0 where
   pub item : IsId sites c.item
   pub from : IsId sites c.from

@@ -14,12 +14,14 @@ use Rattle.rubis_model.specs.Listings.{is_of}
 use Rattle.rubis_shard.specs.declared.groups.Group.{Group}
 use Rattle.rubis_shard.specs.declared.groups.Group.TheVariants as group
 
+-- the listing that shows the rows of the group
 abbrev pub listing_of : Group → Listing
 listing_of (group.Items cat) = listing.Items cat
 listing_of (group.Bids item) = listing.Bids item
 listing_of (group.Purchases item) = listing.Purchases item
 listing_of (group.Comments user) = listing.Comments user
 
+-- the table whose rows these are
 abbrev pub table_of : Group → Table
 table_of (group.Items cat) = table.Items
 table_of (group.Bids item) = table.Bids

@@ -28,7 +28,7 @@ pub record IsSet (ts : List ShardState) : Type 0 where
   pub some : 0 < length ts
   pub order : AreInOrder ts
 
--- the rows of all shards as one map, each row from its home
+-- the rows of all shards as one map, each row from its home: of shards that hold a log, the log's tables
 abbrev pub union : List ShardState → Tables
 union ts = map.from_entries (flat_map (λ s. map.entries (part_of s.shards s.number s.folded.tables)) ts)
 

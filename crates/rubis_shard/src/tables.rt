@@ -1,8 +1,7 @@
 //! The tables: the shards of a site, together.
 
-ghost use Rattle.std.specs.Prelude.{◌≡◌, ◌+◌, ◌<◌, ◌≤◌, [], map as each, length, slice_range, nat_eq, true, false, IfOk, IfErr, IfSome, OnOk, OnErr};
+ghost use Rattle.std.specs.Prelude.{◌≡◌, ◌+◌, ◌<◌, ◌≤◌, [], map as each, length, nat_eq, true, false, IfOk, IfErr, IfSome, OnOk, OnErr};
 ghost use Rattle.std.specs.FinMap as map;
-ghost use Rattle.std.specs.List.{All};
 ghost use Rattle.rubis_schema.specs.Keys.{home};
 ghost use Rattle.rubis_shadow.specs.Tables.{rows_of};
 ghost use Rattle.rubis_shard.specs.Holdings.{AreInOrder, FoldsAtHome, FoldsOn, HoldsLog, IsSet, TakesOn, parts_at, union};
@@ -270,19 +269,6 @@ impl Tables {
             keys.push(row.key())?;
         }
         Ok(Items::from(keys))
-    }
-
-    /// Folds the parts of a share from `from` on, on the shard of its number, until one finds no room. The answer says how
-    /// many of the share's parts are done.
-    pub fn apply(&mut self, share: &Share, from: usize) -> Applied
-        requires there { share.now.number < length self.old }
-        requires home { All (λ n. home (length self.old) n.effect.key ≡ share.now.number) share.now.effects }
-        requires begun { from ≤ length share.now.effects }
-        ensures from { from ≤ result.done }
-        ensures to { result.done ≤ length share.now.effects }
-        ensures folded { FoldsOn share.now.number (slice_range share.now.effects from result.done) self.old self.new }
-    {
-        self.shards[share.number].apply(share, from)
     }
 
     /// Folds the parts of this entry of a log whose home is shard `number`: all of them, or none where memory is refused.

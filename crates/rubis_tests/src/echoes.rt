@@ -5,9 +5,10 @@ ghost use Rattle.std.specs.Prelude.{◌≡◌, ◌∷◌, ◌++◌, None, OnOk, 
 ghost use Rattle.std.specs.Option.{option_to_list};
 ghost use Rattle.rubis_engine.specs.Text.{rows_text};
 
-use rubis_engine::{Answering, Course, InputRecord, OutOfMemory, Reply, Service, Sink};
+use rubis_engine::{Course, InputRecord, OutOfMemory, Reply, RunFault, Service, Sink};
 use rubis_schema::Fields;
 use std::alloc::Global;
+use std::io::Write;
 
 /// Answers each record by itself after `got`, one record late.
 #[derive(Drop)]
@@ -40,26 +41,33 @@ impl Service for Echo {
 
     ghost leads = { λ old n records new. ⊤ };
 
+    ghost Setup = { ⊤ };
+
+    ghost setup = { λ s. tt };
+
+    ghost shares = { ⊤ };
+
     ghost reads_none = { λ s n. refl };
 
     ghost reads_next = { Prim.search rules };
 
-    ghost leads_none = { λ s n. tt };
-
-    fn answer_held(&mut self, sink: &mut Sink) -> Result<(), OutOfMemory> {
-        self.write_last(sink)
-    }
-
-    fn answer_end(&mut self, sink: &mut Sink) -> Result<(), OutOfMemory> {
-        self.write_last(sink)
-    }
-}
-
-impl Answering for Echo {
-    fn answer(&mut self, fields: &InputRecord, reply: &mut Reply) -> Result<Course, OutOfMemory> {
+    fn answer<W: Write>(
+        &mut self,
+        fields: &InputRecord,
+        reply: &mut Reply,
+        _writer: &mut W,
+    ) -> Result<Course, RunFault> {
         let next = fields.to_fields(self.alloc)?;
         self.write_last(&mut reply.sink)?;
         self.last = Some(next);
         Ok(Course::GoesOn)
+    }
+
+    fn answer_held(&mut self, reply: &mut Reply) -> Result<(), OutOfMemory> {
+        self.write_last(&mut reply.sink)
+    }
+
+    fn answer_end(&mut self, reply: &mut Reply) -> Result<(), OutOfMemory> {
+        self.write_last(&mut reply.sink)
     }
 }

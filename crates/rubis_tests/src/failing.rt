@@ -2,7 +2,7 @@
 
 use crate::failing_streams::{FailingDelivery, FailingReader, FailingWriter};
 use crate::transcripts::{take_apart, usual};
-use rubis_world::{Config, Free, RunFault, run_site, run_site_upto};
+use rubis_world::{Config, RunFault, SiteGate, run_site, run_site_upto};
 use std::process::Abort;
 use std::sync::Wait;
 use std::thread::Threads;
@@ -171,7 +171,15 @@ fn a_record_after_any_limit(rt: HostRuntime) {
     for limit in 0..10 {
         let mut out = Vec::new(rt.alloc());
         let said = talk.said.as_bytes();
-        let end = run_site_upto(&rt, rt.alloc(), said, &mut out, &config, limit, Free);
+        let end = run_site_upto(
+            &rt,
+            rt.alloc(),
+            said,
+            &mut out,
+            &config,
+            limit,
+            SiteGate::free(),
+        );
         assert_eq!(rt; end.err(), Some(RunFault::TooLong), "at {limit}");
         assert!(rt; talk.heard.as_bytes().starts_with(out.as_slice()));
         assert!(rt; limit == 0 || out.as_slice().ends_with(b"\n"));

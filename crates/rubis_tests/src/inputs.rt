@@ -1,7 +1,7 @@
 //! Tests of inputs that no conversation of text lines can write down, and of limits.
 
 use crate::transcripts::{run_whole, usual};
-use rubis_world::{Free, RunFault, run_site_upto};
+use rubis_world::{RunFault, SiteGate, run_site_upto};
 
 const ONE_USER_ANSWERED: &str = "\
 reply,1,ok,0.1
@@ -27,7 +27,15 @@ fn a_limit_of_one_record(rt: HostRuntime) {
     let config = usual(&rt, 0, 1);
     let mut out = Vec::new(rt.alloc());
     let input = b"user,ann\nuser,ann\n".as_slice();
-    let end = run_site_upto(&rt, rt.alloc(), input, &mut out, &config, 1, Free);
+    let end = run_site_upto(
+        &rt,
+        rt.alloc(),
+        input,
+        &mut out,
+        &config,
+        1,
+        SiteGate::free(),
+    );
     assert_eq!(rt; end.err(), Some(RunFault::TooLong));
     assert!(rt; out.as_slice() == ONE_USER_ANSWERED.as_bytes());
 }

@@ -1,8 +1,10 @@
 //! Tests in which workers really work at once, in each call that applies a batch.
 
-ghost use Rattle.std.specs.Prelude.{◌≡◌, ◌<◌, ◌≤◌, IfOk};
+ghost use Rattle.std.specs.Prelude.{◌≡◌, ◌<◌, ◌≤◌, IfOk, length};
+ghost use Rattle.rubis_pieces.specs.Batches.{Belong};
 ghost use Rattle.rubis_schema.specs.declared.limits.TheConstants.{WORKERS_MAX};
 ghost use Rattle.rubis_shadow.specs.Shadows.{IsAsk};
+ghost use Rattle.rubis_shard.specs.Holdings.{AreInOrder};
 
 use crate::arrivals::{arrive_three, two_comments};
 use crate::gates::{Halves, Holding, HoldsTwo, Meeting, Numbers, WaitingGate};
@@ -11,13 +13,29 @@ use rubis_message::{Arrival, Request};
 use rubis_pieces::split;
 use rubis_schema::Listing;
 use rubis_shadow::Ask;
-use rubis_shard::{Shard, Tables};
-use rubis_workers::{Worked, apply_beside};
-use rubis_world::{Config, Count, Gate, Site, run_site_upto};
+use rubis_shard::{Shard, Share, Tables};
+use rubis_workers::{Worked, apply_all, apply_beside};
+use rubis_world::{Config, Count, Gate, Site, SiteGate, Watch, run_site_upto};
 use std::alloc::Global;
-use std::sync::Wait;
+use std::sync::{Arc, Wait};
 use std::test::Fail;
 use std::thread::Threads;
+
+// A set of `shards` shards, and an empty share for each.
+fn empty_batch<R: Threads + Wait + Sync>(
+    rt: &R,
+    alloc: Global,
+    shards: usize,
+) -> Result<(Vec<Shard>, Vec<Share>), Fail>
+    requires { 0 < shards }
+    ensures some { IfOk result (λ both. 0 < length both.0.items) }
+    ensures order { IfOk result (λ both. AreInOrder both.0.items) }
+    ensures belong { IfOk result (λ both. Belong both.0.items both.1.items) }
+{
+    let tables = Tables::new(alloc, shards)?;
+    let shares = split(rt, alloc, &[], 1, shards)?;
+    Ok((tables.into_shards(), shares))
+}
 
 // Applies an empty batch to `shards` shards with `workers` workers, while the caller's thread runs `beside`.
 fn apply_none_beside<G: Gate, R: Threads + Wait + Sync, A: Drop, F: FnOnce() -> A + Drop>(
@@ -32,17 +50,8 @@ fn apply_none_beside<G: Gate, R: Threads + Wait + Sync, A: Drop, F: FnOnce() -> 
     requires workers { (0 < workers) × (workers ≤ WORKERS_MAX) }
     requires beside { F.pre beside }
 {
-    let tables = Tables::new(alloc, shards)?;
-    let shares = split(rt, alloc, &[], 1, shards)?;
-    let (worked, answer) = apply_beside(
-        rt,
-        alloc,
-        tables.into_shards(),
-        shares,
-        workers,
-        gate,
-        beside,
-    );
+    let (set, shares) = empty_batch(rt, alloc, shards)?;
+    let (worked, answer) = apply_beside(rt, alloc, set, shares, workers, gate, beside);
     match worked {
         Ok(worked) => Ok((worked, answer)),
         Err(_) => Err(Fail::from("no room")),
@@ -60,8 +69,11 @@ fn apply_none<G: Gate, R: Threads + Wait + Sync>(
     requires shards { 0 < shards }
     requires workers { (0 < workers) × (workers ≤ WORKERS_MAX) }
 {
-    let (worked, ()) = apply_none_beside(rt, alloc, shards, workers, gate, || ())?;
-    Ok(worked)
+    let (set, shares) = empty_batch(rt, alloc, shards)?;
+    match apply_all(rt, alloc, set, shares, workers, gate) {
+        Ok(worked) => Ok(worked),
+        Err(_) => Err(Fail::from("no room")),
+    }
 }
 
 // Whether all of `shards` shards came back, in order of number, with no share left.
@@ -184,15 +196,15 @@ row,user,0.1,ann,0,0,0,0\nrow,user,0.2,bob,0,0,0,0\n";
 
 #[test]
 fn two_workers_meet_in_a_run(rt: HostRuntime) -> Result<(), Fail> {
-    let meeting = Meeting::new();
+    let watch = Arc::new(rt.alloc(), Watch::new(rt.alloc(), 2, 2)?)?;
     let config = Config::new(1, 2, 2, 2, 64, 100).ok_or("a configuration")?;
-    let gate = Holding { meeting: &meeting };
+    let gate = SiteGate::watched(Arc::try_clone(&watch).or(Err("an owner"))?);
     let mut out = Vec::new(rt.alloc());
     let said = SAID.as_bytes();
     let end = run_site_upto(&rt, rt.alloc(), said, &mut out, &config, 100, gate);
     assert_eq!(rt; end, Ok(Count { records: 6 }));
     assert!(rt; out.as_slice() == HEARD.as_bytes());
-    assert!(rt; meeting.met());
+    assert_eq!(rt; watch.most(), 2);
     Ok(())
 }
 

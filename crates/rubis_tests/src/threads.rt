@@ -7,7 +7,7 @@ use crate::batches::many_messages;
 use crate::gates::{Counting, Gathering, Holders};
 use crate::transcripts::add_line;
 use rubis_workers::{LogBatch, Pace, Tables, Workers, apply_batch};
-use rubis_world::{Config, Count, Gate, Site, run_site_upto};
+use rubis_world::{Config, Count, Gate, Site, SiteGate, Watch, run_site_upto};
 use std::alloc::Global;
 use std::sync::atomic::{AtomicU64, Ordering};
 use std::sync::{Arc, Wait};
@@ -17,38 +17,50 @@ use std::thread::Threads;
 /// The number of messages in each run.
 const MESSAGES: u32 = 600;
 
-// MESSAGES messages, of two users, an item, and comments on it, and a listing, which wants all of them applied.
-fn messages_and_listing(alloc: Global) -> Result<String, Fail> {
+// `count` messages, of two users, an item, and comments on it.
+fn messages(alloc: Global, count: u32) -> Result<String, Fail> {
     let mut text = String::new(alloc);
     add_line(&mut text, ANN)?;
     add_line(&mut text, BOB)?;
     add_line(&mut text, CUP)?;
-    for before in 3..MESSAGES {
+    for before in 3..count {
         add_line(&mut text, &comment_behind(alloc, before)?)?;
     }
+    Ok(text)
+}
+
+// MESSAGES messages, and a listing, which wants all of them applied.
+fn messages_and_listing(alloc: Global) -> Result<String, Fail> {
+    let mut text = messages(alloc, MESSAGES)?;
     add_line(&mut text, "list,users")?;
     Ok(text)
 }
 
-// How often the gate is called for each shard in a run over these records, as `Counting` counts. Several workers share five
-// shards; one worker has one.
+// How often the gate is called for each of five shards in a run over these records. Several workers share five shards; one worker has
+// one.
 fn count_calls<R: Threads + Wait + Sync>(
     rt: &R,
     alloc: Global,
     records: &str,
     batch: u32,
     workers: u8,
-) -> Result<u64, Fail> {
-    let taken = AtomicU64::new(0);
+) -> Result<[u64; 5], Fail> {
+    let watch = Arc::new(alloc, Watch::new(alloc, 5, 1)?)?;
     let config = Config::new(1, 2, 5, workers, batch, 1000).ok_or("a configuration")?;
-    let gate = Counting { taken: &taken };
+    let gate = SiteGate::watched(Arc::try_clone(&watch).or(Err("an owner"))?);
     let mut out = Vec::new(alloc);
     let end = run_site_upto(rt, alloc, records.as_bytes(), &mut out, &config, 1000, gate);
     let records = u64::from(MESSAGES).saturating_add(1);
     if end != Ok(Count { records }) {
         return Err(Fail::from("another end"));
     }
-    Ok(taken.load(Ordering::SeqCst))
+    Ok([
+        watch.count(0),
+        watch.count(1),
+        watch.count(2),
+        watch.count(3),
+        watch.count(4),
+    ])
 }
 
 // The counts with one worker, with two and with sixteen.
@@ -57,7 +69,7 @@ fn count_calls_of_workers<R: Threads + Wait + Sync>(
     alloc: Global,
     records: &str,
     batch: u32,
-) -> Result<[u64; 3], Fail> {
+) -> Result<[[u64; 5]; 3], Fail> {
     let one = count_calls(rt, alloc, records, batch, 1)?;
     let two = count_calls(rt, alloc, records, batch, 2)?;
     let sixteen = count_calls(rt, alloc, records, batch, 16)?;
@@ -71,19 +83,39 @@ fn the_gate_is_called_for_each_shard_in_every_application(rt: HostRuntime) -> Re
     let records = messages_and_listing(rt.alloc())?;
     for (batch, batches) in [(1, 600), (3, 200), (200, 3)] {
         let [one, two, sixteen] = count_calls_of_workers(&rt, rt.alloc(), &records, batch)?;
-        assert_eq!(rt; one, batches, "batches of {batch}");
-        let applied = two % 1000;
-        let for_each_of_five = applied.saturating_mul(1_001_001_001_001);
-        assert_eq!(rt;
-            [two, sixteen],
-            [for_each_of_five, for_each_of_five],
-            "batches of {batch}"
-        );
+        assert_eq!(rt; one, [batches, 0, 0, 0, 0], "batches of {batch}");
+        let applied = two[0];
+        assert_eq!(rt; two, [applied; 5], "batches of {batch}");
+        assert_eq!(rt; sixteen, [applied; 5], "batches of {batch}");
         assert!(rt;
             0 < applied && applied <= batches,
             "{applied} batches of {batch}"
         );
     }
+    Ok(())
+}
+
+// More messages than are pending when helpers fold them, and fewer than a batch, at which the site would apply them itself.
+const FOLDED: u32 = 8000;
+
+// The caller's thread and the helper each hold a shard of one batch. No listing asks for the tables, so nothing but the helpers' fold
+// applies a message here: a fold that does nothing leaves no count, and one that the caller's thread does alone meets nobody.
+#[test]
+fn a_helper_folds_beside_the_callers_thread(rt: HostRuntime) -> Result<(), Fail> {
+    let records = messages(rt.alloc(), FOLDED)?;
+    let watch = Arc::new(rt.alloc(), Watch::new(rt.alloc(), 4, 2)?)?;
+    let config = Config::new(1, 2, 4, 2, 8192, 10_000).ok_or("a configuration")?;
+    let gate = SiteGate::watched(Arc::try_clone(&watch).or(Err("an owner"))?);
+    let mut out = Vec::new(rt.alloc());
+    let said = records.as_bytes();
+    let end = run_site_upto(&rt, rt.alloc(), said, &mut out, &config, 10_000, gate);
+    assert_eq!(rt; end, Ok(Count { records: 8000 }));
+    let applied = watch.count(0);
+    assert!(rt; applied > 0);
+    for shard in 1..4 {
+        assert_eq!(rt; watch.count(shard), applied, "shard {shard}");
+    }
+    assert_eq!(rt; watch.most(), 2);
     Ok(())
 }
 

@@ -1,6 +1,6 @@
 //! Batches applied by a team of workers, beside another task or alone.
 
-ghost use Rattle.std.specs.Prelude.{◌≡◌, ◌<◌, ◌≤◌, [], length, min, vec_len, IfOk, IfErr};
+ghost use Rattle.std.specs.Prelude.{◌≡◌, ◌<◌, ◌≤◌, [], length, vec_len, IfOk, IfErr};
 ghost use Rattle.std.specs.List.Sorted.{IsPermutation};
 ghost use Rattle.rubis_schema.specs.declared.limits.TheConstants.{WORKERS_MAX};
 ghost use Rattle.rubis_shard.specs.Holdings.{AreInOrder};
@@ -12,7 +12,6 @@ use crate::gate::Gate;
 use crate::rooms::Rooms;
 use crate::task::FoldShares;
 use crate::team::{TeamJob, Teamwork, fan_out};
-use crate::workers::TeamSetup;
 use rubis_board::Poster;
 use rubis_pieces::{Gathered, Left, Piece, gather};
 use rubis_schema::Items;
@@ -37,16 +36,6 @@ impl From<Gathered> for Worked {
             left: gathered.left,
         }
     }
-}
-
-/// What a team made of a batch, and who took the shards. The latter depends on the schedule, and nothing else does.
-#[derive(Drop)]
-pub struct TeamResult {
-    pub worked: Worked,
-    /// How many threads were to take shards, the caller's included, and any that the system refused to start.
-    pub team: usize,
-    /// How many of the shards threads other than the caller's took.
-    pub others: usize,
 }
 
 /// There was no room to begin. Both lists are as they came.
@@ -95,66 +84,6 @@ fn post_all<R: Wait>(
     poster
 }
 
-/// Folds each share on its shard as `apply_beside` does, by a team that is set up so, and tells who took the shards.
-pub fn apply_by_team<G: Gate, R: Threads + Wait + Sync, A, F: FnOnce() -> A>(
-    rt: &R,
-    setup: &TeamSetup<G>,
-    shards: Vec<Shard>,
-    shares: Vec<Share>,
-    beside: F,
-) -> (Result<TeamResult, Unstarted>, A)
-    requires some { 0 < length shards.items }
-    requires order { AreInOrder shards.items }
-    requires belong { Belong shards.items shares.items }
-    requires workers { (0 < setup.now.most) × (setup.now.most ≤ WORKERS_MAX) }
-    requires beside { F.pre beside }
-    ensures folded { IfOk result.0 (λ r. AreWorked shards.items shares.items r.worked) }
-    ensures batch { IfOk result.0 (λ r. AppliesBatch shards.items shares.items r.worked) }
-    ensures others { IfOk result.0 (λ r. r.others ≤ length shards.items) }
-    ensures alone { setup.now.most ≡ 1 → IfOk result.0 (λ r. r.others ≡ 0) }
-    ensures back { IfErr result.0 (λ unstarted. (unstarted.shards ≡ shards.items) × (unstarted.shares ≡ shares.items)) }
-    ensures answer { F.post beside result.1 }
-    ensures team { IfOk result.0 (λ r. r.team ≡ min setup.now.most (length shards.items)) }
-    ensures few { IfOk result.0 (λ r. (0 < r.team) × (r.team ≤ setup.now.most)) }
-{
-    let pieces = shards.len();
-    let team = setup.most.min(pieces);
-    let Ok(rooms) = Rooms::new(setup.alloc, pieces, team) else {
-        return (Err(Unstarted::new(shards, shares)), beside());
-    };
-    let poster = post_all(rt, rooms.poster, shards, shares);
-    let (board, pass) = poster.open();
-    let Teamwork {
-        pass,
-        list,
-        others,
-        answer,
-    } = fan_out(
-        rt,
-        &TeamJob {
-            board: &board,
-            task: &FoldShares,
-            gate: setup.gate,
-        },
-        pass,
-        rooms.mine,
-        rooms.others,
-        beside,
-    );
-    board.close(pass);
-    match gather(list, rooms.places) {
-        Ok(gathered) => {
-            let result = TeamResult {
-                worked: gathered.into(),
-                team,
-                others,
-            };
-            (Ok(result), answer)
-        }
-        Err(_) => unreachable!(),
-    }
-}
-
 /// Folds each share on its shard, as far as memory goes, by at most `workers` threads, from 1 to 16, and no more than there
 /// are shards. The caller's thread is one of them: once it has started the others it calls `beside`, and then takes shards
 /// too. Each shard goes over the board, one with an empty share too, and the gate is called for each that is taken. Where
@@ -180,15 +109,34 @@ pub fn apply_beside<G: Gate, R: Threads + Wait + Sync, A, F: FnOnce() -> A>(
     ensures back { IfErr result.0 (λ unstarted. (unstarted.shards ≡ shards.items) × (unstarted.shares ≡ shares.items)) }
     ensures answer { F.post beside result.1 }
 {
-    let setup = TeamSetup {
-        most: workers,
-        gate,
-        alloc,
+    let pieces = shards.len();
+    let team = workers.min(pieces);
+    let Ok(rooms) = Rooms::new(alloc, pieces, team) else {
+        return (Err(Unstarted::new(shards, shares)), beside());
     };
-    let (result, answer) = apply_by_team(rt, &setup, shards, shares, beside);
-    match result {
-        Ok(result) => (Ok(result.worked), answer),
-        Err(unstarted) => (Err(unstarted), answer),
+    let poster = post_all(rt, rooms.poster, shards, shares);
+    let (board, pass) = poster.open();
+    let Teamwork {
+        pass,
+        list,
+        others: _,
+        answer,
+    } = fan_out(
+        rt,
+        &TeamJob {
+            board: &board,
+            task: &FoldShares,
+            gate,
+        },
+        pass,
+        rooms.mine,
+        rooms.others,
+        beside,
+    );
+    board.close(pass);
+    match gather(list, rooms.places) {
+        Ok(gathered) => (Ok(gathered.into()), answer),
+        Err(_) => unreachable!(),
     }
 }
 

@@ -14,7 +14,7 @@ mod team;
 mod workers;
 
 pub use applying::{again, apply_alone, apply_batch, stop_all, stop_each};
-pub use batches::{TeamResult, Unstarted, Worked, apply_all, apply_beside, apply_by_team};
+pub use batches::{Unstarted, Worked, apply_all, apply_beside};
 pub use folding::{apply_upto, count_parts};
 pub use following::{Followed, follow_by_team};
 pub use gate::{Free, Gate};

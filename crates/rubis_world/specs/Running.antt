@@ -48,8 +48,10 @@ LeadsWorld old n records new = ComesTo old new (world_after old.keep old.world n
 
 -- ---- the same of the desk that has them
 
-abbrev pub told_by_desk : WorldDesk → ℕ → Account
+-- what the sites of a world's desk make of records, from a number on
+abbrev pub told_by_desk : {T : Type 0} → WorldDesk T → ℕ → Account
 told_by_desk desk n = told_by_world desk.world n
 
-abbrev pub LeadsDesk : WorldDesk → ℕ → List (List (List ℕ)) → WorldDesk → Type 0
+-- the sites of a world's desk are led by these records from one state to another
+abbrev pub LeadsDesk : {T : Type 0} → WorldDesk T → ℕ → List (List (List ℕ)) → WorldDesk T → Type 0
 LeadsDesk old n records new = LeadsWorld old.world n records new.world

@@ -10,18 +10,19 @@ ghost use Rattle.rubis_model.specs.WorldRecords.{logs_of, told_at, world_step};
 ghost use Rattle.rubis_schema.specs.declared.limits.TheConstants.{KEEP_MAX, SITES_MAX};
 ghost use Rattle.rubis_script.specs.Replica.{IsCount};
 ghost use Rattle.rubis_world.specs.SitesWorlds.{Steps, WorldState, opening_world};
-ghost use Rattle.rubis_world.specs.Running.{IsRefused, IsTold, LeadsDesk, told_by_desk};
+ghost use Rattle.rubis_world.specs.Running.{IsRefused, IsTold};
 
 use crate::answers::{write_event, write_no_event, write_refused};
 use crate::config::WorldConfig;
 use crate::faults::WorldFault;
 use crate::world::World;
 use rubis_audit::write_verdict;
-use rubis_engine::{InputRecord, OutOfMemory, Reply, Service, Sink};
+use rubis_engine::{Course, InputRecord, OutOfMemory, Reply, RunFault, Service};
 use rubis_message::{Happened, WorldInput, read_world_input};
 use rubis_schema::Refusal;
 use rubis_script::Fault;
 use std::alloc::{AllocError, Global};
+use std::io::Write;
 use std::sync::Wait;
 use std::thread::Threads;
 
@@ -81,35 +82,39 @@ fn answer_audit<R: Threads + Wait + Sync>(
 
 /// Several sites with what they need to read records and to write their answers.
 #[derive(Drop)]
-pub struct WorldDesk {
+pub struct WorldDesk<'a, T> {
+    rt: &'a T,
     pub world: World,
     alloc: Global,
 }
 
-impl WorldDesk {
+impl<'a, T> WorldDesk<'a, T> {
     /// Sites with nothing done, set up so.
-    pub fn new(alloc: Global, config: &WorldConfig) -> Result<WorldDesk, AllocError>
+    pub fn new(
+        rt: &'a T,
+        alloc: Global,
+        config: &WorldConfig,
+    ) -> Result<WorldDesk<'a, T>, AllocError>
         ensures start { IfOk result (λ desk. desk.world ≡ opening_world config.now.keep config.now.sites) }
         ensures limits { IfOk result (λ _. IsCount config.now.sites SITES_MAX × IsCount config.now.keep KEEP_MAX) }
     {
         Ok(WorldDesk {
+            rt,
             world: World::new(alloc, config)?,
             alloc,
         })
     }
+}
 
+impl<T: Threads + Wait + Sync> WorldDesk<'_, T> {
     /// Answers a record.
-    pub fn respond<R: Threads + Wait + Sync>(
-        &mut self,
-        rt: &R,
-        fields: &InputRecord,
-        reply: &mut Reply,
-    ) -> Result<(), OutOfMemory>
+    pub fn respond(&mut self, fields: &InputRecord, reply: &mut Reply) -> Result<(), OutOfMemory>
         ensures { OnOk result (IsTold self.old.world self.new.world
             (world_step self.old.world.keep self.old.world.world reply.old.number
             (world_input (length self.old.world.world.sites) fields.now)) reply.old.sink reply.new.sink) }
     {
         let input = read_world_input(self.alloc, fields, self.world.sites())?;
+        let rt = self.rt;
         let world = &mut self.world;
         match input {
             WorldInput::Asked(site, Some(request)) => {
@@ -127,22 +132,40 @@ impl WorldDesk {
     }
 }
 
-impl Service for WorldDesk {
+impl<T: Threads + Wait + Sync> Service for WorldDesk<'_, T> {
+    ghost use Rattle.std.specs.Prelude.{⊤};
+    ghost use Rattle.std.specs.Thread.{IsSync};
+    ghost use Rattle.rubis_world.specs.Running.{LeadsDesk, told_by_desk};
+
     ghost account = { told_by_desk };
 
     ghost leads = { LeadsDesk };
+
+    ghost Setup = { ⊤ };
+
+    ghost setup = { λ s. tt };
+
+    ghost shares = { IsSync T.row };
 
     ghost reads_none = { λ s n. refl };
 
     ghost reads_next = { Prim.search rules };
 
-    ghost leads_none = { λ s n. (refl, refl) };
+    fn answer<W: Write>(
+        &mut self,
+        fields: &InputRecord,
+        reply: &mut Reply,
+        _writer: &mut W,
+    ) -> Result<Course, RunFault> {
+        self.respond(fields, reply)?;
+        Ok(Course::GoesOn)
+    }
 
-    fn answer_held(&mut self, _sink: &mut Sink) -> Result<(), OutOfMemory> {
+    fn answer_held(&mut self, _reply: &mut Reply) -> Result<(), OutOfMemory> {
         Ok(())
     }
 
-    fn answer_end(&mut self, _sink: &mut Sink) -> Result<(), OutOfMemory> {
+    fn answer_end(&mut self, _reply: &mut Reply) -> Result<(), OutOfMemory> {
         Ok(())
     }
 }

@@ -16,8 +16,8 @@ pub use desk::WorldDesk;
 pub use faults::WorldFault;
 pub use rubis_message::Happened;
 pub use rubis_script::{
-    Arrived, Config, Count, Desk, Fault, Free, Gate, RunFault, Site, run_desk, run_site,
-    run_site_upto,
+    Arrived, Config, Count, Desk, Fault, Free, Gate, RunFault, Site, SiteGate, Watch, run_desk,
+    run_site, run_site_upto,
 };
 pub use run::{run_world, run_world_chunks, run_world_desk};
 pub use sites::{Sites, packet};

@@ -1,56 +1,24 @@
 //! Several sites over a reader and a writer.
 
 ghost use Rattle.std.specs.Prelude.{◌≡◌, ◌≤◌, ℕ, List};
-ghost use Rattle.rubis_engine.specs.Accounts.{IsAnswer};
 ghost use Rattle.rubis_engine.specs.Progress.{IsRun};
 ghost use Rattle.rubis_reading.specs.Chunked.{HasAll};
 ghost use Rattle.rubis_schema.specs.declared.limits.TheConstants.{COUNTED_MAX, KEEP_MAX, RECORDS_MAX};
 ghost use Rattle.rubis_script.specs.Headline.{OfRead};
-ghost use Rattle.rubis_serving.specs.Serving.{Finishes};
 ghost use Rattle.rubis_world.specs.Headline.{Lead, TellsARun, WorldEndsWhole};
-ghost use Rattle.rubis_world.specs.Running.{LeadsDesk, answers_of_world, told_by_desk, told_by_world};
+ghost use Rattle.rubis_world.specs.Running.{answers_of_world, told_by_world};
 ghost use Rattle.rubis_world.specs.SitesWorlds.{opening_world};
 
 use crate::config::WorldConfig;
 use crate::desk::WorldDesk;
-use rubis_engine::{Count, Course, InputRecord, OutOfMemory, Reply, RunFault};
+use rubis_engine::{Count, RunFault};
 use rubis_reading::Chunks;
 use rubis_schema::RECORDS_MAX;
-use rubis_serving::{BLOCK, Served, turn};
+use rubis_serving::{BLOCK, run_service};
 use std::alloc::Global;
 use std::io::{Read, Write};
 use std::sync::Wait;
 use std::thread::Threads;
-
-// Answers records until there are no more, or up to `limit` of them.
-fn serve<T: Threads + Wait + Sync, R: Read, W: Write>(
-    rt: &T,
-    chunks: &mut Chunks<R>,
-    desk: &mut WorldDesk,
-    run: &mut Served,
-    writer: &mut W,
-    limit: u64,
-) -> Result<Count, RunFault>
-    requires { run.old.answered ≤ limit }
-    ensures { Finishes told_by_desk LeadsDesk limit R.remaining chunks.old desk.old run.old (W.contents writer.old)
-        chunks.new desk.new run.new (W.contents writer.new) result }
-{
-    let answer = |desk: &mut WorldDesk, fields: &InputRecord, reply: &mut Reply| -> Result<
-        Course,
-        OutOfMemory,
-    >
-        ensures { IsAnswer told_by_desk LeadsDesk desk.old desk.new reply.old reply.new fields.now result }
-    {
-        desk.respond(rt, fields, reply)?;
-        Ok(Course::GoesOn)
-    };
-    for _ in rt.forever() {
-        if let Some(count) = turn(chunks, desk, run, writer, limit, &answer)? {
-            return Ok(count);
-        }
-    }
-    unreachable!()
-}
 
 /// Runs the desk of several sites over chunks of text, as `run_world_desk` does over a reader. They are lent: where their reader failed,
 /// they have what came of its input and wasn't answered, in which no record ends, and the reader has the rest.
@@ -59,18 +27,16 @@ fn serve<T: Threads + Wait + Sync, R: Read, W: Write>(
 ///
 /// Those of `run_world_desk`.
 pub fn run_world_chunks<T: Threads + Wait + Sync, R: Read, W: Write>(
-    rt: &T,
     alloc: Global,
     chunks: &mut Chunks<R>,
     writer: &mut W,
-    desk: &mut WorldDesk,
+    desk: &mut WorldDesk<'_, T>,
     limit: u64,
 ) -> Result<Count, RunFault>
     ensures { (input : List ℕ) → HasAll R.remaining chunks.old input → WorldEndsWhole R.remaining chunks.new limit desk.old.world desk.new.world
         (W.contents writer.old) (W.contents writer.new) input result }
 {
-    let mut run = Served::new(alloc);
-    serve(rt, chunks, desk, &mut run, writer, limit)
+    run_service(alloc, chunks, writer, desk, limit)
 }
 
 /// Runs the desk of several sites over the records of `reader` until its end, or up to `limit` of them: appends the text of its
@@ -81,11 +47,10 @@ pub fn run_world_chunks<T: Threads + Wait + Sync, R: Read, W: Write>(
 ///
 /// Those of `run_world`.
 pub fn run_world_desk<T: Threads + Wait + Sync, R: Read + Drop, W: Write>(
-    rt: &T,
     alloc: Global,
     reader: R,
     writer: &mut W,
-    desk: &mut WorldDesk,
+    desk: &mut WorldDesk<'_, T>,
     limit: u64,
 ) -> Result<Count, RunFault>
     ensures run { IsRun (told_by_world desk.old.world 1) limit (R.remaining reader) (W.contents writer.old) (W.contents writer.new) result }
@@ -94,7 +59,7 @@ pub fn run_world_desk<T: Threads + Wait + Sync, R: Read + Drop, W: Write>(
         → TellsARun sites keep limit (R.remaining reader) (W.contents writer.old) (W.contents writer.new) result }
 {
     let mut chunks = Chunks::new(alloc, reader, BLOCK);
-    run_world_chunks(rt, alloc, &mut chunks, writer, desk, limit)
+    run_world_chunks(alloc, &mut chunks, writer, desk, limit)
 }
 
 /// Runs several sites over at most 4,000,000 records of `reader`: appends the text of their answers to `writer`. The answers
@@ -117,6 +82,6 @@ pub fn run_world<T: Threads + Wait + Sync, R: Read + Drop, W: Write>(
         (W.contents writer.new) result }
     ensures text { TellsARun config.now.sites config.now.keep RECORDS_MAX (R.remaining reader) (W.contents writer.old) (W.contents writer.new) result }
 {
-    let mut desk = WorldDesk::new(alloc, config)?;
-    run_world_desk(rt, alloc, reader, writer, &mut desk, RECORDS_MAX)
+    let mut desk = WorldDesk::new(rt, alloc, config)?;
+    run_world_desk(alloc, reader, writer, &mut desk, RECORDS_MAX)
 }

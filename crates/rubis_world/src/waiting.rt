@@ -8,7 +8,7 @@ ghost use Rattle.rubis_world.specs.Waiting.{waiting_account};
 use rubis_audit::write_waits;
 use rubis_engine::{Count, RunFault, Sink};
 use rubis_schema::RECORDS_MAX;
-use rubis_script::{Config, Desk, Free, run_desk};
+use rubis_script::{Config, Desk, SiteGate, run_desk};
 use std::alloc::Global;
 use std::io;
 use std::io::{Read, Write};
@@ -31,9 +31,9 @@ pub fn run_waiting<T: Threads + Wait + Sync, R: Read + Drop, W: Write>(
 ) -> Result<Count, RunFault>
     ensures { IsRun (waiting_account (setup_place config.now)) RECORDS_MAX (R.remaining reader) (W.contents writer.old) (W.contents writer.new) result }
 {
-    let mut desk = Desk::new(alloc, config, Free)?;
+    let mut desk = Desk::new(rt, alloc, config, SiteGate::free())?;
     let mut answers = io::sink();
-    let count = run_desk(rt, alloc, reader, &mut answers, &mut desk, RECORDS_MAX)?;
+    let count = run_desk(alloc, reader, &mut answers, &mut desk, RECORDS_MAX)?;
     let mut waits = Sink::new(alloc);
     write_waits(alloc, &mut waits, desk.site.intake())?;
     waits.close(writer)?;

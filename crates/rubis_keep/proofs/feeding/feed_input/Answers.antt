@@ -1,4 +1,4 @@
-use Rattle.std.proofs.Common.{[], ◌∷◌, arith, refl}
+use Rattle.std.proofs.Common.{◌+◌, [], ◌∷◌, arith, refl}
 use Rattle.rubis_keep.specs.declared.fault.KeepFault.TheVariants as fault
 use Rattle.rubis_keep.proofs.DifferenceFacts.{may-there}
 use Rattle.rubis_keep.proofs.FedFacts.{fails-sooner, fed-fails, fed-none, feeds-failed, feeds-on, finish-failed, finish-full, input-fed, one-fed, put-rows, some-input, step-fed}
@@ -21,14 +21,14 @@ returns-in_err-take_read g c rows inputs =
 
 pub returns-then-not-is_full : goal.returns-then-not-is_full
 returns-then-not-is_full g c =
-    input-fed _ _ c.args.read c.args.clerk.now (record c.args.clerk.now { desk = c.take_read.new.self }) c.args.answers.now refl (omega arith)
-    c.in_ok-take_read.ensures.takes
+    let taken = record c.args.clerk.now { desk = c.take_read.new.self; reply = c.take_read.new.reply; answered = c.args.clerk.now.answered + 1 } in
+    input-fed _ _ c.args.read c.args.clerk.now taken c.args.answers.now refl (omega arith) refl c.in_ok-take_read.ensures.takes
 
 pub returns : goal.returns
 returns g c =
-    let taken = record c.args.clerk.now { desk = c.take_read.new.self } in
+    let taken = record c.args.clerk.now { desk = c.take_read.new.self; reply = c.take_read.new.reply; answered = c.args.clerk.now.answered + 1 } in
     one-fed _ _ c.args.read c.args.clerk.now _ c.args.answers.now _ c.put_sink.result
     (λ fields is. feeds-on _ _ (fields ∷ []) [] c.args.clerk.now taken _ _ _ _ c.put_sink.result
-    (step-fed _ _ fields c.args.read c.args.clerk.now taken _ refl (omega arith) is c.in_ok-take_read.ensures.takes)
-    (put-rows _ _ taken _ _ _ c.put_sink.result refl refl refl refl c.put_sink.ensures.sink c.put_sink.ensures.ok c.put_sink.ensures.err c.put_sink.ensures.told
+    (step-fed _ _ fields c.args.read c.args.clerk.now taken _ refl (omega arith) refl is c.in_ok-take_read.ensures.takes)
+    (put-rows _ _ taken _ _ _ c.put_sink.result refl refl refl c.put_sink.ensures.sink c.put_sink.ensures.ok c.put_sink.ensures.err c.put_sink.ensures.told
     (may-there c.put_sink.result _ _ _ c.put_sink.ensures.differs)))

@@ -1,5 +1,5 @@
 use Rattle.std.proofs.Common.{◌+◌, inl, inr, refl}
-use Rattle.rubis_script.specs.Desks.{left_at}
+use Rattle.rubis_keep.specs.Asking.{still_at}
 use Rattle.rubis_script.specs.SiteRuns.{told_by}
 use Rattle.std.proofs.lemmas.Result.{on_ok_weaker}
 use Rattle.rubis_engine.proofs.RunFacts.{on_ok}
@@ -28,15 +28,16 @@ returns-in_err-flush g c =
 
 pub returns : goal.returns
 returns g c =
-    let told = told-flushed c.args.clerk.now.desk c.flush.new.self c.in_ok-flush.ensures.flushed c.in_ok-flush.ensures.empty in
+    let told = told-flushed c.args.clerk.now.desk c.flush.new.self (c.args.clerk.now.answered + 1) c.args.clerk.now.reply.sink c.flush.new.reply.sink
+    c.in_ok-flush.ensures.flushed c.in_ok-flush.ensures.empty in
     record {
-      ok = on_ok_weaker c.put_sink.result (λ puts. (c.flush.new.self.reply.sink, told, puts)) c.put_sink.ensures.ok;
-      same = on_ok c.put_sink.result (c.in_ok-flush.ensures.flushed.count, c.in_ok-flush.ensures.flushed.leads);
+      ok = on_ok_weaker c.put_sink.result (λ puts. (c.flush.new.reply.sink, told, puts)) c.put_sink.ensures.ok;
+      same = on_ok c.put_sink.result (refl, c.in_ok-flush.ensures.flushed.leads);
       idle = on_ok c.put_sink.result (record { window = c.in_ok-flush.ensures.empty; empty = c.put_sink.ensures.sink });
-      err = on_err_weaker c.put_sink.result (λ front. inr (c.flush.new.self.reply.sink, told, front)) c.put_sink.ensures.err;
+      err = on_err_weaker c.put_sink.result (λ front. inr (c.flush.new.reply.sink, told, front)) c.put_sink.ensures.err;
       told = c.put_sink.ensures.told;
       limit = refl;
-      fault = may-held c.put_sink.result (g.O.Read.remaining c.args.answers.now.before) (left_at c.args.clerk.now.desk)
-          (told_by c.flush.new.self.site (c.args.clerk.now.desk.answered + 1)) c.args.clerk.now.desk.reply.sink c.flush.new.self.reply.sink _ told
+      fault = may-held c.put_sink.result (g.O.Read.remaining c.args.answers.now.before) (still_at c.args.clerk.now)
+          (told_by c.flush.new.self.site (c.args.clerk.now.answered + 1)) c.args.clerk.now.reply.sink c.flush.new.reply.sink _ told
           c.put_sink.ensures.differs;
     }

@@ -12,10 +12,9 @@ pub loop-turn-init : goal.loop-turn-init
 loop-turn-init g c = record {
   next = search rules;
   ends = search rules;
-  rests = record { window = c.requires.idle.window; empty = c.requires.idle.empty; begun = c.requires.begun.0; listed = tt; free = c.requires.begun.1; fits = c.requires.begun.2 };
+  rests = record { window = c.requires.idle.window; empty = c.requires.idle.empty; begun = c.requires.begun; listed = tt };
   stands = λ all told old base line input0 log0 out0 len0 s. s;
   live = refl;
-  readers = refl;
   told = λ off. (refl, ([], tells-none _ _));
   safe = λ keeps live. lives-start _ _ _ _;
   asked = λ p s0 kept line input0 h0 a. a;
@@ -33,7 +32,6 @@ loop-turn-preserved g c =
       stands = λ all told old base line input0 log0 out0 len0 s.
           went.ok all told old base line input0 log0 out0 len0 (before.stands all told old base line input0 log0 out0 len0 s);
       live = c.next_piece.ensures.goes.live ∙ before.live;
-      readers = c.next_piece.ensures.goes.readers ∙ before.readers;
       told = λ off.
           let told = before.told off in
           tells-later _ _ _ _ _ _ told.0 told.1.0 told.1.1 (went.told off);
@@ -55,7 +53,6 @@ returns-in_err-next_piece-clause-goes g c =
       ok = ok-of-err _ c.from_residual.result bad;
       err = on_err _ (gone-failed _ _ _ _ _ _ _ _ _ _ _ _ _ _ _ _ _ _ _ _ before.stands failed.err);
       live = c.next_piece.ensures.goes.live ∙ before.live;
-      readers = c.next_piece.ensures.goes.readers ∙ before.readers;
       told = λ off.
           let told = before.told off in
           told-more _ _ _ _ _ _ c.from_residual.result told.0 told.1.0 told.1.1 (told-failed _ _ _ _ c.from_residual.result bad (failed.told off));
@@ -78,7 +75,6 @@ returns-then-not-branch-clause-goes g c =
           went.ok all told old base line input0 log0 out0 len0 (before.stands all told old base line input0 log0 out0 len0 s);
       err = tt;
       live = c.next_piece.ensures.goes.live ∙ before.live;
-      readers = c.next_piece.ensures.goes.readers ∙ before.readers;
       told = λ off.
           let told = before.told off in
           tells-later _ _ _ _ _ _ told.0 told.1.0 told.1.1 (went.told off);

@@ -5,7 +5,6 @@ use Rattle.rubis_keep.specs.History.{Tells, log_of, out_in}
 use Rattle.rubis_keep.specs.Lives.{Lives}
 use Rattle.rubis_keep.specs.Standing.{IsAtRest, standing}
 use Rattle.rubis_keep.specs.Kept.{InEachStand, Stands, left_of}
-use Rattle.rubis_keep.specs.Reading.{readers}
 use Rattle.rubis_keep.specs.Asking.{Asks, OfEachAsking}
 use Rattle.rubis_keep.proofs.pieces.answer_pieces.Given as goal
 
@@ -20,19 +19,18 @@ invariant-loop-turn g l =
       next : (goal.iterator-loop-turn g).can_next l._turn-iterator;
       ends : (goal.iterator-loop-turn g).is_finite l._turn-iterator;
       rests : IsAtRest (standing input before history l.live l.lines l.clerk l.answers);
-      stands : InEachStand l.keeps (told_by old.desk.site (old.desk.answered + 1)) (left_of l.fn.lines.unread (input l.fn.live)) (log_of l.keeps (history l.fn.answers.files)) (before l.fn.answers.before)
-          (out_in (history l.fn.answers.files)) l.fn.lines.cutter (old.desk.answered + 1) l.fn.lines.kept
-          (λ all told old base line input0 log0 out0 len0. Stands l.keeps all (told_by new.desk.site (new.desk.answered + 1)) told old base line input0 (left_of l.lines.unread (input l.live)) log0
-          (log_of l.keeps (history l.answers.files)) (before l.answers.before) out0 (out_in (history l.answers.files)) l.lines.cutter (new.desk.answered + 1) len0 l.lines.kept);
+      stands : InEachStand l.keeps (told_by old.desk.site (old.answered + 1)) (left_of l.fn.lines.unread (input l.fn.live)) (log_of l.keeps (history l.fn.answers.files)) (before l.fn.answers.before)
+          (out_in (history l.fn.answers.files)) l.fn.lines.cutter (old.answered + 1) l.fn.lines.kept
+          (λ all told old base line input0 log0 out0 len0. Stands l.keeps all (told_by new.desk.site (new.answered + 1)) told old base line input0 (left_of l.lines.unread (input l.live)) log0
+          (log_of l.keeps (history l.answers.files)) (before l.answers.before) out0 (out_in (history l.answers.files)) l.lines.cutter (new.answered + 1) len0 l.lines.kept);
       live : l.answers.is_live ≡ l.fn.answers.is_live;
-      readers : readers l.lines.pieces ≡ readers l.fn.lines.pieces;
       told : l.keeps ≡ false → (l.answers.is_live ≡ l.fn.answers.is_live) × ((text : List ℕ)
           × Tells l.fn.answers.is_live (history l.fn.answers.files) (history l.answers.files) text []);
       safe : l.keeps ≡ true → l.fn.answers.is_live ≡ true
-          → Lives old.desk.site (before l.fn.answers.before) old.desk.answered (history l.fn.answers.files)
-          new.desk.site (before l.answers.before) new.desk.answered (history l.answers.files);
-      asked : OfEachAsking l.keeps (left_of l.fn.lines.unread (input l.fn.live)) (history l.fn.answers.files) l.fn.lines.cutter old.desk.site old.desk.answered
+          → Lives old.desk.site (before l.fn.answers.before) old.answered (history l.fn.answers.files)
+          new.desk.site (before l.answers.before) new.answered (history l.answers.files);
+      asked : OfEachAsking l.keeps (left_of l.fn.lines.unread (input l.fn.live)) (history l.fn.answers.files) l.fn.lines.cutter old.desk.site old.answered
           (λ p s0 kept line input0 h0. Asks l.keeps p s0 kept line input0 (left_of l.lines.unread (input l.live)) h0 (history l.answers.files) l.lines.cutter
-          new.desk.site new.desk.answered []);
-      within : StaysWithin old.limit old.desk.answered new.limit new.desk.answered;
+          new.desk.site new.answered []);
+      within : StaysWithin old.limit old.answered new.limit new.answered;
     }

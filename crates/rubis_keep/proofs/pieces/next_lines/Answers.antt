@@ -1,9 +1,6 @@
-use Rattle.std.proofs.Common.{[], ◌∙◌, ap, arith, refl, rules, subst, sym}
+use Rattle.std.proofs.Common.{[], refl, rules, subst, sym}
 use Rattle.rubis_keep.specs.Lines.{begun_after}
 use Rattle.rubis_keep.specs.Pages.{AreListed}
-use Rattle.rubis_keep.specs.Reading.{AreFree, readers}
-use Rattle.csv.proofs.WriteFacts.{appends-none}
-use Rattle.rubis_keep.proofs.ReadersFacts.{read-on}
 use Rattle.rubis_keep.proofs.AskFacts.{each-asks, each-fails, each-fails-unread, front-silent, kept-silent, on_fault, silent-more, silent-none, told-silent}
 use Rattle.rubis_keep.proofs.EachFacts.{on_err}
 use Rattle.rubis_keep.proofs.FaultFacts.{each-caused, each-failure, err-is}
@@ -23,7 +20,6 @@ returns-in_err-came-clause-goes g c = record {
   ok = ok-of-err _ c.from_residual.result c.from_residual.ensures.0;
   err = on_err _ (each-unkept _ _ _ _ _ _ _ _ _ _ _ (λ line e. unread-front _ line _ _ _ (c.in_err-came.ensures.err.1 line e)));
   live = refl;
-  readers = ap readers c.read_next.ensures.others.2;
   told = λ off. told_none _ _ c.from_residual.result;
   safe = λ keeps live. lives-none _ _ _ _ _ _ _ c.from_residual.result c.from_residual.ensures.0;
   asked = on_fault _ c.from_residual.result c.from_residual.ensures.0 (each-fails-unread _ _ _ _ _ _ _ _ c.in_err-came.ensures.err.1 (silent-none _));
@@ -31,34 +27,12 @@ returns-in_err-came-clause-goes g c = record {
       (λ line e. let f = c.in_err-came.ensures.err.1 line e in (f.0, f.1)));
 }
 
-pub give_chunk-requires : goal.give_chunk-requires
-give_chunk-requires g c = subst AreFree (sym c.read_next.ensures.others.2) c.requires.free
-
--- what came could not be given to helpers
-pub returns-in_err-give_chunk-clause-goes : goal.returns-in_err-give_chunk-clause-goes
-returns-in_err-give_chunk-clause-goes g c =
-    let bad = c.from_residual-in_err-give_chunk.ensures.0 in
-    record {
-      rests = ok-of-err _ c.from_residual-in_err-give_chunk.result bad;
-      ok = ok-of-err _ c.from_residual-in_err-give_chunk.result bad;
-      err = on_err _ (each-unkept _ _ _ _ _ _ _ _ _ _ _ (λ line e.
-          let t = (c.in_ok-came.ensures.ok line e).0 in (t.bytes, t.taken, (0, omega arith, appends-none _))));
-      live = refl;
-      readers = c.give_chunk.ensures.0 ∙ ap readers c.read_next.ensures.others.2;
-      told = λ off. told_none _ _ c.from_residual-in_err-give_chunk.result;
-      safe = λ keeps live. lives-none _ _ _ _ _ _ _ c.from_residual-in_err-give_chunk.result bad;
-      asked = on_fault _ c.from_residual-in_err-give_chunk.result bad (each-fails _ _ _ _ _ _ _ _ _ _ _ _ _ c.in_ok-came.ensures.ok (silent-none _));
-      fault = err-is _ _ c.from_residual-in_err-give_chunk.result _ c.from_residual-in_err-give_chunk.ensures.1
-          (each-failure _ c.args.clerk.now.limit _ _ _ _ _ _ _ _ _ _ c.in_err-give_chunk.ensures.2
-          (λ line e. let t = (c.in_ok-came.ensures.ok line e).0 in (t.bytes, t.taken)));
-    }
-
 -- what came could not be kept
 pub returns-in_err-keep_chunk-clause-goes : goal.returns-in_err-keep_chunk-clause-goes
 returns-in_err-keep_chunk-clause-goes g c =
     let begun = c.requires.begun in
     let t = (c.in_ok-came.ensures.ok begun.0 begun.2).0 in
-    let torn = rw c.deref-2.ensures.value at c.in_err-keep_chunk.ensures.kept in
+    let torn = rw c.deref.ensures.value at c.in_err-keep_chunk.ensures.kept in
     let bad = c.from_residual-in_err-keep_chunk.ensures.0 in
     record {
       rests = ok-of-err _ c.from_residual-in_err-keep_chunk.result bad;
@@ -66,7 +40,6 @@ returns-in_err-keep_chunk-clause-goes g c =
       err = on_err _ (each-torn _ _ _ _ _ _ _ _ _ _ _ _ (torn-out _ _ _ _ torn.3)
           (λ line e. torn-front _ line _ _ _ _ _ _ _ (c.in_ok-came.ensures.ok line e).0 (torn-log _ _ _ _ torn.0 torn.1 torn.2 torn.3)));
       live = refl;
-      readers = c.give_chunk.ensures.0 ∙ ap readers c.read_next.ensures.others.2;
       told = λ off. absurd (cc (off, c.in_err-keep_chunk.ensures.kept.0));
       safe = λ keeps live. lives-torn _ _ _ _ _ _ _ _ c.read_next.new.lines.chunk.items torn.1 c.from_residual-in_err-keep_chunk.result bad
           (piece-lines _ begun.0 t.bytes _ begun.1 t.holds) torn.3;
@@ -81,7 +54,7 @@ pub returns-in_default-clause-goes : goal.returns-in_default-clause-goes
 returns-in_default-clause-goes g c =
     let begun = c.requires.begun in
     let t = (c.in_ok-came.ensures.ok begun.0 begun.2).0 in
-    let kept = rw c.deref-2.ensures.value at c.in_ok-keep_chunk.ensures.kept in
+    let kept = rw c.deref.ensures.value at c.in_ok-keep_chunk.ensures.kept in
     record {
       rests = tt;
       ok = tt;
@@ -89,7 +62,6 @@ returns-in_default-clause-goes g c =
           (λ line e. took-kept _ line _ _ _ _ _ _ _ (c.in_ok-came.ensures.ok line e).0 (kept-log _ _ _ _ kept))
           (unanswered-kept _ _ _ _ _ _ (kept-out _ _ _ _ kept) (took-whole _ begun.0 [] _ _ _ _ _ _ _ t));
       live = refl;
-      readers = c.give_chunk.ensures.0 ∙ ap readers c.read_next.ensures.others.2;
       told = λ off. (refl, ([], [], tells-after _ _ _ _ [] [] (rw off at c.in_ok-keep_chunk.ensures.kept) (tells-none _ _)));
       safe = λ keeps live all p s0 h is rested.
           (piece-unanswered all p s0 _ _ _ h _ c.read_next.new.lines.chunk.items rested (piece-lines _ begun.0 t.bytes _ begun.1 t.holds) (rw is at (rw keeps at kept)), tt);
@@ -98,47 +70,43 @@ returns-in_default-clause-goes g c =
           (λ line e. let t = (c.in_ok-came.ensures.ok line e).0 in (t.bytes, t.taken));
     }
 
-pub feed_chunk-requires-clause-text : goal.feed_chunk-requires-clause-text
-feed_chunk-requires-clause-text g c κs within =
+pub feed_chunk-requires : goal.feed_chunk-requires
+feed_chunk-requires g c =
     let begun = c.requires.begun in (
-      rw c.deref-4.ensures.value (took-whole _ begun.0 [] _ _ _ _ _ _ _ (c.in_ok-came.ensures.ok begun.0 begun.2).0),
-      record { window = c.requires.window; empty = c.requires.empty },
+      search rules,
+      (
+        rw c.deref-3.ensures.value (took-whole _ begun.0 [] _ _ _ _ _ _ _ (c.in_ok-came.ensures.ok begun.0 begun.2).0),
+        record { window = c.requires.window; empty = c.requires.empty },
+      ),
     )
-
-pub feed_chunk-requires-clause-given : goal.feed_chunk-requires-clause-given
-feed_chunk-requires-clause-given g c κs within = (
-  search rules,
-  read-on _ _ c.args.lines.now.pieces _ (c.give_chunk.ensures.0 ∙ ap readers c.read_next.ensures.others.2) refl c.requires.fits,
-)
 
 -- it could not be answered
 pub returns-in_err-feed_chunk-clause-goes : goal.returns-in_err-feed_chunk-clause-goes
 returns-in_err-feed_chunk-clause-goes g c =
     let begun = c.requires.begun in
     let t = (c.in_ok-came.ensures.ok begun.0 begun.2).0 in
-    let kept = rw c.deref-2.ensures.value at c.in_ok-keep_chunk.ensures.kept in
+    let kept = rw c.deref.ensures.value at c.in_ok-keep_chunk.ensures.kept in
     let bad = c.from_residual-in_err-feed_chunk.ensures.0 in
     record {
       rests = ok-of-err _ c.from_residual-in_err-feed_chunk.result bad;
       ok = ok-of-err _ c.from_residual-in_err-feed_chunk.result bad;
       err = on_err _ (each-unanswered _ _ _ _ _ _ _ _ _ _ _ c.read_next.new.lines.chunk.items _ _ _
           (λ line e. took-kept _ line _ _ _ _ _ _ _ (c.in_ok-came.ensures.ok line e).0
-          (appends-kept _ _ _ _ (kept-log _ _ _ _ kept) (told-log _ _ _ _ _ c.feed_chunk.result c.feed_chunk.ensures.chunk.told)))
-          (each-kept _ _ _ _ _ _ (kept-out _ _ _ _ kept) (rw c.deref-4.ensures.value at c.in_err-feed_chunk.ensures.chunk.err)));
-      live = c.feed_chunk.ensures.chunk.told.0;
-      readers = c.feed_chunk.ensures.read.0 ∙ c.give_chunk.ensures.0 ∙ ap readers c.read_next.ensures.others.2;
+          (appends-kept _ _ _ _ (kept-log _ _ _ _ kept) (told-log _ _ _ _ _ c.feed_chunk.result c.feed_chunk.ensures.told)))
+          (each-kept _ _ _ _ _ _ (kept-out _ _ _ _ kept) (rw c.deref-3.ensures.value at c.in_err-feed_chunk.ensures.err)));
+      live = c.feed_chunk.ensures.told.0;
       told = λ off. told-after _ _ _ _ _ c.from_residual-in_err-feed_chunk.result (rw off at c.in_ok-keep_chunk.ensures.kept)
-          (told-failed _ _ _ _ c.from_residual-in_err-feed_chunk.result bad c.in_err-feed_chunk.ensures.chunk.told);
+          (told-failed _ _ _ _ c.from_residual-in_err-feed_chunk.result bad c.in_err-feed_chunk.ensures.told);
       safe = λ keeps live. lives-err _ _ _ _ _ _ _ _ c.feed_chunk.result c.from_residual-in_err-feed_chunk.result bad
-          (piece-safe c.args.clerk.now.desk.site c.feed_chunk.new.clerk.desk.site c.args.clerk.now.desk.answered c.feed_chunk.new.clerk.desk.answered _ _ _ _ _
+          (piece-safe c.args.clerk.now.desk.site c.feed_chunk.new.clerk.desk.site c.args.clerk.now.answered c.feed_chunk.new.clerk.answered _ _ _ _ _
           c.read_next.new.lines.chunk.items _ _ c.feed_chunk.result live (piece-lines _ begun.0 t.bytes _ begun.1 t.holds)
-          (rw keeps at kept) c.feed_chunk.ensures.chunk.told (rw c.deref-4.ensures.value at c.feed_chunk.ensures.chunk.ok)
-          (rw c.deref-4.ensures.value at c.feed_chunk.ensures.chunk.err) (rw c.deref-4.ensures.value at c.feed_chunk.ensures.chunk.leads));
+          (rw keeps at kept) c.feed_chunk.ensures.told (rw c.deref-3.ensures.value at c.feed_chunk.ensures.ok)
+          (rw c.deref-3.ensures.value at c.feed_chunk.ensures.err) (rw c.deref-3.ensures.value at c.feed_chunk.ensures.leads));
       asked = on_fault _ c.from_residual-in_err-feed_chunk.result bad (each-fails _ _ _ _ _ _ _ _ _ _ _ _ _ c.in_ok-came.ensures.ok
-          (silent-more _ _ _ (kept-silent _ _ _ _ c.in_ok-keep_chunk.ensures.kept) (told-silent _ _ _ _ c.feed_chunk.result c.feed_chunk.ensures.chunk.told)));
+          (silent-more _ _ _ (kept-silent _ _ _ _ c.in_ok-keep_chunk.ensures.kept) (told-silent _ _ _ _ c.feed_chunk.result c.feed_chunk.ensures.told)));
       fault = err-is _ _ c.from_residual-in_err-feed_chunk.result _ c.from_residual-in_err-feed_chunk.ensures.1
           (each-caused _ c.args.clerk.now.limit _ _ _ _ _ _ _ _ _ _ c.read_next.new.lines.chunk.items _ _ _ _ (λ line e. (c.in_ok-came.ensures.ok line e).0)
-          (each-kept _ _ _ _ _ _ (kept-out _ _ _ _ kept) (rw c.deref-4.ensures.value at c.in_err-feed_chunk.ensures.chunk.fault)));
+          (each-kept _ _ _ _ _ _ (kept-out _ _ _ _ kept) (rw c.deref-3.ensures.value at c.in_err-feed_chunk.ensures.fault)));
     }
 
 -- it was
@@ -146,38 +114,35 @@ pub returns-clause-goes : goal.returns-clause-goes
 returns-clause-goes g c =
     let begun = c.requires.begun in
     let t = (c.in_ok-came.ensures.ok begun.0 begun.2).0 in
-    let kept = rw c.deref-2.ensures.value at c.in_ok-keep_chunk.ensures.kept in
-    let led = rw c.deref-4.ensures.value at c.in_ok-feed_chunk.ensures.chunk.leads in
+    let kept = rw c.deref.ensures.value at c.in_ok-keep_chunk.ensures.kept in
+    let led = rw c.deref-3.ensures.value at c.in_ok-feed_chunk.ensures.leads in
     record {
       rests = record {
-        window = c.in_ok-feed_chunk.ensures.chunk.idle.window;
-        empty = c.in_ok-feed_chunk.ensures.chunk.idle.empty;
+        window = c.in_ok-feed_chunk.ensures.idle.window;
+        empty = c.in_ok-feed_chunk.ensures.idle.empty;
         begun = (begun_after begun.0 t.bytes, begun-no-end begun.0 t.bytes begun.1, t.begun);
         listed = listed-after c.args.clerk.now.desk.site.place c.args.clerk.now.desk.site.state _ c.read_next.new.lines.chunk.items _ _
             (subst (AreListed c.args.clerk.now.desk.site.state) (sym c.read_next.ensures.others.1) c.requires.listed)
-            (rw c.deref-3.ensures.value at c.let_go.ensures) led.state;
-        free = c.in_ok-feed_chunk.ensures.read.1;
-        fits = read-on _ _ c.args.lines.now.pieces _ (c.feed_chunk.ensures.read.0 ∙ c.give_chunk.ensures.0 ∙ ap readers c.read_next.ensures.others.2) (ap (λ p. p.sites) led.place) c.requires.fits;
+            (rw c.deref-2.ensures.value at c.let_go.ensures) led.state;
       };
       ok = each-more _ _ _ _ _ _ _ _ _ _ _ _ _ c.read_next.new.lines.chunk.items _ _ _ _ _
           (λ line e. took-kept _ line _ _ _ _ _ _ _ (c.in_ok-came.ensures.ok line e).0
-          (appends-kept _ _ _ _ (kept-log _ _ _ _ kept) (told-log _ _ _ _ _ c.feed_chunk.result c.feed_chunk.ensures.chunk.told)))
-          (each-kept _ _ _ _ _ _ (kept-out _ _ _ _ kept) (rw c.deref-4.ensures.value at c.in_ok-feed_chunk.ensures.chunk.ok))
+          (appends-kept _ _ _ _ (kept-log _ _ _ _ kept) (told-log _ _ _ _ _ c.feed_chunk.result c.feed_chunk.ensures.told)))
+          (each-kept _ _ _ _ _ _ (kept-out _ _ _ _ kept) (rw c.deref-3.ensures.value at c.in_ok-feed_chunk.ensures.ok))
           (search rules);
       err = tt;
-      live = c.feed_chunk.ensures.chunk.told.0;
-      readers = c.feed_chunk.ensures.read.0 ∙ c.give_chunk.ensures.0 ∙ ap readers c.read_next.ensures.others.2;
+      live = c.feed_chunk.ensures.told.0;
       told = λ off.
-          let told = c.in_ok-feed_chunk.ensures.chunk.told in
+          let told = c.in_ok-feed_chunk.ensures.told in
           (told.0, (told.1.0, tells-after _ _ _ _ told.1.0 [] (rw off at c.in_ok-keep_chunk.ensures.kept) told.1.1));
       safe = λ keeps live. lives-known _ _ _ _ _ _ _ _ c.feed_chunk.result _ c.in_ok-feed_chunk.was
-          (piece-safe c.args.clerk.now.desk.site c.feed_chunk.new.clerk.desk.site c.args.clerk.now.desk.answered c.feed_chunk.new.clerk.desk.answered _ _ _ _ _
+          (piece-safe c.args.clerk.now.desk.site c.feed_chunk.new.clerk.desk.site c.args.clerk.now.answered c.feed_chunk.new.clerk.answered _ _ _ _ _
           c.read_next.new.lines.chunk.items _ _ c.feed_chunk.result live (piece-lines _ begun.0 t.bytes _ begun.1 t.holds)
-          (rw keeps at kept) c.feed_chunk.ensures.chunk.told (rw c.deref-4.ensures.value at c.feed_chunk.ensures.chunk.ok)
-          (rw c.deref-4.ensures.value at c.feed_chunk.ensures.chunk.err) (rw c.deref-4.ensures.value at c.feed_chunk.ensures.chunk.leads));
+          (rw keeps at kept) c.feed_chunk.ensures.told (rw c.deref-3.ensures.value at c.feed_chunk.ensures.ok)
+          (rw c.deref-3.ensures.value at c.feed_chunk.ensures.err) (rw c.deref-3.ensures.value at c.feed_chunk.ensures.leads));
       asked = each-asks _ _ _ _ _ _ _ _ _ _ _ _ _ _ _ c.in_ok-came.ensures.ok
-          (silent-more _ _ _ (kept-silent _ _ _ _ c.in_ok-keep_chunk.ensures.kept) (told-silent _ _ _ _ c.feed_chunk.result c.feed_chunk.ensures.chunk.told)) led;
-      fault = c.in_ok-feed_chunk.ensures.chunk.fault;
+          (silent-more _ _ _ (kept-silent _ _ _ _ c.in_ok-keep_chunk.ensures.kept) (told-silent _ _ _ _ c.feed_chunk.result c.feed_chunk.ensures.told)) led;
+      fault = c.in_ok-feed_chunk.ensures.fault;
     }
 
 pub returns-clause-end : goal.returns-clause-end

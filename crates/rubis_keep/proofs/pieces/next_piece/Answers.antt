@@ -18,7 +18,6 @@ returns-in_err-came-clause-goes g c =
       ok = ok-of-err _ c.from_residual.result bad;
       err = on_err _ failed.err;
       live = failed.live;
-      readers = failed.readers;
       told = λ off. told-failed _ _ _ _ c.from_residual.result bad (failed.told off);
       safe = λ keeps live. lives-err _ _ _ _ _ _ _ _ c.next_lines.result c.from_residual.result bad (c.next_lines.ensures.goes.safe keeps live);
       asked = on_fault _ c.from_residual.result bad failed.asked;
@@ -31,19 +30,18 @@ returns-in_err-reply_if-clause-goes g c =
     let went = c.in_ok-came.ensures.goes in
     let bad = c.from_residual-in_err-reply_if.ensures.0 in
     let same = c.reply_if.ensures.still.same in
-    let mid = c.next_lines.new.clerk.desk in
+    let mid = c.next_lines.new.clerk in
     let still = replied-still _ _ _ c.reply_if.result _ _ c.reply_if.ensures.replied in
     record {
       rests = ok-of-err _ c.from_residual-in_err-reply_if.result bad;
       ok = ok-of-err _ c.from_residual-in_err-reply_if.result bad;
       err = on_err _ (each-late _ _ _ _ _ _ _ _ _ _ _ _ _ _ _ _ _ _ _ went.ok (still-log _ _ _ still) still.1);
       live = c.reply_if.ensures.still.before.1 ∙ went.live;
-      readers = went.readers;
       told = λ off. absurd (cc (off, c.in_ok-came.ensures.question c.in_err-reply_if.ensures.replied.0));
       safe = λ keeps live. lives-more _ _ _ _ _ _ _ _ _ _ _ _ c.from_residual-in_err-reply_if.result
           (lives-known _ _ _ _ _ _ _ _ c.next_lines.result _ c.in_ok-came.was (c.next_lines.ensures.goes.safe keeps live))
           (lives-any _ _ _ _ _ _ _ _ c.from_residual-in_err-reply_if.result
-          (reply-lives mid.site c.reply_if.new.clerk.desk.site _ _ mid.answered c.reply_if.new.clerk.desk.answered _ _ _ c.reply_if.result _
+          (reply-lives mid.desk.site c.reply_if.new.clerk.desk.site _ _ mid.answered c.reply_if.new.clerk.answered _ _ _ c.reply_if.result _
           c.reply_if.ensures.replied same.place same.state (ap g.O.Read.remaining c.reply_if.ensures.still.before.0) same.answered));
       asked = on_fault _ c.from_residual-in_err-reply_if.result bad
           (each-unreplied _ _ _ _ _ _ _ _ _ _ _ _ _ _ went.asked (rw c.deref.ensures.value at c.in_err-reply_if.ensures.replied));
@@ -56,7 +54,7 @@ pub returns-clause-goes : goal.returns-clause-goes
 returns-clause-goes g c =
     let went = c.in_ok-came.ensures.goes in
     let same = c.reply_if.ensures.still.same in
-    let mid = c.next_lines.new.clerk.desk in
+    let mid = c.next_lines.new.clerk in
     let still = replied-still _ _ _ c.reply_if.result _ _ c.reply_if.ensures.replied in
     record {
       rests = record {
@@ -64,23 +62,20 @@ returns-clause-goes g c =
         empty = same.sink ∙ went.rests.empty;
         begun = went.rests.begun;
         listed = rw same.state c.reply_if.ensures.still.listed;
-        free = went.rests.free;
-        fits = rw same.place went.rests.fits;
       };
       ok = rw (
-        told-same mid.site c.reply_if.new.clerk.desk.site mid.answered c.reply_if.new.clerk.desk.answered same.place same.state same.answered,
+        told-same mid.desk.site c.reply_if.new.clerk.desk.site mid.answered c.reply_if.new.clerk.answered same.place same.state same.answered,
         same.answered,
         c.reply_if.ensures.still.before.0,
       )
           (each-still _ _ _ _ _ _ _ _ _ _ _ _ _ _ _ _ _ _ _ went.ok (still-log _ _ _ still) still.1);
       err = tt;
       live = c.reply_if.ensures.still.before.1 ∙ went.live;
-      readers = went.readers;
       told = λ off. told-on _ _ _ _ _ _ c.in_ok-came.came.is_asked _ _ (not-asked _ _ c.in_ok-came.ensures.question off) (went.told off)
           c.reply_if.ensures.still.before.1 c.in_ok-reply_if.ensures.replied;
       safe = λ keeps live. lives-join _ _ _ _ _ _ _ _ _ _ _ _
           (lives-known _ _ _ _ _ _ _ _ c.next_lines.result _ c.in_ok-came.was (c.next_lines.ensures.goes.safe keeps live))
-          (reply-lives mid.site c.reply_if.new.clerk.desk.site _ _ mid.answered c.reply_if.new.clerk.desk.answered _ _ _ c.reply_if.result _
+          (reply-lives mid.desk.site c.reply_if.new.clerk.desk.site _ _ mid.answered c.reply_if.new.clerk.answered _ _ _ c.reply_if.result _
           c.reply_if.ensures.replied same.place same.state (ap g.O.Read.remaining c.reply_if.ensures.still.before.0) same.answered);
       asked = each-replied _ _ _ _ _ _ _ _ _ _ _ _ _ _ _ _ went.asked (rw c.deref.ensures.value at c.in_ok-reply_if.ensures.replied) same.place same.state
           same.answered;

@@ -9,8 +9,8 @@ use Rattle.rubis_keep.proofs.TellingFacts.{none-told-at-end}
 use Rattle.rubis_keep.proofs.run.go_on.Goals as goal
 
 -- what was kept could not be cut off
-pub returns-in_err-cut_and_flush-clause-lives : goal.returns-in_err-cut_and_flush-clause-lives
-returns-in_err-cut_and_flush-clause-lives g c =
+pub returns-in_err-cut_and_flush : goal.returns-in_err-cut_and_flush
+returns-in_err-cut_and_flush g c =
     let bad = c.from_residual.ensures.0 in
     let cut = c.in_err-cut_and_flush.ensures.err in
     record {
@@ -24,8 +24,8 @@ returns-in_err-cut_and_flush-clause-lives g c =
     }
 
 -- it could not be said
-pub returns-in_err-tell_replayed-clause-lives : goal.returns-in_err-tell_replayed-clause-lives
-returns-in_err-tell_replayed-clause-lives g c =
+pub returns-in_err-tell_replayed : goal.returns-in_err-tell_replayed
+returns-in_err-tell_replayed g c =
     let bad = c.from_residual-in_err-tell_replayed.ensures.0 in
     let cut = c.in_ok-cut_and_flush.ensures.ok in
     let untold = c.in_err-tell_replayed.ensures.err in
@@ -33,7 +33,7 @@ returns-in_err-tell_replayed-clause-lives g c =
       ok = ok-of-err _ c.from_residual-in_err-tell_replayed.result bad;
       err = on_err _ (begin-fails _ _ _ _ _ _ _ _ cut untold);
       safe = λ all p s kept old h is sound found led r. go-safe-untold all _ p s kept old _ h _ _ _ _ sound found (rw is at r)
-          (none-told-at-end c.args.clerk.now.desk.site (c.args.clerk.now.desk.answered + 1)) (rw is at cut) untold;
+          (none-told-at-end c.args.clerk.now.desk.site (c.args.clerk.now.answered + 1)) (rw is at cut) untold;
       shown = λ all p s kept old h is sound found led r. ok-of-err _ c.from_residual-in_err-tell_replayed.result bad;
       asked = λ p s kept sound led. replies-none p s kept _ _ _ c.from_residual-in_err-tell_replayed.result bad
           (silent-more _ _ _ (silent-cut _ _ _ cut) (silent-unbegun _ _ untold));
@@ -41,8 +41,8 @@ returns-in_err-tell_replayed-clause-lives g c =
           c.from_residual-in_err-tell_replayed.ensures.1 (failure-true c.args.clerk.now.limit all kept old [] _ c.in_err-tell_replayed.ensures.fault);
     }
 
-pub returns-clause-lives : goal.returns-clause-lives
-returns-clause-lives g c =
+pub returns : goal.returns
+returns g c =
     let flushed = c.in_ok-cut_and_flush.ensures.ok in
     let told = c.in_ok-tell_replayed.ensures.ok in
     let cut = begun-cut _ _ _ _ _ _ flushed told in
@@ -63,8 +63,5 @@ returns-clause-lives g c =
           c.answer_pieces.ensures.goes.ok c.answer_pieces.ensures.end c.answer_pieces.ensures.goes.fault;
     }
 
-pub returns-clause-readers : goal.returns-clause-readers
-returns-clause-readers g c = c.answer_pieces.ensures.goes.readers
-
 pub answer_pieces-requires-clause-begun : goal.answer_pieces-requires-clause-begun
-answer_pieces-requires-clause-begun g c κs within = (([], tt, c.new.ensures), c.requires.free.0, c.requires.free.1)
+answer_pieces-requires-clause-begun g c κs within = ([], tt, c.new.ensures)

@@ -24,8 +24,6 @@ returns-in-Ok g c =
           (none-told c.args.clerk.now.desk.site 1) lines.cutter answered lines.kept went c.in-Ok.ensures.end end.0 end.1))
           c.check_end.ensures.end;
       idle = on_ok c.check_end.result (record { window = c.in-Ok.ensures.goes.rests.window; empty = c.in-Ok.ensures.goes.rests.empty });
-      free = on_ok c.check_end.result (c.in-Ok.ensures.goes.rests.free, c.in-Ok.ensures.goes.rests.fits);
-      readers = c.in-Ok.ensures.goes.readers;
       err = on_err _ (replay-unfound (told_by c.args.clerk.now.desk.site) (told_by c.answer_pieces.new.clerk.desk.site) _ _ _ _ _ _ _ _ _ _ _ _ _
           (none-told c.args.clerk.now.desk.site 1) lines.cutter answered lines.kept
           (ap (λ files. out_in (g.F.SiteFiles.history files)) c.check_end.ensures.files) went);
@@ -34,7 +32,7 @@ returns-in-Ok g c =
           (none-unread _ _ lines.unread ∙ b.past_is) b.sound);
       fault = replay-ends (told_by c.args.clerk.now.desk.site) (told_by c.answer_pieces.new.clerk.desk.site) c.args.clerk.now.limit _ _ _ _ _ _ _ _ _ _ _ _ _
           c.check_end.result _ c.in-Ok.ensures.goes.fault (none-told c.args.clerk.now.desk.site 1)
-          (none-told-at-end c.answer_pieces.new.clerk.desk.site (c.answer_pieces.new.clerk.desk.answered + 1)) lines.cutter answered lines.kept went
+          (none-told-at-end c.answer_pieces.new.clerk.desk.site (c.answer_pieces.new.clerk.answered + 1)) lines.cutter answered lines.kept went
           c.in-Ok.ensures.end c.check_end.ensures.differs;
     }
 
@@ -45,8 +43,6 @@ returns-in-Err g c =
     record {
       ok = tt;
       idle = tt;
-      free = tt;
-      readers = c.in-Err.ensures.goes.readers;
       err = replay-err (told_by c.args.clerk.now.desk.site) _ _ _ _ _ _ _ _ _ _
           (none-told c.args.clerk.now.desk.site 1) lines.cutter c.requires.fresh.1 lines.kept
           (rw (none-unread c.args.lines.now.unread (g.P.Read.remaining c.args.past.now) lines.unread) at c.in-Err.ensures.goes.err);
@@ -58,4 +54,4 @@ returns-in-Err g c =
     }
 
 pub answer_pieces-requires-clause-begun : goal.answer_pieces-requires-clause-begun
-answer_pieces-requires-clause-begun g c κs within = (([], tt, c.requires.fresh.0.cutter), c.requires.free.0, c.requires.free.1)
+answer_pieces-requires-clause-begun g c κs within = ([], tt, c.requires.fresh.0.cutter)

@@ -1,4 +1,4 @@
-use Rattle.std.proofs.Common.{◌∙◌, []}
+use Rattle.std.proofs.Common.{[]}
 use Rattle.rubis_script.specs.SiteRuns.{told_by}
 use Rattle.std.proofs.lemmas.Result.{on_ok_weaker}
 use Rattle.rubis_script.specs.SiteRuns.{told_by}
@@ -12,8 +12,8 @@ use Rattle.rubis_keep.proofs.SafeFacts.{ok-of-err}
 use Rattle.rubis_keep.proofs.StartFacts.{run-safe, run-safe-start, run-safe-unreplayed, run-shown}
 use Rattle.rubis_keep.proofs.run.run_lines.Goals as goal
 
-pub returns-in_err-check_kept-clause-runs : goal.returns-in_err-check_kept-clause-runs
-returns-in_err-check_kept-clause-runs g c = record {
+pub returns-in_err-check_kept : goal.returns-in_err-check_kept
+returns-in_err-check_kept g c = record {
   ok = ok-of-err _ c.from_residual.result c.from_residual.ensures.0;
   err = on_err _ (run-unread _ _ _ _ _ _ _);
   safe = λ off h kept old is o opened. rw is (stays-none (says_of c.args.clerk.now.desk.site.place c.args.clerk.now.desk.site.state) h opened.safe);
@@ -23,8 +23,8 @@ returns-in_err-check_kept-clause-runs g c = record {
       (edited-true c.args.clerk.now.limit (told_by c.args.clerk.now.desk.site 1) kept old _ _ o.first_is c.in_err-check_kept.ensures.edited);
 }
 
-pub returns-in_err-flush-clause-runs : goal.returns-in_err-flush-clause-runs
-returns-in_err-flush-clause-runs g c = record {
+pub returns-in_err-flush : goal.returns-in_err-flush
+returns-in_err-flush g c = record {
   ok = ok-of-err _ c.from_residual-in_err-flush.result c.from_residual-in_err-flush.ensures.0;
   err = let still = still-none _ _ c.in_err-flush.ensures.done in
       on_err _ (run-unflushed _ _ _ _ _ _ _ _ _ still.0 still.1);
@@ -35,8 +35,8 @@ returns-in_err-flush-clause-runs g c = record {
       c.from_residual-in_err-flush.ensures.1 (failure-true c.args.clerk.now.limit (told_by c.args.clerk.now.desk.site 1) kept old [] _ c.in_err-flush.ensures.fault);
 }
 
-pub returns-in_err-replay-clause-runs : goal.returns-in_err-replay-clause-runs
-returns-in_err-replay-clause-runs g c = record {
+pub returns-in_err-replay : goal.returns-in_err-replay
+returns-in_err-replay g c = record {
   ok = ok-of-err _ c.from_residual-in_err-replay.result c.from_residual-in_err-replay.ensures.0;
   err = let still = still-flushed _ _ c.in_ok-flush.ensures.done in
       on_err _ (run-unreplayed _ _ _ _ _ _ _ _ _ _ _ c.in_ok-check_kept.ensures.sound still.0 still.1 (told-kept _ _ _ _ c.replay.result c.replay.ensures.told)
@@ -52,39 +52,30 @@ returns-in_err-replay-clause-runs g c = record {
       c.from_residual-in_err-replay.ensures.1 (c.in_err-replay.ensures.fault kept old b);
 }
 
-pub returns-clause-runs : goal.returns-clause-runs
-returns-clause-runs g c = record {
+pub returns : goal.returns
+returns g c = record {
   ok = let still = still-flushed _ _ c.in_ok-flush.ensures.done in
       on_ok_weaker c.go_on.result (run-lived _ _ _ _ _ _ _ _ _ _ _ _ _ _ _ _ _ _ c.in_ok-check_kept.ensures.sound still.0 still.1
-      (told-kept _ _ _ _ c.replay.result c.replay.ensures.told) c.in_ok-replay.ensures.ok) c.go_on.ensures.lives.ok;
+      (told-kept _ _ _ _ c.replay.result c.replay.ensures.told) c.in_ok-replay.ensures.ok) c.go_on.ensures.ok;
   err = let still = still-flushed _ _ c.in_ok-flush.ensures.done in
       on_err_weaker c.go_on.result (run-ended _ _ _ _ _ _ _ _ _ _ _ _ _ _ _ _ _ _ c.in_ok-check_kept.ensures.sound still.0 still.1
-      (told-kept _ _ _ _ c.replay.result c.replay.ensures.told) c.in_ok-replay.ensures.ok) c.go_on.ensures.lives.err;
+      (told-kept _ _ _ _ c.replay.result c.replay.ensures.told) c.in_ok-replay.ensures.ok) c.go_on.ensures.err;
   safe = λ off h kept old is o opened.
       let s = c.args.clerk.now.desk.site in
       run-safe (told_by s 1) s.place s.state c.replay.new.clerk.desk.site _ _ _ _ h _ _ _ _ _ _ _ kept old off c.in_ok-check_kept.ensures.sound o opened
-      (rw is at c.in_ok-flush.ensures.done) c.in_ok-replay.ensures.told c.in_ok-replay.ensures.ok c.in_ok-replay.ensures.led c.go_on.ensures.lives.safe;
+      (rw is at c.in_ok-flush.ensures.done) c.in_ok-replay.ensures.told c.in_ok-replay.ensures.ok c.in_ok-replay.ensures.led c.go_on.ensures.safe;
   shown = λ off h kept old is o opened.
       let s = c.args.clerk.now.desk.site in
       run-shown (told_by s 1) s.place s.state c.replay.new.clerk.desk.site _ _ _ _ h _ _ _ _ _ _ _ kept old c.go_on.result off
       c.in_ok-check_kept.ensures.sound o opened (rw is at c.in_ok-flush.ensures.done) c.in_ok-replay.ensures.told c.in_ok-replay.ensures.ok
-      c.in_ok-replay.ensures.led c.go_on.ensures.lives.shown;
+      c.in_ok-replay.ensures.led c.go_on.ensures.shown;
   asked = λ kept old o. let still = still-flushed _ _ c.in_ok-flush.ensures.done in
       let b = run-begins _ _ _ _ _ _ _ c.in_ok-check_kept.ensures.sound still.0 still.1 kept old o in
       replies-after _ _ kept _ _ _ _ _ c.go_on.result
       (silent-more _ _ _ (silent-flushed _ _ c.in_ok-flush.ensures.done) (told-silent _ _ _ _ c.replay.result c.replay.ensures.told))
-      (c.go_on.ensures.lives.asked _ _ kept b.sound (c.in_ok-replay.ensures.led kept old b));
+      (c.go_on.ensures.asked _ _ kept b.sound (c.in_ok-replay.ensures.led kept old b));
   fault = λ kept old o. let still = still-flushed _ _ c.in_ok-flush.ensures.done in
       let b = run-begins _ _ _ _ _ _ _ c.in_ok-check_kept.ensures.sound still.0 still.1 kept old o in
-      ends-on c.args.clerk.now.limit _ _ _ (told_by c.args.clerk.now.desk.site 1) kept old _ _ c.go_on.result c.in_ok-replay.ensures.fault c.requires.idle.2
-      (c.go_on.ensures.lives.fault (told_by c.args.clerk.now.desk.site 1) kept old b.sound (c.in_ok-replay.ensures.ok kept old b));
+      ends-on c.args.clerk.now.limit _ _ _ (told_by c.args.clerk.now.desk.site 1) kept old _ _ c.go_on.result c.in_ok-replay.ensures.fault c.requires.2
+      (c.go_on.ensures.fault (told_by c.args.clerk.now.desk.site 1) kept old b.sound (c.in_ok-replay.ensures.ok kept old b));
 }
-
-pub returns-in_err-replay-clause-readers : goal.returns-in_err-replay-clause-readers
-returns-in_err-replay-clause-readers g c = c.replay.ensures.readers
-
-pub returns-clause-readers : goal.returns-clause-readers
-returns-clause-readers g c = c.go_on.ensures.readers ∙ c.replay.ensures.readers
-
-pub go_on-requires-clause-free : goal.go_on-requires-clause-free
-go_on-requires-clause-free g c κs within = c.in_ok-replay.ensures.free

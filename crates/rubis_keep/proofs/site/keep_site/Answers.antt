@@ -29,3 +29,6 @@ returns-in_err-clerk-clause-fault g c kept old o =
 
 pub returns-clause-fault : goal.returns-clause-fault
 returns-clause-fault g c = rw (c.in_ok-clerk.ensures.site.0, c.in_ok-clerk.ensures.site.1, c.in_ok-clerk.ensures.limit) at c.run_kept-ended.ensures.fault
+
+pub returns-clause-ok : goal.returns-clause-ok
+returns-clause-ok g c = rw (c.in_ok-clerk.ensures.site.0, c.in_ok-clerk.ensures.site.1) at c.run_kept-ended.ensures.ok

@@ -1,30 +1,45 @@
-use Rattle.std.proofs.Common.{◌≡◌, ◌∙◌, ◌≤◌, All, ap, arith, length, refl, subst, sym}
-use Rattle.rubis_message.specs.Message.{sites_of}
+use Rattle.std.proofs.Common.{◌≡◌, ◌∙◌, ◌≤◌, ◌+◌, All, ap, arith, length, refl, subst, sym}
 use Rattle.rubis_message.specs.Inputs.{FitsIn}
-use Rattle.rubis_script.proofs.LoopFacts.{all-sites}
-use Rattle.std.proofs.lemmas.Result.{on_ok_weaker}
+use Rattle.rubis_message.specs.Message.{sites_of}
+use Rattle.rubis_engine.proofs.EndFacts.{ends_memory, ends_on}
 use Rattle.rubis_reading.specs.Runs.{FitsWindow, of_stretch}
 use Rattle.rubis_reading.proofs.RunFacts.{came-length}
-use Rattle.rubis_script.proofs.StepFacts.{takes-messages, takes-next}
+use Rattle.rubis_script.proofs.StretchFacts.{all-sites, breaks-next, breaks-none, goes-messages, goes-next}
 use Rattle.rubis_script.proofs.answering.answer_stretch.Goals as goal
 
-pub returns-in_ok-flush-in-Messages : goal.returns-in_ok-flush-in-Messages
-returns-in_ok-flush-in-Messages g c =
+pub returns-in_err-flush-in-Messages-clause-answered : goal.returns-in_err-flush-in-Messages-clause-answered
+returns-in_err-flush-in-Messages-clause-answered g c =
+    ends_memory _ _ _ c.from_residual.result c.from_residual.ensures
+    (breaks-none (of_stretch c.args.stretch) c.args.desk.now c.args.run.now (g.W.Write.contents c.args.writer.now))
+
+pub returns-in_ok-flush-in-Messages-clause-answered : goal.returns-in_ok-flush-in-Messages-clause-answered
+returns-in_ok-flush-in-Messages-clause-answered g c =
     let list = c.in-Messages.list in
     let flushed = c.in_ok-flush-in-Messages.ensures in
     let size : c.len-many.result ≡ length list.items = omega (arith, c.len-many.ensures, list.ok) in
-    rw c.in-Messages.is (takes-messages c.args.desk.now c.flush.new.self _ list.items flushed.same flushed.flushed flushed.empty refl refl refl refl
-    (omega (arith, size)))
+    let count : c.args.run.now.answered + c.len-many.result ≡ c.args.run.now.answered + length list.items = ap (λ k. c.args.run.now.answered + k) size in
+    rw c.in-Messages.is (
+      goes-messages c.args.desk.now c.flush.new.self _ c.args.run.now _ list.items (g.W.Write.contents c.args.writer.now) flushed.same flushed.flushed
+          flushed.empty refl refl refl refl count,
+      count ∙ ap (λ k. c.args.run.now.answered + k) (sym (came-length list.items)),
+    )
 
-pub returns-in-One : goal.returns-in-One
-returns-in-One g c =
-    on_ok_weaker c.take_read.result
-    (λ takes. rw c.in-One.is (takes-next c.args.desk.now c.take_read.new.self c.in-One.read c.take_read.ensures.same takes)) c.take_read.ensures.takes
+pub returns-in_err-take-in-One-clause-answered : goal.returns-in_err-take-in-One-clause-answered
+returns-in_err-take-in-One-clause-answered g c =
+    ends_on _ _ c.from_residual-in_err-take-in-One.result c.in_err-take-in-One.field-0.0 c.from_residual-in_err-take-in-One.ensures absurd absurd
+    (λ breaks. rw c.in-One.is (breaks-next c.args.desk.now c.args.run.now c.in-One.read _ _ breaks)) c.in_err-take-in-One.ensures.takes
 
-pub overflow_add-desk : goal.overflow_add-desk
-overflow_add-desk g c =
+pub returns-in_ok-take-in-One-clause-answered : goal.returns-in_ok-take-in-One-clause-answered
+returns-in_ok-take-in-One-clause-answered g c =
+    rw c.in-One.is (
+      goes-next c.args.desk.now c.take.new.self c.args.run.now _ c.in-One.read _ _ c.in_ok-take-in-One.ensures.same c.in_ok-take-in-One.ensures.takes refl,
+      refl,
+    )
+
+pub overflow_add-run : goal.overflow_add-run
+overflow_add-run g c =
     let is = ap (λ r. length (of_stretch r)) c.in-Messages.is in
-    omega (arith, is, came-length c.in-Messages.list.items, c.len-many.ensures, c.in-Messages.list.ok, c.in_ok-flush-in-Messages.ensures.flushed.count, c.requires.room)
+    omega (arith, is, came-length c.in-Messages.list.items, c.len-many.ensures, c.in-Messages.list.ok, c.requires.room)
 
 pub invariant_of-desk : goal.invariant_of-desk
 invariant_of-desk g c =
@@ -34,7 +49,7 @@ invariant_of-desk g c =
     let sites = all-sites c.args.desk.now.site.place.sites list.items fits in
     let room = subst (λ r. FitsWindow c.args.desk.now.plan.window r) c.in-Messages.is c.requires.window c.args.desk.now.some in
     let same = c.in_ok-flush-in-Messages.ensures.same in
-    let size : c.len-many.result ≡ length list.items = omega (arith, c.len-many.ensures, list.ok) in
+    let is = ap (λ r. length (of_stretch r)) c.in-Messages.is in
     record {
       same = d.same;
       few = d.few;
@@ -42,5 +57,5 @@ invariant_of-desk g c =
       most = d.most;
       held = subst (λ k. All (λ m. sites_of m ≡ k) list.items) (sym (d.same ∙ ap (λ p. p.sites) same.0)) sites;
       fits = subst (λ p. length list.items ≤ p.window) (sym same.1) room;
-      so_far = omega (arith, size);
+      numbered = omega (arith, is, came-length list.items, c.requires.room);
     }

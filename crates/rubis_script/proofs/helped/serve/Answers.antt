@@ -1,8 +1,7 @@
 use Rattle.std.proofs.Common.{◌∙◌, refl}
 use Rattle.rubis_engine.proofs.EndFacts.{ends_on}
 use Rattle.rubis_engine.proofs.RunFacts.{if_none}
-use Rattle.rubis_reading.proofs.AheadFacts.{match-some}
-use Rattle.rubis_script.proofs.ChunkFacts.{match-none}
+use Rattle.rubis_reading.proofs.AheadFacts.{match-none, match-some}
 use Rattle.rubis_script.proofs.helped.serve.Goals as goal
 
 pub loop-init : goal.loop-init
@@ -21,7 +20,7 @@ returns-in_err-count-clause-run g c =
     ends_on _ _ c.from_residual.result c.in_err-count.field-0.0 c.from_residual.ensures
     (λ long first old input h. long first old input (stands first old input h))
     (λ whole first old input h. whole first old input (stands first old input h))
-    (λ prefix first old input h. prefix first old input (stands first old input h)) c.in_err-count.ensures.run
+    (λ prefix first old input h. prefix first old input (stands first old input h)) c.in_err-count.ensures.turns
 
 pub returns-in_err-count-clause-crews : goal.returns-in_err-count-clause-crews
 returns-in_err-count-clause-crews g c =
@@ -29,7 +28,7 @@ returns-in_err-count-clause-crews g c =
 
 pub returns-in-Some-2-clause-run : goal.returns-in-Some-2-clause-run
 returns-in-Some-2-clause-run g c first old input h =
-    match-some c.in_ok-count.field-0 _ _ c.in-Some-2.count c.in_ok-count.ensures.run c.in-Some-2.is first old input (c.loop.invariant.stands first old input h)
+    match-some c.in_ok-count.field-0 _ _ c.in-Some-2.count c.in_ok-count.ensures.turns c.in-Some-2.is first old input (c.loop.invariant.stands first old input h)
 
 pub returns-in-Some-2-clause-crews : goal.returns-in-Some-2-clause-crews
 returns-in-Some-2-clause-crews g c =
@@ -37,7 +36,7 @@ returns-in-Some-2-clause-crews g c =
 
 pub loop-preserved : goal.loop-preserved
 loop-preserved g c =
-    let (goes, within, setup, nearer) = match-none c.in_ok-count.field-0 _ _ c.in_ok-count.ensures.run c.in_default.is in
+    let (goes, within, nearer) = match-none c.in_ok-count.field-0 _ _ c.in_ok-count.ensures.turns c.in_default.is in
     record {
       next = tt;
       ends = tt;

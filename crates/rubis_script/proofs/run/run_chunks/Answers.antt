@@ -1,17 +1,19 @@
-use Rattle.std.proofs.Common.{[], refl, subst}
+use Rattle.std.proofs.Common.{subst}
 use Rattle.rubis_replica.specs.State.{SiteState}
+use Rattle.rubis_serving.proofs.ServedFacts.{ends_led}
+use Rattle.rubis_script.specs.Desks.{LeadsSite, left_at}
 use Rattle.rubis_script.specs.Runs.{EndsWhole}
-use Rattle.rubis_script.proofs.LoopFacts.{ends_ahead}
+use Rattle.rubis_script.proofs.EndFacts.{led_site}
 use Rattle.rubis_script.proofs.run.run_chunks.Goals as goal
 
 pub returns-then-desk-eq0 : goal.returns-then-desk-eq0
 returns-then-desk-eq0 g c input all =
     let old = g.W.Write.contents c.args.writer.now in
-    let now = g.W.Write.contents c.serve.new.writer in
-    subst (λ (s : SiteState). EndsWhole g.R.Read.remaining c.serve.new.chunks c.args.limit s c.serve.new.desk.site old now input c.serve.result)
+    let now = g.W.Write.contents c.run_service.new.writer in
+    subst (λ (s : SiteState). EndsWhole g.R.Read.remaining c.run_service.new.chunks c.args.limit s c.run_service.new.service.site old now input c.run_service.result)
     c.start.ensures.site
-    (ends_ahead g.R.Read.remaining c.args.chunks.now c.serve.new.chunks c.start.new.self c.serve.new.desk [] c.args.limit input old now
-    c.serve.result all refl c.start.ensures.fresh c.serve.ensures)
+    (led_site g.R.Read.remaining c.run_service.new.chunks c.args.limit c.start.new.self c.run_service.new.service old now input c.run_service.result
+    c.start.ensures.fresh (c.run_service.ensures input all))
 
 pub returns : goal.returns
 returns g c input all =
@@ -19,5 +21,7 @@ returns g c input all =
     let now = g.W.Write.contents c.run_helped.new.writer in
     subst (λ (s : SiteState). EndsWhole g.R.Read.remaining c.run_helped.new.chunks c.args.limit s c.run_helped.new.desk.site old now input c.run_helped.result)
     c.start.ensures.site
-    (ends_ahead g.R.Read.remaining c.args.chunks.now c.run_helped.new.chunks c.start.new.self c.run_helped.new.desk [] c.args.limit input old now
-    c.run_helped.result all refl c.start.ensures.fresh c.run_helped.ensures)
+    (led_site g.R.Read.remaining c.run_helped.new.chunks c.args.limit c.start.new.self c.run_helped.new.desk old now input c.run_helped.result
+    c.start.ensures.fresh
+    (ends_led left_at LeadsSite g.R.Read.remaining c.args.chunks.now c.run_helped.new.chunks c.start.new.self c.run_helped.new.desk c.new-run.result
+    c.run_helped.new.run c.args.limit input old now c.run_helped.result all c.new-run.ensures.empty c.new-run.ensures.none c.run_helped.ensures))

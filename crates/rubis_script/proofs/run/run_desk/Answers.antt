@@ -1,5 +1,5 @@
 use Rattle.rubis_script.proofs.LeadFacts.{as_process, ends_led, ends_run}
-use Rattle.rubis_script.proofs.LoopFacts.{reader_ends}
+use Rattle.rubis_script.proofs.EndFacts.{reader_ends}
 use Rattle.rubis_script.proofs.run.run_desk.Goals as goal
 
 pub returns-clause-run : goal.returns-clause-run

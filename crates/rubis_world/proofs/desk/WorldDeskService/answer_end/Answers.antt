@@ -4,4 +4,4 @@ use Rattle.rubis_world.proofs.desk.WorldDeskService.answer_end.Goals as goal
 
 pub returns-clause-text : goal.returns-clause-text
 unfolding world_answers
-returns-clause-text c = λ n. append-nil c.args._sink.now
+returns-clause-text g c = λ n. append-nil c.args._reply.now.sink
