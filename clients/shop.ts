@@ -10,6 +10,7 @@ export class ProblemError extends Error {
 
 export interface ServerEvent {
   event: string;
+  id?: string;
   data: unknown;
 }
 
@@ -34,10 +35,10 @@ export interface Item {
   start: number;
   price: number;
   bids: number;
-  best: string;
+  best: string | null;
   amount: number;
-  state: string;
-  winner: string;
+  state: "open" | "closed";
+  winner: string | null;
 }
 
 export interface Bid {
@@ -75,7 +76,7 @@ export interface Category {
 }
 
 export interface Misfit {
-  kind: string;
+  kind: "NoRow" | "RowThere" | "ClosedItem" | "StockShort" | "OtherUser";
   entry: number;
   part: number;
   id: string;
@@ -91,6 +92,11 @@ export interface Log {
   message: string;
 }
 
+export interface Stand {
+  messages: number;
+  behind: number;
+}
+
 export interface UserPage {
   rows: Array<User>;
   next: string | null;
@@ -99,6 +105,7 @@ export interface UserPage {
 export interface ItemPage {
   rows: Array<Item>;
   next: string | null;
+  view?: Stand;
 }
 
 export interface BidPage {
@@ -131,15 +138,70 @@ export interface LogPage {
   next: string | null;
 }
 
+export interface ItemSeen {
+  kind: "item";
+  id: string;
+  seller: string;
+  name: string;
+  category: number;
+  stock: number;
+  sold: number;
+  start: number;
+  price: number;
+  bids: number;
+  best: string | null;
+  amount: number;
+  state: "open" | "closed";
+  winner: string | null;
+  seen: string | null;
+  entry: number;
+}
+
+export interface UserItems {
+  rows: Array<{ kind: "item"; id: string; seller: string; name: string; category: number; stock: number; sold: number; start: number; price: number; bids: number; best: string | null; amount: number; state: "open" | "closed"; winner: string | null; seen: string | null; entry: number }>;
+  next: string | null;
+  view: Stand;
+}
+
+export interface UserBids {
+  rows: Array<{ kind: "bid"; id: string; item: string; bidder: string; amount: number; red: number; seen: string | null; entry: number; item_row: ItemSeen | null }>;
+  next: string | null;
+  view: Stand;
+}
+
+export interface UserPurchases {
+  rows: Array<{ kind: "purchase"; id: string; item: string; buyer: string; quantity: number; seen: string | null; entry: number; item_row: ItemSeen | null }>;
+  next: string | null;
+  view: Stand;
+}
+
+export interface UserComments {
+  rows: Array<{ kind: "comment"; id: string; item: string; from: string; to: string; rating: number; text: string; seen: string | null; entry: number; item_row: ItemSeen | null }>;
+  next: string | null;
+  view: Stand;
+}
+
+export interface Health {
+  ok: boolean;
+  sites?: Record<string, unknown>;
+}
+
+export interface View {
+  site: number;
+  messages: number;
+  counts: Array<number>;
+  behind: number;
+}
+
 export type Ask =
-  | { ask: "user"; nickname: string | number; key?: string }
-  | { ask: "item"; seller: string | number; name: string | number; category: string | number; stock: string | number; start: string | number; price: string | number; key?: string }
-  | { ask: "bid"; item: string | number; bidder: string | number; amount: string | number; key?: string }
-  | { ask: "buy"; item: string | number; buyer: string | number; quantity: string | number; key?: string }
-  | { ask: "close"; item: string | number; seller: string | number; key?: string }
-  | { ask: "comment"; item: string | number; from: string | number; to: string | number; rating: string | number; text: string | number; key?: string }
-  | { ask: "restock"; item: string | number; seller: string | number; quantity: string | number; key?: string }
-  | { ask: "rename"; user: string | number; nickname: string | number; key?: string }
+  | { ask: "user"; nickname: string; key?: string }
+  | { ask: "item"; seller: string; name: string; category: string | number; stock: string | number; start: string | number; price: string | number; key?: string }
+  | { ask: "bid"; item: string; bidder: string; amount: string | number; key?: string }
+  | { ask: "buy"; item: string; buyer: string; quantity: string | number; key?: string }
+  | { ask: "close"; item: string; seller: string; key?: string }
+  | { ask: "comment"; item: string; from: string; to: string; rating: string | number; text: string; key?: string }
+  | { ask: "restock"; item: string; seller: string; quantity: string | number; key?: string }
+  | { ask: "rename"; user: string; nickname: string; key?: string }
   | { record: string; key?: string };
 
 export interface Told {
@@ -172,6 +234,9 @@ export interface Kind {
 export interface Verdict {
   verdict: string;
   agrees: boolean;
+  log?: number;
+  entry?: number;
+  record?: number;
 }
 
 export interface Site {
@@ -179,14 +244,14 @@ export interface Site {
   state: string;
   since?: string;
   own?: number;
-  turn?: number;
-  records?: number;
-  records_left?: number;
   messages?: number;
   sent?: number;
   published?: number;
-  waiting?: number;
   held?: number;
+  records?: number;
+  records_left?: number;
+  turn?: number;
+  waiting?: number;
   starts?: number;
   faults?: number;
   holds_token?: boolean;
@@ -198,6 +263,7 @@ export interface Site {
 export interface Shop {
   well: boolean;
   token?: number | null;
+  view?: number | null;
   sites: Array<Site>;
 }
 
@@ -254,6 +320,16 @@ export class ShopClient {
     return (await (await this.send("GET", `/problems/${encodeURIComponent(name)}`, "application/json", {}, {})).json()) as Kind;
   }
 
+  /** That this server runs. */
+  async getHealth(): Promise<Health> {
+    return (await (await this.send("GET", `/healthz`, "application/json", {}, {})).json()) as Health;
+  }
+
+  /** Whether a site here takes asks; 503 if none does, or not the one that is named. */
+  async getReadiness(options: { site?: number } = {}): Promise<Health> {
+    return (await (await this.send("GET", `/readyz`, "application/json", { "site": options.site }, {})).json()) as Health;
+  }
+
   /** How the shop and each of its sites is. */
   async getSites(): Promise<Shop> {
     return (await (await this.send("GET", `/sites`, "application/json", {}, {})).json()) as Shop;
@@ -281,68 +357,88 @@ export class ShopClient {
   }
 
   /** The users as a site has them, a page at a time. */
-  async listUsers(site: number, options: { nickname?: string; after?: string; limit?: number; timeout?: number } = {}): Promise<UserPage> {
-    return (await (await this.send("GET", `/sites/${encodeURIComponent(site)}/users`, "application/json", { "nickname": options.nickname, "after": options.after, "limit": options.limit, "timeout": options.timeout }, {})).json()) as UserPage;
+  async listUsers(site: number, options: { nickname?: string; after?: string; limit?: number; behind?: string; timeout?: number } = {}): Promise<UserPage> {
+    return (await (await this.send("GET", `/sites/${encodeURIComponent(site)}/users`, "application/json", { "nickname": options.nickname, "after": options.after, "limit": options.limit, "behind": options.behind, "timeout": options.timeout }, {})).json()) as UserPage;
   }
 
   /** One of the users. */
-  async getUser(site: number, key: string, options: { timeout?: number } = {}): Promise<User> {
-    return (await (await this.send("GET", `/sites/${encodeURIComponent(site)}/users/${encodeURIComponent(key)}`, "application/json", { "timeout": options.timeout }, {})).json()) as User;
+  async getUser(site: number, key: string, options: { behind?: string; timeout?: number } = {}): Promise<User> {
+    return (await (await this.send("GET", `/sites/${encodeURIComponent(site)}/users/${encodeURIComponent(key)}`, "application/json", { "behind": options.behind, "timeout": options.timeout }, {})).json()) as User;
   }
 
   /** The items as a site has them, a page at a time. */
-  async listItems(site: number, options: { category: number; after?: string; limit?: number; timeout?: number }): Promise<ItemPage> {
-    return (await (await this.send("GET", `/sites/${encodeURIComponent(site)}/items`, "application/json", { "category": options.category, "after": options.after, "limit": options.limit, "timeout": options.timeout }, {})).json()) as ItemPage;
+  async listItems(site: number, options: { category?: number; seller?: string; open?: boolean; q?: string; sort?: "-entry" | "entry" | "-amount" | "amount" | "-price" | "price"; after?: string; limit?: number; behind?: string; timeout?: number } = {}): Promise<ItemPage> {
+    return (await (await this.send("GET", `/sites/${encodeURIComponent(site)}/items`, "application/json", { "category": options.category, "seller": options.seller, "open": options.open, "q": options.q, "sort": options.sort, "after": options.after, "limit": options.limit, "behind": options.behind, "timeout": options.timeout }, {})).json()) as ItemPage;
   }
 
   /** One of the items. */
-  async getItem(site: number, key: string, options: { timeout?: number } = {}): Promise<Item> {
-    return (await (await this.send("GET", `/sites/${encodeURIComponent(site)}/items/${encodeURIComponent(key)}`, "application/json", { "timeout": options.timeout }, {})).json()) as Item;
+  async getItem(site: number, key: string, options: { behind?: string; timeout?: number } = {}): Promise<Item> {
+    return (await (await this.send("GET", `/sites/${encodeURIComponent(site)}/items/${encodeURIComponent(key)}`, "application/json", { "behind": options.behind, "timeout": options.timeout }, {})).json()) as Item;
   }
 
   /** The bids as a site has them, a page at a time. */
-  async listBids(site: number, options: { item: string; after?: string; limit?: number; timeout?: number }): Promise<BidPage> {
-    return (await (await this.send("GET", `/sites/${encodeURIComponent(site)}/bids`, "application/json", { "item": options.item, "after": options.after, "limit": options.limit, "timeout": options.timeout }, {})).json()) as BidPage;
+  async listBids(site: number, options: { item: string; after?: string; limit?: number; behind?: string; timeout?: number }): Promise<BidPage> {
+    return (await (await this.send("GET", `/sites/${encodeURIComponent(site)}/bids`, "application/json", { "item": options.item, "after": options.after, "limit": options.limit, "behind": options.behind, "timeout": options.timeout }, {})).json()) as BidPage;
   }
 
   /** One of the bids. */
-  async getBid(site: number, key: string, options: { timeout?: number } = {}): Promise<Bid> {
-    return (await (await this.send("GET", `/sites/${encodeURIComponent(site)}/bids/${encodeURIComponent(key)}`, "application/json", { "timeout": options.timeout }, {})).json()) as Bid;
+  async getBid(site: number, key: string, options: { behind?: string; timeout?: number } = {}): Promise<Bid> {
+    return (await (await this.send("GET", `/sites/${encodeURIComponent(site)}/bids/${encodeURIComponent(key)}`, "application/json", { "behind": options.behind, "timeout": options.timeout }, {})).json()) as Bid;
   }
 
   /** The purchases as a site has them, a page at a time. */
-  async listPurchases(site: number, options: { item: string; after?: string; limit?: number; timeout?: number }): Promise<PurchasePage> {
-    return (await (await this.send("GET", `/sites/${encodeURIComponent(site)}/purchases`, "application/json", { "item": options.item, "after": options.after, "limit": options.limit, "timeout": options.timeout }, {})).json()) as PurchasePage;
+  async listPurchases(site: number, options: { item: string; after?: string; limit?: number; behind?: string; timeout?: number }): Promise<PurchasePage> {
+    return (await (await this.send("GET", `/sites/${encodeURIComponent(site)}/purchases`, "application/json", { "item": options.item, "after": options.after, "limit": options.limit, "behind": options.behind, "timeout": options.timeout }, {})).json()) as PurchasePage;
   }
 
   /** One of the purchases. */
-  async getPurchase(site: number, key: string, options: { timeout?: number } = {}): Promise<Purchase> {
-    return (await (await this.send("GET", `/sites/${encodeURIComponent(site)}/purchases/${encodeURIComponent(key)}`, "application/json", { "timeout": options.timeout }, {})).json()) as Purchase;
+  async getPurchase(site: number, key: string, options: { behind?: string; timeout?: number } = {}): Promise<Purchase> {
+    return (await (await this.send("GET", `/sites/${encodeURIComponent(site)}/purchases/${encodeURIComponent(key)}`, "application/json", { "behind": options.behind, "timeout": options.timeout }, {})).json()) as Purchase;
   }
 
   /** The comments as a site has them, a page at a time. */
-  async listComments(site: number, options: { to: string; after?: string; limit?: number; timeout?: number }): Promise<CommentPage> {
-    return (await (await this.send("GET", `/sites/${encodeURIComponent(site)}/comments`, "application/json", { "to": options.to, "after": options.after, "limit": options.limit, "timeout": options.timeout }, {})).json()) as CommentPage;
+  async listComments(site: number, options: { to: string; after?: string; limit?: number; behind?: string; timeout?: number }): Promise<CommentPage> {
+    return (await (await this.send("GET", `/sites/${encodeURIComponent(site)}/comments`, "application/json", { "to": options.to, "after": options.after, "limit": options.limit, "behind": options.behind, "timeout": options.timeout }, {})).json()) as CommentPage;
   }
 
   /** One of the comments. */
-  async getComment(site: number, key: string, options: { timeout?: number } = {}): Promise<Comment> {
-    return (await (await this.send("GET", `/sites/${encodeURIComponent(site)}/comments/${encodeURIComponent(key)}`, "application/json", { "timeout": options.timeout }, {})).json()) as Comment;
+  async getComment(site: number, key: string, options: { behind?: string; timeout?: number } = {}): Promise<Comment> {
+    return (await (await this.send("GET", `/sites/${encodeURIComponent(site)}/comments/${encodeURIComponent(key)}`, "application/json", { "behind": options.behind, "timeout": options.timeout }, {})).json()) as Comment;
   }
 
   /** The categories as a site has them, a page at a time. */
-  async listCategories(site: number, options: { after?: string; limit?: number; timeout?: number } = {}): Promise<CategoryPage> {
-    return (await (await this.send("GET", `/sites/${encodeURIComponent(site)}/categories`, "application/json", { "after": options.after, "limit": options.limit, "timeout": options.timeout }, {})).json()) as CategoryPage;
+  async listCategories(site: number, options: { after?: string; limit?: number; behind?: string; timeout?: number } = {}): Promise<CategoryPage> {
+    return (await (await this.send("GET", `/sites/${encodeURIComponent(site)}/categories`, "application/json", { "after": options.after, "limit": options.limit, "behind": options.behind, "timeout": options.timeout }, {})).json()) as CategoryPage;
   }
 
   /** One of the categories. */
-  async getCategory(site: number, key: string, options: { timeout?: number } = {}): Promise<Category> {
-    return (await (await this.send("GET", `/sites/${encodeURIComponent(site)}/categories/${encodeURIComponent(key)}`, "application/json", { "timeout": options.timeout }, {})).json()) as Category;
+  async getCategory(site: number, key: number, options: { behind?: string; timeout?: number } = {}): Promise<Category> {
+    return (await (await this.send("GET", `/sites/${encodeURIComponent(site)}/categories/${encodeURIComponent(key)}`, "application/json", { "behind": options.behind, "timeout": options.timeout }, {})).json()) as Category;
   }
 
   /** The misfits as a site has them, a page at a time. */
-  async listMisfits(site: number, options: { after?: string; limit?: number; timeout?: number } = {}): Promise<MisfitPage> {
-    return (await (await this.send("GET", `/sites/${encodeURIComponent(site)}/misfits`, "application/json", { "after": options.after, "limit": options.limit, "timeout": options.timeout }, {})).json()) as MisfitPage;
+  async listMisfits(site: number, options: { after?: string; limit?: number; behind?: string; timeout?: number } = {}): Promise<MisfitPage> {
+    return (await (await this.send("GET", `/sites/${encodeURIComponent(site)}/misfits`, "application/json", { "after": options.after, "limit": options.limit, "behind": options.behind, "timeout": options.timeout }, {})).json()) as MisfitPage;
+  }
+
+  /** The items of a user, by `seller`, from a view, the newest first. */
+  async listUserItems(site: number, key: string, options: { after?: string; limit?: number; behind?: string; timeout?: number } = {}): Promise<UserItems> {
+    return (await (await this.send("GET", `/sites/${encodeURIComponent(site)}/users/${encodeURIComponent(key)}/items`, "application/json", { "after": options.after, "limit": options.limit, "behind": options.behind, "timeout": options.timeout }, {})).json()) as UserItems;
+  }
+
+  /** The bids of a user, by `bidder`, from a view, the newest first. */
+  async listUserBids(site: number, key: string, options: { after?: string; limit?: number; behind?: string; timeout?: number } = {}): Promise<UserBids> {
+    return (await (await this.send("GET", `/sites/${encodeURIComponent(site)}/users/${encodeURIComponent(key)}/bids`, "application/json", { "after": options.after, "limit": options.limit, "behind": options.behind, "timeout": options.timeout }, {})).json()) as UserBids;
+  }
+
+  /** The purchases of a user, by `buyer`, from a view, the newest first. */
+  async listUserPurchases(site: number, key: string, options: { after?: string; limit?: number; behind?: string; timeout?: number } = {}): Promise<UserPurchases> {
+    return (await (await this.send("GET", `/sites/${encodeURIComponent(site)}/users/${encodeURIComponent(key)}/purchases`, "application/json", { "after": options.after, "limit": options.limit, "behind": options.behind, "timeout": options.timeout }, {})).json()) as UserPurchases;
+  }
+
+  /** The comments of a user, by `from`, from a view, the newest first. */
+  async listUserComments(site: number, key: string, options: { after?: string; limit?: number; behind?: string; timeout?: number } = {}): Promise<UserComments> {
+    return (await (await this.send("GET", `/sites/${encodeURIComponent(site)}/users/${encodeURIComponent(key)}/comments`, "application/json", { "after": options.after, "limit": options.limit, "behind": options.behind, "timeout": options.timeout }, {})).json()) as UserComments;
   }
 
   /** The messages that a site has released, in their order, a page at a time. */
@@ -350,23 +446,36 @@ export class ShopClient {
     return (await (await this.send("GET", `/sites/${encodeURIComponent(site)}/log`, "application/json", { "after": options.after, "limit": options.limit, "timeout": options.timeout }, {})).json()) as LogPage;
   }
 
+  /** How far the view of a site is. */
+  async getView(site: number, options: { timeout?: number } = {}): Promise<View> {
+    return (await (await this.send("GET", `/sites/${encodeURIComponent(site)}/view`, "application/json", { "timeout": options.timeout }, {})).json()) as View;
+  }
+
   /** What a site is asked (<) and answers (>), as it comes. */
   async *getFollow(site: number): AsyncGenerator<ServerEvent> {
     const response = await this.send("GET", `/sites/${encodeURIComponent(site)}/follow`, "text/event-stream", {}, {});
-    let event = "";
+    let event = "", id: string | undefined;
     for await (const line of this.lines(response)) {
       if (line.startsWith("event: ")) event = line.slice(7);
-      if (line.startsWith("data: ")) yield { event, data: JSON.parse(line.slice(6)) };
+      if (line.startsWith("id: ")) id = line.slice(4);
+      if (line.startsWith("data: ")) {
+        yield { event, id, data: JSON.parse(line.slice(6)) };
+        id = undefined;
+      }
     }
   }
 
-  /** What happens in the shop, and how it is, as it comes. */
-  async *getEvents(): AsyncGenerator<ServerEvent> {
-    const response = await this.send("GET", `/events`, "text/event-stream", {}, {});
-    let event = "";
+  /** What happened last in the shop, what happens, and how it is, as it comes. */
+  async *getEvents(options: { lastEventID?: string } = {}): AsyncGenerator<ServerEvent> {
+    const response = await this.send("GET", `/events`, "text/event-stream", {}, { "Last-Event-ID": options.lastEventID });
+    let event = "", id: string | undefined;
     for await (const line of this.lines(response)) {
       if (line.startsWith("event: ")) event = line.slice(7);
-      if (line.startsWith("data: ")) yield { event, data: JSON.parse(line.slice(6)) };
+      if (line.startsWith("id: ")) id = line.slice(4);
+      if (line.startsWith("data: ")) {
+        yield { event, id, data: JSON.parse(line.slice(6)) };
+        id = undefined;
+      }
     }
   }
 

@@ -11,13 +11,13 @@ _shop() {
     case $command,$before in
     *,-C | *,--save | *,--with) mapfile -t COMPREPLY < <(compgen -f -- "$word"); return ;;
     *,--over) words='files redis://' ;;
-    ,*) words='start run stop status log wait ask pass list show tables audit serve rebuild shorten carry adopt -C --help' ;;
+    ,*) words='start run stop status log wait ask pass list show tables audit view serve rebuild backup restore shorten carry adopt -C --help' ;;
     start,*) [[ $word == -* ]] && words='--help --sites --here --standby --after --over --sync --no-sync --alone --upgrade --keep --batch --shards --workers --timeout' ;;&
     run,*) [[ $word == -* ]] && words='--help --sites --here --standby --after --over --sync --no-sync --alone --upgrade --keep --batch --shards --workers' ;;&
     stop,*) [[ $word == -* ]] && words='--help' ;;&
     status,*) [[ $word == -* ]] && words='--help --json --timeout' ;;&
     log,*) [[ $at -eq 0 && $word != -* ]] && words='0 1 2 3 4 5 6 7 8 9 10 11 12 13 14 15' ;;&
-    log,*) [[ $word == -* ]] && words='--help --follow --lines --raw' ;;&
+    log,*) [[ $word == -* ]] && words='--help --follow --lines --raw --json' ;;&
     wait,*) [[ $at -eq 0 && $word != -* ]] && words='0 1 2 3 4 5 6 7 8 9 10 11 12 13 14 15' ;;&
     wait,*) [[ $word == -* ]] && words='--help --timeout' ;;&
     ask,*) [[ $at -eq 0 && $word != -* ]] && words='0 1 2 3 4 5 6 7 8 9 10 11 12 13 14 15' ;;&
@@ -33,10 +33,13 @@ _shop() {
     show,*) [[ $word == -* ]] && words='--help --json --timeout' ;;&
     tables,*) [[ $at -eq 0 && $word != -* ]] && words='0 1 2 3 4 5 6 7 8 9 10 11 12 13 14 15' ;;&
     tables,*) [[ $word == -* ]] && words='--help --timeout' ;;&
-    audit,*) [[ $word == -* ]] && words='--help --save --with --timeout' ;;&
-    serve,*) [[ $word == -* ]] && words='--help --listen --certificate --private-key --idle --keys-file' ;;&
+    audit,*) [[ $word == -* ]] && words='--help --save --with --json --timeout' ;;&
+    view,*) [[ $word == -* ]] && words='--help --site --once' ;;&
+    serve,*) [[ $word == -* ]] && words='--help --listen --certificate --private-key --idle --view --keys-file --allow-origin --access-log --requests' ;;&
     rebuild,*) [[ $at -eq 0 && $word != -* ]] && words='0 1 2 3 4 5 6 7 8 9 10 11 12 13 14 15' ;;&
     rebuild,*) [[ $word == -* ]] && words='--help --anyway' ;;&
+    backup,*) [[ $word == -* ]] && words='--help --timeout' ;;&
+    restore,*) [[ $word == -* ]] && words='--help --site --yes' ;;&
     shorten,*) [[ $at -eq 0 && $word != -* ]] && words='0 1 2 3 4 5 6 7 8 9 10 11 12 13 14 15' ;;&
     shorten,*) [[ $word == -* ]] && words='--help' ;;&
     carry,*) [[ $word == -* ]] && words='--help --site --yes' ;;&

@@ -72,7 +72,7 @@ def overlapping(labels: list[Label]) -> list[tuple[Label, Label]]:
     boxes = sorted(((label.box, label) for label in labels), key=lambda pair: pair[0])
     found = []
     for at, ((_, top, right, bottom), label) in enumerate(boxes):
-        for (other_left, other_top, _, other_bottom), other in boxes[at + 1 :]:
+        for (other_left, other_top, _, other_bottom), other in boxes[at + 1:]:
             if other_left >= right:
                 break
             if top < other_bottom and other_top < bottom:

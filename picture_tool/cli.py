@@ -42,7 +42,7 @@ examples:
 
 
 def pair_of(text: str) -> tuple[str, str]:
-    one, comma, other = text.partition(",")
+    one, _, other = text.partition(",")
     if not (one and other):
         raise argparse.ArgumentTypeError(f"{text!r} isn't two, as 1,2")
     return one, other
@@ -92,6 +92,12 @@ def chosen_view(run: Run, args: argparse.Namespace) -> View:
     return last_of(run, SOME if len(run.lanes) <= 6 else FEW)
 
 
+def opens_at(run: Run) -> int:
+    """The step at which the page of a whole run opens: where the logs part, or else its end."""
+    event = run.divergence.at.event if run.divergence else None
+    return run.events.index(event) if event else len(run.events) - 1
+
+
 def made(run: Run, args: argparse.Namespace) -> str:
     """What the command line asks for."""
     if not run.events:
@@ -103,7 +109,7 @@ def made(run: Run, args: argparse.Namespace) -> str:
         return grid_text(grid) if args.text else grid_svg(grid)
     is_whole = args.last is args.around is args.between is None
     if args.html:
-        return page_of(run, 0 if is_whole else chosen_view(run, args).begin)
+        return page_of(run, opens_at(run) if is_whole else chosen_view(run, args).begin)
     view = chosen_view(run, args)
     return dot_of(view) if args.dot else Drawing(view).svg()
 

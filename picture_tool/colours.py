@@ -7,6 +7,13 @@ INK, GREY, PALE, LANE = "#23282e", "#5a626c", "#bcc3cb", "#c9ced4"
 RING = "#f0a000"            # around a fault, always with a line of ink at its edge
 TOKEN, TOKEN_EDGE = "#f8dcd8", "#c9857d"
 WHITE = "#ffffff"
+# What the page to walk a run is drawn with: by day, and where the reader's system asks for dark.
+LIGHT = {
+    "paper": WHITE, "ink": INK, "grey": GREY, "pale": PALE, "lane": LANE, "border": "#8b939d", "hover": "#eef1f4", "red": RED, "blue": BLUE, "ring": RING,
+    "token": TOKEN, "edge": TOKEN_EDGE, "lacks": "#fff3d6"}
+DARK = {
+    "paper": "#15191e", "ink": "#e7eaee", "grey": "#a9b1ba", "pale": "#4b545e", "lane": "#3a424b", "border": "#717b86", "hover": "#262d35", "red": "#ff8c7e",
+    "blue": "#6db3f5", "ring": RING, "token": "#4a2723", "edge": "#a8645c", "lacks": "#4a3a12"}
 
 # Machado, Oliveira and Fernandes (2009): how linear colours look to people without one of the three kinds of cones.
 BLINDNESS = {
@@ -25,7 +32,7 @@ Matrix = tuple[Triple, Triple, Triple]
 def linear(colour: str) -> Triple:
     """The colour `#rrggbb` in linear light."""
     def one(at: int) -> float:
-        value = int(colour[at : at + 2], 16) / 255
+        value = int(colour[at:at + 2], 16) / 255
         return value / 12.92 if value <= 0.04045 else math.pow((value + 0.055) / 1.055, 2.4)
     return one(1), one(3), one(5)
 

@@ -8,7 +8,7 @@ from html import escape
 from typing import Any
 
 from .canvas import Canvas
-from .colours import BLUE, GREY, INK, LANE, PALE, RED, RING, TOKEN, TOKEN_EDGE
+from .colours import DARK, LIGHT
 from .marks import Mark, sample
 from .messages import Message
 from .run import Event, Kind, Run, Spot, view_of
@@ -16,8 +16,7 @@ from .run import Event, Kind, Run, Spot, view_of
 WEB = pathlib.Path(__file__).resolve().parent / "web"
 SCRIPTS = ("run.js", "picture.js", "page.js")
 KINDS = tuple(Kind)
-COLOURS = {
-    "red": RED, "blue": BLUE, "ink": INK, "grey": GREY, "pale": PALE, "lane": LANE, "ring": RING, "token": TOKEN, "edge": TOKEN_EDGE}
+VARIABLES = {name: f"var(--{name})" for name in LIGHT}
 SHOWN = tuple(mark for mark in Mark if mark not in (Mark.STUB, Mark.LEFT_OUT))
 ON_PAGE = {
     "the step that is shown": '<circle cx="20" cy="12" r="10" fill="none" stroke="{ink}" stroke-width="2.5"/>',
@@ -28,13 +27,13 @@ ON_PAGE = {
 }
 
 
-def page_of(run: Run, begin: int = 0) -> str:
+def page_of(run: Run, begin: int) -> str:
     """The page of a whole run, which opens at a step of it."""
     packed = base64.b64encode(zlib.compress(json.dumps(_data(run, begin), separators=(",", ":")).encode(), 6)).decode()
     made = sum(event.kind is Kind.MADE for event in run.events)
     title = f"{made:,} messages of {len({lane.site for lane in run.lanes})} sites"
     parts = {
-        "TITLE": escape(title), "STYLE": (WEB / "page.css").read_text().replace("INK", INK).replace("GREY", GREY),
+        "TITLE": escape(title), "STYLE": (WEB / "page.css").read_text(), "LIGHT": _variables(LIGHT), "DARK": _variables(DARK),
         "LEGEND": _legend(run), "DATA": packed, "SCRIPT": "\n".join((WEB / name).read_text() for name in SCRIPTS)}
     page = (WEB / "page.html").read_text()
     for name, text in parts.items():
@@ -52,7 +51,7 @@ def _data(run: Run, begin: int) -> dict[str, Any]:
         if event.message:
             messages.setdefault(event.message, len(messages))
     return {
-        "sites": run.sites, "colours": COLOURS, "begin": begin, "holder": -1 if run.first_holder is None else run.first_holder,
+        "sites": run.sites, "colours": {"light": LIGHT, "dark": DARK}, "begin": begin, "holder": -1 if run.first_holder is None else run.first_holder,
         "lanes": [[lane.site, lane.name] for lane in run.lanes],
         "messages": [[m.origin, m.number, m.red, ":".join(map(str, m.deps)), *m.shadow] for m in messages],
         "kinds": KINDS,
@@ -84,6 +83,17 @@ def _divergence(run: Run, place: dict[int, int]) -> dict[str, Any] | None:
         "common": event_at(found.common)}
 
 
+def _variables(colours: dict[str, str]) -> str:
+    return " ".join(f"--{name}: {colour};" for name, colour in colours.items())
+
+
+def _by_names(shape: str) -> str:
+    """A shape in the colours of the reader's scheme."""
+    for name, colour in LIGHT.items():
+        shape = shape.replace(f'"{colour}"', f'"{VARIABLES[name]}"')
+    return shape
+
+
 def _legend(run: Run) -> str:
     """Every mark of the page, with what it means."""
     items = []
@@ -92,7 +102,7 @@ def _legend(run: Run) -> str:
             continue
         canvas = Canvas()
         sample(canvas, mark, 20, 12)
-        items.append((mark.value, "".join(canvas.parts)))
-    items += [(words, shape.format(**COLOURS)) for words, shape in ON_PAGE.items()]
+        items.append((mark.value, _by_names("".join(canvas.parts))))
+    items += [(words, shape.format(**VARIABLES)) for words, shape in ON_PAGE.items()]
     box = 'width="40" height="24" viewBox="0 0 40 24" aria-hidden="true"'
     return "\n".join(f"<li><svg {box}>{shape}</svg>{escape(words, False)}</li>" for words, shape in items)

@@ -99,11 +99,16 @@ def run_of(sources: list[Source], given: Given) -> Run:
     raise Fault(f"no picture of {' and '.join(KINDS[kind] for kind in sorted(kinds)) or 'nothing'}; --help has what is drawn")
 
 
+def _of_repository() -> str | None:
+    """The program that ./rubis of the repository runs, unless that has to be proved first."""
+    beside = os.path.join(os.path.dirname(os.path.dirname(os.path.abspath(__file__))), "rubis")
+    which = subprocess.run([beside, "--which"], stdin=subprocess.DEVNULL, capture_output=True, text=True)
+    return None if which.returncode else which.stdout.rstrip("\n")
+
+
 def answered(command: list[str], text: str, given: Given) -> str:
     """What the program answers to records."""
-    built = os.path.join(os.path.dirname(os.path.dirname(os.path.abspath(__file__))), "crates/rubis_app/out/rubis_app")
-    named = given.program or os.environ.get("RUBIS") or (built if os.path.exists(built) else "rubis")
-    if not (program := shutil.which(named)):
+    if not (program := shutil.which(given.program or os.environ.get("RUBIS") or _of_repository() or "rubis")):
         raise Fault("these are records without their answers: give both, or the program that answers them (--program)")
     done = subprocess.run([program, *command], input=text.encode("utf-8", "replace"), capture_output=True, timeout=SECONDS)
     if done.returncode:
@@ -143,7 +148,7 @@ def run_of_conversation(text: str, verdict: str, given: Given) -> Run:
     if start is None:
         raise Fault("a conversation has a line `$ rubis ..`")
     words = lines[start].split()
-    rest = lines[start + 1 :]
+    rest = lines[start + 1:]
     end = next((at for at, line in enumerate(rest) if line.startswith("$ ")), len(rest))
     return _conversation_of(words, rest[:end], verdict, given)
 

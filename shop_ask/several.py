@@ -8,13 +8,11 @@ from json.encoder import encode_basestring_ascii as json_of     # type: ignore[a
 from typing import TYPE_CHECKING, Any
 
 from shop_ask.lines import Pieces, Reader
-from shop_tool.carrier.asking import Ask
 from shop_tool.carrier.records import text_of
-from shop_tool.carrier.steps import Say, Signal, Steps, Wait
+from shop_tool.carrier.steps import Say, Signal, Wait
 from shop_tool.ends import Fault, Status
-from shop_tool.requests import REQUEST_BYTES, Request, asks_of, field, no_request, request_of, seconds_of, site_of
+from shop_tool.requests import REQUEST_BYTES, Request, field, no_request, request_of, site_of
 from shop_tool.signals import Together
-from shop_tool.site import KeptSite
 
 if TYPE_CHECKING:
     from shop_tool.server import Server
@@ -136,8 +134,8 @@ class Asked:
         server = self.several.server
         try:
             site = server.shop.sites.get(site_of(self.request, server.shop.settings.sites))
-            if site is None:
-                return self.several.serve(self.name, self.request)      # it runs elsewhere
+            if site is None or site.fenced_by:
+                return self.several.serve(self.name, self.request)      # it runs elsewhere, or may
             self.site, self.steps = site, server.ask_of(site, self.request)
         except Fault as fault:
             return self.several.end(self.name, fault)
@@ -226,10 +224,3 @@ class Asked:
                 return self._go_on(None, fault)
             self._go_on(said)
         self.several.server.shop.task(done(), is_needed=False)
-
-
-def steps_of(ask: Ask, records: list[bytes], names: list[bytes | None], published: bool) -> Steps[None]:
-    """The steps of an ask."""
-    yield from ask.run(records, names)
-    if published:
-        yield from ask.published()

@@ -32,7 +32,7 @@ def ask(args: argparse.Namespace) -> int:
             for answer in client.begun(args.folder, request, begun) if begun else client.call(args.folder, request):
                 client.raise_fault(answer)
                 if not answer.get("end"):
-                    printer.show(answer["record"], answer["lines"])
+                    printer.show(client.member(answer, "record"), client.member(answer, "lines"))
     except Fault as fault:
         raise Fault(fault.status, fault.text + _how_far(args, printer.count, fault.status != Status.MISUSE)) from None
     return printer.status
@@ -132,7 +132,8 @@ class Printer:
             case "ok":
                 said |= {"id": head[3], "message": lines[1][5:]}
             case "rows":
-                said["rows"] = [row_of(line) if line.split(",")[1] in COLUMNS else line[4:] for line in lines[1:]]
+                from .reading import with_nulls
+                said["rows"] = [with_nulls(row_of(line)) if line.split(",")[1] in COLUMNS else line[4:] for line in lines[1:]]
         print(json.dumps(said), flush=True)
 
 

@@ -1,7 +1,6 @@
 """carry: users, open items and their bids of a shop that has reached its end become asks of a new one."""
 
 import argparse
-import sys
 from collections import Counter
 from typing import NamedTuple
 
@@ -9,6 +8,7 @@ from . import client, settings
 from .ends import Fault, Status
 from .folders import put
 from .reading import audited, listing
+from .render import confirmed
 from .carrier.records import Row, line_of
 
 PIECE = 1000
@@ -63,15 +63,15 @@ def plan_of(rows: list[Row]) -> Plan:
 
 def carry(args: argparse.Namespace) -> int:
     """Carries from OLD to NEW. A carry that was cut goes on where it was."""
+    keep = settings.existing(args.new).keep
     rows = agreed_rows(args)
     plan = plan_of(rows)
-    keep = settings.existing(args.new).keep
     if len(plan.asks) > keep:
         raise Fault(Status.REFUSED, f"{len(plan.asks)} asks are too many for the sites of {args.new}, which keep {keep} messages; "
                     "nothing was carried")
     done = asked_before(args, plan)
     describe(args, plan, done)
-    if not args.yes and not confirmed():
+    if not args.yes and not confirmed("Carry this?", "nothing was carried"):
         raise Fault(Status.REFUSED, "nothing was carried")
     if not done:
         put(f"{args.new}/{MAP}", plan.map_text())
@@ -91,7 +91,7 @@ def agreed_rows(args: argparse.Namespace) -> list[Row]:
 
 def asked_before(args: argparse.Namespace, plan: Plan) -> int:
     """How many of the asks the new shop has accepted already, in an earlier run of this command."""
-    has: int = client.one(args.new, {"op": "count", "site": 0, "timeout": SECONDS})["count"]
+    has: int = client.member(client.one(args.new, {"op": "count", "site": 0, "timeout": SECONDS}), "count")
     try:
         with open(f"{args.new}/{MAP}") as file:
             before = file.read()
@@ -113,12 +113,6 @@ def describe(args: argparse.Namespace, plan: Plan, done: int) -> None:
     print(f"left behind: {left or 'nothing'}")
     for item in plan.without_stock:
         print(f"left behind: item {item} is open and has no stock")
-
-
-def confirmed() -> bool:
-    if not sys.stdin.isatty():
-        raise Fault(Status.MISUSE, "say --yes, if that is what you want; nothing was carried")
-    return input("Carry this? [y/N] ").strip().lower() in ("y", "yes")
 
 
 def ask_rest(new: str, plan: Plan, done: int) -> None:

@@ -1,11 +1,13 @@
 """The command line of `shop`."""
 
 import argparse
+import difflib
 import os
+import re
 import signal
 import sys
 from collections.abc import Callable
-from typing import NoReturn
+from typing import Any, NoReturn
 
 from shop_ask.quick import Begun
 
@@ -30,37 +32,59 @@ EXAMPLES = """\
 
 
 class Words(argparse.ArgumentParser):
-    """Says what is wrong with the command line in one line."""
+    """Says what is wrong with the command line in one line. Options are said whole: a shop is made by a few words, and some of them stay."""
+
+    def __init__(self, **words: Any) -> None:
+        super().__init__(allow_abbrev=False, formatter_class=argparse.RawDescriptionHelpFormatter, **words)
 
     def error(self, message: str) -> NoReturn:
+        for said, meant in ((r"the following arguments are required: (.*)", r"\1 is missing"),
+                            (r"argument (\S+): invalid choice: (.*) \(choose from (.*)\)", r"there is no \1 \2: it is one of \3")):
+            message = re.sub(said, meant, message)
         raise Fault(Status.MISUSE, f"{message} ({self.prog} --help)")
+
+    def check_options(self, words: list[str]) -> None:
+        """Refuses an option that there isn't, before anything else is found wrong."""
+        for word in words:
+            name = word.partition("=")[0]
+            if name == "--" or self._subparsers and not name.startswith("-"):
+                return
+            if name.startswith("--") and name not in self._option_string_actions:
+                near = difflib.get_close_matches(name, self._option_string_actions, 1)
+                self.error(f"there is no option {name[:40]}" + (f"; is {near[0]} meant?" if near else ""))
+
+    def parse_known_args(self, args: Any = None, namespace: Any = None) -> Any:
+        self.check_options(args)
+        return super().parse_known_args(args, namespace)
 
 
 def sites_of(text: str) -> tuple[int, ...]:
-    return tuple(int(part) for part in text.split(",") if part)
+    parts = [part for part in text.split(",") if part]
+    if not all(part.isdecimal() and len(part) < 9 for part in parts):
+        raise argparse.ArgumentTypeError(f"{text!r} is no list of sites, as 0,2")
+    return tuple(map(int, parts))
 
 
 def count_of(text: str) -> int:
     """A whole number that isn't negative."""
-    if not text.isdecimal():
-        raise argparse.ArgumentTypeError(f"{text!r} is no number")
+    if not (text.isascii() and text.isdecimal() and len(text) <= 100):
+        raise argparse.ArgumentTypeError(f"{text[:100]!r} is no number")
     return int(text)
 
 
 def seconds_of(text: str) -> float:
-    seconds = float(text)
+    try:
+        seconds = float(text)
+    except ValueError:
+        seconds = 0.0
     if not 0 < seconds < 1e6:
-        raise ValueError
+        raise argparse.ArgumentTypeError(f"{text!r} is no number of seconds above 0, as 2.5")
     return seconds
-
-
-sites_of.__name__, seconds_of.__name__ = "list of sites", "number of seconds"
 
 
 class CommandLine:
     def __init__(self) -> None:
-        self.words = Words(
-            prog="shop", description=ABOUT, epilog=f"{NOTES}\nexamples:\n{EXAMPLES}", formatter_class=argparse.RawDescriptionHelpFormatter)
+        self.words = Words(prog="shop", description=ABOUT, epilog=f"{NOTES}\nexamples:\n{EXAMPLES}")
         folder = os.environ.get("SHOP", "shop")
         self.words.add_argument("-C", dest="folder", metavar="FOLDER", default=folder, help="the folder of the shop")
         self.words.add_argument("--version", action="store_true", help="print which version of rubis it runs")
@@ -74,8 +98,7 @@ class CommandLine:
     def command(self, name: str, does: str, about: str, examples: str = "") -> argparse.ArgumentParser:
         """A command that the function `does` of a module of the package runs; the module is loaded only then."""
         parser: argparse.ArgumentParser = self.commands.add_parser(
-            name, help=about, description=about[0].upper() + about[1:] + ".", epilog=f"examples:\n{examples}" if examples else None,
-            formatter_class=argparse.RawDescriptionHelpFormatter)
+            name, help=about, description=about[0].upper() + about[1:] + ".", epilog=f"examples:\n{examples}" if examples else None)
         parser.set_defaults(does=does)
         return parser
 
@@ -133,7 +156,9 @@ class CommandLine:
         parser.add_argument("site", metavar="SITE", type=count_of, nargs="?", help="the number of the site")
         parser.add_argument("-f", "--follow", action="store_true", help="go on with what comes")
         parser.add_argument("-n", "--lines", metavar="N", type=count_of, default=20, help="how many lines of the past; 20 by default")
-        parser.add_argument("--raw", action="store_true", help=r"print bytes as they are; else \x1b stands for one that isn't printable")
+        shown = parser.add_mutually_exclusive_group()
+        shown.add_argument("--raw", action="store_true", help=r"print bytes as they are; else \x1b stands for one that isn't printable")
+        shown.add_argument("--json", action="store_true", help="print an object for each line")
         parser = self.command("wait", "running.wait", "wait until a site has all that the others sent")
         self.site(parser)
         self.timeout(parser, 60)
@@ -199,9 +224,18 @@ class CommandLine:
 """)
         parser.add_argument("--save", metavar="FILE", help="keep the logs in this file")
         parser.add_argument("--with", dest="logs", metavar="FILE", action="append", help="logs of an earlier audit")
+        self.as_json(parser)
         self.timeout(parser, 600)
 
     def _serving(self) -> None:
+        about = "keep a database of SQLite up to date with a site, for pages and any other reader"
+        parser = self.command("view", "view.writing.follow", about, """\
+  shop view shop.db & sqlite3 shop.db 'SELECT * FROM items ORDER BY amount DESC LIMIT 10'
+""")
+        parser.add_argument("file", metavar="FILE", help="the file of the database; it is made if it isn't there")
+        parser.add_argument("--site", metavar="SITE", type=count_of, help="a site that runs here; by default the first of them")
+        parser.add_argument("--once", action="store_true", help="end once it is up to date")
+        parser.add_argument("--with-parent", action="store_true", help=argparse.SUPPRESS)
         about = "serve the shop over HTTP: asks, rows, events, metrics and a page"
         parser = self.command("serve", "serving.serve", about, """\
   shop serve                                       http://127.0.0.1:8080/ for this machine
@@ -214,7 +248,14 @@ class CommandLine:
         parser.add_argument("--private-key", metavar="FILE", help="the key of the certificate, as PEM")
         parser.add_argument("--idle", metavar="S", type=seconds_of, default=60.0,
                             help="seconds until a connection is closed on which no request comes to its end; 60 by default")
-        parser.add_argument("--keys-file", metavar="FILE", help="who may do what: lines of what a bearer key may (read, ask, operate), and the key")
+        parser.add_argument("--view", metavar="FILE", help="keep this database up to date with the first site here, and serve what pages ask for from it")
+        parser.add_argument("--keys-file", metavar="FILE",
+                            help="who may do what: lines of what a bearer key may (read, ask, ask:USER, operate), the key, and whose it is")
+        parser.add_argument("--allow-origin", metavar="ORIGIN", action="append", help="let pages of this origin ask, as https://shop.example (CORS)")
+        parser.add_argument("--access-log", metavar="FILE", help="a line of JSON for each request; - is standard error. SIGHUP opens it anew, "
+                            "and reads the certificate and the keys again")
+        parser.add_argument("--requests", metavar="N", type=count_of, default=1000,
+                            help="how many requests a second each bearer key may make, ten times as many at once; 1000 by default")
 
     def _care(self) -> None:
         about = "make the folder of a lost site again from what it sent; the shop here is stopped meanwhile"
@@ -223,6 +264,18 @@ class CommandLine:
 """)
         self.site(parser)
         parser.add_argument("--anyway", action="store_true", help="even where other sites are silent that may have more of it")
+        parser = self.command("backup", "backup.backup", "write the sites of this folder into one file, as they are at one moment; also while they run", """\
+  shop backup monday.tar.gz
+""")
+        parser.add_argument("file", metavar="FILE", help="the file, a tar; compressed if its name ends with gz")
+        self.timeout(parser, 60)
+        about = "put the sites of a backup in the place of those here, which are put aside; the shop here is stopped meanwhile"
+        parser = self.command("restore", "backup.restore", about, """\
+  shop stop; shop restore monday.tar.gz; shop start
+""")
+        parser.add_argument("file", metavar="FILE", help="what shop backup has written")
+        parser.add_argument("--site", metavar="SITE", type=count_of, help="this site alone; by default all that the backup has")
+        parser.add_argument("--yes", action="store_true", help="don't ask before records are put aside that the backup doesn't have")
         about = "take refusals and repeats out of the recording of a site; the shop here is stopped meanwhile"
         parser = self.command("shorten", "shorten.shorten", about, """\
   shop stop; shop shorten 0; shop start
@@ -242,12 +295,13 @@ class CommandLine:
 
 def with_records(words: Words, command_line: list[str]) -> argparse.Namespace:
     """Reads the command line; records may also stand behind options, which argparse doesn't see by itself."""
+    args: argparse.Namespace
     args, rest = words.parse_known_args(command_line)
     if args.version:
         args.does = "program.version"
         return args
     if args.command is None:
-        words.error("the following arguments are required: COMMAND")
+        words.error(f"a COMMAND is missing: {', '.join(CommandLine().commands.choices)}")
     if rest and (args.command != "ask" or any(word.startswith("-") for word in rest)):
         words.error(f"unknown: {' '.join(rest)[:80]}")
     if rest:
@@ -259,7 +313,7 @@ def with_records(words: Words, command_line: list[str]) -> argparse.Namespace:
 
 def command_of(name: str) -> Callable[[argparse.Namespace], int]:
     import importlib
-    module, _, function = name.partition(".")
+    module, _, function = name.rpartition(".")
     command: Callable[[argparse.Namespace], int] = getattr(importlib.import_module(f"shop_tool.{module}"), function)
     return command
 

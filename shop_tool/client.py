@@ -11,7 +11,9 @@ from shop_ask.quick import CONNECT_SECONDS, MARGIN, Begun
 
 from .ends import Fault, Status
 from .lock import holder_of
+from .settings import lost
 from .carrier.told import unanswered
+
 
 def connect(folder: str, seconds: float = CONNECT_SECONDS) -> socket.socket | None:
     """A connection to the shop's supervisor, or None if it isn't running."""
@@ -91,10 +93,12 @@ def _lines_of(file: IO[bytes], come: bytes) -> Iterator[bytes]:
 def away(folder: str) -> Fault:
     """That the shop in a folder has no supervisor that could be reached."""
     if not os.path.isdir(folder):
-        return Fault(Status.AWAY, f"{folder}: there is no shop (shop start)")
+        return Fault(Status.AWAY, f"{folder}: there is no shop (-C FOLDER names its folder, and shop start begins one)")
     if not os.access(folder, os.X_OK):
         return Fault(Status.AWAY, f"{folder}: this user may not use it")
     holder = holder_of(folder)
+    if not holder and (why_lost := lost(folder)):
+        return Fault(Status.AWAY, why_lost)
     why = f"takes no requests: {holder} holds it, which is about to begin or to end" if holder else "is not running (shop start)"
     return Fault(Status.AWAY, f"{folder} {why}")
 
@@ -111,6 +115,13 @@ def one(folder: str, request: dict[str, Any], seconds: float | None = None) -> d
         pass
     raise_fault(answer)
     return answer
+
+
+def member(answer: dict[str, Any], name: str) -> Any:
+    """What an answer says; a Fault if it doesn't, as one of another machine with another version of shop."""
+    if name not in answer:
+        raise Fault(Status.AWAY, f"the answer has no `{name}`: the machine that gave it has another version of shop (shop --version)")
+    return answer[name]
 
 
 def raise_fault(answer: dict[str, Any]) -> None:

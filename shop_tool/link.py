@@ -12,7 +12,7 @@ from .carrier.steps import CallAll, IsRunning, Kept, KeptOf, SayLeave, SayWant, 
 from .lives import Seen
 from .requests import Request
 from .signals import done
-from .site import unchanged
+from .site import KeptSite, unchanged
 
 if TYPE_CHECKING:
     from .site import KeptSite
@@ -46,6 +46,10 @@ class Carrying(Link):
     async def status_of(self, site: int) -> dict[str, Any] | None:
         """The status of a site that doesn't run here."""
         return None
+
+    async def runs_elsewhere(self, site: KeptSite) -> bool:
+        """Whether a site that is stopped for good here runs in a folder of another name, as one does whose place a standby has taken."""
+        return False
 
     async def call(self, request: Request, site: int, seconds: float) -> list[dict[str, Any]] | None:
         """What the supervisor of a site elsewhere answers to a request; None if it gives no answer."""

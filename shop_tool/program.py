@@ -1,6 +1,8 @@
 """Which program `rubis` is used."""
 
 import argparse
+import glob
+import hashlib
 import os
 import shutil
 import subprocess
@@ -23,22 +25,41 @@ def path() -> str:
 
 
 def checked_path() -> str:
-    """The program, once it has run: ./rubis of the repository proves and builds it first, and says so on standard error."""
+    """The program, once it has run: ./rubis of the repository says on standard error if it proves and builds it first, and then which file it runs."""
     program = path()
+    version_of(program)
+    which = subprocess.run([program, "--which"], stdin=subprocess.DEVNULL, stdout=subprocess.PIPE, stderr=subprocess.DEVNULL, text=True)
+    return program if which.returncode else which.stdout.rstrip("\n")
+
+
+def version_of(program: str) -> str:
+    """What a program says that it is, which has to be rubis."""
     try:
-        done = subprocess.run([program, "--version"], stdin=subprocess.DEVNULL, stdout=subprocess.DEVNULL)
+        done = subprocess.run([program, "--version"], stdin=subprocess.DEVNULL, stdout=subprocess.PIPE)
     except OSError as fault:
-        raise Fault(Status.MISUSE, f"{program}: {fault.strerror}") from fault
-    if done.returncode:
-        raise Fault(Status.MISUSE, f"{program} --version ended with status {done.returncode}")
-    return program
+        raise Fault(Status.MISUSE, f"{program} can't be run: {fault.strerror} (the variable RUBIS names the program)") from fault
+    said = (done.stdout.decode("utf-8", "replace").splitlines() or [""])[0]
+    if done.returncode or not said.startswith("rubis "):
+        why = f"ended with status {done.returncode}" if done.returncode else f"says {said[:80]!r}"
+        raise Fault(Status.MISUSE, f"{program} is no rubis: {program} --version {why} (the variable RUBIS names the program)")
+    return said
 
 
 def version(args: argparse.Namespace) -> int:
-    """Prints the version: shop comes with the program, and has the same."""
-    done = subprocess.run([path(), "--version"], stdin=subprocess.DEVNULL, capture_output=True, text=True)
-    print(f"shop of {done.stdout.strip() or path()}")
+    """Prints which shop this is, by the hash of its modules, and which rubis it runs."""
+    print(f"shop {build()} of {version_of(path())}")
     return Status.WELL
+
+
+def build() -> str:
+    """Names these modules: two machines on which it is the same have the same ones."""
+    top, digest = os.path.dirname(os.path.dirname(os.path.abspath(__file__))), hashlib.blake2b(digest_size=6)
+    for package in ("shop_ask", "shop_tool", "shop_web"):
+        for name in sorted(glob.glob(f"{top}/{package}/**/*.py", recursive=True)):
+            if "/tests/" not in name[len(top):]:
+                with open(name, "rb") as file:
+                    digest.update(os.path.relpath(name, top).encode() + b"\0" + file.read())
+    return digest.hexdigest()
 
 
 def answers_questions(program: str, *places: str) -> bool:

@@ -19,6 +19,8 @@ if TYPE_CHECKING:
     from .supervisor import Supervisor
 
 AT_ONCE = 4                 # how many long answers are made at once, since each is in memory whole
+ASKS_TO_READS = 2           # how much more of a site's time asks have than long answers, where both are wanted
+IDLE_SECONDS = 0.05         # a site that was given no record for so long isn't wanted by asks
 TURNED = 1000               # of how many listings it is known where the last page ended
 STATE = b"?state"
 NAME = re.compile(r"[0-9.]{1,24}")      # of a row: an id or a number, or two numbers
@@ -32,6 +34,8 @@ class Reads:
     def __init__(self, shop: "Supervisor") -> None:
         self.shop = shop
         self._long = asyncio.Semaphore(AT_ONCE)
+        self._turns = {number: asyncio.Lock() for number in range(shop.settings.sites)}
+        self._rests: dict[int, float] = {}      # until when a site's time is its askers'
         # Of the listings of which pages were read last: the name of the last page's last row, and its place.
         self._turned: collections.OrderedDict[tuple[int, bytes], tuple[str, int]] = collections.OrderedDict()
 
@@ -39,30 +43,47 @@ class Reads:
         """The rows of listings, which are taken at one moment."""
         is_asked = self.shop.asks_questions
         records = [b"?" + listing if is_asked else listing for listing in listings]
-        found, until = [], time.monotonic() + seconds
+        found, until, turn = [], time.monotonic() + seconds, self._turns[site.number]
         try:
             async with asyncio.timeout(seconds):
-                await self._long.acquire()
+                await turn.acquire()
+                try:
+                    await self._rest(site)
+                    await self._long.acquire()
+                except BaseException:
+                    turn.release()
+                    raise
         except TimeoutError:
-            raise Fault(Status.AWAY, f"site {site.number}: {AT_ONCE} long listings are being made, and none had ended "
+            raise Fault(Status.AWAY, f"site {site.number}: other long listings are being made, and its turn didn't come "
                         f"within {round(seconds, 2):g} s") from None
-        pending: list[Pending] = []
+        began, pending = time.monotonic(), list[Pending]()
         try:
             for listing, answer in zip(listings, await self._answers(site, records, max(until - time.monotonic(), 0.001), pending)):
                 if answer.refusal:
                     raise Fault(Status.REFUSED, f"{text_of(listing)}: {REFUSALS['BadRecord']}")
                 found.append([text_of(line) for line in answer.lines[1:]])
         finally:
-            self.shop.task(self._made(site, pending), is_needed=False)
+            self.shop.task(self._made(site, pending, began), is_needed=False)
         return found
 
-    async def _made(self, site: KeptSite, pending: list[Pending]) -> None:
+    async def _rest(self, site: KeptSite) -> None:
+        """Leaves the site to its askers for as long as the last long listing is to be made up for, or until they want nothing."""
+        while (left := self._rests.get(site.number, 0.0) - time.monotonic()) > 0:
+            before = site.ledger.records
+            await asyncio.sleep(min(left, IDLE_SECONDS))
+            if site.ledger.records == before and all(each.is_question for each in site.line):
+                return
+
+    async def _made(self, site: KeptSite, pending: list[Pending], began: float) -> None:
         """Lets the next long listing begin once these are made: the site makes them too where nobody waits any more."""
         try:
             while any(not each.done.is_set and each in site.line for each in pending):
                 await waited(pending[-1].done, 1.0)
         finally:
+            now = time.monotonic()
+            self._rests[site.number] = now + ASKS_TO_READS * (now - began)
             self._long.release()
+            self._turns[site.number].release()
 
     async def row(self, site: KeptSite, table: str, key: str, seconds: float) -> str | None:
         """One row of a table by its key; of `nickname` a user's."""

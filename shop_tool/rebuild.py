@@ -8,7 +8,7 @@ import shutil
 import subprocess
 from typing import Any
 
-from . import program, settings
+from . import program, settings, witness
 from .carrier.answers import AnswerReader
 from .carrier.ledger import sends_of
 from .carrier.lives import count_of, life_text
@@ -77,6 +77,8 @@ class Stopped:
             case Swap(site, starts):
                 take_place(f"{self.folder}/{site}.new", max(starts, len(lives_of(f"{self.folder}/{site}"))))
                 keep_keys(f"{self.folder}/{site}")
+                for other in self.now.here:     # it may bring a later turn of the token than they know
+                    witness.forget(its := f"{os.path.realpath(self.folder)}/{other}", lives_of(its))
                 self.lost = swapped(self.folder, site)
                 return None
             case TakePlace(site, starts):

@@ -4,6 +4,7 @@ import os
 import sys
 
 from .carrier.records import COLUMNS, Row
+from .ends import Fault, Status
 
 GREEN, YELLOW, RED = "32", "33", "31"
 
@@ -24,6 +25,13 @@ def coloured(text: str, colour: str) -> str:
     if not sys.stdout.isatty() or os.environ.get("NO_COLOR") or os.environ.get("TERM") == "dumb":
         return text
     return f"\x1b[{colour}m{text}\x1b[0m"
+
+
+def confirmed(question: str, otherwise: str) -> bool:
+    """What whoever is at the terminal says; a Fault where nobody is, which says what is so then."""
+    if not sys.stdin.isatty():
+        raise Fault(Status.MISUSE, f"say --yes, if that is what you want; {otherwise}")
+    return input(f"{question} [y/N] ").strip().lower() in ("y", "yes")
 
 
 def print_columns(rows: list[list[str]], colours: dict[str, str] | None = None) -> None:

@@ -22,7 +22,7 @@ class AskRequest(NamedTuple):
     records: list[bytes]
     names: list[bytes | None]       # the keys of the records, or nothing if none has one
     fetches_token: bool     # or a site without it answers NoToken
-    published: bool         # ends only once the others find what was accepted
+    published: bool         # ok is said only once the others find the message
 
 
 def no_request(why: str) -> Fault:

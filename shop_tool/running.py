@@ -4,6 +4,7 @@ import argparse
 import collections
 import json
 import os
+import re
 import select
 import socket
 import sys
@@ -15,7 +16,7 @@ from . import client, lock, program, settings
 from .carrier.answers import AnswerReader, KeptReader
 from .ends import Fault, Status
 from .grid import grid_of_status, grid_text
-from .carrier.records import text_of
+from .carrier.records import fields_of, text_of
 from .render import GREEN, RED, YELLOW, coloured, print_columns, shown
 
 STARTED_BY_OPTIONS = ("sites", "here", "over", "sync", "keep", "batch", "shards", "workers", "standby", "after")
@@ -207,8 +208,18 @@ def _follow(args: argparse.Namespace) -> int:
 
 def _print_lines(args: argparse.Namespace, lines: Iterable[str]) -> None:
     for line in lines:
-        print(line if args.raw else shown(line))
+        print(json.dumps(said_by(line)) if args.json else line if args.raw else shown(line))
     sys.stdout.flush()
+
+
+def said_by(line: str) -> dict[str, Any]:
+    """What a line of the events, or of a site's records and answers, says: when, and what; a record or an answer by its fields."""
+    at, _, text = line.partition(" ") if line[:1].isdigit() else ("", "", line)
+    said: dict[str, Any] = {"at": at or None}
+    if text[:2] in ("< ", "> "):
+        return said | {"is": "asked" if text[0] == "<" else "answered", "fields": fields_of(text[2:])}
+    about, _, rest = text.partition(": ")
+    return said | {"site": int(about[5:]) if re.fullmatch("site [0-9]+", about) else None, "text": shown(rest if about.startswith("site ") else text)}
 
 
 def _last_lines(args: argparse.Namespace, stood: int) -> "collections.deque[str]":

@@ -3,6 +3,7 @@ A connection has one request, or, after a line {"op": "several"}, many at once: 
 {"leave": CALL} leaves one (`shop_ask.several`)."""
 
 import asyncio
+import contextlib
 import functools
 import json
 import os
@@ -12,17 +13,17 @@ from collections.abc import Awaitable, Callable
 from typing import Any
 
 from shop_ask.lines import Reader
-from shop_ask.several import READER_SECONDS, UNREAD_BYTES, Several, steps_of
+from shop_ask.several import READER_SECONDS, UNREAD_BYTES, Several
 
 from .carrier.asking import Ask
 from .carrier.records import text_of
 from .carrier.steps import KeptOf, Steps
 from .carrier.steps import Say as SayAnswer
-from .carrier.told import unanswered
+from .carrier.told import FORM, unanswered
 from .ends import Fault, Status
 from .link import kept_of
 from .reads import Reads
-from .requests import (REQUEST_BYTES, Request, asks_of, field, listing_of, no_request, page_of, request_of, row_of_request, seconds_of,
+from .requests import (REQUEST_BYTES, Request, asks_of, field, listing_of, message_of, no_request, page_of, request_of, row_of_request, seconds_of,
                        site_of)
 from .signals import Together, done, waited
 from .site import KeptSite
@@ -57,11 +58,24 @@ class Server:
                 return asyncio.StreamReaderProtocol(Reader(limit=REQUEST_BYTES, loop=loop), self._connected, loop=loop)
             listening = socket.socket(socket.AF_UNIX)
             listening.bind(f"/proc/self/fd/{folder}/sock")
+            self.inode = os.stat("sock", dir_fd=folder).st_ino
             # The loop takes one connection at a time: where there are no more files, it tries again once for each that it would take.
             self.server = await loop.create_unix_server(made, sock=listening, backlog=1)
             listening.listen(WAITING)
         finally:
             os.close(folder)
+
+    async def look_after(self) -> None:
+        """Listens again where its socket was removed, or another file stands in its place: else nobody could reach it any more."""
+        try:
+            if os.stat(f"{self.shop.folder}/sock").st_ino == self.inode:
+                return
+        except OSError:
+            pass
+        self.server.close()
+        with contextlib.suppress(OSError):      # it is tried again
+            await self.listen()
+            self.shop.event("supervisor: its socket was gone, and is there again")
 
     async def close(self) -> None:
         self.server.close()
@@ -150,17 +164,23 @@ class Server:
                 if self.shop.stays:
                     await say({"said": self.shop.stays})
                 await asyncio.Event().wait()        # the connection ends with the supervisor
+            case "cut":
+                return {"cut": self._cut()}
             case "logs":
                 return await self._logs(request, say)
             case "follow":
                 return await self._follow(request, say)
         number = site_of(request, self.shop.settings.sites)
-        if number not in self.shop.sites:
+        site = self.shop.sites.get(number)
+        if site is None or site.fenced_by and await self.shop.link.runs_elsewhere(site):
             return await self._elsewhere(request, number, say)
-        return await self._answer_of(self.shop.sites[number], request, say)
+        return await self._answer_of(site, request, say)
 
     async def _answer_of(self, site: KeptSite, request: Request, say: Say) -> dict[str, Any] | None:
         """The answer of a site here."""
+        if (form := field({"form": FORM} | request, "form", int)) > FORM:
+            raise Fault(Status.AWAY, f"site {site.number} runs on a machine with an earlier version of shop, which knows requests up to form {FORM}, "
+                        f"and this is of form {form}: upgrade it; nothing was asked")
         seconds = seconds_of(request)
         match request.get("op"):
             case "ask":
@@ -168,7 +188,7 @@ class Server:
                 return None
             case "list":
                 rows, = await self.reads.listings(site, [listing_of(request)], seconds)
-                return {"rows": rows}
+                return {"rows": rows} | ({"lines": [f"reply,0,rows,{len(rows)}", *rows]} if form == 0 else {})
             case "row":
                 return {"row": await self.reads.row(site, *row_of_request(request), seconds)}
             case "page":
@@ -185,6 +205,8 @@ class Server:
             case "wait":
                 await self._wait(site, seconds)
                 return None
+            case "has":
+                return {"has": await self._has(site, request, seconds)}
         raise no_request(f"there is none of the name {request.get('op')!r}")
 
     async def _elsewhere(self, request: Request, site: int, say: Say) -> dict[str, Any]:
@@ -200,7 +222,7 @@ class Server:
         asked, seconds = asks_of(request), seconds_of(request)
         if self.shop.is_leaving:
             raise Fault(Status.AWAY, "the shop is being stopped; nothing was asked")
-        return steps_of(Ask(site, seconds, asked.fetches_token), asked.records, asked.names, asked.published)
+        return Ask(site, seconds, asked.fetches_token, asked.published).run(asked.records, asked.names)
 
     async def _ask(self, site: KeptSite, request: Request, say: Say) -> None:
         async def do(step: tuple[Any, ...]) -> Any:
@@ -221,6 +243,10 @@ class Server:
         """What a site has of another one beyond a number, and all tokens that came to it: for a rebuild of the other."""
         messages, tokens = await kept_of(self.shop.folder, KeptOf(site.number, origin, after)) or ([], [])
         return {"messages": [text_of(text) for _, text in messages], "tokens": [text_of(text) for text in tokens]}
+
+    def _cut(self) -> dict[int, dict[str, int]]:
+        """How many bytes of the files of each site here are answered, at one moment: what a site has of another is in that one's bytes too."""
+        return {site.number: {"kept": site.ledger.kept_bytes, "out": site.ledger.out_bytes} for site in self.shop.sites.values() if site.known.is_set}
 
     async def _logs(self, request: Request, say: Say) -> dict[str, Any]:
         until = time.monotonic() + seconds_of(request)
@@ -250,6 +276,19 @@ class Server:
                 lacks = ", ".join(f"{count} of site {origin}" for origin, count in self.shop.behind(site).items() if count)
                 lacks = f", and lacks messages: {lacks}" if lacks else ""
                 raise Fault(Status.AWAY, f"site {site.number} is {site.state}{lacks}")
+
+    async def _has(self, site: KeptSite, request: Request, seconds: float) -> bool:
+        """Whether the site has released a message within some time."""
+        until = time.monotonic() + seconds
+        name = message_of(request, self.shop.settings.sites)
+        if not name:
+            raise Fault(Status.MISUSE, f"{request['id'][:80]!r} is the id of no message")
+        while site.ledger.release.counts[name[0]] < name[1]:
+            if site.fenced_by:
+                raise site.gone()
+            if not await waited(self.shop.progress, max(until - time.monotonic(), 0.001)):
+                return False
+        return True
 
     async def _follow(self, request: Request, say: Say) -> dict[str, Any]:
         """Says how many bytes of the file of events, or of a site's answers, stand there, and then each line that comes behind them."""

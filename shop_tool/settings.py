@@ -1,6 +1,7 @@
 """What a shop is: how many sites it has, which of them run here, and what carries their packets. FOLDER/shop.json has it."""
 
 import dataclasses
+import glob
 import json
 import os
 import re
@@ -56,7 +57,11 @@ def path_of(folder: str) -> str:
 def from_text(text: str) -> Settings:
     """The settings that a text has; a ValueError or TypeError if it has others, or values that are none of theirs."""
     has = json.loads(text)
-    settings = Settings(**(has | {name: tuple(has[name]) for name in ("here", "standby") if name in has}))
+    if not isinstance(has, dict):
+        raise TypeError("it is no object")
+    if strange := has.keys() - {field.name for field in dataclasses.fields(Settings)}:
+        raise TypeError(f"there is no setting {min(strange)}")
+    settings = Settings(**{name: tuple(value) if isinstance(value, list) else value for name, value in has.items()})
     for name, kinds in KINDS.items():
         value = getattr(settings, name)
         if type(value) not in kinds or isinstance(value, tuple) and not all(type(number) is int for number in value):
@@ -84,7 +89,11 @@ def read(folder: str) -> Settings | None:
             return from_text(file.read())
     except (FileNotFoundError, NotADirectoryError):
         return None
-    except (ValueError, TypeError, KeyError) as fault:
+    except json.JSONDecodeError as fault:
+        raise Fault(Status.MISUSE, f"{path_of(folder)} is no JSON, from line {fault.lineno}, column {fault.colno} on; put it back as it was") from fault
+    except UnicodeDecodeError as fault:
+        raise Fault(Status.MISUSE, f"{path_of(folder)} is no text, from byte {fault.start} on; put it back as it was") from fault
+    except (ValueError, TypeError, KeyError, AttributeError) as fault:
         raise Fault(Status.MISUSE, f"{path_of(folder)}: {fault}") from fault
 
 
@@ -92,7 +101,19 @@ def existing(folder: str) -> Settings:
     if settings := read(folder):
         check(settings)
         return settings
-    raise Fault(Status.AWAY, f"{folder}: there is no shop (shop start)")
+    raise Fault(Status.AWAY, lost(folder) or f"{folder}: there is no shop (shop start)")
+
+
+def lost(folder: str) -> str | None:
+    """What is said of a folder that has sites, and lacks its settings; None of any other, and of one site, which a start takes as it is."""
+    if os.path.exists(path_of(folder)):
+        return None
+    for setup in sorted(glob.glob(f"{glob.escape(folder)}/[0-9]*/setup")):
+        with open(setup, errors="replace") as file:
+            word, _, sites, *_ = (file.read().strip() + ",,").split(",")
+        if word == "setup" and sites.isdecimal() and sites != "1":
+            return f"{path_of(folder)} is missing, and {folder} has sites: put it back, or say what it had, as in: shop start {folder} --sites {sites}"
+    return None
 
 
 def changed(folder: str, said: dict[str, Any]) -> Settings:
@@ -104,6 +125,8 @@ def changed(folder: str, said: dict[str, Any]) -> Settings:
         raise Fault(Status.MISUSE, f"{folder} has --sites {has.sites}, and that stays")
     if has and said.get("keep", has.keep) < has.keep:
         raise Fault(Status.MISUSE, f"{folder} has --keep {has.keep}, and that can only become greater")
+    if not has and "sites" not in said and (why := lost(folder)):
+        raise Fault(Status.MISUSE, why)
     sites = said.get("sites", 1)
     here = () if said.get("standby") else tuple(range(sites))
     settings = dataclasses.replace(has or Settings(sites=sites, here=here), **said)
@@ -123,7 +146,8 @@ def check(settings: Settings) -> None:
     if settings.over == FILES:
         if len(settings.here) < settings.sites:
             raise Fault(Status.MISUSE, "sites on other machines need --over redis://HOST:PORT/NAME")
-    elif not re.fullmatch(r"rediss?://[^/?#]+/[\w.-]+", settings.over):
+    elif not (found := re.fullmatch(r"rediss?://(?:[^/?#]*@)?(?:\[[^]/?#]+\]|[^]/?#:@[]+)(?::([0-9]{1,5}))?/[\w.-]+", settings.over)) \
+            or int(found[1] or 1) not in range(1, 65536):
         raise Fault(Status.MISUSE, "--over is files or redis://HOST:PORT/NAME")
 
 

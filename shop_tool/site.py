@@ -7,8 +7,7 @@ import itertools
 import os
 import time
 from collections.abc import Iterator, Sequence
-from contextlib import closing
-from typing import TYPE_CHECKING, Any
+from typing import TYPE_CHECKING
 
 from .carrier.answers import Answer
 from .carrier.files import File

@@ -6,7 +6,6 @@ import time
 from collections.abc import Callable, Sequence
 from typing import TYPE_CHECKING, Any, cast
 
-from .carrier.lives import life_text
 from .carrier.over_files import UP
 from .carrier.over_server import ServerLink
 from .carrier.site import Site
@@ -18,7 +17,7 @@ from .rebuild import done_here, took_over
 from .requests import Request, request_of
 from .signals import done
 from .site import KeptSite
-from .streams import Streams, faults, reason_of, run_by
+from .streams import Streams, faults, is_run_in, reason_of, run_by
 
 if TYPE_CHECKING:
     from .supervisor import Supervisor
@@ -95,6 +94,8 @@ class StreamLink(ServerLink, Carrying):
 
     def called(self, site: Site, fields: dict[bytes, bytes]) -> Callable[[], None]:
         name, request = fields[b"call"].decode(), request_of(fields[b"request"])
+        form = int(fields.get(b"form", b"1" if b"life" in fields else b"0"))
+        request["form"] = form
 
         def answer() -> None:
             self.shop.task(self._called(name, cast(KeptSite, site), request), is_needed=False)
@@ -119,6 +120,10 @@ class StreamLink(ServerLink, Carrying):
         with contextlib.suppress(*faults()):
             return (await self.main.statuses()).get(site)
         return None
+
+    async def runs_elsewhere(self, site: KeptSite) -> bool:
+        status = await self.status_of(site.number)
+        return status is not None and not is_run_in(status, site.folder)
 
     async def message(self, origin: int, number: int) -> bytes | None:
         if origin in self.shop.sites:

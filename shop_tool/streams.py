@@ -25,11 +25,13 @@ from collections.abc import Iterable
 from typing import Any
 
 from .carrier.ledger import Place
+from .carrier.lives import is_life
 from .carrier.over_server import WANTS
 from .carrier.rebuilding import STATUS_SECONDS
 from .carrier.records import bytes_of
-from .carrier.steps import (Adopt, Append, Entries, Hear, Mark, Marks, Owner, Packets, Page, PageOf, Read, Rewrite, SayYields, SeeLife, Sites, StandBy,
+from .carrier.steps import (Adopt, Append, Broken, Entries, Hear, Mark, Marks, Owner, Packets, Page, PageOf, Read, Rewrite, SayYields, SeeLife, Sites, StandBy,
                             State, Statuses, StreamState, Tell)
+from .carrier.told import FORM
 from .ends import Fault, Status
 from .folders import boot, identity
 from .settings import Settings
@@ -122,9 +124,9 @@ def place_of(name: bytes) -> Place:
 
 
 def faults() -> tuple[type[BaseException], ...]:
-    """What goes wrong where the server is away, or refuses."""
+    """What goes wrong where the server is away, or refuses, or has what no shop wrote."""
     import redis                    # type: ignore[import]
-    return redis.RedisError, OSError, asyncio.TimeoutError
+    return redis.RedisError, OSError, asyncio.TimeoutError, Broken
 
 
 def reason_of(fault: BaseException) -> str:
@@ -133,6 +135,10 @@ def reason_of(fault: BaseException) -> str:
     why = str(fault) or type(fault).__name__
     if isinstance(cause, ssl.SSLCertVerificationError):
         return f"certificate verify failed: {cause.verify_message}"
+    if isinstance(cause, ConnectionRefusedError) or isinstance(fault, ConnectionRefusedError):
+        return "the server refuses connections: is redis-server running there, on that port?"
+    if isinstance(cause, socket.gaierror):
+        return f"{str(fault).partition('connecting to ')[2].rpartition(':')[0]}: no machine has this name ({cause.strerror})"
     return f"{why} {cause}" if isinstance(cause, ssl.SSLError) else why
 
 
@@ -182,7 +188,10 @@ class Streams:
     async def state(self, site: int) -> StreamState:
         keys = [self.key(site), *(self.key(f"{what}:{site}") for what in ("life", "standby", "yields"))]
         entries, last, packet, greatest, *said = await self._state(keys=keys)
-        return StreamState(entries, place_of(last), packet, place_of(greatest), *(text.decode("utf-8", "replace") for text in said))
+        life, standby, yields = (text.decode("utf-8", "replace") for text in said)
+        if life and not is_life(life):
+            raise Broken(f"{keys[1]} has {life[:40]!r}, which no shop has written there (redis-cli del {keys[1]})")
+        return StreamState(entries, place_of(last), packet, place_of(greatest), life, standby, yields)
 
     async def see_life(self, site: int, before: str, life: str, last: Place) -> bool:
         return bool(await self._see_life(keys=[self.key(f"life:{site}"), self.key(site)], args=[before, life, id_of(last)]))
@@ -282,7 +291,7 @@ class Streams:
             pipe.xrevrange(self.key(site), count=1)
         pipe.mget(self._mark_keys)
         for site, status in statuses.items():
-            said = status | {"told": time.time_ns(), "by": run_by(f"{self.folder}/{site}")}
+            said = status | {"form": FORM, "told": time.time_ns(), "by": run_by(f"{self.folder}/{site}")}
             pipe.set(self.key(f"status:{site}"), json.dumps(said), px=int(1000 * STATUS_SECONDS))
             pipe.set(self.key("sites"), self.sites, nx=True)        # a server that has lost it
         found = await pipe.execute()
@@ -311,11 +320,14 @@ class Streams:
         """What the supervisor that has a site answers to a request; None if it gives no answer in time."""
         name = f"{os.getpid()}.{time.time_ns()}.{site}"
         until = time.monotonic() + seconds
-        while not (life := await self.redis.get(self.key(f"life:{site}")) or (await self.statuses()).get(site, {}).get("life")):
+        while not (life := await self.redis.get(self.key(f"life:{site}")) or (status := (await self.statuses()).get(site, {})).get("life")):
+            if status and "life" not in status:
+                raise Fault(Status.AWAY, f"site {site} runs on a machine with an earlier version of shop, which can't be asked from here: "
+                            "ask it there, or upgrade it; nothing was asked")
             if time.monotonic() > until:
                 return None
             await asyncio.sleep(0.1)        # the server has lost it, and is told again; a site that waits for others says it beside its status
-        await self.say({"call": name, "site": site, "life": life, "request": json.dumps(request)})
+        await self.say({"call": name, "site": site, "life": life, "form": FORM, "request": json.dumps(request)})
         while (left := until - time.monotonic()) > 0:
             # The server takes whole seconds, and a socket waits no longer than its time-out.
             if found := await self.redis.blpop(self.key(f"answer:{name}"), max(1, min(int(left), 5))):
@@ -372,6 +384,11 @@ def new_mark() -> bytes:
 def owner_text(folder: str, new: str = "") -> str:
     """Which folder it is, or the one beside it that takes its place, and where."""
     return f"{identity(folder + new)} {socket.gethostname()}:{folder}"
+
+
+def is_run_in(status: dict[str, Any], folder: str) -> bool:
+    """Whether the supervisor that says how a site is runs this folder, or ran one in its place."""
+    return str(status.get("by", "")).endswith(f" {socket.gethostname()}:{folder}")
 
 
 def run_by(folder: str) -> str:

@@ -66,6 +66,7 @@ class Supervisor(Shop):
         self.asks_questions = answers_questions(program, MEMORY, self.folder)
         self.prints_events = "SHOP_READY" not in os.environ     # it runs in the foreground, or for systemd
         self.since = stamp()
+        self.status_at_end = Status.WELL
         self.tasks: set[asyncio.Task[None]] = set()
         self.followers: dict[int | None, set[Follower]] = {}
         self.events = self._open_events()
@@ -162,12 +163,17 @@ class Supervisor(Shop):
             "fault": " ".join(site.fault) if site.fault else None, "faults": site.faults, "answers": dict(kept.answers),
         }
 
+    def _status_here(self, site: KeptSite) -> dict[str, Any]:
+        """How a site here is, for those who ask it: up only if it takes asks. The others want to know whether it runs."""
+        status = self.status_of(site)
+        return status | {"state": State.WAITING} if status["state"] is State.UP and not site.opened.is_set else status
+
     async def status(self) -> tuple[bool, dict[str, Any]]:
         """Whether all is well, and how the shop and each of its sites is."""
         sites = []
         for number in range(self.settings.sites):
             if number in self.sites:
-                sites.append(self.status_of(self.sites[number]))
+                sites.append(self._status_here(self.sites[number]))
             else:
                 sites.append(await self.link.status_of(number) or {"site": number, "state": "away"})
         holder = next((one["site"] for one in sites if one.get("holds_token") and one["turn"] >= self.wants.turn), None)
@@ -300,6 +306,7 @@ class Supervisor(Shop):
         """A task. The fault of one that is needed ends the supervisor, since it would be a shop that only seems to run."""
         def look(done: "asyncio.Task[None]") -> None:
             if not done.cancelled() and (fault := done.exception()):
+                self.status_at_end = Status.AWAY if is_needed else self.status_at_end
                 (self.stop if is_needed else self.event)(f"a fault of its own: {fault!r}")
         task: asyncio.Task[None] = asyncio.create_task(work)
         self.tasks.add(task)                        # a task that nobody holds may be forgotten
@@ -322,12 +329,16 @@ class Supervisor(Shop):
                 pass        # `shop start` had no time to wait for it
             os.close(int(ready))
         if notify := os.environ.get("NOTIFY_SOCKET"):
-            with socket.socket(socket.AF_UNIX, socket.SOCK_DGRAM) as to:
-                to.connect(notify.replace("@", "\0", 1))
-                to.send(b"READY=1")
+            try:
+                with socket.socket(socket.AF_UNIX, socket.SOCK_DGRAM) as to:
+                    to.connect(notify.replace("@", "\0", 1) if notify.startswith("@") else notify)
+                    to.send(b"READY=1")
+            except OSError as fault:
+                self.event(f"supervisor: {notify} (NOTIFY_SOCKET) can't be told that it is ready: {fault.strerror or fault}")
 
     async def _look_after_folder(self) -> None:
-        """Ends the supervisor when its folder is gone: nobody could reach it; and a site whose folder or files are gone."""
+        """Ends the supervisor when its folder is gone: nobody could reach it; and a site whose folder or files are gone. A lost socket is made
+        again."""
         was = os.stat(self.folder).st_ino
         while True:
             await asyncio.sleep(LOOK_SECONDS)
@@ -338,6 +349,7 @@ class Supervisor(Shop):
             if not is_there:
                 self.stop(f"{self.folder} is gone")
                 return
+            await self.server.look_after()
             for site in self.sites.values():
                 if not site.has_lost_files() and self.asks_questions and self.may_give(site) and not site.line:
                     site.give([STATE], Purpose.QUESTION)        # a keeper that hangs is seen
@@ -358,6 +370,7 @@ def run(folder: str, settings: Settings, program: str, is_alone: bool, upgrades:
     write(folder, settings)
 
     async def main() -> None:
-        await Supervisor(folder, settings, program, is_alone, upgrades).run()
-        os._exit(Status.WELL)       # what a broken connection holds up doesn't hold up the end; all records are in files
+        supervisor = Supervisor(folder, settings, program, is_alone, upgrades)
+        await supervisor.run()
+        os._exit(supervisor.status_at_end)      # what a broken connection holds up doesn't hold up the end; all records are in files
     asyncio.run(main())

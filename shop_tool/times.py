@@ -9,6 +9,11 @@ def stamp() -> str:
     return datetime.datetime.now().astimezone().isoformat(timespec="milliseconds")
 
 
+def utc_stamp() -> str:
+    """Now, to the millisecond, as times are written that are compared as texts."""
+    return datetime.datetime.now(datetime.timezone.utc).isoformat(timespec="milliseconds").replace("+00:00", "Z")
+
+
 def changed(path: str) -> str | None:
     """When a file was written last, to the second; None if there is none."""
     try:

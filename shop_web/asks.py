@@ -1,18 +1,19 @@
 """Asks: what a request asks, as JSON or CSV, and the answers to it."""
 
 import json
+import re
 from collections.abc import AsyncIterator
 from typing import Any, NamedTuple
 
 from shop_tool.carrier.keys import KEY_BYTES, is_key
-from shop_tool.carrier.records import bytes_of, line_of, why_not_one_record
+from shop_tool.carrier.records import BYTES_OF_A_RECORD, bytes_of, line_of, why_not_one_record
 from shop_tool.ends import Fault
-from shop_tool.requests import RECORDS_OF_A_REQUEST
+from shop_tool.requests import RECORDS_OF_A_REQUEST, REQUEST_BYTES
 
 from .line import Line
 from .problems import Problem, of_fault, refused
 
-PIECE = 1000        # how many of the asks of one request go to the supervisor at once
+PIECE = 500         # how many of the asks of one request go to the supervisor at once
 MOST_ASKS = 100_000     # of one request: they are read and checked while everybody else waits
 # The fields of each kind of ask, in the order of its record.
 FIELDS: dict[str, tuple[str, ...]] = {
@@ -31,6 +32,7 @@ class One(NamedTuple):
 
     record: str
     key: str | None
+    has_names: bool = False     # it came as an object whose members are its fields
 
 
 class Told(NamedTuple):
@@ -84,7 +86,7 @@ def of_csv(body: bytes, key: str | None) -> tuple[list[One], bool]:
     try:
         lines = body.decode().split("\n")
     except UnicodeDecodeError as fault:
-        raise Problem("BadRequest", f"the body is no text in UTF-8: {fault}") from fault
+        raise Problem("BadRequest", f"the body is no text in UTF-8, from byte {fault.start} on; nothing was asked") from fault
     if lines[-1] == "":
         lines.pop()
     return with_key([One(line.removesuffix("\r"), None) for line in lines], key), len(lines) != 1
@@ -124,7 +126,15 @@ def _of_object(said: Any) -> One:
         rest = fields
     if rest or not isinstance(record, str) or not (key is None or isinstance(key, str)):
         raise Problem("BadRequest", f"an ask has no {', '.join(map(str, rest))}" if rest else "`record` and `key` are texts")
-    return One(record, key)
+    return One(record, key, "record" not in said)
+
+
+def by_names(ask: One, meaning: str) -> str:
+    """What is wrong with an ask; of one whose fields came by their names, with the name in place of the number."""
+    if not ask.has_names:
+        return meaning
+    names = FIELDS[ask.record.partition(",")[0]]
+    return re.sub(r"\bfield ([2-9]):", lambda found: f"`{names[int(found[1]) - 2]}`:", meaning)
 
 
 def _field(name: str, value: Any) -> str:
@@ -179,4 +189,5 @@ async def asked(line: Line, site: int, asks: list[One], options: Options) -> Asy
             raise of_fault(fault, is_ask=True) from fault
 
 
-assert PIECE <= RECORDS_OF_A_REQUEST
+# A byte takes at most six in JSON: a longer request would have the supervisor close the one connection that all requests share.
+assert PIECE <= RECORDS_OF_A_REQUEST and 6 * PIECE * (BYTES_OF_A_RECORD + KEY_BYTES + 10) < REQUEST_BYTES

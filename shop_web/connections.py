@@ -1,12 +1,13 @@
 """Connections: one on which no request comes to its end, or no answer is read, is closed; and what is no request is told as a problem."""
 
 import asyncio
-from typing import Any
+import zlib
 
 from aiohttp import HttpVersion11, web
 
 from .problems import Problem
 
+BODY_BYTES = 16 << 20       # of a request, also once it is unpacked
 IDLE_SECONDS = 60.0
 LOOK_SECONDS = 5.0
 MOST_WAITING = 100          # requests of one connection, beyond which no more are read
@@ -38,10 +39,10 @@ class Connections:
     async def read(self, request: web.Request) -> bytes:
         """The body of a request; a Problem if it doesn't come to its end in time."""
         if request.content.is_eof():
-            return await request.read()         # as most are: it came with the head
+            return unpacked(await request.read(), request)      # as most are: it came with the head
         try:
             async with asyncio.timeout(self.idle_seconds):
-                return await request.read()
+                return unpacked(await request.read(), request)
         except TimeoutError:
             raise Problem("TooSlow", f"the body didn't come to its end within {self.idle_seconds:g} s; nothing was asked") from None
 
@@ -65,6 +66,25 @@ class Connections:
                     transport.abort()       # a close would wait for what isn't read
                 else:
                     each.force_close()
+
+
+def unpacked(body: bytes, request: web.Request) -> bytes:
+    """What a body says. The library would unpack all of it before it is known who sends it."""
+    coding = request.headers.get("Content-Encoding", "identity").strip().lower()
+    if coding == "identity":
+        return body
+    if coding not in ("gzip", "x-gzip"):
+        raise Problem("OtherContent", f"a body may be packed by gzip, and not by {coding}; nothing was asked")
+    unpacking = zlib.decompressobj(zlib.MAX_WBITS | 16)
+    try:
+        text = unpacking.decompress(body, BODY_BYTES)
+    except zlib.error as fault:
+        raise Problem("BadRequest", "the body isn't packed by gzip, as its header says; nothing was asked") from fault
+    if unpacking.unconsumed_tail:
+        raise Problem("TooLong", f"the body has more than {BODY_BYTES} bytes once it is unpacked; nothing was asked")
+    if not unpacking.eof or unpacking.unused_data:
+        raise Problem("BadRequest", "the body is packed by gzip, and cut off or followed by something else; nothing was asked")
+    return text
 
 
 async def expected(request: web.Request) -> None:

@@ -1,15 +1,20 @@
 """What Prometheus reads: how the shop is, and what was asked over HTTP."""
 
+import contextlib
 import functools
+import os
 from collections.abc import Iterator
 from typing import Any
 
-from prometheus_client import CollectorRegistry, Counter, Histogram, generate_latest
+from prometheus_client import CollectorRegistry, Counter, Histogram, ProcessCollector, generate_latest
 from prometheus_client.core import CounterMetricFamily, GaugeMetricFamily, Metric
 
+from shop_tool.program import build
+
 SECONDS = (0.001, 0.002, 0.005, 0.01, 0.02, 0.05, 0.1, 0.2, 0.5, 1.0, 2.0, 5.0, 10.0)
+PAGE_BYTES = os.sysconf("SC_PAGE_SIZE")
 GAUGES = {
-    "shop_site_up": "1 if the site is up, as far as is known here",
+    "shop_site_up": "1 if the site takes asks, as far as is known here",
     "shop_site_full": "1 if the site keeps no more messages",
     "shop_site_silent_seconds": "Seconds for which the site hasn't answered what it was given, if it hangs",
     "shop_site_records": "Records that the site keeps, of 4000000",
@@ -24,11 +29,22 @@ GAUGES = {
 class Status:
     """The status of the shop, as metrics."""
 
-    def __init__(self) -> None:
+    def __init__(self, folder: str) -> None:
+        self.folder, self.build = folder, build()
         self.shop: dict[str, Any] | None = None     # None where the supervisor couldn't be reached
 
     def collect(self) -> Iterator[Metric]:
         shop = self.shop or {"site": []}
+        info = GaugeMetricFamily("shop_build_info", "1, under the name of the build of shop", labels=["build"])
+        info.add_metric([self.build], 1.0)
+        resident = GaugeMetricFamily("shop_resident_bytes", "Memory of the supervisor, and of the program of each site here", labels=["process"])
+        for process, number in [("supervisor", shop.get("pid")), *((f"site {site['site']}", site.get("pid")) for site in shop["site"])]:
+            if number and (size := resident_bytes(number)) is not None:
+                resident.add_metric([process], size)
+        yield from (info, resident)
+        with contextlib.suppress(OSError):
+            disk = os.statvfs(self.folder)
+            yield GaugeMetricFamily("shop_disk_free_bytes", "Free space of the disk that has the shop's folder", value=disk.f_bavail * disk.f_frsize)
         yield GaugeMetricFamily("shop_up", "1 if the supervisor of the shop can be reached", value=float(self.shop is not None))
         if self.shop:
             yield GaugeMetricFamily("shop_link_up", "1 if packets are carried", value=float(shop["link"] == "up"))
@@ -57,10 +73,20 @@ class Status:
         yield from (*gauges.values(), behind, starts, faults, answers)
 
 
+def resident_bytes(process: int) -> int | None:
+    """The memory that a process has; None if it is gone, or somebody else's."""
+    try:
+        with open(f"/proc/{process}/statm") as file:
+            return int(file.read().split()[1]) * PAGE_BYTES
+    except (OSError, ValueError):
+        return None
+
+
 class Metrics:
-    def __init__(self) -> None:
+    def __init__(self, folder: str) -> None:
         self.registry = CollectorRegistry()
-        self.status = Status()
+        ProcessCollector(registry=self.registry)        # of this server
+        self.status = Status(folder)
         self.registry.register(self.status)     # type: ignore[arg-type]
         self.asks = Counter("shop_http_asks", "Asks over HTTP, by their answers", ["site", "answer"], registry=self.registry)
         self.ask_seconds = Histogram("shop_http_ask_seconds", "Seconds from a request with one ask to its answer", ["site"], buckets=SECONDS,

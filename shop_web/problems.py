@@ -11,7 +11,7 @@ from shop_tool.ends import Fault, Status
 from shop_tool.render import shown
 
 CONTENT = "application/problem+json"
-RETRY_SECONDS = "1"
+RETRY_SECONDS = 1
 
 
 class Kind(NamedTuple):
@@ -33,7 +33,10 @@ _OWN = {
     "OtherHost": Kind(421, "the request is for another host"),
     "OtherContent": Kind(415, "the content is neither JSON nor CSV"),
     "Refused": Kind(409, "it can't be done now"),
+    "TooMany": Kind(429, "the bearer key has to wait before it asks for more"),
     "Broken": Kind(500, "a fault of the server's own"),
+    "NoView": Kind(501, "what is asked for is read from a view of the site, which isn't served here (shop serve --view FILE)"),
+    "NotYet": Kind(503, "the site hasn't had the message by then that the request wants to be behind"),
     "Away": Kind(503, "the site takes no asks now; nothing was given to it"),
     "Unknown": Kind(504, "no answer came in time, and whether the ask is accepted isn't known"),
 }
@@ -41,9 +44,9 @@ KINDS = {name: Kind(_STATUSES.get(name, 409), meaning) for name, meaning in REFU
 
 
 class Problem(Exception):
-    def __init__(self, name: str, detail: str, number: int | None = None, allowed: Iterable[str] = ()) -> None:
+    def __init__(self, name: str, detail: str, number: int | None = None, allowed: Iterable[str] = (), retry: int = RETRY_SECONDS) -> None:
         super().__init__(detail)
-        self.name, self.detail, self.number, self.allowed = name, detail, number, sorted(allowed)
+        self.name, self.detail, self.number, self.allowed, self.retry = name, detail, number, sorted(allowed), retry
 
     @property
     def status(self) -> int:
@@ -55,7 +58,8 @@ class Problem(Exception):
         return said if self.number is None else said | {"number": self.number}
 
     def response(self) -> web.Response:
-        headers = {503: {"Retry-After": RETRY_SECONDS}, 401: {"WWW-Authenticate": "Bearer"}, 405: {"Allow": ", ".join(self.allowed)}}.get(self.status, {})
+        retry = {"Retry-After": str(self.retry)}
+        headers = {503: retry, 429: retry, 401: {"WWW-Authenticate": "Bearer"}, 405: {"Allow": ", ".join(self.allowed)}}.get(self.status, {})
         return web.Response(status=self.status, body=json.dumps(self.said()).encode() + b"\n", content_type=CONTENT, headers=headers)
 
 

@@ -1,16 +1,14 @@
 """What can be requested: one table, which the server serves and the OpenAPI description is made of."""
 
 import re
-from typing import Any, NamedTuple
-
-from shop_tool.carrier.records import COLUMNS, NUMBERS
+from typing import NamedTuple
 
 from .access import May
-from .asks import FIELDS
 from .problems import CONTENT, KINDS
 from .rows import FEW_ROWS, MOST_ROWS, TABLES
-
-Schema = dict[str, Any]
+from .schemas import (ASK_KEY, CATEGORY, END, ENDS, ITEM, NAME_MAX, NAMES, NICKNAME, PROBLEM, SELLER, SITE, YES, Schema, array_of, content, object_of, ref,
+                      schemas, text)
+from .views import OF_USERS, SORTS
 
 
 class Route(NamedTuple):
@@ -31,120 +29,101 @@ class Route(NamedTuple):
         return self.name or self.does
 
 
-def ref(name: str) -> Schema:
-    return {"$ref": f"#/components/schemas/{name}"}
-
-
 def json_of(name: str) -> dict[str, Schema]:
     return {"application/json": ref(name)}
 
 
-TEXT: Schema = {"type": "string"}
-WHOLE: Schema = {"type": "integer"}
-YES: Schema = {"type": "boolean"}
-EVENTS = {"text/event-stream": TEXT}
+ROWS_CSV = content("id,item,bidder,amount,red\n0.4,0.3,0.2,500,3\n")
+EVENTS = {"text/event-stream": content("event: line\ndata: \"< user,ann\"\n\n")}
 QUERY: dict[str, tuple[Schema, str]] = {
-    "timeout": ({"type": "number", "exclusiveMinimum": 0, "maximum": 600, "default": 10}, "seconds until it gives up"),
-    "fetch": ({"type": "boolean", "default": True}, "whether the token is fetched for an ask that needs it"),
-    "published": ({"type": "boolean", "default": False}, "answer only once the server, or another site, has what was accepted"),
-    "after": (TEXT, "the `next` of the page before"),
-    "limit": ({"type": "integer", "minimum": 1, "maximum": MOST_ROWS, "default": FEW_ROWS}, "how many rows at most"),
-    "nickname": (TEXT, "only the user with this nickname"),
-    "category": ({"type": "integer", "minimum": 0, "maximum": 999}, "of this category"),
-    "item": (TEXT, "of this item"),
-    "to": (TEXT, "to this user"),
+    "timeout": ({"type": "number", "exclusiveMinimum": 0, "maximum": 600, "default": 10, "examples": [2.5]}, "seconds until it gives up"),
+    "fetch": (YES | {"default": True}, "whether the token is fetched for an ask that needs it"),
+    "published": (YES | {"default": False}, "answer only once the server, or another site, has what was accepted"),
+    "after": (END, "the `next` of the page before"),
+    "limit": ({"type": "integer", "minimum": 1, "maximum": MOST_ROWS, "default": FEW_ROWS, "examples": [20]}, "how many rows at most"),
+    "nickname": (NICKNAME, "only the user with this nickname"),
+    "category": (CATEGORY, "of this category"),
+    "item": (ITEM, "of this item"),
+    "to": (SELLER, "to this user"),
+    "seller": (SELLER, "of this seller; from a view"),
+    "open": (YES, "whether they are open; from a view"),
+    "q": (text("[0-9A-Za-z]", NAME_MAX, "blue lam"), "words of the name, whole or how they begin; from a view"),
+    "sort": ({"enum": [*SORTS], "default": "-entry", "examples": ["-amount"]},
+             "by the place in the log, the best bid's amount or the price, falling with -; from a view"),
+    "site": (SITE, "of this site alone"),
+    "behind": (ITEM, "of a message that the rows have to have, as one's own ask"),
 }
-NEEDED = ("category", "item", "to")     # a listing that has one of these can't do without
+NEEDED = ("item", "to")         # a listing that has one of these can't do without
 KEY = "Idempotency-Key"
+LAST = "Last-Event-ID"
 HEADERS: dict[str, tuple[Schema, str]] = {
-    KEY: ({"type": "string", "minLength": 1, "maxLength": 255},
+    LAST: (text("^[0-9]+-[0-9]+$", 40, "10977425-93"), "the id of the last event that the reader has: it gets those behind it"),
+    KEY: (ASK_KEY,
           "asked again with this key, within a day and at the same site, the ask isn't given a second time and gets the answer that it got"),
 }
 OF_ASKS = ("BadRecord", "Full", "NoToken", "RedBehind", "NickTaken", "NoUser", "NoItem", "Closed", "LowBid", "StockShort", "NotSeller", "OwnItem",
            "NoBuyNow", "SelfComment", "KeyTaken", "BadRequest", "NotFound", "TooLong", "OtherContent", "Away", "Unknown")
 
 
+OF_ITEMS = ("category", "seller", "open", "q", "sort")
+
+
 def _listings() -> list[Route]:
     made = []
     for name, (kind, field) in TABLES.items():
-        query = ("nickname",) if name == "users" else (field,) if field else ()
+        query = ("nickname",) if name == "users" else OF_ITEMS if name == "items" else (field,) if field else ()
         made.append(Route("GET", f"/sites/{{site}}/{name}", "get_listing", May.READ, f"The {name} as a site has them, a page at a time",
-                          {**json_of(f"{kind}_page"), "text/csv": TEXT}, (*query, "after", "limit", "timeout"),
-                          problems=("BadRequest", "NotFound", "Away"), name=f"list_{name}"))
+                          {**json_of(f"{kind}_page"), "text/csv": ROWS_CSV}, (*query, "after", "limit", "behind", "timeout"),
+                          problems=("BadRequest", "NotFound", *(["NoView"] if name == "items" else []), "NotYet", "Away"), name=f"list_{name}"))
         if kind != "misfit":
-            made.append(Route("GET", f"/sites/{{site}}/{name}/{{key}}", "get_row", May.READ, f"One of the {name}", json_of(kind), ("timeout",),
-                              problems=("NotFound", "Away"), name=f"get_{kind}"))
+            made.append(Route("GET", f"/sites/{{site}}/{name}/{{key}}", "get_row", May.READ, f"One of the {name}", json_of(kind),
+                              ("behind", "timeout"), problems=("NotFound", "NotYet", "Away"), name=f"get_{kind}"))
+    for name, column in OF_USERS.items():
+        made.append(Route("GET", f"/sites/{{site}}/users/{{key}}/{name}", "get_of_user", May.READ,
+                          f"The {name} of a user, by `{column}`, from a view, the newest first", json_of(f"user_{name}"),
+                          ("after", "limit", "behind", "timeout"), problems=("BadRequest", "NotFound", "NoView", "NotYet", "Away"), name=f"list_user_{name}"))
     return made
 
 
 ROUTES = [
-    Route("GET", "/", "get_page", None, "A page of the running shop", {"text/html": TEXT}),
-    Route("GET", "/openapi.json", "get_description", None, "This description", {"application/json": {"type": "object"}}),
+    Route("GET", "/", "get_page", None, "A page of the running shop", {"text/html": content("<!DOCTYPE html>")}),
+    Route("GET", "/openapi.json", "get_description", None, "This description", {"application/json": {"type": "object", "examples": [{"openapi": "3.1.0"}]}}),
     Route("GET", "/problems/{name}", "get_problem", None, "What a type of problem is", json_of("kind"), problems=("NotFound",)),
+    Route("GET", "/healthz", "get_health", None, "That this server runs", json_of("health")),
+    Route("GET", "/readyz", "get_readiness", None, "Whether a site here takes asks; 503 if none does, or not the one that is named",
+          json_of("health"), ("site",), problems=("Away",)),
     Route("GET", "/sites", "get_sites", May.READ, "How the shop and each of its sites is", json_of("shop"), problems=("Away",)),
     Route("GET", "/sites/{site}", "get_site", May.READ, "How a site is", json_of("site"), problems=("NotFound", "Away")),
     Route("POST", "/sites/{site}/asks", "post_asks", May.ASK, "Asks a site: one ask, or several, one behind the other",
-          {**json_of("told"), "application/x-ndjson": ref("told_or_end"), "text/csv": TEXT}, ("timeout", "fetch", "published"), (KEY,),
-          {"application/json": {"oneOf": [ref("ask"), {"type": "array", "items": ref("ask")}]}, "text/csv": TEXT}, OF_ASKS),
+          {**json_of("told"), "application/x-ndjson": ref("told_or_end"), "text/csv": content("ok,0.1\n")}, ("timeout", "fetch", "published"), (KEY,),
+          {"application/json": {"oneOf": [ref("ask"), array_of(ref("ask"))]}, "text/csv": content("restock,0.3,0.1,2\ncomment,0.3,0.2,0.1,5,good\n")}, OF_ASKS),
     Route("POST", "/sites/{site}/pass", "post_pass", May.OPERATE, "Hands the token on from the site that holds it", json_of("told"), ("timeout",),
-          body={"application/json": {"type": "object", "required": ["to"], "properties": {"to": WHOLE}}},
+          body={"application/json": object_of({"to": SITE | {"examples": [1]}})},
           problems=("BadRequest", "NotFound", "NoToken", "BadTarget", "LastTurn", "OtherContent", "Away")),
     *_listings(),
     Route("GET", "/sites/{site}/log", "get_log", May.READ, "The messages that a site has released, in their order, a page at a time",
-          {**json_of("log_page"), "text/csv": TEXT}, ("after", "limit", "timeout"), problems=("BadRequest", "NotFound", "Away")),
+          {**json_of("log_page"), "text/csv": ROWS_CSV}, ("after", "limit", "timeout"), problems=("BadRequest", "NotFound", "Away")),
+    Route("GET", "/sites/{site}/view", "get_view", May.READ, "How far the view of a site is", json_of("view"), ("timeout",),
+          problems=("NotFound", "NoView", "Away")),
     Route("GET", "/sites/{site}/follow", "get_follow", May.READ, "What a site is asked (<) and answers (>), as it comes", EVENTS,
           problems=("NotFound",)),
-    Route("GET", "/events", "get_events", May.READ, "What happens in the shop, and how it is, as it comes", EVENTS),
+    Route("GET", "/events", "get_events", May.READ, "What happened last in the shop, what happens, and how it is, as it comes", EVENTS,
+          headers=(LAST,)),
     Route("GET", "/audit", "get_audit", May.READ, "Audits the logs of all sites", json_of("verdict"), ("timeout",), problems=("Away",)),
-    Route("GET", "/metrics", "get_metrics", May.READ, "What Prometheus reads", {"text/plain": TEXT}),
+    Route("GET", "/metrics", "get_metrics", May.READ, "What Prometheus reads", {"text/plain": content("shop_up 1.0\n")}),
 ]
-
-
-LOG_COLUMNS = ["entry", "id", "red", "deps", "shadow", "message"]
-
-
-def columns_of(kind: str) -> list[str]:
-    return LOG_COLUMNS if kind == "log" else COLUMNS[kind]
-
-
-def schema_of_column(name: str) -> Schema:
-    return WHOLE if name in NUMBERS else TEXT
-
-
-def object_of(properties: dict[str, Schema], needed: list[str] | None = None) -> Schema:
-    return {"type": "object", "required": list(properties) if needed is None else needed, "properties": properties}
-
-
-def _schemas() -> dict[str, Schema]:
-    kinds = (*COLUMNS, "log")
-    made = {kind: object_of({"kind": {"const": kind}, **{name: schema_of_column(name) for name in columns_of(kind)}}) for kind in kinds}
-    for kind in kinds:
-        made[f"{kind}_page"] = object_of({"rows": {"type": "array", "items": ref(kind)}, "next": {"type": ["string", "null"]}})
-    asks: list[Schema] = [object_of({"ask": {"const": kind}, **{name: {"type": ["string", "integer"]} for name in names}, "key": TEXT}, ["ask", *names])
-                          for kind, names in FIELDS.items()]
-    asks.append(object_of({"record": TEXT, "key": TEXT}, ["record"]))
-    made["ask"] = {"oneOf": asks}
-    made["told"] = object_of({"record": TEXT, "answer": {"enum": ["ok", "passed", "refused"]}, "id": TEXT, "again": {"const": True},
-                              "problem": ref("problem")}, ["record", "answer"])
-    made["told_or_end"] = {"anyOf": [ref("told"), object_of({"problem": ref("problem")})]}
-    made["problem"] = object_of({"type": TEXT, "title": TEXT, "status": WHOLE, "detail": TEXT, "name": TEXT, "number": WHOLE},
-                                ["type", "title", "status", "detail", "name"])
-    made["kind"] = object_of({"type": TEXT, "title": TEXT, "status": WHOLE})
-    made["verdict"] = object_of({"verdict": TEXT, "agrees": YES})
-    counts = dict.fromkeys(("own", "turn", "records", "records_left", "messages", "sent", "published", "waiting", "held", "starts", "faults"), WHOLE)
-    made["site"] = object_of({"site": WHOLE, "state": TEXT, "since": TEXT, **counts, "holds_token": YES, "full": YES,
-                              "silent": {"type": ["number", "null"]}, "fault": {"type": ["string", "null"]}}, ["site", "state"])
-    made["shop"] = object_of({"well": YES, "token": {"type": ["integer", "null"]}, "sites": {"type": "array", "items": ref("site")}},
-                             ["well", "sites"])
-    return made
 
 
 def _parameters(route: Route) -> list[Schema]:
     made: list[Schema] = []
+    table = (route.path.split("/") + [""] * 3)[3]
+    places = {"site": SITE, "name": PROBLEM, "key": NAMES.get(table, ITEM)}
     for name in re.findall(r"{(\w+)}", route.path):
-        made.append({"name": name, "in": "path", "required": True, "schema": WHOLE if name == "site" else TEXT})
+        made.append({"name": name, "in": "path", "required": True, "schema": places[name]})
     for name in route.query:
         schema, about = QUERY[name]
+        if name == "after":
+            schema = schema | {"examples": [ENDS["items" if "{key}" in route.path else table]]}
         made.append({"name": name, "in": "query", "required": name in NEEDED, "schema": schema, "description": about})
     for name in route.headers:
         schema, about = HEADERS[name]
@@ -154,13 +133,13 @@ def _parameters(route: Route) -> list[Schema]:
 
 def _operation(route: Route, is_open: bool) -> Schema:
     problems: dict[str, list[str]] = {}
-    for name in (*route.problems, *(() if is_open or route.may is None else ("Unauthorized", "Forbidden"))):
+    for name in (*route.problems, *(() if is_open or route.may is None else ("Unauthorized", "Forbidden", "TooMany"))):
         problems.setdefault(str(KINDS[name].status), []).append(name)
     content = {kind: {"schema": schema} for kind, schema in route.answers.items()}
     said: dict[str, Schema] = {"200": {"description": route.about, "content": content}}
     if route.does == "post_asks":
         said["201"] = {"description": "One ask is accepted, and has made a row", "content": {"application/json": {"schema": ref("told")}},
-                       "headers": {"Location": {"schema": TEXT}}}
+                       "headers": {"Location": {"schema": text("^/sites/[0-9]+/[a-z]+/[0-9.]+$", 60, "/sites/0/users/0.1")}}}
     for status, names in sorted(problems.items()):
         about = "; ".join(f"{name}: {KINDS[name].title}" for name in names)
         said[status] = {"description": about, "content": {CONTENT: {"schema": ref("problem")}}}
@@ -178,7 +157,7 @@ def description(is_open: bool) -> Schema:
     paths: dict[str, Schema] = {}
     for route in ROUTES:
         paths.setdefault(route.path, {})[route.method.lower()] = _operation(route, is_open)
-    components: Schema = {"schemas": _schemas()}
+    components: Schema = {"schemas": schemas()}
     said: Schema = {"openapi": "3.1.0", "info": {"title": "A rubis shop", "version": "1"}, "paths": paths, "components": components}
     if not is_open:
         components["securitySchemes"] = {"key": {"type": "http", "scheme": "bearer"}}

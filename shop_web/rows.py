@@ -3,6 +3,7 @@
 from typing import Any, NamedTuple
 
 from shop_tool.carrier.records import Purpose, Row, bytes_of, row_of, why_not_one_record
+from shop_tool.client import member
 from shop_tool.ends import Fault, Status
 
 from .line import Line
@@ -44,12 +45,12 @@ class Rows:
             said = await self._line.one(request)
         except Fault as fault:
             raise Fault(Status.MISUSE, fault.text) if fault.status == Status.REFUSED else fault from None
-        return Page([log_row(line) if line.startswith("row,log,") else row_of(line) for line in said["rows"]], said["next"])
+        return Page([log_row(line) if line.startswith("row,log,") else row_of(line) for line in member(said, "rows")], member(said, "next"))
 
     async def row(self, site: int, kind: str, key: str, seconds: float) -> Row | None:
         """One row by its id, a category by its number, and a user by its nickname too."""
         table = "nickname" if kind == "user" and "." not in key else kind
-        line = (await self._line.one({"op": "row", "site": site, "table": table, "key": key, "timeout": seconds}))["row"]
+        line = member(await self._line.one({"op": "row", "site": site, "table": table, "key": key, "timeout": seconds}), "row")
         return row_of(line) if line else None
 
 

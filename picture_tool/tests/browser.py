@@ -15,6 +15,30 @@ NAMES = ("chromium", "chromium-browser", "google-chrome")
 KEYS = {"ArrowRight": 39, "ArrowLeft": 37, "ArrowUp": 38, "ArrowDown": 40, "Home": 36, "End": 35, "Escape": 27, "Tab": 9}
 SECONDS = 30
 
+# The texts that are seen with a contrast below 4.5 to what is behind them, and how much that is.
+FAINT = """(() => {
+  const probe = document.createElement("canvas").getContext("2d", {willReadFrequently: true});
+  const rgba = colour => {
+    probe.clearRect(0, 0, 1, 1); probe.fillStyle = colour; probe.fillRect(0, 0, 1, 1);
+    return [...probe.getImageData(0, 0, 1, 1).data];
+  };
+  const ground = document.createElement("div");
+  ground.style.backgroundColor = "Canvas"; document.body.append(ground);
+  const canvas = getComputedStyle(ground).backgroundColor; ground.remove();
+  const behind = one => {
+    for (; one; one = one.parentElement) { const its = getComputedStyle(one).backgroundColor; if (rgba(its)[3] === 255) return its; }
+    return canvas;
+  };
+  const light = colour => rgba(colour).slice(0, 3).map(v => v / 255).map(v => v <= 0.04045 ? v / 12.92 : ((v + 0.055) / 1.055) ** 2.4)
+    .reduce((sum, v, at) => sum + v * [0.2126, 0.7152, 0.0722][at], 0.05);
+  const seen = [...document.querySelectorAll("body *")].filter(one => one.checkVisibility() && !one.matches("script, style, option, datalist"));
+  const said = one => one.matches("input, select, button") || [...one.childNodes].some(part => part.nodeType === 3 && part.data.trim());
+  return seen.filter(said).map(one => {
+    const [low, high] = [getComputedStyle(one).color, behind(one)].map(light).sort((a, b) => a - b);
+    return [`${one.tagName} ${one.id || one.textContent.trim().slice(0, 20)}`, high / low];
+  }).filter(([, contrast]) => contrast < 4.5);
+})()"""
+
 # The browser reads its file 3, and writes its file 4.
 AS_3_AND_4 = "import os, sys; os.dup2(int(sys.argv[1]), 3); os.dup2(int(sys.argv[2]), 4); os.execv(sys.argv[3], sys.argv[3:])"
 
@@ -108,6 +132,14 @@ class Browser:
 
     def size(self, width: int, height: int, scale: float = 1) -> None:
         self.call("Emulation.setDeviceMetricsOverride", width=width, height=height, deviceScaleFactor=scale, mobile=False)
+
+    def scheme(self, name: str) -> None:
+        """Has pages shown as a system that asks for `light` or `dark` shows them."""
+        self.call("Emulation.setEmulatedMedia", features=[{"name": "prefers-color-scheme", "value": name}])
+
+    def faint(self) -> list[tuple[str, float]]:
+        """The texts of the page that are hard to read."""
+        return [(text, contrast) for text, contrast in self.value(FAINT)]
 
     def open(self, path: str, ready: str = "document.readyState === 'complete'") -> None:
         self.call("Page.navigate", url=f"file://{os.path.abspath(path)}")

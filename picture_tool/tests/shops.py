@@ -1,6 +1,6 @@
 """Runs of shops that are made up for tests: what each site was given, and what the program answers to it.
 
-`scripts/try_pictures.py` has the program answer the same records, so these are runs of it."""
+`tests/test_pictures.py` has the program answer the same records, so these are runs of it."""
 
 import dataclasses
 import heapq

@@ -59,7 +59,6 @@ class Lanes(unittest.TestCase):
         titles = [title.text for title in root.iter("{http://www.w3.org/2000/svg}title")]
         self.assertIn('site 1, 3: held: msg,1,0,2,0,1:0:0,item,0.1,"lamp, ""old""",7,1,100,0', titles)
 
-
     def test_bytes_that_no_xml_has(self) -> None:
         odd = '\ufeff$ rubis site\n> user,"a\x01<&\ufffe\x00"\nreply,1,refused,1,BadRecord\n'
         titles = [title.text for title in ET.fromstring(drawn([], odd)).iter("{http://www.w3.org/2000/svg}title")]
@@ -177,6 +176,14 @@ class Colours(unittest.TestCase):
             self.assertGreater(colours.contrast(colour, colours.WHITE), 4.5)
         self.assertGreater(colours.contrast(colours.INK, colours.TOKEN), 4.5)
         self.assertGreater(colours.contrast(colours.WHITE, colours.RED), 4.5)
+
+    def test_texts_of_the_page_are_read_by_day_and_in_the_dark(self) -> None:
+        self.assertEqual(colours.LIGHT.keys(), colours.DARK.keys())
+        for scheme in (colours.LIGHT, colours.DARK):
+            for text, behind in (("ink", "paper"), ("grey", "paper"), ("ink", "hover"), ("ink", "token"), ("ink", "lacks"), ("paper", "red")):
+                self.assertGreater(colours.contrast(scheme[text], scheme[behind]), 4.5, f"{text} on {behind}")
+            for blindness in colours.BLINDNESS:
+                self.assertGreater(colours.difference(scheme["red"], scheme["blue"], blindness), 20, blindness)
 
 
 class Order(unittest.TestCase):

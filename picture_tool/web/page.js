@@ -76,7 +76,7 @@ class Page {
     this.step = new Step(run, at => this.go(at));
     const longest = Math.max(...[...run.byId.keys()].slice(-400).map(id => id.length), 0);
     this.picture.step = Math.max(this.picture.narrowest(), run.columns * CAPTIONS <= this.picture.room * 3 ? CAPTIONS : Math.max(IDS + 6, 7 * longest + 3));
-    this.buttons(); this.keys(); this.pointers(); this.names(); this.fault(); this.prints();
+    this.buttons(); this.keys(); this.pointers(); this.names(); this.fault(); this.prints(); this.scheme();
     new ResizeObserver(() => { if (!this.printing) { this.picture.resize(); this.redraw(); } }).observe(el("picture"));
     this.go(Math.min(run.begin, run.count - 1));
   }
@@ -260,8 +260,20 @@ class Page {
 
   // On paper: the part that is seen, sharper, with its messages as a table.
   prints() {
-    window.addEventListener("beforeprint", () => { this.printing = true; this.picture.resize(1020, 3); this.picture.draw(); this.list(); });
-    window.addEventListener("afterprint", () => { this.printing = false; this.picture.resize(); this.picture.draw(); el("listed").replaceChildren(); });
+    window.addEventListener("beforeprint", () => { this.printing = true; this.colour(); this.picture.resize(1020, 3); this.picture.draw(); this.list(); });
+    window.addEventListener("afterprint", () => { this.printing = false; this.colour(); this.picture.resize(); this.picture.draw(); el("listed").replaceChildren(); });
+  }
+
+  // Dark where the reader's system asks for it, and never on paper.
+  scheme() {
+    this.dark = matchMedia("(prefers-color-scheme: dark)");
+    this.dark.addEventListener("change", () => { this.colour(); this.redraw(); });
+    this.colour();
+  }
+
+  colour() {
+    this.run.colours = this.run.palettes[this.dark.matches && !this.printing ? "dark" : "light"];
+    this.picture.base = null;
   }
 
   list() {

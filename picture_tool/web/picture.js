@@ -70,7 +70,7 @@ class Picture {
     const began = performance.now();
     const pen = this.pen = this.canvas.getContext("2d");
     pen.setTransform(this.scale, 0, 0, this.scale, 0, 0);
-    pen.fillStyle = "#fff";
+    pen.fillStyle = this.run.colours.paper;
     pen.fillRect(0, 0, this.width, this.height);
     this.boxes = [];                                        // of the words
     this.first = Math.floor(this.left);
@@ -85,9 +85,9 @@ class Picture {
     this.time = performance.now() - began;
   }
 
-  // How strong marks, and their words, are: what comes later is paler, and what isn't about the filter is hardly there.
+  // How strong marks, and their words, are: what comes later is paler, its words are grey, and what isn't about the filter is hardly there.
   alpha(at) { return this.filter.has(at) ? (at <= this.at ? 1 : 0.38) : 0.09; }
-  strength(at) { return this.filter.has(at) ? (at <= this.at ? 1 : 0.7) : 0.12; }
+  strength(at) { return this.filter.has(at) ? 1 : 0.12; }
 
   line(x1, y1, x2, y2, colour, width, dashes) {
     const pen = this.pen;
@@ -189,7 +189,7 @@ class Picture {
     } else {
       const half = Math.min(7, this.step / 2);
       pen.beginPath(); pen.moveTo(x, y - half); pen.lineTo(x + half, y); pen.lineTo(x, y + half); pen.lineTo(x - half, y); pen.closePath();
-      pen.fillStyle = kind === "holding" ? run.colours.red : "#fff"; pen.strokeStyle = run.colours.red; pen.lineWidth = 1.8;
+      pen.fillStyle = kind === "holding" ? run.colours.red : run.colours.paper; pen.strokeStyle = run.colours.red; pen.lineWidth = 1.8;
       pen.fill(); pen.stroke();
     }
   }
@@ -199,13 +199,13 @@ class Picture {
     const {run} = this, m = run.messageOf(at);
     if (!m || !m.red || !run.is(at, "made") || this.step < IDS - 6) return;
     const size = m.red < 100 ? 11 : m.red < 10000 ? 7.5 : 6, pen = this.pen;
-    pen.font = `bold ${size}px ${FONT}`; pen.textAlign = "center"; pen.fillStyle = at <= this.at ? "#fff" : run.colours.ink;
+    pen.font = `bold ${size}px ${FONT}`; pen.textAlign = "center"; pen.fillStyle = at <= this.at ? this.run.colours.paper : run.colours.ink;
     pen.fillText(String(m.red), this.x(run.column[at]), this.y(run.lane[at]) + size / 3);
   }
 
   dot(x, y, radius, isRed, isHeld) {
     const pen = this.pen, colour = isRed ? this.run.colours.red : this.run.colours.blue;
-    pen.fillStyle = isHeld ? "#fff" : colour; pen.strokeStyle = colour; pen.lineWidth = 1.8;
+    pen.fillStyle = isHeld ? this.run.colours.paper : colour; pen.strokeStyle = colour; pen.lineWidth = 1.8;
     pen.beginPath();
     if (isRed) pen.arc(x, y, radius, 0, 7); else pen.rect(x - radius * 0.9, y - radius * 0.9, radius * 1.8, radius * 1.8);
     pen.fill();
@@ -216,7 +216,7 @@ class Picture {
   text(x, y, size, text, colour) {
     const pen = this.pen;
     pen.font = `${size}px ${FONT}`; pen.textAlign = "center"; pen.fillStyle = colour;
-    pen.strokeStyle = "#fff"; pen.lineWidth = 3; pen.setLineDash([]); pen.lineJoin = "round";
+    pen.strokeStyle = this.run.colours.paper; pen.lineWidth = 3; pen.setLineDash([]); pen.lineJoin = "round";
     pen.strokeText(text, x, y);
     pen.fillText(text, x, y);
     const half = pen.measureText(text).width / 2;
@@ -236,10 +236,10 @@ class Picture {
     const {run} = this, x = this.x(run.column[at]), y = this.y(run.lane[at]), m = run.messageOf(at), kind = run.kindOf(at);
     if (x < NAMES + 4) return;
     const found = run.divergence, lift = found && (at === found.at || at === found.other) ? 22 : 17;
-    if (m && this.step > m.id.length * 6.4) this.text(x, y - lift, m.id.length < 5 ? 11 : 10, m.id, kind === "made" ? run.colours.ink : run.colours.grey);
+    if (m && this.step > m.id.length * 6.4) this.text(x, y - lift, m.id.length < 5 ? 11 : 10, m.id, kind === "made" && at <= this.at ? run.colours.ink : run.colours.grey);
     if (this.step < CAPTIONS) return;
     const words = kind === "made" ? run.caption(m) : kind === "held" ? "held" : kind === "refused" ? run.texts[at].split(":")[0] : kind === "passed" ? "pass" : kind === "holding" ? "token" : "";
-    if (words) this.text(x, y + 23, 10, this.fitted(words, this.step - 5, 10), run.colours.ink);
+    if (words) this.text(x, y + 23, 10, this.fitted(words, this.step - 5, 10), at <= this.at ? run.colours.ink : run.colours.grey);
   }
 
   // Where columns are narrower than marks: at most one tick for each px and lane.
@@ -289,7 +289,7 @@ class Picture {
   names() {
     const {run, pen} = this, {ink, grey} = run.colours;
     pen.setLineDash([]);
-    pen.fillStyle = "#fff"; pen.fillRect(0, 0, NAMES - 10, this.height); pen.fillRect(0, 0, this.width, RULER - 6);
+    pen.fillStyle = this.run.colours.paper; pen.fillRect(0, 0, NAMES - 10, this.height); pen.fillRect(0, 0, this.width, RULER - 6);
     pen.textAlign = "right"; pen.font = `bold 13px ${FONT}`; pen.fillStyle = ink;
     run.lanes.forEach(([, name], lane) => pen.fillText(name, NAMES - 16, this.y(lane) + 4, NAMES - 20));
     pen.textAlign = "center"; pen.font = `10px ${FONT}`; pen.fillStyle = grey;
@@ -303,7 +303,7 @@ class Picture {
     const pen = this.map.getContext("2d"), {run} = this, wide = this.width - NAMES - EDGE, x = column => NAMES + column / (run.columns + 1) * wide;
     if (!this.base || this.based !== this.filter.about) {
       pen.setTransform(this.scale, 0, 0, this.scale, 0, 0);
-      pen.fillStyle = "#fff"; pen.fillRect(0, 0, this.width, 44);
+      pen.fillStyle = this.run.colours.paper; pen.fillRect(0, 0, this.width, 44);
       const high = 36 / run.lanes.length, rows = this.filter.rows || run.rows;
       rows.forEach((row, lane) => {
         let last = -9;

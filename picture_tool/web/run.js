@@ -13,7 +13,7 @@ async function unpacked(text) {
 
 class Run {
   constructor(data) {
-    Object.assign(this, data);
+    Object.assign(this, data, {colours: data.colours.light, palettes: data.colours});
     this.count = this.lane.length;
     this.messages = data.messages.map((fields, at) => {
       const [origin, number, red, deps, ...shadow] = fields;

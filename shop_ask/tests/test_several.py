@@ -19,7 +19,7 @@ class Asks(unittest.IsolatedAsyncioTestCase):
     def setUp(self) -> None:
         self.server, self.writer = mock.MagicMock(), mock.MagicMock()
         self.server.shop.settings.sites = 1
-        self.server.shop.sites = {0: mock.MagicMock()}
+        self.server.shop.sites = {0: mock.MagicMock(fenced_by=None)}
         self.server.shop.task = lambda work, is_needed: asyncio.create_task(work)
         self.server.fault_of = lambda fault, request: fault if isinstance(fault, Fault) else Fault(Status.AWAY, repr(fault))
         self.written: list[bytes] = []

@@ -19,8 +19,9 @@ Name = bytes | None     # the key of a record, if it has one
 class Ask:
     """One asker. Records are asked one behind the other, and each answer is said."""
 
-    def __init__(self, site: Site, seconds: float, fetches_token: bool) -> None:
+    def __init__(self, site: Site, seconds: float, fetches_token: bool, published: bool = False) -> None:
         self.site, self.seconds, self.fetches_token = site, seconds, fetches_token
+        self.published = published      # ok is said only once the message is where the others find it, so that the loss of this disk keeps it
         self.until = site.shop.now() + seconds
         self.names: Sequence[Name] = ()
         self.keys: list[Key] = []       # those that this asker is at
@@ -49,14 +50,6 @@ class Ask:
                 yield from self._ask(records[at:end], names[at:end])
         except Gone as gone:
             raise Fault(gone.status, f"{gone.why}; {gone.unknown or self._not_given()}") from None
-
-    def published(self) -> Steps[None]:
-        """Returns once all that the site has sent is where the others find it, so that the loss of this disk doesn't take it back."""
-        site, link = self.site, self.site.shop.link
-        count = len(site.ledger.sends)
-        while link.published(site) < count:
-            if not (yield Wait(site.shop.progress, self.left)):
-                raise Fault(Status.AWAY, f"site {site.number}: accepted here, and not published within {self.seconds:g} s")
 
     def _key(self, name: Name) -> Key | None:
         return self.site.keys.find(name, self.site.shop.unix_time()) if name else None
@@ -103,28 +96,42 @@ class Ask:
                 pending = yield from self._asked(window)
             if is_red and site.ledger.holds_token:
                 site.hold.used(site.shop.now())
-            for each in pending:
-                yield from self._say(each.record, each.result())
+            yield from self._say_all(pending)
         finally:
             site.red_askers -= is_red
             for key in self.keys:
                 site.keys.let_go(key)
             site.shop.pass_on(site)
 
-    def _say(self, record: bytes, answer: Answer, is_again: bool = False) -> Steps[None]:
-        if self.site.yields and answer.packet:
-            yield from self._stands(answer.packet)
+    def _say_all(self, answered: list[Pending], are_more: bool = False) -> Steps[None]:
+        """Says the answers of records that were given at once, of all or of the first ones."""
+        for at, each in enumerate(answered):
+            yield from self._say(each.record, each.result(), is_last=at == len(answered) - 1 and not are_more)
+
+    def _say(self, record: bytes, answer: Answer, is_again: bool = False, is_last: bool = True) -> Steps[None]:
+        if self.site.yields or self.published and answer.packet:
+            yield from self._stands(answer, is_last)
         yield Say(record, answer, is_again)
         self.answered += 1
 
-    def _stands(self, text: bytes) -> Steps[None]:
-        """Returns once a packet that the site sent stands in its stream. Else it doesn't count where a standby takes the site's place."""
-        site, sends, packet = self.site, self.site.ledger.sends, packet_of(text)
+    def _stands(self, answer: Answer, is_last: bool) -> Steps[None]:
+        """Returns once what the site had sent by this answer is where the others find it. Where a standby takes its place nothing else counts,
+        so that no refusal may rest on it either."""
+        site, sends = self.site, self.site.ledger.sends
+        packet = packet_of(answer.packet) if answer.packet else None
         count = sends.count_upto((packet.number, 0)) if isinstance(packet, Message) else len(sends)
         while site.shop.link.published(site) < count:
             if site.fenced_by or not (yield Wait(site.shop.progress, self.left)):
-                why = site.fenced_by or f"it has a standby, and its message isn't published within {self.seconds:g} s ({site.shop.link.state})"
-                raise Fault(Status.AWAY, f"site {site.number}: {why}; {counts_unknown(site.number)}")
+                raise Fault(Status.AWAY, f"site {site.number}: {self._not_published(answer, is_last)}")
+
+    def _not_published(self, answer: Answer, is_last: bool) -> str:
+        """Why an answer isn't said that a site gave, and what is known of its record, and of those that were given behind it if it isn't the
+        last one."""
+        late = f"not published within {self.seconds:g} s ({self.site.shop.link.state})"
+        if not self.site.yields:
+            return f"accepted here as {answer.head[3].decode()}, and {late}"
+        why = self.site.fenced_by or f"it has a standby, and what it sent before its answer is {late}"
+        return f"{why}; {not_given(was_refused=True) if answer.refusal and is_last else counts_unknown(self.site.number)}"
 
     def _asked(self, window: list[bytes]) -> Steps[list[Pending]]:
         """Gives these records and waits for their answers, which come in their order."""
@@ -136,9 +143,7 @@ class Ask:
             self.site.leave(pending)
             raise
         given = self.site.leave(pending)
-        for each in pending:
-            if each.done.is_set:
-                yield from self._say(each.record, each.result())
+        yield from self._say_all([each for each in pending if each.done.is_set], are_more=True)
         raise self._no_answer(given)
 
     def _no_answer(self, given: int | None) -> Fault:

@@ -4,6 +4,7 @@ shares its lives up to the copy and not beyond, so whichever of them the others 
 made again, or adopted, takes the place of all that was seen till then, also where the server loses its end and says so no more."""
 
 import enum
+import re
 from collections.abc import Sequence
 
 PLACE = "-"             # begins the line of a folder that takes the place of whatever was seen as its start of that number
@@ -20,6 +21,11 @@ class Standing(enum.Enum):
 def life_text(lives: Sequence[str]) -> str:
     """The last of these lives as others see it: how many there were, and its number."""
     return f"{len(lives)} {lives[-1]}" if lives else ""
+
+
+def is_life(seen: str) -> bool:
+    """Whether that is a life as others see it. What isn't says nothing of another folder."""
+    return re.fullmatch(r"[1-9][0-9]{0,8} -?[0-9a-z]{1,40}", seen) is not None
 
 
 def count_of(seen: str | None) -> int:

@@ -13,7 +13,7 @@ from .shop import Link, Shop
 from .site import Site
 from .standby import Standby
 from .steps import Append, Broken, Connect, Hear, KeptOf, Mark, State, Statuses, Steps, StreamState, Tell, Wait
-from .told import Once, is_called
+from .told import FORM, Once, is_called
 
 STARTING = "not yet up"
 FIRST_WAIT, LAST_WAIT = 0.1, 2.0
@@ -153,6 +153,8 @@ class ServerLink(Link):
         elif b"leave" in fields:
             for left in fields[b"leave"].split(b","):
                 self.shop.wants.drop(int(left))
+        elif b"site" not in fields and int(fields.get(b"form", b"0")) > FORM:
+            pass            # what a later version says, and this one doesn't know
         elif (called := self.shop.sites.get(int(fields[b"site"]))) and self._is_called(called, fields.get(b"life")):
             answer = self.called(called, fields)
             if self.calls.is_new(fields[b"call"]):

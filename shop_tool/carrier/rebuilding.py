@@ -31,8 +31,9 @@ class Given(NamedTuple):
 class Rebuild:
     """The machine that makes the site again, while the shop's sites here are stopped."""
 
-    def __init__(self, site: int, count: int, here: Sequence[int], anyway: bool) -> None:
+    def __init__(self, site: int, count: int, here: Sequence[int], anyway: bool, standby: Sequence[int] = ()) -> None:
         self.site, self.count, self.here, self.anyway = site, count, here, anyway
+        self.standby = standby      # the sites whose place may be taken here
 
     def over_files(self) -> Steps[int]:
         """From what the folders of all sites have of it; how many packets came out again."""
@@ -69,7 +70,7 @@ class Rebuild:
         state: StreamState = yield State(self.site)
         if state.yields != state.life or not state.life:
             raise Fault(Status.REFUSED, "it hasn't said that it yields to a standby")
-        past, was = yield from self._past_on_server()
+        past, was = yield from self._past_on_server((yield from self._yielding()))
         last = was[-1][0] if was else NOWHERE
         if past.packets() != was or last != state.greatest:
             raise Fault(Status.REFUSED, f"its stream lacks what others have of it (shop rebuild {self.site})")
@@ -77,8 +78,19 @@ class Rebuild:
         took_over: bool = yield TakeOver(self.site, state.life, last)
         return took_over
 
-    def _past_on_server(self) -> Steps[tuple["Past", Packets]]:
-        """What is known of its past, and the packets in its stream."""
+    def _yielding(self) -> Steps[list[int]]:
+        """The other sites whose place may be taken here too. Of such a site nothing counts but what stands in its stream, so it may be gone
+        together with this one, as both are where they run on one machine."""
+        yielding = []
+        for other in self.standby:
+            state: StreamState = yield State(other)
+            if other != self.site and state.life and state.yields == state.life:
+                yielding.append(other)
+        return yielding
+
+    def _past_on_server(self, may_be_gone: Sequence[int] = ()) -> Steps[tuple["Past", Packets]]:
+        """What is known of its past, and the packets in its stream. Some sites may say nothing, if all that their own streams rest on stands in
+        the streams."""
         statuses = yield from statuses_without(self.site)
         streams: list[Packets] = []
         for other in range(self.count):
@@ -90,7 +102,7 @@ class Rebuild:
             if other != self.site and not (other in self.here and (yield from self._add_kept(past, other))):
                 if other not in statuses or not (yield from self._ask_other(past, other)):
                     silent.append(other)
-        self._refuse_silent(silent, "isn't running")
+        self._refuse_silent([other for other in silent if other not in may_be_gone or not rests_on(streams, other)], "isn't running")
         yield from self._add_left(past)
         return past, was
 
@@ -131,6 +143,16 @@ def entries_of(site: int) -> Steps[Packets]:
     while page := (yield Entries(site, packets[-1][0] if packets else NOWHERE)):
         packets += page
     return packets
+
+
+def rests_on(streams: list[Packets], site: int) -> bool:
+    """Whether a site's stream could be sent again with what stands in the streams: they lack no message and no token that it had."""
+    past = Past(site, streams)
+    past.add_passed()
+    try:
+        return [step.packet for step in past.steps() if step.packet] == [text for _, text in streams[site]]
+    except Fault:
+        return False
 
 
 def statuses_without(site: int) -> Steps[dict[int, object]]:

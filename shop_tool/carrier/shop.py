@@ -118,9 +118,13 @@ class Shop(abc.ABC):
             self._opened(site, site.answered or 0)
 
     def _has_all_of(self, site: Site) -> bool:
-        """Whether the sites here have no more of the site than its folder. They may have read what a copy of that sent."""
+        """Whether the sites here have no more of the site than its folder, nor a later turn of the token than the one it holds. They may have
+        read what a copy of that sent; what one has that couldn't be started isn't known."""
         others = [other for other in self.sites.values() if other is not site]
-        return all(other.tried.is_set and other.ledger.have[site.number].greatest <= site.ledger.sends.messages for other in others)
+        if not all(other.tried.is_set and other.known.is_set for other in others):
+            return False
+        has = {other.number: other.ledger.have[site.number].greatest for other in others}
+        return _why_behind(site, has, {other.number: other.ledger.turn for other in others}) is None
 
     def _opened(self, site: Site, answered: int) -> None:
         site.witness = self.witness_of(site, answered)
@@ -180,8 +184,7 @@ class Shop(abc.ABC):
                     has[other.number] = max((number for number, _ in kept[0]), default=0)
                     turns[other.number] = max((token.turn for text in kept[1] if isinstance(token := packet_of(text), Token)), default=0)
         self.wants.known(max(turns.values(), default=0))
-        held = site.ledger.turn if site.ledger.holds_token else None
-        return why_behind(site.number, site.ledger.sends.messages, has) or why_passed_on(site.number, held, turns)
+        return _why_behind(site, has, turns)
 
     def behind(self, site: Site) -> dict[int, int]:
         """How many messages of each other site it hasn't, of those that were sent."""
@@ -305,3 +308,9 @@ class Shop(abc.ABC):
             if shop and not shop.get("stopping"):
                 turns.update({site: one["turn"] for one in shop["site"] if one["site"] == site and "turn" in one})
         return turns
+
+
+def _why_behind(site: Site, has: Mapping[int, int], turns: Mapping[int, int]) -> str | None:
+    """Why a site can't go on of which others have so many messages, and have had the token at these turns."""
+    held = site.ledger.turn if site.ledger.holds_token else None
+    return why_behind(site.number, site.ledger.sends.messages, has) or why_passed_on(site.number, held, turns)

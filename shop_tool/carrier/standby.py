@@ -37,7 +37,7 @@ class Standby:
     def _takes_over(self) -> Steps[bool]:
         shop = self.link.shop
         try:
-            took_over = yield from Rebuild(self.site, shop.count, list(shop.sites), anyway=False).for_standby()
+            took_over = yield from Rebuild(self.site, shop.count, list(shop.sites), anyway=False, standby=shop.standby).for_standby()
             why = "" if took_over else "somebody went on with it"
         except Fault as fault:
             took_over, why = False, fault.text

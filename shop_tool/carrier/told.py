@@ -36,6 +36,9 @@ def unanswered(request: dict[str, Any]) -> str:
     return f"; whether it was accepted isn't known (shop log {request.get('site')})" if request.get("op") == "ask" else ""
 
 
+FORM = 1        # of requests between machines and of statuses, which have it as `form`; what has none and no life is of form 0
+
+
 class Once:
     """Names, the last of them: a call that was sent again after a connection broke isn't answered twice."""
 

@@ -261,5 +261,3 @@ class Asking(unittest.TestCase):
         self.site.end()
         self.assertTrue(told)
         self.assertIn("site 1: it is a copy; nothing was given to it by this request", self.fault(second, True))
-
-

@@ -7,7 +7,7 @@ from shop_tool.carrier.opening import HEARD_SECONDS
 from shop_tool.carrier.over_files import FileLink
 from shop_tool.carrier.publisher import Publisher
 from shop_tool.carrier.site import Site, State as SiteState
-from shop_tool.carrier.steps import Owner, Page, PageOf, SeeHere, SeeLife, SeenHere, Sites, State, Statuses, StreamState
+from shop_tool.carrier.steps import Flag, Owner, Page, PageOf, SeeHere, SeeLife, SeenHere, Sites, State, Statuses, StreamState
 from shop_tool.tests.shops import Known, OverServer, Supervisor, done
 
 
@@ -43,6 +43,27 @@ class Opening(unittest.TestCase):
             site.known.set()
             site.tried.set()
         shop.sites[1].ledger.have[0].add(1)
+        self.away(shop)
+        self.assertFalse(shop.sites[0].opened.is_set)
+
+    def test_beside_one_that_could_not_be_started_none_opens_unseen(self) -> None:
+        """What that one has read of a clone isn't known."""
+        shop = Supervisor(OverServer, 2)
+        shop.begin_site(shop.sites[0], 100)
+        for site in shop.sites.values():
+            site.tried.set()
+        shop.sites[1].known = Flag()
+        self.away(shop)
+        self.assertFalse(shop.sites[0].opened.is_set)
+
+    def test_one_whose_token_a_site_here_has_had_since_does_not_open_unseen(self) -> None:
+        """A clone of the folder passed it on, and both would number red messages."""
+        shop = Supervisor(OverServer, 2)
+        shop.begin_site(shop.sites[0], 100)
+        for site in shop.sites.values():
+            site.known.set()
+            site.tried.set()
+        shop.sites[0].ledger.holds_token, shop.sites[1].ledger.turn = True, 1
         self.away(shop)
         self.assertFalse(shop.sites[0].opened.is_set)
 

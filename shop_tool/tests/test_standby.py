@@ -99,7 +99,33 @@ class Yielding(unittest.TestCase):
                 steps.send(bool(fenced_by))
             self.assertIn("; whether it was accepted isn't known (shop log 1)", raised.exception.text)
 
-    def test_a_refusal_is_said_at_once(self) -> None:
+    def test_a_refusal_is_said_once_what_was_sent_before_it_is_published(self) -> None:
+        """It may rest on that: with the site's place taken, the user whose nickname it names never was."""
+        self.site.yields = True
+        self.accept()
+        steps = Ask(self.site, 3.0, fetches_token=True).run([b"user,ann"])
+        steps.send(None)
+        self.site.take(b"reply,2,refused,2,NickTaken\n")
+        self.assertIsInstance(steps.send(True), Wait)
+        with self.assertRaises(Fault) as raised:
+            steps.send(False)
+        self.assertIn("its answer is not published within 3 s", raised.exception.text)
+        self.assertIn("; not accepted", raised.exception.text)
+
+    def test_of_records_behind_a_refusal_it_is_not_known(self) -> None:
+        """They were given together with the refused one, and may be accepted."""
+        self.site.yields = True
+        self.accept()
+        steps = Ask(self.site, 3.0, fetches_token=True).run([b"comment,0.9,0.1,0.2,5,good", b"comment,0.1,0.1,0.2,5,good"])
+        steps.send(None)
+        self.site.take(b"reply,2,refused,6,NoUser\n")
+        self.site.take(b"reply,3,ok,1.2\nsend,msg,1,1,2,0,0:1,comment,0.1,0.1,0.2,5,good\n")
+        steps.send(True)
+        with self.assertRaises(Fault) as raised:
+            steps.send(False)
+        self.assertIn("; whether it was accepted isn't known (shop log 1)", raised.exception.text)
+
+    def test_a_refusal_before_which_nothing_was_sent_is_said_at_once(self) -> None:
         self.site.yields = True
         steps = Ask(self.site, 3.0, fetches_token=True).run([b"item,0.1,lamp,7,1,1,0"])
         steps.send(None)
@@ -158,6 +184,21 @@ class StandingBy(unittest.TestCase):
         self.assertEqual(steps[-1], TakeOver(1, LIFE, (1, 0)))
         self.assertEqual([step for step in steps if isinstance(step, StandBy)], 3 * [StandBy(1)])
         self.assertEqual(self.shop.taken, [1])
+
+    def test_so_are_two_of_one_machine_neither_of_which_says_what_it_had(self) -> None:
+        self.shop.standby, self.shop.count = (1, 2), 3
+        self.entries[2] = [((1, 0), b"msg,1,2,1,0,0:1:0,item,1.1,lamp,7,1,1,0")]
+        self.assertIn(TakeOver(1, LIFE, (1, 0)), self.steps({}, [30.0]))
+
+    def test_but_none_of_which_the_other_had_a_message_that_is_lost(self) -> None:
+        self.shop.standby, self.shop.count = (1, 2), 3
+        self.entries[2] = [((1, 0), b"msg,1,2,1,0,0:2:0,item,1.1,lamp,7,1,1,0")]
+        self.assertNotIn(TakeOver(1, LIFE, (1, 0)), self.steps({}, [30.0]))
+        self.assertIn("site 2 isn't running, and may have more of site 1", self.shop.events[0])
+
+    def test_nor_one_beside_another_that_is_gone_and_does_not_yield(self) -> None:
+        self.shop.standby, self.shop.count = (1,), 3
+        self.assertNotIn(TakeOver(1, LIFE, (1, 0)), self.steps({}, [30.0]))
 
     def test_one_that_never_said_that_it_yields_is_not(self) -> None:
         for yields in ("", "1 b", "none 17"):

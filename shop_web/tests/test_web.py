@@ -4,9 +4,10 @@ import os
 import tempfile
 import unittest
 from typing import Any
+from unittest import mock
 
 from shop_tool.ends import Fault, Status
-from shop_web import access, asks, problems, routes, rows, serving
+from shop_web import access, asks, budgets, problems, routes, rows, serving
 from shop_web.access import May
 
 
@@ -21,12 +22,13 @@ class Keys(unittest.TestCase):
 
     def test_a_key_may_what_its_line_says(self) -> None:
         keys = self.file("# who\nread 0123456789abcdef Prometheus\nread,ask fedcba9876543210\n\n")
-        self.assertEqual([keys.of(f"Bearer {key}") for key in ("0123456789abcdef", "fedcba9876543210", "0123456789abcdee")], [May.READ, May.ASK, None])
+        self.assertEqual([keys.of(f"Bearer {key}") for key in ("0123456789abcdef", "fedcba9876543210", "0123456789abcdee")],
+                         [access.Key(May.READ, None, "Prometheus"), access.Key(May.ASK, None, ""), None])
         self.assertIsNone(keys.of("Basic 0123456789abcdef"))
         self.assertIsNone(keys.of(""))
 
     def test_without_a_file_everybody_may_everything(self) -> None:
-        self.assertEqual(access.from_file(None).of(""), May.OPERATE)
+        self.assertEqual(access.from_file(None).of(""), access.ANYBODY)
 
     def test_files_that_are_refused(self) -> None:
         for text, mode in (("read 0123456789abcdef", 0o644), ("write 0123456789abcdef", 0o600), ("read", 0o600), ("read short", 0o600)):
@@ -36,7 +38,7 @@ class Keys(unittest.TestCase):
 class Asks(unittest.TestCase):
     def test_fields_become_a_record(self) -> None:
         found, is_many = asks.of_json(b'{"ask": "item", "seller": "0.1", "name": "a \\"b\\", c", "category": 7, "stock": 1, "start": 5, "price": 0}', "k")
-        self.assertEqual((found, is_many), ([asks.One('item,0.1,"a ""b"", c",7,1,5,0', "k")], False))
+        self.assertEqual((found, is_many), ([asks.One('item,0.1,"a ""b"", c",7,1,5,0', "k", True)], False))
 
     def test_an_array_is_several(self) -> None:
         self.assertEqual(asks.of_json(b'[{"record": "user,ann", "key": "a"}]', None), ([asks.One("user,ann", "a")], True))
@@ -72,6 +74,33 @@ class Problems(unittest.TestCase):
         for text, name in told.items():
             self.assertEqual(problems.of_fault(Fault(Status.AWAY, text), is_ask=True).name, name, text)
         self.assertEqual(problems.of_fault(Fault(Status.MISUSE, "no")).status, 400)
+
+
+class KeyBudgets(unittest.TestCase):
+    def test_a_budget_is_spent_and_fills_again_with_time_up_to_its_limit(self) -> None:
+        for a_second, at_once, spend, may in (
+                (5.0, 50, "request", "request"), (budgets.REFUSED_A_SECOND, int(budgets.REFUSED_AT_ONCE), "refused", "ask")):
+            with mock.patch("time.monotonic") as clock:
+                clock.return_value = 1000.0
+                of_keys = budgets.Budgets(5.0)
+
+                def spent(most: int) -> int:
+                    """How much is spent until there is nothing left."""
+                    for count in range(most):
+                        try:
+                            getattr(of_keys, may)(b"ann")
+                        except problems.Problem as problem:
+                            self.assertEqual((problem.status, problem.retry), (429, 1))
+                            return count
+                        if spend != may:
+                            getattr(of_keys, spend)(b"ann")
+                    return most
+                self.assertEqual(spent(at_once + 9), at_once)
+                getattr(of_keys, may)(b"bob")       # another key has its own
+                clock.return_value += 3 / a_second
+                self.assertEqual(spent(9), 3)
+                clock.return_value += 1e9
+                self.assertEqual(spent(at_once + 9), at_once)
 
 
 class Description(unittest.TestCase):
