@@ -1,35 +1,29 @@
 #!/usr/bin/env python3
-"""Checks the pages against the sources.
+"""Checks the pages against the sources, each of its functions something else: scripts/check_pages.py [--fix]
 
-    scripts/check_pages.py [--fix]
-
-- Each definition or type that docs/MODEL.md reads aloud stands in a crate's `specs` or `src`.
-- Each call, definition and wrong body that docs/PROMISES.md names stands in a crate's `src`, `specs` or `must-fail`.
-- Each statement that docs/PROMISES.md quotes is its source, word for word.
-- Each wrong body is an edit: each old text of it occurs once in its file. The gate passes over one that isn't.
-- docs/CONTRACTS.md is what scripts/write_contracts.py writes.
-- Each link of README.md and docs/ to lines of a source, as [`name`](crates/..#L1-L2), names the lines of that function with
-  its contract, or of that definition.
-- The table of crates in docs/ARCHITECTURE.md has the crates of crates.txt in their order, each with those that it stands on.
-- Each image of README.md and docs/ is there.
-- Each picture of docs/ is what scripts/picture.py draws of its conversation.
-
-With --fix, links are set to their lines and pictures are drawn anew first. Each fault is told by file and line; the last line says how many names and statements were looked at.
-"""
+With --fix, links are set to their lines, pictures are drawn and docs/CONTRACTS.md is written anew first. Each fault is told by file and line;
+the last line says how many names and statements were looked at."""
 
 import pathlib
 import re
 import sys
+from collections.abc import Iterator
+from typing import Any
 
 import write_contracts
-from trials import report
+from prove_program import listed_crates
+from report import report
+from write_contracts import LINK, calls_of
+from wrong_bodies import Edit
 
 TOP = pathlib.Path(__file__).resolve().parent.parent
 sys.path.insert(0, str(TOP))
 
 from picture_tool.cli import drawn  # noqa: E402
+from shop_tool.carrier.records import REFUSALS  # noqa: E402
 
 CRATES = TOP / "crates"
+Checked = Iterator[str | None]      # of each thing that is looked at, what is wrong with it, if anything is
 
 # What stands in the specs: definitions, records with their fields, and the constructors of data types.
 DEFINITION = re.compile(r"^\s*(?:unfoldable |abbrev )?(?:pub )?(?:abbrev |record |data )?(?:pub )?([A-Za-z][\w-]*)\b", re.M)
@@ -39,9 +33,13 @@ VARIANT = re.compile(r"^\s+(\w+)(?:\(|,|\s\{)", re.M)
 CODE_SPAN = re.compile(r"`([^`]+)`")
 PATH_OR_NAME = re.compile(r"^[A-Za-z_]\w*(?:::\w+)*$")
 
-# A link to lines of a source.
-LINK = re.compile(r"\[`([\w:]+)`\]\(([^)#\s]*crates/[^)#\s]+)(?:#L(\d+)-L(\d+))?\)")
+# A link to a heading, of the same page or of another one.
+ANCHOR = re.compile(r"\]\(([\w./-]*\.md)?#([^)\s]+)\)")
+HEADING = re.compile(r"^#+ (.*)$", re.M)
+FENCED = re.compile(r"^(```|~~~).*?^\1", re.M | re.S)
+ID = re.compile(r'<a (?:id|name)="([^"]+)"')
 
+CRATE_ROW = re.compile(r"^\| `(rubis_\w+)` \| .* \| (.*) \| .*$")
 IMAGE = re.compile(r"!\[[^]]*\]\(([^)\s]+)\)")
 
 # The pictures of docs/, each with what scripts/picture.py is given for it.
@@ -79,36 +77,25 @@ def code_names() -> set[str]:
     return names
 
 
-def code_spans(page: pathlib.Path) -> list[tuple[int, str]]:
-    return [(at, span) for at, line in enumerate(page.read_text().splitlines(), 1) for span in CODE_SPAN.findall(line)]
+def found_in(page: pathlib.Path, pattern: re.Pattern[str], but: str = "\n") -> list[tuple[str, Any]]:
+    """What of a pattern stands in the lines of a page, but for those that begin so; each with its place."""
+    lines = [(f"{page.relative_to(TOP)}:{at}", line) for at, line in enumerate(page.read_text().splitlines(), 1) if not line.startswith(but)]
+    return [(place, found) for place, line in lines for found in pattern.findall(line)]
 
 
-def check_model(page: pathlib.Path, names: set[str]) -> tuple[int, list[str]]:
-    """The first cell of each row of a table names definitions, each in a code span of its own."""
-    looked, faults = 0, []
-    for at, line in enumerate(page.read_text().splitlines(), 1):
-        if not line.startswith("| `"):
-            continue
-        cells = [cell for cell in line.strip("|").split(" | ")]
-        spans = [span for cell in cells[:-1] for span in CODE_SPAN.findall(cell)]
-        for span in spans:
-            if "/" in span or span in ("Walk", "Rows"):
-                continue
-            looked += 1
-            if span.split()[0] not in names:
-                faults.append(f"{page.relative_to(TOP)}:{at}: `{span}` stands in no specs and no src")
-    return looked, faults
+def check_model(page: pathlib.Path, names: set[str]) -> Checked:
+    """Each name and each file of specs on the page is there. The lines of its notation, which begin with code, are left out."""
+    for place, span in found_in(page, CODE_SPAN, "- `"):
+        if "/specs/" in span or PATH_OR_NAME.match(span):
+            is_there = (CRATES / f"{span}.antt").is_file() if "/specs/" in span else span in names
+            yield None if is_there else f"{place}: `{span}` stands in no specs and no src"
 
 
-def check_names(page: pathlib.Path, names: set[str]) -> tuple[int, list[str]]:
-    looked, faults = 0, []
-    for at, span in code_spans(page):
-        if not PATH_OR_NAME.match(span):
-            continue
-        looked += 1
-        if any(part not in names for part in span.split("::")):
-            faults.append(f"{page.relative_to(TOP)}:{at}: `{span}` stands nowhere")
-    return looked, faults
+def check_names(page: pathlib.Path, names: set[str]) -> Checked:
+    """Each call, definition and wrong body that the page names stands in a crate."""
+    for place, span in found_in(page, CODE_SPAN):
+        if PATH_OR_NAME.match(span):
+            yield None if names.issuperset(span.split("::")) else f"{place}: `{span}` stands nowhere"
 
 
 def quotes(page: pathlib.Path) -> list[tuple[int, str]]:
@@ -128,65 +115,36 @@ def quotes(page: pathlib.Path) -> list[tuple[int, str]]:
     return [(at, "\n".join(lines)) for at, lines, _ in made]
 
 
-def check_quotes(page: pathlib.Path) -> tuple[int, list[str]]:
+def check_quotes(page: pathlib.Path) -> Checked:
+    """Each statement that the page quotes is its source, word for word."""
     sources = [squeezed(path.read_text()) for path in files("specs", ".antt")]
-    looked, faults = 0, []
     for at, text in quotes(page):
-        looked += 1
-        if not any(squeezed(text) in source for source in sources):
-            faults.append(f"{page.relative_to(TOP)}:{at}: this statement isn't its source word for word")
-    return looked, faults
+        is_so = any(squeezed(text) in source for source in sources)
+        yield None if is_so else f"{page.relative_to(TOP)}:{at}: this statement isn't its source word for word"
 
 
-def check_old_texts() -> tuple[int, list[str]]:
-    """Whether each old text of a wrong body occurs once in its file."""
-    count, faults = 0, []
+def check_old_texts() -> Checked:
+    """Each old text of a wrong body occurs once in its file: the gate passes over one that doesn't."""
     for path in sorted(CRATES.glob("*/must-fail/*.edit")):
-        name, text = path.relative_to(TOP), path.read_text()
-        if not re.fullmatch(r"(file: .*\n(old: .*\nnew: .*\n)+)+", text):
-            faults.append(f"{name}: not a file, each with lines of old and new text")
-        source = ""
-        for kind, rest in re.findall(r"^(file|old): (.*)$", text, re.M):
-            if kind == "file":
-                source = (path.parent.parent / rest).read_text()
-                continue
-            count += 1
-            if source.count(rest) != 1:
-                faults.append(f"{name}: this doesn't stand once in its file: {rest}")
-    return count, faults
+        name = path.relative_to(TOP)
+        if not re.fullmatch(r"(file: .*\n(old: .*\nnew: .*\n)+)+", path.read_text()):
+            yield f"{name}: not a file, each with lines of old and new text"
+        for file, old, _ in Edit.read(str(path)).changes:
+            is_once = (path.parent.parent / file).read_text().count(old) == 1
+            yield None if is_once else f"{name}: this doesn't stand once in its file: {old}"
 
 
-def place_of_function(lines: list[str], name: str) -> int | None:
-    """The line of a public function, which is named with its type where a file has several of the name; or None."""
-    owner, _, own = name.rpartition("::")
-    block, first = "", None
-    for at, line in enumerate(lines):
-        if re.match(r"impl\b|(?:pub )?trait\b", line):
-            block = line
-        if re.match(rf"\s*pub fn {own}\b", line):
-            if re.search(rf"\b{owner}\b", block):
-                return at
-            first = at if first is None else first
-    return first
+def lines_of_function(path: pathlib.Path, name: str) -> tuple[int, int] | str:
+    """The lines from a public function's comment to its last clause, from 1; or what is wrong. It is named with its type where a file has
+    several of the name."""
+    own = [call for call in calls_of(path) if call.is_public and call.name.rpartition("::")[2] == name.rpartition("::")[2]]
+    call = next((call for call in own if call.name == name), own[0] if own else None)
+    return "is no public function there" if not call else (call.first, call.last) if call.clauses else "has no contract there"
 
 
-def lines_of_function(lines: list[str], name: str) -> tuple[int, int] | str:
-    """The lines from a public function's comment to its last clause, from 1; or what is wrong."""
-    at = place_of_function(lines, name)
-    if at is None:
-        return "is no public function there"
-    first, last = at, at
-    while first > 0 and lines[first - 1].strip().startswith(("///", "#[")):
-        first -= 1
-    while lines[last].strip() not in ("{", "{}") and not lines[last].endswith((" {", ";")):
-        last += 1
-    if not any(line.strip().startswith("ensures") for line in lines[at:last]):
-        return "has no contract there"
-    return first + 1, last
-
-
-def lines_of_definition(lines: list[str], name: str) -> tuple[int, int] | str:
+def lines_of_definition(path: pathlib.Path, name: str) -> tuple[int, int] | str:
     """The lines of a definition with the comment before it, from 1; or what is wrong."""
+    lines = path.read_text().splitlines()
     at = next((at for at, line in enumerate(lines) if (found := DEFINITION.match(line)) and found.group(1) == name), None)
     if at is None:
         return "is no definition there"
@@ -198,113 +156,105 @@ def lines_of_definition(lines: list[str], name: str) -> tuple[int, int] | str:
     return first + 1, last
 
 
-def check_links(page: pathlib.Path, fix: bool) -> tuple[int, list[str]]:
-    looked, faults, text = 0, [], page.read_text()
-
+def check_links(page: pathlib.Path, fix: bool) -> Checked:
+    """Each link to lines of a source, as [`name`](crates/..#L1-L2), names those of that function with its contract, or of that definition."""
     def lines_of(name: str, path: str) -> tuple[int, int] | str:
         source = (page.parent / path).resolve()
         if not source.is_file():
             return "stands in a file that isn't there"
-        lines = source.read_text().splitlines()
-        return lines_of_function(lines, name) if source.suffix == ".rt" else lines_of_definition(lines, name.split("::")[-1])
+        return lines_of_function(source, name) if source.suffix == ".rt" else lines_of_definition(source, name.split("::")[-1])
 
-    def fixed(link: re.Match) -> str:
+    def fixed(link: re.Match[str]) -> str:
         found = lines_of(link.group(1), link.group(2))
-        return link.group(0) if isinstance(found, str) else f"[`{link.group(1)}`]({link.group(2)}#L{found[0]}-L{found[1]})"
+        return str(link.group(0)) if isinstance(found, str) else f"[`{link.group(1)}`]({link.group(2)}#L{found[0]}-L{found[1]})"
 
     if fix:
-        new = LINK.sub(fixed, text)
-        if new != text:
-            page.write_text(new)
-            text = new
-    for at, line in enumerate(text.splitlines(), 1):
-        for name, path, first, last in LINK.findall(line):
-            looked += 1
-            found = lines_of(name, path)
-            if isinstance(found, str):
-                faults.append(f"{page.relative_to(TOP)}:{at}: `{name}` {found}: {path}")
-            elif (first, last) != (str(found[0]), str(found[1])):
-                faults.append(f"{page.relative_to(TOP)}:{at}: `{name}` stands in lines {found[0]} to {found[1]} of {path}; check_pages.py --fix writes that")
-    return looked, faults
+        page.write_text(LINK.sub(fixed, page.read_text()))
+    for place, (name, path, first, last) in found_in(page, LINK):
+        found = lines_of(name, path)
+        if isinstance(found, str):
+            yield f"{place}: `{name}` {found}: {path}"
+        else:
+            is_so = (first, last) == (str(found[0]), str(found[1]))
+            yield None if is_so else f"{place}: `{name}` stands in lines {found[0]} to {found[1]} of {path}; check_pages.py --fix writes that"
 
 
-def check_callers(page: pathlib.Path) -> tuple[int, list[str]]:
+def check_callers(page: pathlib.Path) -> Checked:
     """Each piece of code on the page for callers stands so in the tests, where it is proved. A client is a program of its own, which
-    scripts/try_clients.py runs."""
+    tests/test_clients.py runs."""
     proved = squeezed((CRATES / "rubis_tests/src/callers.rt").read_text())
-    pieces = [piece for piece in re.findall(r"```rust\n(.*?)```", page.read_text(), re.S) if "fn main()" not in piece]
-    return len(pieces), [f"{page.name}: no such code in rubis_tests: {piece.splitlines()[0]}" for piece in pieces if squeezed(piece) not in proved]
+    for piece in re.findall(r"```rust\n(.*?)```", page.read_text(), re.S):
+        if "fn main()" not in piece:
+            yield None if squeezed(piece) in proved else f"{page.name}: no such code in rubis_tests: {piece.splitlines()[0]}"
 
 
-def crates_of_list() -> list[tuple[str, set[str]]]:
-    """The crates of crates.txt in their order, each with those that it stands on."""
-    lines = [line for line in (TOP / "crates.txt").read_text().splitlines() if line and not line.startswith("#")]
-    return [(name, set(below.split())) for name, below in (line.split(":") for line in lines)]
+def check_crates(page: pathlib.Path) -> Checked:
+    """The page's table of crates has those of crates.txt in their order, each with those that it stands on, unless it stands on what it tests."""
+    listed, rows = listed_crates(), found_in(page, CRATE_ROW)
+    if [*listed] != [name for _, (name, _) in rows]:
+        yield f"{page.relative_to(TOP)}: its table hasn't the crates of crates.txt in their order"
+    for place, (name, below) in rows:
+        stands = {word.strip("`") if word.startswith("`") else f"rubis_{word}" for word in re.findall(r"`?\w+`?", below)}
+        is_so = below == "what it tests" or stands == set(listed.get(name, ()))
+        yield None if is_so else f"{place}: {name} doesn't stand on these crates"
 
 
-def crates_of_table(page: pathlib.Path) -> list[tuple[int, str, set[str] | None]]:
-    """The rows of a page's table of crates: line, crate, and those that it stands on, unless it stands on what it tests."""
-    rows = []
-    for at, line in enumerate(page.read_text().splitlines(), 1):
-        if not line.startswith("| `rubis_"):
-            continue
-        name, _, below, _ = line.strip("| ").split(" | ")
-        words = re.findall(r"`?\w+`?", below)
-        stands = {word.strip("`") if word.startswith("`") else f"rubis_{word}" for word in words}
-        rows.append((at, name.strip("`"), None if below == "what it tests" else stands))
-    return rows
+def anchors_of(page: pathlib.Path) -> set[str]:
+    """The anchors of a page's headings, as GitHub and GitLab make them, and those that it names itself."""
+    text, found = FENCED.sub("", page.read_text()), set[str]()
+    for heading in HEADING.findall(text):
+        words = re.sub(r"\[([^]]*)\]\([^)]*\)", r"\1", heading.strip())
+        anchor = re.sub(r"[^\w\- ]", "", words.lower()).replace(" ", "-")
+        count = sum(re.fullmatch(rf"{re.escape(anchor)}(-\d+)?", other) is not None for other in found)
+        found.add(f"{anchor}-{count}" if count else anchor)
+    return found | set(ID.findall(text))
 
 
-def check_crates(page: pathlib.Path) -> tuple[int, list[str]]:
-    faults = []
-    listed, rows = crates_of_list(), crates_of_table(page)
-    if [name for name, _ in listed] != [name for _, name, _ in rows]:
-        faults.append(f"{page.relative_to(TOP)}: its table hasn't the crates of crates.txt in their order")
-    below = dict(listed)
-    for at, name, stands in rows:
-        if stands is not None and stands != below.get(name):
-            faults.append(f"{page.relative_to(TOP)}:{at}: {name} doesn't stand on these crates")
-    return len(rows), faults
+def check_anchors(page: pathlib.Path) -> Checked:
+    """Each link to a heading has one."""
+    for place, (path, anchor) in found_in(page, ANCHOR):
+        to = page.parent / path if path else page
+        yield None if to.is_file() and anchor in anchors_of(to) else f"{place}: there is no heading {path}#{anchor}"
 
 
-def check_images(page: pathlib.Path) -> tuple[int, list[str]]:
+def check_refusals(page: pathlib.Path) -> Checked:
+    """The manual's table of refusals has the numbers and names of the program's, and its words are those of `shop`."""
+    numbers = dict(re.findall(r"Refusal::(\w+) => (\d+),", (CRATES / "rubis_schema/src/refusals.rt").read_text()))
+    rows = found_in(page, re.compile(r"^\| (\d+) \| (\w+) \| (.*) \|$"))
+    for name in numbers.keys() - {name for _, (_, name, _) in rows}:
+        yield f"{page.relative_to(TOP)}: there is no {name}"
+    for place, (number, name, words) in rows:
+        is_so = numbers.get(name) == number and REFUSALS.get(name) in (None, words.replace("`", ""))
+        yield None if is_so else f"{place}: {name} is {numbers.get(name)} of the program, and shop_tool/carrier/records.py says {REFUSALS.get(name)!r}"
+
+
+def check_images(page: pathlib.Path) -> Checked:
     """Each image that a page shows is there."""
-    shown = [(at, path) for at, line in enumerate(page.read_text().splitlines(), 1) for path in IMAGE.findall(line)]
-    return len(shown), [f"{page.relative_to(TOP)}:{at}: there is no image {path}" for at, path in shown if not (page.parent / path).is_file()]
+    for place, path in found_in(page, IMAGE):
+        yield None if (page.parent / path).is_file() else f"{place}: there is no image {path}"
 
 
-def check_pictures(fix: bool) -> tuple[int, list[str]]:
-    faults = []
-    for name, (*options, conversation) in PICTURES.items():
-        text = drawn([*options, str(TOP / conversation)])
+def check_written(fix: bool) -> Checked:
+    """Each picture of docs/ is what scripts/picture.py draws of its conversation, and docs/CONTRACTS.md is what the sources say."""
+    texts = {TOP / name: drawn([*options, str(TOP / conversation)]) for name, (*options, conversation) in PICTURES.items()}
+    for path, text in (texts | {write_contracts.PAGE: write_contracts.page(write_contracts.cited())}).items():
         if fix:
-            (TOP / name).write_text(text)
-        if not (TOP / name).exists() or (TOP / name).read_text() != text:
-            faults.append(f"{name}:1: isn't what scripts/picture.py draws of {conversation}; check_pages.py --fix draws it")
-    return len(PICTURES), faults
-
-
-def check_contracts(fix: bool) -> tuple[int, list[str]]:
-    if fix:
-        write_contracts.PAGE.write_text(write_contracts.page())
-    same = write_contracts.PAGE.exists() and write_contracts.PAGE.read_text() == write_contracts.page()
-    return 1, [] if same else ["docs/CONTRACTS.md:1: isn't what the sources say; check_pages.py --fix writes it"]
+            path.write_text(text)
+        is_so = path.exists() and path.read_text() == text
+        yield None if is_so else f"{path.relative_to(TOP)}:1: isn't what is drawn or written of the sources; check_pages.py --fix does so"
 
 
 def main() -> int:
     fix = sys.argv[1:] == ["--fix"]
-    model, promises = TOP / "docs/MODEL.md", TOP / "docs/PROMISES.md"
-    specs = spec_names()
-    edits: dict[str, set[str]] = {}
-    for path in CRATES.glob("*/must-fail/*.edit"):
-        edits.setdefault(path.stem, set()).add(path.relative_to(CRATES).parts[0])
-    everything = specs | code_names() | set(edits) | FOREIGN
-    found = [check_model(model, specs | code_names()), check_names(promises, everything), check_quotes(promises), check_contracts(fix), check_old_texts(), check_pictures(fix), check_callers(TOP / "docs/CALLING.md"), check_crates(TOP / "docs/ARCHITECTURE.md")]
-    pages = [TOP / "README.md", *sorted(TOP.glob("docs/*.md"))]
-    found += [check_links(page, fix) for page in pages] + [check_images(page) for page in pages]
-    looked = sum(count for count, _ in found) + len(edits)
-    faults = [fault for _, part in found for fault in part]
-    return report("pages", looked, faults)
+    names, edits = spec_names() | code_names() | FOREIGN, {path.stem for path in CRATES.glob("*/must-fail/*.edit")}
+    found = [
+        *check_model(TOP / "docs/MODEL.md", names), *check_names(TOP / "docs/PROMISES.md", names | edits), *check_quotes(TOP / "docs/PROMISES.md"),
+        *check_old_texts(), *check_written(fix), *check_callers(TOP / "docs/CALLING.md"), *check_refusals(TOP / "docs/MANUAL.md"),
+        *check_crates(TOP / "docs/ARCHITECTURE.md"), *(None for _ in edits),
+    ]
+    for page in [*sorted(TOP.glob("*.md")), *sorted(TOP.glob("docs/*.md"))]:
+        found += [*check_links(page, fix), *check_anchors(page), *check_images(page)]
+    return report("pages", len(found), [fault for fault in found if fault])
 
 
 if __name__ == "__main__":

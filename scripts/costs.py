@@ -1,25 +1,17 @@
 #!/usr/bin/env python3
 """Measures rubis beside the plain program: scripts/costs.py [TABLE..] [--program FILE] [--small]
 
-The tables are `clock`, `count`, `misses`, `busiest`, `hostile`, `questions` and `reads`; without a name, all of them. Each is written as README, the guide and
-docs/COSTS.md have it, under the machine and the date. Both programs get the same inputs, one run after the other, and their
+Without a name, all tables. Each is written as README, the guide and docs/COSTS.md have it, under the machine and the date; docs/COSTS.md says what
+each counts. `clock` is the least of five runs. valgrind runs one thread at a time, each in its turn, as if each had a processor of its own;
+threads of the same number that ran one after the other count as one. Both programs get the same inputs, one run after the other, and their
 answers have to be the same bytes.
-
-- clock: processor time and time by the clock, each the least of five runs, and peak memory.
-- count: work that valgrind counts, with one worker: instructions, 10 for each miss of a cache of 32 KiB and 100 for each of one of
-  8 MiB. It is the same on a busy machine, and knows nothing of the kernel and of waiting.
-- misses: how often a message in order reads what isn't in a cache of 1 MiB, with one worker.
-- busiest: the work of each thread with four workers (scripts/busiest.py).
-- hostile: inputs that somebody may send to slow rubis down, at n, 2n and 4n: processor time of one run, or peak memory.
-- questions: counted work of `rubis lack` and `rubis check`, at n, 2n and 4n, beside that of the audit or the site for the same input.
-- reads: counted work of what `rubis keep` is asked beside its records, behind n, 2n and 4n bids on an item, beside that of their listing.
 
 --small takes a tenth of each size. Needs `cargo`, `valgrind` and /usr/bin/time. The whole takes some forty minutes."""
 
 import argparse
-import contextlib
 import dataclasses
 import datetime
+import functools
 import os
 import pathlib
 import re
@@ -28,26 +20,25 @@ import sys
 import tempfile
 import time
 from collections.abc import Callable, Iterator
-
-import busiest
-import workloads
-from workloads import Work
+from typing import Any, NamedTuple
 
 TOP = pathlib.Path(__file__).resolve().parent.parent
+sys.path.insert(0, str(TOP))
+
+import workloads                # noqa: E402
+from workloads import Work      # noqa: E402
+
 PLAIN = TOP / "plain/target/release/plain"
 RUBIS = TOP / "crates/rubis_app/out/rubis_app"
 RUNS = 5
 FIRST_CACHES = ["--cache-sim=yes", "--I1=32768,8,64", "--D1=32768,8,64"]
 LAST_CACHE = "--LL=8388608,16,64"
-# What one processor has for itself.
-OWN_CACHE = "--LL=1048576,16,64"
-FIRST_MISS = 10
-LAST_MISS = 100
-
-# A run that takes longer is ended, and shown as more than that.
-PATIENCE = 300
-# How many rows are asked for: one takes less than what two runs differ by, whose keys are hashed by other secrets.
-ROWS = 20_000
+OWN_CACHE = "--LL=1048576,16,64"        # what one processor has for itself
+FIRST_MISS, LAST_MISS, FAR_MISS = 10, 100, 200
+FOUR = ["--workers", "4", "--batch", "8192", "--shards", "16"]
+TIMES = (1, 2, 4)
+PATIENCE = 300      # a run that takes longer is ended, and shown as more than that
+ROWS = 20_000       # are asked for: one takes less than what two runs differ by, whose keys are hashed by other secrets
 
 
 @dataclasses.dataclass
@@ -63,47 +54,75 @@ class Cost:
         return Cost(min(self.processor, other.processor), min(self.clock, other.clock), max(self.memory, other.memory), self.output)
 
 
-@contextlib.contextmanager
-def in_file(text: bytes) -> Iterator[str]:
-    with tempfile.NamedTemporaryFile(dir="/dev/shm") as file:
-        file.write(text)
-        file.flush()
-        yield file.name
+def run(tool: list[str], work: Work, is_piped: bool = False, **limits: Any) -> bytes:
+    """What a run writes that a tool starts: over a file, or over a pipe, which hands over less at once."""
+    with tempfile.NamedTemporaryFile(dir="/dev/shm") as records:
+        records.write(work.text)
+        records.seek(0)
+        given = dict[str, Any](input=work.text) if is_piped else dict[str, Any](stdin=records)
+        written: bytes = subprocess.run([*tool, *work.command], capture_output=True, **given, **limits).stdout
+        return written
 
 
-def measured(program: str, work: Work, more: list[str], pipe: bool = False) -> Cost:
-    """One run over a file, or over a pipe, which hands over less at once. /usr/bin/time starts it, since the peak memory of a process
-    begins with that of what started it."""
-    with in_file(work.text) as records, tempfile.NamedTemporaryFile("r") as note, open(records, "rb") as source:
-        command = ["/usr/bin/time", "-f", "%U %S %M", "-o", note.name, program, *work.command, *more]
+def measured(program: str, work: Work, more: list[str], is_piped: bool = False) -> Cost:
+    """One run. /usr/bin/time starts it, since the peak memory of a process begins with that of what started it."""
+    with tempfile.NamedTemporaryFile("r") as note:
         began = time.perf_counter()
-        if pipe:
-            done = subprocess.run(command, input=work.text, capture_output=True, timeout=PATIENCE)
-        else:
-            done = subprocess.run(command, stdin=source, capture_output=True, timeout=PATIENCE)
+        output = run(["/usr/bin/time", "-f", "%U %S %M", "-o", note.name, program], work.with_options(more), is_piped, timeout=PATIENCE)
         took = time.perf_counter() - began
         user, system, memory = note.read().split("\n")[-2].split()
-        return Cost(float(user) + float(system), took, int(memory) / 1024, done.stdout)
+    return Cost(float(user) + float(system), took, int(memory) / 1024, output)
 
 
-def simulated(program: str, work: Work, more: list[str], last_cache: str) -> tuple[dict[str, int], bytes]:
+class Counts(NamedTuple):
+    """What valgrind counts of a run, or of a thread: instructions, misses of the first caches, of the last one, and those of these that read."""
+
+    instructions: int
+    first: int
+    last: int
+    read: int
+
+    @classmethod
+    def of(cls, text: str) -> "Counts":
+        names, numbers = (re.findall(rf"^(?:{word}): (.*)$", text, re.M) for word in ("events", "summary|totals"))
+        of = dict(zip(names[0].split(), map(int, numbers[0].split())))
+        return cls(of["Ir"], of["I1mr"] + of["D1mr"] + of["D1mw"], of["ILmr"] + of["DLmr"] + of["DLmw"], of["DLmr"])
+
+    def work(self, last_miss: int) -> int:
+        return self.instructions + FIRST_MISS * self.first + last_miss * self.last
+
+
+def simulated(program: str, work: Work, more: list[str], last_cache: str) -> tuple[Counts, bytes]:
     """What valgrind counts in one run, with caches of 32 KiB and that one behind them, and the run's output."""
-    with in_file(work.text) as records, tempfile.NamedTemporaryFile("r") as counts, open(records, "rb") as source:
-        tool = ["valgrind", "--tool=cachegrind", *FIRST_CACHES, last_cache, f"--cachegrind-out-file={counts.name}"]
-        done = subprocess.run([*tool, program, *work.command, *more], stdin=source, capture_output=True, check=True)
-        text = counts.read()
-    events = re.search(r"^events: (.*)$", text, re.M)
-    summary = re.search(r"^summary: (.*)$", text, re.M)
-    assert events and summary
-    return dict(zip(events[1].split(), map(int, summary[1].split()))), done.stdout
+    with tempfile.NamedTemporaryFile("r") as counts:
+        tool = ["valgrind", "--tool=cachegrind", *FIRST_CACHES, last_cache, f"--cachegrind-out-file={counts.name}", program]
+        output = run(tool, work.with_options(more), check=True)
+        return Counts.of(counts.read()), output
+
+
+def simulated_by_thread(program: str, work: Work, more: list[str], is_piped: bool) -> tuple[list[Counts], bytes]:
+    """The counts of each thread of a run, and its output."""
+    with tempfile.TemporaryDirectory() as folder:
+        tool = ["valgrind", "-q", "--tool=callgrind", "--fair-sched=yes", "--separate-threads=yes", *FIRST_CACHES, OWN_CACHE,
+                f"--callgrind-out-file={folder}/counts", program]
+        output = run(tool, work.with_options(more), is_piped, check=True)
+        texts = [file.read_text(errors="replace") for file in pathlib.Path(folder).iterdir()]
+    return [Counts.of(text) for text in texts if re.search(r"^(summary|totals): ", text, re.M)], output
 
 
 def counted(program: str, work: Work, more: list[str]) -> tuple[float, bytes]:
     """The counted work of one run, and its output."""
-    of, output = simulated(program, work, more, LAST_CACHE)
-    first = of["I1mr"] + of["D1mr"] + of["D1mw"]
-    last = of["ILmr"] + of["DLmr"] + of["DLmw"]
-    return of["Ir"] + FIRST_MISS * first + LAST_MISS * last, output
+    counts, output = simulated(program, work, more, LAST_CACHE)
+    return counts.work(LAST_MISS), output
+
+
+def row(*cells: object) -> None:
+    print(f"| {' | '.join(map(str, cells))} |", flush=True)
+
+
+def head(*cells: str) -> None:
+    row(*cells)
+    print("|---" * len(cells) + "|")
 
 
 def workers(work: Work, settings: str) -> list[str]:
@@ -145,70 +164,54 @@ def usual(programs: Programs) -> Iterator[tuple[str, Work, str]]:
 
 
 def clock(programs: Programs) -> None:
-    print("| records | processor time | by the clock | memory | plain: time | memory | times as much |\n|---|---|---|---|---|---|---|")
+    head("records", "processor time", "by the clock", "memory", "plain: time", "memory", "times as much")
     for name, work, settings in usual(programs):
-        rubis = measured(programs.rubis, work, workers(work, settings))
-        plain = measured(programs.plain, work, [])
-        for _ in range(RUNS - 1):
-            rubis = rubis.least(measured(programs.rubis, work, workers(work, settings)))
-            plain = plain.least(measured(programs.plain, work, []))
-        what = name.format(work.records()) + programs.same(rubis.output, plain.output)
-        ours = f"{rubis.processor:.2f} s | {rubis.clock:.2f} s | {rubis.memory:.0f} MiB"
-        theirs = f"{plain.processor:.2f} s | {plain.memory:.0f} MiB"
-        print(f"| {what} | {ours} | {theirs} | {rubis.processor / max(plain.processor, 0.01):.1f} |", flush=True)
+        pairs = [(measured(programs.rubis, work, workers(work, settings)), measured(programs.plain, work, [])) for _ in range(RUNS)]
+        rubis, plain = (functools.reduce(Cost.least, costs) for costs in zip(*pairs))
+        row(name.format(work.records()) + programs.same(rubis.output, plain.output), f"{rubis.processor:.2f} s", f"{rubis.clock:.2f} s",
+            f"{rubis.memory:.0f} MiB", f"{plain.processor:.2f} s", f"{plain.memory:.0f} MiB", f"{rubis.processor / max(plain.processor, 0.01):.1f}")
 
 
 def count(programs: Programs) -> None:
-    size = programs.size
-    audit = programs.audit(size(100_000))
-    works: list[tuple[str, Work]] = [
-        ("messages in order", workloads.in_order(size(100_000))),
-        ("messages shuffled", workloads.shuffled(size(100_000))),
-        ("messages in reverse order", workloads.reversed_order(size(100_000))),
-        ("requests", workloads.requests(size(100_000))),
-        ("requests with small listings", workloads.requests(size(100_000), size(1_000))),
-        ("users with two listings", workloads.users(size(100_000))),
-        ("a world of four sites", workloads.world(size(100_000))),
-        ("an audit", audit),
-        ("a widening", Work(["widen", "--sites", "4"], audit.text)),
-    ]
-    print("| records | a record: rubis | plain | times as much |\n|---|---|---|---|")
-    for name, work in works:
+    many = programs.size(100_000)
+    audit = programs.audit(many)
+    works = {
+        "messages in order": workloads.in_order(many), "messages shuffled": workloads.shuffled(many),
+        "messages in reverse order": workloads.reversed_order(many), "requests": workloads.requests(many),
+        "requests with small listings": workloads.requests(many, programs.size(1_000)), "users with two listings": workloads.users(many),
+        "a world of four sites": workloads.world(many), "an audit": audit, "a widening": Work(["widen", "--sites", "4"], audit.text),
+    }
+    head("records", "a record: rubis", "plain", "times as much")
+    for name, work in works.items():
         rubis, ours = counted(programs.rubis, work, workers(work, "--workers 1"))
         plain, theirs = counted(programs.plain, work, [])
-        many = work.records()
-        print(f"| {many:,}: {name}{programs.same(ours, theirs)} | {rubis / many:,.0f} | {plain / many:,.0f} | {rubis / plain:.2f} |", flush=True)
+        records = work.records()
+        row(f"{records:,}: {name}{programs.same(ours, theirs)}", f"{rubis / records:,.0f}", f"{plain / records:,.0f}", f"{rubis / plain:.2f}")
 
 
 def misses(programs: Programs) -> None:
-    """Writes how often a message in order reads what isn't in a cache of 1 MiB, with one worker."""
-    print("| records | misses a record that read: rubis | plain |\n|---|---|---|")
+    head("records", "misses a record that read: rubis", "plain")
     for many in (100_000, 300_000, 1_000_000):
         work = workloads.in_order(programs.size(many))
         rubis, ours = simulated(programs.rubis, work, ["--workers", "1"], OWN_CACHE)
         plain, theirs = simulated(programs.plain, work, [], OWN_CACHE)
         records = work.records()
-        what = f"{records:,}: messages in order{programs.same(ours, theirs)}"
-        print(f"| {what} | {rubis['DLmr'] / records:.2f} | {plain['DLmr'] / records:.2f} |", flush=True)
+        row(f"{records:,}: messages in order{programs.same(ours, theirs)}", f"{rubis.read / records:.2f}", f"{plain.read / records:.2f}")
 
 
-def busiest_threads(programs: Programs) -> None:
-    """Writes what the busiest of four threads does of the work of a run with one worker, and of its instructions, and what all do."""
-    texts = [
-        ("messages in order", busiest.messages(programs.size(300_000)), busiest.SITE),
-        ("requests", workloads.requests(programs.size(100_000)).text, ["site"]),
-    ]
-    print("| records | work: busiest | all | instructions: busiest | all |\n|---|---|---|---|---|")
-    for name, text, command in texts:
-        one, alone = busiest.counted(programs.rubis, [*command, *busiest.ONE], text)
-        four, together = busiest.counted(programs.rubis, [*command, *busiest.FOUR], text)
-        lines = text.count(b"\n")
-        cells = [f"{lines:,}: {name}{programs.same(alone, together)}"]
-        for each in (1, 0):
-            whole = sum(counts[each] for counts in one)
-            shares = [counts[each] / whole for counts in four]
-            cells += [f"{max(shares):.2f}", f"{sum(shares):.2f}"]
-        print("| " + " | ".join(cells) + " |", flush=True)
+def shares_of(one: list[int], four: list[int]) -> list[str]:
+    return [f"{max(four) / sum(one):.2f}", f"{sum(four) / sum(one):.2f}"]
+
+
+def busiest(programs: Programs) -> None:
+    messages, requests = workloads.in_order(programs.size(300_000)), workloads.requests(programs.size(100_000))
+    head("records", "work: busiest", "all", "instructions: busiest", "all")
+    for name, work, is_piped in (("messages in order", messages, False), ("the same on a pipe", messages, True), ("requests", requests, False)):
+        one, alone = simulated_by_thread(programs.rubis, work, ["--workers", "1"], is_piped)
+        four, together = simulated_by_thread(programs.rubis, work, FOUR, is_piped)
+        shares = shares_of([it.work(FAR_MISS) for it in one], [it.work(FAR_MISS) for it in four])
+        shares += shares_of([it.instructions for it in one], [it.instructions for it in four])
+        row(f"{work.records():,}: {name}{programs.same(alone, together)}", *shares)
 
 
 @dataclasses.dataclass
@@ -228,19 +231,23 @@ EMPTY_WORLD = ["world", "--sites", "16"]
 HOSTILE = [
     Hostile("an audit of n users with usual nicknames", 25_000, lambda many: workloads.audit_of_users(many, False)),
     Hostile("an audit of n users with chosen nicknames", 25_000, lambda many: workloads.audit_of_users(many, True)),
+    Hostile("n users with usual nicknames", 25_000, lambda many: workloads.new_users(many, False)),
+    Hostile("n users with chosen nicknames", 25_000, lambda many: workloads.new_users(many, True)),
+    Hostile("n messages that wait, with usual ids", 25_000, lambda many: workloads.waiting(many, False)),
+    Hostile("n messages that wait, with chosen ids", 25_000, lambda many: workloads.waiting(many, True)),
     Hostile("n pairs of a comment and `list,users`, of three users", 10_000, workloads.few_users_behind_many_rows),
     Hostile("an audit of n logs of nothing", 100_000, workloads.repeated(["audit"], "site,0")),
     Hostile("n audits of a world of 16 empty sites", 500, workloads.repeated(EMPTY_WORLD, "audit")),
     Hostile("n `list,categories` of an empty site", 10_000, workloads.repeated(["site"], "list,categories")),
     Hostile("n `list,tables` of an empty site", 10_000, workloads.repeated(["site"], "list,tables")),
     Hostile("a world of n records that is audited at every tenth", 2_500, workloads.audited_world),
-    Hostile("an audit of 16 logs of n messages", 15_000, workloads.audit_of_sixteen, True),
+    Hostile("an audit of 16 logs of n messages", 15_000, workloads.sixteen_logs, True),
     Hostile("n comments of 200 quotes, listed", 50_000, workloads.quotes, True),
-    Hostile("a line of n bytes without an end", 10_000_000, workloads.endless_line, True),
-    Hostile("n commas", 2_500_000, workloads.commas, True),
-    Hostile("a line of n bytes without an end, over a pipe", 10_000_000, workloads.endless_line, pipe=True),
-    Hostile("the same with 2 workers", 10_000_000, workloads.endless_line, settings="", pipe=True),
-    Hostile("a quote and n bytes, over a pipe, with 2 workers", 10_000_000, workloads.endless_quote, settings="", pipe=True),
+    Hostile("a line of n bytes without an end", 10_000_000, lambda many: Work(["site"], b"x" * many), True),
+    Hostile("n commas", 2_500_000, lambda many: Work(["site"], b"," * many), True),
+    Hostile("a line of n bytes without an end, over a pipe", 10_000_000, lambda many: Work(["site"], b"x" * many), pipe=True),
+    Hostile("the same with 2 workers", 10_000_000, lambda many: Work(["site"], b"x" * many), settings="", pipe=True),
+    Hostile("a quote and n bytes, over a pipe, with 2 workers", 10_000_000, lambda many: Work(["site"], b'"' + b"x" * many), settings="", pipe=True),
 ]
 
 
@@ -253,13 +260,10 @@ def figure(program: str, work: Work, one: Hostile, settings: str) -> tuple[float
 
 
 def hostile(programs: Programs) -> None:
-    print("| input | n | rubis at n, 2n, 4n | plain | times as much at 4n |\n|---|---|---|---|---|")
+    head("input", "n", "rubis at n, 2n, 4n", "plain", "times as much at 4n")
     for one in HOSTILE:
-        many = programs.size(one.many)
-        ours: list[float] = []
-        theirs: list[float] = []
-        same = ""
-        for times in (1, 2, 4):
+        many, ours, theirs, same = programs.size(one.many), list[float](), list[float](), ""
+        for times in TIMES:
             work = one.make(times * many)
             rubis, output = figure(programs.rubis, work, one, one.settings)
             plain, expected = figure(programs.plain, work, one, "")
@@ -267,27 +271,26 @@ def hostile(programs: Programs) -> None:
             theirs.append(plain)
             same = same or programs.same(output, expected)
         unit, form = ("MiB", "{:.0f}") if one.memory else ("s", "{:.2f}")
-        shown = [", ".join(form.format(value) for value in values) + f" {unit}" for values in (ours, theirs)]
-        print(f"| {one.what}{same} | {many:,} | {shown[0]} | {shown[1]} | {ours[-1] / max(theirs[-1], 0.01):.1f} |", flush=True)
+        shown = [", ".join(map(form.format, values)) + f" {unit}" for values in (ours, theirs)]
+        row(f"{one.what}{same}", f"{many:,}", *shown, f"{ours[-1] / max(theirs[-1], 0.01):.1f}")
 
 
 def questions(programs: Programs) -> None:
     asked: list[tuple[str, str, int, Callable[[int], Work]]] = [
-        ("lack --sites 16", "what sixteen logs of n messages lack, beside their audit", 6_250, workloads.lagging_logs),
+        ("lack --sites 16", "what sixteen logs of n messages lack, beside their audit", 6_250, lambda many: workloads.sixteen_logs(many, 1)),
         ("check --sites 2", "a check of n messages, beside the site", 25_000, workloads.in_order),
         ("check", "a check of n requests, beside the site", 25_000, workloads.requests),
     ]
-    print("| question | n | work for each of n, 2n, 4n | times that of the other |\n|---|---|---|---|")
-    for command, what, least, make in asked:
-        each: list[str] = []
-        times: list[str] = []
-        for many in [programs.size(least) * scale for scale in (1, 2, 4)]:
+    head("question", "n", "work for each of n, 2n, 4n", "times that of the other")
+    for command, what, usual_size, make in asked:
+        sizes, each, times = [programs.size(usual_size) * scale for scale in TIMES], list[str](), list[str]()
+        for many in sizes:
             work = make(many)
             other, _ = counted(programs.rubis, work, workers(work, "--workers 1"))
             question, _ = counted(programs.rubis, Work(command.split(), work.text), [])
             each.append(f"{question / many:,.0f}")
             times.append(f"{question / other:.2f}")
-        print(f"| {what} | {programs.size(least):,} | {'; '.join(each)} | {'; '.join(times)} |", flush=True)
+        row(what, f"{sizes[0]:,}", "; ".join(each), "; ".join(times))
 
 
 def kept(programs: Programs, text: str) -> float:
@@ -308,8 +311,8 @@ def pages(many: int) -> str:
 
 
 def reads(programs: Programs) -> None:
-    print("| question | n | work behind n, 2n, 4n | times that of the listing |\n|---|---|---|---|")
-    sizes = [programs.size(25_000) * scale for scale in (1, 2, 4)]
+    head("question", "n", "work behind n, 2n, 4n", "times that of the listing")
+    sizes = [programs.size(25_000) * scale for scale in TIMES]
     without = [kept(programs, bids(many)) for many in sizes]
     listing = [kept(programs, bids(many) + "?list,bids,0.3\n") - alone for many, alone in zip(sizes, without)]
 
@@ -320,7 +323,7 @@ def reads(programs: Programs) -> None:
     for what, make, count in asked:
         each = [(kept(programs, bids(many) + make(many)) - alone) / count for many, alone in zip(sizes, without)]
         times = [f"{one / whole:.4f}" if one < whole / 10 else f"{one / whole:.1f}" for one, whole in zip(each, listing)]
-        print(f"| {what} | {sizes[0]:,} | {'; '.join(f'{one:,.0f}' for one in each)} | {'; '.join(times)} |", flush=True)
+        row(what, f"{sizes[0]:,}", "; ".join(f"{one:,.0f}" for one in each), "; ".join(times))
     print(f"\nTen bids are kept and answered with {(without[1] - without[0]) / (sizes[1] - sizes[0]) * 10:,.0f}.")
 
 
@@ -330,19 +333,11 @@ def machine() -> str:
     return f"{os.cpu_count()} processors, {name}; {datetime.date.today():%d %B %Y}; {os.getloadavg()[0]:.1f} other things to do"
 
 
-TABLES: dict[str, Callable[[Programs], None]] = {
-    "clock": clock,
-    "count": count,
-    "misses": misses,
-    "busiest": busiest_threads,
-    "hostile": hostile,
-    "questions": questions,
-    "reads": reads,
-}
+TABLES: dict[str, Callable[[Programs], None]] = {each.__name__: each for each in (clock, count, misses, busiest, hostile, questions, reads)}
 
 
 def main() -> int:
-    parser = argparse.ArgumentParser(description="Measures rubis beside the plain program.")
+    parser = argparse.ArgumentParser(description=__doc__, formatter_class=argparse.RawDescriptionHelpFormatter)
     parser.add_argument("tables", nargs="*", metavar="TABLE", help=", ".join(TABLES))
     parser.add_argument("--program", default=str(RUBIS))
     parser.add_argument("--small", action="store_true", help="a tenth of each size")

@@ -12,7 +12,9 @@ those of a machine that has nothing else to do only where that is so."""
 
 import argparse
 import base64
+import concurrent.futures
 import contextlib
+import itertools
 import json
 import os
 import pathlib
@@ -23,9 +25,8 @@ import sqlite3
 import subprocess
 import sys
 import tempfile
-import threading
 import time
-from collections.abc import Callable, Iterator
+from collections.abc import Callable, Iterator, Sequence
 from typing import Any
 
 TOP = pathlib.Path(__file__).resolve().parent.parent
@@ -33,7 +34,6 @@ sys.path.insert(0, str(TOP))
 
 from shop_tool import client        # noqa: E402
 
-PORT = 18300 + os.getpid() % 900
 SITES = 4
 
 
@@ -51,13 +51,21 @@ def parts_of(seconds: list[float]) -> dict[str, float]:
 
 
 class Shop:
-    def __init__(self, program: str, folder: str, over: str, sync: bool) -> None:
+    """A shop that sells something: in one folder, or in two over a server."""
+
+    def __init__(self, program: str, folder: str, sites: int, over: str, sync: bool) -> None:
         self.environment = os.environ | {"RUBIS": program}
-        groups = [range(SITES)] if over == "files" else [range(SITES // 2), range(SITES // 2, SITES)]
+        groups = [range(sites)] if over == "files" else [range(sites // 2), range(sites // 2, sites)]
         self.folders = {f"{folder}/{name}": list(group) for name, group in zip("ab", groups)}
-        words = ["--sites", str(SITES), "--over", "files" if over == "files" else f"redis://127.0.0.1:{PORT}/measured"] + ["--sync"] * sync
-        for path, sites in self.folders.items():
-            self.run("start", path, "--here", ",".join(map(str, sites)), *words)
+        for path, here in self.folders.items():
+            self.run("start", path, "--here", ",".join(map(str, here)), "--sites", str(sites), "--over", over, *["--sync"] * sync)
+        self.run("-C", self.folder_of(0), "ask", "0", "user,ann", "user,bob", "item,0.1,lamp,7,1,100,0")
+
+    def __enter__(self) -> "Shop":
+        return self
+
+    def __exit__(self, *_: object) -> None:
+        self.stop()
 
     def run(self, *words: str, given: str = "") -> str:
         command = [str(TOP / "shop"), *words]
@@ -74,17 +82,11 @@ class Shop:
 
     def several(self, askers: int, each: int, site_of: Callable[[int], int], record_of: Callable[[int, int], str],
                 published: bool = False) -> dict[str, Any]:
-        spans: list[float] = []
-
-        def one(number: int) -> None:
-            for turn in range(each):
-                spans.append(timed(lambda: self.ask(site_of(number), record_of(number, turn), published)))
-        threads = [threading.Thread(target=one, args=(number,)) for number in range(askers)]
+        def one(number: int) -> list[float]:
+            return [timed(lambda: self.ask(site_of(number), record_of(number, turn), published)) for turn in range(each)]
         began = time.monotonic()
-        for thread in threads:
-            thread.start()
-        for thread in threads:
-            thread.join()
+        with concurrent.futures.ThreadPoolExecutor(askers) as pool:
+            spans = list(itertools.chain.from_iterable(pool.map(one, range(askers))))
         return {"a second": round(len(spans) / (time.monotonic() - began)), "ms": parts_of(spans)}
 
     def stop(self) -> None:
@@ -100,8 +102,7 @@ def restock(number: int, turn: int) -> str:
     return f"restock,0.3,0.1,{turn + 1}"
 
 
-def measured(shop: Shop, over: str) -> dict[str, Any]:
-    shop.run("-C", shop.folder_of(0), "ask", "0", "user,ann", "user,bob", "item,0.1,lamp,7,1,100,0")
+def measured(shop: Shop) -> dict[str, Any]:
     found: dict[str, Any] = {}
     ask = ("-C", shop.folder_of(0), "ask", "0")
     found["`shop ask` as a command, ms"] = parts_of([timed(lambda: shop.run(*ask, bid(0, turn))) for turn in range(20)])
@@ -109,7 +110,7 @@ def measured(shop: Shop, over: str) -> dict[str, Any]:
     found["20,000 bids by one command, a second"] = round(20000 / timed(lambda: shop.run(*ask, "-", given=lines)))
     found["1 asker at the holder"] = shop.several(1, 1000, lambda number: 0, bid)
     found["16 askers at the holder"] = shop.several(16, 200, lambda number: 0, bid)
-    if over != "files":
+    if len(shop.folders) > 1:
         found["16 askers at the holder, published"] = shop.several(16, 100, lambda number: 0, bid, published=True)
     turns = iter(range(200))
     found["1 asker, each red ask at another site"] = parts_of([timed(lambda: shop.ask(turn % SITES, bid(2, turn))) for turn in turns])
@@ -123,9 +124,9 @@ def measured(shop: Shop, over: str) -> dict[str, Any]:
     return found
 
 
-def incr() -> dict[str, Any]:
+def incr(port: int) -> dict[str, Any]:
     """The same of Redis: INCR as a command, and by 16 clients."""
-    command, benchmark = ["redis-cli", "-p", str(PORT), "incr", "n"], ["redis-benchmark", "-p", str(PORT), "-c", "16", "-n", "20000"]
+    command, benchmark = ["redis-cli", "-p", str(port), "incr", "n"], ["redis-benchmark", "-p", str(port), "-c", "16", "-n", "20000"]
     spans = [timed(lambda: subprocess.run(command, stdout=subprocess.DEVNULL)) for _ in range(20)]
     said = subprocess.run([*benchmark, "-t", "incr", "--csv"], text=True, stdout=subprocess.PIPE).stdout
     a_second = round(float(said.splitlines()[-1].split(",")[1].strip('"')))
@@ -239,6 +240,9 @@ def hundred_by_http(count: int) -> bytes:
     return http("/sites/0/asks", json.dumps([{"record": bid(1, count + each)} for each in range(100)]))
 
 
+BY_HTTP = [("one ask a request", ask_by_http, 1), ("a hundred a request", hundred_by_http, 100)]
+
+
 @contextlib.contextmanager
 def running(*command: str, port: int) -> Iterator[int]:
     """A server, once it takes connections; its process."""
@@ -258,49 +262,50 @@ def running(*command: str, port: int) -> Iterator[int]:
         server.wait()
 
 
+def seconds_of(command: Sequence[str], **given: Any) -> float:
+    """The processor time of a command and of all that it waits for."""
+    made = subprocess.Popen(command, **given)
+    _, status, used = os.wait4(made.pid, 0)
+    made.returncode = os.waitstatus_to_exitcode(status)
+    assert made.returncode == 0, f"{command} ended with status {made.returncode}"
+    return float(used.ru_utime + used.ru_stime)
+
+
 def as_command(*command: str, **environment: str) -> dict[str, float]:
     """The processor time of a command, in milliseconds: the least of thirty, and half of them."""
-    taken = []
-    for _ in range(30):
-        made = subprocess.Popen(command, stdout=subprocess.DEVNULL, env=os.environ | environment)
-        _, made.returncode, used = os.wait4(made.pid, 0)
-        assert made.returncode == 0, command
-        taken.append(1000 * (used.ru_utime + used.ru_stime))
-    taken.sort()
+    taken = sorted(1000 * seconds_of(command, stdout=subprocess.DEVNULL, env=os.environ | environment) for _ in range(30))
     return {"least": round(taken[0], 1), "half": round(taken[15], 1)}
 
 
-def measured_kept(program: str, folder: str, sync: bool, seconds: float) -> dict[str, Any]:
-    """What asks over connections that are kept cost, and the same elsewhere."""
-    shop, environment, found = f"{folder}/kept", {"RUBIS": program}, dict[str, Any]()
-    command, port = str(TOP / "shop"), free_port()
-    subprocess.run([command, "start", shop, *["--sync"] * sync], check=True, env=os.environ | environment)
-    try:
-        subprocess.run([command, "-C", shop, "ask", "0", "user,ann", "user,bob", "item,0.1,lamp,7,1,100,0"], check=True, stdout=subprocess.DEVNULL)
-        status = client.one(shop, {"op": "status"}, 10)["shop"]
-        own = {"supervisor": status["pid"], "keeper": status["site"][0]["pid"]}
-        found["`python3 -I -S -c pass`, ms"] = as_command("/usr/bin/python3", "-I", "-S", "-c", "pass")
-        found["`shop ask`, ms"] = as_command(command, "-C", shop, "ask", "0", bid(0, 0))
-        found["by the socket"] = driven(to_socket(shop), ask_by_socket, is_whole_line, seconds, 1, own)
-        with running(command, "-C", shop, "serve", "--listen", f"127.0.0.1:{port}", port=port) as server:
-            own["shop serve"] = server
-            found["over HTTP, one ask a request"] = driven(to_port(port), ask_by_http, is_whole_http, seconds, 1, own)
-            found["over HTTP, a hundred a request"] = driven(to_port(port), hundred_by_http, is_whole_http, seconds, 100, own)
-    finally:
-        subprocess.run([command, "stop", shop], check=True)
-    return found | beside_kept(folder, sync, seconds)
+def redis(folder: str, port: int, *options: str) -> contextlib.AbstractContextManager[int]:
+    words = ["--port", str(port), "--bind", "127.0.0.1", "--dir", folder, "--save", "", "--appendonly", "yes", *options]
+    return running("redis-server", *words, port=port)
+
+
+def measured_kept(shop: Shop, seconds: float) -> dict[str, Any]:
+    """What asks over connections that are kept cost."""
+    folder, found, command, port = shop.folder_of(0), dict[str, Any](), str(TOP / "shop"), free_port()
+    status = client.one(folder, {"op": "status"}, 10)["shop"]
+    own = {"supervisor": status["pid"], "keeper": status["site"][0]["pid"]}
+    found["`python3 -I -S -c pass`, ms"] = as_command("/usr/bin/python3", "-I", "-S", "-c", "pass")
+    found["`shop ask`, ms"] = as_command(command, "-C", folder, "ask", "0", bid(0, 0))
+    found["by the socket"] = driven(to_socket(folder), ask_by_socket, is_whole_line, seconds, 1, own)
+    with running(command, "-C", folder, "serve", "--listen", f"127.0.0.1:{port}", port=port) as server:
+        own["shop serve"] = server
+        for name, request, asks in BY_HTTP:
+            found[f"over HTTP, {name}"] = driven(to_port(port), request, is_whole_http, seconds, asks, own)
+    return found
 
 
 def beside_kept(folder: str, sync: bool, seconds: float) -> dict[str, Any]:
     """The same of other servers, as far as they are installed."""
     found, port, peer = dict[str, Any](), free_port(), free_port()
     with running("/usr/bin/python3", "-c", BARE, str(port), port=port) as server:
-        for name, request, asks in (("one ask a request", ask_by_http, 1), ("a hundred a request", hundred_by_http, 100)):
+        for name, request, asks in BY_HTTP:
             found[f"a bare server of aiohttp, {name}"] = driven(to_port(port), request, is_whole_http, seconds, asks, {"server": server})
     port = free_port()
     if shutil.which("redis-server"):
-        words = ["--port", str(port), "--dir", folder, "--save", "", "--appendonly", "yes", "--appendfsync", "always" if sync else "everysec"]
-        with running("redis-server", *words, port=port) as server:
+        with redis(folder, port, "--appendfsync", "always" if sync else "everysec") as server:
             found["`redis-cli incr`, ms"] = as_command("redis-cli", "-p", str(port), "incr", "n")
             found["redis, INCR"] = driven(to_port(port), lambda count: b"INCR n\r\n", lambda text: text.endswith(b"\r\n"), seconds, 1, {"server": server})
     port = free_port()
@@ -338,28 +343,20 @@ def main() -> int:
     words.add_argument("--sync", action="store_true")
     words.add_argument("--kept", metavar="SECONDS", type=float, help="ask over connections that are kept, each way so long")
     args = words.parse_args()
-    if args.kept:
-        with tempfile.TemporaryDirectory() as folder:
-            load, found = os.getloadavg()[0], measured_kept(os.path.abspath(args.program), folder, args.sync, args.kept)
-        print(json.dumps({"sync": args.sync, "load": [load, os.getloadavg()[0]]} | found, indent=1, ensure_ascii=False))
-        return 0
-    with tempfile.TemporaryDirectory() as folder:
-        server = None
-        if shutil.which("redis-server"):
-            options = ["--port", str(PORT), "--bind", "127.0.0.1", "--dir", folder, "--appendonly", "yes", "--save", ""]
-            server = subprocess.Popen(["redis-server", *options], stdout=subprocess.DEVNULL)
-            time.sleep(0.5)
-        shop = Shop(os.path.abspath(args.program), folder, args.over, args.sync)
-        try:
-            found = {"over": args.over, "sync": args.sync, "load": os.getloadavg()[0]} | measured(shop, args.over)
-            if server:
-                found["beside it"] = incr()
-        finally:
-            shop.stop()
-            if server:
-                server.terminate()
-                server.wait()
-    print(json.dumps(found, indent=1))
+    program, load, port = os.path.abspath(args.program), os.getloadavg()[0], free_port()
+    found: dict[str, Any] = {"over": args.over, "sync": args.sync}
+    with tempfile.TemporaryDirectory() as folder, contextlib.ExitStack() as stack:
+        if args.kept:
+            with Shop(program, folder, 1, "files", args.sync) as shop:
+                found |= measured_kept(shop, args.kept)
+            found |= beside_kept(folder, args.sync, args.kept)
+        else:
+            if is_there := shutil.which("redis-server"):
+                stack.enter_context(redis(folder, port))
+            over = "files" if args.over == "files" else f"redis://127.0.0.1:{port}/measured"
+            found |= measured(stack.enter_context(Shop(program, folder, SITES, over, args.sync)))
+            found |= {"beside it": incr(port)} if is_there else {}
+    print(json.dumps(found | {"load": [load, os.getloadavg()[0]]}, indent=1, ensure_ascii=False))
     return 0
 
 

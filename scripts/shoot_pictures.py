@@ -2,7 +2,7 @@
 """Draws eight runs and takes screenshots of them for docs/PICTURES.md: scripts/shoot_pictures.py [FOLDER]
 
 Needs a Chromium, and makes the files smaller with pngquant where that is installed. FOLDER is docs/pictures by default. The runs
-are conversations, and shops that picture_tool/tests makes up, of which `scripts/try_pictures.py` shows that the program answers so."""
+are conversations, and shops that picture_tool/tests makes up, of which `tests/test_pictures.py` shows that the program answers so."""
 
 import os
 import pathlib
@@ -65,6 +65,7 @@ def shoot_page(folder: pathlib.Path) -> None:
         file.write(shop(MadeShop(4, 1000, 3, CALM), "--html"))
         file.flush()
         browser.open(file.name, READY)
+        browser.key("Home")
         browser.value("new Promise(done => requestAnimationFrame(() => requestAnimationFrame(done)))")
         browser.shot(str(folder / "page_at_its_start.png"))
         middle = "[...page.run.kind.keys()].find(at => at > page.run.count / 2 && page.run.is(at, 'held'))"

@@ -22,26 +22,19 @@ import re
 import subprocess
 import sys
 
-from trials import report
+from prove_program import Kit, listed_crates
+from report import report
 
 TOP = pathlib.Path(__file__).resolve().parent.parent
 PAGE = TOP / "docs/PROMISES.md"
 PROGRAM_CRATE = "rubis_app"
 BLOCK = re.compile(r"(?<=```text\n)libraries: .*?(?=```)", re.S)
-
-# How long a line of the list may be.
-WIDTH = 120
-
-
-def kit() -> pathlib.Path:
-    """The toolchain's folder."""
-    return pathlib.Path(subprocess.run(["rt", "doc"], capture_output=True, check=True, text=True).stdout.strip()).parent
+WIDTH = 120     # of a line of the list
 
 
 def libraries(tools: pathlib.Path) -> list[str]:
     """The libraries that the program's crates stand on, and those that these stand on."""
-    lines = [line for line in (TOP / "crates.txt").read_text().splitlines() if line and not line.startswith("#")]
-    below = {name: rest.split() for name, rest in (line.split(":") for line in lines)}
+    below = listed_crates()
     found: set[str] = set()
     open_names = [PROGRAM_CRATE]
     while open_names:
@@ -66,7 +59,8 @@ def assumed() -> list[str]:
 
 def called(tools: pathlib.Path, program: str) -> list[str]:
     """The C functions that the program calls."""
-    ran = subprocess.run(["llvm-nm", "-D", "--undefined-only", "-j", program], executable=tools / "toolchain/bin/clang", capture_output=True, check=True, text=True)
+    command = ["llvm-nm", "-D", "--undefined-only", "-j", program]
+    ran = subprocess.run(command, executable=tools / "toolchain/bin/clang", capture_output=True, check=True, text=True)
     return sorted({name.partition("@")[0] for name in ran.stdout.split()})
 
 
@@ -100,16 +94,18 @@ def laid_out(word: str, names: list[str]) -> str:
 
 def main() -> int:
     words = [word for word in sys.argv[1:] if word != "--write"]
-    tools = kit()
+    tools = pathlib.Path(Kit().folder)
     stands_on, calls = libraries(tools), called(tools, words[0])
     if "--write" in sys.argv[1:]:
         text = laid_out("libraries", stands_on) + laid_out("assumed", assumed()) + laid_out("called", calls) + laid_out("seams", seams())
         PAGE.write_text(BLOCK.sub(lambda _: text, PAGE.read_text()))
     now = listed()
-    faults = [f"docs/PROMISES.md: `{name}` is a library that is {'not listed' if name in stands_on else 'not used'}" for name in sorted(set(stands_on) ^ set(now["libraries"]))]
+    faults = [f"docs/PROMISES.md: `{name}` is a library that is {'not listed' if name in stands_on else 'not used'}"
+              for name in sorted(set(stands_on) ^ set(now["libraries"]))]
     more = set(calls) - set(now["assumed"]) - set(now["called"])
     faults += [f"docs/PROMISES.md: the program calls `{name}`, which isn't listed" for name in sorted(more)]
-    faults += [f"docs/PROMISES.md: `{name}` is a seam that is {'not listed' if name in seams() else 'not there'}" for name in sorted(set(seams()) ^ set(now["seams"]))]
+    faults += [f"docs/PROMISES.md: `{name}` is a seam that is {'not listed' if name in seams() else 'not there'}"
+               for name in sorted(set(seams()) ^ set(now["seams"]))]
     return report("trusted", len(stands_on) + len(calls) + len(seams()), faults)
 
 

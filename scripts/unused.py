@@ -15,7 +15,7 @@ import sys
 from collections.abc import Iterator
 from dataclasses import dataclass
 
-from trials import report
+from report import report
 
 TOP = pathlib.Path(__file__).resolve().parent.parent
 TOKEN = re.compile(r"[^\s()\[\]{},;:.=λ→]+")

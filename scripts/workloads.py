@@ -1,15 +1,13 @@
-"""Inputs for scripts/costs.py: the usual runs of README and the guide, and runs that somebody makes to slow rubis down.
-
-Asks fit what their site has (scripts/cases.py keeps track of it), in about the shares of RUBiS's bidding mix without its reads.
-Each input is the same on every machine."""
+"""Inputs for scripts/costs.py: the usual runs of README and the guide, and runs that somebody makes to slow rubis down. Each is the same on
+every machine."""
 
 import dataclasses
+import itertools
+import operator
 from collections.abc import Callable, Iterator
 
-import cases
+from traffic import KINDS, RED, Dice, Fields, Message, Network, Site, listed
 
-# How often each kind of ask comes, in hundredths.
-KINDS = ["bid"] * 57 + ["comment"] * 12 + ["item"] * 11 + ["buy"] * 6 + ["user"] * 5 + ["close"] * 5 + ["restock"] * 3 + ["rename"]
 WORDS = ["red", "lamp", "vase", "old", "chair", "fine", "good", "clock", "blue", "quick", "seller", "as described", "box", "silver", "map"]
 
 
@@ -23,17 +21,29 @@ class Work:
     def records(self) -> int:
         return self.text.count(b"\n")
 
+    def with_options(self, more: list[str]) -> "Work":
+        return Work([*self.command, *more], self.text)
 
-class Asker:
-    """Makes asks that a site accepts."""
 
-    def __init__(self) -> None:
-        self.dice = cases.Dice(1)
-        self.nicks = 0
+class Usual(Fields):
+    """Draws asks of which most are accepted, in about the shares of RUBiS's bidding mix without its reads."""
 
-    def nick(self) -> str:
-        self.nicks += 1
-        return f"user_{self.nicks}"
+    SHARES = {"bid": 57, "comment": 12, "item": 11, "buy": 6, "user": 5, "close": 5, "restock": 3, "rename": 1}
+    NUMBERS = Fields.NUMBERS | {"stock": (1, 1000)}
+
+    def __init__(self, site: Site) -> None:
+        super().__init__(Dice(1))
+        self.site, self.nicks = site, 0
+
+    def begin(self, kind: str) -> None:
+        super().begin(kind)
+        dice, site = self.dice, self.site
+        self.drawn_user = dice.one(site.user_ids) if kind != "user" else ""
+        if kind == "item":
+            self.drawn_start = 1 + dice.below(100_000)
+            self.drawn_price = 0 if dice.often(0.3) else 2 * self.drawn_start
+        elif "item" in KINDS[kind].asked:
+            self.drawn_item = self.recent(site.item_ids)
 
     def words(self, most: int) -> str:
         return " ".join(self.dice.one(WORDS) for _ in range(1 + self.dice.below(most)))
@@ -41,39 +51,53 @@ class Asker:
     def recent(self, ids: list[str]) -> str:
         return self.dice.one(ids[-512:]) if self.dice.often(0.7) else self.dice.one(ids)
 
-    def draw(self, site: cases.Site, kind: str) -> list[str]:
-        """An ask of that kind, which the site may refuse."""
-        dice = self.dice
-        if kind == "user":
-            return ["user", self.nick()]
-        user = dice.one(site.user_ids)
-        if kind == "rename":
-            return ["rename", user, self.nick()]
-        if kind == "item":
-            start = 1 + dice.below(100_000)
-            price = 0 if dice.often(0.3) else 2 * start
-            return ["item", user, self.words(4), str(dice.below(1000)), str(1 + dice.below(1000)), str(start), str(price)]
-        id = self.recent(site.item_ids)
-        item = site.items[id]
-        if kind == "bid":
-            return ["bid", id, user, str(max(item.amount, item.start) + dice.below(50))]
-        if kind == "buy":
-            return ["buy", id, user, str(1 + dice.below(3))]
-        if kind == "comment":
-            return ["comment", id, user, item.seller, str(dice.below(11) - 5), self.words(12)]
-        return ["close", id, item.seller] if kind == "close" else ["restock", id, item.seller, str(1 + dice.below(20))]
+    def nickname(self) -> str:
+        self.nicks += 1
+        return f"user_{self.nicks}"
 
-    def accepted(self, site: cases.Site, blue_only: bool = False) -> tuple[list[str], cases.Message]:
-        """An ask that was accepted, and its message."""
+    def user(self) -> str:
+        return self.drawn_user
+
+    def item(self) -> str:
+        return self.drawn_item
+
+    def seller(self) -> str:
+        return self.drawn_user if self.kind == "item" else self.site.items[self.drawn_item].seller
+
+    def other(self) -> str:
+        return self.site.items[self.drawn_item].seller
+
+    def name(self) -> str:
+        return self.words(4)
+
+    def start(self) -> int:
+        return self.drawn_start
+
+    def price(self) -> int:
+        return self.drawn_price
+
+    def amount(self) -> int:
+        item = self.site.items[self.drawn_item]
+        return max(item.amount, item.start) + self.dice.below(50)
+
+    def quantity(self) -> int:
+        return 1 + self.dice.below(20 if self.kind == "restock" else 3)
+
+    def text(self) -> str:
+        return self.words(12)
+
+    def accepted(self, site: Site, blue_only: bool = False) -> tuple[list[str], Message]:
+        """An ask that was accepted at a site, and its message."""
+        self.site = site
         while True:
-            kind = self.dice.one(KINDS)
+            kind = self.dice.one(self.kinds)
             if len(site.user_ids) < 20:
                 kind = "user"
             elif len(site.item_ids) < 20:
                 kind = "item"
-            if blue_only and kind in cases.RED:
+            if blue_only and kind in RED:
                 continue
-            ask = self.draw(site, kind)
+            ask = self.ask(kind)
             shadow = site.decide(ask)
             if shadow:
                 return ask, site.make(shadow)
@@ -85,7 +109,8 @@ def text_of(records: Iterator[str]) -> bytes:
 
 def requests(many: int, listings: int = 0) -> Work:
     """Asks at one site, with as many small listings among them."""
-    asker, site = Asker(), cases.Site(0, 1)
+    site = Site(0, 1)
+    asker = Usual(site)
 
     def records() -> Iterator[str]:
         for place in range(many):
@@ -109,12 +134,13 @@ def users(many: int) -> Work:
 
 def packets(many: int, block: int, mix: Callable[[list[str]], None]) -> Work:
     """The messages of another site, mixed in blocks."""
-    asker, site = Asker(), cases.Site(0, 2)
+    site = Site(0, 2)
+    asker = Usual(site)
     sent = [asker.accepted(site)[1].text() for _ in range(many)]
 
     def blocks() -> Iterator[str]:
         for start in range(0, many, block):
-            part = sent[start : start + block]
+            part = sent[start:start + block]
             mix(part)
             yield from part
 
@@ -126,66 +152,42 @@ def in_order(many: int) -> Work:
 
 
 def shuffled(many: int) -> Work:
-    return packets(many, 64, cases.Dice(2).shuffle)
+    return packets(many, 64, Dice(2).shuffle)
 
 
 def reversed_order(many: int) -> Work:
     return packets(many, 10_000, lambda part: part.reverse())
 
 
-class Market:
+class Market(Network):
     """Sites that ask, and are given each other's messages a little out of order; the token goes round."""
 
     def __init__(self, sites: int) -> None:
-        self.asker = Asker()
-        self.sites = [cases.Site(me, sites) for me in range(sites)]
-        self.packets: list[cases.Message] = []
-        self.numbers: list[int] = []
-        self.lacking: list[list[int]] = [[] for _ in range(sites)]
-        self.sent = 0
-        self.records: list[str] = []
+        super().__init__(sites)
+        self.asker = Usual(self.sites[0])
 
-    def ask(self, place: int, holder: int) -> None:
-        ask, message = self.asker.accepted(self.sites[place], place != holder)
-        self.records.append(f"at,{place},{','.join(ask)}")
-        self.sent += 1
-        self.packets.append(message)
-        self.numbers.append(self.sent)
-        for other, lacking in enumerate(self.lacking):
-            if other != place:
-                lacking.append(len(self.packets) - 1)
+    def ask(self, place: int) -> None:
+        ask, message = self.asker.accepted(self.sites[place], place != self.holder)
+        self.at(place, ",".join(ask))
+        self.send(place, message)
 
-    def deliver(self, place: int, packet: int) -> None:
-        self.records.append(f"deliver,{place},{self.numbers[packet]}")
-        self.sites[place].arrive(self.packets[packet])
-
-    def give_all(self, place: int) -> None:
-        lacking, self.lacking[place] = self.lacking[place], []
-        for packet in lacking:
-            self.deliver(place, packet)
-
-    def round(self, holder: int) -> None:
+    def round(self) -> None:
         dice = self.asker.dice
         for _ in range(60):
-            place = dice.below(len(self.sites)) if dice.often(0.3) and self.sites[holder].item_ids else holder
-            if not self.sites[place].item_ids:
-                place = holder
-            self.ask(place, holder)
+            place = dice.below(len(self.sites)) if dice.often(0.3) and self.sites[self.holder].item_ids else self.holder
+            self.ask(place if self.sites[place].item_ids else self.holder)
             for other, lacking in enumerate(self.lacking):
                 if len(lacking) > 6:
                     self.deliver(other, lacking.pop(dice.below(6)))
 
     def run(self, many: int) -> list[str]:
-        holder = 0
         while len(self.records) < many:
-            self.round(holder)
-            to = (holder + 1) % len(self.sites)
-            self.give_all(to)
-            self.records.append(f"at,{holder},pass,{to}")
-            self.sent += 1
-            self.records.append(f"deliver,{to},{self.sent}")
-            self.sites[to].token, self.sites[holder].token = self.sites[holder].token, None
-            holder = to
+            self.round()
+            to = (self.holder + 1) % len(self.sites)
+            self.deliver_all(to)
+            self.hand_over(to)
+            self.deliver(to, len(self.packets))
+            self.holder = to
         return self.records
 
 
@@ -204,24 +206,15 @@ def world_with_logs(many: int) -> Work:
     market = Market(4)
     market.run(many * 45 // 100)
     for place in range(4):
-        market.give_all(place)
+        market.deliver_all(place)
     shown = [f"at,{place},list,{listing}" for place in range(4) for listing in ("log", "tables")]
     return Work(["world", "--sites", "4"], text_of(iter(market.records + shown)))
 
 
 def audit_of(output: bytes) -> Work:
     """An audit of the logs that such a world has shown."""
-    lines: list[bytes] = []
-    last = b""
-    for line in output.split(b"\n"):
-        site, row = line[3:4], line[5:]
-        if not line.startswith(b"at,") or not row.startswith(b"row,"):
-            continue
-        if site != last:
-            lines.append(b"site," + site)
-            last = site
-        lines.append(row.split(b",", 3)[3] if row.startswith(b"row,log,") else row)
-    return Work(["audit", "--sites", "4"], b"\n".join(lines) + b"\n")
+    logs = itertools.groupby(listed(output), operator.itemgetter(0))
+    return Work(["audit", "--sites", "4"], b"".join(b"site,%d\n" % site + b"".join(line for _, line in rows) for site, rows in logs))
 
 
 # ---- what somebody may send to slow rubis down
@@ -238,7 +231,7 @@ def joined_product(a: int, b: int) -> int:
 
 def nick_hash(nick: bytes) -> int:
     """How a nickname is hashed by these numbers."""
-    first, second, third = (int.from_bytes(nick[at : at + 8], "little") for at in (0, 8, 16))
+    first, second, third = (int.from_bytes(nick[at:at + 8], "little") for at in (0, 8, 16))
     product = joined_product((first + FIRST) % 2**64, (second + SECOND) % 2**64)
     return joined_product((third + product) % 2**64, LAST)
 
@@ -262,6 +255,19 @@ def audit_of_users(many: int, chosen: bool) -> Work:
     return Work(["audit"], b"site,0\n" + text_of(lines))
 
 
+def new_users(many: int, chosen: bool) -> Work:
+    return Work(["site"], text_of(f"user,{nick}" for nick in nicknames(many, chosen)))
+
+
+def waiting(many: int, chosen: bool) -> Work:
+    """Messages that wait for the first one of their site; the hashes of chosen numbers, by a product with a number that is no secret, fall into
+    the first tenth of a table."""
+    numbers = [number for number in range(2, 1_000_001) if not chosen or joined_product(FIRST, number) % 16_384 < 1_638]
+    Dice(2).shuffle(numbers)
+    messages = (f"msg,1,0,{number},0,{number - 1}:0,comment,0.1,0.1,0.1,1,x" for number in numbers[:many])
+    return Work(["site", "--site", "1", "--sites", "2"], text_of(messages))
+
+
 def few_users_behind_many_rows(many: int) -> Work:
     """Pairs of a comment and a listing of three users."""
     start = ["user,ann", "user,bob", "user,eve", "item,0.1,lamp,7,1,100,0"]
@@ -272,18 +278,10 @@ def repeated(command: list[str], record: str) -> Callable[[int], Work]:
     return lambda many: Work(command, (record + "\n").encode() * many)
 
 
-def audit_of_sixteen(many: int) -> Work:
-    """An audit of the same log of `many` messages at sixteen sites."""
-    deps = [f"{place}" + ":0" * 15 for place in range(many)]
-    log = "".join(f"msg,1,0,{place + 1},{place + 1},{deps[place]},user,n{place:x}\n" for place in range(many))
-    return Work(["audit", "--sites", "16"], "".join(f"site,{site}\n{log}" for site in range(16)).encode())
-
-
-def lagging_logs(many: int) -> Work:
-    """An audit of sixteen logs of `many` messages of one site; that of site s lacks the last s hundredths of them."""
-    deps = [f"{place}" + ":0" * 15 for place in range(many)]
-    log = [f"msg,1,0,{place + 1},{place + 1},{deps[place]},user,n{place:x}\n" for place in range(many)]
-    logs = (f"site,{site}\n" + "".join(log[: many - many * site // 100]) for site in range(16))
+def sixteen_logs(many: int, lacking: int = 0) -> Work:
+    """An audit of sixteen logs of `many` messages of one site; that of site s lacks s times as many hundredths of them, the last ones."""
+    log = [f"msg,1,0,{place + 1},{place + 1},{place}{':0' * 15},user,n{place:x}\n" for place in range(many)]
+    logs = (f"site,{site}\n" + "".join(log[:many - many * site * lacking // 100]) for site in range(16))
     return Work(["audit", "--sites", "16"], "".join(logs).encode())
 
 
@@ -292,15 +290,3 @@ def quotes(many: int) -> Work:
     start = ["user,ann", "user,bob", "item,0.1,lamp,7,1,100,0"]
     comment = 'comment,0.3,0.2,0.1,1,"' + '""' * 200 + '"'
     return Work(["site"], text_of(iter(start + [comment] * many + ["list,comments,0.1"])))
-
-
-def endless_line(many: int) -> Work:
-    return Work(["site"], b"x" * many)
-
-
-def endless_quote(many: int) -> Work:
-    return Work(["site"], b'"' + b"x" * many)
-
-
-def commas(many: int) -> Work:
-    return Work(["site"], b"," * many)

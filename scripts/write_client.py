@@ -31,6 +31,7 @@ export class ProblemError extends Error {
 
 export interface ServerEvent {
   event: string;
+  id?: string;
   data: unknown;
 }
 
@@ -135,9 +136,12 @@ def method_of(name: str, verb: str, path: str, operation: Schema, accept: str, s
         return (f"{begin}*{name}({', '.join(words)}): AsyncGenerator<{type_of(schema)}> {{\n    const response = {send};\n"
                 f"    for await (const line of this.lines(response)) yield JSON.parse(line) as {type_of(schema)};\n  }}\n")
     if accept == EVENTS:
-        return (f"{begin}*{name}({', '.join(words)}): AsyncGenerator<ServerEvent> {{\n    const response = {send};\n    let event = \"\";\n"
+        return (f"{begin}*{name}({', '.join(words)}): AsyncGenerator<ServerEvent> {{\n    const response = {send};\n"
+                "    let event = \"\", id: string | undefined;\n"
                 "    for await (const line of this.lines(response)) {\n      if (line.startsWith(\"event: \")) event = line.slice(7);\n"
-                "      if (line.startsWith(\"data: \")) yield { event, data: JSON.parse(line.slice(6)) };\n    }\n  }\n")
+                "      if (line.startsWith(\"id: \")) id = line.slice(4);\n"
+                "      if (line.startsWith(\"data: \")) {\n        yield { event, id, data: JSON.parse(line.slice(6)) };\n        id = undefined;\n"
+                "      }\n    }\n  }\n")
     read = "json()" if accept == JSON else "text()"
     return f"{begin}{name}({', '.join(words)}): Promise<{type_of(schema)}> {{\n    return (await ({send}).{read}) as {type_of(schema)};\n  }}\n"
 

@@ -1,10 +1,10 @@
 #!/usr/bin/env python3
-"""Writes docs/CONTRACTS.md, the index of every public call with its clauses and the wrong bodies of its crate, from the sources.
+"""Writes docs/CONTRACTS.md, the contracts of the public calls that the pages cite, from the sources.
 
-    write_contracts.py [--check]
+    write_contracts.py [--check | --all]
 
-A call stands with the first sentence of its comment and its clauses, word for word; each crate's wrong bodies with the function that
-they change. `--check` compares, and fails where the page isn't what the sources say; the gate does so.
+A call stands with the first sentence of its comment and its clauses, word for word. `--check` compares, and fails where the page isn't what
+the sources say; the gate does so. `--all` prints every public call, and each crate's wrong bodies with the function that they change.
 """
 import argparse
 import pathlib
@@ -13,16 +13,22 @@ import sys
 from collections.abc import Iterator
 from dataclasses import dataclass, field
 
+from prove_program import listed_crates
+from wrong_bodies import Edit
+
 TOP = pathlib.Path(__file__).resolve().parent.parent
 PAGE = TOP / "docs/CONTRACTS.md"
 
-OPENING = """# Every call and its contract
+OPENING = """# Contracts of the calls that the pages cite
 
 `scripts/write_contracts.py` writes this page from the sources, and the gate compares it. For each crate, in the order of
-[crates.txt](../crates.txt): its public calls with the first sentence of their comments and their clauses, and its wrong bodies,
-each with the function that it changes. The prover has to refuse every one of these. What the contracts promise together is told in
-[PROMISES.md](PROMISES.md), and the notation in [MODEL.md](MODEL.md#notation).
+[crates.txt](../crates.txt): the calls that a page cites, with the first sentence of their comments and their clauses.
+`scripts/write_contracts.py --all` prints every public call, and the wrong bodies, each of which the prover has to refuse.
+What the contracts promise together is told in [PROMISES.md](PROMISES.md), and the notation in [MODEL.md](MODEL.md#how-statements-are-written).
 """
+
+# A link to lines of a source.
+LINK = re.compile(r"\[`([\w:]+)`\]\(([^)#\s]*crates/[^)#\s]+)(?:#L(\d+)-L(\d+))?\)")
 
 IMPL = re.compile(r"^impl\b")
 FUNCTION = re.compile(r"^(\s*)((?:pub )?)(?:pub\(\w+\) )?fn (\w+)")
@@ -107,21 +113,22 @@ def is_exported(root: str, path: pathlib.Path, call: Call) -> bool:
 
 def changed_function(edit: pathlib.Path, calls: list[Call]) -> str:
     """The name of the function that a wrong body changes, or that of its file."""
-    text = edit.read_text()
-    crate = edit.parent.parent
-    source = re.search(r"^file: (.*)$", text, re.M)
-    old = re.search(r"^old: (.*)$", text, re.M)
-    if source is None or old is None:
-        return ""
-    path = crate / source[1]
-    lines = path.read_text().splitlines()
-    at = next((number for number, line in enumerate(lines, 1) if old[1] in line), 0)
+    file, old, _ = Edit.read(str(edit)).changes[0]
+    path = edit.parent.parent / file
+    at = next((number for number, line in enumerate(path.read_text().splitlines(), 1) if old in line), 0)
     before = [call for call in calls if call.path == path and call.first <= at]
     return before[-1].name if before else path.name
 
 
-def section_of(crate: str) -> str:
-    """What the page says of a crate."""
+def cited() -> set[tuple[str, str]]:
+    """The calls that the pages cite: the file of each, below `crates`, and its own name."""
+    pages = [TOP / "README.md", *(page for page in sorted(TOP.glob("docs/*.md")) if page != PAGE)]
+    links = [link for page in pages for link in LINK.findall(page.read_text())]
+    return {(path.split("crates/")[1], name.split("::")[-1]) for name, path, _, _ in links}
+
+
+def section_of(crate: str, among: set[tuple[str, str]] | None) -> str:
+    """What is said of a crate: of those calls, or of all with its wrong bodies."""
     folder = TOP / "crates" / crate
     root_path = next(path for path in (folder / "src/lib.rt", folder / "src/main.rt") if path.exists())
     root = root_path.read_text()
@@ -131,27 +138,31 @@ def section_of(crate: str) -> str:
     for call in calls:
         if not call.is_public or not call.clauses or not is_exported(root, call.path, call):
             continue
+        if among is not None and (str(call.path.relative_to(TOP / "crates")), call.name.split("::")[-1]) not in among:
+            continue
         link = f"../{call.path.relative_to(TOP)}#L{call.first}-L{call.last}"
         parts.append(f"\n[`{call.name}`]({link}): {call.sentence}\n\n" + "".join(f"    {clause}\n" for clause in call.clauses))
     edits = sorted((folder / "must-fail").glob("*.edit"))
-    if edits:
+    if edits and among is None:
         parts.append("\nWrong bodies: " + "; ".join(f"`{edit.stem}` (`{changed_function(edit, calls)}`)" for edit in edits) + ".\n")
     return "".join(parts) if len(parts) > 1 else ""
 
 
-def page() -> str:
-    """The whole page."""
-    lists = [line.split("#")[0] for line in (TOP / "crates.txt").read_text().splitlines()]
-    crates = [line.split(":")[0].split()[0] for line in lists if ":" in line]
+def page(among: set[tuple[str, str]] | None) -> str:
+    """The page of those calls, or of all."""
     tests = ("rubis_tests", "rubis_growths", "rubis_app", "rubis_site")
-    return OPENING + "".join(section_of(crate) for crate in crates if crate not in tests)
+    return OPENING + "".join(section_of(crate, among) for crate in listed_crates() if crate not in tests)
 
 
 def main() -> int:
     parser = argparse.ArgumentParser(description="Writes the index of every call with its clauses.")
     parser.add_argument("--check", action="store_true", help="compare only")
+    parser.add_argument("--all", action="store_true", help="print every public call, and the wrong bodies")
     options = parser.parse_args()
-    text = page()
+    if options.all:
+        print(page(None), end="")
+        return 0
+    text = page(cited())
     if options.check:
         same = PAGE.exists() and PAGE.read_text() == text
         print("contracts: the page is what the sources say" if same else "docs/CONTRACTS.md isn't what the sources say; write_contracts.py writes it")

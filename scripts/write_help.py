@@ -14,13 +14,13 @@ import re
 import subprocess
 import sys
 
-from trials import report
+from report import report
 
 TOP = pathlib.Path(__file__).resolve().parent.parent
-# More than any option takes.
-TOO_LARGE = "4294967295"
-# Up to this number, a range is offered number by number.
-OFFERED = 16
+TOO_LARGE = "4294967295"    # for any option
+OFFERED = 16                # up to this number, a range is offered number by number
+WRITTEN_BY = "Written by scripts/write_help.py; changes are lost."
+HELP_FOR_ZSH = "'(-h --help)'{-h,--help}'[Prints the help]'"
 
 
 @dataclasses.dataclass
@@ -137,7 +137,9 @@ def roff(text: str) -> str:
 
 STATUSES = [
     ("0", "The run is done, whatever was refused or found, but for what the next line says; or the help or the version was asked for."),
-    ("1", "Logs don't agree (rubis audit --status, rubis lack) or one has lost messages (rubis lack), or a record is outside the grammar (rubis check); then standard error has nothing. Or the run ended early. Standard error has one line: run fault: read, run fault: write, run fault: memory, or run fault: too long (more than 4,000,000 records); or, of rubis keep, what else failed and why."),
+    ("1", "Logs don't agree (rubis audit --status, rubis lack) or one has lost messages (rubis lack), or a record is outside the grammar (rubis "
+          "check); then standard error has nothing. Or the run ended early. Standard error has one line: run fault: read, run fault: write, run "
+          "fault: memory, or run fault: too long (more than 4,000,000 records); or, of rubis keep, what else failed and why."),
     ("2", "The command line isn't one, or asks for another site than the folder has. Standard error says why."),
 ]
 
@@ -149,74 +151,65 @@ def table_of(heading: str) -> list[list[str]]:
     return [[cell.strip().replace("`", "") for cell in row.split(" | ")] for row in rows]
 
 
+def tagged(name: str, text: str) -> list[str]:
+    """A name, with what it means below it."""
+    return [".TP", name, roff(text)]
+
+
 def records_and_refusals() -> list[str]:
     """What the manual says of requests, packets and refusals."""
     out = [".SH RECORDS", roff("Records are CSV, one a line; the manual has the form of each field, and the answers.")]
     for heading in ("### Requests", "### Packets"):
         for record, meaning in table_of(heading):
-            out += [".TP", f".B {roff(record)}", roff(meaning) + "."]
+            out += tagged(f".B {roff(record)}", f"{meaning}.")
     out.append(".SH REFUSALS")
     for code, name, meaning in table_of("## Refusals"):
-        out += [".TP", f".B {code} {name}", roff(meaning) + "."]
+        out += tagged(f".B {code} {name}", f"{meaning}.")
     return out
 
 
+ABOUT = (
+    "Each site accepts requests locally, sends the accepted operations to its peers and applies theirs, despite delay, duplication or reordering. "
+    "It reads records on standard input, one a line, and writes the answers on standard output. It opens no sockets, and only rubis keep writes "
+    "files: sites are connected by carrying lines between them."
+)
+EXAMPLE = r"""
+One site, and two records to it:
+.PP
+.nf
+.RS
+$ printf \(aquser,ann\enlist,users\en\(aq | rubis site
+reply,1,ok,0.1
+send,msg,1,0,1,1,0,user,ann
+reply,2,rows,1
+row,user,0.1,ann,0,0,0,0
+.RE
+.fi""".lstrip("\n")
+
+
 def man_page(line: CommandLine) -> str:
-    out = [
-        '.\\" Written by scripts/write_help.py; changes are lost.',
-        f'.TH RUBIS 1 "" "rubis {line.version}" "User Commands"',
-        ".SH NAME",
-        f"rubis \\- {roff(line.about[0].lower() + line.about[1:])}",
-        ".SH SYNOPSIS",
-    ]
+    out = [f'.\\" {WRITTEN_BY}', f'.TH RUBIS 1 "" "rubis {line.version}" "User Commands"']
+    out += [".SH NAME", f"rubis \\- {roff(line.about[0].lower() + line.about[1:])}", ".SH SYNOPSIS"]
     for command in line.commands:
         words = [] if command.argument is None else [command.argument.shown]
         given = {True: " \\fIn\\fR", False: ""}
         words += [f"[\\fB\\-\\-{option.name}\\fR{given[option.takes_number]}]" for option in command.options]
         out += [f".B rubis {command.name}", " ".join(words), ".br"]
-    out[-1:] = [
-        ".SH DESCRIPTION",
-        roff("Each site accepts requests locally, sends the accepted operations to its peers and applies theirs, despite delay, duplication or reordering. It reads records on standard input, one a line, and writes the answers on standard output. It opens no sockets, and only rubis keep writes files: sites are connected by carrying lines between them."),
-        ".PP",
-        roff("No answer depends on --batch, --shards or --workers. An option that is given twice is an error."),
-        ".SH COMMANDS",
-    ]
+    out[-1:] = [".SH DESCRIPTION", roff(ABOUT), ".PP"]
+    out += [roff("No answer depends on --batch, --shards or --workers. An option that is given twice is an error."), ".SH COMMANDS"]
     for command in line.commands:
         out += [f".SS rubis {command.name}", roff(command.about) + "."]
         if command.argument is not None:
-            out += [".TP", f".I {command.argument.name}", roff(command.argument.help) + "."]
+            out += tagged(f".I {command.argument.name}", f"{command.argument.help}.")
         for option in command.options:
             number = ' " \\fIn\\fR"' if option.takes_number else ""
-            out += [".TP", f".BR \\-\\-{option.name}{number}", roff(option.words) + "."]
-    out += [
-        ".SH OPTIONS",
-        ".TP",
-        ".BR \\-h \", \" \\-\\-help",
-        roff("Prints the help of the program, or of the command before it."),
-        ".TP",
-        ".BR \\-V \", \" \\-\\-version",
-        "Prints the version.",
-    ]
-    out += records_and_refusals()
-    out.append(".SH EXIT STATUS")
+            out += tagged(f".BR \\-\\-{option.name}{number}", f"{option.words}.")
+    out += [".SH OPTIONS", *tagged('.BR \\-h ", " \\-\\-help', "Prints the help of the program, or of the command before it.")]
+    out += [*tagged('.BR \\-V ", " \\-\\-version', "Prints the version."), *records_and_refusals(), ".SH EXIT STATUS"]
     for status, meaning in STATUSES:
-        out += [".TP", f".B {status}", roff(meaning)]
-    out += [
-        ".SH EXAMPLES",
-        "One site, and two records to it:",
-        ".PP",
-        ".nf",
-        ".RS",
-        roff("$ printf 'user,ann\\nlist,users\\n' | rubis site"),
-        "reply,1,ok,0.1",
-        "send,msg,1,0,1,1,0,user,ann",
-        "reply,2,rows,1",
-        "row,user,0.1,ann,0,0,0,0",
-        ".RE",
-        ".fi",
-        ".SH SEE ALSO",
-        roff("docs/MANUAL.md has every record, answer and refusal; docs/GUIDE.md says how to run a shop of several sites."),
-    ]
+        out += tagged(f".B {status}", meaning)
+    out += [".SH EXAMPLES", EXAMPLE, ".SH SEE ALSO"]
+    out += [roff("docs/MANUAL.md has every record, answer and refusal; docs/GUIDE.md says how to run a shop of several sites.")]
     return "\n".join(out) + "\n"
 
 
@@ -239,7 +232,7 @@ def fish_text(text: str) -> str:
 def bash_completion(line: CommandLine) -> str:
     names = " ".join(command.name for command in line.commands)
     out = [
-        "# Completion of rubis for bash. Written by scripts/write_help.py; changes are lost.",
+        f"# Completion of rubis for bash. {WRITTEN_BY}",
         "_rubis() {",
         '    local word=${COMP_WORDS[COMP_CWORD]} before=${COMP_WORDS[COMP_CWORD - 1]} command=${COMP_WORDS[1]} words=',
         "    # `--sites=2` is three words to bash.",
@@ -259,6 +252,37 @@ def bash_completion(line: CommandLine) -> str:
     return "\n".join(out)
 
 
+ZSH = """\
+#compdef {program}
+# Completion of {program} for zsh. {written}
+_{program}() {{
+    local context state line
+    local -a commands
+    commands=(
+{commands}
+    )
+    _arguments -C {arguments} '1: :->command' '*:: :->rest'
+    case $state in
+    command) _describe command commands ;;
+    rest)
+        case $words[1] in
+{cases}
+        esac
+        ;;
+    esac
+}}
+if [[ $zsh_eval_context[-1] == loadautofunc ]]; then _{program} "$@"; else compdef _{program} {program}; fi
+"""
+
+
+def zsh_of(program: str, written: str, arguments: str, abouts: dict[str, str], begin: str, specs: dict[str, list[str]], more: str = "") -> str:
+    """The completion for zsh of a program whose commands have these options."""
+    commands = "\n".join(f"        {quoted(name + ':' + about.replace(':', ' -'))}" for name, about in abouts.items())
+    cases = [f"        {name})\n            {begin} \\\n" + " \\\n".join(f"                {spec}" for spec in each) + "\n            ;;"
+             for name, each in specs.items()]
+    return ZSH.format(program=program, written=written, arguments=arguments, commands=commands, cases="\n".join(cases) + more)
+
+
 def zsh_completion(line: CommandLine) -> str:
     def spec(option: Option) -> str:
         words = zsh_text(option.help)
@@ -271,45 +295,18 @@ def zsh_completion(line: CommandLine) -> str:
         if command.argument is None:
             return []
         offered = f"({' '.join(command.argument.values)})" if command.argument.values else "_files -/"
-        return [f"                {quoted('1:' + command.argument.name + ':' + offered)}"]
+        return [quoted(f"1:{command.argument.name}:{offered}")]
 
-    out = [
-        "#compdef rubis",
-        "# Completion of rubis for zsh. Written by scripts/write_help.py; changes are lost.",
-        "_rubis() {",
-        "    local context state line",
-        "    local -a commands",
-        "    commands=(",
-        *(f"        {quoted(command.name + ':' + command.about.replace(':', ' -'))}" for command in line.commands),
-        "        'help:Prints the help of a command'",
-        "    )",
-        "    _arguments -C '(-h --help)'{-h,--help}'[Prints the help]' '(-V --version)'{-V,--version}'[Prints the version]' '1: :->command' '*:: :->rest'",
-        "    case $state in",
-        "    command) _describe command commands ;;",
-        "    rest)",
-        "        case $words[1] in",
-    ]
-    for command in line.commands:
-        out.append(f"        {command.name})")
-        out.append("            _arguments '(-h --help)'{-h,--help}'[Prints the help]' \\")
-        out.append(" \\\n".join([f"                {spec(option)}" for option in command.options] + argument(command)))
-        out.append("            ;;")
-    out += [
-        "        help) _describe command commands ;;",
-        "        esac",
-        "        ;;",
-        "    esac",
-        "}",
-        'if [[ $zsh_eval_context[-1] == loadautofunc ]]; then _rubis "$@"; else compdef _rubis rubis; fi',
-        "",
-    ]
-    return "\n".join(out)
+    abouts = {command.name: command.about for command in line.commands} | {"help": "Prints the help of a command"}
+    specs = {command.name: [*map(spec, command.options), *argument(command)] for command in line.commands}
+    arguments = f"{HELP_FOR_ZSH} '(-V --version)'{{-V,--version}}'[Prints the version]'"
+    return zsh_of("rubis", WRITTEN_BY, arguments, abouts, f"_arguments {HELP_FOR_ZSH}", specs, "\n        help) _describe command commands ;;")
 
 
 def fish_completion(line: CommandLine) -> str:
     names = " ".join(command.name for command in line.commands)
     out = [
-        "# Completion of rubis for fish. Written by scripts/write_help.py; changes are lost.",
+        f"# Completion of rubis for fish. {WRITTEN_BY}",
         "complete -c rubis -f",
         "complete -c rubis -s h -l help -d 'Prints the help'",
         f"set -l commands {names}",

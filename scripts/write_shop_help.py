@@ -16,7 +16,7 @@ sys.path.insert(0, str(TOP))
 os.environ.pop("SHOP", None)
 
 from shop_tool.cli import ABOUT, EXAMPLES, NOTES, CommandLine      # noqa: E402
-from write_help import fish_text, quoted, write_or_check, zsh_text  # noqa: E402
+from write_help import fish_text, quoted, write_or_check, zsh_of, zsh_text  # noqa: E402
 
 WRITTEN_BY = "Written by scripts/write_shop_help.py; changes are lost."
 SITES = [str(site) for site in range(16)]
@@ -41,7 +41,7 @@ class Command(NamedTuple):
 def options_of(parser: argparse.ArgumentParser) -> list[Option]:
     made = []
     for action in parser._actions:
-        if action.option_strings:
+        if action.option_strings and action.help is not argparse.SUPPRESS:
             value = None if action.nargs == 0 else action.metavar or action.dest.upper()
             made.append(Option(list(action.option_strings), str(value) if value else None, str(action.help)))
     return made
@@ -160,30 +160,6 @@ def bash_completion() -> str:
     return BASH.format(written=WRITTEN_BY, over=" ".join(OVER), commands=names, cases="\n".join(cases))
 
 
-ZSH = """\
-#compdef shop
-# Completion of shop for zsh. {written}
-_shop() {{
-    local context state line
-    local -a commands
-    commands=(
-{commands}
-    )
-    _arguments -C '-C[the folder of the shop]:folder:_directories' '(-h --help)'{{-h,--help}}'[print the help]' \\
-        '1: :->command' '*:: :->rest'
-    case $state in
-    command) _describe command commands ;;
-    rest)
-        case $words[1] in
-{cases}
-        esac
-        ;;
-    esac
-}}
-if [[ $zsh_eval_context[-1] == loadautofunc ]]; then _shop "$@"; else compdef _shop shop; fi
-"""
-
-
 def zsh_values(option: str) -> str:
     if option in ("--save", "--with"):
         return "_files"
@@ -203,13 +179,9 @@ def zsh_specs(command: Command) -> list[str]:
 
 
 def zsh_completion() -> str:
-    found = commands()
-    names = [f"        {quoted(command.name + ':' + command.about.replace(':', ' -'))}" for command in found]
-    cases = []
-    for command in found:
-        specs = " \\\n".join(f"                {spec}" for spec in zsh_specs(command))
-        cases += [f"        {command.name})", "            _arguments \\", specs, "            ;;"]
-    return ZSH.format(written=WRITTEN_BY, commands="\n".join(names), cases="\n".join(cases))
+    arguments = "'-C[the folder of the shop]:folder:_directories' '(-h --help)'{-h,--help}'[print the help]' \\\n       "
+    abouts = {command.name: command.about for command in commands()}
+    return zsh_of("shop", WRITTEN_BY, arguments, abouts, "_arguments", {command.name: zsh_specs(command) for command in commands()})
 
 
 def fish_values(option: Option) -> str:

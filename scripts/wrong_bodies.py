@@ -16,9 +16,7 @@ import sys
 import tempfile
 from dataclasses import dataclass
 
-from prove_program import TOP, Crate, Kit, program_crates
-
-FUNCTION = re.compile(r"^\s*(?:pub(?:\(\w+\))? )?(?:const )?fn (\w+)", re.M)
+from prove_program import FUNCTION, TOP, Crate, Kit, program_crates
 
 
 @dataclass
@@ -90,7 +88,8 @@ class Trials:
                 with open(f"{copy}/{file}", "w", encoding="utf-8") as source:
                     source.write(text.replace(old, new))
         words = self.kit.words("check", self.crate, self.kept, 1)
-        return subprocess.run(words, cwd=copy, stdin=subprocess.DEVNULL, stdout=subprocess.PIPE, stderr=subprocess.STDOUT, text=True, errors="replace", check=False).stdout
+        return subprocess.run(words, cwd=copy, stdin=subprocess.DEVNULL, stdout=subprocess.PIPE, stderr=subprocess.STDOUT, text=True, errors="replace",
+                              check=False).stdout
 
     def refused(self, edit: Edit, said: str) -> str:
         """Returns the function of the edit that isn't proved for a reason of its own, if there is one."""

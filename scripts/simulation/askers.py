@@ -7,6 +7,7 @@ from collections.abc import Callable
 from typing import TYPE_CHECKING, Any
 
 from shop_tool.carrier.records import bytes_of, text_of
+from traffic import Dice, Fields
 
 from .world import SimulatedSite, Supervisor, Violation, heard
 
@@ -50,11 +51,11 @@ class Asker:
         self.request = {"op": "ask", "site": site, "records": [text_of(record) for record in records], "timeout": seconds, "fetch": True,
                         "published": published, "keys": [key] if key else None}
         self.task = supervisor.spawn(supervisor.serve(self.request, self.answers), self._ended, functools.partial(heard, self.answers))
-        world.clock.after(seconds + MARGIN, self._late)
+        world.clock.after(seconds + MARGIN, self._unknown)
 
     def look(self) -> None:
         """Sees whether the supervisor has gone."""
-        if not self.is_over and self.supervisor and not self.supervisor.is_alive:
+        if self.supervisor and not self.supervisor.is_alive:
             self._unknown()
 
     def leave(self) -> None:
@@ -69,12 +70,9 @@ class Asker:
         if not self.is_over:
             self._end(self.answers)
 
-    def _late(self) -> None:
-        if not self.is_over:
-            self._unknown()
-
     def _unknown(self) -> None:
-        self._end([*self.answers, {"end": True, "fault": "whether it was accepted isn't known"}])
+        if not self.is_over:
+            self._end([*self.answers, {"end": True, "fault": "whether it was accepted isn't known"}])
 
     def _end(self, answers: list[dict[str, Any]]) -> None:
         self.is_over = True
@@ -197,15 +195,47 @@ class KeyedAsker:
         return Told(self.site, self.record, "ok", id_of(head[3])) if head[2] == "ok" else Told(self.site, self.record, "refused")
 
 
-def asked(dice: random.Random, number: int, sites: int) -> list[bytes]:
-    """What an asker asks: records that nobody else asks, and some that no site may be given."""
-    users = [f"{dice.randrange(sites)}.{dice.randint(1, 6)}" for _ in range(3)]
-    made = []
+class Unique(Fields):
+    """Draws asks of which each is another one, by its number, but for closes."""
+
+    SHARES = {"user": 10, "item": 10, "bid": 3}
+    NUMBERS = Fields.NUMBERS | {"category": (0, 8), "start": (1, 5)}
+
+    def __init__(self, dice: Dice, sites: int) -> None:
+        super().__init__(dice)
+        self.sites, self.number = sites, 0
+
+    def id(self) -> str:
+        return f"{self.dice.below(self.sites)}.{1 + self.dice.below(6)}"
+
+    user = other = seller = item = id
+
+    def nickname(self) -> str:
+        return f"u{self.number}"
+
+    def name(self) -> str:
+        return f"n{self.number}"
+
+    def stock(self) -> int:
+        return 1_000_000 if self.dice.often(0.5) else 1
+
+    def price(self) -> int:
+        return 5 * self.dice.below(2)
+
+    def amount(self) -> int:
+        return self.number + 1
+
+    quantity = amount
+
+
+def asked(dice: random.Random, number: int, sites: int, before: set[bytes]) -> list[bytes]:
+    """What an asker asks: records that nobody has asked before, and some that no site may be given."""
+    fields, made = Unique(Dice(dice.random()), sites), list[bytes]()
     for at in range(dice.choice([1, 1, 1, 1, 2, 3])):
-        unique = f"{number * 10 + at}"
-        made.append(dice.choices([
-            f"user,u{unique}", f"item,{users[0]},n{unique},{dice.randrange(9)},1,{dice.randint(1, 5)},0",
-            f"bid,{users[1]},{users[2]},{number * 10 + at + 1}", f"user,U{unique}", f"item,0.1,n{unique}"], [10, 10, 3, 1, 1])[0].encode())
+        fields.number = number * 10 + at
+        drawn = dice.choices([fields.any_ask(), f"user,U{fields.number}", f"item,0.1,n{fields.number}"], [23, 1, 1])[0].encode()
+        made.append(drawn if drawn not in before else b"user,u%d" % fields.number)
+    before.update(made)
     if dice.random() < 0.06:
         made[dice.randrange(len(made))] = dice.choice([
             b"", b"user,a%d\nuser,b%d" % (number, number), b"user,q%d\r" % number, b"\xefuser,e%d" % number, b'user,"q%d' % number,

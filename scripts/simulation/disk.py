@@ -2,14 +2,12 @@
 
 import copy
 import errno
-import functools
 import random
 from collections.abc import Callable, Sequence
-from typing import TYPE_CHECKING, NamedTuple
+from typing import TYPE_CHECKING, Any, NamedTuple
 
 from shop_tool.carrier.files import File as Seen
 
-from .clock import Clock
 from .remembered import compared
 from .stand_in import StandIn, records_of
 
@@ -141,6 +139,13 @@ class Machine:
         self.is_cut_off = False             # from the server
         self.disturbed_until = 0.0          # when it was last cut off, or a supervisor of it stood still
 
+    def forget(self, site: int) -> None:
+        """Remembers nothing any more of its folder of a site."""
+        folder = self.folders[site]
+        first = folder.lives[0] if folder.lives else ""
+        if first in self.memory and self.memory[first][2] == folder.inode:
+            del self.memory[first]
+
     def lose_power(self, dice: random.Random) -> list[Folder]:
         """The power goes, and files lose what isn't on the disk; the folders of which that takes something that was kept."""
         self.memory, self.boot = {}, self.world.new_number()
@@ -204,10 +209,14 @@ class Keeper:
         self.is_heard = False
         self.close()
 
+    def _soon(self, call: Callable[..., None], *words: Any) -> None:
+        """Does something in a moment, unless it has ended by then."""
+        self.clock.soon(lambda: call(*words) if self.is_alive else None)
+
     def _wake(self) -> None:
         if self.head is not None and not self.is_working and self.is_alive:
             self.is_working = True
-            self.clock.soon(self._keep)
+            self._soon(self._keep)
 
     def _end(self, status: int, fault: str | None = None) -> None:
         self.status, self.fault = status, fault
@@ -249,7 +258,7 @@ class Keeper:
         if self.is_heard:
             self.clock.soon(self._told)
         self.is_working = True
-        self.clock.soon(self._keep)
+        self._soon(self._keep)
 
     def _is_read(self) -> None:
         """All of `kept` is answered."""
@@ -257,8 +266,6 @@ class Keeper:
 
     def _keep(self) -> None:
         """Keeps what one read of its input gives."""
-        if not self.is_alive:
-            return
         data = b"".join(self.input)
         self.input.clear()
         if not data:
@@ -275,17 +282,15 @@ class Keeper:
             cut = self.dice.randrange(len(text))
             self.kept.data += text[:cut]
             said = self._made(records, text[:cut].count(b"\n"))
-            return self.clock.soon(functools.partial(self._keep_rest, text[cut:], records[len(said):], said))
+            return self._soon(self._keep_rest, text[cut:], records[len(said):], said)
         self._keep_rest(text, records, [])
 
     def _keep_rest(self, text: bytes, records: list[bytes], said: list[tuple[bytes, bytes]]) -> None:
-        if not self.is_alive:
-            return
         self.kept.data += text
         if self.world.is_synced:
             self.kept.synced = len(self.kept.data)
         said += self._made(records, len(records))
-        self.clock.soon(functools.partial(self._answer, said))
+        self._soon(self._answer, said)
 
     def _made(self, records: list[bytes], count: int) -> list[tuple[bytes, bytes]]:
         """The answers to the first records, of which this many have just been kept, and to the questions among them."""
@@ -303,8 +308,6 @@ class Keeper:
 
     def _answer(self, said: list[tuple[bytes, bytes]]) -> None:
         """Answers what was kept, in `out` and then to the supervisor."""
-        if not self.is_alive:
-            return
         answers = told = b""
         for record, its in said:
             told += its
@@ -317,12 +320,10 @@ class Keeper:
         self._is_read()
         if not self.is_heard:
             return self._end(1, "write")
-        self.clock.soon(functools.partial(self._tell, told))
+        self._soon(self._tell, told)
 
     def _tell(self, answers: bytes) -> None:
-        if not self.is_alive:
-            return
         self.output.append(answers)
         if self.is_heard:
             self._told()
-        self.clock.soon(self._keep)
+        self._soon(self._keep)

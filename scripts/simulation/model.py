@@ -6,6 +6,8 @@ comes. Some things happen otherwise than the model has them, and are written as 
 
 - What a keeper was given is written where it was given, if it was kept, and the answer settled it: an ask that was answered NoToken or
   RedBehind, or that died on its way, still waits for the model.
+- A refusal that is held back, as what was sent before it isn't published, is told when the site refuses. Who is then told *not accepted* is
+  told no more by that.
 - A life ends when its supervisor and its keeper have both ended: a keeper answers what stands in its pipe. What happens to the files of a
   folder that runs is written when its life ends, since the site goes on in files that nobody finds again; that it lost its end before a
   keeper of this life had its files, in front of its start. Of a folder that loses its end, or is changed, what its site sent stands on as
@@ -79,8 +81,10 @@ class Slot:
         self.has_opened = self.is_open = False          # its process takes asks; and, since it was opened, no other one does
         self.was_closed = False                         # another one was opened since
         self.is_remembered = False                      # its machine knows that it was the last of its site to open, and lost nothing
+        self.was_remembered = False                     # it was so when its process was opened
         self.waiting: dict[bytes, list[int]] = {}       # the asks that this life has taken and not settled, by their records
         self.accepted: dict[bytes, int] = {}            # and those that its site has accepted
+        self.refused: set[int] = set()                  # and refused, by which the model's asker is told
         self.given: list[Given] = []                    # what its keeper was given and hasn't kept
         self.harms: list[Callable[[], object]] = []       # what happened to its files while it ran
         self.draining: "Keeper | None" = None           # the keeper that outlives its supervisor
@@ -195,6 +199,7 @@ class Steps:
         stored = [(other, list(other.packets)) for other in self.slots if other.is_stored and beyond(other.packets)]
         lost = [self._lose(other) for other, _ in stored]       # unless it is put back, it is as good as lost
         self._learn_passes(slot, folder)
+        slot.was_remembered = slot.is_remembered
         step = self._open(slot, None if slot.is_remembered or not self._is_unreached(folder, slot) else UNREACHED)
         self.unseen.update((other, (loss, packets, step)) for (other, packets), loss in zip(stored, lost))
 
@@ -282,7 +287,7 @@ class Steps:
         slot.end = self._add("IsKilled", slot.number)
         slot.life, slot.draining = 0, None
         slot.has_opened = slot.is_open = slot.was_closed = False
-        slot.waiting, slot.accepted, slot.given = {}, {}, []
+        slot.waiting, slot.accepted, slot.refused, slot.given = {}, {}, set(), []
         harms, slot.harms = slot.harms, []
         for harm in harms:
             harm()
@@ -357,7 +362,8 @@ class Steps:
         is_nothing = any(words in text for words in NOTHING) and not any(words in text for words in UNKNOWN)
         for ask in asks:
             if slot and slot.life and is_nothing:
-                self._add("TellsNothing", slot.number, ask)
+                if ask not in slot.refused:     # where that refusal was held back, it is told no only now, and truly
+                    self._add("TellsNothing", slot.number, ask)
             elif slot:
                 self._add("TellsUnknown", slot.number, ask)
 
@@ -419,6 +425,7 @@ class Steps:
             case b"refused":
                 if given and not given.step.is_void and slot.life:
                     self._add("Refuses", slot.number, given.ask)
+                    slot.refused.add(given.ask)
         if packet and not slot.life:
             self.gone_on.add(packet)        # nobody may read what such a process sends
             packet = None

@@ -12,7 +12,7 @@ from shop_tool.ends import Fault
 
 from .askers import Asker, KeyedAsker, asked
 from .disk import Folder, Machine
-from .faults import FAULTS
+from .faults import FAULTS, Faults
 from .remembered import packet_of
 from .world import Command, Rules, SimulatedSite, Supervisor, Violation, World
 
@@ -46,6 +46,7 @@ class Run:
         self.is_token_lost = False                      # nothing whole was left that knows of it
         self.may_be_lost = False                        # a site was rebuilt though others were silent
         self.fault_count = self.planned = 0
+        self.asked: set[bytes] = set()
 
     # What happens.
 
@@ -53,7 +54,7 @@ class Run:
         """Plays it to its end; a Violation if a promise is broken."""
         plan = random.Random(f"{self.seed} plan")
         events = [(plan.uniform(0.3, FAULT_SECONDS + 1), "ask", str(plan.random())) for _ in range(plan.randint(*ASKS))]
-        events += [(plan.uniform(1, FAULT_SECONDS), plan.choices(list(FAULTS), list(FAULTS.values()))[0].__name__, str(plan.random()))
+        events += [(plan.uniform(1, FAULT_SECONDS), plan.choices(list(FAULTS), list(FAULTS.values()))[0], str(plan.random()))
                    for _ in range(plan.randint(*FAULTS_OF_A_RUN))]
         events += [(plan.uniform(0.3, FAULT_SECONDS), "question", str(plan.random())) for _ in range(plan.randint(*QUESTIONS))]
         events += [(0.2 + 0.12 * at, "turn", str(at)) for at in range(FIRST_TURNS)]
@@ -91,7 +92,7 @@ class Run:
             self._ask_red(int(seed) % self.world.sites, number)
         else:
             self.fault_count += 1
-            next(fault for fault in FAULTS if fault.__name__ == what)(self, dice)
+            getattr(Faults(self), what)(dice)
 
     def _ask(self, number: int, dice: random.Random) -> None:
         world = self.world
@@ -100,7 +101,7 @@ class Run:
         supervisor = self.supervisors.get(at.name)
         if self.copies and dice.random() < 0.25:
             supervisor = dice.choice(self.copies)
-        records = asked(dice, number, world.sites)
+        records = asked(dice, number, world.sites, self.asked)
         if dice.random() < 0.3 and not why_not_one_record(records[0]):
             def here() -> Supervisor | None:
                 return self.supervisors.get(at.name)
@@ -381,5 +382,11 @@ class Run:
             raise Violation(f"the logs differ: { {number: sorted(log - common)[:3] for number, log in texts.items()} }")
         ids = {(message.origin, message.number): message.shadow for message, _ in logs[0].log}
         for told in (told for asker in self.askers for told in asker.told if told.what == "ok"):
-            if told.id and world.text_of[told.record] not in world.lost and ids.get(told.id) != told.record:
+            if told.id and world.text_of[told.record] not in world.lost and ids.get(told.id) != shadow_in(world.text_of[told.record]):
                 raise Violation(f"{told.record!r} was told ok,{told.id}, and there the logs have {ids.get(told.id)!r}")
+
+
+def shadow_in(text: bytes) -> bytes:
+    message = packet_of(text)
+    assert isinstance(message, Message)
+    return message.shadow

@@ -109,15 +109,15 @@ class Server:
             case Adopt(site, before, is_fresh):
                 if self.owners[site] != before:
                     return False
-                self._write(functools.partial(self._own, site, by.owner_text(site, is_fresh)))
-                self._write(functools.partial(self._yield, site, f"none {by.world.new_number()}"))
+                self._set("owners", site, by.owner_text(site, is_fresh))
+                self._set("yields", site, f"none {by.world.new_number()}")
                 return True
             case Statuses():
                 return {site: dict(said) for site, (until, said) in self.said.items() if until > self.clock.now}
             case SeeLife(site, before, life, last):
                 if self.lives[site] != before or self.streams[site].last != last:
                     return False
-                self._write(functools.partial(self._see, site, life))
+                self._set("lives", site, life)
                 return True
             case Append(site, last, packets, life):
                 if life and self.lives[site] != life:
@@ -134,11 +134,11 @@ class Server:
                 return True
             case StandBy(site):
                 if self.standbys[site] != by.machine.name:
-                    self._write(functools.partial(self._stand_by, site, by.machine.name))
+                    self._set("standbys", site, by.machine.name)
             case SayYields(site, before, life):
                 if self.yields[site] != before:
                     return False
-                self._write(functools.partial(self._yield, site, life or f"none {by.world.new_number()}"))
+                self._set("yields", site, life or f"none {by.world.new_number()}")
                 return True
             case TakeOver(site, life, last):
                 return self._take_over(by, site, life, last)
@@ -182,25 +182,15 @@ class Server:
             return False
         assert by.made
         by.made.lives = placed([], count_of(life), f"{by.world.new_number():x}")
-        now = life_text(by.made.lives)
-        for change in (functools.partial(self._see, site, now), functools.partial(self._yield, site, now),
-                       functools.partial(self._own, site, by.owner_text(site, True))):
-            self._write(change)
+        for name, text in (("lives", now := life_text(by.made.lives)), ("yields", now), ("owners", by.owner_text(site, True))):
+            self._set(name, site, text)
         if self.standbys[site] == by.machine.name:
-            self._write(functools.partial(self._stand_by, site, ""))
+            self._set("standbys", site, "")
         return True
 
-    def _stand_by(self, site: int, who: str) -> None:
-        self.standbys[site] = who
-
-    def _yield(self, site: int, life: str) -> None:
-        self.yields[site] = life
-
-    def _own(self, site: int, owner: str) -> None:
-        self.owners[site] = owner
-
-    def _see(self, site: int, life: str) -> None:
-        self.lives[site] = life
+    def _set(self, name: str, site: int, text: str) -> None:
+        """Has something said of a site: its life, whose it is, who stands by, or as which life it yields."""
+        self._write(lambda: operator.setitem(getattr(self, name), site, text))
 
     def _append(self, site: int, packets: Packets, mark: bytes) -> None:
         stream = self.streams[site]

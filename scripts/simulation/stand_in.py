@@ -1,4 +1,4 @@
-"""A site that answers as the program does, for the records that a simulation asks: users, items, bids, packets, passes and empty listings."""
+"""A site that answers as the program does, for the records that a simulation asks: asks, packets, passes and empty listings."""
 
 import functools
 import re
@@ -6,24 +6,23 @@ from collections.abc import Iterator
 
 from shop_tool.carrier.records import Message, Token
 from shop_tool.carrier.release import Release
+from traffic import FIELDS, KINDS, NUMBER, RED, Rows, form_of
 
 from .remembered import packet_of
 
 MOST = 1_000_000
-_NUMBER = rb"(?:0|[1-9][0-9]{0,12})"
-_ID = rb"(?:0|[1-9][0-9]?)\.[1-9][0-9]{0,6}"
-_NICK = rb"[a-z][a-z0-9_]{0,19}"
-_NAME = rb"[ !#-+\--~]{1,64}"
-_FORMS = {
-    b"user": re.compile(b"user,(" + _NICK + b")"),
-    b"item": re.compile(b"item,(" + _ID + b"),(" + _NAME + b"),(" + b"),(".join([_NUMBER] * 4) + b")"),
-    b"bid": re.compile(b"bid,(" + _ID + b"),(" + _ID + b"),(" + _NUMBER + b")"),
+_NUMBER = NUMBER.encode()
+_ASKS = {kind.encode(): form_of(kind, it.asked) for kind, it in KINDS.items()}
+_SHADOWS = {kind.encode(): form_of(kind, it.told) for kind, it in KINDS.items()}
+_FORMS = _ASKS | {
     b"pass": re.compile(b"pass,(0|[1-9][0-9]?)"),
     b"list": re.compile(b"list,misfits()"),
-    b"msg": re.compile(b"msg,(1),(" + b"),(".join([_NUMBER] * 3) + b"),(" + _NUMBER + b"(?::" + _NUMBER + b")*),((user|item|bid),.*)"),
+    b"msg": re.compile(b"msg,([12]),(" + b"),(".join([_NUMBER] * 3) + b"),(" + _NUMBER + b"(?::" + _NUMBER + b")*),([a-z]+,.*)"),
     b"token": re.compile(b"token,(1),(" + b"),(".join([_NUMBER] * 3) + b")"),
 }
-RED = (b"user", b"bid")
+# The codes of refusals that the rows decide.
+_CODES = {"NickTaken": 5, "NoUser": 6, "NoItem": 7, "Closed": 8, "LowBid": 9, "StockShort": 10, "NotSeller": 11, "OwnItem": 12, "NoBuyNow": 13,
+          "SelfComment": 14}
 
 
 class Refused(Exception):
@@ -40,32 +39,36 @@ def read(record: bytes) -> tuple[bytes, tuple[bytes, ...]] | None:
     return (kind, found.groups()) if found else None
 
 
-def in_limits(kind: bytes, fields: tuple[bytes, ...]) -> bool:
-    match kind:
-        case b"item":
-            category, stock, start, price = map(int, fields[2:])
-            return category <= 999 and 1 <= stock <= MOST and 1 <= start <= 10 ** 12 and price <= 10 ** 12
-        case b"bid":
-            return 1 <= int(fields[2]) <= 10 ** 12
+def in_limits(names: tuple[str, ...], fields: tuple[str, ...], sites: int) -> bool:
+    """Whether numbers and ids are within their ends."""
+    for name, text in zip(names, fields):
+        field = FIELDS[name]
+        if field.most and not field.least <= int(text) <= field.most:
+            return False
+        if field.is_id and text != "none" and not (int(text.split(".")[0]) < sites and int(text.split(".")[1]) <= MOST):
+            return False
     return True
 
 
 @functools.lru_cache(1 << 12)
-def is_message(message: Message, kind: bytes, sites: int) -> bool:
-    """Whether a message is in the grammar of a shop of this many sites."""
-    shadow = read(message.shadow)
-    if not shadow or shadow[0] != kind or not in_limits(*shadow):
-        return False
-    return (message.origin < sites and 1 <= message.number <= MOST and len(message.deps) == sites
-            and message.deps[message.origin] == message.number - 1 and (message.red > 0) == (kind in RED)
-            and max(message.red, *message.deps) <= MOST)
+def shadow_of(text: bytes, sites: int) -> list[str] | None:
+    """What a message does, if that is in the grammar of a shop of this many sites."""
+    kind = text.split(b",", 1)[0]
+    found = _SHADOWS[kind].fullmatch(text) if kind in _SHADOWS else None
+    fields = tuple(field.decode() for field in found.groups()) if found else ()
+    is_known = found and in_limits(KINDS[kind.decode()].told, fields, sites) and not (kind == b"rename" and fields[1] == fields[2])
+    return [kind.decode(), *fields] if is_known else None
 
 
 @functools.lru_cache(1 << 12)
-def ids_in(kind: bytes, fields: tuple[bytes, ...]) -> list[tuple[int, int]]:
-    """The ids in a request."""
-    ids = [field for field in fields if re.fullmatch(_ID, field)][:2 if kind == b"bid" else 1] if kind != b"user" else []
-    return [(int(site), int(number)) for site, number in (name.split(b".") for name in ids)]
+def is_message(message: Message, version: int, sites: int) -> bool:
+    """Whether a message is in the grammar of a shop of this many sites."""
+    shadow = shadow_of(message.shadow, sites)
+    if not shadow or version != KINDS[shadow[0]].version:
+        return False
+    return (message.origin < sites and 1 <= message.number <= MOST and len(message.deps) == sites
+            and message.deps[message.origin] == message.number - 1 and (message.red > 0) == (shadow[0] in RED)
+            and max(message.red, *message.deps) <= MOST)
 
 
 class StandIn:
@@ -76,9 +79,7 @@ class StandIn:
         self.records = 0
         self.release: Release[Message] = Release(sites)
         self.log: list[tuple[Message, bytes]] = []          # the messages that it has released, with their texts
-        self.nicks: set[bytes] = set()
-        self.users: set[bytes] = set()
-        self.items: dict[bytes, tuple[bytes, int]] = {}     # the seller and the start price of each
+        self.rows = Rows()
         self.texts: dict[tuple[int, int], bytes] = {}
         self.issued: int | None = 0 if site == 0 else None  # red numbers, if it holds the token
         self.turn = 0
@@ -106,12 +107,15 @@ class StandIn:
                 return self._message(record, fields)
             case b"token":
                 return self._token(record)
-        self._check(kind, fields)
-        return self._made(record, kind in RED)
+        ask = [kind.decode(), *(field.decode() for field in fields)]
+        self._check(ask)
+        shadow = self.rows.shadow(ask)
+        return self._made(record if shadow == ask else ",".join(shadow).encode(), ask[0])
 
-    def _check(self, kind: bytes, fields: tuple[bytes, ...]) -> None:
-        """Refuses a request, by the first refusal that holds."""
-        if any(site >= self.sites or number > MOST for site, number in ids_in(kind, fields)) or not in_limits(kind, fields):
+    def _check(self, ask: list[str]) -> None:
+        """Refuses an ask, by the first refusal that holds."""
+        kind, *fields = ask
+        if not in_limits(KINDS[kind].asked, tuple(fields), self.sites):
             raise Refused(1, "BadRecord")
         if len(self.log) + len(self.release.waiting) >= self.keep:
             raise Refused(2, "Full")
@@ -120,34 +124,17 @@ class StandIn:
                 raise Refused(3, "NoToken")
             if self.release.reds != self.issued:
                 raise Refused(4, "RedBehind")
-        match kind:
-            case b"user":
-                if fields[0] in self.nicks:
-                    raise Refused(5, "NickTaken")
-            case b"item":
-                if fields[0] not in self.users:
-                    raise Refused(6, "NoUser")
-            case b"bid":
-                self._check_bid(*fields)
+        if name := self.rows.refusal(ask):
+            raise Refused(_CODES[name], name)
 
-    def _check_bid(self, item: bytes, bidder: bytes, amount: bytes) -> None:
-        if item not in self.items:
-            raise Refused(7, "NoItem")
-        if bidder not in self.users:
-            raise Refused(6, "NoUser")
-        seller, start = self.items[item]
-        if seller == bidder:
-            raise Refused(12, "OwnItem")
-        if int(amount) < start:
-            raise Refused(9, "LowBid")
-
-    def _made(self, record: bytes, is_red: bool) -> bytes:
+    def _made(self, shadow: bytes, kind: str) -> bytes:
         red = 0
-        if is_red:
+        if kind in RED:
             red = self.release.reds + 1
             self.issued = red
         number = self.release.counts[self.site] + 1
-        text = b"msg,1,%d,%d,%d,%b,%b" % (self.site, number, red, b":".join(b"%d" % count for count in self.release.counts), record)
+        deps = b":".join(b"%d" % count for count in self.release.counts)
+        text = b"msg,%d,%d,%d,%d,%b,%b" % (KINDS[kind].version, self.site, number, red, deps, shadow)
         message = packet_of(text)
         assert isinstance(message, Message)
         self.texts[self.site, number] = text
@@ -157,7 +144,7 @@ class StandIn:
 
     def _message(self, record: bytes, fields: tuple[bytes, ...]) -> bytes:
         message = packet_of(record)
-        if not isinstance(message, Message) or not is_message(message, fields[6], self.sites):
+        if not isinstance(message, Message) or not is_message(message, int(fields[0]), self.sites):
             raise Refused(1, "BadRecord")
         name = (message.origin, message.number)
         is_here = message.number <= self.release.counts[message.origin] or name in self.release.waiting
@@ -174,14 +161,10 @@ class StandIn:
         return b"released,%d" % len(released) if released else b"held"
 
     def _release(self, message: Message) -> None:
-        name = b"%d.%d" % (message.origin, message.number)
+        name = f"{message.origin}.{message.number}"
         self.log.append((message, self.texts[message.origin, message.number]))
-        match message.shadow.split(b","):
-            case [b"user", nick]:
-                self.users.add(name)
-                self.nicks.add(nick)
-            case [b"item", seller, _, _, _, start, _]:
-                self.items[name] = seller, int(start)
+        if shadow := shadow_of(message.shadow, self.sites):
+            self.rows.apply(name, shadow)
 
     def _pass(self, to: int) -> bytes:
         if self.issued is None:

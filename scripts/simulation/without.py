@@ -1,6 +1,5 @@
 """Puts faults back, one at a time, so that it is known that they are found: each takes one rule out."""
 
-from collections.abc import Iterable, Iterator
 from contextlib import ExitStack
 from typing import Any
 from unittest import mock
@@ -13,7 +12,7 @@ from shop_tool.carrier.opening import must_hear_all
 from shop_tool.carrier.over_server import ServerLink
 from shop_tool.carrier.records import Purpose, why_not_one_record
 from shop_tool.carrier.shop import Shop
-from shop_tool.carrier.site import Pending, Site
+from shop_tool.carrier.site import Site
 from shop_tool.carrier.sums import compared
 
 from .world import Rules
@@ -22,33 +21,9 @@ from .world import Rules
 LOOKS = ("shop_tool.carrier.site", "shop_tool.carrier.shop", "shop_tool.requests")
 
 
-def opens_at_once(shop: Shop, site: Site, answered: int | None) -> None:
-    shop._opened(site, answered or 0)
-
-
-def hears_where_forgotten(is_forgotten: bool, was_here: bool, has_all: bool, is_alone: bool, seconds: float) -> bool:
-    return is_forgotten and must_hear_all(is_forgotten, was_here, has_all, is_alone, seconds)
-
-
-def sent_unguarded(site: Site, begin: int, end: int) -> list[bytes]:
-    return [text for _, text in site.ledger.sends.read(begin, end)]
-
-
-def numbered_alone(site: Site) -> Iterator[tuple[Pending, int]]:
-    return ((pending, site.ledger.records + 1) for pending in site.line)
-
-
 def answered_only(keys: Keys, name: bytes, now: float) -> Key | None:
     key = keys._keys.get(name)
     return key if key and key.is_answered else None
-
-
-def no_line_was_changed(lines: Iterable[bytes], sums: bytes) -> tuple[int, int | None]:
-    return compared(lines, sums)[0], None
-
-
-def mark_passes(record: bytes, purpose: Purpose = Purpose.ASK) -> str | None:
-    return None if record.startswith(b"\xef") else why_not_one_record(record, purpose)
 
 
 def patches_of(rule: str) -> list[Any]:
@@ -59,17 +34,19 @@ def patches_of(rule: str) -> list[Any]:
         "1": [instead("shop_tool.carrier.over_server.is_called", lambda *_: True)],
         "2": [mock.patch.object(ServerLink, "goes_on", lambda _: True)],
         "3": [instead("shop_tool.carrier.reader.to_search", lambda *_: [])],
-        "4": [mock.patch.object(Shop, "begin_site", opens_at_once)],
+        "4": [mock.patch.object(Shop, "begin_site", lambda shop, site, answered: shop._opened(site, answered or 0))],
         "5": [instead(f"{name}.why_not_one_record", lambda *_: None) for name in LOOKS],
-        "6": [instead(f"{name}.why_not_one_record", mark_passes) for name in LOOKS],
-        "7": [mock.patch.object(Site, "sent", sent_unguarded), mock.patch.object(Files, "why_lost", lambda *_: None)],
-        "9": [instead("shop_tool.carrier.sums.compared", no_line_was_changed)],
+        "6": [instead(f"{name}.why_not_one_record", lambda record, purpose=Purpose.ASK: None if record.startswith(b"\xef")
+                      else why_not_one_record(record, purpose)) for name in LOOKS],
+        "7": [mock.patch.object(Site, "sent", lambda site, begin, end: [text for _, text in site.ledger.sends.read(begin, end)]),
+              mock.patch.object(Files, "why_lost", lambda *_: None)],
+        "9": [instead("shop_tool.carrier.sums.compared", lambda lines, sums: (compared(lines, sums)[0], None))],
         "9-lives": [instead(f"shop_tool.carrier.{name}.standing", lambda *_: Standing.NEXT) for name in ("publisher", "over_files")],
         "11": [],
-        "hear": [instead("shop_tool.carrier.publisher.must_hear_all", hears_where_forgotten)],
+        "hear": [instead("shop_tool.carrier.publisher.must_hear_all", lambda is_forgotten, *more: is_forgotten and must_hear_all(is_forgotten, *more))],
         "keys-read": [mock.patch.object(Keys, "read", lambda *_: None)],
         "keys-given": [mock.patch.object(Keys, "find", answered_only)],
-        "told-number": [mock.patch.object(Site, "numbered", numbered_alone)],
+        "told-number": [mock.patch.object(Site, "numbered", lambda site: ((pending, site.ledger.records + 1) for pending in site.line))],
         "standby-told": [mock.patch.object(Ask, "_stands", lambda *_: iter(()))],
         "turns": [instead("shop_tool.carrier.shop.why_passed_on", lambda *_: None)],
     }

@@ -108,10 +108,10 @@ class World:
     def new_mark(self) -> bytes:
         return b"%d" % self.new_number()
 
-    def note(self, word: str) -> None:
+    def note(self, word: str, times: int = 1) -> None:
         """Counts that something happens: a step of the model, by the name that it has there, or something else, whose word begins with a small
         letter."""
-        self.counts[word] += 1
+        self.counts[word] += times
 
     def knows_keys(self, site: int) -> bool:
         """Whether nothing was taken from a folder of a site that had its keys, and no standby, which has none, took its place."""
@@ -143,11 +143,9 @@ class World:
                 if folder.yields and site == number:
                     continue        # it told ok only of what stands in the stream
                 if folder is not opened and not self.is_unreached:
-                    whole = [line for line in folder.lines("kept") if line.startswith(b"msg,1,%d," % number) and line.endswith(b"\n")]
-                    has = [line.split(b",", 4)[3] for line in whole]
                     sent = sum(text.startswith(b"msg,") for text in folder.sent()) if site == number else 0
-                    turns = [int(text.split(b",")[2]) for text in tokens_of(folder.lines("kept"))]
-                    self.is_unreached = max([sent, *map(int, has)]) > own or held is not None and max(turns, default=0) > held
+                    turns = turns_of(folder)
+                    self.is_unreached = max(sent, greatest_of(folder, number)) > own or held is not None and max(turns, default=0) > held
                     # Where a later turn is known, a token that came before isn't taken again.
                     passed = max((turn for turn in turns if self.passed_by.get(turn) == number), default=0)
                     if passed > max(known, opens.turn + 1) and self._is_silent(machine, site):
@@ -190,6 +188,17 @@ class World:
                 self.note("Reads")
             case b"refused":
                 self.note("Refuses")
+
+
+def greatest_of(folder: Folder, site: int) -> int:
+    """The greatest number of a site's message in a folder's `kept`, in front of the first line that was changed."""
+    whole = (line for line in folder.unchanged() if line.startswith(b"msg,1,%d," % site) and line.endswith(b"\n"))
+    return max((int(line.split(b",", 4)[3]) for line in whole), default=0)
+
+
+def turns_of(folder: Folder) -> list[int]:
+    """The turns of the tokens there."""
+    return [int(text.split(b",")[2]) for text in tokens_of(folder.unchanged())]
 
 
 class SimulatedSite(Site):
@@ -410,22 +419,29 @@ class Process:
         kept.synced, out.synced = len(kept.data), len(out.data)
         self.made = made
 
-    def do_here(self, task: Task, step: SentHere | Replay) -> None:
-        """Does a step that needs no server."""
-        if isinstance(step, SentHere):
-            folder = self.machine.folders.get(step.site)
-            return task.answer(sends_of(folder.lines("out")) if folder else [])
-        try:
-            self.replay(step.site, step.records)
-            task.answer()
-        except Fault as fault:
-            task.answer(fault=fault)
-
     def reaches(self) -> bool:
         return self.world.server.is_up and not self.machine.is_cut_off
 
     def do(self, task: Task, step: tuple[Any, ...]) -> None:
-        raise NotImplementedError
+        """Does a step here, or else over the server."""
+        if isinstance(step, CallAll):
+            return self.call_all(task, step)
+        match step:
+            case KeptOf(keeper, origin, after):
+                task.answer(self.kept_of(keeper, origin, after))
+            case SeenHere(site):
+                task.answer(self.machine.seen.get(site))
+            case SentHere(site):
+                folder = self.machine.folders.get(site)
+                task.answer(sends_of(folder.lines("out")) if folder else [])
+            case Replay(site, records):
+                try:
+                    self.replay(site, records)
+                    task.answer()
+                except Fault as fault:
+                    task.answer(fault=fault)
+            case _:
+                self.over(task, step)
 
     def over(self, task: Task, step: tuple[Any, ...]) -> None:
         """Does a step of a task over its connection to the server: before the connection breaks, after that, much later, or never."""
@@ -610,9 +626,7 @@ class Supervisor(Process, Shop):
         return tell
 
     def forget(self, site: Site) -> None:
-        memory, first = self.machine.memory, site.lives[0]
-        if first in memory and memory[first][2] == self.sites[site.number].folder.inode:
-            del memory[first]
+        self.machine.forget(site.number)
 
     def _begin(self, site: SimulatedSite) -> None:
         """As the shell's: begins the next life of a site's folder."""
@@ -653,21 +667,26 @@ class Supervisor(Process, Shop):
         self.spawn(steps())
 
     def look_at_open(self, site: Site) -> None:
-        """A site is up and open for the first time only if nothing that it reaches has more of it, or another past."""
+        """A site is up and open for the first time only if nothing that it reaches has more of it, or another past. Where its machine remembers
+        that its folder lost nothing and was the last of the site to be opened, the sites beside it that aren't known yet needn't be asked."""
         if site.number in self.looked_at or self.world.excused or self.world.is_unreached or site.fenced_by or not (site.up.is_set and site.opened.is_set):
             return
         self.looked_at.add(site.number)
         self.world.note("Opens")
         keeper = self.sites[site.number].keeper
         assert keeper
-        messages = keeper.site.release.counts[site.number]
+        messages, held = keeper.site.release.counts[site.number], keeper.site.turn if keeper.site.issued is not None else None
         self._look_at_those_that_ran_on(site, keeper.site)
+        slot = keeper.folder.slot
+        for other in self.sites.values():
+            if other is site or not other.known.is_set and slot and slot.was_remembered:
+                continue
+            if (has := greatest_of(other.folder, site.number)) > messages:
+                raise Violation(f"site {site.number} is opened with {messages} messages, and site {other.number} beside it has {has}")
+            if held is not None and (turn := max(turns_of(other.folder), default=0)) > held:
+                raise Violation(f"site {site.number} is opened with the token of turn {held}, and site {other.number} beside it has had that of {turn}")
         self.world.note_unreached(site.number, keeper.folder, keeper.site, self.wants.turn)
         own = dict(sends_of(keeper.folder.lines("out")))
-        for other in self.sites.values():
-            if other is not site and other.known.is_set and other.ledger.have[site.number].greatest > messages:
-                raise Violation(f"site {site.number} is opened with {messages} messages, and site {other.number} has "
-                                f"{other.ledger.have[site.number].greatest}")
         if not isinstance(self.link, SimulatedServerLink) or not self.reaches() or f"publish {site.number}" in self.link.down:
             return
         for place, text in self.world.server.streams[site.number].entries:
@@ -714,40 +733,31 @@ class Supervisor(Process, Shop):
         if isinstance(step, OVER):
             return self.over(task, step)
         server, is_over_server = self.world.server, self.world.is_over_server
+        said: Any = None
         match step:
             case Say(record, answer, is_again):
                 self.world.steps.says(self.sites.values(), record, answer, is_again)
                 if task.hear:
                     task.hear(record, answer)
-                return task.answer()
-            case KeptOf(keeper, origin, after):
-                return task.answer(self.kept_of(keeper, origin, after))
-            case SeenHere(site):
-                return task.answer(self.machine.seen.get(site))
             case SeeHere(site, life):
                 self.machine.seen[site] = life
-                return task.answer()
             case SayWant(site, known):
                 self.world.note("want")
                 if not is_over_server:
                     self.hear_want(site, known)
                 elif self.reaches():
                     server.say(self.world.new_number(), {"want": site, "known": known})
-                return task.answer()
             case SayLeave():
                 if self.reaches() and is_over_server:
                     server.say(self.world.new_number(), {"leave": ",".join(map(str, self.sites))})
-                return task.answer()
             case IsRunning(site, seconds):
                 return task.answer(self._is_running(site), seconds=self.world.dice.random() * 2 * seconds)
             case UpElsewhere():
                 statuses = server.do(self, Statuses()) if self.reaches() and is_over_server else {}
-                return task.answer({site for site, said in statuses.items() if site not in self.sites and said["state"] == "up"})
-        if isinstance(step, (SentHere, Replay)):
-            return self.do_here(task, step)
-        if isinstance(step, CallAll):
-            return self.call_all(task, step)
-        self.over(task, step)
+                said = {site for site, status in statuses.items() if site not in self.sites and status["state"] == "up"}
+            case _:
+                return super().do(task, step)
+        task.answer(said)
 
     def took_over(self, site: int) -> None:
         if site not in self.machine.here:
@@ -798,12 +808,10 @@ class Supervisor(Process, Shop):
         asked = asks_of(request)
         if self.is_leaving:
             raise Fault(Status.AWAY, "the shop is being stopped; nothing was asked")
-        ask = Ask(site, request["timeout"], asked.fetches_token)
+        ask = Ask(site, request["timeout"], asked.fetches_token, asked.published)
         steps.serves(site.folder, asks, asked.records)
         try:
             yield from steps.asking(asks, ask, ask.run(asked.records, asked.names))
-            if asked.published:
-                yield from ask.published()
         except Fault as fault:
             steps.says_fault(site.folder, asks[ask.answered:], fault.text)
             raise
@@ -908,22 +916,15 @@ class Command(Process):
     """A command that changes the folder of a site while the shop is stopped."""
 
     def do(self, task: Task, step: tuple[Any, ...]) -> None:
-        folders = self.machine.folders
-        match step:
-            case KeptOf(keeper, origin, after):
-                return task.answer(self.kept_of(keeper, origin, after))
-            case SeenHere(site):
-                return task.answer(self.machine.seen.get(site))
-            case Swap(site, starts):
-                assert self.made
-                self.made.lives = placed([], max(starts, len(folders[site].lives)), f"{self.world.new_number():x}")
-                self.world.note("Rebuilds")
-                self.world.steps.rebuilds(folders[site], self.made, site)
-                folders[site] = self.made
-                return task.answer()
-        if isinstance(step, (SentHere, Replay)):
-            return self.do_here(task, step)
-        if isinstance(step, CallAll):
-            return self.call_all(task, step)
         task.connection = self.world.server.times
-        self.over(task, step)
+        if not isinstance(step, Swap):
+            return super().do(task, step)
+        folders, site = self.machine.folders, step.site
+        assert self.made
+        self.made.lives = placed([], max(step.starts, len(folders[site].lives)), f"{self.world.new_number():x}")
+        self.world.note("Rebuilds")
+        self.world.steps.rebuilds(folders[site], self.made, site)
+        for other in folders:
+            self.machine.forget(other)
+        folders[site] = self.made
+        task.answer()

@@ -4,9 +4,9 @@ import pathlib
 import re
 import unittest
 
-from scripts.simulation import model
-from scripts.simulation.model import UNREACHED, WENT_ON, Slot
-from scripts.simulation.world import Rules, World
+from simulation import model
+from simulation.model import UNREACHED, WENT_ON, Slot
+from simulation.world import Rules, World
 
 READ = pathlib.Path(__file__).resolve().parents[3] / "crates/rubis_decider/stdin"      # what the program that decides reads in its stored run
 SEED = next(str(seed) for seed in range(100) if World(str(seed), Rules()).is_over_server)

@@ -4,8 +4,8 @@ import types
 import unittest
 from typing import cast
 
-from scripts.simulation.disk import Folder, Keeper
-from scripts.simulation.world import Rules, World
+from simulation.disk import Folder, Keeper
+from simulation.world import Rules, World
 
 NAME, RECORDS = (3, 8), (b"user,ann", b"user,bob")
 
