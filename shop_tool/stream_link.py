@@ -17,7 +17,7 @@ from .rebuild import done_here, took_over
 from .requests import Request, request_of
 from .signals import done
 from .site import KeptSite
-from .streams import Streams, faults, is_run_in, reason_of, run_by
+from .streams import Streams, faults, is_at, reason_of, run_by
 
 if TYPE_CHECKING:
     from .supervisor import Supervisor
@@ -122,8 +122,11 @@ class StreamLink(ServerLink, Carrying):
         return None
 
     async def runs_elsewhere(self, site: KeptSite) -> bool:
-        status = await self.status_of(site.number)
-        return status is not None and not is_run_in(status, site.folder)
+        with contextlib.suppress(*faults()):
+            status, owner = (await self.main.statuses()).get(site.number), await self.main.owner(site.number)
+            # What this supervisor said last of a site that was taken over meanwhile may still stand there as its status.
+            return status is not None and not is_at(owner or str(status.get("by", "")), site.folder)
+        return False
 
     async def message(self, origin: int, number: int) -> bytes | None:
         if origin in self.shop.sites:

@@ -386,9 +386,9 @@ def owner_text(folder: str, new: str = "") -> str:
     return f"{identity(folder + new)} {socket.gethostname()}:{folder}"
 
 
-def is_run_in(status: dict[str, Any], folder: str) -> bool:
-    """Whether the supervisor that says how a site is runs this folder, or ran one in its place."""
-    return str(status.get("by", "")).endswith(f" {socket.gethostname()}:{folder}")
+def is_at(owner: str, folder: str) -> bool:
+    """Whether an owner, or the supervisor that says how a site is, is of this folder, or of one that was in its place."""
+    return owner.endswith(f" {socket.gethostname()}:{folder}")
 
 
 def run_by(folder: str) -> str:

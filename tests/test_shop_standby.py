@@ -61,10 +61,13 @@ def start_with_standby(at: Folder, over_of_b: str, server: Server, after: int = 
     assert at.site(2, "b")["yields"], "what the status of b says"
 
 
-def is_fenced_and_equal(at: Folder) -> None:
-    """The machine that came back is fenced, and all that run have the same tables."""
+def is_fenced_and_equal(at: Folder, server: Server, status: str = "") -> None:
+    """The machine that came back is fenced, and all that run have the same tables; so too where what it said last of its site stands on the
+    server once more."""
     at.wait("the fence", lambda: at.site(2, "b")["state"] == "fenced")
     assert "c/2 has it" in at.site(2, "b")["fault"], at.site(2, "b")["fault"]
+    if status:
+        server.say(f"set auction:status:2 '{status}' px 3500")
     assert "ann" in at.shop("list 2 users", folder="b"), "what is asked there is answered where the site runs"
     at.read_all(0, 1, folder="a")
     at.read_all(2, folder="c")
@@ -78,7 +81,7 @@ def test_standby_of_one_that_stood_still(at: Folder) -> None:
     there. When it goes on, its ask isn't told ok, and it is fenced."""
     server = Server(at)
     start_with_standby(at, server.over, server)
-    supervisor = at.status("b")["pid"]
+    supervisor, status = at.status("b")["pid"], server.say("get auction:status:2").strip()
     with at.standing_still(supervisor):
         asker = at.start("sh -c './shop -C b ask 2 comment,0.3,0.2,0.1,2,late --timeout 30 > said 2>&1'")
         at.wait("the standby", lambda: json.loads(at.text("c/shop.json"))["here"] == [2])
@@ -87,7 +90,7 @@ def test_standby_of_one_that_stood_still(at: Folder) -> None:
     asker.wait(SECONDS)
     told = at.text("said")
     assert "ok," not in told and ("isn't known" in told or "nothing was" in told), f"what the late asker is told: {told}"
-    is_fenced_and_equal(at)
+    is_fenced_and_equal(at, server, status)
     at.run("./shop stop c; ./shop start c")
     assert at.site(2, "c")["state"] == "up" and json.loads(at.text("c/shop.json"))["here"] == [2], "it is a site of c from now on"
     # The old machine stands by in its turn.
@@ -115,7 +118,7 @@ def test_standby_of_one_that_was_cut_off(at: Folder) -> None:
     at.wait("the standby", lambda: json.loads(at.text("c/shop.json"))["here"] == [2])
     assert at.shop("ask 2 bid,0.3,0.2,600", folder="c") == "ok,2.2\n", "the number that nobody was told"
     line.join()
-    is_fenced_and_equal(at)
+    is_fenced_and_equal(at, server)
     assert "late" not in at.shop("list 2 comments 0.1", folder="c"), "what was accepted while it was cut off doesn't count"
     at.run("./shop stop b")
     server.kill()
