@@ -4,6 +4,5 @@ pub mod SecondExamples
 pub mod AuditExamples
 pub mod ProcessExamples
 pub mod DeliveredExamples
-pub mod WorstOrderExample
 pub mod LackExamples
 pub mod RebuildExamples

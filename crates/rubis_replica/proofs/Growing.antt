@@ -14,7 +14,6 @@ use Rattle.rubis_workers.proofs.Shard.{union_of_log}
 use Rattle.rubis_replica.specs.Follow.{Follower, FollowsLog}
 use Rattle.rubis_replica.specs.Progress.{left_of, resting_at}
 use Rattle.rubis_replica.specs.declared.progress.Progress.{Progress}
-use Rattle.rubis_replica.specs.State.{SiteState}
 use Rattle.rubis_replica.proofs.Extending.{Extends, arrived_extends, follows_extended, settle_extends}
 use Rattle.rubis_replica.proofs.Standing.{rests_follow}
 
@@ -71,12 +70,3 @@ pub tables_of_log : (log : List Message) (f : Follower) → FollowsLog log f →
 tables_of_log log f h e =
     union_of_log (length f.tables) (cores (take f.progress.applied log)) f.tables h.some (h.rests (ap left_of e))
     ∙ ap (λ xs. (fold_of (cores xs)).tables) (all_at log f e)
-
--- the tables of a site that isn't behind are those of what is applied of its log
-pub tables_so_far : (s : SiteState) (place : Place) (state : Replica) (batch : ℕ) (f : Follower)
-    → record { place = place; state = state; progress = f.progress; batch = batch } ≡ s → FollowsLog state.log f → left_of s.progress ≡ 0
-    → union f.tables ≡ (fold_of (cores (take s.progress.applied s.state.log))).tables
-tables_so_far s place state batch f same h left =
-    union_of_log (length f.tables) (cores (take f.progress.applied state.log)) f.tables h.some
-    (h.rests (ap (λ (x : SiteState). left_of x.progress) same ∙ left))
-    ∙ ap (λ (x : SiteState). (fold_of (cores (take x.progress.applied x.state.log))).tables) same

@@ -6,5 +6,4 @@ pub mod Faults
 pub mod Folding
 pub mod Follow
 pub mod Progress
-pub mod Lengths
 pub mod Tries

@@ -7,7 +7,6 @@ mod faults;
 mod folding;
 mod follower;
 mod hands;
-mod lengths;
 mod progress;
 mod shared_batches;
 mod site;

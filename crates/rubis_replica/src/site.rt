@@ -1,6 +1,6 @@
 //! One site, and its calls.
 
-ghost use Rattle.std.specs.Prelude.{◌≡◌, ◌≤◌, ◌<◌, ◌⊎◌, [], All, IfOk, IfErr, IfNone, IfSome, IsErrOf, Ok, OnOk, Some, length, option_copied, take};
+ghost use Rattle.std.specs.Prelude.{◌≡◌, ◌≤◌, ◌<◌, ◌⊎◌, [], All, IfOk, IfErr, IfNone, IfSome, IsErrOf, Ok, OnOk, Some, length, option_copied};
 ghost use Rattle.rubis_shadow.specs.Shadows.{IsAsk};
 ghost use Rattle.rubis_message.specs.Message.{sites_of};
 ghost use Rattle.rubis_model.specs.Log.{cores, fold_of};
@@ -8,7 +8,6 @@ ghost use Rattle.rubis_model.specs.Runs.{listed, listing_rows};
 ghost use Rattle.rubis_model.specs.Site.{arrived, asked, opening_at, passed, rows_at, took};
 ghost use Rattle.rubis_release.specs.Answers.{IsAdmitted};
 ghost use Rattle.rubis_replica.specs.Arrivals.{IsStop, TakesFirst};
-ghost use Rattle.rubis_replica.specs.Lengths.{looks_long};
 ghost use Rattle.rubis_replica.specs.Progress.{BatchGoesOn, IsAhead, IsBatched, IsProgress, end_of, is_behind, left_of, resting_at};
 ghost use Rattle.rubis_replica.specs.Setup.{setup_place};
 ghost use Rattle.rubis_replica.specs.State.{AddsRows, AnswersAsTheStep, IsCutFault, IsReadFault, IsReadyFor, IsRefreshed, Lists};
@@ -19,7 +18,6 @@ use crate::config::Config;
 use crate::faults::Fault;
 use crate::follower::Follower;
 use crate::hands::Hands;
-use crate::lengths::is_long;
 use rubis_generate::decide;
 use rubis_listing::ListingRows;
 use rubis_message::{Arrival, Message, Taken, Token};
@@ -360,15 +358,6 @@ impl<G: Gate> Site<G> {
         self.prepare(rt, listing)?;
         let mut rows = self.rows(listing)?;
         Ok(rows.put_all(rt, sink)?)
-    }
-
-    /// Whether a listing has many rows, some thousands, by what the rows count of the messages that are applied, and by how many
-    /// messages the log has. While a batch is behind, what is done of it counts too. It decides when text is written, not what text.
-    pub fn is_long(&self, listing: &Listing) -> bool
-        ensures { left_of self.now.progress ≡ 0 → result ≡ looks_long
-            (rows_at (take self.now.progress.applied self.now.state.log)) (length self.now.state.log) listing.now }
-    {
-        is_long(self.follower.tables(), self.intake.log(), listing)
     }
 
     /// The rows of a listing, as `list_into` adds them.

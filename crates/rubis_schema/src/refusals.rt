@@ -8,19 +8,19 @@ ghost use Rattle.rubis_schema.specs.Refusals.{code_of, refusal_name};
 pub enum Refusal {
     /// The record isn't in the grammar.
     BadRecord,
-    /// Released and waiting messages are as many as the site keeps.
+    /// Released and waiting messages are as many as the site keeps (`--keep`).
     Full,
     /// The site doesn't hold the token.
     NoToken,
-    /// The site hasn't released all red shadows that were issued.
+    /// The site hasn't released all red messages so far.
     RedBehind,
-    /// The nickname has a user.
+    /// The nickname belongs to a user, or is the user's own.
     NickTaken,
-    /// A user that is named has no row.
+    /// A user that is named doesn't exist.
     NoUser,
-    /// The item has no row.
+    /// The item doesn't exist.
     NoItem,
-    /// The item is ended.
+    /// The item's sale is closed.
     Closed,
     /// The amount is below the start price.
     LowBid,
@@ -28,23 +28,23 @@ pub enum Refusal {
     StockShort,
     /// The user isn't the item's seller.
     NotSeller,
-    /// The bidder or buyer is the item's seller.
+    /// The bidder or buyer is the seller.
     OwnItem,
-    /// The item has no buy-now price.
+    /// The item's buy-now price is 0.
     NoBuyNow,
-    /// The comment is from its own addressee.
+    /// The comment is addressed to its own author.
     SelfComment,
-    /// The token can't be passed to that site.
+    /// The token is passed to another site below `--sites` only.
     BadTarget,
-    /// The token has had its last turn.
+    /// The token has had its last turn, 1,000,000,000.
     LastTurn,
-    /// The message says that this site made it, and it didn't.
+    /// The message claims that this site made it, and it didn't.
     NotOurs,
     /// The token is for another site.
     NotForMe,
-    /// A world's record has no event's shape.
+    /// The record of a world isn't an event, or its site isn't below `--sites`.
     BadEvent,
-    /// No packet with that number was sent.
+    /// No packet of the world has that number.
     NoSuchPacket,
 }
 
