@@ -218,14 +218,17 @@ def check_anchors(page: pathlib.Path) -> Checked:
 
 
 def check_refusals(page: pathlib.Path) -> Checked:
-    """The manual's table of refusals has the numbers and names of the program's, and its words are those of `shop`."""
-    numbers = dict(re.findall(r"Refusal::(\w+) => (\d+),", (CRATES / "rubis_schema/src/refusals.rt").read_text()))
+    """The manual's table of refusals has the numbers and names of the program's, and its words are those of the program's code and of `shop`."""
+    code = (CRATES / "rubis_schema/src/refusals.rt").read_text()
+    numbers = dict(re.findall(r"Refusal::(\w+) => (\d+),", code))
+    meanings = {name: words[0].lower() + words[1:] for words, name in re.findall(r"/// (.*)\.\n    (\w+),", code)}
     rows = found_in(page, re.compile(r"^\| (\d+) \| (\w+) \| (.*) \|$"))
     for name in numbers.keys() - {name for _, (_, name, _) in rows}:
         yield f"{page.relative_to(TOP)}: there is no {name}"
     for place, (number, name, words) in rows:
-        is_so = numbers.get(name) == number and REFUSALS.get(name) in (None, words.replace("`", ""))
-        yield None if is_so else f"{place}: {name} is {numbers.get(name)} of the program, and shop_tool/carrier/records.py says {REFUSALS.get(name)!r}"
+        is_so = (numbers.get(name), meanings.get(name)) == (number, words) and REFUSALS.get(name) in (None, words.replace("`", ""))
+        yield None if is_so else (f"{place}: {name} is {numbers.get(name)} of the program, {meanings.get(name)!r}, and "
+                                  f"shop_tool/carrier/records.py says {REFUSALS.get(name)!r}")
 
 
 def check_images(page: pathlib.Path) -> Checked:
