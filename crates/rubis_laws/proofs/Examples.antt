@@ -1,7 +1,4 @@
 -- Examples that are computed on the definitions.
-pub mod FirstExamples
-pub mod SecondExamples
-pub mod AuditExamples
 pub mod ProcessExamples
 pub mod DeliveredExamples
 pub mod LackExamples
