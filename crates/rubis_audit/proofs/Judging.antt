@@ -44,9 +44,8 @@ cond_rest false x r s e = e refl
 abbrev content : Bool → Bool → Bool → Bool → Option Kind
 content a b c d = cond a (Some kind.Refers) (cond b (Some kind.Nick) (cond c (Some kind.Stock) (cond d (Some kind.Winner) None)))
 
-pub checks_are : (sites site : ℕ) (t : Tables) (others own : List Message) (v : Message) → IsFaultless others own → Shows t (cores own) → IsAmong sites v →
-    IsMessage v
-    → first_of (checks others site own v) ≡ first_of (checks_by site (clock_of sites own) (last_red own) t (others ++ own) v)
+pub checks_are : (sites site : ℕ) (t : Tables) (others own : List Message) (v : Message) → IsFaultless others own → Shows t (cores own) → IsAmong sites v
+    → IsMessage v → first_of (checks others site own v) ≡ first_of (checks_by site (clock_of sites own) (last_red own) t (others ++ own) v)
 checks_are sites site t others own v k s a f =
     (λ i. cond (clash_is others own v k i) (Some kind.Clash)
     (cond (order_is sites site others own v k a f i) (Some kind.Order) (cond (gap_is others own v k i) (Some kind.RedGap) (rest i))))
@@ -82,10 +81,10 @@ ready others site own v f l = record {
     positive : (n : ℕ) → 0 < n → nat_lt 0 n ≡ true
     positive n p = grind (arith, nat_tests)
 
-pub follows : (others : List Message) (site : ℕ) (own : List Message) (v : Message) → IsFaultless others own → IsMessage v → AreClean others site own v →
-    Follows (cores own) (core v)
+pub follows : (others : List Message) (site : ℕ) (own : List Message) (v : Message) → IsFaultless others own → IsMessage v → AreClean others site own v
+    → Follows (cores own) (core v)
 follows others site own v k f l = record {
-  new_id = subst (λ xs. new xs) (reverse-reverse own) (new_here (reverse own) v k.released r);
+  new_id = subst (λ xs. new xs) (reverse-reverse own) (new_here k.released r);
   next_red = number_is v.stamp.red (count is_red (cores own)) (is_red v.shadow) f.colour (λ p. r.number p ∙ ap (λ n. n + 1) same);
   fits = (fits own v v.shadow l.content).0;
   limits = (sites_of v, f.shadow);
@@ -118,9 +117,8 @@ new_id all v e = by_id_push v.stamp.id all v ∙ at (by_message_id v.stamp.id al
     at (Some u) e = ap Some ((Decides-same_message u v).0 (not_false _ e))
 
 -- v is the first with its red number
-new_red : (all : List Message) (v : Message) → ((m : Message) → Has m all → by_message_id m.stamp.id all ≡ Some m) → clash_by_id all v ≡ false →
-    taken_by_red all v ≡ false
-    → by_red v.stamp.red (all ++ v ∷ []) ≡ Some v
+new_red : (all : List Message) (v : Message) → ((m : Message) → Has m all → by_message_id m.stamp.id all ≡ Some m) → clash_by_id all v ≡ false
+    → taken_by_red all v ≡ false → by_red v.stamp.red (all ++ v ∷ []) ≡ Some v
 new_red all v one c e = by_red_push v.stamp.red all v ∙ at (by_red v.stamp.red all) refl e
   where
     at : (o : Option Message) → by_red v.stamp.red all ≡ o → option_map_or (λ u. not (same_id u.stamp.id v.stamp.id)) o false ≡ false
@@ -144,7 +142,7 @@ known_push others site own v k f l = record {
       (λ e. subst (λ (x : Message). by_red x.stamp.red ((others ++ own) ++ v ∷ []) ≡ Some x) (sym e)
       (new_red (others ++ own) v k.one_id clear (free (subst (λ (x : Message). 0 < x.stamp.red) e p)))) (split m h));
   released = subst Released (sym (reverse_push own v)) (ready others site own v f l, k.released);
-  checked = subst Checked (sym (cores_push own v)) (checked_end [] (cores own) (core v) k.checked (follows others site own v k f l));
+  checked = subst Checked (sym (cores_push own v)) (checked_end [] (cores own) k.checked (follows others site own v k f l));
 }
   where
     split : (m : Message) → Has m (others ++ (own ++ v ∷ [])) → Has m (others ++ own) ⊎ (m ≡ v)

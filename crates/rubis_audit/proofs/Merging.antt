@@ -57,8 +57,8 @@ lent_at messages n m l e = let size = map_length (λ (x : Bor Message). x.now) m
     (omega (arith, size, l), map_at (λ (x : Bor Message). x.now) messages n m l e)
 
 -- and is one of them
-pub lent : (messages : List (Bor Message)) (n : ℕ) (m : Bor Message) → n < length messages → m ≡ get_or messages n m →
-    Has m.now (map (λ (x : Bor Message). x.now) messages)
+pub lent : (messages : List (Bor Message)) (n : ℕ) (m : Bor Message) → n < length messages → m ≡ get_or messages n m
+    → Has m.now (map (λ (x : Bor Message). x.now) messages)
 lent messages n m l e = let p = lent_at messages n m l e in contained (map (λ (x : Bor Message). x.now) messages) m.now (n, p.0, sym p.1)
 
 -- a place behind all that are lent is one behind all of them
@@ -74,9 +74,8 @@ pub record Merges (sites : ℕ) (logs : List Log) (at : ℕ) (log : Log) (n : �
   pub among : AllAmong sites messages
   pub counts : clock ≡ clock_of sites messages
 
-pub merges_start : (sites : ℕ) (logs : List Log) (at : ℕ) (log : Log) (messages : List Message) (clock : MessageCounts) → at < length logs → log
-    ≡ get_or logs at log
-    → IsMerged sites logs at messages clock → Merges sites logs at log 0 messages clock
+pub merges_start : (sites : ℕ) (logs : List Log) (at : ℕ) (log : Log) (messages : List Message) (clock : MessageCounts) → at < length logs
+    → log ≡ get_or logs at log → IsMerged sites logs at messages clock → Merges sites logs at log 0 messages clock
 merges_start sites logs at log messages clock l e m = record {
   rest = ap (λ q. messages ++ firsts messages (messages_of_logs q)) (sym (drop_at logs at log l e)) ∙ m.rest;
   released = m.released;
@@ -105,9 +104,9 @@ counts_length sites messages clock e = ap (λ (k : MessageCounts). length k.coun
 
 -- of messages of which an id is one's: a released list has what it counts
 pub is_new_where : (all : Message → Type 0) → ((u v : Message) → all u → all v → u.stamp.id.site ≡ v.stamp.id.site → u.stamp.id.seq ≡ v.stamp.id.seq → u ≡ v)
-    → (sites : ℕ) (messages : List Message) (v : Message) → IsAmong sites v → 1 ≤ v.stamp.id.seq → Released (reverse messages) →
-    ((m : Message) → Has m messages → all m) → all v
-    → nat_lt (slice_index (clock_of sites messages).counts v.stamp.id.site) v.stamp.id.seq ≡ not (is_among messages v)
+    → (sites : ℕ) (messages : List Message) (v : Message) → IsAmong sites v → 1 ≤ v.stamp.id.seq → Released (reverse messages)
+    → ((m : Message) → Has m messages → all m) → all v → nat_lt (slice_index (clock_of sites messages).counts v.stamp.id.site) v.stamp.id.seq ≡ not
+    (is_among messages v)
 is_new_where all ids sites messages v a some r on av =
     ap (λ n. nat_lt n v.stamp.id.seq) (counts_at sites messages v.stamp.id.site a.id.site) ∙ at (is_among messages v) refl
   where
@@ -136,10 +135,9 @@ is_new_where all ids sites messages v a some r on av =
     at true t = there t ∙ ap not (sym t)
     at false t = missing t ∙ ap not (sym t)
 
-pub counts_same : (sites : ℕ) (logs : List Log) (at : ℕ) (log : Log) (n : ℕ) (v : Message) (messages : List Message) (clock : MessageCounts) →
-    HaveMessagesAmong sites logs → at < length logs
-    → log ≡ get_or logs at log → n < length log.messages → v ≡ get_or log.messages n v → Merges sites logs at log n messages clock → sites_of v
-    ≡ length clock.counts
+pub counts_same : (sites : ℕ) (logs : List Log) (at : ℕ) (log : Log) (n : ℕ) (v : Message) (messages : List Message) (clock : MessageCounts)
+    → HaveMessagesAmong sites logs → at < length logs → log ≡ get_or logs at log → n < length log.messages → v ≡ get_or log.messages n v
+    → Merges sites logs at log n messages clock → sites_of v ≡ length clock.counts
 counts_same sites logs at log n v messages clock among l e k i m = sites_at sites logs at log n v among l e k i
     ∙ sym (counts_length sites messages clock m.counts)
 
@@ -217,7 +215,7 @@ module _ (sites : ℕ) (logs : List Log) (at : ℕ) (log : Log) (n : ℕ) (v : M
 
     pub is_ready : IsReady clock v.stamp
     is_ready = subst (λ c. IsReady c v.stamp) (sym m.counts)
-        (ready_by_clock sites messages v whose (ready_forth messages v (subst Released (reverse_push messages v) pushed).0))
+        (ready_by_clock sites messages v whose (ready_forth messages (subst Released (reverse_push messages v) pushed).0))
 
     pub merges_take : (after : MessageCounts) → after ≡ advanced clock v.stamp → Merges sites logs at log (n + 1) (messages ++ v ∷ []) after
     merges_take after c = record {
@@ -238,7 +236,7 @@ pub clock_ready : (sites : ℕ) (log : List Message) (n : ℕ) (v : Message) →
     → IsReady (clock_of sites (take n log)) v.stamp
 clock_ready sites log n v among r k i =
     ready_by_clock sites (take n log) v (among v (contained log v (n, k, sym i)))
-    (ready_forth (take n log) v (released_front (take n log) (drop (n + 1) log) v (subst (λ x. Released (reverse x)) (parted log n v k i) r)).0)
+    (ready_forth (take n log) (released_front (take n log) (drop (n + 1) log) v (subst (λ x. Released (reverse x)) (parted log n v k i) r)).0)
 
 pub clock_next : (sites : ℕ) (log : List Message) (n : ℕ) (v : Message) (after : MessageCounts) → AllAmong sites log → n < length log → v ≡ get_or log n v
     → after ≡ advanced (clock_of sites (take n log)) v.stamp → after ≡ clock_of sites (take (n + 1) log)
@@ -261,8 +259,8 @@ uncounted_next counts all n v b l e q =
     ∙ sym (ap (filter (uncounted counts)) (take_at all n v l e) ∙ filter-append (uncounted counts) (take n all) (v ∷ []))
 
 pub uncounted_all : (sites : ℕ) (log : Log) (all : List Message) (counts : List ℕ) (n : ℕ) (logs : List Log) → counts ≡ (clock_of sites log.messages).counts
-    → AllAmong sites all → length all ≤ n → AreFaultless logs → Has log logs → all ≡ merged logs → filter (uncounted counts) (take n all)
-    ≡ lacked logs log.messages
+    → AllAmong sites all → length all ≤ n → AreFaultless logs → Has log logs → all ≡ merged logs
+    → filter (uncounted counts) (take n all) ≡ lacked logs log.messages
 uncounted_all sites log all counts n logs e among l f h same =
     ap (filter (uncounted counts)) (take_all n all l) ∙ filter_same (uncounted counts) (λ m. not (is_among log.messages m)) all each
     ∙ ap (filter (λ m. not (is_among log.messages m))) same
@@ -275,21 +273,18 @@ uncounted_all sites log all counts n logs e among l f h same =
         ∙ is_new_where (Logged logs) f.clash sites log.messages v (among v k) some (log_released logs f log h) (λ x q. ((log, h), q)) a
 
 -- ---- what a message waits for
-pub awaited_some : (log : List Message) (m : Message) (site count : ℕ) → site < sites_of m → count ≡ slice_index (clock_of (sites_of m) log).counts site →
-    count < dep m site
-    → Some (record { site = site; seq = count + 1 }) ≡ awaited log m site
+pub awaited_some : (log : List Message) (m : Message) (site count : ℕ) → site < sites_of m → count ≡ slice_index (clock_of (sites_of m) log).counts site
+    → count < dep m site → Some (record { site = site; seq = count + 1 }) ≡ awaited log m site
 awaited_some log m site count l e h =
     let q : count ≡ counted site log = e ∙ counts_at (sites_of m) log site l in
     sym (cond-true (nat_lt (counted site log) (dep m site)) (Some (record { site = site; seq = counted site log + 1 })) None
-    (below (counted site log) (dep m site) (subst (λ k. k < dep m site) q h))
-    ∙ ap (λ k. Some (record { site = site; seq = k + 1 })) (sym q))
+    (below (counted site log) (dep m site) (subst (λ k. k < dep m site) q h)) ∙ ap (λ k. Some (record { site = site; seq = k + 1 })) (sym q))
   where
     below : (x y : ℕ) → x < y → nat_lt x y ≡ true
     below x y l = grind (arith, nat_tests)
 
-pub awaited_none : (log : List Message) (m : Message) (site count : ℕ) → site < sites_of m → count ≡ slice_index (clock_of (sites_of m) log).counts site →
-    dep m site ≤ count
-    → None ≡ awaited log m site
+pub awaited_none : (log : List Message) (m : Message) (site count : ℕ) → site < sites_of m → count ≡ slice_index (clock_of (sites_of m) log).counts site
+    → dep m site ≤ count → None ≡ awaited log m site
 awaited_none log m site count l e h =
     let q : count ≡ counted site log = e ∙ counts_at (sites_of m) log site l in
     sym (cond-false (nat_lt (counted site log) (dep m site)) (Some (record { site = site; seq = counted site log + 1 })) None

@@ -70,9 +70,9 @@ can_then c s k x a carry m h = (
 )
 
 -- once it runs
-offered_awake : (c : Carrier) (s : Shop) (k : ℕ) (w : IsAwake c s k) (x : ShopPacket) → IsOffered c s x → IsOffered c (run s w.events) x
-offered_awake Files s k w x o = (o.0, w.site o.0 ∙ o.1, subst (Has x) (sym (w.kept o.0)) o.2)
-offered_awake Server s k w x o = subst (λ d. Has x (stream_in d (sender x))) (sym w.streams) o
+offered_awake : (c : Carrier) {s : Shop} {k : ℕ} (w : IsAwake c s k) (x : ShopPacket) → IsOffered c s x → IsOffered c (run s w.events) x
+offered_awake Files w x o = (o.0, w.site o.0 ∙ o.1, subst (Has x) (sym (w.kept o.0)) o.2)
+offered_awake Server w x o = subst (λ d. Has x (stream_in d (sender x))) (sym w.streams) o
 
 can_read : (c : Carrier) (s : Shop) (k : ℕ) (x : ShopPacket) → sender x ≢ (folder s k).site → IsOffered c s x → CanHave c s k x
 can_read c s k x n o =
@@ -81,7 +81,7 @@ can_read c s k x n o =
     can_then c s k x w.events w.carry w.steps (
       Reads k x ∷ [],
       (tt, tt),
-      ((w.runs, (λ e. n (e ∙ w.site k)), offered_awake c s k w x o), tt),
+      ((w.runs, (λ e. n (e ∙ w.site k)), offered_awake c w x o), tt),
       subst (λ (f : Folder). Has x f.kept) (sym (folder_here k (keeping (folder t k) x) t.folders)) (has_last x (folder t k).kept),
     )
 
@@ -95,8 +95,7 @@ IsFree c s x (InStream i) = Unit {0}
 -- a folder of its sender puts it into the stream over a server
 pub can_have : (c : Carrier) (s : Shop) (k : ℕ) (x : ShopPacket) (h : Place) → sender x ≢ (folder s k).site → IsOf c s (sender x) h → Has x (there s h)
     → IsFree c s x h → CanHave c s k x
-can_have c s k x (InStream i) n of h free =
-    can_read c s k x n (subst (λ d. IsOffered d s x) (sym of.1) (subst (λ j. Has x (stream s j)) of.0 h))
+can_have c s k x (InStream i) n of h free = can_read c s k x n (subst (λ d. IsOffered d s x) (sym of.1) (subst (λ j. Has x (stream s j)) of.0 h))
 can_have Files s k x (InFolder g) n of h free = can_read Files s k x n (g, of, h)
 can_have Server s k x (InFolder g) n of h free =
     let w = awake Server s g in
@@ -109,8 +108,7 @@ can_have Server s k x (InFolder g) n of h free =
       ),
       tt,
     ) in
-    can_then Server s k x w.events w.carry w.steps
-    (can_then Server t k x (Appends g x ∷ []) (tt, tt) append
+    can_then Server s k x w.events w.carry w.steps (can_then Server t k x (Appends g x ∷ []) (tt, tt) append
     (can_read Server (after t (Appends g x)) k x (λ e. n (e ∙ w.site k))
     (subst (Has x) (sym (stream_here (sender x) appended t.streams)) (has_last x (stream t (sender x))))))
 

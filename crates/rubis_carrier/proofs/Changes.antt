@@ -26,13 +26,12 @@ IsNew s (Accepts k r) x = x ≡ next_message (folder s k) r
 IsNew s (Passes k to) x = x ≡ next_pass (folder s k) to
 IsNew s e x = ⊥
 
-in_folder : (s : Shop) (e : Event) (k : ℕ) (f : Folder) (x : ShopPacket) → (Has x f.kept → IsSomewhere s x ⊎ IsNew s e x)
-    → (j : ℕ) → Has x (folder_in (put_folder k f s.folders) j).kept → IsSomewhere s x ⊎ IsNew s e x
-in_folder s e k f x here =
-    folder_cases (λ j g. Has x g.kept → IsSomewhere s x ⊎ IsNew s e x) k f s.folders here (λ j n h. inl (InFolder j, h))
+in_folder : (s : Shop) (e : Event) (k : ℕ) (f : Folder) (x : ShopPacket) → (Has x f.kept → IsSomewhere s x ⊎ IsNew s e x) → (j : ℕ)
+    → Has x (folder_in (put_folder k f s.folders) j).kept → IsSomewhere s x ⊎ IsNew s e x
+in_folder s e k f x here = folder_cases (λ j g. Has x g.kept → IsSomewhere s x ⊎ IsNew s e x) k f s.folders here (λ j n h. inl (InFolder j, h))
 
-in_stream : (s : Shop) (e : Event) (i : ℕ) (xs : List ShopPacket) (x : ShopPacket) → (Has x xs → IsSomewhere s x ⊎ IsNew s e x)
-    → (j : ℕ) → Has x (stream_in (put_stream i xs s.streams) j) → IsSomewhere s x ⊎ IsNew s e x
+in_stream : (s : Shop) (e : Event) (i : ℕ) (xs : List ShopPacket) (x : ShopPacket) → (Has x xs → IsSomewhere s x ⊎ IsNew s e x) → (j : ℕ)
+    → Has x (stream_in (put_stream i xs s.streams) j) → IsSomewhere s x ⊎ IsNew s e x
 in_stream s e i xs x here = stream_cases (λ j ys. Has x ys → IsSomewhere s x ⊎ IsNew s e x) i xs s.streams here (λ j n h. inl (InStream j, h))
 
 pub opened_from : (s : Shop) (k : ℕ) (x : ShopPacket) (j : ℕ) → Has x (folder (opening k s) j).kept → IsSomewhere s x
@@ -67,8 +66,7 @@ from_step c s (Reads k y) (InFolder j) x m a =
     in_folder s (Reads k y) k _ x (λ b. inl (⊎_elim (λ o. (InFolder k, o)) (λ n. subst (IsSomewhere s) (sym n) (offered c s y m.2))
     (push_cases x y (folder s k).kept b))) j a
 from_step c s (LosesEnd k n) (InFolder j) x m a = in_folder s (LosesEnd k n) k _ x (λ b. inl (InFolder k, has_take n x (folder s k).kept b)) j a
-from_step c s (IsChanged k ps) (InFolder j) x m a =
-    in_folder s (IsChanged k ps) k _ x (λ b. inl (InFolder k, has_unchanged x (folder s k).kept ps b)) j a
+from_step c s (IsChanged k ps) (InFolder j) x m a = in_folder s (IsChanged k ps) k _ x (λ b. inl (InFolder k, has_unchanged x (folder s k).kept ps b)) j a
 from_step c s (IsLost k) (InFolder j) x m a = in_folder s (IsLost k) k _ x (λ b. absurd b) j a
 from_step c s (IsCopied k l) (InFolder j) x m a = in_folder s (IsCopied k l) l _ x (λ b. inl (InFolder k, b)) j a
 from_step c s (StreamLosesEnd i n) (InFolder j) x m a = inl (InFolder j, a)
@@ -119,8 +117,7 @@ AreApart (r ∷ asks) = (Has r asks → ⊥) × AreApart asks
 -- one more, that isn't there
 pub apart_more : (r : ℕ) (asks : List ℕ) → AreApart asks → (Has r asks → ⊥) → AreApart (asks ++ r ∷ [])
 apart_more r [] a n = (λ h. h, tt)
-apart_more r (q ∷ asks) a n =
-    (λ h. ⊎_elim (λ old. a.0 old) (λ e. n (inl (sym e))) (push_cases q r asks h), apart_more r asks a.1 (λ h. n (inr h)))
+apart_more r (q ∷ asks) a n = (λ h. ⊎_elim (λ old. a.0 old) (λ e. n (inl (sym e))) (push_cases q r asks h), apart_more r asks a.1 (λ h. n (inr h)))
 
 pub apart_others : (asks : List ℕ) → AreApart asks → AreApart (others asks)
 apart_others [] a = tt
@@ -132,6 +129,6 @@ has_others q [] a h = absurd h
 has_others q (r ∷ asks) a h = (inr h, λ e. a.0 (subst (λ n. Has n asks) e h))
 
 -- the first of a list is in it
-pub first_in : (r : ℕ) (asks : List ℕ) → IsFirst r asks → (first asks ≡ r) × Has r asks
-first_in r [] f = absurd (cc f.1)
-first_in r (q ∷ asks) f = (cc f.1, inl (cc f.1))
+pub first_in : {r : ℕ} (asks : List ℕ) → IsFirst r asks → (first asks ≡ r) × Has r asks
+first_in [] f = absurd (cc f.1)
+first_in (q ∷ asks) f = (cc f.1, inl (cc f.1))

@@ -155,8 +155,9 @@ module _ (c : Carrier) (t : Shop) (k life i high : ℕ) (h : Place) (n r : ℕ) 
 abbrev ComesToTwo : Carrier → Shop → Type 0
 ComesToTwo c t = (more : List Event) × AreSteps c t more × ¬ (AreGivenOnce (run t more))
 
-comes_to_two : (c : Carrier) (k life i : ℕ) (h : Place) (n r : ℕ) (d : ℕ) (t : Shop) (high : ℕ) → n ≡ high + suc d → IsTaking t k life i high h n r → ComesToTwo c t
-comes_to_two c k life i h n r zero t high e q =
+comes_to_two : (c : Carrier) {k life i : ℕ} {h : Place} {n r : ℕ} (d : ℕ) {t : Shop} {high : ℕ} → n ≡ high + suc d → IsTaking t k life i high h n r
+    → ComesToTwo c t
+comes_to_two c {k} {life} {i} {h} {n} {r} zero {t} {high} e q =
     (round c t k life i high h n r q, round_may c t k life i high h n r q, both)
   where
     both : AreGivenOnce (run t (round c t k life i high h n r q)) → ⊥
@@ -169,9 +170,8 @@ comes_to_two c k life i h n r zero t high e q =
         (round_takes c t k life i high h n r q).compared in
         let ask : r ≡ asks t + 1 = cc same in
         omega (arith, ask, q.asked)
-comes_to_two c k life i h n r (suc d) t high e q =
-    let more = comes_to_two c k life i h n r d (run t (round c t k life i high h n r q)) (high + 1) (omega (arith, e))
-    (round_takes c t k life i high h n r q) in (
+comes_to_two c {k} {life} {i} {h} {n} {r} (suc d) {t} {high} e q =
+    let more = comes_to_two c d (omega (arith, e)) (round_takes c t k life i high h n r q) in (
       round c t k life i high h n r q ++ more.0,
       steps_append c t (round c t k life i high h n r q) more.0 (round_may c t k life i high h n r q) more.1,
       λ once. more.2 (subst AreGivenOnce (run_append t (round c t k life i high h n r q) more.0) once),
@@ -204,4 +204,4 @@ comparing_needed c events m k f h n r stands ahead compared =
       asked = (told.made h i n r stands).asked;
       compared = compared;
     } in
-    comes_to_two c k (folder s k).life i h n r (n - suc (highest i (folder s k).kept)) t (highest i (folder s k).kept) (omega (arith, ahead)) taking
+    comes_to_two c (n - suc (highest i (folder s k).kept)) (omega (arith, ahead)) taking

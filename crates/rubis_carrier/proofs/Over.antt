@@ -68,98 +68,95 @@ module _ (s : Shop) (r : ℕ) (o : IsOver s r) where
     given = λ h. subst (Has r) d h;
   })
 
-over_step : (c : Carrier) (s : Shop) (e : Event) (r : ℕ) → May c s e → Tells s → IsOver s r → IsOver (after s e) r
-over_step c s (Starts k) r m q o = record {
+over_step : (c : Carrier) {s : Shop} (e : Event) {r : ℕ} → May c s e → Tells s → IsOver s r → IsOver (after s e) r
+over_step c {s} (Starts k) {r} m q o = record {
   asked = o.asked;
   served = folder_cases (λ j g. 0 < g.life → (request s r).life ≡ g.life → Has r g.served) k _ s.folders
       (λ runs e. absurd (omega (arith, e, q.named r o.asked))) (λ j n runs e. o.served j runs e);
   waits_nowhere = folder_cases (λ j g. ¬ (Has r g.waiting)) k _ s.folders (λ h. h) (λ j n. o.waits_nowhere j);
   given_nowhere = folder_cases (λ j g. ¬ (Has r g.given)) k _ s.folders (λ h. h) (λ j n. o.given_nowhere j);
 }
-over_step c s (Opens k) r m q o = over_opened s r o k s.uncompared
-over_step c s (TakesOver k) r m q o = over_opened s r o k _
-over_step c s (OpensAlone k) r m q o = over_opened s r o k _
-over_step c s (Closes k) r m q o = over_put s r o _ k _ refl (with_memory s r o k _ refl refl refl refl) refl
-over_step c s (KeeperStarts k) r m q o = o
-over_step c s (IsKilled k) r m q o = over_stopped s r o _ k _ refl refl refl refl refl
-over_step c s (MachineStarts k) r m q o = over_stopped s r o _ k _ refl refl refl refl refl
-over_step c s (IsAsked p life d) r m q o = record {
+over_step c {s} (Opens k) {r} m q o = over_opened s r o k s.uncompared
+over_step c {s} (TakesOver k) {r} m q o = over_opened s r o k _
+over_step c {s} (OpensAlone k) {r} m q o = over_opened s r o k _
+over_step c {s} (Closes k) {r} m q o = over_put s r o _ k _ refl (with_memory s r o k _ refl refl refl refl) refl
+over_step c (KeeperStarts k) m q o = o
+over_step c {s} (IsKilled k) {r} m q o = over_stopped s r o _ k _ refl refl refl refl refl
+over_step c {s} (MachineStarts k) {r} m q o = over_stopped s r o _ k _ refl refl refl refl refl
+over_step c {s} (IsAsked p life d) {r} m q o = record {
   asked = omega (arith, o.asked, length_push s.requests (record { life = life; records = d }));
   served = λ k runs e. o.served k runs (ap (λ (x : ShopRequest). x.life) (sym (request_old s.requests (record { life = life; records = d }) r o.asked)) ∙ e);
   waits_nowhere = o.waits_nowhere;
   given_nowhere = o.given_nowhere;
 }
-over_step c s (Serves k p) r m q o = over_put s r o _ k _ refl (record {
+over_step c {s} (Serves k p) {r} m q o = over_put s r o _ k _ refl (record {
   life = λ l. refl;
   served = λ l h. inr h;
   waits = λ h. ⊎_elim (λ e. m.once (subst (λ n. Has n (folder s k).served) e (o.served k m.runs (ap (λ n. (request s n).life) e ∙ m.life))))
       (o.waits_nowhere k) h;
   given = o.given_nowhere k;
 }) refl
-over_step c s (Gives k p) r m q o = over_put s r o _ k _ refl (record {
+over_step c {s} (Gives k p) {r} m q o = over_put s r o _ k _ refl (record {
   life = λ l. refl;
   served = λ l h. h;
   waits = λ h. o.waits_nowhere k (has_without p r (folder s k).waiting h).0;
-  given = λ h. ⊎_elim (o.given_nowhere k) (λ e. o.waits_nowhere k (subst (λ n. Has n (folder s k).waiting) (sym e) m.1))
-      (push_cases r p (folder s k).given h);
+  given = λ h. ⊎_elim (o.given_nowhere k) (λ e. o.waits_nowhere k (subst (λ n. Has n (folder s k).waiting) (sym e) m.1)) (push_cases r p (folder s k).given h);
 }) refl
-over_step c s (Accepts k p) r m q o = over_put s r o _ k _ refl (record {
+over_step c {s} (Accepts k p) {r} m q o = over_put s r o _ k _ refl (record {
   life = λ l. refl;
   served = λ l h. h;
   waits = o.waits_nowhere k;
   given = λ h. o.given_nowhere k (has_others r (folder s k).given (q.lined k).apart h).0;
 }) refl
-over_step c s (Refuses k p) r m q o = over_put s r o _ k _ refl (record {
+over_step c {s} (Refuses k p) {r} m q o = over_put s r o _ k _ refl (record {
   life = λ l. refl;
   served = λ l h. h;
   waits = o.waits_nowhere k;
   given = λ h. o.given_nowhere k (has_others r (folder s k).given (q.lined k).apart h).0;
 }) refl
-over_step c s (TellsOk k p n) r m q o = over_less s r o _ (as_it_was s r o) refl
-over_step c s (TellsPublished k p n) r m q o = over_less s r o _ (as_it_was s r o) refl
-over_step c s (TellsNothing k p) r m q o = over_put s r o _ k _ refl (record {
+over_step c {s} (TellsOk k p n) {r} m q o = over_less s r o _ (as_it_was s r o) refl
+over_step c {s} (TellsPublished k p n) {r} m q o = over_less s r o _ (as_it_was s r o) refl
+over_step c {s} (TellsNothing k p) {r} m q o = over_put s r o _ k _ refl (record {
   life = λ l. refl;
   served = λ l h. h;
   waits = λ h. o.waits_nowhere k (has_without p r (folder s k).waiting h).0;
   given = o.given_nowhere k;
 }) refl
-over_step c s (TellsUnknown k p) r m q o = over_less s r o _ (as_it_was s r o) refl
-over_step c s (Yields i) r m q o = over_less s r o _ (as_it_was s r o) refl
-over_step c s (TakesBack i) r m q o = over_less s r o _ (as_it_was s r o) refl
-over_step c s (Passes k to) r m q o = over_put s r o _ k _ refl (with_memory s r o k _ refl refl refl refl) refl
-over_step c s (Appends k x) r m q o = over_less s r o _ (as_it_was s r o) refl
-over_step c s (Reads k x) r m q o = over_put s r o _ k _ refl (with_memory s r o k _ refl refl refl refl) refl
-over_step c s (LosesEnd k n) r m q o = over_stopped s r o _ k _ refl refl refl refl refl
-over_step c s (IsChanged k ps) r m q o = over_stopped s r o _ k _ refl refl refl refl refl
-over_step c s (IsLost k) r m q o = over_stopped s r o _ k _ refl refl refl refl refl
-over_step c s (IsCopied k j) r m q o = over_stopped s r o _ j _ refl refl refl refl refl
-over_step c s (StreamLosesEnd i n) r m q o = over_less s r o _ (as_it_was s r o) refl
-over_step c s ServerLosesAll r m q o = over_less s r o _ (as_it_was s r o) refl
-over_step c s (Rebuilds k ps) r m q o = over_stopped s r o _ k _ refl refl refl refl refl
-over_step c s (WritesAnew k) r m q o = over_less s r o _ (as_it_was s r o) refl
+over_step c {s} (TellsUnknown k p) {r} m q o = over_less s r o _ (as_it_was s r o) refl
+over_step c {s} (Yields i) {r} m q o = over_less s r o _ (as_it_was s r o) refl
+over_step c {s} (TakesBack i) {r} m q o = over_less s r o _ (as_it_was s r o) refl
+over_step c {s} (Passes k to) {r} m q o = over_put s r o _ k _ refl (with_memory s r o k _ refl refl refl refl) refl
+over_step c {s} (Appends k x) {r} m q o = over_less s r o _ (as_it_was s r o) refl
+over_step c {s} (Reads k x) {r} m q o = over_put s r o _ k _ refl (with_memory s r o k _ refl refl refl refl) refl
+over_step c {s} (LosesEnd k n) {r} m q o = over_stopped s r o _ k _ refl refl refl refl refl
+over_step c {s} (IsChanged k ps) {r} m q o = over_stopped s r o _ k _ refl refl refl refl refl
+over_step c {s} (IsLost k) {r} m q o = over_stopped s r o _ k _ refl refl refl refl refl
+over_step c {s} (IsCopied k j) {r} m q o = over_stopped s r o _ j _ refl refl refl refl refl
+over_step c {s} (StreamLosesEnd i n) {r} m q o = over_less s r o _ (as_it_was s r o) refl
+over_step c {s} ServerLosesAll {r} m q o = over_less s r o _ (as_it_was s r o) refl
+over_step c {s} (Rebuilds k ps) {r} m q o = over_stopped s r o _ k _ refl refl refl refl refl
+over_step c {s} (WritesAnew k) {r} m q o = over_less s r o _ (as_it_was s r o) refl
 
 -- an event makes no message of it
-not_made : (c : Carrier) (s : Shop) (e : Event) (r i n : ℕ) → May c s e → Tells s → IsOver s r → IsNew s e (Message i n r) → ⊥
-not_made c s (Accepts k p) r i n m q o new =
-    let it = first_in p (folder s k).given (m.1.0, sym (q.lined k).lines ∙ m.1.1) in
+not_made : (c : Carrier) {s : Shop} (e : Event) {r : ℕ} (i n : ℕ) → May c s e → Tells s → IsOver s r → IsNew s e (Message i n r) → ⊥
+not_made c {s} (Accepts k p) {r} i n m q o new =
+    let it = first_in (folder s k).given (m.1.0, sym (q.lined k).lines ∙ m.1.1) in
     let same : r ≡ p = cc new in
     o.given_nowhere k (subst (λ a. Has a (folder s k).given) (sym same) it.1)
-not_made c s (Passes k to) r i n m q o new = cc new
-not_made c s (Starts k) r i n m q o new = new
-not_made c s e r i n m q o new = new
+not_made c (Passes k to) i n m q o new = cc new
+not_made c (Starts k) i n m q o new = new
+not_made c e i n m q o new = new
 
-unmade_step : (c : Carrier) (s : Shop) (e : Event) (r : ℕ) → May c s e → Tells s → IsOver s r → IsUnmade s r → IsUnmade (after s e) r
-unmade_step c s e r m q o u h i n a =
-    ⊎_elim (λ old. u old.0 i n old.1) (not_made c s e r i n m q o) (from_step c s e h (Message i n r) m a)
+unmade_step : (c : Carrier) {s : Shop} (e : Event) {r : ℕ} → May c s e → Tells s → IsOver s r → IsUnmade s r → IsUnmade (after s e) r
+unmade_step c {s} e {r} m q o u h i n a = ⊎_elim (λ old. u old.0 i n old.1) (not_made c e i n m q o) (from_step c s e h (Message i n r) m a)
 
-unmade_after : (c : Carrier) (s : Shop) (later : List Event) (r : ℕ) → AreSteps c s later → Tells s → IsOver s r → IsUnmade s r → IsUnmade (run s later) r
-unmade_after c s [] r m q o u = u
-unmade_after c s (e ∷ rest) r m q o u =
-    unmade_after c (after s e) rest r m.1 (tells_step c s e m.0 q) (over_step c s e r m.0 q o) (unmade_step c s e r m.0 q o u)
+unmade_after : (c : Carrier) (s : Shop) (later : List Event) {r : ℕ} → AreSteps c s later → Tells s → IsOver s r → IsUnmade s r → IsUnmade (run s later) r
+unmade_after c s [] m q o u = u
+unmade_after c s (e ∷ rest) m q o u = unmade_after c (after s e) rest m.1 (tells_step c e m.0 q) (over_step c e m.0 q o) (unmade_step c e m.0 q o u)
 
 pub over_stays : WhatIsOverStays
 over_stays c before later m r o u = subst (λ s. IsUnmade s r) (sym (run_append start before later))
-    (unmade_after c (run start before) later r (steps_right c start before later m) (tells_run c before (steps_left c start before later m)) o u)
+    (unmade_after c (run start before) later (steps_right c start before later m) (tells_run c before (steps_left c start before later m)) o u)
 
 -- ---- in the order in which they were given
 
@@ -176,5 +173,5 @@ in_order c events m k r q a b d e =
     let l = (tells_run c events m).lined k in
     let s = run start events in
     let no : IsFirst q (folder s k).lines → ⊥ =
-    λ f. not_first r q a b d (folder s k).given e l.apart (first_in q (folder s k).given (f.0, sym l.lines ∙ f.1)).0 in
+    λ f. not_first r q a b d (folder s k).given e l.apart (first_in (folder s k).given (f.0, sym l.lines ∙ f.1)).0 in
     ((λ x. no x.1), no)

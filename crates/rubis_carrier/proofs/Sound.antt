@@ -62,8 +62,8 @@ pub record FolderIsLess (s : Shop) (k : ℕ) (f : Folder) : Type 0 where
   pub kept : f.remembered ≡ true → (x : ShopPacket) → IsReached (folder s k).site (folder s k).kept x → IsReached f.site f.kept x
   pub opened : f.is_open ≡ true → WasCompared s f.site → f.remembered ≡ true
 
-same_folder : (s : Shop) → Sound s → (k : ℕ) → FolderIsLess s k (folder s k)
-same_folder s q k = record { from = λ x h. (InFolder k, h); was = λ r. r; site = λ r. refl; kept = λ r x h. h; opened = q.opened k }
+same_folder : {s : Shop} → Sound s → (k : ℕ) → FolderIsLess s k (folder s k)
+same_folder q k = record { from = λ x h. (InFolder k, h); was = λ r. r; site = λ r. refl; kept = λ r x h. h; opened = q.opened k }
 
 record IsLess (s t : Shop) : Type 0 where
   folders : (k : ℕ) → FolderIsLess s k (folder t k)
@@ -71,21 +71,21 @@ record IsLess (s t : Shop) : Type 0 where
   turn : s.turn ≤ t.turn
   uncompared : (i : ℕ) → Has i s.uncompared → Has i t.uncompared
 
-less_from : (s t : Shop) → IsLess s t → (h : Place) (x : ShopPacket) → Has x (there t h) → IsSomewhere s x
-less_from s t l (InFolder k) x h = (l.folders k).from x h
-less_from s t l (InStream i) x h = l.streams i x h
+less_from : {s t : Shop} → IsLess s t → (h : Place) (x : ShopPacket) → Has x (there t h) → IsSomewhere s x
+less_from l (InFolder k) x h = (l.folders k).from x h
+less_from l (InStream i) x h = l.streams i x h
 
-less_sound : (s t : Shop) → Sound s → IsLess s t → Sound t
-less_sound s t q l = record {
+less_sound : {s t : Shop} → Sound s → IsLess s t → Sound t
+less_sound {s} {t} q l = record {
   once = λ h g x y a b e n.
-      let from = less_from s t l h x a in
-      let other = less_from s t l g y b in
+      let from = less_from l h x a in
+      let other = less_from l g y b in
       q.once from.0 other.0 x y from.1 other.1 e (λ u. n (l.uncompared (sender x) u));
   known = λ h x a.
-      let from = less_from s t l h x a in
+      let from = less_from l h x a in
       known_more s.turn t.turn x l.turn (q.known from.0 x from.1);
   whole = λ k r n h x a e.
-      let from = less_from s t l h x a in
+      let from = less_from l h x a in
       let site = (l.folders k).site r in
       let all = q.whole k ((l.folders k).was r) (λ u. n (subst (λ i. Has i t.uncompared) site (l.uncompared (folder s k).site u))) in
       (l.folders k).kept r x (all from.0 x from.1 (e ∙ sym site));
@@ -121,23 +121,19 @@ is_new : (s t : Shop) (k : ℕ) (y : ShopPacket) → Sound s → HasSent s t k y
     → name x ≡ name y → ⊥
 is_new s t k y q l c x at e = l.new x (q.whole k (q.opened k l.is_open c) c at.0 x at.1 (name_sender x y e ∙ l.own)) e
 
-sent_sound : (s t : Shop) (k : ℕ) (y : ShopPacket) → Sound s → HasSent s t k y → Sound t
-sent_sound s t k y q l = record {
+sent_sound : {s t : Shop} {k : ℕ} {y : ShopPacket} → Sound s → HasSent s t k y → Sound t
+sent_sound {s} {t} {k} {y} q l = record {
   once = λ h g x z a b e n.
       let c : WasCompared s (sender x) = was (sender x) n in
-      ⊎_elim
-      (λ old. ⊎_elim (λ other. q.once old.0 other.0 x z old.1 other.1 e c)
+      ⊎_elim (λ old. ⊎_elim (λ other. q.once old.0 other.0 x z old.1 other.1 e c)
       (λ same. absurd (is_new s t k y q l (at_k x (name_sender x z e ∙ ap sender same) c) x old (e ∙ ap name same))) (l.from g z b))
       (λ same. ⊎_elim (λ other. absurd (is_new s t k y q l (at_k x (ap sender same) c) z other (sym e ∙ ap name same)))
-      (λ both. same ∙ sym both) (l.from g z b))
-      (l.from h x a);
+      (λ both. same ∙ sym both) (l.from g z b)) (l.from h x a);
   known = λ h x a.
-      ⊎_elim (λ old. known_more s.turn t.turn x l.turn (q.known old.0 x old.1))
-      (λ same. subst (IsKnown t.turn) (sym same) l.known) (l.from h x a);
+      ⊎_elim (λ old. known_more s.turn t.turn x l.turn (q.known old.0 x old.1)) (λ same. subst (IsKnown t.turn) (sym same) l.known) (l.from h x a);
   whole = λ j r n h x a e.
       let c : WasCompared s (folder s j).site = subst (WasCompared s) (l.site j) (was (folder t j).site n) in
-      ⊎_elim (λ old. l.kept j x (q.whole j (l.was j r) c old.0 x old.1 (e ∙ l.site j)))
-      (λ same.
+      ⊎_elim (λ old. l.kept j x (q.whole j (l.was j r) c old.0 x old.1 (e ∙ l.site j))) (λ same.
       let sites : (folder s j).site ≡ (folder s k).site = sym (l.site j) ∙ sym e ∙ ap sender same ∙ l.own in
       let here : j ≡ k = q.one j k (l.was j r) (q.opened k l.is_open (subst (WasCompared s) sites c)) sites in
       subst (λ n. IsReached (folder t n).site (folder t n).kept x) (sym here) (subst (IsReached (folder t k).site (folder t k).kept) (sym same) l.sent))
@@ -214,7 +210,8 @@ new_message f r (Message i n q) h e =
     omega (arith, number, h)
 new_message f r (Pass i t j a) h e = cc e
 
-new_pass : (f : Folder) (to : ℕ) → passed f.site f.kept ≤ taken f.site f.kept → (x : ShopPacket) → IsReached f.site f.kept x → name x ≡ name (next_pass f to) → ⊥
+new_pass : (f : Folder) (to : ℕ) → passed f.site f.kept ≤ taken f.site f.kept → (x : ShopPacket) → IsReached f.site f.kept x → name x ≡ name (next_pass f to)
+    → ⊥
 new_pass f to l (Message i n q) h e = cc e
 new_pass f to l (Pass i t j a) h e =
     let turn : t ≡ taken f.site f.kept + 1 = cc e in
@@ -285,35 +282,35 @@ module _ (s : Shop) (q : Sound s) (k : ℕ) (uncompared : List ℕ) (more : (i :
             (which i a);
       }
 
-uncompared_sound : (s : Shop) → Sound s → (k : ℕ) → Sound (opening_uncompared k s)
-uncompared_sound s q k = opens_sound s q k ((folder s k).site ∷ s.uncompared) (λ i u. inr u) (λ n. absurd (n (inl refl)))
+uncompared_sound : {s : Shop} → Sound s → (k : ℕ) → Sound (opening_uncompared k s)
+uncompared_sound {s} q k = opens_sound s q k ((folder s k).site ∷ s.uncompared) (λ i u. inr u) (λ n. absurd (n (inl refl)))
 
 -- ---- one event
 
 -- an event that only replaces folder k, and what is in the memory of others
-less_folder : (s : Shop) → Sound s → (k : ℕ) (f : Folder) → FolderIsLess s k f → (requests : List ShopRequest) (told : List Notice) (begun : ℕ)
+less_folder : {s : Shop} → Sound s → (k : ℕ) (f : Folder) → FolderIsLess s k f → (requests : List ShopRequest) (told : List Notice) (begun : ℕ)
     → Sound (record (with_folder k f s) { requests = requests; told = told; begun = begun })
-less_folder s q k f l requests told begun = less_sound s _ q (record {
-  folders = folder_cases (FolderIsLess s) k f s.folders l (λ j n. same_folder s q j);
+less_folder {s} q k f l requests told begun = less_sound q (record {
+  folders = folder_cases (FolderIsLess s) k f s.folders l (λ j n. same_folder q j);
   streams = λ i x h. (InStream i, h);
   turn = omega arith;
   uncompared = λ i u. u;
 })
 
 -- an event that only replaces streams, by packets that are somewhere
-less_streams : (s : Shop) → Sound s → (streams : List (List ShopPacket)) → ((i : ℕ) (x : ShopPacket) → Has x (stream_in streams i) → IsSomewhere s x)
+less_streams : {s : Shop} → Sound s → (streams : List (List ShopPacket)) → ((i : ℕ) (x : ShopPacket) → Has x (stream_in streams i) → IsSomewhere s x)
     → Sound (record s { streams = streams })
-less_streams s q streams from = less_sound s _ q (record { folders = same_folder s q; streams = from; turn = omega arith; uncompared = λ i u. u })
+less_streams q streams from = less_sound q (record { folders = same_folder q; streams = from; turn = omega arith; uncompared = λ i u. u })
 
-stream_from : (s : Shop) (i : ℕ) (xs : List ShopPacket) → ((x : ShopPacket) → Has x xs → IsSomewhere s x)
-    → (j : ℕ) (x : ShopPacket) → Has x (stream_in (put_stream i xs s.streams) j) → IsSomewhere s x
+stream_from : (s : Shop) (i : ℕ) (xs : List ShopPacket) → ((x : ShopPacket) → Has x xs → IsSomewhere s x) → (j : ℕ) (x : ShopPacket)
+    → Has x (stream_in (put_stream i xs s.streams) j) → IsSomewhere s x
 stream_from s i xs from = stream_cases (λ j ys. (x : ShopPacket) → Has x ys → IsSomewhere s x) i xs s.streams from (λ j n x h. (InStream j, h))
 
 -- one that replaces neither
-less_else : (s : Shop) → Sound s → (requests : List ShopRequest) (told : List Notice) (yielding : List ℕ)
+less_else : {s : Shop} → Sound s → (requests : List ShopRequest) (told : List Notice) (yielding : List ℕ)
     → Sound (record s { requests = requests; told = told; yielding = yielding })
-less_else s q requests told yielding =
-    less_sound s _ q (record { folders = same_folder s q; streams = λ i x h. (InStream i, h); turn = omega arith; uncompared = λ i u. u })
+less_else q requests told yielding =
+    less_sound q (record { folders = same_folder q; streams = λ i x h. (InStream i, h); turn = omega arith; uncompared = λ i u. u })
 
 -- what a site finds of a packet is somewhere
 pub offered : (c : Carrier) (s : Shop) (x : ShopPacket) → IsOffered c s x → IsSomewhere s x
@@ -324,9 +321,9 @@ pub gone : {A : Type 0} → false ≡ true → A
 gone e = absurd (cc e)
 
 -- a folder of which only what is in memory is another; or its site takes no asks; or its machine knows nothing of it
-same_as : (s : Shop) → Sound s → (k : ℕ) (f : Folder) → f.kept ≡ (folder s k).kept → f.site ≡ (folder s k).site
-    → f.remembered ≡ (folder s k).remembered → f.is_open ≡ (folder s k).is_open → FolderIsLess s k f
-same_as s q k f a b r o = record {
+same_as : {s : Shop} → Sound s → (k : ℕ) (f : Folder) → f.kept ≡ (folder s k).kept → f.site ≡ (folder s k).site → f.remembered ≡ (folder s k).remembered
+    → f.is_open ≡ (folder s k).is_open → FolderIsLess s k f
+same_as {s} q k f a b r o = record {
   from = λ x h. (InFolder k, subst (Has x) a h);
   was = λ e. sym r ∙ e;
   site = λ e. sym b;
@@ -334,8 +331,8 @@ same_as s q k f a b r o = record {
   opened = λ e c. r ∙ q.opened k (sym o ∙ e) (subst (WasCompared s) b c);
 }
 
-shut : (s : Shop) (k : ℕ) (f : Folder) → f.kept ≡ (folder s k).kept → f.site ≡ (folder s k).site → f.remembered ≡ (folder s k).remembered
-    → f.is_open ≡ false → FolderIsLess s k f
+shut : (s : Shop) (k : ℕ) (f : Folder) → f.kept ≡ (folder s k).kept → f.site ≡ (folder s k).site → f.remembered ≡ (folder s k).remembered → f.is_open ≡ false
+    → FolderIsLess s k f
 shut s k f a b r o = record {
   from = λ x h. (InFolder k, subst (Has x) a h);
   was = λ e. sym r ∙ e;
@@ -354,54 +351,52 @@ unknown_less s k f r o from = record {
   opened = λ e c. gone (sym o ∙ e);
 }
 
-pub sound_step : (c : Carrier) (s : Shop) (e : Event) → May c s e → Sound s → Sound (after s e)
-sound_step c s (Starts k) m q = less_folder s q k _ (shut s k _ refl refl refl refl) _ _ _
-sound_step c s (Opens k) m q = opens_sound s q k s.uncompared (λ i u. u) (λ n. m)
-sound_step c s (TakesOver k) m q = uncompared_sound s q k
-sound_step c s (OpensAlone k) m q = uncompared_sound s q k
-sound_step c s (Closes k) m q = less_folder s q k _ (shut s k _ refl refl refl refl) _ _ _
-sound_step c s (KeeperStarts k) m q = q
-sound_step c s (IsKilled k) m q = less_folder s q k _ (shut s k _ refl refl refl refl) _ _ _
-sound_step c s (MachineStarts k) m q = less_folder s q k _ (unknown_less s k _ refl refl (λ x h. (InFolder k, h))) _ _ _
-sound_step c s (IsAsked r life n) m q = less_else s q _ _ _
-sound_step c s (Serves k r) m q = less_folder s q k _ (same_as s q k _ refl refl refl refl) _ _ _
-sound_step c s (Gives k r) m q = less_folder s q k _ (same_as s q k _ refl refl refl refl) _ _ _
-sound_step c s (Accepts k r) m q =
+pub sound_step : (c : Carrier) {s : Shop} (e : Event) → May c s e → Sound s → Sound (after s e)
+sound_step c {s} (Starts k) m q = less_folder q k _ (shut s k _ refl refl refl refl) _ _ _
+sound_step c {s} (Opens k) m q = opens_sound s q k s.uncompared (λ i u. u) (λ n. m)
+sound_step c (TakesOver k) m q = uncompared_sound q k
+sound_step c (OpensAlone k) m q = uncompared_sound q k
+sound_step c {s} (Closes k) m q = less_folder q k _ (shut s k _ refl refl refl refl) _ _ _
+sound_step c (KeeperStarts k) m q = q
+sound_step c {s} (IsKilled k) m q = less_folder q k _ (shut s k _ refl refl refl refl) _ _ _
+sound_step c {s} (MachineStarts k) m q = less_folder q k _ (unknown_less s k _ refl refl (λ x h. (InFolder k, h))) _ _ _
+sound_step c (IsAsked r life n) m q = less_else q _ _ _
+sound_step c (Serves k r) m q = less_folder q k _ (same_as q k _ refl refl refl refl) _ _ _
+sound_step c (Gives k r) m q = less_folder q k _ (same_as q k _ refl refl refl refl) _ _ _
+sound_step c {s} (Accepts k r) m q =
     let y = next_message (folder s k) r in
     let l : Keeps (folder s k) (accepting (folder s k) r) y = record { kept = refl; site = refl; remembered = refl; opened = refl } in
-    sent_sound s _ k y q (sends s q k _ y l s.turn m.0 refl (new_message (folder s k) r) tt (omega arith))
-sound_step c s (Refuses k r) m q = less_folder s q k _ (same_as s q k _ refl refl refl refl) _ _ _
-sound_step c s (TellsOk k r n) m q = less_else s q _ _ _
-sound_step c s (TellsPublished k r n) m q = less_else s q _ _ _
-sound_step c s (TellsNothing k r) m q = less_folder s q k _ (same_as s q k _ refl refl refl refl) _ _ _
-sound_step c s (TellsUnknown k r) m q = less_else s q _ _ _
-sound_step c s (Yields i) m q = less_else s q _ _ _
-sound_step c s (TakesBack i) m q = less_else s q _ _ _
-sound_step c s (Passes k to) m q =
+    sent_sound q (sends s q k _ y l s.turn m.0 refl (new_message (folder s k) r) tt (omega arith))
+sound_step c (Refuses k r) m q = less_folder q k _ (same_as q k _ refl refl refl refl) _ _ _
+sound_step c (TellsOk k r n) m q = less_else q _ _ _
+sound_step c (TellsPublished k r n) m q = less_else q _ _ _
+sound_step c (TellsNothing k r) m q = less_folder q k _ (same_as q k _ refl refl refl refl) _ _ _
+sound_step c (TellsUnknown k r) m q = less_else q _ _ _
+sound_step c (Yields i) m q = less_else q _ _ _
+sound_step c (TakesBack i) m q = less_else q _ _ _
+sound_step c {s} (Passes k to) m q =
     let y = next_pass (folder s k) to in
     let l : Keeps (folder s k) (keeping (folder s k) y) y = record { kept = refl; site = refl; remembered = refl; opened = refl } in
-    sent_sound s _ k y q (sends s q k _ y l _ m.0 refl (new_pass (folder s k) to m.1.0) (omega arith, omega arith, m.2) (omega arith))
-sound_step c s (Appends k x) m q = less_streams s q _ (stream_from s (sender x) (stream s (sender x) ++ x ∷ [])
+    sent_sound q (sends s q k _ y l _ m.0 refl (new_pass (folder s k) to m.1.0) (omega arith, omega arith, m.2) (omega arith))
+sound_step c {s} (Appends k x) m q = less_streams q _ (stream_from s (sender x) (stream s (sender x) ++ x ∷ [])
     (λ z h. ⊎_elim (λ a. (InStream (sender x), a)) (λ e. (InFolder k, subst (λ v. Has v (folder s k).kept) (sym e) m.1.kept))
     (push_cases z x (stream s (sender x)) h)))
-sound_step c s (Reads k x) m q = less_folder s q k _ (record {
+sound_step c {s} (Reads k x) m q = less_folder q k _ (record {
   from = λ z h. ⊎_elim (λ a. (InFolder k, a)) (λ e. subst (IsSomewhere s) (sym e) (offered c s x m.2)) (push_cases z x (folder s k).kept h);
   was = λ r. r;
   site = λ r. refl;
   kept = λ r z h. reached_more (folder s k).site (folder s k).kept (x ∷ []) z h;
   opened = q.opened k;
 }) _ _ _
-sound_step c s (LosesEnd k n) m q =
-    less_folder s q k _ (unknown_less s k _ refl refl (λ x h. (InFolder k, has_take n x (folder s k).kept h))) _ _ _
-sound_step c s (IsChanged k packets) m q =
-    less_folder s q k _ (unknown_less s k _ refl refl (λ x h. (InFolder k, has_unchanged x (folder s k).kept packets h))) _ _ _
-sound_step c s (IsLost k) m q = less_folder s q k _ (unknown_less s k _ refl refl (λ x h. absurd h)) _ _ _
-sound_step c s (IsCopied k j) m q = less_folder s q j _ (unknown_less s j _ refl refl (λ x h. (InFolder k, h))) _ _ _
-sound_step c s (StreamLosesEnd i n) m q =
-    less_streams s q _ (stream_from s i (take n (stream s i)) (λ x h. (InStream i, has_take n x (stream s i) h)))
-sound_step c s ServerLosesAll m q = less_streams s q _ (λ i x h. absurd h)
-sound_step c s (Rebuilds k packets) m q = less_folder s q k _ (unknown_less s k _ refl refl m.found) _ _ _
-sound_step c s (WritesAnew k) m q = less_streams s q _ (stream_from s (folder s k).site _
+sound_step c {s} (LosesEnd k n) m q = less_folder q k _ (unknown_less s k _ refl refl (λ x h. (InFolder k, has_take n x (folder s k).kept h))) _ _ _
+sound_step c {s} (IsChanged k packets) m q =
+    less_folder q k _ (unknown_less s k _ refl refl (λ x h. (InFolder k, has_unchanged x (folder s k).kept packets h))) _ _ _
+sound_step c {s} (IsLost k) m q = less_folder q k _ (unknown_less s k _ refl refl (λ x h. absurd h)) _ _ _
+sound_step c {s} (IsCopied k j) m q = less_folder q j _ (unknown_less s j _ refl refl (λ x h. (InFolder k, h))) _ _ _
+sound_step c {s} (StreamLosesEnd i n) m q = less_streams q _ (stream_from s i (take n (stream s i)) (λ x h. (InStream i, has_take n x (stream s i) h)))
+sound_step c ServerLosesAll m q = less_streams q _ (λ i x h. absurd h)
+sound_step c {s} (Rebuilds k packets) m q = less_folder q k _ (unknown_less s k _ refl refl m.found) _ _ _
+sound_step c {s} (WritesAnew k) m q = less_streams q _ (stream_from s (folder s k).site _
     (λ x h. (InFolder k, has_filter (λ z. sender z == (folder s k).site) x (folder s k).kept h)))
 
 sound_start : Sound start
@@ -419,7 +414,7 @@ sound_start = record {
 
 pub sound_after : (c : Carrier) (s : Shop) (events : List Event) → AreSteps c s events → Sound s → Sound (run s events)
 sound_after c s [] m q = q
-sound_after c s (e ∷ rest) m q = sound_after c (after s e) rest m.1 (sound_step c s e m.0 q)
+sound_after c s (e ∷ rest) m q = sound_after c (after s e) rest m.1 (sound_step c e m.0 q)
 
 pub sound_run : (c : Carrier) (events : List Event) → AreSteps c start events → Sound (run start events)
 sound_run c events m = sound_after c start events m sound_start

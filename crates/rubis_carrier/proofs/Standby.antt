@@ -30,15 +30,14 @@ abbrev ArePlaced : Shop → Type 0
 ArePlaced s = (i : ℕ) → IsPlaced i (stream s i)
 
 -- where each folder of the site was compared, since ids are given once
-placed_compared : (s : Shop) → Sound s → (i : ℕ) → WasCompared s i → IsPlaced i (stream s i)
-placed_compared s q i c n r p a b =
+placed_compared : {s : Shop} → Sound s → (i : ℕ) → WasCompared s i → IsPlaced i (stream s i)
+placed_compared q i c n r p a b =
     let same : Message i n r ≡ Message i n p = q.once (InStream i) (InStream i) (Message i n r) (Message i n p) a b refl c in
     cc same
 
-placed_append : (s : Shop) (i : ℕ) → IsPlaced i (stream s i) → (x : ShopPacket) → IsAtItsPlace s x → sender x ≡ i → IsPlaced i (stream s i ++ x ∷ [])
-placed_append s i q (Message j m p) place e n r d a b =
-    ⊎_elim
-    (λ old. ⊎_elim (λ other. q n r d old other)
+placed_append : (s : Shop) {i : ℕ} → IsPlaced i (stream s i) → (x : ShopPacket) → IsAtItsPlace s x → sender x ≡ i → IsPlaced i (stream s i ++ x ∷ [])
+placed_append s {i} q (Message j m p) place e n r d a b =
+    ⊎_elim (λ old. ⊎_elim (λ other. q n r d old other)
     (λ (new : Message i n d ≡ Message j m p). absurd (late r old (cc new))) (push_cases (Message i n d) (Message j m p) (stream s i) b))
     (λ (new : Message i n r ≡ Message j m p). ⊎_elim (λ other. absurd (late d other (cc new)))
     (λ (too : Message i n d ≡ Message j m p). both (cc new) (cc too)) (push_cases (Message i n d) (Message j m p) (stream s i) b))
@@ -52,16 +51,15 @@ placed_append s i q (Message j m p) place e n r d a b =
 
     both : r ≡ p → d ≡ p → r ≡ d
     both f g = f ∙ sym g
-placed_append s i q (Pass j t k a) place e n r d x y =
-    ⊎_elim
-    (λ old. ⊎_elim (λ other. q n r d old other) (λ (new : Message i n d ≡ Pass j t k a). absurd (cc new))
+placed_append s {i} q (Pass j t k a) place e n r d x y =
+    ⊎_elim (λ old. ⊎_elim (λ other. q n r d old other) (λ (new : Message i n d ≡ Pass j t k a). absurd (cc new))
     (push_cases (Message i n d) (Pass j t k a) (stream s i) y))
     (λ (new : Message i n r ≡ Pass j t k a). absurd (cc new)) (push_cases (Message i n r) (Pass j t k a) (stream s i) x)
 
 -- of a site of which a folder was opened uncompared, before the event
 placed_step : (c : Carrier) (s : Shop) (e : Event) → May c s e → ArePlaced s → (i : ℕ) → Has i s.uncompared → IsPlaced i (stream (after s e) i)
 placed_step c s (Appends k x) m q = stream_cases (λ i xs. Has i s.uncompared → IsPlaced i xs) (sender x) (stream s (sender x) ++ x ∷ []) s.streams
-    (λ u. placed_append s (sender x) (q (sender x)) x (m.1.placed u) refl) (λ j d u. q j)
+    (λ u. placed_append s (q (sender x)) x (m.1.placed u) refl) (λ j d u. q j)
 placed_step c s (StreamLosesEnd j n) m q = stream_cases (λ i xs. Has i s.uncompared → IsPlaced i xs) j (take n (stream s j)) s.streams
     (λ u a r d x y. q j a r d (has_take n (Message j a r) (stream s j) x) (has_take n (Message j a d) (stream s j) y)) (λ i d u. q i)
 placed_step c s ServerLosesAll m q = λ i u n r d x y. absurd x
@@ -81,10 +79,9 @@ uncompared_new c s e i m q u = inl u
 pub placed_after : (c : Carrier) (s : Shop) (events : List Event) → AreSteps c s events → Sound s → ArePlaced s → ArePlaced (run s events)
 placed_after c s [] m q p = p
 placed_after c s (e ∷ rest) m q p =
-    let sound = sound_step c s e m.0 q in
-    placed_after c (after s e) rest m.1 sound (λ i. ⊎_elim
-    (λ u. ⊎_elim (placed_step c s e m.0 p i) (λ placed. placed) (uncompared_new c s e i m.0 p u))
-    (placed_compared (after s e) sound i) (has_or i (after s e).uncompared))
+    let sound = sound_step c e m.0 q in
+    placed_after c (after s e) rest m.1 sound (λ i. ⊎_elim (λ u. ⊎_elim (placed_step c s e m.0 p i) (λ placed. placed) (uncompared_new c s e i m.0 p u))
+    (placed_compared sound i) (has_or i (after s e).uncompared))
 
 placed_run : (c : Carrier) (events : List Event) → AreSteps c start events → ArePlaced (run start events)
 placed_run c events m = placed_after c start events m (sound_run c [] tt) (λ i a b e x y. absurd x)
@@ -144,8 +141,7 @@ told_since : (c : Carrier) (s : Shop) (later : List Event) (i : ℕ) → AreStep
 told_since c s [] i m y stays w r n h = inl h
 told_since c s (e ∷ rest) i m y stays w r n h = ⊎_elim
     (λ told. ⊎_elim (λ old. inl old) (λ there. inr (whole_after c (after s e) rest (InStream i) m.1 w.1 (Message i n r) there))
-    (told_new c s e i r n m.0 y told))
-    (λ there. inr there) (told_since c (after s e) rest i m.1 (yields_still s e i stays.0 y) stays.1 w.1 r n h)
+    (told_new c s e i r n m.0 y told)) (λ there. inr there) (told_since c (after s e) rest i m.1 (yields_still s e i stays.0 y) stays.1 w.1 r n h)
 
 pub yields_published : WhatYieldsIsPublished
 yields_published c before later i m stays w r n h =

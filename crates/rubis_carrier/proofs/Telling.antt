@@ -67,12 +67,12 @@ pub record Tells (s : Shop) : Type 0 where
   pub lined : (k : ℕ) → IsLined (folder s k)
 
 -- an ask that is at a folder is at no other
-one_place : (s : Shop) → Tells s → (k j r : ℕ) → IsAt s.requests (folder s k) r → IsAt s.requests (folder s j) r → k ≡ j
-one_place s q k j r a b = q.lives k j a.runs (sym a.life ∙ b.life)
+one_place : {s : Shop} → Tells s → (k j r : ℕ) → IsAt s.requests (folder s k) r → IsAt s.requests (folder s j) r → k ≡ j
+one_place q k j r a b = q.lives k j a.runs (sym a.life ∙ b.life)
 
 -- and was taken
-at_taken : (s : Shop) → Tells s → (k r : ℕ) → IsAt s.requests (folder s k) r → IsTaken s r
-at_taken s q k r a = record {
+at_taken : {s : Shop} → Tells s → (k r : ℕ) → IsAt s.requests (folder s k) r → IsTaken s r
+at_taken {s} q k r a = record {
   asked = a.asked;
   served = λ j runs e. subst (λ n. Has r (folder s n).served) (q.lives k j a.runs (sym a.life ∙ e)) a.served;
 }
@@ -105,8 +105,8 @@ lined_idle g a b c = record {
   answers = λ r n h. absurd (subst (Has (record { ask = r; number = n })) c h);
 }
 
-lined_same : (f g : Folder) → IsSame f g → IsLined f → IsLined g
-lined_same f g e l = record {
+lined_same : {f g : Folder} → IsSame f g → IsLined f → IsLined g
+lined_same {f} {g} e l = record {
   lines = e.lines ∙ l.lines ∙ sym e.given;
   apart = subst AreApart (sym e.given) l.apart;
   answers = λ r n h.
@@ -174,14 +174,14 @@ module _ (s t : Shop) (q : Tells s) (l : IsQuiet s t) where
     waits = λ k r b. ⊎_elim
         (λ same.
         let was = q.waits k r (subst (Has r) same.waiting b) in
-        (at_still k r same was.0, open_still r (at_taken s q k r was.0) was.1, λ c. was.2 (subst (Has r) same.given c)))
+        (at_still k r same was.0, open_still r (at_taken q k r was.0) was.1, λ c. was.2 (subst (Has r) same.given c)))
         (λ idle. absurd (subst (Has r) idle.waiting b)) (l.memory k);
     gives = λ k r b. ⊎_elim
         (λ same.
         let was = q.gives k r (subst (Has r) same.given b) in
-        (at_still k r same was.0, open_still r (at_taken s q k r was.0) was.1))
+        (at_still k r same was.0, open_still r (at_taken q k r was.0) was.1))
         (λ idle. absurd (subst (Has r) idle.given b)) (l.memory k);
-    lined = λ k. ⊎_elim (λ same. lined_same (folder s k) (folder t k) same (q.lined k))
+    lined = λ k. ⊎_elim (λ same. lined_same same (q.lined k))
         (λ idle. lined_idle (folder t k) idle.given idle.lines idle.answered) (l.memory k);
   }
 
@@ -197,15 +197,15 @@ all_same s k = inl (same (folder s k) (folder s k) refl refl refl refl refl refl
 
 -- ---- one event: what else is new
 
-nothing_new : (c : Carrier) (s : Shop) (e : Event) → May c s e → ((i n r : ℕ) → IsNew s e (Message i n r) → ⊥)
-    → (h : Place) (i n r : ℕ) → Has (Message i n r) (there (after s e) h) → IsSomewhere s (Message i n r)
+nothing_new : (c : Carrier) (s : Shop) (e : Event) → May c s e → ((i n r : ℕ) → IsNew s e (Message i n r) → ⊥) → (h : Place) (i n r : ℕ)
+    → Has (Message i n r) (there (after s e) h) → IsSomewhere s (Message i n r)
 nothing_new c s e m none h i n r a = ⊎_elim (λ old. old) (λ new. absurd (none i n r new)) (from_step c s e h (Message i n r) m a)
 
 -- the events in which no ask goes on, but for a folder that starts and an asker that asks
-quiet_put : (c : Carrier) (s : Shop) (e : Event) (k : ℕ) (f : Folder) → Tells s → May c s e → ((i n r : ℕ) → IsNew s e (Message i n r) → ⊥)
-    → (after s e).folders ≡ put_folder k f s.folders → (IsSame (folder s k) f ⊎ IsIdle f) → (after s e).requests ≡ s.requests
-    → (after s e).begun ≡ s.begun → (after s e).told ≡ s.told → Tells (after s e)
-quiet_put c s e k f q m none changed here requests begun told = quiet_tells s (after s e) q (record {
+quiet_put : (c : Carrier) {s : Shop} (e : Event) (k : ℕ) {f : Folder} → Tells s → May c s e → ((i n r : ℕ) → IsNew s e (Message i n r) → ⊥)
+    → (after s e).folders ≡ put_folder k f s.folders → (IsSame (folder s k) f ⊎ IsIdle f) → (after s e).requests ≡ s.requests → (after s e).begun ≡ s.begun
+    → (after s e).told ≡ s.told → Tells (after s e)
+quiet_put c {s} e k {f} q m none changed here requests begun told = quiet_tells s (after s e) q (record {
   from = nothing_new c s e m none;
   memory = λ j. subst (λ fs. IsSame (folder s j) (folder_in fs j) ⊎ IsIdle (folder_in fs j)) (sym changed)
       (folder_cases (λ j g. IsSame (folder s j) g ⊎ IsIdle g) k f s.folders here (λ j n. all_same s j) j);
@@ -215,11 +215,10 @@ quiet_put c s e k f q m none changed here requests begun told = quiet_tells s (a
   ok = λ r i n a. inl (subst (Has (Ok r i n)) told a);
 })
 
-quiet_streams : (c : Carrier) (s : Shop) (e : Event) → Tells s → May c s e → ((i n r : ℕ) → IsNew s e (Message i n r) → ⊥)
-    → (after s e).folders ≡ s.folders → (after s e).requests ≡ s.requests
-    → (after s e).begun ≡ s.begun → ((r : ℕ) → Has (No r) (after s e).told → Has (No r) s.told)
+quiet_streams : (c : Carrier) {s : Shop} (e : Event) → Tells s → May c s e → ((i n r : ℕ) → IsNew s e (Message i n r) → ⊥) → (after s e).folders ≡ s.folders
+    → (after s e).requests ≡ s.requests → (after s e).begun ≡ s.begun → ((r : ℕ) → Has (No r) (after s e).told → Has (No r) s.told)
     → ((r i n : ℕ) → Has (Ok r i n) (after s e).told → Has (Ok r i n) s.told ⊎ IsSomewhere s (Message i n r)) → Tells (after s e)
-quiet_streams c s e q m none same requests begun told_no told_ok = quiet_tells s (after s e) q (record {
+quiet_streams c {s} e q m none same requests begun told_no told_ok = quiet_tells s (after s e) q (record {
   from = nothing_new c s e m none;
   memory = λ j. subst (λ fs. IsSame (folder s j) (folder_in fs j) ⊎ IsIdle (folder_in fs j)) (sym same) (all_same s j);
   requests = requests;
@@ -245,8 +244,8 @@ record IsAlmost (s t : Shop) (Made Refused : ℕ → Type 0) : Type 0 where
   made_once : (h g : Place) (r i n j m : ℕ) → Made r → Has (Message i n r) (there t h) → Has (Message j m r) (there t g) → (i ≡ j) × (n ≡ m)
   refused_was : (r : ℕ) → Refused r → IsTaken s r × IsOpen s r × ¬ (Made r)
 
-open_almost : (s t : Shop) (Made Refused : ℕ → Type 0) → IsAlmost s t Made Refused → (r : ℕ) → ¬ (Made r) → ¬ (Refused r) → IsOpen s r → IsOpen t r
-open_almost s t Made Refused l r a b o = record {
+open_almost : {s t : Shop} (Made Refused : ℕ → Type 0) → IsAlmost s t Made Refused → (r : ℕ) → ¬ (Made r) → ¬ (Refused r) → IsOpen s r → IsOpen t r
+open_almost Made Refused l r a b o = record {
   unmade = λ h i n x. ⊎_elim (λ old. o.unmade old.0 i n old.1) a (l.from h i n r x);
   not_no = λ x. ⊎_elim o.not_no b (l.no r x);
   not_ok = λ i n x. o.not_ok i n (l.ok r i n x);
@@ -305,8 +304,8 @@ abbrev none : ℕ → Type 0
 none r = ⊥
 
 -- the ask is taken
-serves_tells : (c : Carrier) (s : Shop) (k r : ℕ) → Tells s → MayServe s k r → Tells (after s (Serves k r))
-serves_tells c s k r q m =
+serves_tells : (c : Carrier) {s : Shop} {k r : ℕ} → Tells s → MayServe s k r → Tells (after s (Serves k r))
+serves_tells c {s} {k} {r} q m =
     let t = after s (Serves k r) in
     let f : Folder = record (folder s k) { served = r ∷ (folder s k).served; waiting = r ∷ (folder s k).waiting } in
     let l : IsAlmost s t none none = record {
@@ -317,27 +316,27 @@ serves_tells c s k r q m =
       made_once = λ h g p i n j m z a b. absurd z;
       refused_was = λ p z. absurd z;
     } in
-    let still = open_almost s t none none l in
+    let still = open_almost none none l in
     let fresh : IsOpen s r = record {
       unmade = λ h i n a. m.once ((q.made h i n r a).served k m.runs m.life);
       not_no = λ a. m.once ((q.no r a).0.served k m.runs m.life);
       not_ok = λ i n a. m.once ((q.ok r i n a).0.served k m.runs m.life);
     } in
     going_tells s t q (going_put s t k f refl refl (λ p a. inr a) refl refl) none none l
-    (folder_cases (λ j g. (p : ℕ) → Has p g.waiting → IsAt s.requests g p × IsOpen t p × ¬ (Has p g.given)) k f s.folders
-    (λ p. elim [
+    (folder_cases (λ j g. (p : ℕ) → Has p g.waiting → IsAt s.requests g p × IsOpen t p × ¬ (Has p g.given)) k f s.folders (λ p. elim [
       | inl e ↦
           let at : IsAt s.requests f r = record { runs = m.runs; asked = m.asked; life = m.life; one = m.one; served = inl refl } in
           let new = still r (λ z. z) (λ z. z) fresh in
-          subst (λ n. IsAt s.requests f n × IsOpen t n × ¬ (Has n f.given)) (sym e)
-          (at, new, λ g. m.once (q.gives k r g).0.served)
+          subst (λ n. IsAt s.requests f n × IsOpen t n × ¬ (Has n f.given)) (sym e) (at, new, λ g. m.once (q.gives k r g).0.served)
       | inr a ↦
-          let was = q.waits k p a in
-          (record { runs = was.0.runs; asked = was.0.asked; life = was.0.life; one = was.0.one; served = inr was.0.served }, still p (λ z. z) (λ z. z) was.1, was.2)
-    ])
-    (λ j n p a. let was = q.waits j p a in (was.0, still p (λ z. z) (λ z. z) was.1, was.2)))
-    (folder_cases (λ j g. (p : ℕ) → Has p g.given → IsAt s.requests g p × IsOpen t p) k f s.folders
-    (λ p a.
+          let was = q.waits k p a in (
+            record { runs = was.0.runs; asked = was.0.asked; life = was.0.life; one = was.0.one; served = inr was.0.served },
+            still p (λ z. z)
+                (λ z. z) was.1,
+            was.2,
+          )
+    ]) (λ j n p a. let was = q.waits j p a in (was.0, still p (λ z. z) (λ z. z) was.1, was.2)))
+    (folder_cases (λ j g. (p : ℕ) → Has p g.given → IsAt s.requests g p × IsOpen t p) k f s.folders (λ p a.
     let was = q.gives k p a in
     (record { runs = was.0.runs; asked = was.0.asked; life = was.0.life; one = was.0.one; served = inr was.0.served }, still p (λ z. z) (λ z. z) was.1))
     (λ j n p a. let was = q.gives j p a in (was.0, still p (λ z. z) (λ z. z) was.1)))
@@ -345,8 +344,8 @@ serves_tells c s k r q m =
     (λ j n. q.lined j))
 
 -- it is given to the site
-gives_tells : (c : Carrier) (s : Shop) (k r : ℕ) → Tells s → May c s (Gives k r) → Tells (after s (Gives k r))
-gives_tells c s k r q m =
+gives_tells : (c : Carrier) {s : Shop} (k r : ℕ) → Tells s → May c s (Gives k r) → Tells (after s (Gives k r))
+gives_tells c {s} k r q m =
     let t = after s (Gives k r) in
     let f : Folder = giving (folder s k) r (request s r).records in
     let l : IsAlmost s t none none = record {
@@ -357,46 +356,37 @@ gives_tells c s k r q m =
       made_once = λ h g p i n j m z a b. absurd z;
       refused_was = λ p z. absurd z;
     } in
-    let still = open_almost s t none none l in
+    let still = open_almost none none l in
     let waited = q.waits k r m.1 in
     going_tells s t q (going_put s t k f refl refl (λ p a. a) refl refl) none none l
-    (folder_cases (λ j g. (p : ℕ) → Has p g.waiting → IsAt s.requests g p × IsOpen t p × ¬ (Has p g.given)) k f s.folders
-    (λ p a.
+    (folder_cases (λ j g. (p : ℕ) → Has p g.waiting → IsAt s.requests g p × IsOpen t p × ¬ (Has p g.given)) k f s.folders (λ p a.
     let left = has_without r p (folder s k).waiting a in
     let was = q.waits k p left.0 in (
       record { runs = was.0.runs; asked = was.0.asked; life = was.0.life; one = was.0.one; served = was.0.served },
       still p (λ z. z) (λ z. z) was.1,
       λ b. ⊎_elim was.2 left.1 (push_cases p r (folder s k).given b),
-    ))
-    (λ j n p a. let was = q.waits j p a in (was.0, still p (λ z. z) (λ z. z) was.1, was.2)))
-    (folder_cases (λ j g. (p : ℕ) → Has p g.given → IsAt s.requests g p × IsOpen t p) k f s.folders
-    (λ p a. ⊎_elim
-    (λ old.
+    )) (λ j n p a. let was = q.waits j p a in (was.0, still p (λ z. z) (λ z. z) was.1, was.2)))
+    (folder_cases (λ j g. (p : ℕ) → Has p g.given → IsAt s.requests g p × IsOpen t p) k f s.folders (λ p a. ⊎_elim (λ old.
     let was = q.gives k p old in
-    (record { runs = was.0.runs; asked = was.0.asked; life = was.0.life; one = was.0.one; served = was.0.served }, still p (λ z. z) (λ z. z) was.1))
-    (λ e.
+    (record { runs = was.0.runs; asked = was.0.asked; life = was.0.life; one = was.0.one; served = was.0.served }, still p (λ z. z) (λ z. z) was.1)) (λ e.
     let at : IsAt s.requests f r =
     record { runs = waited.0.runs; asked = waited.0.asked; life = waited.0.life; one = waited.0.one; served = waited.0.served } in
     let new = still r (λ z. z) (λ z. z) waited.1 in
-    subst (λ n. IsAt s.requests f n × IsOpen t n) (sym e) (at, new))
-    (push_cases p r (folder s k).given a))
-    (λ j n p a. let was = q.gives j p a in (was.0, still p (λ z. z) (λ z. z) was.1)))
-    (folder_cases (λ j g. IsLined g) k f s.folders
-    (record {
+    subst (λ n. IsAt s.requests f n × IsOpen t n) (sym e) (at, new)) (push_cases p r (folder s k).given a))
+    (λ j n p a. let was = q.gives j p a in (was.0, still p (λ z. z) (λ z. z) was.1))) (folder_cases (λ j g. IsLined g) k f s.folders (record {
       lines = ap (λ n. (folder s k).lines ++ times n r) waited.0.one ∙ ap (λ xs. xs ++ r ∷ []) (q.lined k).lines;
       apart = apart_more r (folder s k).given (q.lined k).apart waited.2;
       answers = (q.lined k).answers;
-    })
-    (λ j n. q.lined j))
+    }) (λ j n. q.lined j))
 
 -- the site accepts it
-accepts_tells : (c : Carrier) (s : Shop) (k r : ℕ) → Tells s → May c s (Accepts k r) → Tells (after s (Accepts k r))
-accepts_tells c s k r q m =
+accepts_tells : (c : Carrier) {s : Shop} (k r : ℕ) → Tells s → May c s (Accepts k r) → Tells (after s (Accepts k r))
+accepts_tells c {s} k r q m =
     let t = after s (Accepts k r) in
     let y = next_message (folder s k) r in
     let f : Folder = accepting (folder s k) r in
     let line : IsFirst r (folder s k).given = (m.1.0, sym (q.lined k).lines ∙ m.1.1) in
-    let it = first_in r (folder s k).given line in
+    let it = first_in (folder s k).given line in
     let given = q.gives k r it.1 in
     let Made : ℕ → Type 0 = λ p. p ≡ r in
     let from : (h : Place) (i n p : ℕ) → Has (Message i n p) (there t h) → IsSomewhere s (Message i n p) ⊎ (Message i n p ≡ y) =
@@ -405,47 +395,40 @@ accepts_tells c s k r q m =
       from = λ h i n p a. ⊎_elim (λ old. inl old) (λ e. inr (cc e)) (from h i n p a);
       no = λ p a. inl a;
       ok = λ p i n a. a;
-      made_was = λ p e. subst (λ n. IsTaken s n × IsOpen s n) (sym e) (at_taken s q k r given.0, given.1);
-      made_once = λ h g p i n j d e a b. ⊎_elim
-          (λ old. absurd (given.1.unmade old.0 i n (subst (λ v. Has (Message i n v) (there s old.0)) e old.1)))
-          (λ new. ⊎_elim
-          (λ old. absurd (given.1.unmade old.0 j d (subst (λ v. Has (Message j d v) (there s old.0)) e old.1)))
-          (λ other. (cc (new, other), cc (new, other))) (from g j d p b))
-          (from h i n p a);
+      made_was = λ p e. subst (λ n. IsTaken s n × IsOpen s n) (sym e) (at_taken q k r given.0, given.1);
+      made_once = λ h g p i n j d e a b. ⊎_elim (λ old. absurd (given.1.unmade old.0 i n (subst (λ v. Has (Message i n v) (there s old.0)) e old.1)))
+          (λ new. ⊎_elim (λ old. absurd (given.1.unmade old.0 j d (subst (λ v. Has (Message j d v) (there s old.0)) e old.1)))
+          (λ other. (cc (new, other), cc (new, other))) (from g j d p b)) (from h i n p a);
       refused_was = λ p z. absurd z;
     } in
-    let still = open_almost s t Made none l in
+    let still = open_almost Made none l in
     let elsewhere : (j p : ℕ) → j ≢ k → IsAt s.requests (folder s j) p → p ≢ r =
-    λ j p n at e. n (one_place s q j k r (subst (IsAt s.requests (folder s j)) e at) given.0) in
+    λ j p n at e. n (one_place q j k r (subst (IsAt s.requests (folder s j)) e at) given.0) in
     going_tells s t q (going_put s t k f refl refl (λ p a. a) refl refl) Made none l
-    (folder_cases (λ j g. (p : ℕ) → Has p g.waiting → IsAt s.requests g p × IsOpen t p × ¬ (Has p g.given)) k f s.folders
-    (λ p a.
+    (folder_cases (λ j g. (p : ℕ) → Has p g.waiting → IsAt s.requests g p × IsOpen t p × ¬ (Has p g.given)) k f s.folders (λ p a.
     let was = q.waits k p a in
     let not_it : p ≢ r = λ e. was.2 (subst (λ n. Has n (folder s k).given) (sym e) it.1) in (
       record { runs = was.0.runs; asked = was.0.asked; life = was.0.life; one = was.0.one; served = was.0.served },
       still p not_it (λ z. z) was.1,
       λ b. was.2 (has_others p (folder s k).given (q.lined k).apart b).0,
-    ))
-    (λ j n p a. let was = q.waits j p a in (was.0, still p (elsewhere j p n was.0) (λ z. z) was.1, was.2)))
-    (folder_cases (λ j g. (p : ℕ) → Has p g.given → IsAt s.requests g p × IsOpen t p) k f s.folders
-    (λ p a.
+    )) (λ j n p a. let was = q.waits j p a in (was.0, still p (elsewhere j p n was.0) (λ z. z) was.1, was.2)))
+    (folder_cases (λ j g. (p : ℕ) → Has p g.given → IsAt s.requests g p × IsOpen t p) k f s.folders (λ p a.
     let left = has_others p (folder s k).given (q.lined k).apart a in
-    let was = q.gives k p left.0 in
-    (record { runs = was.0.runs; asked = was.0.asked; life = was.0.life; one = was.0.one; served = was.0.served }, still p (λ e. left.1 (e ∙ sym it.0)) (λ z. z) was.1))
-    (λ j n p a. let was = q.gives j p a in (was.0, still p (elsewhere j p n was.0) (λ z. z) was.1)))
-    (folder_cases (λ j g. IsLined g) k f s.folders
-    (record {
+    let was = q.gives k p left.0 in (
+      record { runs = was.0.runs; asked = was.0.asked; life = was.0.life; one = was.0.one; served = was.0.served },
+      still p (λ e. left.1 (e ∙ sym it.0))
+          (λ z. z) was.1,
+    ))
+    (λ j n p a. let was = q.gives j p a in (was.0, still p (elsewhere j p n was.0) (λ z. z) was.1))) (folder_cases (λ j g. IsLined g) k f s.folders (record {
       lines = ap others (q.lined k).lines;
       apart = apart_others (folder s k).given (q.lined k).apart;
-      answers = λ p n h. ⊎_elim
-          (λ e.
+      answers = λ p n h. ⊎_elim (λ e.
           let who : p ≡ first (folder s k).given = ap (λ (x : Answer). x.ask) e in
           let number : n ≡ highest (folder s k).site (folder s k).kept + 1 = ap (λ (x : Answer). x.number) e in
           let is : Message (folder s k).site n p ≡ y = cc (who ∙ it.0, number) in
           subst (λ x. Has x ((folder s k).kept ++ y ∷ [])) (sym is) (has_last y (folder s k).kept))
           (λ old. has_left (Message (folder s k).site n p) (folder s k).kept (y ∷ []) ((q.lined k).answers p n old)) h;
-    })
-    (λ j n. q.lined j))
+    }) (λ j n. q.lined j))
 
 -- the asker is told no
 no_from : (s : Shop) (r p : ℕ) → Has (No p) (No r ∷ s.told) → Has (No p) s.told ⊎ (p ≡ r)
@@ -457,12 +440,12 @@ ok_from s r p i n (inl e) = absurd (cc e)
 ok_from s r p i n (inr a) = a
 
 -- the site refused it
-refuses_tells : (c : Carrier) (s : Shop) (k r : ℕ) → Tells s → May c s (Refuses k r) → Tells (after s (Refuses k r))
-refuses_tells c s k p0 q m =
+refuses_tells : (c : Carrier) {s : Shop} (k r : ℕ) → Tells s → May c s (Refuses k r) → Tells (after s (Refuses k r))
+refuses_tells c {s} k p0 q m =
     let t = after s (Refuses k p0) in
     let f : Folder = answering (folder s k) in
     let r = first (folder s k).given in
-    let it = first_in p0 (folder s k).given (m.0, sym (q.lined k).lines ∙ m.1) in
+    let it = first_in (folder s k).given (m.0, sym (q.lined k).lines ∙ m.1) in
     let here : Has r (folder s k).given = subst (λ n. Has n (folder s k).given) (sym it.0) it.1 in
     let given = q.gives k r here in
     let Refused : ℕ → Type 0 = λ p. p ≡ r in
@@ -472,34 +455,30 @@ refuses_tells c s k p0 q m =
       ok = ok_from s r;
       made_was = λ p z. absurd z;
       made_once = λ h g p i n j d z a b. absurd z;
-      refused_was = λ p e. subst (λ n. IsTaken s n × IsOpen s n × ¬ (none n)) (sym e) (at_taken s q k r given.0, given.1, λ z. z);
+      refused_was = λ p e. subst (λ n. IsTaken s n × IsOpen s n × ¬ (none n)) (sym e) (at_taken q k r given.0, given.1, λ z. z);
     } in
-    let still = open_almost s t none Refused l in
+    let still = open_almost none Refused l in
     let elsewhere : (j p : ℕ) → j ≢ k → IsAt s.requests (folder s j) p → p ≢ r =
-    λ j p n at e. n (one_place s q j k r (subst (IsAt s.requests (folder s j)) e at) given.0) in
+    λ j p n at e. n (one_place q j k r (subst (IsAt s.requests (folder s j)) e at) given.0) in
     going_tells s t q (going_put s t k f refl refl (λ p a. a) refl refl) none Refused l
-    (folder_cases (λ j g. (p : ℕ) → Has p g.waiting → IsAt s.requests g p × IsOpen t p × ¬ (Has p g.given)) k f s.folders
-    (λ p a.
+    (folder_cases (λ j g. (p : ℕ) → Has p g.waiting → IsAt s.requests g p × IsOpen t p × ¬ (Has p g.given)) k f s.folders (λ p a.
     let was = q.waits k p a in
     let not_it : p ≢ r = λ e. was.2 (subst (λ n. Has n (folder s k).given) (sym e) here) in (
       record { runs = was.0.runs; asked = was.0.asked; life = was.0.life; one = was.0.one; served = was.0.served },
       still p (λ z. z) not_it was.1,
       λ b. was.2 (has_others p (folder s k).given (q.lined k).apart b).0,
-    ))
-    (λ j n p a. let was = q.waits j p a in (was.0, still p (λ z. z) (elsewhere j p n was.0) was.1, was.2)))
-    (folder_cases (λ j g. (p : ℕ) → Has p g.given → IsAt s.requests g p × IsOpen t p) k f s.folders
-    (λ p a.
+    )) (λ j n p a. let was = q.waits j p a in (was.0, still p (λ z. z) (elsewhere j p n was.0) was.1, was.2)))
+    (folder_cases (λ j g. (p : ℕ) → Has p g.given → IsAt s.requests g p × IsOpen t p) k f s.folders (λ p a.
     let left = has_others p (folder s k).given (q.lined k).apart a in
     let was = q.gives k p left.0 in
     (record { runs = was.0.runs; asked = was.0.asked; life = was.0.life; one = was.0.one; served = was.0.served }, still p (λ z. z) left.1 was.1))
-    (λ j n p a. let was = q.gives j p a in (was.0, still p (λ z. z) (elsewhere j p n was.0) was.1)))
-    (folder_cases (λ j g. IsLined g) k f s.folders
+    (λ j n p a. let was = q.gives j p a in (was.0, still p (λ z. z) (elsewhere j p n was.0) was.1))) (folder_cases (λ j g. IsLined g) k f s.folders
     (record { lines = ap others (q.lined k).lines; apart = apart_others (folder s k).given (q.lined k).apart; answers = (q.lined k).answers })
     (λ j n. q.lined j))
 
 -- it is taken back before it was given
-withdraws_tells : (c : Carrier) (s : Shop) (k r : ℕ) → Tells s → May c s (TellsNothing k r) → Tells (after s (TellsNothing k r))
-withdraws_tells c s k r q m =
+withdraws_tells : (c : Carrier) {s : Shop} (k r : ℕ) → Tells s → May c s (TellsNothing k r) → Tells (after s (TellsNothing k r))
+withdraws_tells c {s} k r q m =
     let t = after s (TellsNothing k r) in
     let f : Folder = record (folder s k) { waiting = without r (folder s k).waiting } in
     let waited = q.waits k r m in
@@ -510,31 +489,28 @@ withdraws_tells c s k r q m =
       ok = ok_from s r;
       made_was = λ p z. absurd z;
       made_once = λ h g p i n j d z a b. absurd z;
-      refused_was = λ p e. subst (λ n. IsTaken s n × IsOpen s n × ¬ (none n)) (sym e) (at_taken s q k r waited.0, waited.1, λ z. z);
+      refused_was = λ p e. subst (λ n. IsTaken s n × IsOpen s n × ¬ (none n)) (sym e) (at_taken q k r waited.0, waited.1, λ z. z);
     } in
-    let still = open_almost s t none Refused l in
+    let still = open_almost none Refused l in
     let elsewhere : (j p : ℕ) → j ≢ k → IsAt s.requests (folder s j) p → p ≢ r =
-    λ j p n at e. n (one_place s q j k r (subst (IsAt s.requests (folder s j)) e at) waited.0) in
+    λ j p n at e. n (one_place q j k r (subst (IsAt s.requests (folder s j)) e at) waited.0) in
     going_tells s t q (going_put s t k f refl refl (λ p a. a) refl refl) none Refused l
-    (folder_cases (λ j g. (p : ℕ) → Has p g.waiting → IsAt s.requests g p × IsOpen t p × ¬ (Has p g.given)) k f s.folders
-    (λ p a.
+    (folder_cases (λ j g. (p : ℕ) → Has p g.waiting → IsAt s.requests g p × IsOpen t p × ¬ (Has p g.given)) k f s.folders (λ p a.
     let left = has_without r p (folder s k).waiting a in
     let was = q.waits k p left.0 in
     (record { runs = was.0.runs; asked = was.0.asked; life = was.0.life; one = was.0.one; served = was.0.served }, still p (λ z. z) left.1 was.1, was.2))
     (λ j n p a. let was = q.waits j p a in (was.0, still p (λ z. z) (elsewhere j p n was.0) was.1, was.2)))
-    (folder_cases (λ j g. (p : ℕ) → Has p g.given → IsAt s.requests g p × IsOpen t p) k f s.folders
-    (λ p a.
+    (folder_cases (λ j g. (p : ℕ) → Has p g.given → IsAt s.requests g p × IsOpen t p) k f s.folders (λ p a.
     let was = q.gives k p a in
     let not_it : p ≢ r = λ e. waited.2 (subst (λ n. Has n (folder s k).given) e a) in
     (record { runs = was.0.runs; asked = was.0.asked; life = was.0.life; one = was.0.one; served = was.0.served }, still p (λ z. z) not_it was.1))
-    (λ j n p a. let was = q.gives j p a in (was.0, still p (λ z. z) (elsewhere j p n was.0) was.1)))
-    (folder_cases (λ j g. IsLined g) k f s.folders
+    (λ j n p a. let was = q.gives j p a in (was.0, still p (λ z. z) (elsewhere j p n was.0) was.1))) (folder_cases (λ j g. IsLined g) k f s.folders
     (record { lines = (q.lined k).lines; apart = (q.lined k).apart; answers = (q.lined k).answers }) (λ j n. q.lined j))
 
 -- ---- a folder is started, and an asker asks
 
-starts_tells : (c : Carrier) (s : Shop) (k : ℕ) → Tells s → May c s (Starts k) → Tells (after s (Starts k))
-starts_tells c s k q m =
+starts_tells : (c : Carrier) {s : Shop} (k : ℕ) → Tells s → May c s (Starts k) → Tells (after s (Starts k))
+starts_tells c {s} k q m =
     let t = after s (Starts k) in
     let f : Folder = started (folder s k) (s.begun + 1) in
     let from = nothing_new c s (Starts k) m (λ i n p e. e) in
@@ -573,8 +549,8 @@ starts_tells c s k q m =
       lined = folder_cases (λ j g. IsLined g) k f s.folders (lined_idle f refl refl refl) (λ j n. q.lined j);
     }
 
-asked_tells : (c : Carrier) (s : Shop) (r life d : ℕ) → Tells s → May c s (IsAsked r life d) → Tells (after s (IsAsked r life d))
-asked_tells c s r life d q m =
+asked_tells : (c : Carrier) {s : Shop} (r life d : ℕ) → Tells s → May c s (IsAsked r life d) → Tells (after s (IsAsked r life d))
+asked_tells c {s} r life d q m =
     let t = after s (IsAsked r life d) in
     let from = nothing_new c s (IsAsked r life d) m (λ i n p e. e) in
     let new : ShopRequest = record { life = life; records = d } in
@@ -618,8 +594,8 @@ no_message : (s : Shop) (k to i n r : ℕ) → IsNew s (Passes k to) (Message i 
 no_message s k to i n r e = cc e
 
 -- a folder opens, whether it may or not
-opens_tells : (s : Shop) (k : ℕ) (uncompared : List ℕ) → Tells s → Tells (record (opening k s) { uncompared = uncompared })
-opens_tells s k uncompared q = quiet_tells s _ q (record {
+opens_tells : {s : Shop} (k : ℕ) (uncompared : List ℕ) → Tells s → Tells (record (opening k s) { uncompared = uncompared })
+opens_tells {s} k uncompared q = quiet_tells s _ q (record {
   from = from;
   memory = opened_cases (λ j g. IsSame (folder s j) g ⊎ IsIdle g) s k (inl (same (folder s k) _ refl refl refl refl refl refl refl (λ x h. h)))
       (λ j n. inl (same (folder s j) _ refl refl refl refl refl refl refl (λ x h. h)));
@@ -633,23 +609,22 @@ opens_tells s k uncompared q = quiet_tells s _ q (record {
     from (InFolder j) i n r a = opened_from s k (Message i n r) j a
     from (InStream j) i n r a = (InStream j, a)
 
-pub tells_step : (c : Carrier) (s : Shop) (e : Event) → May c s e → Tells s → Tells (after s e)
-tells_step c s (Starts k) m q = starts_tells c s k q m
-tells_step c s (Opens k) m q = opens_tells s k s.uncompared q
-tells_step c s (TakesOver k) m q = opens_tells s k _ q
-tells_step c s (OpensAlone k) m q = opens_tells s k _ q
-tells_step c s (Closes k) m q = quiet_put c s (Closes k) k _ q m (λ i n p e. e) refl
+pub tells_step : (c : Carrier) {s : Shop} (e : Event) → May c s e → Tells s → Tells (after s e)
+tells_step c (Starts k) m q = starts_tells c k q m
+tells_step c {s} (Opens k) m q = opens_tells k s.uncompared q
+tells_step c (TakesOver k) m q = opens_tells k _ q
+tells_step c (OpensAlone k) m q = opens_tells k _ q
+tells_step c {s} (Closes k) m q = quiet_put c (Closes k) k q m (λ i n p e. e) refl
     (inl (same (folder s k) _ refl refl refl refl refl refl refl (λ x h. h))) refl refl refl
-tells_step c s (KeeperStarts k) m q = q
-tells_step c s (IsKilled k) m q = quiet_put c s (IsKilled k) k _ q m (λ i n p e. e) refl (inr (idle _ refl refl refl refl refl)) refl refl refl
-tells_step c s (MachineStarts k) m q = quiet_put c s (MachineStarts k) k _ q m (λ i n p e. e) refl (inr (idle _ refl refl refl refl refl)) refl refl refl
-tells_step c s (IsAsked r life d) m q = asked_tells c s r life d q m
-tells_step c s (Serves k r) m q = serves_tells c s k r q m
-tells_step c s (Gives k r) m q = gives_tells c s k r q m
-tells_step c s (Accepts k r) m q = accepts_tells c s k r q m
-tells_step c s (Refuses k r) m q = refuses_tells c s k r q m
-tells_step c s (TellsOk k r n) m q = quiet_streams c s (TellsOk k r n) q m (λ i d p e. e) refl refl refl
-    (λ p a. ⊎_elim (λ e. absurd (cc e)) (λ b. b) a)
+tells_step c (KeeperStarts k) m q = q
+tells_step c (IsKilled k) m q = quiet_put c (IsKilled k) k q m (λ i n p e. e) refl (inr (idle _ refl refl refl refl refl)) refl refl refl
+tells_step c (MachineStarts k) m q = quiet_put c (MachineStarts k) k q m (λ i n p e. e) refl (inr (idle _ refl refl refl refl refl)) refl refl refl
+tells_step c (IsAsked r life d) m q = asked_tells c r life d q m
+tells_step c (Serves k r) m q = serves_tells c q m
+tells_step c (Gives k r) m q = gives_tells c k r q m
+tells_step c (Accepts k r) m q = accepts_tells c k r q m
+tells_step c (Refuses k r) m q = refuses_tells c k r q m
+tells_step c {s} (TellsOk k r n) m q = quiet_streams c (TellsOk k r n) q m (λ i d p e. e) refl refl refl (λ p a. ⊎_elim (λ e. absurd (cc e)) (λ b. b) a)
     (λ p i d a. ⊎_elim (λ e. inr (InFolder k, subst (λ x. Has x (folder s k).kept) (said p i d e) ((q.lined k).answers r n m.0))) (λ b. inl b) a)
   where
     said : (p i d : ℕ) → Ok p i d ≡ Ok r (folder s k).site n → Message (folder s k).site n r ≡ Message i d p
@@ -658,7 +633,7 @@ tells_step c s (TellsOk k r n) m q = quiet_streams c s (TellsOk k r n) q m (λ i
         let b : i ≡ (folder s k).site = cc e in
         let d' : d ≡ n = cc e in
         cc (a, b, d')
-tells_step c s (TellsPublished k r n) m q = quiet_streams c s (TellsPublished k r n) q m (λ i d p e. e) refl refl refl
+tells_step c {s} (TellsPublished k r n) m q = quiet_streams c (TellsPublished k r n) q m (λ i d p e. e) refl refl refl
     (λ p a. ⊎_elim (λ e. absurd (cc e)) (λ b. b) a)
     (λ p i d a. ⊎_elim (λ e. inr (InFolder k, subst (λ x. Has x (folder s k).kept) (said p i d e) ((q.lined k).answers r n m.1))) (λ b. inl b) a)
   where
@@ -668,23 +643,24 @@ tells_step c s (TellsPublished k r n) m q = quiet_streams c s (TellsPublished k 
         let b : i ≡ (folder s k).site = cc e in
         let d' : d ≡ n = cc e in
         cc (a, b, d')
-tells_step c s (TellsNothing k r) m q = withdraws_tells c s k r q m
-tells_step c s (TellsUnknown k r) m q = quiet_streams c s (TellsUnknown k r) q m (λ i d p e. e) refl refl refl
+tells_step c (TellsNothing k r) m q = withdraws_tells c k r q m
+tells_step c (TellsUnknown k r) m q = quiet_streams c (TellsUnknown k r) q m (λ i d p e. e) refl refl refl
     (λ p a. ⊎_elim (λ e. absurd (cc e)) (λ b. b) a) (λ p i d a. ⊎_elim (λ e. absurd (cc e)) (λ b. inl b) a)
-tells_step c s (Yields i) m q = quiet_streams c s (Yields i) q m (λ i d p e. e) refl refl refl (λ p a. a) (λ p i d a. inl a)
-tells_step c s (TakesBack i) m q = quiet_streams c s (TakesBack i) q m (λ i d p e. e) refl refl refl (λ p a. a) (λ p i d a. inl a)
-tells_step c s (Passes k to) m q = quiet_put c s (Passes k to) k _ q m (no_message s k to) refl (inl (same (folder s k) _ refl refl refl refl refl refl refl (λ x h. has_left x (folder s k).kept _ h))) refl refl refl
-tells_step c s (Appends k x) m q = quiet_streams c s (Appends k x) q m (λ i d p e. e) refl refl refl (λ p a. a) (λ p i d a. inl a)
-tells_step c s (Reads k x) m q = quiet_put c s (Reads k x) k _ q m (λ i n p e. e) refl
+tells_step c (Yields i) m q = quiet_streams c (Yields i) q m (λ i d p e. e) refl refl refl (λ p a. a) (λ p i d a. inl a)
+tells_step c (TakesBack i) m q = quiet_streams c (TakesBack i) q m (λ i d p e. e) refl refl refl (λ p a. a) (λ p i d a. inl a)
+tells_step c {s} (Passes k to) m q = quiet_put c (Passes k to) k q m (no_message s k to) refl
+    (inl (same (folder s k) _ refl refl refl refl refl refl refl (λ x h. has_left x (folder s k).kept _ h))) refl refl refl
+tells_step c (Appends k x) m q = quiet_streams c (Appends k x) q m (λ i d p e. e) refl refl refl (λ p a. a) (λ p i d a. inl a)
+tells_step c {s} (Reads k x) m q = quiet_put c (Reads k x) k q m (λ i n p e. e) refl
     (inl (same (folder s k) _ refl refl refl refl refl refl refl (λ z h. has_left z (folder s k).kept _ h))) refl refl refl
-tells_step c s (LosesEnd k n) m q = quiet_put c s (LosesEnd k n) k _ q m (λ i d p e. e) refl (inr (idle _ refl refl refl refl refl)) refl refl refl
-tells_step c s (IsChanged k ps) m q = quiet_put c s (IsChanged k ps) k _ q m (λ i d p e. e) refl (inr (idle _ refl refl refl refl refl)) refl refl refl
-tells_step c s (IsLost k) m q = quiet_put c s (IsLost k) k _ q m (λ i d p e. e) refl (inr (idle _ refl refl refl refl refl)) refl refl refl
-tells_step c s (IsCopied k j) m q = quiet_put c s (IsCopied k j) j _ q m (λ i d p e. e) refl (inr (idle _ refl refl refl refl refl)) refl refl refl
-tells_step c s (StreamLosesEnd i n) m q = quiet_streams c s (StreamLosesEnd i n) q m (λ i d p e. e) refl refl refl (λ p a. a) (λ p i d a. inl a)
-tells_step c s ServerLosesAll m q = quiet_streams c s ServerLosesAll q m (λ i d p e. e) refl refl refl (λ p a. a) (λ p i d a. inl a)
-tells_step c s (Rebuilds k ps) m q = quiet_put c s (Rebuilds k ps) k _ q m (λ i d p e. e) refl (inr (idle _ refl refl refl refl refl)) refl refl refl
-tells_step c s (WritesAnew k) m q = quiet_streams c s (WritesAnew k) q m (λ i d p e. e) refl refl refl (λ p a. a) (λ p i d a. inl a)
+tells_step c (LosesEnd k n) m q = quiet_put c (LosesEnd k n) k q m (λ i d p e. e) refl (inr (idle _ refl refl refl refl refl)) refl refl refl
+tells_step c (IsChanged k ps) m q = quiet_put c (IsChanged k ps) k q m (λ i d p e. e) refl (inr (idle _ refl refl refl refl refl)) refl refl refl
+tells_step c (IsLost k) m q = quiet_put c (IsLost k) k q m (λ i d p e. e) refl (inr (idle _ refl refl refl refl refl)) refl refl refl
+tells_step c (IsCopied k j) m q = quiet_put c (IsCopied k j) j q m (λ i d p e. e) refl (inr (idle _ refl refl refl refl refl)) refl refl refl
+tells_step c (StreamLosesEnd i n) m q = quiet_streams c (StreamLosesEnd i n) q m (λ i d p e. e) refl refl refl (λ p a. a) (λ p i d a. inl a)
+tells_step c ServerLosesAll m q = quiet_streams c ServerLosesAll q m (λ i d p e. e) refl refl refl (λ p a. a) (λ p i d a. inl a)
+tells_step c (Rebuilds k ps) m q = quiet_put c (Rebuilds k ps) k q m (λ i d p e. e) refl (inr (idle _ refl refl refl refl refl)) refl refl refl
+tells_step c (WritesAnew k) m q = quiet_streams c (WritesAnew k) q m (λ i d p e. e) refl refl refl (λ p a. a) (λ p i d a. inl a)
 
 -- ---- the laws
 
@@ -708,7 +684,7 @@ tells_start = record {
 
 pub tells_after : (c : Carrier) (s : Shop) (events : List Event) → AreSteps c s events → Tells s → Tells (run s events)
 tells_after c s [] m q = q
-tells_after c s (e ∷ rest) m q = tells_after c (after s e) rest m.1 (tells_step c s e m.0 q)
+tells_after c s (e ∷ rest) m q = tells_after c (after s e) rest m.1 (tells_step c e m.0 q)
 
 pub tells_run : (c : Carrier) (events : List Event) → AreSteps c start events → Tells (run start events)
 tells_run c events m = tells_after c start events m tells_start

@@ -30,8 +30,8 @@ passed_known i turn (Pass j t l a ∷ rest) k =
     greater (eqb j i) t (passed i rest) turn (k (Pass j t l a) (inl refl)).1 (passed_known i turn rest (λ x h. k x (inr h)))
 
 -- the site to which the last pass went holds the token, once it has taken that turn
-holds_last : (s : Shop) → Sound s → (k : ℕ) → 1 ≤ s.turn → s.turn ≤ taken (folder s k).site (folder s k).kept → Holds (folder s k).site (folder s k).kept
-holds_last s q k one t =
+holds_last : {s : Shop} → Sound s → (k : ℕ) → 1 ≤ s.turn → s.turn ≤ taken (folder s k).site (folder s k).kept → Holds (folder s k).site (folder s k).kept
+holds_last {s} q k one t =
     let most = passed_known (folder s k).site s.turn (folder s k).kept (λ x h. q.known (InFolder k) x h) in
     (omega (arith, most, t), inr (omega (arith, one, t)))
 
@@ -45,8 +45,8 @@ carried c s (Reads k x) m = (refl, folder_cases (λ j f. f.site ≡ (folder s j)
 carried c s (Opens k) m = absurd m
 carried c s e m = absurd m
 
-all_carried : (c : Carrier) (s : Shop) (events : List Event) → AllCarry events
-    → ((run s events).turn ≡ s.turn) × ((k : ℕ) → (folder (run s events) k).site ≡ (folder s k).site)
+all_carried : (c : Carrier) (s : Shop) (events : List Event) → AllCarry events → ((run s events).turn ≡ s.turn) ×
+    ((k : ℕ) → (folder (run s events) k).site ≡ (folder s k).site)
 all_carried c s [] m = (refl, λ k. refl)
 all_carried c s (e ∷ rest) m =
     let one = carried c s e m.0 in
@@ -69,7 +69,7 @@ comes_back c before later m i t j a h has whole e of k site =
     let all = all_carried c s can.0 can.1 in
     let last : t ≤ taken (folder u k).site (folder u k).kept =
     subst (λ n. t ≤ taken n (folder u k).kept) (sym (all.1 k ∙ site)) (taken_within i t j a (folder u k).kept can.3) in
-    (can.0, can.1, can.2, holds_last u (sound_after c s can.0 can.2 q) k (omega (arith, known.0, e, all.0)) (omega (arith, last, e, all.0)))
+    (can.0, can.1, can.2, holds_last (sound_after c s can.0 can.2 q) k (omega (arith, known.0, e, all.0)) (omega (arith, last, e, all.0)))
 
 pub first_holds : TheFirstSiteHolds
 first_holds c events m none k site =

@@ -169,7 +169,8 @@ answering_again = map (λ b. Told b) (drop 4 told_to_ask)
 
 -- site 1 is given the message, lists its log, and is shortened
 abbrev taking : List Event
-taking = beginning ++ map (λ b. Kept b) sent ++ Flushed ∷ (map (λ b. Told b) told_to_message ++ map (λ b. Shown b) told_to_message) ++ map (λ b. Kept b) listed ++ Flushed ∷ map (λ b. Told b) told_to_listing
+taking = beginning ++ map (λ b. Kept b) sent ++ Flushed ∷ (map (λ b. Told b) told_to_message ++ map (λ b. Shown b) told_to_message) ++ map
+    (λ b. Kept b) listed ++ Flushed ∷ map (λ b. Told b) told_to_listing
 
 -- and is killed while it answers what is left
 abbrev taking_again : List Event
@@ -243,7 +244,14 @@ beginning-safe i =
       (sym (none-told i), refl),
       (
         record { sound = safe.sound; flushed = safe.flushed; told = safe.told; shown = safe.shown },
-        (sym (none-told i), ap length (sym none-read-in), ap (λ records. counts 2 (state_after (site_keeping 2 i KEEP_MAX) (opening_at i) records).log) (sym none-read-in), refl, refl),
+        (
+          sym (none-told i),
+          ap length (sym none-read-in),
+          ap (λ records. counts 2 (state_after (site_keeping 2 i KEEP_MAX) (opening_at i) records).log)
+              (sym none-read-in),
+          refl,
+          refl,
+        ),
         record { sound = safe.sound; flushed = safe.flushed; told = safe.told; shown = ([], refl) },
       ),
     )
@@ -257,8 +265,7 @@ answering-safe =
     let first = safe-keeps says asked once-begun (safe-last says nothing beginning begins) (refl, refl) refl asked-sound in
     let s = after_all once-begun lines in
     let answer = map (λ b. Told b) (take 20 told_to_ask) in
-    safe-append says nothing beginning (lines ++ Flushed ∷ answer) begins
-    (safe-append says once-begun lines (Flushed ∷ answer) first (
+    safe-append says nothing beginning (lines ++ Flushed ∷ answer) begins (safe-append says once-begun lines (Flushed ∷ answer) first (
       safe-last says once-begun lines first,
       tt,
       safe-answers says true answer [] (take 20 told_to_ask) (after s Flushed) refl asked-sound ([], refl) (refl, refl) (drop 20 told_to_ask, sym ask-told),
@@ -291,13 +298,11 @@ taking-safe =
     (safe-append says once-begun lines (Flushed ∷ answer ++ more ++ Flushed ∷ rows) first (
       safe-last says once-begun lines first,
       tt,
-      safe-append says s answer (more ++ Flushed ∷ rows) answered
-          (safe-append says t more (Flushed ∷ rows) second (
-            safe-last says t more second,
-            tt,
-            safe-answers says true rows [] told_to_listing (after (after_all t more) Flushed) refl both-sound ([], refl)
-                (refl, refl) ([], sym both-told),
-          )),
+      safe-append says s answer (more ++ Flushed ∷ rows) answered (safe-append says t more (Flushed ∷ rows) second (
+        safe-last says t more second,
+        tt,
+        safe-answers says true rows [] told_to_listing (after (after_all t more) Flushed) refl both-sound ([], refl) (refl, refl) ([], sym both-told),
+      )),
     ))
 
 taking-again-safe : AreSafe (words_of (site_keeping 2 1 KEEP_MAX)) (shortened_to sent) taking_again
@@ -381,24 +386,19 @@ none-own i (Does (Replays j fields) ∷ a) b h = none-own i a b h.1
 first-elsewhere : (i : ℕ) → eqb 0 i ≡ false → Elsewhere i steps_of_0
 unfolding torn
 first-elsewhere i e =
-    begun-elsewhere i 0 (kept 0 asked once_asked) e
-    (kept-elsewhere i 0 asked once_asked e (
+    begun-elsewhere i 0 (kept 0 asked once_asked) e (kept-elsewhere i 0 asked once_asked e (
       e,
-      told-elsewhere i 0 (take 20 told_to_ask) once_torn e
-          (e, (e, (e, told-elsewhere i 0 (drop 4 told_to_ask) [] e tt))),
+      told-elsewhere i 0 (take 20 told_to_ask) once_torn e (e, (e, (e, told-elsewhere i 0 (drop 4 told_to_ask) [] e tt))),
     ))
 
 second-elsewhere : (i : ℕ) → eqb 1 i ≡ false → Elsewhere i steps_of_1
 second-elsewhere i e =
-    begun-elsewhere i 1 (kept 1 sent once_sent) e
-    (kept-elsewhere i 1 sent once_sent e (
+    begun-elsewhere i 1 (kept 1 sent once_sent) e (kept-elsewhere i 1 sent once_sent e (
       e,
       told-elsewhere i 1 told_to_message (shows 1 told_to_message (kept 1 listed once_listed)) e
-          (shows-elsewhere i 1 told_to_message (kept 1 listed once_listed) e
-          (kept-elsewhere i 1 listed once_listed e (
+          (shows-elsewhere i 1 told_to_message (kept 1 listed once_listed) e (kept-elsewhere i 1 listed once_listed e (
             e,
-            told-elsewhere i 1 told_to_listing once_shortened e
-                (e, (e, (e, told-elsewhere i 1 (take 5 told_to_message) [] e tt))),
+            told-elsewhere i 1 told_to_listing once_shortened e (e, (e, (e, told-elsewhere i 1 (take 5 told_to_message) [] e tt))),
           ))),
     ))
 
@@ -447,8 +447,7 @@ reads-later sites i keep s had n (Shortens j short ∷ a) b h =
 reads-later sites i keep s had n (Raises j more ∷ a) b h = reads-later sites i (cond (eqb j i) more keep) s had n a b h.2
 reads-later sites i keep s had n (Does (Reads j fields) ∷ a) b h =
     reads-later sites i keep s (cond (eqb j i) (had ++ fields ∷ []) had) (cond (eqb j i) (n + 1) n) a b h.2
-reads-later sites i keep s had n (Does (Restarts j) ∷ a) b h =
-    reads-later sites i keep (stand_after i s (Does (Restarts j))) (cond (eqb j i) [] had) n a b h.2
+reads-later sites i keep s had n (Does (Restarts j) ∷ a) b h = reads-later sites i keep (stand_after i s (Does (Restarts j))) (cond (eqb j i) [] had) n a b h.2
 reads-later sites i keep s had n (Does (Replays j fields) ∷ a) b h = reads-later sites i keep s (cond (eqb j i) (had ++ fields ∷ []) had) n a b h.2
 
 -- where nothing happens at the site, it has read what it had
@@ -479,8 +478,7 @@ reads-elsewhere sites i keep s had n (Raises j more ∷ a) b e h = (
 reads-elsewhere sites i keep s had n (Does (Reads j fields) ∷ a) b e h = (
   reads-here sites i keep s had n b h,
   subst (λ c. MatchBool c (length had ≡ n) ⊤) (sym e.0) tt,
-  subst (λ c. ReadsOn sites i keep s (cond c (had ++ fields ∷ []) had) (cond c (n + 1) n) (a ++ b)) (sym e.0)
-      (reads-elsewhere sites i keep s had n a b e.1 h),
+  subst (λ c. ReadsOn sites i keep s (cond c (had ++ fields ∷ []) had) (cond c (n + 1) n) (a ++ b)) (sym e.0) (reads-elsewhere sites i keep s had n a b e.1 h),
 )
 reads-elsewhere sites i keep s had n (Does (Restarts j) ∷ a) b e h = (
   reads-here sites i keep s had n b h,
@@ -495,8 +493,8 @@ reads-elsewhere sites i keep s had n (Does (Replays j fields) ∷ a) b e h = (
 
 -- bytes that are kept or told leave what was flushed
 reads-kept : (sites i keep : ℕ) (lines : List ℕ) (s : FileState) (had : Records) (n : ℕ) (later : List Step) → eqb i i ≡ true
-    → IsPrefix had (taken_in (site_keeping sites i keep) s.flushed)
-    → ReadsOn sites i keep (after_all s (map (λ b. Kept b) lines)) had n later → ReadsOn sites i keep s had n (happening i (map (λ b. Kept b) lines) later)
+    → IsPrefix had (taken_in (site_keeping sites i keep) s.flushed) → ReadsOn sites i keep (after_all s (map (λ b. Kept b) lines)) had n later
+    → ReadsOn sites i keep s had n (happening i (map (λ b. Kept b) lines) later)
 reads-kept sites i keep [] s had n later is p h = h
 reads-kept sites i keep (b ∷ lines) s had n later is p h = (
   p,
@@ -506,8 +504,8 @@ reads-kept sites i keep (b ∷ lines) s had n later is p h = (
 )
 
 reads-begun : (sites i keep : ℕ) (s : FileState) (had : Records) (n : ℕ) (later : List Step) → eqb i i ≡ true
-    → IsPrefix had (taken_in (site_keeping sites i keep) s.flushed)
-    → ReadsOn sites i keep (after_all s beginning) had n later → ReadsOn sites i keep s had n (begun i later)
+    → IsPrefix had (taken_in (site_keeping sites i keep) s.flushed) → ReadsOn sites i keep (after_all s beginning) had n later
+    → ReadsOn sites i keep s had n (begun i later)
 reads-begun sites i keep s had n later is p h = (
   p,
   tt,
@@ -519,8 +517,8 @@ reads-begun sites i keep s had n later is p h = (
 )
 
 reads-told : (sites i keep : ℕ) (text : List ℕ) (s : FileState) (had : Records) (n : ℕ) (later : List Step) → eqb i i ≡ true
-    → IsPrefix had (taken_in (site_keeping sites i keep) s.flushed)
-    → ReadsOn sites i keep (after_all s (map (λ b. Told b) text)) had n later → ReadsOn sites i keep s had n (happening i (map (λ b. Told b) text) later)
+    → IsPrefix had (taken_in (site_keeping sites i keep) s.flushed) → ReadsOn sites i keep (after_all s (map (λ b. Told b) text)) had n later
+    → ReadsOn sites i keep s had n (happening i (map (λ b. Told b) text) later)
 reads-told sites i keep [] s had n later is p h = h
 reads-told sites i keep (b ∷ text) s had n later is p h = (
   p,
@@ -530,8 +528,8 @@ reads-told sites i keep (b ∷ text) s had n later is p h = (
 )
 
 reads-shown : (sites i keep : ℕ) (text : List ℕ) (s : FileState) (had : Records) (n : ℕ) (later : List Step) → eqb i i ≡ true
-    → IsPrefix had (taken_in (site_keeping sites i keep) s.flushed)
-    → ReadsOn sites i keep (after_all s (map (λ b. Shown b) text)) had n later → ReadsOn sites i keep s had n (happening i (map (λ b. Shown b) text) later)
+    → IsPrefix had (taken_in (site_keeping sites i keep) s.flushed) → ReadsOn sites i keep (after_all s (map (λ b. Shown b) text)) had n later
+    → ReadsOn sites i keep s had n (happening i (map (λ b. Shown b) text) later)
 reads-shown sites i keep [] s had n later is p h = h
 reads-shown sites i keep (b ∷ text) s had n later is p h = (
   p,
@@ -608,8 +606,15 @@ reads-1 =
     let t = begun_with (record { log = sent ++ listed; out = told_to_message }) told_to_message in
     let size = length (taken_in (site_keeping 2 1 KEEP_MAX) sent) in
     let last = reads-told 2 1 KEEP_MAX (take 5 told_to_message) (shortened_to sent) (ann_is_sent ∷ []) size [] refl message-read message-read in
-    let shorter : ReadsOn 2 1 KEEP_MAX (after_all t (map (λ b. Told b) told_to_listing)) (ann_is_sent ∷ listing ∷ []) 2 once_shortened =
-    (both-read-too, tt, (none-read 2 1 t, ap length (sym both-taken), (none-read 2 1 (shortened_to sent), subst (λ l. 0 < length l) (sym message-taken) (omega arith), last))) in
+    let shorter : ReadsOn 2 1 KEEP_MAX (after_all t (map (λ b. Told b) told_to_listing)) (ann_is_sent ∷ listing ∷ []) 2 once_shortened = (
+      both-read-too,
+      tt,
+      (
+        none-read 2 1 t,
+        ap length (sym both-taken),
+        (none-read 2 1 (shortened_to sent), subst (λ l. 0 < length l) (sym message-taken) (omega arith), last),
+      ),
+    ) in
     let rows = reads-told 2 1 KEEP_MAX told_to_listing t (ann_is_sent ∷ listing ∷ []) 2 once_shortened refl both-read-too shorter in
     let more = reads-kept 2 1 KEEP_MAX listed answered (ann_is_sent ∷ []) 1 (Happens 1 Flushed ∷ once_listed) refl message-read
     (message-read, tt, (message-read-first, refl, rows)) in
@@ -629,8 +634,8 @@ all-read (suc (suc i)) =
     (subst (ReadsOn 2 at KEEP_MAX nothing [] 0) (append-nil steps_of_1)
     (reads-elsewhere 2 at KEEP_MAX nothing [] 0 steps_of_1 [] (second-elsewhere at (not-1 i)) (none-read 2 at nothing)))
 
-at-step : (i : ℕ) (before later : List Step) → steps ≡ before ++ later
-    → ReadsOn 2 i (keeps i KEEP_MAX before) (stands i nothing before) (has_read i (moments_in before)) (answered_on 2 i KEEP_MAX 0 before) later
+at-step : (i : ℕ) (before later : List Step) → steps ≡ before ++ later → ReadsOn 2 i (keeps i KEEP_MAX before) (stands i nothing before)
+    (has_read i (moments_in before)) (answered_on 2 i KEEP_MAX 0 before) later
 at-step i before later e = reads-later 2 i KEEP_MAX nothing [] 0 before later (subst (ReadsOn 2 i KEEP_MAX nothing [] 0) e (all-read i))
 
 -- ---- the shop
@@ -643,21 +648,20 @@ are-lives = record {
   ahead = λ i before later e. reads-here 2 i (keeps i KEEP_MAX before) (stands i nothing before) (has_read i (moments_in before))
       (answered_on 2 i KEEP_MAX 0 before) later (at-step i before later e);
   anew = λ i fields before later e.
-      subst (λ b. MatchBool b (length (has_read i (moments_in before)) ≡ answered_on 2 i KEEP_MAX 0 before) ⊤) (is_itself i i refl)
+      subst (λ b. MatchBool b (length (has_read i (moments_in before)) ≡ answered_on 2 i KEEP_MAX 0 before) ⊤) (is_itself refl)
       (at-step i before (Does (Reads i fields) ∷ later) e).1;
   again = λ i fields before later e.
-      subst (λ b. MatchBool b (length (has_read i (moments_in before)) < answered_on 2 i KEEP_MAX 0 before) ⊤) (is_itself i i refl)
+      subst (λ b. MatchBool b (length (has_read i (moments_in before)) < answered_on 2 i KEEP_MAX 0 before) ⊤) (is_itself refl)
       (at-step i before (Does (Replays i fields) ∷ later) e).1;
   answered = λ i short before later e.
       subst (λ b. MatchBool b (answered_on 2 i KEEP_MAX 0 before
-      ≡ length (taken_in (site_keeping 2 i (keeps i KEEP_MAX before)) (stands i nothing before).kept)) ⊤) (is_itself i i refl)
+      ≡ length (taken_in (site_keeping 2 i (keeps i KEEP_MAX before)) (stands i nothing before).kept)) ⊤) (is_itself refl)
       (at-step i before (Shortens i short ∷ later) e).1;
 }
 
 -- what its processes read
 abbrev moments : List Moment
-moments =
-    Reads 0 ann_is_asked ∷ Restarts 0 ∷ Replays 0 ann_is_asked ∷ Reads 1 ann_is_sent ∷ Reads 1 listing ∷ Restarts 1 ∷ Replays 1 ann_is_sent ∷ []
+moments = Reads 0 ann_is_asked ∷ Restarts 0 ∷ Replays 0 ann_is_asked ∷ Reads 1 ann_is_sent ∷ Reads 1 listing ∷ Restarts 1 ∷ Replays 1 ann_is_sent ∷ []
 
 what-is-read : moments_in steps ≡ moments
 unfolding torn
@@ -668,7 +672,7 @@ unfolding packet_of take_packet
 no-packet-listed = refl
 
 no-packet : (fields known : List (List ℕ)) (p : Packet) → known ≡ fields → packet_of 2 known ≡ None → packet_of 2 fields ≡ Some p → ⊥
-no-packet fields known p same none is = not_some (packet_of 2 known) p none (ap (packet_of 2) same ∙ is)
+no-packet fields known p same none is = not_some (packet_of 2 known) none (ap (packet_of 2) same ∙ is)
 
 -- the message that site 1 reads was sent by site 0, before the power failed and again
 sent-before : WasEverSent 2 most (Reads 0 ann_is_asked ∷ Restarts 0 ∷ Replays 0 ann_is_asked ∷ []) ann_is_sent
@@ -690,8 +694,7 @@ is-carried (a ∷ b ∷ c ∷ []) later i fields p e is =
     let second : Restarts 0 ≡ b = cc e in
     let third : Replays 0 ann_is_asked ≡ c = cc e in
     let same : ann_is_sent ≡ fields = cc e in
-    subst (WasEverSent 2 most (a ∷ b ∷ c ∷ [])) same
-    (subst (λ m. WasEverSent 2 most (m ∷ b ∷ c ∷ []) ann_is_sent) first
+    subst (WasEverSent 2 most (a ∷ b ∷ c ∷ [])) same (subst (λ m. WasEverSent 2 most (m ∷ b ∷ c ∷ []) ann_is_sent) first
     (subst (λ m. WasEverSent 2 most (Reads 0 ann_is_asked ∷ m ∷ c ∷ []) ann_is_sent) second
     (subst (λ m. WasEverSent 2 most (Reads 0 ann_is_asked ∷ Restarts 0 ∷ m ∷ []) ann_is_sent) third sent-before)))
 is-carried (a ∷ b ∷ c ∷ d ∷ []) later i fields p e is =

@@ -23,9 +23,8 @@ times_more n r = let e : suc n ≡ n + 1 = omega arith in subst (λ m. times m r
     at_end zero = refl
     at_end (suc n) = ap (λ asks. r ∷ asks) (at_end n)
 
-pub pushed_more : (n r : ℕ) (asks before : List ℕ) → asks ≡ before ++ times n r → asks ++ r ∷ [] ≡ before ++ times (n + 1) r
-pushed_more n r asks before e =
-    ap (λ a. a ++ r ∷ []) e ∙ append_assoc before (times n r) (r ∷ []) ∙ ap (λ a. before ++ a) (sym (times_more n r))
+pub pushed_more : (n r : ℕ) {asks : List ℕ} (before : List ℕ) → asks ≡ before ++ times n r → asks ++ r ∷ [] ≡ before ++ times (n + 1) r
+pushed_more n r before e = ap (λ a. a ++ r ∷ []) e ∙ append_assoc before (times n r) (r ∷ []) ∙ ap (λ a. before ++ a) (sym (times_more n r))
 
 -- the greatest of them
 by_test : (b : Bool) (n m : ℕ) → cond b (max n m) m ≡ max (cond b n 0) m
@@ -44,17 +43,17 @@ passed_first : (i : ℕ) (x : ShopPacket) (xs : List ShopPacket) → passed i (x
 passed_first i (Message j n r) xs = omega arith
 passed_first i (Pass j t k a) xs = by_test (eqb j i) t (passed i xs)
 
-pub number_more : (i : ℕ) (xs : List ShopPacket) (k : ℕ) (x : ShopPacket) → x ≡ get_or xs k x → k < length xs
+pub number_more : (i : ℕ) (xs : List ShopPacket) (k : ℕ) {x : ShopPacket} → x ≡ get_or xs k x → k < length xs
     → highest i (drop k xs) ≡ max (number_in i x) (highest i (drop (k + 1) xs))
-number_more i xs k x e h = at_drop_more (highest i) xs k x h ∙ ap (λ y. highest i (y ∷ drop (k + 1) xs)) (sym e) ∙ number_first i x (drop (k + 1) xs)
+number_more i xs k {x} e h = at_drop_more (highest i) xs k x h ∙ ap (λ y. highest i (y ∷ drop (k + 1) xs)) (sym e) ∙ number_first i x (drop (k + 1) xs)
 
-pub taken_more : (i : ℕ) (xs : List ShopPacket) (k : ℕ) (x : ShopPacket) → x ≡ get_or xs k x → k < length xs
+pub taken_more : (i : ℕ) (xs : List ShopPacket) (k : ℕ) {x : ShopPacket} → x ≡ get_or xs k x → k < length xs
     → taken i (drop k xs) ≡ max (taken_in i x) (taken i (drop (k + 1) xs))
-taken_more i xs k x e h = at_drop_more (taken i) xs k x h ∙ ap (λ y. taken i (y ∷ drop (k + 1) xs)) (sym e) ∙ taken_first i x (drop (k + 1) xs)
+taken_more i xs k {x} e h = at_drop_more (taken i) xs k x h ∙ ap (λ y. taken i (y ∷ drop (k + 1) xs)) (sym e) ∙ taken_first i x (drop (k + 1) xs)
 
-pub passed_more : (i : ℕ) (xs : List ShopPacket) (k : ℕ) (x : ShopPacket) → x ≡ get_or xs k x → k < length xs
+pub passed_more : (i : ℕ) (xs : List ShopPacket) (k : ℕ) {x : ShopPacket} → x ≡ get_or xs k x → k < length xs
     → passed i (drop k xs) ≡ max (passed_in i x) (passed i (drop (k + 1) xs))
-passed_more i xs k x e h = at_drop_more (passed i) xs k x h ∙ ap (λ y. passed i (y ∷ drop (k + 1) xs)) (sym e) ∙ passed_first i x (drop (k + 1) xs)
+passed_more i xs k {x} e h = at_drop_more (passed i) xs k x h ∙ ap (λ y. passed i (y ∷ drop (k + 1) xs)) (sym e) ∙ passed_first i x (drop (k + 1) xs)
 
 unchanged_nil : (xs : List ShopPacket) → unchanged xs [] ≡ []
 unchanged_nil [] = refl
@@ -65,8 +64,7 @@ unchanged_past xs ys k out = ap (λ zs. unchanged xs zs) (drop_all k ys out) ∙
 
 -- ---- events
 
-pub events_more : (xs : List ShopEvent) (i : ℕ) (x : ShopEvent) → i < length xs → x ≡ get_or xs i x
+pub events_more : (xs : List ShopEvent) (i : ℕ) {x : ShopEvent} → i < length xs → x ≡ get_or xs i x
     → take (i + 1) (events_of xs) ≡ take i (events_of xs) ++ event_of x ∷ []
-events_more xs i x l read =
-    take-map event_of (i + 1) xs ∙ map_more event_of xs i x l
-    ∙ ap₂ (λ es e. es ++ e ∷ []) (sym (take-map event_of i xs)) (ap event_of (sym read))
+events_more xs i {x} l read =
+    take-map event_of (i + 1) xs ∙ map_more event_of xs i x l ∙ ap₂ (λ es e. es ++ e ∷ []) (sym (take-map event_of i xs)) (ap event_of (sym read))

@@ -54,23 +54,24 @@ pub any_map : {A B : Type 0} (f : A → B) (q : B → Bool) (xs : List A) → li
 any_map f q [] = refl
 any_map f q (x ∷ xs) = ap (λ b. q (f x) || b) (any_map f q xs)
 
-pub second : (a b r : Bool) → a ≡ true → r ≡ b → r ≡ (a && b)
-second a b r e f = f ∙ ap (λ t. t && b) (sym e)
+pub second : {a b r : Bool} → a ≡ true → r ≡ b → r ≡ (a && b)
+second {b} e f = f ∙ ap (λ t. t && b) (sym e)
 
-pub first_false : (a b r : Bool) → a ≡ false → r ≡ a → r ≡ (a && b)
-first_false a b r e f = f ∙ e ∙ ap (λ t. t && b) (sym e)
+pub first_false : {a : Bool} (b : Bool) {r : Bool} → a ≡ false → r ≡ a → r ≡ (a && b)
+first_false b e f = f ∙ e ∙ ap (λ t. t && b) (sym e)
 
 -- ---- what stands somewhere
 
-pub compared_is : (s : CodeShop) (i number turn : ℕ)
-    → (folders_reached i number turn s.folders.items && streams_reached i number turn s.streams.items) ≡ reaches_all i number turn (shop_of s)
+pub compared_is : (s : CodeShop) (i number turn : ℕ) → (folders_reached i number turn s.folders.items && streams_reached i number turn s.streams.items) ≡
+    reaches_all i number turn (shop_of s)
 compared_is s i number turn = sym (ap₂ (λ a b. a && b) (all_map folder_of (λ f. are_reached i number turn f.kept) s.folders.items)
     (all_map packets_of (λ xs. are_reached i number turn xs) s.streams.items))
 
 pub offered_is : (s : CodeShop) (x : ShopPacket) → in_own_folder x s.folders.items ≡ is_offered Files (shop_of s) x
 offered_is s x = sym (any_map folder_of (λ f. (f.site == sender x) && has_packet x f.kept) s.folders.items)
 
-pub found_is : (s : CodeShop) (packets : List ShopPacket) → are_found s.folders.items s.streams.items packets ≡ list_all (λ x. is_somewhere (shop_of s) x) packets
+pub found_is : (s : CodeShop) (packets : List ShopPacket) → are_found s.folders.items s.streams.items packets ≡ list_all
+    (λ x. is_somewhere (shop_of s) x) packets
 found_is s [] = refl
 found_is s (x ∷ packets) = ap₂ (λ a b. a && b)
     (sym (ap₂ (λ a b. a || b) (any_map folder_of (λ f. has_packet x f.kept) s.folders.items) (any_map packets_of (λ xs. has_packet x xs) s.streams.items)))
@@ -85,59 +86,60 @@ is_listed s k l = record { listed = l; here = refl; same = λ f. refl }
 pub list_more : (init old : CodeShop) (k : ℕ) (fs : Vec CodeFolder) (g : CodeFolder) → fs.items ≡ old.folders.items ++ g ∷ []
     → folder_of g ≡ empty (length old.folders.items) → length old.folders.items ≤ k
     → ((f : Folder) → with_folder k f (shop_of old) ≡ with_folder k f (shop_of init)) → folder_at old k ≡ folder_at init k
-    → ((f : Folder) → with_folder k f (shop_of (record old { folders = fs })) ≡ with_folder k f (shop_of init))
-    × (folder_at (record old { folders = fs }) k ≡ folder_at init k)
+    → ((f : Folder) → with_folder k f (shop_of (record old { folders = fs })) ≡ with_folder k f (shop_of init)) ×
+    (folder_at (record old { folders = fs }) k ≡ folder_at init k)
 list_more init old k fs g e empty_is l same here =
     let pushed : map folder_of fs.items ≡ folders_of old.folders ++ empty (length (folders_of old.folders)) ∷ [] =
     ap (map folder_of) e ∙ map_push folder_of old.folders.items g ∙ ap (λ x. folders_of old.folders ++ x ∷ [])
     (empty_is ∙ ap empty (sym (length-map old.folders.items folder_of))) in (
       λ f. ap (λ gs. record (shop_of old) { folders = put_folder k f gs }) pushed
-          ∙ ap (λ gs. record (shop_of old) { folders = gs }) (put_more empty k f (folders_of old.folders) (omega (arith, l, length-map old.folders.items folder_of)))
+          ∙ ap (λ gs. record (shop_of old) { folders = gs })
+          (put_more empty k f (folders_of old.folders) (omega (arith, l, length-map old.folders.items folder_of)))
           ∙ same f,
       ap (λ gs. folder_in gs k) pushed ∙ at_more empty k (folders_of old.folders) ∙ here,
     )
 
-pub stream_list_more : (init old : CodeShop) (i : ℕ) (xs : Vec (Vec ShopPacket)) (v : Vec ShopPacket) → xs.items ≡ old.streams.items ++ v ∷ []
-    → v.items ≡ [] → length old.streams.items ≤ i
-    → ((ys : List ShopPacket) → with_stream i ys (shop_of old) ≡ with_stream i ys (shop_of init)) → stream_at old i ≡ stream_at init i
-    → ((ys : List ShopPacket) → with_stream i ys (shop_of (record old { streams = xs })) ≡ with_stream i ys (shop_of init))
+pub stream_list_more : (init old : CodeShop) (i : ℕ) (xs : Vec (Vec ShopPacket)) (v : Vec ShopPacket) → xs.items ≡ old.streams.items ++ v ∷ [] → v.items ≡ []
+    → length old.streams.items ≤ i → ((ys : List ShopPacket) → with_stream i ys (shop_of old) ≡ with_stream i ys (shop_of init))
+    → stream_at old i ≡ stream_at init i → ((ys : List ShopPacket) → with_stream i ys (shop_of (record old { streams = xs })) ≡ with_stream i ys (shop_of init))
     × (stream_at (record old { streams = xs }) i ≡ stream_at init i)
 stream_list_more init old i xs v e none l same here =
     let pushed : map packets_of xs.items ≡ streams_of old.streams ++ [] ∷ [] =
     ap (map packets_of) e ∙ map_push packets_of old.streams.items v ∙ ap (λ x. streams_of old.streams ++ x ∷ []) none in (
       λ ys. ap (λ zs. record (shop_of old) { streams = put_stream i ys zs }) pushed
-          ∙ ap (λ zs. record (shop_of old) { streams = zs }) (put_more (λ j. []) i ys (streams_of old.streams) (omega (arith, l, length-map old.streams.items packets_of)))
+          ∙ ap (λ zs. record (shop_of old) { streams = zs })
+          (put_more (λ j. []) i ys (streams_of old.streams) (omega (arith, l, length-map old.streams.items packets_of)))
           ∙ same ys,
       ap (λ zs. stream_in zs i) pushed ∙ at_more (λ j. []) i (streams_of old.streams) ∙ here,
     )
 
 -- what stands there
-pub folder_read : (fs : List CodeFolder) (k : ℕ) (f : CodeFolder) → k < length fs → f ≡ get_or fs k f → folder_in (map folder_of fs) k ≡ folder_of f
-folder_read fs k f lt read = get_or-map folder_of fs k f (empty k) lt ∙ ap folder_of (sym read)
+pub folder_read : (fs : List CodeFolder) (k : ℕ) {f : CodeFolder} → k < length fs → f ≡ get_or fs k f → folder_in (map folder_of fs) k ≡ folder_of f
+folder_read fs k {f} lt read = get_or-map folder_of fs k f (empty k) lt ∙ ap folder_of (sym read)
 
 pub folder_past : (fs : List CodeFolder) (k : ℕ) → length fs ≤ k → folder_in (map folder_of fs) k ≡ empty k
 folder_past fs k out = get_or_past (map folder_of fs) k (empty k) (omega (arith, length-map fs folder_of, out))
 
-pub stream_read : (xs : List (Vec ShopPacket)) (i : ℕ) (v : Vec ShopPacket) → i < length xs → v ≡ get_or xs i v → stream_in (map packets_of xs) i ≡ v.items
-stream_read xs i v lt read = get_or-map packets_of xs i v [] lt ∙ ap packets_of (sym read)
+pub stream_read : (xs : List (Vec ShopPacket)) (i : ℕ) {v : Vec ShopPacket} → i < length xs → v ≡ get_or xs i v → stream_in (map packets_of xs) i ≡ v.items
+stream_read xs i {v} lt read = get_or-map packets_of xs i v [] lt ∙ ap packets_of (sym read)
 
 -- a folder that is listed is replaced
-pub replaced_is : (old mid : CodeShop) (k : ℕ) (f g : CodeFolder) (F : Folder → Folder) → IsListed k old mid → f ≡ get_or mid.folders.items k f
+pub replaced_is : {old mid : CodeShop} {k : ℕ} {f : CodeFolder} (g : CodeFolder) (F : Folder → Folder) → IsListed k old mid → f ≡ get_or mid.folders.items k f
     → folder_of g ≡ F (folder_of f) → shop_of (record mid { folders = with_item mid.folders k g }) ≡ with_folder k (F (folder_at old k)) (shop_of old)
-replaced_is old mid k f g F l read e =
+replaced_is {old} {mid} {k} {f} g F l read e =
     let fs = mid.folders.items in
-    let its : folder_at mid k ≡ folder_of f = folder_read fs k f l.listed read in
+    let its : folder_at mid k ≡ folder_of f = folder_read fs k l.listed read in
     ap (λ gs. record (shop_of mid) { folders = gs })
     (map-set folder_of fs k g ∙ sym (put_set empty k (folder_of g) (map folder_of fs) (omega (arith, length-map fs folder_of, l.listed))))
     ∙ ap (λ h. with_folder k h (shop_of mid)) (e ∙ ap F (sym its ∙ l.here)) ∙ l.same (F (folder_at old k))
 
 -- and a stream
-pub stream_replaced : (old mid : CodeShop) (i : ℕ) (v w : Vec ShopPacket) (F : List ShopPacket → List ShopPacket) → IsStreamListed i old mid
-    → v ≡ get_or mid.streams.items i v → w.items ≡ F v.items
-    → shop_of (record mid { streams = with_item mid.streams i w }) ≡ with_stream i (F (stream_at old i)) (shop_of old)
-stream_replaced old mid i v w F l read e =
+pub stream_replaced : {old mid : CodeShop} {i : ℕ} {v : Vec ShopPacket} (w : Vec ShopPacket) (F : List ShopPacket → List ShopPacket) → IsStreamListed i old mid
+    → v ≡ get_or mid.streams.items i v → w.items ≡ F v.items → shop_of (record mid { streams = with_item mid.streams i w }) ≡ with_stream i
+    (F (stream_at old i)) (shop_of old)
+stream_replaced {old} {mid} {i} {v} w F l read e =
     let xs = mid.streams.items in
-    let its : stream_at mid i ≡ v.items = stream_read xs i v l.listed read in
+    let its : stream_at mid i ≡ v.items = stream_read xs i l.listed read in
     ap (λ zs. record (shop_of mid) { streams = zs })
     (map-set packets_of xs i w ∙ sym (put_set (λ j. []) i w.items (map packets_of xs) (omega (arith, length-map xs packets_of, l.listed))))
     ∙ ap (λ h. with_stream i h (shop_of mid)) (e ∙ ap F (sym its ∙ l.here)) ∙ l.same (F (stream_at old i))
@@ -145,11 +147,12 @@ stream_replaced old mid i v w F l read e =
 -- ---- a folder opens
 
 -- all folders of the site were forgotten, that one was listed, and opens
-pub opens_is : (old first mid : CodeShop) (k : ℕ) (f g : CodeFolder) → shop_of first ≡ record (shop_of old) { folders = map (forgotten (folder_at old k).site) (folders_of old.folders) }
-    → IsListed k first mid → f ≡ get_or mid.folders.items k f → folder_of g ≡ opened (folder_of f)
-    → shop_of (record mid { folders = with_item mid.folders k g }) ≡ opening k (shop_of old)
-opens_is old first mid k f g e l read is =
-    replaced_is first mid k f g opened l read is ∙ ap (λ s. with_folder k (opened (folder s k)) s) e
+pub opens_is : (old : CodeShop) {first mid : CodeShop} {k : ℕ} {f : CodeFolder} (g : CodeFolder)
+    → shop_of first ≡ record (shop_of old) { folders = map (forgotten (folder_at old k).site) (folders_of old.folders) } → IsListed k first mid
+    → f ≡ get_or mid.folders.items k f → folder_of g ≡ opened (folder_of f) → shop_of (record mid { folders = with_item mid.folders k g }) ≡ opening k
+    (shop_of old)
+opens_is old {k} g e l read is =
+    replaced_is g opened l read is ∙ ap (λ s. with_folder k (opened (folder s k)) s) e
     ∙ ap (λ h. record (shop_of old) { folders = put_folder k (opened h) (map (forgotten (folder_at old k).site) (folders_of old.folders)) })
     (forget_in (folder_at old k).site (folders_of old.folders) k)
 
@@ -184,9 +187,9 @@ may_at_is c s k at.WritesAnew = refl
 
 -- ---- asks
 
-pub request_read : (rs : List ShopRequest) (r : ℕ) (q : ShopRequest) → r - 1 < length rs → ¬ (r ≡ 0) → q ≡ get_or rs (r - 1) q → request_in rs r ≡ q
-request_read rs zero q lt n read = absurd (n refl)
-request_read rs (suc r) q lt n read =
+pub request_read : (rs : List ShopRequest) (r : ℕ) {q : ShopRequest} → r - 1 < length rs → ¬ (r ≡ 0) → q ≡ get_or rs (r - 1) q → request_in rs r ≡ q
+request_read rs zero lt n read = absurd (n refl)
+request_read rs (suc r) {q} lt n read =
     let e : suc r - 1 ≡ r = omega arith in
     let lt' : r < length rs = omega (arith, lt, e) in
     get_or_any rs r _ q lt' ∙ sym (read ∙ ap (λ j. get_or rs j q) e)
@@ -200,15 +203,13 @@ request_read rs (suc r) q lt n read =
 
 -- one folder more
 pub forget_more : (i : ℕ) (init fs : List CodeFolder) (at : ℕ) (f g : CodeFolder) → at < length fs → length fs ≡ length init → f ≡ get_or fs at f
-    → folder_of g ≡ forgotten i (folder_of f) → map folder_of (take at fs) ≡ map (forgotten i) (map folder_of (take at init))
-    → drop at fs ≡ drop at init
-    → (map folder_of (take (at + 1) (set fs at g)) ≡ map (forgotten i) (map folder_of (take (at + 1) init)))
-    × (drop (at + 1) (set fs at g) ≡ drop (at + 1) init)
+    → folder_of g ≡ forgotten i (folder_of f) → map folder_of (take at fs) ≡ map (forgotten i) (map folder_of (take at init)) → drop at fs ≡ drop at init
+    → (map folder_of (take (at + 1) (set fs at g)) ≡ map (forgotten i) (map folder_of (take (at + 1) init))) ×
+    (drop (at + 1) (set fs at g) ≡ drop (at + 1) init)
 forget_more i init fs at f g lt many read e before rest =
     let same : get_or init at f ≡ f =
     ap (λ zs. get_or zs 0 f) (sym (drop_more init at f (omega (arith, lt, many))) ∙ sym rest ∙ drop_more fs at f lt) ∙ sym read in (
-      ap (map folder_of) (take_more_set fs at g lt) ∙ map_push folder_of (take at fs) g
-          ∙ ap (λ zs. zs ++ folder_of g ∷ []) before
+      ap (map folder_of) (take_more_set fs at g lt) ∙ map_push folder_of (take at fs) g ∙ ap (λ zs. zs ++ folder_of g ∷ []) before
           ∙ ap (λ z. map (forgotten i) (map folder_of (take at init)) ++ z ∷ []) (e ∙ ap (λ x. forgotten i (folder_of x)) (sym same))
           ∙ sym (map_push (forgotten i) (map folder_of (take at init)) (folder_of (get_or init at f)))
           ∙ ap (map (forgotten i)) (sym (map_push folder_of (take at init) (get_or init at f)))

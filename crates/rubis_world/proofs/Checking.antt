@@ -21,4 +21,4 @@ among s h log k m in_log =
 
 -- so the auditor agrees
 pub agree : (s : WorldState) → IsWorld s → verdict (logs_of s.world) ≡ Agree
-agree s h = logs_agree s.world h.sound
+agree s h = logs_agree h.sound

@@ -18,7 +18,7 @@ use Rattle.rubis_world.specs.Worlds.{IsWorld}
 
 -- a world is one that the laws speak of
 pub told : (s : WorldState) → IsWorld s → InRun s.world
-told s h = in_run s.keep s.world h.keep h.room h.sound
+told s h = in_run s.keep h.keep h.room h.sound
 
 -- what a world is kept by is how much it keeps and the world
 moved : (old new : WorldState) (w : World) → ComesTo old new w → IsWorld (record old { world = w }) → IsWorld new

@@ -22,9 +22,9 @@ record IsNeeded (c : Carrier) (s : Shop) (k : ℕ) (later : List Event) (h g : P
   other : Has other_message (there (run (opening k s) later) g)
   compared : (run (opening k s) later).uncompared ≡ []
 
-gives_twice : (c : Carrier) (s : Shop) (k : ℕ) (later : List Event) (h g : Place) → IsNeeded c s k later h g
+gives_twice : {c : Carrier} {s : Shop} {k : ℕ} {later : List Event} {h g : Place} → IsNeeded c s k later h g
     → ¬ (MayOpen s k) × AreSteps c (opening k s) later × ¬ (AreGivenOnce (run (opening k s) later))
-gives_twice c s k later h g q = (
+gives_twice {c} {s} {k} {later} {h} {g} q = (
   may_not c s (Opens k) q.refused,
   are_steps_true c (opening k s) later q.goes_on,
   λ once. not_the_same (once h g first_message other_message q.first q.other refl (λ u. subst (Has 0) q.compared u)),

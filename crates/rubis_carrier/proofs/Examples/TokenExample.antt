@@ -80,22 +80,22 @@ record IsBehind (f : Folder) : Type 0 where
   site : f.site ≡ 1
   none : taken 1 f.kept ≡ 0
 
-at_one : (s : Shop) → IsStuck s → (k : ℕ) (f : Folder) → (k ≡ 1 → IsBehind f) → IsBehind (folder_in (put_folder k f s.folders) 1)
-at_one s q k f here = folder_cases (λ j g. j ≡ 1 → IsBehind g) k f s.folders here
+at_one : {s : Shop} → IsStuck s → (k : ℕ) (f : Folder) → (k ≡ 1 → IsBehind f) → IsBehind (folder_in (put_folder k f s.folders) 1)
+at_one {s} q k f here = folder_cases (λ j g. j ≡ 1 → IsBehind g) k f s.folders here
     (λ j n e. subst (λ i. IsBehind (folder s i)) (sym e) (record { ahead = q.ahead; site = q.site; none = q.none })) 1 refl
 
 stuck : (s : Shop) → AllFine s → IsBehind (folder s 1) → IsStuck s
 stuck s f b = record { fine = f; ahead = b.ahead; site = b.site; none = b.none }
 
-stuck_reads : (s : Shop) (k : ℕ) (x : ShopPacket) → May Server s (Reads k x) → IsAtPlace s (Reads k x) → IsStuck s → IsStuck (after s (Reads k x))
-stuck_reads s k (Message i n r) m p q = stuck (after s (Reads k (Message i n r))) (fine_step s (Reads k (Message i n r)) m q.fine (λ x z. absurd z))
-    (at_one s q k (keeping (folder s k) (Message i n r)) (λ e. subst (λ j. IsBehind (keeping (folder s j) (Message i n r))) (sym e) (record {
+stuck_reads : {s : Shop} (k : ℕ) (x : ShopPacket) → May Server s (Reads k x) → IsAtPlace s (Reads k x) → IsStuck s → IsStuck (after s (Reads k x))
+stuck_reads {s} k (Message i n r) m p q = stuck (after s (Reads k (Message i n r))) (fine_step s (Reads k (Message i n r)) m q.fine (λ x z. absurd z))
+    (at_one q k (keeping (folder s k) (Message i n r)) (λ e. subst (λ j. IsBehind (keeping (folder s j) (Message i n r))) (sym e) (record {
       ahead = omega (arith, q.ahead, number_more 0 (folder s 1).kept (Message i n r ∷ []));
       site = q.site;
       none = taken_message 1 i n r (folder s 1).kept ∙ q.none;
     })))
-stuck_reads s k (Pass i t j a) m p q = stuck (after s (Reads k (Pass i t j a))) (fine_step s (Reads k (Pass i t j a)) m q.fine (λ x z. absurd z))
-    (at_one s q k (keeping (folder s k) (Pass i t j a)) (λ e. absurd (late e)))
+stuck_reads {s} k (Pass i t j a) m p q = stuck (after s (Reads k (Pass i t j a))) (fine_step s (Reads k (Pass i t j a)) m q.fine (λ x z. absurd z))
+    (at_one q k (keeping (folder s k) (Pass i t j a)) (λ e. absurd (late e)))
   where
     late : k ≡ 1 → ⊥
     late e =
@@ -103,19 +103,19 @@ stuck_reads s k (Pass i t j a) m p q = stuck (after s (Reads k (Pass i t j a))) 
         let place : highest 0 (folder s 1).kept ≤ a = subst (λ d. highest d (folder s 1).kept ≤ a) is.0 (subst (λ n. highest i (folder s n).kept ≤ a) e p) in
         omega (arith, place, is.1, q.ahead)
 
-stuck_step : (s : Shop) (e : Event) → Carries e → May Server s e → IsAtPlace s e → IsStuck s → IsStuck (after s e)
-stuck_step s (Starts k) c m p q = stuck (after s (Starts k)) (fine_step s (Starts k) m q.fine (λ x z. absurd z))
-    (at_one s q k (started (folder s k) (s.begun + 1)) (λ e. subst (λ j. IsBehind (started (folder s j) (s.begun + 1))) (sym e)
+stuck_step : {s : Shop} (e : Event) → Carries e → May Server s e → IsAtPlace s e → IsStuck s → IsStuck (after s e)
+stuck_step {s} (Starts k) c m p q = stuck (after s (Starts k)) (fine_step s (Starts k) m q.fine (λ x z. absurd z))
+    (at_one q k (started (folder s k) (s.begun + 1)) (λ e. subst (λ j. IsBehind (started (folder s j) (s.begun + 1))) (sym e)
     (record { ahead = q.ahead; site = q.site; none = q.none })))
-stuck_step s (Appends k x) c m p q = stuck (after s (Appends k x)) (fine_step s (Appends k x) m q.fine (λ z y. absurd y))
+stuck_step {s} (Appends k x) c m p q = stuck (after s (Appends k x)) (fine_step s (Appends k x) m q.fine (λ z y. absurd y))
     (record { ahead = q.ahead; site = q.site; none = q.none })
-stuck_step s (Reads k x) c m p q = stuck_reads s k x m p q
-stuck_step s (Opens k) c m p q = absurd c
-stuck_step s e c m p q = absurd c
+stuck_step (Reads k x) c m p q = stuck_reads k x m p q
+stuck_step (Opens k) c m p q = absurd c
+stuck_step e c m p q = absurd c
 
 stuck_after : (s : Shop) (more : List Event) → AllCarry more → AreStepsByPlace s more → IsStuck s → IsStuck (run s more)
 stuck_after s [] c m q = q
-stuck_after s (e ∷ rest) c m q = stuck_after (after s e) rest c.1 m.2 (stuck_step s e c.0 m.0 m.1 q)
+stuck_after s (e ∷ rest) c m q = stuck_after (after s e) rest c.1 m.2 (stuck_step e c.0 m.0 m.1 q)
 
 -- ---- so it is lost for good
 

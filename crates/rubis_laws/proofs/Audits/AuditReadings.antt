@@ -50,32 +50,32 @@ begin_form : (sites : ℕ) → sites < 2 ^ 8 → IsForm (IsBegin sites) line_rec
 begin_form sites few = record { back = begin_back sites few; only = begin_only sites few }
 
 -- any record whose first field is `row`
-claim_only : (fields : List (List ℕ)) (x : Line) → claim_of fields ≡ Some x → (rest : List (List ℕ)) × (fields ≡ codes "row" ∷ rest) × (x ≡ Claim fields)
-claim_only [] x e = absurd cc
-claim_only (word ∷ rest) x e = at (bytes_eq word (codes "row")) refl e
+claim_only : (fields : List (List ℕ)) {x : Line} → claim_of fields ≡ Some x → (rest : List (List ℕ)) × (fields ≡ codes "row" ∷ rest) × (x ≡ Claim fields)
+claim_only [] e = absurd cc
+claim_only (word ∷ rest) {x} e = at (bytes_eq word (codes "row")) refl e
   where
     at : (b : Bool) → bytes_eq word (codes "row") ≡ b → cond b (Some (Claim (word ∷ rest))) None ≡ Some x
         → (behind : List (List ℕ)) × (word ∷ rest ≡ codes "row" ∷ behind) × (x ≡ Claim (word ∷ rest))
     at false q e = absurd cc
     at true q e = (rest, (λ i. (bytes_decides word (codes "row")).0 q i ∷ rest), (let s : Claim (word ∷ rest) ≡ x = cc in sym s))
 
-next_only : (o : Option Packet) (x : Line) → option_and_then next_of o ≡ Some x → (m : Message) × (o ≡ Some (packet.Msg m)) × (x ≡ Next m)
-next_only None x e = absurd cc
-next_only (Some (packet.Msg m)) x e = (m, refl, (let s : Next m ≡ x = cc in sym s))
-next_only (Some (packet.Token t)) x e = absurd cc
+next_only : (o : Option Packet) {x : Line} → option_and_then next_of o ≡ Some x → (m : Message) × (o ≡ Some (packet.Msg m)) × (x ≡ Next m)
+next_only None e = absurd cc
+next_only (Some (packet.Msg m)) {x} e = (m, refl, (let s : Next m ≡ x = cc in sym s))
+next_only (Some (packet.Token t)) e = absurd cc
 
 -- which of three it is
-first_or : {X : Type 0} (o p : Option X) (x : X) → option_or o p ≡ Some x → (o ≡ Some x) ⊎ (p ≡ Some x)
-first_or None p x e = inr e
-first_or (Some y) p x e = inl e
+first_or : {X : Type 0} (o p : Option X) {x : X} → option_or o p ≡ Some x → (o ≡ Some x) ⊎ (p ≡ Some x)
+first_or None p e = inr e
+first_or (Some y) p e = inl e
 
 few_sites : (sites : ℕ) → sites ≤ COUNTED_MAX → sites < 2 ^ 8
 few_sites sites top = omega (arith, top)
 
 pub line_only : (sites : ℕ) → sites ≤ COUNTED_MAX → (fields : List (List ℕ)) (x : Line) → line_of sites fields ≡ Some x
     → IsLine sites x × (fields ≡ line_record x)
-line_only sites top fields x e = ⊎_elim begins (λ f. ⊎_elim claims says (first_or (claim_of fields) (option_and_then next_of (packet_of sites fields)) x f))
-    (first_or (whole (take_begin sites) fields) _ x e)
+line_only sites top fields x e = ⊎_elim begins (λ f. ⊎_elim claims says (first_or (claim_of fields) (option_and_then next_of (packet_of sites fields)) f))
+    (first_or (whole (take_begin sites) fields) _ e)
   where
     is_line : (y : Line) → IsBegin sites y → IsLine sites y
     is_line (Begin site) h = h
@@ -86,11 +86,11 @@ line_only sites top fields x e = ⊎_elim begins (λ f. ⊎_elim claims says (fi
     begins f = let w = whole_only (begin_form sites (few_sites sites top)) fields x f in (is_line x w.0, w.1)
 
     claims : claim_of fields ≡ Some x → IsLine sites x × (fields ≡ line_record x)
-    claims f = let w = claim_only fields x f in subst (λ (y : Line). IsLine sites y × (fields ≡ line_record y)) (sym w.2) ((w.0, w.1), refl)
+    claims f = let w = claim_only fields f in subst (λ (y : Line). IsLine sites y × (fields ≡ line_record y)) (sym w.2) ((w.0, w.1), refl)
 
     says : option_and_then next_of (packet_of sites fields) ≡ Some x → IsLine sites x × (fields ≡ line_record x)
     says f =
-        let w = next_only (packet_of sites fields) x f in
+        let w = next_only (packet_of sites fields) f in
         let p = (packet_is sites (few_sites sites top) top fields (packet.Msg w.0)).0 w.1 in
         subst (λ (y : Line). IsLine sites y × (fields ≡ line_record y)) (sym w.2) p
 
@@ -104,10 +104,12 @@ line_back sites top (Begin site) h =
     ap (λ o. option_or o (option_or (claim_of (line_record (Begin site))) (option_and_then next_of (packet_of sites (line_record (Begin site))))))
     (whole_back (begin_form sites (few_sites sites top)) (line_record (Begin site)) (Begin site) h refl)
 line_back sites top (Next m) h =
-    ap (λ o. option_or o (option_or (claim_of (message_record m)) (option_and_then next_of (packet_of sites (message_record m))))) (no_begin sites (codes "msg") _ refl)
+    ap (λ o. option_or o (option_or (claim_of (message_record m)) (option_and_then next_of (packet_of sites (message_record m)))))
+    (no_begin sites (codes "msg") _ refl)
     ∙ ap (option_and_then next_of) ((packet_is sites (few_sites sites top) top (message_record m) (packet.Msg m)).1 (h, refl))
 line_back sites top (Claim row) h = subst (λ (r : List (List ℕ)). line_of sites r ≡ Some (Claim r)) (sym h.1) (
-    ap (λ o. option_or o (option_or (claim_of (codes "row" ∷ h.0)) (option_and_then next_of (packet_of sites (codes "row" ∷ h.0))))) (no_begin sites (codes "row") h.0 refl)
+    ap (λ o. option_or o (option_or (claim_of (codes "row" ∷ h.0)) (option_and_then next_of (packet_of sites (codes "row" ∷ h.0)))))
+    (no_begin sites (codes "row") h.0 refl)
     )
 
 pub line_is : LinesAreReadAsWritten
@@ -127,8 +129,7 @@ written_is : (logs : List Log) → written logs ≡ flat_map log_records (revers
 unfolding written
 written_is [] = refl
 written_is (log ∷ logs) =
-    ap (λ l. l ++ log_records log) (written_is logs)
-    ∙ ap (λ l. flat_map log_records (reverse logs) ++ l) (sym (append-nil (log_records log)))
+    ap (λ l. l ++ log_records log) (written_is logs) ∙ ap (λ l. flat_map log_records (reverse logs) ++ l) (sym (append-nil (log_records log)))
     ∙ sym (flat_map-append log_records (reverse logs) (log ∷ [])) ∙ ap (flat_map log_records) (sym (reverse-append (log ∷ []) logs))
 
 -- ---- each record goes on with what is written
@@ -137,25 +138,22 @@ not_nothing [] x e = cc
 not_nothing (y ∷ xs) x e = cc
 
 -- a message, where no row was claimed
-next_records : (log : Log) (m : Message) → log.rows ≡ None
-    → log_records log ++ message_record m ∷ [] ≡ log_records (record log { messages = log.messages ++ m ∷ [] })
+next_records : (log : Log) (m : Message) → log.rows ≡ None → log_records log ++ message_record m ∷ [] ≡ log_records
+    (record log { messages = log.messages ++ m ∷ [] })
 next_records log m q = ap (λ l. line_record (Begin log.site) ∷ l) (
     ap (λ o. (map message_record log.messages ++ unwrap_or o []) ++ message_record m ∷ []) q
-    ∙ ap (λ l. l ++ message_record m ∷ []) (append-nil (map message_record log.messages))
-    ∙ sym (map-append message_record log.messages (m ∷ []))
-    ∙ sym (append-nil (map message_record (log.messages ++ m ∷ [])))
-    ∙ ap (λ o. map message_record (log.messages ++ m ∷ []) ++ unwrap_or o []) (sym q)
+    ∙ ap (λ l. l ++ message_record m ∷ []) (append-nil (map message_record log.messages)) ∙ sym (map-append message_record log.messages (m ∷ []))
+    ∙ sym (append-nil (map message_record (log.messages ++ m ∷ []))) ∙ ap (λ o. map message_record (log.messages ++ m ∷ []) ++ unwrap_or o []) (sym q)
     )
 
 claim_records : (log : Log) (row : List (List ℕ)) → log_records log ++ row ∷ [] ≡ log_records (record log { rows = Some (unwrap_or log.rows [] ++ row ∷ []) })
 claim_records log row = ap (λ l. line_record (Begin log.site) ∷ l) (append_assoc (map message_record log.messages) (unwrap_or log.rows []) (row ∷ []))
 
 -- the newest log in another state
-newest : (sites : ℕ) (log next : Log) (logs : List Log) (fields : List (List ℕ)) → AllAmong sites (log ∷ logs) → IsLogAmong sites next
-    → log_records log ++ fields ∷ [] ≡ log_records next
-    → AllAmong sites (next ∷ logs) × (written (log ∷ logs) ++ fields ∷ [] ≡ written (next ∷ logs))
+newest : {sites : ℕ} (log : Log) {next : Log} (logs : List Log) (fields : List (List ℕ)) → AllAmong sites (log ∷ logs) → IsLogAmong sites next
+    → log_records log ++ fields ∷ [] ≡ log_records next → AllAmong sites (next ∷ logs) × (written (log ∷ logs) ++ fields ∷ [] ≡ written (next ∷ logs))
 unfolding AllAmong written
-newest sites log next logs fields a n e = (
+newest {sites} log logs fields a n e = (
   (λ l k. ⊎_elim (λ q. subst (IsLogAmong sites) (sym q) n) (λ r. a l (inr r)) k),
   append_assoc (written logs) (log_records log) (fields ∷ []) ∙ ap (λ l. written logs ++ l) e,
 )
@@ -164,37 +162,37 @@ first_among : (sites : ℕ) (log : Log) (logs : List Log) → AllAmong sites (lo
 unfolding AllAmong
 first_among sites log logs a = a log (inl refl)
 
-with_next : (sites : ℕ) (log : Log) (m : Message) → log.rows ≡ None → IsMessageAmong sites m → IsLogAmong sites log
+with_next : {sites : ℕ} {log : Log} (m : Message) → log.rows ≡ None → IsMessageAmong sites m → IsLogAmong sites log
     → IsLogAmong sites (record log { messages = log.messages ++ m ∷ [] })
-with_next sites log m q h a = record {
+with_next {sites} {log} m q h a = record {
   site = a.site;
   messages = λ x k. ⊎_elim (a.messages x) (λ s. subst (IsMessageAmong sites) (sym s) h) (push_cases x m log.messages k);
   some = a.some;
   rows = a.rows;
 }
 
-with_claim : (sites : ℕ) (log : Log) (row : List (List ℕ)) → IsLine sites (Claim row) → IsLogAmong sites log
+with_claim : {sites : ℕ} {log : Log} (row : List (List ℕ)) → IsLine sites (Claim row) → IsLogAmong sites log
     → IsLogAmong sites (record log { rows = Some (unwrap_or log.rows [] ++ row ∷ []) })
-with_claim sites log row h a = record {
+with_claim {sites} {log} row h a = record {
   site = a.site;
   messages = a.messages;
   some = not_nothing (unwrap_or log.rows []) row;
   rows = λ r k. ⊎_elim (a.rows r) (λ s. subst (λ x. IsLine sites (Claim x)) (sym s) h) (push_cases r row (unwrap_or log.rows []) k);
 }
 
-goes_on : (sites : ℕ) (logs more : List Log) (line : Line) → with_line logs line ≡ Some more → IsLine sites line → AllAmong sites logs
+goes_on : (sites : ℕ) (logs : List Log) {more : List Log} (line : Line) → with_line logs line ≡ Some more → IsLine sites line → AllAmong sites logs
     → AllAmong sites more × (written logs ++ line_record line ∷ [] ≡ written more)
 unfolding AllAmong written
-goes_on sites logs more (Begin site) e h a =
+goes_on sites logs {more} (Begin site) e h a =
     let s : record { site = site; messages = []; rows = None } ∷ logs ≡ more = cc in
     subst (λ (l : List Log). ((log : Log) → Has log l → IsLogAmong sites log) × (written logs ++ line_record (Begin site) ∷ [] ≡ written l)) s (
       (λ log k. ⊎_elim (λ q. subst (IsLogAmong sites) (sym q) (record { site = h; messages = λ m x. absurd x; some = λ x. cc; rows = λ r x. absurd x }))
           (a log) k),
       refl,
     )
-goes_on sites [] more (Next m) e h a = absurd cc
-goes_on sites [] more (Claim row) e h a = absurd cc
-goes_on sites (log ∷ logs) more (Next m) e h a = at log.rows refl e
+goes_on sites [] (Next m) e h a = absurd cc
+goes_on sites [] (Claim row) e h a = absurd cc
+goes_on sites (log ∷ logs) {more} (Next m) e h a = at log.rows refl e
   where
     at : (o : Option (List (List (List ℕ)))) → log.rows ≡ o
         → elim o as (λ _. Option (List Log)) [ None ↦ Some (record log { messages = log.messages ++ m ∷ [] } ∷ logs) | Some rows ↦ None ] ≡ Some more
@@ -203,13 +201,12 @@ goes_on sites (log ∷ logs) more (Next m) e h a = at log.rows refl e
     at None q e =
         let s : record log { messages = log.messages ++ m ∷ [] } ∷ logs ≡ more = cc in
         subst (λ (l : List Log). AllAmong sites l × (written (log ∷ logs) ++ message_record m ∷ [] ≡ written l)) s
-        (newest sites log (record log { messages = log.messages ++ m ∷ [] }) logs (message_record m) a
-        (with_next sites log m q h (first_among sites log logs a)) (next_records log m q))
-goes_on sites (log ∷ logs) more (Claim row) e h a =
+        (newest log logs (message_record m) a
+        (with_next m q h (first_among sites log logs a)) (next_records log m q))
+goes_on sites (log ∷ logs) {more} (Claim row) e h a =
     let s : record log { rows = Some (unwrap_or log.rows [] ++ row ∷ []) } ∷ logs ≡ more = cc in
     subst (λ (l : List Log). AllAmong sites l × (written (log ∷ logs) ++ row ∷ [] ≡ written l)) s
-    (newest sites log (record log { rows = Some (unwrap_or log.rows [] ++ row ∷ []) }) logs row a (with_claim sites log row h (first_among sites log logs a))
-    (claim_records log row))
+    (newest log logs row a (with_claim row h (first_among sites log logs a)) (claim_records log row))
 
 -- what is done with the logs after record n
 abbrev pub after_line : ℕ → ℕ → List (List (List ℕ)) → Option (List Log) → Result (List Log) ℕ
@@ -232,7 +229,7 @@ logs_only sites top (fields ∷ rest) n logs last a e = line (line_of sites fiel
     step x None p q f ih = absurd cc
     step x (Some more) p q f ih =
         let l = line_only sites top fields x p in
-        let g = goes_on sites logs more x q l.0 a in
+        let g = goes_on sites logs x q l.0 a in
         let r = ih more last g.0 f in
         (r.0, sym (append_assoc (written logs) (fields ∷ []) rest) ∙ ap (λ w. (written logs ++ w ∷ []) ++ rest) l.1 ∙ ap (λ w. w ++ rest) g.1 ∙ r.1)
 
@@ -246,9 +243,8 @@ logs_only sites top (fields ∷ rest) n logs last a e = line (line_of sites fiel
 Reaches : ℕ → List Log → List (List (List ℕ)) → List Log → Type 0
 Reaches sites logs records more = (n : ℕ) (rest : List (List (List ℕ))) → (m : ℕ) × (logs_after sites n logs (records ++ rest) ≡ logs_after sites m more rest)
 
-pub one_more : (sites : ℕ) → sites ≤ COUNTED_MAX → (logs more : List Log) (line : Line) (n : ℕ) (rest : List (List (List ℕ))) → IsLine sites line →
-    with_line logs line ≡ Some more
-    → logs_after sites n logs (line_record line ∷ rest) ≡ logs_after sites (n + 1) more rest
+pub one_more : (sites : ℕ) → sites ≤ COUNTED_MAX → (logs more : List Log) (line : Line) (n : ℕ) (rest : List (List (List ℕ))) → IsLine sites line
+    → with_line logs line ≡ Some more → logs_after sites n logs (line_record line ∷ rest) ≡ logs_after sites (n + 1) more rest
 one_more sites top logs more line n rest h e =
     ap (λ o. after_line sites n rest (option_and_then (with_line logs) o)) (line_back sites top line h) ∙ ap (after_line sites n rest) e
 
@@ -267,8 +263,7 @@ messages_read sites top site own (m ∷ ms) logs h n rest =
     )
 
 rows_read : (sites : ℕ) → sites ≤ COUNTED_MAX → (site : ℕ) (own : List Message) (rows more : List (List (List ℕ))) (logs : List Log)
-    → ((r : List (List ℕ)) → Has r more → IsLine sites (Claim r))
-    → Reaches sites (record { site = site; messages = own; rows = Some rows } ∷ logs) more
+    → ((r : List (List ℕ)) → Has r more → IsLine sites (Claim r)) → Reaches sites (record { site = site; messages = own; rows = Some rows } ∷ logs) more
     (record { site = site; messages = own; rows = Some (rows ++ more) } ∷ logs)
 unfolding Reaches
 rows_read sites top site own rows [] logs h n rest =
@@ -291,8 +286,7 @@ log_said sites top site ms o logs l h s k n rest =
       c.0,
       ap (λ r. logs_after sites n logs (line_record (Begin site) ∷ r)) (append_assoc (map message_record ms) (unwrap_or o []) rest)
           ∙ one_more sites top logs (record { site = site; messages = []; rows = None } ∷ logs) (Begin site) n
-          (map message_record ms ++ (unwrap_or o [] ++ rest)) l refl
-          ∙ b.1 ∙ c.1,
+          (map message_record ms ++ (unwrap_or o [] ++ rest)) l refl ∙ b.1 ∙ c.1,
     )
   where
     claimed : (o : Option (List (List (List ℕ)))) → o ≢ Some [] → ((r : List (List ℕ)) → Has r (unwrap_or o []) → IsLine sites (Claim r)) → (n : ℕ)

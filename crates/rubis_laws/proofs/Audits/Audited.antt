@@ -12,7 +12,7 @@ use Rattle.rubis_shadow.specs.declared.shadows.Shadow.TheVariants.{Close}
 use Rattle.rubis_message.specs.Message.{Message, IsMessage, sites_of}
 use Rattle.rubis_schema.specs.Tables.{Tables}
 use Rattle.rubis_schema.specs.declared.listings.Listing.TheVariants as listing
-use Rattle.rubis_model.specs.Log.{core, cores, fold_of}
+use Rattle.rubis_model.specs.Log.{cores, fold_of}
 use Rattle.rubis_model.specs.Meaning.{IsMeaning, bids_on, count}
 use Rattle.rubis_model.specs.Checks.{Checked}
 use Rattle.rubis_model.specs.Settle.{Has}
@@ -39,8 +39,8 @@ use Rattle.rubis_laws.proofs.Audits.AuditedMeaning.{ground}
 use Rattle.rubis_model.proofs.Lists.{has_back, has_left, has_reverse}
 
 -- a message that meets the conditions of its type
-pub message_formed : (m : Message) → IsMessage m → IsFormed m
-message_formed m h = record { own = h.own; colour = h.colour; limits = (sites_of m, h.shadow) }
+pub message_formed : {m : Message} → IsMessage m → IsFormed m
+message_formed {m} h = record { own = h.own; colour = h.colour; limits = (sites_of m, h.shadow) }
 
 -- ---- each log by itself passes the checks
 pub released_all : (i : ℕ) (past : List Message) → AllOrdered i past → Released past
@@ -54,8 +54,8 @@ checked_from i (v ∷ past) c h f =
     let older : (u : Message) → Has u past → IsFormed u = λ u k. f u (inr k) in
     let here = f v (inl refl) in
     let r = released_all i past c.1 in
-    subst Checked (sym (back_push v past)) (checked_end [] (cores (reverse past)) (core v) (checked_from i past c.1 h.1 older) (record {
-      new_id = new_here past v r c.0.ready;
+    subst Checked (sym (back_push v past)) (checked_end [] (cores (reverse past)) (checked_from i past c.1 h.1 older) (record {
+      new_id = new_here r c.0.ready;
       next_red =
           number_is v.stamp.red (count is_red (cores (reverse past))) (is_red v.shadow) here.colour
           (λ l. c.0.ready.number l ∙ ap (λ n. n + 1) (sym (count_reds past (λ u k. (older u k).colour))));
@@ -64,8 +64,8 @@ checked_from i (v ∷ past) c h f =
     }))
 
 -- ---- references, among more messages
-more_precede : (all wide : Message → Type 0) (v : Message) → ((m : Message) → all m → Precedes m v → wide m) → (kind : Message → Type 0)
-    → Preceded all v kind → Preceded wide v kind
+more_precede : (all wide : Message → Type 0) (v : Message) → ((m : Message) → all m → Precedes m v → wide m) → (kind : Message → Type 0) → Preceded all v kind
+    → Preceded wide v kind
 more_precede all wide v f kind r = (r.0, f r.0 r.1 r.3, r.2, r.3)
 
 winner_more : (all wide : Message → Type 0) (v : Message) → ((m : Message) → all m → Precedes m v → wide m) → (x : Shadow) → HasBidOnItem all v x
@@ -95,7 +95,7 @@ refers_in (x ∷ past) h v (inr k) = refers_more (λ u. Has u past) (λ u. Has u
 -- ---- what passes is sound
 module _ (sites : ℕ) (logs : List Log) (among : AreAmong sites logs) (f : AreFaultless logs) where
   formed : (v : Message) → Logged logs v → IsFormed v
-  formed v a = message_formed v (among v a).0
+  formed v a = message_formed (among v a).0
 
   each : (log : Log) → Has log logs → Checked (cores log.messages)
   each log h =
@@ -128,7 +128,7 @@ module _ (sites : ℕ) (logs : List Log) (among : AreAmong sites logs) (f : AreF
         λ v a. refers_more (λ u. Has u (reverse a.0.0.messages)) (Logged logs) v (λ m h p. (a.0, has_reverse m a.0.0.messages h)) v.shadow
         (refers_in (reverse a.0.0.messages) (f.fitting a.0.0 a.0.1) v (has_back v a.0.0.messages a.1));
     holds = λ log h. checked_holds (cores log.messages) (each log h);
-    stock = λ log h j n r e g. stock_left (cores log.messages) j n r (checked_holds (cores log.messages) (each log h)) e
+    stock = λ log h j n r e g. stock_left j r (checked_holds (cores log.messages) (each log h)) e
         (sym ((is_meaning log h).rows (key.Item j)) ∙ g);
     ended = λ log h j r o e g. row_winner (Logged logs) (ground logs each once) once log.messages j r o (λ m x. ((log, h), x))
         (sym ((is_meaning log h).rows (key.Item j)) ∙ e) g;
@@ -150,16 +150,16 @@ module _ (sites : ℕ) (logs : List Log) (among : AreAmong sites logs) (f : AreF
   }
 
 -- ---- a run passes
-run_fitting : (w : World) (past : List Message) → Sound w → Released past → ((x : Message) → Has x past → Sent w x) → AllFitting past
-run_fitting w [] s r all = tt
-run_fitting w (v ∷ past) s r all =
+run_fitting : {w : World} (past : List Message) → Sound w → Released past → ((x : Message) → Has x past → Sent w x) → AllFitting past
+run_fitting [] s r all = tt
+run_fitting {w} (v ∷ past) s r all =
     let b = all v (inl refl) in
     let older : (x : Message) → Has x past → Sent w x = λ x h. all x (inr h) in (
       (
-        (follows w past v s r.1 older b r.0).fits,
-        refers_more (Sent w) (λ u. Has u past) v (λ m a p. there w past m s r.1 older a (seen w past m v s r.0 b p)) v.shadow (refers w s v b),
+        (follows s r.1 older b r.0).fits,
+        refers_more (Sent w) (λ u. Has u past) v (λ m a p. there w past m s r.1 older a (seen m s r.0 b p)) v.shadow (refers w s v b),
       ),
-      run_fitting w past s r.1 older,
+      run_fitting past s r.1 older,
     )
 
 -- what holds of entries newest first holds of the older ones among them
@@ -182,13 +182,13 @@ module _ (w : World) (s : Sound w) (logs : List Log) (of : (log : Log) → Has l
 
   pub run_faultless : AreFaultless logs
   run_faultless = record {
-    clash = λ u v a b e f. unique w u v s (sent u a) (sent v b) e f;
+    clash = λ u v a b e f. unique u v s (sent u a) (sent v b) e f;
     ordered = λ log h. ordered_before log.site (reverse (of log h).later) (reverse log.messages)
         (subst (AllOrdered log.site) (newest log h)
-        (run_ordered w log.site (reverse (site w log.site).log) s (s.good log.site).released (s.good log.site).made (s.good log.site).log_sent));
+        (run_ordered log.site (reverse (site w log.site).log) s (s.good log.site).released (s.good log.site).made (s.good log.site).log_sent));
     red_once = λ u v a b l e. s.reds.single u v (sent u a) (sent v b) l e;
     fitting = λ log h. fitting_before (reverse (of log h).later) (reverse log.messages)
-        (subst AllFitting (newest log h) (run_fitting w (reverse (site w log.site).log) s (s.good log.site).released (s.good log.site).log_sent));
+        (subst AllFitting (newest log h) (run_fitting (reverse (site w log.site).log) s (s.good log.site).released (s.good log.site).log_sent));
     rows = λ log h. (of log h).rows;
   }
 

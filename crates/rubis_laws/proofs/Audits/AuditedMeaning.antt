@@ -51,8 +51,7 @@ place before (x ∷ rest) v n u c (inl e) =
 place before (x ∷ rest) v n u c (inr h) =
     let on = sym (cores_push before x) in
     subst (λ l. Place l v) (append_assoc before (x ∷ []) rest)
-    (place (before ++ x ∷ []) rest v (numbered_push before x n c.0) (subst Apart on (apart_push (cores before) (core x) u c.0))
-    (subst (λ l. CheckedFrom l (cores rest)) on c.1) h)
+    (place (before ++ x ∷ []) rest v (numbered_push before x n c.0) (subst Apart on (apart_push u c.0)) (subst (λ l. CheckedFrom l (cores rest)) on c.1) h)
 
 module _ (logs : List Log) (each : (log : Log) → Has log logs → Checked (cores log.messages))
     (once : (u v : Message) → Logged logs u → Logged logs v → is_red u.shadow ≡ true → is_red v.shadow ≡ true → u.stamp.red ≡ v.stamp.red → u ≡ v) where

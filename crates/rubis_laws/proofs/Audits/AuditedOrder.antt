@@ -153,7 +153,7 @@ module _ {K : Type 0} (sites : K → ℕ) (log : K → List Message) (each : (k 
         λ u v a h q. subst (StandsBefore u v) (reverse-reverse (log k))
         (before_from u v (reverse (log k)) (closed k (reverse (log k)) u v (each k) (λ x m. m) a (has_back v (log k) h) q));
     causal =
-        λ u v h e. causal_back (sites k) (reverse (log k)) u v (released k) (checked_made (sites k) (reverse (log k)) (each k)) (behind_from u v (log k) h) e;
+        λ u v h e. causal_back (reverse (log k)) u v (released k) (checked_made (sites k) (reverse (log k)) (each k)) (behind_from u v (log k) h) e;
   }
 
 -- ---- as they stand
@@ -192,9 +192,9 @@ module _ (logs : List Log) (f : AreFaultless logs) (formed : (v : Message) → L
   }
 
 -- ---- the logs of a run pass
-is_ordered : (w : World) (i : ℕ) (past : List Message) (v : Message) → Sound w → Released (v ∷ past) → CountedBy i (v ∷ past)
+is_ordered : {w : World} (i : ℕ) (past : List Message) (v : Message) → Sound w → Released (v ∷ past) → CountedBy i (v ∷ past)
     → ((x : Message) → Has x (v ∷ past) → Sent w x) → IsOrdered i past v
-is_ordered w i past v s r m all = record {
+is_ordered {w} i past v s r m all = record {
   ready = r.0;
   made = m.0;
   carries = carry;
@@ -211,7 +211,7 @@ is_ordered w i past v s r m all = record {
         ⊎_elim (λ q. let g = ap (dep u) q in let d = ap (dep v) q in omega arith) (λ q. omega (arith, dep_within t.0 u k t.1 u_in q, t.2 k))
         (cases_eq k u.stamp.id.site)
 
-pub run_ordered : (w : World) (i : ℕ) (past : List Message) → Sound w → Released past → CountedBy i past → ((x : Message) → Has x past → Sent w x)
+pub run_ordered : {w : World} (i : ℕ) (past : List Message) → Sound w → Released past → CountedBy i past → ((x : Message) → Has x past → Sent w x)
     → AllOrdered i past
-run_ordered w i [] s r m all = tt
-run_ordered w i (v ∷ past) s r m all = (is_ordered w i past v s r m all, run_ordered w i past s r.1 m.1 (λ x h. all x (inr h)))
+run_ordered i [] s r m all = tt
+run_ordered i (v ∷ past) s r m all = (is_ordered i past v s r m all, run_ordered i past s r.1 m.1 (λ x h. all x (inr h)))

@@ -43,8 +43,8 @@ no_clash others own v h = none_has (clashes v) (others ++ own) (λ u k. false_fr
 same_number : (a b : ℕ) → not (a == b) ≡ false → a ≡ b
 same_number a b e = eqb-true a b (not-false (a == b) e)
 
-pub number_same : (a b : ℕ) → a ≡ b → not (a == b) ≡ false
-number_same a b e = not_from_true (a == b) (eq-eqb a b e)
+pub number_same : {a b : ℕ} → a ≡ b → not (a == b) ≡ false
+number_same {a} {b} e = not_from_true (a == b) (eq-eqb a b e)
 
 pub counted_past : (own : List Message) (n j : ℕ) → n ≤ j → ((u : Message) → Has u own → u.stamp.id.site < n) → counted j own ≡ 0
 counted_past [] n j l h = refl
@@ -95,10 +95,9 @@ module _ (site : ℕ) (own : List Message) (v : Message) (e : out_of_order site 
       (has_none (forgets v) own after_miscounts.1 u h))
 
 -- what is in order passes
-pub orderly : (site : ℕ) (own : List Message) (v : Message) → IsOrdered site (reverse own) v → out_of_order site own v ≡ false
-orderly site own v o =
-    or_from (is_not_next own v) _
-    (number_same v.stamp.id.seq (counted v.stamp.id.site own + 1) (o.ready.next ∙ ap (λ n. n + 1) (counted_reverse v.stamp.id.site own)))
+pub orderly : {site : ℕ} (own : List Message) {v : Message} → IsOrdered site (reverse own) v → out_of_order site own v ≡ false
+orderly {site} own {v} o =
+    or_from (is_not_next own v) _ (number_same (o.ready.next ∙ ap (λ n. n + 1) (counted_reverse v.stamp.id.site own)))
     (or_from (is_early own v) _ (none_below (λ j. not (j == v.stamp.id.site) && nat_lt (counted j own) (dep v j)) (sites_of v) early)
     (or_from (miscounts site own v) _ (false_from_ne_true (miscounts site own v) miscounted)
     (none_has (forgets v) own (λ u h. false_from_ne_true (forgets v u) (forgot u h)))))
@@ -116,7 +115,7 @@ orderly site own v o =
         let t = and_parts (v.stamp.id.site == site) (list_any (λ j. not (dep v j == counted j own)) (range_with_len 0 (sites_of v))) e in
         let m = o.made (eqb-true v.stamp.id.site site t.0) in
         true≢false (sym t.1 ∙ none_below (λ j. not (dep v j == counted j own)) (sites_of v)
-        (λ j. number_same (dep v j) (counted j own) (m j ∙ counted_reverse j own)))
+        (λ j. number_same (m j ∙ counted_reverse j own)))
 
     forgot : (u : Message) → Has u own → forgets v u ≡ true → ⊥
     forgot u h e =
@@ -159,12 +158,9 @@ last_is [] r c u h l e = absurd h
 last_is (m ∷ past) r c u (inl s) l e =
     ap (λ t. cond t (Some m) (find (λ (x : Message). is_red x.shadow) past))
     (c m (inl refl) ∙ lt-ltb 0 m.stamp.red (subst (λ (x : Message). 0 < x.stamp.red) s l)) ∙ ap Some (sym s)
-last_is (m ∷ past) r c u (inr h) l e = ⊎_elim
-    (λ k. let p = reds_yes m past k in let w = red_within past u r.1 h in absurd (omega (arith, w, p, e)))
-    (λ k.
+last_is (m ∷ past) r c u (inr h) l e = ⊎_elim (λ k. let p = reds_yes m past k in let w = red_within past u r.1 h in absurd (omega (arith, w, p, e))) (λ k.
     ap (λ t. cond t (Some m) (find (λ (x : Message). is_red x.shadow) past)) (c m (inl refl) ∙ le-ltb 0 m.stamp.red k)
-    ∙ last_is past r.1 (λ x k. c x (inr k)) u h l (e ∙ reds_no m past (omega (arith, k))))
-    (cases_lt 0 m.stamp.red)
+    ∙ last_is past r.1 (λ x k. c x (inr k)) u h l (e ∙ reds_no m past (omega (arith, k)))) (cases_lt 0 m.stamp.red)
 
 module _ (others own : List Message) (v : Message) (e : red_gap others own v ≡ false) (red : Coloured v) where
   number_tests : 0 < v.stamp.red →
@@ -194,14 +190,13 @@ module _ (others own : List Message) (v : Message) (e : red_gap others own v ≡
       (not-false (comes_before u v) (ap (λ o. option_map_or (λ u. not (comes_before u v)) o false) (sym s) ∙ (others_tests p).1))
 
 -- what has the next red number, and is preceded by the red one before it, passes
-pub no_gap : (site : ℕ) (others own : List Message) (v : Message) → Coloured v → Released (reverse own) → ((u : Message) → Has u own → Coloured u)
+pub no_gap : {site : ℕ} (others own : List Message) {v : Message} → Coloured v → Released (reverse own) → ((u : Message) → Has u own → Coloured u)
     → IsOrdered site (reverse own) v → ((u : Message) → Has u others → 0 < v.stamp.red → u.stamp.red ≡ v.stamp.red → u ≡ v) → red_gap others own v ≡ false
-no_gap site others own v red r c o once = false_from_ne_true (red_gap others own v) (λ e.
+no_gap others own {v} red r c o once = false_from_ne_true (red_gap others own v) (λ e.
     let t = and_parts (is_red v.shadow)
     (not (v.stamp.red == reds own + 1) || (list_any (takes_number v) others || option_map_or (λ u. not (comes_before u v)) (last_red own) false)) e in
     let l = ltb-true 0 v.stamp.red (sym red ∙ t.0) in
-    true≢false (sym t.1 ∙ or_from (not (v.stamp.red == reds own + 1)) _
-    (number_same v.stamp.red (reds own + 1) (o.ready.number l ∙ ap (λ n. n + 1) (reds_reverse own)))
+    true≢false (sym t.1 ∙ or_from (not (v.stamp.red == reds own + 1)) _ (number_same (o.ready.number l ∙ ap (λ n. n + 1) (reds_reverse own)))
     (or_from (list_any (takes_number v) others) _ (none_has (takes_number v) others (λ u h. false_from_ne_true (takes_number v u) (taken l u h)))
     (last l (last_red own) refl))))
   where

@@ -54,8 +54,8 @@ clean others site own v e =
     let r = or_parts _ (wrong_category (cores own) v.shadow) d.0 in
     record { clash = a.0; order = b.0; red_gap = c.0; content = record { known = r.0; category = r.1; nick = f.0; stock = g.0; winner = h.0 } }
 
-none_found : (others : List Message) (site : ℕ) (own : List Message) (v : Message) → AreClean others site own v → first_of (checks others site own v) ≡ None
-none_found others site own v c =
+none_found : {others : List Message} {site : ℕ} {own : List Message} {v : Message} → AreClean others site own v → first_of (checks others site own v) ≡ None
+none_found {own} {v} c =
     let r = or_from _ (wrong_category (cores own) v.shadow) c.content.known c.content.category in
     λ i. first_of (
     (kind.Clash, c.clash i) ∷ (kind.Order, c.order i) ∷ (kind.RedGap, c.red_gap i) ∷ (kind.Refers, r i)
@@ -67,20 +67,15 @@ record AreOne (all : List Message) : Type 0 where
   ids : (u w : Message) → Has u all → Has w all → Same u w
   reds : (u w : Message) → Has u all → Has w all → 0 < u.stamp.red → u.stamp.red ≡ w.stamp.red → u ≡ w
 
-one_push : (all : List Message) (v : Message) → AreOne all → ((u : Message) → Has u all → Same u v)
+one_push : {all : List Message} (v : Message) → AreOne all → ((u : Message) → Has u all → Same u v)
     → ((u : Message) → Has u all → 0 < u.stamp.red → u.stamp.red ≡ v.stamp.red → u ≡ v) → AreOne (all ++ v ∷ [])
-one_push all v o id red = record {
-  ids = λ u w h k. ⊎_elim
-      (λ a. ⊎_elim (λ b. o.ids u w a b) (λ b. subst (Same u) (sym b) (id u a)) (push_cases w v all k))
-      (λ a. ⊎_elim (λ b s q. sym
+one_push {all} v o id red = record {
+  ids = λ u w h k. ⊎_elim (λ a. ⊎_elim (λ b. o.ids u w a b) (λ b. subst (Same u) (sym b) (id u a)) (push_cases w v all k)) (λ a. ⊎_elim (λ b s q. sym
       (subst (λ x. w ≡ x) (sym a) (id w b (sym s ∙ ap (λ (x : Message). x.stamp.id.site) a) (sym q ∙ ap (λ (x : Message). x.stamp.id.seq) a))))
-      (λ b s q. a ∙ sym b) (push_cases w v all k))
-      (push_cases u v all h);
-  reds = λ u w h k. ⊎_elim
-      (λ a. ⊎_elim (λ b. o.reds u w a b) (λ b l q. red u a l (q ∙ ap (λ (x : Message). x.stamp.red) b) ∙ sym b) (push_cases w v all k))
+      (λ b s q. a ∙ sym b) (push_cases w v all k)) (push_cases u v all h);
+  reds = λ u w h k. ⊎_elim (λ a. ⊎_elim (λ b. o.reds u w a b) (λ b l q. red u a l (q ∙ ap (λ (x : Message). x.stamp.red) b) ∙ sym b) (push_cases w v all k))
       (λ a. ⊎_elim (λ b l q. a ∙ sym (red w b (subst (λ n. 0 < n) q l) (sym q ∙ ap (λ (x : Message). x.stamp.red) a))) (λ b l q. a ∙ sym b)
-      (push_cases w v all k))
-      (push_cases u v all h);
+      (push_cases w v all k)) (push_cases u v all h);
 }
 
 -- a message that counts `sites` sites and belongs to one of them
@@ -135,7 +130,7 @@ module _ (sites site : ℕ) (others own : List Message) (v : Message) (w : Walke
 
   step : Walked others site (own ++ v ∷ [])
   step = record {
-    one = subst AreOne (append_assoc others own (v ∷ [])) (one_push (others ++ own) v w.one (one_content others own v c.clash) one_number);
+    one = subst AreOne (append_assoc others own (v ∷ [])) (one_push v w.one (one_content others own v c.clash) one_number);
     ordered = subst (AllOrdered site) (sym (reverse_push own v)) (ordered, w.ordered);
     fitting = subst AllFitting (sym (reverse_push own v)) (
       (
@@ -150,15 +145,14 @@ none_map : {X Y : Type 0} (f : X → Y) (o : Option X) → option_map f o ≡ No
 none_map f None e = refl
 none_map f (Some x) e = absurd cc
 
-walk_log : (sites site : ℕ) (others own rest : List Message) → Walked others site own → ((u : Message) → Has u (own ++ rest) → IsOf sites u)
-    → first_fault others site own rest ≡ None → Walked others site (own ++ rest)
-walk_log sites site others own [] w t e = subst (Walked others site) (search Rattle.std.proofs.Common.rules) w
-walk_log sites site others own (v ∷ rest) w t e =
+walk_log : (sites : ℕ) {site : ℕ} {others own : List Message} (rest : List Message) → Walked others site own
+    → ((u : Message) → Has u (own ++ rest) → IsOf sites u) → first_fault others site own rest ≡ None → Walked others site (own ++ rest)
+walk_log sites {site} {others} [] w t e = subst (Walked others site) (search Rattle.std.proofs.Common.rules) w
+walk_log sites {site} {others} {own} (v ∷ rest) w t e =
     let n = or_first (option_map (λ k. (k, length own + 1)) (first_of (checks others site own v))) (first_fault others site (own ++ v ∷ []) rest) e in
     let c = clean others site own v (none_map (λ k. (k, length own + 1)) (first_of (checks others site own v)) n.0) in
     let s = step sites site others own v w (λ u h. t u (has_left u own (v ∷ rest) h)) (t v (has_right v own (v ∷ rest) (inl refl))) c in
-    subst (Walked others site) (append_assoc own (v ∷ []) rest)
-    (walk_log sites site others (own ++ v ∷ []) rest s (λ u h. t u (subst (Has u) (append_assoc own (v ∷ []) rest) h)) n.1)
+    subst (Walked others site) (append_assoc own (v ∷ []) rest) (walk_log sites rest s (λ u h. t u (subst (Has u) (append_assoc own (v ∷ []) rest) h)) n.1)
 
 -- ---- rows
 pub same_rows_decides : (a b : List (List (List ℕ))) → (same_rows a b ≡ true → a ≡ b) × (a ≡ b → same_rows a b ≡ true)
@@ -201,19 +195,19 @@ no_rows : (b : Bool) → cond {A = Option (Kind × ℕ)} b (Some (kind.Rows, 0))
 no_rows true e = absurd cc
 no_rows false e = refl
 
-begin : (site : ℕ) (others : List Message) → AreOne others → Walked others site []
-begin site others o = record { one = subst AreOne (sym (append-nil others)) o; ordered = tt; fitting = tt }
+begin : (site : ℕ) {others : List Message} → AreOne others → Walked others site []
+begin site {others} o = record { one = subst AreOne (sym (append-nil others)) o; ordered = tt; fitting = tt }
 
-walk : (sites k : ℕ) (others : List Message) (logs : List Log) → AreOne others →
-    ((log : Log) → Has log logs → (u : Message) → Has u log.messages → IsOf sites u)
-    → verdict_from k others logs ≡ Agree → AreOne (others ++ said logs) × ((log : Log) → Has log logs → IsFine log)
+walk : (sites k : ℕ) {others : List Message} (logs : List Log) → AreOne others →
+    ((log : Log) → Has log logs → (u : Message) → Has u log.messages → IsOf sites u) → verdict_from k others logs ≡ Agree
+    → AreOne (others ++ said logs) × ((log : Log) → Has log logs → IsFine log)
 unfolding said
-walk sites k others [] o t e = (subst AreOne (sym (append-nil others)) o, (λ log h. absurd h))
-walk sites k others (log ∷ logs) o t e =
+walk sites k {others} [] o t e = (subst AreOne (sym (append-nil others)) o, (λ log h. absurd h))
+walk sites k {others} (log ∷ logs) o t e =
     let a = agrees k (log_fault others log) (verdict_from (k + 1) (others ++ log.messages) logs) e in
     let n = or_first (first_fault others log.site [] log.messages) (cond (wrong_rows log) (Some (kind.Rows, 0)) None) a.0 in
-    let w = walk_log sites log.site others [] log.messages (begin log.site others o) (t log (inl refl)) n.0 in
-    let r = walk sites (k + 1) (others ++ log.messages) logs w.one (λ l h. t l (inr h)) a.1 in
+    let w = walk_log sites log.messages (begin log.site o) (t log (inl refl)) n.0 in
+    let r = walk sites (k + 1) logs w.one (λ l h. t l (inr h)) a.1 in
     let here : IsFine log = record { ordered = w.ordered; fitting = w.fitting; rows = right_rows log.messages log.rows (no_rows (wrong_rows log) n.1) } in
     (subst AreOne (append_assoc others log.messages (said logs)) r.0, (λ l h. ⊎_elim (λ q. subst IsFine (sym q) here) (λ m. r.1 l m) h))
 
@@ -229,10 +223,10 @@ agree_faultless sites logs among e = record {
     typed : (log : Log) → Has log logs → (u : Message) → Has u log.messages → IsOf sites u
     typed log h u k =
         let m = among u ((log, h), k) in
-        record { formed = message_formed u m.0; counts = m.1; site = subst (λ n. u.stamp.id.site < n) m.1 m.0.id.site }
+        record { formed = message_formed m.0; counts = m.1; site = subst (λ n. u.stamp.id.site < n) m.1 m.0.id.site }
 
     w : AreOne ([] ++ said logs) × ((log : Log) → Has log logs → IsFine log)
-    w = walk sites 1 [] logs (record { ids = λ u w h k. absurd h; reds = λ u w h k. absurd h }) typed e
+    w = walk sites 1 logs (record { ids = λ u w h k. absurd h; reds = λ u w h k. absurd h }) typed e
 
 -- ---- and back: what is faultless has no fault
 ordered_behind : (i : ℕ) (newer older : List Message) → AllOrdered i (newer ++ older) → AllOrdered i older
@@ -249,8 +243,8 @@ module _ (logs : List Log) (f : AreFaultless logs) (formed : (v : Message) → L
       → ((u : Message) → Has u others → Logged logs u) → ((u : Message) → Has u own → Logged logs u) → Logged logs v → AreClean others site own v
   entry_clean site others own v o g there here a = record {
     clash = no_clash others own v (λ u h. f.clash u v (⊎_elim (there u) (here u) (has_append u others own h)) a);
-    order = orderly site own v o.0;
-    red_gap = no_gap site others own v (formed v a).colour (released_all site (reverse own) o.1) (λ u h. (formed u (here u h)).colour) o.0
+    order = orderly own o.0;
+    red_gap = no_gap others own (formed v a).colour (released_all site (reverse own) o.1) (λ u h. (formed u (here u h)).colour) o.0
         (λ u h l q. f.red_once u v (there u h) a (subst (λ n. 0 < n) (sym q) l) q);
     content = passes own v v.shadow (subst (λ l. Fits (cores l) v.shadow) (reverse-reverse own) g.0.0)
         (refers_more (λ u. Has u (reverse own)) (λ u. Has u own) v (λ m h p. has_reverse m own h) v.shadow g.0.1);
@@ -269,7 +263,7 @@ module _ (logs : List Log) (f : AreFaultless logs) (formed : (v : Message) → L
       there (λ u h. here u (has_left u own (v ∷ rest) h)) (here v (has_right v own (v ∷ rest) (inl refl))) in
       let n = log_clean site others (own ++ v ∷ []) rest (subst (λ l. AllOrdered site (reverse l)) (sym push) o)
       (subst (λ l. AllFitting (reverse l)) (sym push) g) there (λ u h. here u (subst (Has u) push h)) in
-      ap (λ k. option_or (option_map (λ x. (x, length own + 1)) k) (first_fault others site (own ++ v ∷ []) rest)) (none_found others site own v c) ∙ n
+      ap (λ k. option_or (option_map (λ x. (x, length own + 1)) k) (first_fault others site (own ++ v ∷ []) rest)) (none_found c) ∙ n
 
   logs_clean : (k : ℕ) (others : List Message) (rest : List Log) → ((u : Message) → Has u others → Logged logs u) → ((log : Log) → Has log rest → Has log logs)
       → verdict_from k others rest ≡ Agree
@@ -286,4 +280,4 @@ module _ (logs : List Log) (f : AreFaultless logs) (formed : (v : Message) → L
   faultless_agree = logs_clean 1 [] logs (λ u h. absurd h) (λ l h. h)
 
 pub agrees_where_faultless : (sites : ℕ) (logs : List Log) → AreAmong sites logs → (verdict logs ≡ Agree) ↔ AreFaultless logs
-agrees_where_faultless sites logs among = (agree_faultless sites logs among, (λ f. faultless_agree logs f (λ v a. message_formed v (among v a).0)))
+agrees_where_faultless sites logs among = (agree_faultless sites logs among, (λ f. faultless_agree logs f (λ v a. message_formed (among v a).0)))

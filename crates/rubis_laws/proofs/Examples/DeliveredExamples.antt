@@ -197,12 +197,13 @@ again_is_carried =
     carried_next 2 most (reads 0 ann_is_asked ∷ reads 0 bob_is_asked ∷ reads 1 bob_is_sent ∷ []) (reads 1 ann_is_sent)
     (carried_next 2 most (reads 0 ann_is_asked ∷ reads 0 bob_is_asked ∷ []) (reads 1 bob_is_sent)
     (carried_next 2 most (reads 0 ann_is_asked ∷ []) (reads 0 bob_is_asked)
-    (carried_next 2 most [] (reads 0 ann_is_asked) (none_carried 2 most) (λ p is. absurd (not_some (packet_of 2 ann_is_asked) p no_packet_asked is)))
-    (λ p is. absurd (not_some (packet_of 2 bob_is_asked) p no_packet_bob is)))
+    (carried_next 2 most [] (reads 0 ann_is_asked) (none_carried 2 most) (λ p is. absurd (not_some (packet_of 2 ann_is_asked) no_packet_asked is)))
+    (λ p is. absurd (not_some (packet_of 2 bob_is_asked) no_packet_bob is)))
     (λ p is. (0, omega arith, subst (Has (send_row bob_is_sent)) (sym both_are_answered) (inr (inr (inr (inl refl)))))))
     (λ p is. (0, omega arith, subst (Has (send_row ann_is_sent)) (sym both_are_answered) (inr (inl refl))))
 
-pub two_replies : (n k : List ℕ) (a b : List (List ℕ)) (fields : List (List ℕ)) → Has (send_row fields) ((codes "reply" ∷ n ∷ a) ∷ (codes "reply" ∷ k ∷ b) ∷ []) → ⊥
+pub two_replies : (n k : List ℕ) (a b : List (List ℕ)) (fields : List (List ℕ)) → Has (send_row fields) ((codes "reply" ∷ n ∷ a) ∷ (codes "reply" ∷ k ∷ b) ∷ [])
+    → ⊥
 two_replies n k a b fields (inl e) = absurd cc
 two_replies n k a b fields (inr (inl e)) = absurd cc
 two_replies n k a b fields (inr (inr h)) = h
@@ -228,10 +229,8 @@ one_kept i = cond (i == 1) 1 1000000
 abbrev in_order : List Reading
 in_order = reads 0 ann_is_asked ∷ reads 0 bob_is_asked ∷ reads 1 ann_is_sent ∷ reads 1 bob_is_sent ∷ []
 
-too_few_is_answered : answers_of 2 one_kept in_order 1 ≡
-    (codes "reply" ∷ codes "1" ∷ codes "released" ∷ codes "1" ∷ [])
-    ∷ (codes "reply" ∷ codes "2" ∷ codes "refused" ∷ codes "2" ∷ codes "Full" ∷ [])
-    ∷ []
+too_few_is_answered : answers_of 2 one_kept in_order 1 ≡ (codes "reply" ∷ codes "1" ∷ codes "released" ∷ codes "1" ∷ []) ∷
+    (codes "reply" ∷ codes "2" ∷ codes "refused" ∷ codes "2" ∷ codes "Full" ∷ []) ∷ []
 unfolding answers request_of take_request take_kind kind_of packet_of take_packet take_message take_stamp take_site take_positive number_of deps_of take_shadow
     nick_of digits
 too_few_is_answered = refl
@@ -275,7 +274,7 @@ Fine moments = AreReplayed 2 most moments × CarriedWithRestarts 2 most moments
 
 first_is_fine : Fine first_life
 first_is_fine = readings_are_moments 2 most (reads 0 ann_is_asked ∷ [])
-    (carried_next 2 most [] (reads 0 ann_is_asked) (none_carried 2 most) (λ p is. absurd (not_some (packet_of 2 ann_is_asked) p no_packet_asked is)))
+    (carried_next 2 most [] (reads 0 ann_is_asked) (none_carried 2 most) (λ p is. absurd (not_some (packet_of 2 ann_is_asked) no_packet_asked is)))
 
 second_is_fine : Fine second_life
 second_is_fine = recordings_replay 2 0 most first_life (ann_is_asked ∷ []) first_is_fine.0 first_is_fine.1
@@ -297,8 +296,7 @@ other_is_fine =
 site_0_is_fine : Fine site_0_goes_on
 site_0_is_fine =
     let f = new_records_are_read 2 0 most other_goes_on bob_is_asked other_is_fine.0 other_is_fine.1
-    (nothing_left_out (process 2 most 0) (opening_at 0) (ann_is_asked ∷ []))
-    (λ p is. absurd (not_some (packet_of 2 bob_is_asked) p no_packet_bob is)) in
+    (nothing_left_out (process 2 most 0) (opening_at 0) (ann_is_asked ∷ [])) (λ p is. absurd (not_some (packet_of 2 bob_is_asked) no_packet_bob is)) in
     (f.0, f.1)
 
 killed_is_fine : Fine killed
@@ -308,8 +306,8 @@ killed_is_fine =
     (λ p is. (0, omega arith, site_0_goes_on, [], refl, subst (Has (send_row bob_is_sent)) (sym both_are_answered) (inr (inr (inr (inl refl)))))) in
     (f.0, f.1)
 
-killed_is_answered : answers_of 2 most (recorded killed) 1 ≡
-    (codes "reply" ∷ codes "1" ∷ codes "released" ∷ codes "1" ∷ []) ∷ (codes "reply" ∷ codes "2" ∷ codes "released" ∷ codes "1" ∷ []) ∷ []
+killed_is_answered : answers_of 2 most (recorded killed) 1 ≡ (codes "reply" ∷ codes "1" ∷ codes "released" ∷ codes "1" ∷ []) ∷
+    (codes "reply" ∷ codes "2" ∷ codes "released" ∷ codes "1" ∷ []) ∷ []
 unfolding answers request_of take_request take_kind kind_of packet_of take_packet take_message take_stamp take_site take_positive number_of deps_of take_shadow
     nick_of digits
 killed_is_answered = refl

@@ -52,7 +52,8 @@ ann_comes = reads 0 ann_is_asked ∷ reads 1 ann_is_sent ∷ reads 1 (codes "lis
 
 -- the answer of site 0, from the rows of its tables
 abbrev ann_by : Rows → List (List (List ℕ))
-ann_by rows = (told (asked_rows 1) (generating (process 2 most 0) (opening_at 0) (decision rows (standing_of 1000000 (opening_at 0)) (ask.User (codes "ann"))))).1 ++ []
+ann_by rows = (told (asked_rows 1)
+    (generating (process 2 most 0) (opening_at 0) (decision rows (standing_of 1000000 (opening_at 0)) (ask.User (codes "ann"))))).1 ++ []
 
 abbrev pub ann_answers : List (List (List ℕ))
 ann_answers = (codes "reply" ∷ codes "1" ∷ codes "ok" ∷ codes "0.1" ∷ []) ∷ (codes "send" ∷ ann_is_sent) ∷ []
@@ -68,20 +69,17 @@ ann_by_meaning = refl
 pub ann_is_answered : answers_of 2 most (reads 0 ann_is_asked ∷ []) 0 ≡ ann_answers
 ann_is_answered = ann_is_read ∙ ap ann_by (λ i key. (fold_is_meaning [] tt (omega arith)).0.rows key i) ∙ ann_by_meaning
 
-ann_is_shown : answers_of 2 most ann_comes 1 ≡
-    (codes "reply" ∷ codes "1" ∷ codes "released" ∷ codes "1" ∷ [])
-    ∷ (codes "reply" ∷ codes "2" ∷ codes "rows" ∷ codes "1" ∷ [])
-    ∷ (codes "row" ∷ codes "log" ∷ codes "1" ∷ ann_is_sent)
-    ∷ []
+ann_is_shown : answers_of 2 most ann_comes 1 ≡ (codes "reply" ∷ codes "1" ∷ codes "released" ∷ codes "1" ∷ []) ∷
+    (codes "reply" ∷ codes "2" ∷ codes "rows" ∷ codes "1" ∷ []) ∷ (codes "row" ∷ codes "log" ∷ codes "1" ∷ ann_is_sent) ∷ []
 unfolding answers request_of take_request take_kind kind_of packet_of take_packet take_message take_stamp take_site take_positive number_of deps_of take_shadow
     nick_of take_listing take_shown shown_of log_from digits
 ann_is_shown = refl
 
 -- ---- it is carried unchanged
 
-pub not_some : {A : Type 0} (o : Option A) (x : A) → o ≡ None → o ≡ Some x → ⊥
-not_some None x e f = absurd cc
-not_some (Some y) x e f = absurd cc
+pub not_some : {A : Type 0} (o : Option A) {x : A} → o ≡ None → o ≡ Some x → ⊥
+not_some None e f = absurd cc
+not_some (Some y) e f = absurd cc
 
 pub no_packet_asked : packet_of 2 ann_is_asked ≡ None
 unfolding packet_of take_packet
@@ -97,14 +95,14 @@ ann_was_sent = (0, omega arith, subst (Has (codes "send" ∷ ann_is_sent)) (sym 
 ann_is_carried : Carried 2 most ann_comes
 ann_is_carried [] later r p e is =
     let h : reads 0 ann_is_asked ≡ r = cc in
-    absurd (not_some (packet_of 2 ann_is_asked) p no_packet_asked (subst (λ (x : Reading). packet_of 2 x.fields ≡ Some p) (sym h) is))
+    absurd (not_some (packet_of 2 ann_is_asked) no_packet_asked (subst (λ (x : Reading). packet_of 2 x.fields ≡ Some p) (sym h) is))
 ann_is_carried (x ∷ []) later r p e is =
     let h : reads 1 ann_is_sent ≡ r = cc in
     let k : reads 0 ann_is_asked ≡ x = cc in
     subst (λ (y : Reading). WasSent 2 most (x ∷ []) y.fields) h (subst (λ (y : Reading). WasSent 2 most (y ∷ []) ann_is_sent) k ann_was_sent)
 ann_is_carried (x ∷ y ∷ []) later r p e is =
     let h : reads 1 (codes "list" ∷ codes "log" ∷ []) ≡ r = cc in
-    absurd (not_some (packet_of 2 (codes "list" ∷ codes "log" ∷ [])) p no_packet_listed (subst (λ (x : Reading). packet_of 2 x.fields ≡ Some p) (sym h) is))
+    absurd (not_some (packet_of 2 (codes "list" ∷ codes "log" ∷ [])) no_packet_listed (subst (λ (x : Reading). packet_of 2 x.fields ≡ Some p) (sym h) is))
 ann_is_carried (x ∷ y ∷ z ∷ before) later r p e is = absurd (let l = ap length e in omega (arith, l, length-append before (r ∷ later)))
 
 -- so it is a run
@@ -113,9 +111,7 @@ ann_is_in_a_run = processes_run 2 most ann_comes (omega arith) (omega arith) (λ
 
 -- site 1 stops, and is restarted on its recording without the listing: as if it had never stopped
 ann_comes_again : List Moment
-ann_comes_again =
-    Reads 0 ann_is_asked ∷ Reads 1 ann_is_sent ∷ Reads 1 (codes "list" ∷ codes "log" ∷ [])
-    ∷ Restarts 1 ∷ Replays 1 ann_is_sent ∷ []
+ann_comes_again = Reads 0 ann_is_asked ∷ Reads 1 ann_is_sent ∷ Reads 1 (codes "list" ∷ codes "log" ∷ []) ∷ Restarts 1 ∷ Replays 1 ann_is_sent ∷ []
 
 listing_left_out : IsShortened (process 2 most 1) (opening_at 1) (ann_is_sent ∷ []) (ann_is_sent ∷ (codes "list" ∷ codes "log" ∷ []) ∷ [])
 unfolding request_of take_request take_kind kind_of take_listing take_shown shown_of
@@ -149,7 +145,7 @@ forged_is_no_run : (events : List Event) → AreEvents 2 events → AreProcesses
 forged_is_no_run events among are = at (sound_run 2 1000000 events (omega arith) (omega arith) among).token
   where
     not_none : (i : ℕ) → i < 2 → (state_of 2 most forged i).held ≡ Some 0 → (site (run 1000000 events (start 2)) i).held ≡ None → ⊥
-    not_none i l e f = not_some (site (run 1000000 events (start 2)) i).held 0 f (ap (λ (s : Replica). s.held) (are.states i l) ∙ e)
+    not_none i l e f = not_some (site (run 1000000 events (start 2)) i).held f (ap (λ (s : Replica). s.held) (are.states i l) ∙ e)
 
     at : OneToken (length (run 1000000 events (start 2)).sites) (λ i. (site (run 1000000 events (start 2)) i).held)
         (λ i. (site (run 1000000 events (start 2)) i).last) (run 1000000 events (start 2)).sent → ⊥
@@ -208,8 +204,8 @@ still_first [] later name e = absurd (true≢false (sym (ap (λ n. bytes_eq n (c
 still_first (m ∷ log) later name e = e
 
 -- its log begins with bob, and that of a process that never stopped with ann
-other_log : (first rest : List Reading) → recorded forgetful ≡ first ++ rest
-    → site_after (process 2 most 0) (opening_at 0) 1 (has_read 0 forgetful) ≡ state_of 2 most first 0 → ⊥
+other_log : (first rest : List Reading) → recorded forgetful ≡ first ++ rest → site_after (process 2 most 0) (opening_at 0) 1
+    (has_read 0 forgetful) ≡ state_of 2 most first 0 → ⊥
 unfolding forgetful
 other_log [] rest e f = true≢false (ap (λ n. bytes_eq n (codes "bob")) (sym bob_is_first ∙ ap (λ (t : Replica). first_nick t.log) f))
 other_log (r ∷ first) rest e f =

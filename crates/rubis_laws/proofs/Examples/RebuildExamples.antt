@@ -166,12 +166,11 @@ site_1_is_rebuilt = ap (λ q. (q.0, q.1 ++ [])) bid_is_made_again
 
 -- ---- the records for it: the messages and the token as they were sent, and the ask
 
-site_1_records : records_to_rebuild place_1 tokens messages (packet.Msg bid ∷ [])
-    ≡ (codes "msg" ∷ codes "1" ∷ codes "0" ∷ codes "3" ∷ codes "0" ∷ codes "2:0" ∷ codes "item" ∷ codes "0.1" ∷ codes "lamp" ∷ codes "7" ∷ codes "1" ∷ codes "100" ∷ codes "0" ∷ [])
-    ∷ (codes "msg" ∷ codes "1" ∷ codes "0" ∷ codes "1" ∷ codes "1" ∷ codes "0:0" ∷ codes "user" ∷ codes "ann" ∷ [])
-    ∷ (codes "msg" ∷ codes "1" ∷ codes "0" ∷ codes "2" ∷ codes "2" ∷ codes "1:0" ∷ codes "user" ∷ codes "bob" ∷ [])
-    ∷ (codes "token" ∷ codes "1" ∷ codes "1" ∷ codes "1" ∷ codes "2" ∷ [])
-    ∷ (codes "bid" ∷ codes "0.3" ∷ codes "0.2" ∷ codes "500" ∷ []) ∷ []
+site_1_records : records_to_rebuild place_1 tokens messages (packet.Msg bid ∷ []) ≡
+    (codes "msg" ∷ codes "1" ∷ codes "0" ∷ codes "3" ∷ codes "0" ∷ codes "2:0" ∷ codes "item" ∷ codes "0.1" ∷ codes "lamp" ∷ codes "7" ∷ codes "1" ∷ codes "100"
+    ∷ codes "0" ∷ []) ∷ (codes "msg" ∷ codes "1" ∷ codes "0" ∷ codes "1" ∷ codes "1" ∷ codes "0:0" ∷ codes "user" ∷ codes "ann" ∷ []) ∷
+    (codes "msg" ∷ codes "1" ∷ codes "0" ∷ codes "2" ∷ codes "2" ∷ codes "1:0" ∷ codes "user" ∷ codes "bob" ∷ []) ∷
+    (codes "token" ∷ codes "1" ∷ codes "1" ∷ codes "1" ∷ codes "2" ∷ []) ∷ (codes "bid" ∷ codes "0.3" ∷ codes "0.2" ∷ codes "500" ∷ []) ∷ []
 unfolding digits
 site_1_records = refl
 
@@ -238,8 +237,7 @@ Way = Place → List Token → List Message → Replica → List Packet → Repl
 -- what the law says first, of another way
 abbrev SendsAgain : Way → Type 0
 SendsAgain way = (n keep i : ℕ) (events : List Event) (all : List Message) (tokens : List Token) → keep ≤ 1000000 → i < n → AreEvents n events
-    → ((m : Message) → Has m all ↔ Sent (run keep events (start n)) m)
-    → ((t : Token) → Has t tokens ↔ Has (packet.Token t) (run keep events (start n)).sent)
+    → ((m : Message) → Has m all ↔ Sent (run keep events (start n)) m) → ((t : Token) → Has t tokens ↔ Has (packet.Token t) (run keep events (start n)).sent)
     → (way (record { site = i; sites = n; keep = keep }) tokens all (opening_at i) (sent_by i keep events (start n))).1 ≡ sent_by i keep events (start n)
 
 -- by what the site is given before each message
@@ -258,12 +256,11 @@ without_messages p ts all s m = holding p ts s
 abbrev without_token : Place → List Token → List Message → Replica → Message → Replica
 without_token p ts all s m = after_all p s (lacking p.site s.log m all)
 
-none_sent : (ps : List Packet) → ps ≡ [] → ps ≡ packet.Msg bid ∷ [] → ⊥
-none_sent ps e f = absurd (cc)
+none_sent : {ps : List Packet} → ps ≡ [] → ps ≡ packet.Msg bid ∷ [] → ⊥
+none_sent e f = absurd (cc)
 
 refuted : (way : Way) → (way place_1 tokens messages (opening_at 1) (packet.Msg bid ∷ [])).1 ≡ [] → SendsAgain way → ⊥
-refuted way e law = none_sent (way place_1 tokens messages (opening_at 1) (packet.Msg bid ∷ [])).1 e
-    (subst (λ ps. (way place_1 tokens messages (opening_at 1) ps).1 ≡ ps) site_1_sent
+refuted way e law = none_sent e (subst (λ ps. (way place_1 tokens messages (opening_at 1) ps).1 ≡ ps) site_1_sent
     (law 2 1000000 1 events messages tokens (omega arith) (omega arith) are_events streams_of_run tokens_of_run))
 
 -- the right way is `by_giving prepared`

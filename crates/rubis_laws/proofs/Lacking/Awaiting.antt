@@ -25,9 +25,9 @@ is_below : (x y : ℕ) → x < y → nat_lt x y ≡ true
 is_below x y l = grind (arith, nat_tests)
 
 -- the test of such an answer held, and this is the answer
-some_of : {A : Type 0} (b : Bool) (x y : A) → cond b (Some x) None ≡ Some y → (b ≡ true) × (x ≡ y)
-some_of {A} true x y e = (refl, ap (λ (o : Option A). unwrap_or o x) e)
-some_of false x y e = absurd cc
+some_of : {A : Type 0} (b : Bool) (x : A) {y : A} → cond b (Some x) None ≡ Some y → (b ≡ true) × (x ≡ y)
+some_of {A} true x e = (refl, ap (λ (o : Option A). unwrap_or o x) e)
+some_of false x e = absurd cc
 
 module _ (w : World) (s : Sound w) (r : AllRest w) (i : ℕ) (m : Message) (h : Has m (site w i).waiting) where
   m_sent : Sent w m
@@ -134,11 +134,11 @@ module _ (w : World) (s : Sound w) (r : AllRest w) (i : ℕ) (m : Message) (h : 
   names = record {
     some = one;
     ids = λ j id e.
-        let a = some_of (nat_lt (counted j (site w i).log) (dep m j)) (record { site = j; seq = counted j (site w i).log + 1 }) id e in
+        let a = some_of (nat_lt (counted j (site w i).log) (dep m j)) (record { site = j; seq = counted j (site w i).log + 1 }) e in
         let f = of_site j (ltb-true (counted j (site w i).log) (dep m j) a.0) in
         (f.0, f.1 ∙ a.1, f.2);
     red = λ n e.
-        let a = some_of (nat_lt (reds (site w i).log + 1) m.stamp.red) (reds (site w i).log + 1) n e in
+        let a = some_of (nat_lt (reds (site w i).log + 1) m.stamp.red) (reds (site w i).log + 1) e in
         let f = of_red (ltb-true (reds (site w i).log + 1) m.stamp.red a.0) in
         (f.0, f.1 ∙ a.1, f.2);
   }

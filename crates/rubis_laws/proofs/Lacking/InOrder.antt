@@ -19,7 +19,7 @@ use Rattle.rubis_model.specs.Logs.{Log}
 use Rattle.rubis_model.specs.Order.{Released, StandsBefore}
 use Rattle.rubis_model.specs.Settle.{Has, Ready, counted, reds, settle}
 use Rattle.rubis_model.specs.Settle.Settles.{Rest, Release}
-use Rattle.rubis_model.specs.Site.{Place, Replica, not_ours, is_repeat, is_full, after_came, arrival_of, arrived}
+use Rattle.rubis_model.specs.Site.{Place, Replica, is_repeat, after_came, arrival_of, arrived}
 use Rattle.rubis_model.proofs.Lists.{has_left, has_right, has_append, has_last, has_back, has_reverse, push_cases}
 use Rattle.rubis_model.proofs.OneOutcome.{settles_one}
 use Rattle.rubis_model.proofs.Pasts.{clash, found, found_red}
@@ -54,8 +54,7 @@ pub released_front : (front rest : List Message) (m : Message) → Released (rev
 released_front front rest m r = released_drop (reverse rest) (m ∷ reverse front) (subst Released (reverse_middle front rest m) r)
 
 pub apart_front : (front rest : List Message) (m : Message) → Released (reverse (front ++ m ∷ rest)) → Has m rest → ⊥
-apart_front front rest m r h =
-    released_apart (reverse rest) (reverse front) m (subst Released (reverse_middle front rest m) r) (has_back m rest h)
+apart_front front rest m r h = released_apart (reverse rest) (reverse front) m (subst Released (reverse_middle front rest m) r) (has_back m rest h)
 
 pub filter_in : {A : Type 0} (test : A → Bool) (x : A) (xs : List A) → Has x (filter test xs) → Has x xs × (test x ≡ true)
 filter_in test x [] h = absurd h
@@ -79,8 +78,7 @@ firsts_append before (m ∷ xs) ys =
     cond_both (is_among before m) (firsts before xs) (m ∷ firsts (before ++ m ∷ []) xs)
     (λ (q : List Message). cond (is_among before m) (firsts before (xs ++ ys)) (m ∷ firsts (before ++ m ∷ []) (xs ++ ys)) ≡ q ++ firsts (before ++ q) ys)
     (λ t. ap (λ b. cond b (firsts before (xs ++ ys)) (m ∷ firsts (before ++ m ∷ []) (xs ++ ys))) t ∙ firsts_append before xs ys)
-    (λ t. ap (λ b. cond b (firsts before (xs ++ ys)) (m ∷ firsts (before ++ m ∷ []) (xs ++ ys))) t
-    ∙ ap (λ q. m ∷ q) (firsts_append (before ++ m ∷ []) xs ys
+    (λ t. ap (λ b. cond b (firsts before (xs ++ ys)) (m ∷ firsts (before ++ m ∷ []) (xs ++ ys))) t ∙ ap (λ q. m ∷ q) (firsts_append (before ++ m ∷ []) xs ys
     ∙ ap (λ q. firsts (before ++ m ∷ []) xs ++ firsts q ys) (append_assoc before (m ∷ []) (firsts (before ++ m ∷ []) xs))))
 
 -- ---- of messages of which an id and a red number is one's
@@ -250,37 +248,33 @@ module _ (all : Message → Type 0) (ids : (u v : Message) → all u → all v �
           (λ x k l. ⊎_elim (λ q. new x (inr k) q) (λ e. absurd (apart front rest m r (subst (λ y. Has y rest) e k))) (push_cases x m log l))))
 
 -- ---- a site at which nothing waits, and messages that it can release one after the other
-settle_one : (log : List Message) (m : Message) → Ready log m → settle 1 log (m ∷ []) ≡ (log ++ m ∷ [], [])
-settle_one log m r =
+settle_one : {log : List Message} {m : Message} → Ready log m → settle 1 log (m ∷ []) ≡ (log ++ m ∷ [], [])
+settle_one {log} {m} r =
     settles_one log (m ∷ []) (log ++ m ∷ []) [] (Release log [] [] (log ++ m ∷ []) [] m (λ x h. absurd h) r (Rest (log ++ m ∷ []) [] (λ x h. absurd h)))
 
 abbrev quiet : List Message → Option ℕ → ℕ → Replica
 quiet log held last = record { log = log; waiting = []; held = held; last = last }
 
-answer_released : (a b c : Bool) (s t : Replica) (n : ℕ) → a ≡ false → b ≡ false → c ≡ false → n ≡ 1
-    → cond {A = Replica × Result Arrival Refusal} a (s, Err NotOurs) (cond b (s, Ok arrival.Repeat) (cond c (s, Err Full) (t, Ok (arrival_of n))))
-    ≡ (t, Ok (arrival.Released 1))
-answer_released a b c s t n ea eb ec en = λ i. cond {A = Replica × Result Arrival Refusal} (ea i) (s, Err NotOurs)
+answer_released : {a b c : Bool} (s t : Replica) {n : ℕ} → a ≡ false → b ≡ false → c ≡ false → n ≡ 1
+    → cond {A = Replica × Result Arrival Refusal} a (s, Err NotOurs) (cond b (s, Ok arrival.Repeat) (cond c (s, Err Full) (t, Ok (arrival_of n)))) ≡
+    (t, Ok (arrival.Released 1))
+answer_released s t ea eb ec en = λ i. cond {A = Replica × Result Arrival Refusal} (ea i) (s, Err NotOurs)
     (cond (eb i) (s, Ok arrival.Repeat) (cond (ec i) (s, Err Full) (t, Ok (arrival_of (en i)))))
 
-came_quiet : (log : List Message) (held : Option ℕ) (last : ℕ) (m : Message) → Ready log m → after_came (quiet log held last) m
-    ≡ quiet (log ++ m ∷ []) held last
-came_quiet log held last m r = ap (λ (p : List Message × List Message). record { log = p.0; waiting = p.1; held = held; last = last }) (settle_one log m r)
+came_quiet : {log : List Message} (held : Option ℕ) (last : ℕ) {m : Message} → Ready log m
+    → after_came (quiet log held last) m ≡ quiet (log ++ m ∷ []) held last
+came_quiet {log} held last r = ap (λ (p : List Message × List Message). record { log = p.0; waiting = p.1; held = held; last = last }) (settle_one r)
 
-arrives : (p : Place) (log : List Message) (held : Option ℕ) (last : ℕ) (m : Message) → Released (m ∷ reverse log) → m.stamp.id.site ≢ p.site →
-    length log < p.keep
-    → arrived p (quiet log held last) m ≡ (quiet (log ++ m ∷ []) held last, Ok (arrival.Released 1))
+arrives : (p : Place) (log : List Message) (held : Option ℕ) (last : ℕ) (m : Message) → Released (m ∷ reverse log) → m.stamp.id.site ≢ p.site
+    → length log < p.keep → arrived p (quiet log held last) m ≡ (quiet (log ++ m ∷ []) held last, Ok (arrival.Released 1))
 arrives p log held last m r other room =
-    answer_released (not_ours p (quiet log held last) m) (is_repeat (quiet log held last) m) (is_full p.keep (quiet log held last)) (quiet log held last)
-    (after_came (quiet log held last) m) (length (after_came (quiet log held last) m).log - length log)
-    (not_of m.stamp.id.site p.site (nat_lt (counted p.site log) m.stamp.id.seq) other)
-    (false_from_ne_true (is_repeat (quiet log held last) m) (λ e. new (repeat_in e)))
-    (short p.keep (length log) room)
-    (longer (ap (λ (s : Replica). length s.log) came))
-    ∙ ap (λ s. (s, Ok (arrival.Released 1))) came
+    answer_released (quiet log held last)
+    (after_came (quiet log held last) m) (not_of m.stamp.id.site p.site (nat_lt (counted p.site log) m.stamp.id.seq) other)
+    (false_from_ne_true (is_repeat (quiet log held last) m) (λ e. new (repeat_in e))) (short p.keep (length log) room)
+    (longer (ap (λ (s : Replica). length s.log) came)) ∙ ap (λ s. (s, Ok (arrival.Released 1))) came
   where
     came : after_came (quiet log held last) m ≡ quiet (log ++ m ∷ []) held last
-    came = came_quiet log held last m (ready_forth log m r.0)
+    came = came_quiet held last (ready_forth log r.0)
 
     new : list_any (λ u. same_id m.stamp.id u.stamp.id) log ≡ true → ⊥
     new e =
@@ -322,9 +316,9 @@ pub released_prefix : (front rest : List Message) (m : Message) → IsReleased (
 released_prefix front rest m r = subst Released (sym (reverse_push front m)) (released_front front rest m r)
 
 pub push_released : (all : Message → Type 0) → ((u v : Message) → all u → all v → u.stamp.id.site ≡ v.stamp.id.site → u.stamp.id.seq ≡ v.stamp.id.seq → u ≡ v)
-    → ((u v : Message) → all u → all v → 0 < u.stamp.red → u.stamp.red ≡ v.stamp.red → u ≡ v)
-    → (front log : List Message) (m : Message) → IsReleased (front ++ m ∷ []) → IsReleased log → ((x : Message) → Has x log → all x) → all m
-    → ((x : Message) → Has x front → Has x log) → (Has m log → ⊥) → IsReleased (log ++ m ∷ [])
+    → ((u v : Message) → all u → all v → 0 < u.stamp.red → u.stamp.red ≡ v.stamp.red → u ≡ v) → (front log : List Message) (m : Message)
+    → IsReleased (front ++ m ∷ []) → IsReleased log → ((x : Message) → Has x log → all x) → all m → ((x : Message) → Has x front → Has x log) → (Has m log → ⊥)
+    → IsReleased (log ++ m ∷ [])
 push_released all ids red_once front log m r = released_push all ids red_once front log m (subst Released (reverse_push front m) r)
 
 pub in_flat : (logs : List Log) (log : Log) (m : Message) → Has log logs → Has m log.messages → Has m (flat_map (λ (l : Log). l.messages) logs)

@@ -81,7 +81,7 @@ module _ (all : Message → Type 0) (ids : (u v : Message) → all u → all v �
   follows_on : (front past : List Message) (m : Message) → Released (m ∷ front) → Released (m ∷ past) → ((x : Message) → Has x past → all x) → all m
       → ((x : Message) → Has x front → Has x past) → Follows (cores (reverse front)) (core m) → Follows (cores (reverse past)) (core m)
   follows_on front past m rf rp on a within f = record {
-    new_id = new_here past m rp.1 rp.0;
+    new_id = new_here rp.1 rp.0;
     next_red =
         number_is m.stamp.red (count is_red (cores (reverse past))) (is_red m.shadow) (formed m a).colour
         (λ l. rp.0.number l ∙ ap (λ n. n + 1) (sym (count_reds past (λ x h. (formed x (on x h)).colour))));
@@ -114,7 +114,7 @@ module _ (all : Message → Type 0) (ids : (u v : Message) → all u → all v �
       let g = follows_on (reverse front) (reverse log) m (subst Released (reverse_push front m) cf.0) (subst Released (reverse_push log m) r)
       (λ x h. on x (has_reverse x log h)) a
       (λ x h. has_back x log (within x (has_reverse x front h))) f in
-      (r, subst Checked (sym (cores_push log m)) (checked_end [] (cores log) (core m) cl.1 (subst (λ q. Follows (cores q) (core m)) (reverse-reverse log) g)))
+      (r, subst Checked (sym (cores_push log m)) (checked_end [] (cores log) cl.1 (subst (λ q. Follows (cores q) (core m)) (reverse-reverse log) g)))
 
 module _ (logs : List Log) (f : AreFaultless logs) (formed : (v : Message) → Logged logs v → IsFormed v) where
   log_checked : (log : Log) → Has log logs → IsChecked log.messages
@@ -152,7 +152,7 @@ module _ (logs : List Log) (f : AreFaultless logs) (formed : (v : Message) → L
 
 pub completed_tables_are_equal : CompletedTablesAreEqual
 completed_tables_are_equal sites logs among f a b ha hb =
-    completed_same logs f (λ v g. message_formed v (among v g).0) a b ha hb (short a ha) (short b hb)
+    completed_same logs f (λ v g. message_formed (among v g).0) a b ha hb (short a ha) (short b hb)
   where
     short : (log : Log) → Has log logs → length (completed logs log.messages) ≤ 2 ^ 32
     short log h =
@@ -214,7 +214,7 @@ module _ (n keep : ℕ) (few : keep ≤ 1000000) (w : World) (s : Sound w) (r : 
       at : (t : Bool) → is_among (site w i).log m ≡ t → Has m (site (run keep es w) i).log ⊎ Has m (site (run keep es w) i).waiting
       at true t =
           let k = number_of (packet.Msg m) w.sent b in
-          let h : Has m (site w i).log = among_in (Sent w) (λ u v. unique w u v s) m (site w i).log b
+          let h : Has m (site w i).log = among_in (Sent w) (λ u v. unique u v s) m (site w i).log b
           (λ x q. (s.good i).log_sent x (has_back x (site w i).log q)) t in
           delivered keep few es w i k.0 m d s r room (omega (arith, size, l)) k.1 b (inr (inl h))
       at false t =
@@ -235,4 +235,4 @@ one_round_converges n keep events deliveries some few a d room logs of brings i 
     let r : AllRest v = rest_run keep few deliveries w es sw rw in
     let hi = released_all v s r i (has_all n keep few w sw rw size room logs of deliveries i d li brings) in
     let hj = released_all v s r j (has_all n keep few w sw rw size room logs of deliveries j d lj brings) in
-    (hi, hj, same_tables keep v i j few s (room_run keep deliveries w (room_of n keep events)) hi hj)
+    (hi, hj, same_tables keep i j few s (room_run keep deliveries w (room_of n keep events)) hi hj)

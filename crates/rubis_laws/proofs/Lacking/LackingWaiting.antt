@@ -44,10 +44,10 @@ taken_of n l = subst (λ b. IsTakenIn (Ok (cond b arrival.Held (arrival.Released
     not_zero n l = grind (arith, nat_tests)
 
 -- the answer where none of the tests holds
-is_answer : (a b c : Bool) (s t : Replica) (n : ℕ) → a ≡ false → b ≡ false → c ≡ false
-    → cond {A = Replica × Result Arrival Refusal} a (s, Err NotOurs) (cond b (s, Ok arrival.Repeat) (cond c (s, Err Full) (t, Ok (arrival_of n))))
-    ≡ (t, Ok (arrival_of n))
-is_answer a b c s t n ea eb ec = λ i. cond {A = Replica × Result Arrival Refusal} (ea i) (s, Err NotOurs)
+is_answer : {a b c : Bool} (s t : Replica) (n : ℕ) → a ≡ false → b ≡ false → c ≡ false
+    → cond {A = Replica × Result Arrival Refusal} a (s, Err NotOurs) (cond b (s, Ok arrival.Repeat) (cond c (s, Err Full) (t, Ok (arrival_of n)))) ≡
+    (t, Ok (arrival_of n))
+is_answer s t n ea eb ec = λ i. cond {A = Replica × Result Arrival Refusal} (ea i) (s, Err NotOurs)
     (cond (eb i) (s, Ok arrival.Repeat) (cond (ec i) (s, Err Full) (t, Ok (arrival_of n))))
 
 abbrev state : ℕ → World → ℕ → Message → Replica
@@ -60,8 +60,8 @@ module _ (keep : ℕ) (few : keep ≤ 1000000) (w : World) (s : Sound w) (r : Al
       → Has m (site v i).log ⊎ Has m (site v i).waiting → Has m (site v i).log
   logged_of v sv rv av on h = ⊎_elim (λ q. q)
       (λ q. absurd ((rests_at v i rv).unready m q
-      (ready_forth (site v i).log m
-      (ready_on (Sent v) (λ x y. unique v x y sv) sv.reds.single front (reverse (site v i).log) m rm (sv.good i).released (sv.good i).log_sent av
+      (ready_forth (site v i).log
+      (ready_on (Sent v) (λ x y. unique x y sv) sv.reds.single front (reverse (site v i).log) m rm (sv.good i).released (sv.good i).log_sent av
       (λ x y. has_back x (site v i).log (on x y)) (λ y. (rests_at v i rv).apart.not_logged m q (has_reverse m (site v i).log y))))))
       h
 
@@ -78,7 +78,7 @@ module _ (keep : ℕ) (few : keep ≤ 1000000) (w : World) (s : Sound w) (r : Al
 
   pub next_rest : AllRest next
   unfolding next
-  next_rest = rest_event keep w (Deliver i number.0) s r
+  next_rest = rest_event keep (Deliver i number.0) s r
 
   pub next_sent : next.sent ≡ w.sent
   unfolding next
@@ -122,7 +122,7 @@ module _ (keep : ℕ) (few : keep ≤ 1000000) (w : World) (s : Sound w) (r : Al
   released_now ea eb ec =
       let t = (after_came (site w i) m).log in
       let same : state keep w i m ≡ after_came (site w i) m = ap (λ (p : Replica × Result Arrival Refusal). p.0)
-      (is_answer (not_ours (place keep w i) (site w i) m) (is_repeat (site w i) m) (is_full keep (site w i)) (site w i) (after_came (site w i) m)
+      (is_answer (site w i) (after_came (site w i) m)
       (length t - length (site w i).log) ea eb ec) in
       let q = or_parts (list_any (λ u. same_id m.stamp.id u.stamp.id) (site w i).log) (list_any (λ u. same_id m.stamp.id u.stamp.id) (site w i).waiting) eb in
       let here : Has m t = subst (λ (y : Replica). Has m y.log) same comes in
@@ -144,10 +144,9 @@ abbrev Taken : Place → Replica → List Message → List Message → Type 0
 Taken p s front more = ((a : Result Arrival Refusal) → Has a (answers_to p s more) → IsTakenIn a)
     × ((x : Message) → Has x front ⊎ Has x more → Has x (after_all p s more).log)
 
-all_taken : (keep : ℕ) → keep ≤ 1000000 → (more front : List Message) (w : World) (i : ℕ) (p : Place) → Sound w → AllRest w → i < length w.sites →
-    message_count w.sent ≤ keep
-    → Released (reverse (front ++ more)) → ((x : Message) → Has x more → Sent w x) → ((x : Message) → Has x front → Has x (site w i).log) → place keep w i ≡ p
-    → Taken p (site w i) front more
+all_taken : (keep : ℕ) → keep ≤ 1000000 → (more front : List Message) (w : World) (i : ℕ) (p : Place) → Sound w → AllRest w → i < length w.sites
+    → message_count w.sent ≤ keep → Released (reverse (front ++ more)) → ((x : Message) → Has x more → Sent w x)
+    → ((x : Message) → Has x front → Has x (site w i).log) → place keep w i ≡ p → Taken p (site w i) front more
 all_taken keep few [] front w i p s r l room rel on within e = ((λ a h. absurd h), (λ x h. ⊎_elim (λ k. within x k) (λ k. absurd k) h))
 all_taken keep few (m ∷ more) front w i p s r l room rel on within e =
     let a : Sent w m = on m (inl refl) in

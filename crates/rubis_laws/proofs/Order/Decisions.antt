@@ -108,4 +108,4 @@ module _ (t : Rows) (a : List Core) (rows : (q : RowKey) → t q ≡ meaning_row
   }
 
   pub decided_fits : (s : Standing) (ask : Ask) (x : Shadow) → Holds a → decision t s ask ≡ Ok x → Fits a x
-  decided_fits s ask x h e = from_kind a x (decided_by_kind t a (tells h) s ask x e)
+  decided_fits s ask x h e = from_kind a x (decided_by_kind (tells h) s ask x e)

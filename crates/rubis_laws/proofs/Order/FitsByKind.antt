@@ -48,8 +48,8 @@ none_is : {X : Type 0} (o : Option X) → is_some o ≡ false → o ≡ None
 none_is None e = refl
 none_is (Some x) e = absurd (true≢false e)
 
-none_told : {X : Type 0} (o : Option X) → o ≡ None → is_some o ≡ false
-none_told o e = ap is_some e
+none_told : {X : Type 0} {o : Option X} → o ≡ None → is_some o ≡ false
+none_told e = ap is_some e
 
 -- ---- a row stands where a message makes it
 first_stands : {X : Type 0} (o p : Option X) → IsSome o → IsSome (option_or o p)
@@ -64,8 +64,7 @@ pub stands_at : {X : Type 0} (f : Core → Option X) (a : List Core) (m : Core) 
 stands_at f [] m h s = absurd h
 stands_at f (x ∷ a) m (inl p) s =
     (λ i. is_some (option_or (when (same_id m.id (p i).id) (f (p i))) (at_id f m.id a)))
-    ∙ (λ i. is_some (option_or (when (itself m.id i) (f m)) (at_id f m.id a)))
-    ∙ first_stands (f m) (at_id f m.id a) s
+    ∙ (λ i. is_some (option_or (when (itself m.id i) (f m)) (at_id f m.id a))) ∙ first_stands (f m) (at_id f m.id a) s
 stands_at f (x ∷ a) m (inr h) s = rest_stands (when (same_id m.id x.id) (f x)) (at_id f m.id a) (stands_at f a m h s)
 
 -- a bid on an item makes a bid's row, whatever its red number
@@ -148,17 +147,17 @@ module _ (a : List Core) where
       and_stands (key.Item c.item) (key.User c.from ∷ key.User c.to ∷ []) f.0
       (and_stands (key.User c.from) (key.User c.to ∷ []) f.1 (one_stands (key.User c.to) f.2))
   known_by (Restock r) f = one_stands (key.Item r.item) f
-  known_by (Rename r) f = one_stands (key.User r.user) (some_nick r.user a r.from f.0)
+  known_by (Rename r) f = one_stands (key.User r.user) (some_nick r.user a f.0)
 
   right_category : (x : Shadow) → FitsByKind a x → wrong_category a x ≡ false
   right_category (Close c) f = right_cat c.cat (item_at c.item a) f.0
   right_category x f = refl
 
   nick_free : (x : Shadow) → FitsByKind a x → nick_taken a x ≡ false
-  nick_free (User n) f = none_told (named n a) f
+  nick_free (User n) f = none_told f
   nick_free (Rename r) f =
-      or_from (is_some (named r.to a)) (not (is_same_nick r.from (nick_at r.user a))) (none_told (named r.to a) f.1)
-      (not_from_true (is_same_nick r.from (nick_at r.user a)) (is_nick_at r.from (nick_at r.user a) f.0))
+      or_from (is_some (named r.to a)) (not (is_same_nick r.from (nick_at r.user a))) (none_told f.1)
+      (not_from_true (is_same_nick r.from (nick_at r.user a)) (is_nick_at f.0))
   nick_free x f = refl
 
   stock_enough : (x : Shadow) → FitsByKind a x → stock_short a x ≡ false
@@ -166,11 +165,11 @@ module _ (a : List Core) where
   stock_enough x f = refl
 
   right_winner : (x : Shadow) → FitsByKind a x → wrong_winner a x ≡ false
-  right_winner (Bid b) f = none_told (close_of b.item a) f.2
-  right_winner (Buy p) f = none_told (close_of p.item a) f.2
+  right_winner (Bid b) f = none_told f.2
+  right_winner (Buy p) f = none_told f.2
   right_winner (Close c) f =
       let best = option_map (λ (m : Core). m.id) (best_bid c.item a) in
-      or_from (is_some (close_of c.item a)) (not (option_eq same_id c.winner best)) (none_told (close_of c.item a) f.1)
+      or_from (is_some (close_of c.item a)) (not (option_eq same_id c.winner best)) (none_told f.1)
       (not_from_true (option_eq same_id c.winner best) ((Decides-winner c.winner best).1 f.2))
   right_winner x f = refl
 
@@ -199,19 +198,19 @@ pub record Tells (t : Rows) (a : List Core) : Type 0 where
   pub winner : (i : Id) (n : NewItem) → item_at i a ≡ Some n
       → option_and_then (λ (r : ItemRow). option_map (λ (b : Best). b.bid) r.best) (item_in t i) ≡ option_map (λ (m : Core). m.id) (best_bid i a)
 
-pub decided_by_kind : (t : Rows) (a : List Core) → Tells t a → (s : Standing) (ask : Ask) (x : Shadow) → decision t s ask ≡ Ok x → FitsByKind a x
-decided_by_kind t a h s (ask.User n) x e =
-    let w = not_refused (is_due t s (ask.User n)) (order_of (ask.User n)) (shadow_of t (ask.User n)) x e in
+pub decided_by_kind : {t : Rows} {a : List Core} → Tells t a → (s : Standing) (ask : Ask) (x : Shadow) → decision t s ask ≡ Ok x → FitsByKind a x
+decided_by_kind {t} {a} h s (ask.User n) x e =
+    let w = not_refused (is_due t s (ask.User n)) (order_of (ask.User n)) (shadow_of t (ask.User n)) e in
     subst (FitsByKind a) w.1 (h.free n w.0.1.1.1.0)
-decided_by_kind t a h s (ask.Item n) x e =
-    let w = not_refused (is_due t s (ask.Item n)) (order_of (ask.Item n)) (shadow_of t (ask.Item n)) x e in
+decided_by_kind {t} {a} h s (ask.Item n) x e =
+    let w = not_refused (is_due t s (ask.Item n)) (order_of (ask.Item n)) (shadow_of t (ask.Item n)) e in
     subst (FitsByKind a) w.1 (h.user n.seller (only _ w.0.1.0))
-decided_by_kind t a h s (ask.Bid b) x e =
-    let w = not_refused (is_due t s (ask.Bid b)) (order_of (ask.Bid b)) (shadow_of t (ask.Bid b)) x e in
+decided_by_kind {t} {a} h s (ask.Bid b) x e =
+    let w = not_refused (is_due t s (ask.Bid b)) (order_of (ask.Bid b)) (shadow_of t (ask.Bid b)) e in
     let n = h.item b.item w.0.1.1.1.0 in
     subst (FitsByKind a) w.1 (ap is_some n.1, h.user b.bidder (only _ w.0.1.1.1.1.0), h.unended b.item n.0 n.1 w.0.1.1.1.1.1.0)
-decided_by_kind t a h s (ask.Buy p) x e =
-    let w = not_refused (is_due t s (ask.Buy p)) (order_of (ask.Buy p)) (shadow_of t (ask.Buy p)) x e in
+decided_by_kind {t} {a} h s (ask.Buy p) x e =
+    let w = not_refused (is_due t s (ask.Buy p)) (order_of (ask.Buy p)) (shadow_of t (ask.Buy p)) e in
     let n = h.item p.item w.0.1.1.1.0 in
     subst (FitsByKind a) w.1 (
       ap is_some n.1,
@@ -219,25 +218,25 @@ decided_by_kind t a h s (ask.Buy p) x e =
       h.unended p.item n.0 n.1 w.0.1.1.1.1.1.0,
       h.enough p.item n.0 p.quantity n.1 w.0.1.1.1.1.1.1.1.1.0,
     )
-decided_by_kind t a h s (ask.Close c) x e =
-    let w = not_refused (is_due t s (ask.Close c)) (order_of (ask.Close c)) (shadow_of t (ask.Close c)) x e in
+decided_by_kind {t} {a} h s (ask.Close c) x e =
+    let w = not_refused (is_due t s (ask.Close c)) (order_of (ask.Close c)) (shadow_of t (ask.Close c)) e in
     let n = h.item c.item w.0.1.1.1.0 in
     subst (FitsByKind a) w.1 (
       h.cat c.item n.0 n.1,
       h.unended c.item n.0 n.1 w.0.1.1.1.1.1.0,
       h.winner c.item n.0 n.1,
     )
-decided_by_kind t a h s (ask.Comment c) x e =
-    let w = not_refused (is_due t s (ask.Comment c)) (order_of (ask.Comment c)) (shadow_of t (ask.Comment c)) x e in
+decided_by_kind {t} {a} h s (ask.Comment c) x e =
+    let w = not_refused (is_due t s (ask.Comment c)) (order_of (ask.Comment c)) (shadow_of t (ask.Comment c)) e in
     let n = h.item c.item w.0.1.0 in
     let u = neither _ _ w.0.1.1.0 in
     subst (FitsByKind a) w.1 (ap is_some n.1, h.user c.from u.0, h.user c.to u.1)
-decided_by_kind t a h s (ask.Restock r) x e =
-    let w = not_refused (is_due t s (ask.Restock r)) (order_of (ask.Restock r)) (shadow_of t (ask.Restock r)) x e in
+decided_by_kind {t} {a} h s (ask.Restock r) x e =
+    let w = not_refused (is_due t s (ask.Restock r)) (order_of (ask.Restock r)) (shadow_of t (ask.Restock r)) e in
     let n = h.item r.item w.0.1.0 in
     subst (FitsByKind a) w.1 (ap is_some n.1)
-decided_by_kind t a h s (ask.Rename r) x e =
-    let w = not_refused (is_due t s (ask.Rename r)) (order_of (ask.Rename r)) (shadow_of t (ask.Rename r)) x e in
+decided_by_kind {t} {a} h s (ask.Rename r) x e =
+    let w = not_refused (is_due t s (ask.Rename r)) (order_of (ask.Rename r)) (shadow_of t (ask.Rename r)) e in
     subst (FitsByKind a) w.1 (h.nick r.user (only _ w.0.1.1.1.0), h.free r.nick (or_parts (is_some (t (key.Nick r.nick))) _ w.0.1.1.1.1.0).0)
 
 -- ---- where it is released
@@ -257,16 +256,15 @@ pub record KeepsReds (a b : List Core) : Type 0 where
   pub stock : (i : Id) (q : ℕ) → IsSome (item_at i a) → IfSome (item_at i a) (λ n. total (sold_of i) a + q ≤ supply a i n)
       → IfSome (item_at i b) (λ n. total (sold_of i) b + q ≤ supply b i n)
 
-pub kept_by_kind : (a b : List Core) → Keeps a b → (x : Shadow) → (is_red x ≡ true → KeepsReds a b) → FitsByKind a x → FitsByKind b x
-kept_by_kind a b k (User n) r f = sym ((r refl).named n) ∙ f
-kept_by_kind a b k (Item n) r f = k.user n.seller f
-kept_by_kind a b k (Bid x) r f = (k.item x.item f.0, k.user x.bidder f.1, sym ((r refl).close x.item) ∙ f.2)
-kept_by_kind a b k (Buy p) r f = (k.item p.item f.0, k.user p.buyer f.1, sym ((r refl).close p.item) ∙ f.2, (r refl).stock p.item p.quantity f.0 f.3)
-kept_by_kind a b k (Close c) r f =
-    (k.cat c.item c.cat f.0, sym ((r refl).close c.item) ∙ f.1, f.2 ∙ ap (option_map (λ (m : Core). m.id)) ((r refl).best c.item))
-kept_by_kind a b k (Comment c) r f = (k.item c.item f.0, k.user c.from f.1, k.user c.to f.2)
-kept_by_kind a b k (Restock x) r f = k.item x.item f
-kept_by_kind a b k (Rename x) r f = (sym ((r refl).nick x.user) ∙ f.0, sym ((r refl).named x.to) ∙ f.1)
+pub kept_by_kind : {a b : List Core} → Keeps a b → (x : Shadow) → (is_red x ≡ true → KeepsReds a b) → FitsByKind a x → FitsByKind b x
+kept_by_kind k (User n) r f = sym ((r refl).named n) ∙ f
+kept_by_kind k (Item n) r f = k.user n.seller f
+kept_by_kind k (Bid x) r f = (k.item x.item f.0, k.user x.bidder f.1, sym ((r refl).close x.item) ∙ f.2)
+kept_by_kind k (Buy p) r f = (k.item p.item f.0, k.user p.buyer f.1, sym ((r refl).close p.item) ∙ f.2, (r refl).stock p.item p.quantity f.0 f.3)
+kept_by_kind k (Close c) r f = (k.cat c.item c.cat f.0, sym ((r refl).close c.item) ∙ f.1, f.2 ∙ ap (option_map (λ (m : Core). m.id)) ((r refl).best c.item))
+kept_by_kind k (Comment c) r f = (k.item c.item f.0, k.user c.from f.1, k.user c.to f.2)
+kept_by_kind k (Restock x) r f = k.item x.item f
+kept_by_kind k (Rename x) r f = (sym ((r refl).nick x.user) ∙ f.0, sym ((r refl).named x.to) ∙ f.1)
 
 -- ---- what it says of rows
 
@@ -277,19 +275,17 @@ not_there (Some x) s e = absurd cc
 -- a test of two ids fails where one names a row and the other has none
 other_user : (u v : Id) (a : List Core) → user_at u a ≡ None → IsSome (user_at v a) → same_id u v ≡ false
 other_user u v a e s =
-    elim (same_id u v) as
-    (λ b. same_id u v ≡ b → b ≡ false)
+    elim (same_id u v) as (λ b. same_id u v ≡ b → b ≡ false)
     [ true ↦ λ h. absurd (not_there (user_at v a) s (subst (λ w. user_at w a ≡ None) ((Decides-same_id u v).0 h) e)) | false ↦ λ h. refl ] refl
 
 other_item : (u v : Id) (a : List Core) → item_at u a ≡ None → IsSome (item_at v a) → same_id u v ≡ false
 other_item u v a e s =
-    elim (same_id u v) as
-    (λ b. same_id u v ≡ b → b ≡ false)
+    elim (same_id u v) as (λ b. same_id u v ≡ b → b ≡ false)
     [ true ↦ λ h. absurd (not_there (item_at v a) s (subst (λ w. item_at w a ≡ None) ((Decides-same_id u v).0 h) e)) | false ↦ λ h. refl ] refl
 
-mapped_some : {X Y : Type 0} (f : X → Y) (o : Option X) (y : Y) → option_map f o ≡ Some y → IsSome o
-mapped_some f None y e = absurd cc
-mapped_some f (Some x) y e = refl
+mapped_some : {X Y : Type 0} (f : X → Y) (o : Option X) {y : Y} → option_map f o ≡ Some y → IsSome o
+mapped_some f None e = absurd cc
+mapped_some f (Some x) e = refl
 
 pub record SaysNothingOfUser (u : Id) (x : Shadow) : Type 0 where
   pub items : lists_item_of u x ≡ false
@@ -317,13 +313,13 @@ nothing_of_user u a (Comment c) f e =
       rename = refl;
     }
 nothing_of_user u a (Rename r) f e =
-    record { items = refl; bought = refl; rating = refl; comments = refl; rename = other_user u r.user a e (some_nick r.user a r.from f.0) }
+    record { items = refl; bought = refl; rating = refl; comments = refl; rename = other_user u r.user a e (some_nick r.user a f.0) }
 nothing_of_user u a x f e = record { items = refl; bought = refl; rating = refl; comments = refl; rename = refl }
 
 pub nothing_of_item : (i : Id) (a : List Core) (x : Shadow) → FitsByKind a x → item_at i a ≡ None → SaysNothingOfItem i x
 nothing_of_item i a (Bid b) f e = record { sold = refl; restocked = refl; bids = other_item i b.item a e f.0; close = refl }
 nothing_of_item i a (Buy p) f e = record { sold = ap (λ b. cond b p.quantity 0) (other_item i p.item a e f.0); restocked = refl; bids = refl; close = refl }
-nothing_of_item i a (Close c) f e = record { sold = refl; restocked = refl; bids = refl; close = other_item i c.item a e (mapped_some _ _ _ f.0) }
+nothing_of_item i a (Close c) f e = record { sold = refl; restocked = refl; bids = refl; close = other_item i c.item a e (mapped_some _ _ f.0) }
 nothing_of_item i a (Restock r) f e =
     record { sold = refl; restocked = ap (λ b. cond b r.quantity 0) (other_item i r.item a e f); bids = refl; close = refl }
 nothing_of_item i a x f e = record { sold = refl; restocked = refl; bids = refl; close = refl }

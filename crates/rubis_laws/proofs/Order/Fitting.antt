@@ -26,9 +26,9 @@ use Rattle.rubis_laws.proofs.Rows.EqualSets.{OneRed, bid_red, close_red, rename_
 abbrev pub At : {X : Type 0} → (Core → Option X) → Id → X → List Core → Type 0
 At f i x a = (m : Core) × (Member a m) × (i ≡ m.id) × (f m ≡ Some x)
 
-pub found_at : {X : Type 0} (f : Core → Option X) (i : Id) (x : X) (a : List Core) → at_id f i a ≡ Some x → At f i x a
-found_at f i x [] e = absurd cc
-found_at f i x (y ∷ a) e = go (same_id i y.id) refl (f y) refl (found_at f i x a)
+pub found_at : {X : Type 0} (f : Core → Option X) (i : Id) {x : X} (a : List Core) → at_id f i a ≡ Some x → At f i x a
+found_at f i [] e = absurd cc
+found_at f i {x} (y ∷ a) e = go (same_id i y.id) refl (f y) refl (found_at f i a)
   where
     on : At f i x a → At f i x (y ∷ a)
     on w = (w.0, inr w.1, w.2, w.3)
@@ -84,7 +84,7 @@ module _ {beats : Core → Core → Bool} (ranks : Ranks beats) (p : Core → Bo
 module _ (a b : List Core) (within : (m : Core) → Member a m → Member b m) (own : OneEach a) (ids : OneEach b) (one_red : OneRed b) where
   still : {X : Type 0} (f : Core → Option X) (i : Id) (x : X) → at_id f i a ≡ Some x → at_id f i b ≡ Some x
   still f i x e =
-      let w = found_at f i x a e in
+      let w = found_at f i a e in
       subst (λ j. at_id f j b ≡ Some x) (sym w.2) (at_member f b w.0 ids (within w.0 w.1) ∙ w.3)
 
   still_some : {X : Type 0} (f : Core → Option X) (i : Id) → IsSome (at_id f i a) → IsSome (at_id f i b)
@@ -109,7 +109,7 @@ module _ (a b : List Core) (within : (m : Core) → Member a m → Member b m) (
 
     user_back : (i : Id) (n : List ℕ) → user_at i b ≡ Some n → user_at i a ≡ None → ⊥
     user_back i n e h =
-        let w = found_at (λ m. as_user m.shadow) i n b e in
+        let w = found_at (λ m. as_user m.shadow) i b e in
         let there = back w.0 w.1 (user_red w.0.shadow (ap is_some w.3)) in
         absurd (let z : Some n ≡ None = sym w.3 ∙ sym (at_member (λ m. as_user m.shadow) a w.0 own there) ∙ ap (λ j. user_at j a) (sym w.2) ∙ h in cc)
 
@@ -165,4 +165,4 @@ module _ (a b : List Core) (within : (m : Core) → Member a m → Member b m) (
   keeps_reds r = record { close = same_close r; best = same_best r; nick = same_holder r; named = same_named r; stock = buy_still_fits r }
 
   pub fits_on : (x : Shadow) → (is_red x ≡ true → (m : Core) → Member b m → is_red m.shadow ≡ true → Member a m) → Fits a x → Fits b x
-  fits_on x r f = from_kind b x (kept_by_kind a b keeps x (λ e. keeps_reds (r e)) (by_kind a x f))
+  fits_on x r f = from_kind b x (kept_by_kind keeps x (λ e. keeps_reds (r e)) (by_kind a x f))

@@ -24,12 +24,11 @@ pub set_at : (P : ℕ → Replica → Type 0) (sites : List Replica) (i : ℕ) (
     → ((j : ℕ) → (j ≡ i → ⊥) → P j (get_or sites j d)) → (j : ℕ) → P j (get_or (set sites i x) j d)
 set_at P sites i x d l here there j = ⊎_elim
     (λ e. subst (λ k. P k (get_or (set sites i x) k d)) (sym e) (subst (P i) (sym (get_or-set_same sites i x d l)) here))
-    (λ n. subst (P j) (sym (get_or-set_other sites i j x d n)) (there j n))
-    (cases_eq j i)
+    (λ n. subst (P j) (sym (get_or-set_other sites i j x d n)) (there j n)) (cases_eq j i)
 
 -- ---- a new packet
-pub good_more : (sent : List Packet) (p : Packet) (i : ℕ) (log waiting : List Message) → Good sent i log waiting → Good (sent ++ p ∷ []) i log waiting
-good_more sent p i log waiting g = record {
+pub good_more : {sent : List Packet} (p : Packet) {i : ℕ} {log waiting : List Message} → Good sent i log waiting → Good (sent ++ p ∷ []) i log waiting
+good_more {sent} p g = record {
   released = g.released;
   made = g.made;
   decided = g.decided;
@@ -77,12 +76,10 @@ counted_zero j (m ∷ log) h = counted_no j m log (h m (inl refl)) ∙ counted_z
 
 pub made_dep : (p : Place) (s : Replica) (x : Shadow) → ((m : Message) → Has m (reverse s.log) → m.stamp.id.site < p.sites) → (j : ℕ)
     → dep (made p s x) j ≡ counted j s.log
-made_dep p s x inside j = ⊎_elim
-    (λ k. get_or-map-range_with_len (λ q. counted q s.log) 0 p.sites j j 0 k (omega arith))
+made_dep p s x inside j = ⊎_elim (λ k. get_or-map-range_with_len (λ q. counted q s.log) 0 p.sites j j 0 k (omega arith))
     (λ k. get_or_past (map (λ q. counted q s.log) (range_with_len 0 p.sites)) j 0
     (subst (λ n. n ≤ j) (sym (length-map-range_with_len (λ q. counted q s.log) 0 p.sites)) k)
-    ∙ sym (sym (counted_reverse j s.log) ∙ counted_zero j (reverse s.log) (λ m h e. let l = inside m h in omega arith)))
-    (cases_lt j p.sites)
+    ∙ sym (sym (counted_reverse j s.log) ∙ counted_zero j (reverse s.log) (λ m h e. let l = inside m h in omega arith))) (cases_lt j p.sites)
 
 -- what is so of a message that site i makes after the log
 pub record IsMade (i : ℕ) (log : List Message) (m : Message) : Type 0 where
@@ -97,18 +94,18 @@ pub is_made : (p : Place) (s : Replica) (x : Shadow) → Decided (reverse s.log)
     → IsMade p.site s.log (made p s x)
 is_made p s x decided inside number = record { origin = refl; seq = refl; deps = made_dep p s x inside; number = number; decided = decided }
 
-made_ready : (i : ℕ) (log : List Message) (m : Message) → IsMade i log m → Ready (reverse log) m
-made_ready i log m k = record {
+made_ready : {i : ℕ} {log : List Message} {m : Message} → IsMade i log m → Ready (reverse log) m
+made_ready {log} {m} k = record {
   next = k.seq ∙ ap (λ x. x + 1) (ap (λ x. counted x log) (sym k.origin) ∙ sym (counted_reverse m.stamp.id.site log));
   released = λ j _. let e = k.deps j in let f = counted_reverse j log in omega arith;
   number = λ l. k.number l ∙ ap (λ x. x + 1) (sym (reds_reverse log));
 }
 
 -- a good site makes a message
-pub good_make : (sent : List Packet) (i : ℕ) (log waiting : List Message) (m : Message) → IsMade i log m → Good sent i log waiting
+pub good_make : {sent : List Packet} {i : ℕ} {log waiting : List Message} {m : Message} → IsMade i log m → Good sent i log waiting
     → Good (sent ++ packet.Msg m ∷ []) i (log ++ m ∷ []) waiting
-good_make sent i log waiting m k g = record {
-  released = subst Released (sym (reverse_push log m)) (made_ready i log m k, g.released);
+good_make {sent} {i} {log} {m} k g = record {
+  released = subst Released (sym (reverse_push log m)) (made_ready k, g.released);
   made = subst (CountedBy i) (sym (reverse_push log m)) ((λ e j. k.deps j ∙ sym (counted_reverse j log)), g.made);
   decided = subst (DecidedBy i) (sym (reverse_push log m)) ((λ e. k.decided), g.decided);
   log_sent =
@@ -131,18 +128,16 @@ red_count_blue sent m e = omega (arith, red_count_shadow sent m, none_if_blue m 
 pub red_count_red : (sent : List Packet) (m : Message) → 0 < m.stamp.red → red_count (sent ++ packet.Msg m ∷ []) ≡ red_count sent + 1
 red_count_red sent m e = omega (arith, red_count_shadow sent m, one_if_red m e)
 
-red_same : (u v : Message) → u ≡ v → u.stamp.red ≡ v.stamp.red
-red_same u v e = ap (λ (x : Message). x.stamp.red) e
+red_same : {u v : Message} → u ≡ v → u.stamp.red ≡ v.stamp.red
+red_same e = ap (λ (x : Message). x.stamp.red) e
 
-pub reds_blue : (sent : List Packet) (m : Message) → m.stamp.red ≡ 0 → RedsInOrder sent → RedsInOrder (sent ++ packet.Msg m ∷ [])
-reds_blue sent m blue r = record {
-  small = λ u h. ⊎_elim (λ k. omega (arith, r.small u k, same)) (λ e. omega (arith, red_same u m e)) (shadow_cases u m sent h);
-  single = λ u v hu hv l e. ⊎_elim
-      (λ a. ⊎_elim (λ b. r.single u v a b l e) (λ f. absurd (omega (arith, red_same v m f))) (shadow_cases v m sent hv))
-      (λ f. absurd (omega (arith, red_same u m f))) (shadow_cases u m sent hu);
-  ordered = λ u v hu hv l e. ⊎_elim
-      (λ a. ⊎_elim (λ b. r.ordered u v a b l e) (λ f. absurd (omega (arith, red_same v m f))) (shadow_cases v m sent hv))
-      (λ f. absurd (omega (arith, red_same u m f))) (shadow_cases u m sent hu);
+pub reds_blue : {sent : List Packet} (m : Message) → m.stamp.red ≡ 0 → RedsInOrder sent → RedsInOrder (sent ++ packet.Msg m ∷ [])
+reds_blue {sent} m blue r = record {
+  small = λ u h. ⊎_elim (λ k. omega (arith, r.small u k, same)) (λ e. omega (arith, red_same e)) (shadow_cases u m sent h);
+  single = λ u v hu hv l e. ⊎_elim (λ a. ⊎_elim (λ b. r.single u v a b l e) (λ f. absurd (omega (arith, red_same f))) (shadow_cases v m sent hv))
+      (λ f. absurd (omega (arith, red_same f))) (shadow_cases u m sent hu);
+  ordered = λ u v hu hv l e. ⊎_elim (λ a. ⊎_elim (λ b. r.ordered u v a b l e) (λ f. absurd (omega (arith, red_same f))) (shadow_cases v m sent hv))
+      (λ f. absurd (omega (arith, red_same f))) (shadow_cases u m sent hu);
   each = λ q l h. let f = r.each q l (subst (λ x. q ≤ x) same h) in (f.0, has_left (packet.Msg f.0) sent (packet.Msg m ∷ []) f.1, f.2);
 }
   where
@@ -150,44 +145,40 @@ reds_blue sent m blue r = record {
     same = red_count_blue sent m blue
 
 -- all red ones so far are in a log that has as many
-red_there : (sent : List Packet) (i : ℕ) (log waiting : List Message) (u : Message) → Good sent i log waiting → RedsInOrder sent → reds log ≡ red_count sent
+red_there : {sent : List Packet} {i : ℕ} {log waiting : List Message} (u : Message) → Good sent i log waiting → RedsInOrder sent → reds log ≡ red_count sent
     → Has (packet.Msg u) sent → 0 < u.stamp.red → u.stamp.id.seq ≤ counted u.stamp.id.site log
-red_there sent i log waiting u g r full h l =
+red_there {log} u g r full h l =
     let few : u.stamp.red ≤ reds (reverse log) = omega (arith, r.small u h, reds_reverse log) in
     let f = found_red (reverse log) u.stamp.red g.released l few in
     let same : f.0 ≡ u = r.single f.0 u (g.log_sent f.0 f.1) h (omega (arith, f.2)) f.2 in
     let within = seq_within (reverse log) u g.released (subst (λ x. Has x (reverse log)) same f.1) in
     omega (arith, within.1, counted_reverse u.stamp.id.site log)
 
-pub reds_red : (sent : List Packet) (i : ℕ) (log waiting : List Message) (m : Message) → Good sent i log waiting → reds log ≡ red_count sent
-    → IsMade i log m → m.stamp.red ≡ red_count sent + 1 → RedsInOrder sent → RedsInOrder (sent ++ packet.Msg m ∷ [])
-reds_red sent i log waiting m g full k number r = record {
-  small = λ u h. ⊎_elim (λ a. omega (arith, r.small u a, more)) (λ e. omega (arith, red_same u m e, more)) (shadow_cases u m sent h);
-  single = λ u v hu hv l e. ⊎_elim
-      (λ a. ⊎_elim (λ b. r.single u v a b l e) (λ f. absurd (omega (arith, red_same v m f, r.small u a))) (shadow_cases v m sent hv))
-      (λ f. ⊎_elim (λ b. absurd (omega (arith, red_same u m f, r.small v b))) (λ q. f ∙ sym q) (shadow_cases v m sent hv)) (shadow_cases u m sent hu);
-  ordered = λ u v hu hv l e. ⊎_elim
-      (λ a. ⊎_elim (λ b. r.ordered u v a b l e) (λ f. before u v a l f) (shadow_cases v m sent hv))
-      (λ f. ⊎_elim (λ b. absurd (omega (arith, red_same u m f, r.small v b))) (λ q. absurd (omega (arith, red_same u m f, red_same v m q)))
+pub reds_red : {sent : List Packet} {i : ℕ} {log waiting : List Message} {m : Message} → Good sent i log waiting → reds log ≡ red_count sent → IsMade i log m
+    → m.stamp.red ≡ red_count sent + 1 → RedsInOrder sent → RedsInOrder (sent ++ packet.Msg m ∷ [])
+reds_red {sent} {m} g full k number r = record {
+  small = λ u h. ⊎_elim (λ a. omega (arith, r.small u a, more)) (λ e. omega (arith, red_same e, more)) (shadow_cases u m sent h);
+  single = λ u v hu hv l e. ⊎_elim (λ a. ⊎_elim (λ b. r.single u v a b l e) (λ f. absurd (omega (arith, red_same f, r.small u a))) (shadow_cases v m sent hv))
+      (λ f. ⊎_elim (λ b. absurd (omega (arith, red_same f, r.small v b))) (λ q. f ∙ sym q) (shadow_cases v m sent hv)) (shadow_cases u m sent hu);
+  ordered = λ u v hu hv l e. ⊎_elim (λ a. ⊎_elim (λ b. r.ordered u v a b l e) (λ f. before u v a l f) (shadow_cases v m sent hv))
+      (λ f. ⊎_elim (λ b. absurd (omega (arith, red_same f, r.small v b))) (λ q. absurd (omega (arith, red_same f, red_same q)))
       (shadow_cases v m sent hv)) (shadow_cases u m sent hu);
-  each = λ q l h. ⊎_elim
-      (λ b. let f = r.each q l b in (f.0, has_left (packet.Msg f.0) sent (packet.Msg m ∷ []) f.1, f.2))
-      (λ b. (m, has_last (packet.Msg m) sent, omega (arith, more)))
-      (le_cases q (red_count sent));
+  each = λ q l h. ⊎_elim (λ b. let f = r.each q l b in (f.0, has_left (packet.Msg f.0) sent (packet.Msg m ∷ []) f.1, f.2))
+      (λ b. (m, has_last (packet.Msg m) sent, omega (arith, more))) (le_cases q (red_count sent));
 }
   where
     more : red_count (sent ++ packet.Msg m ∷ []) ≡ red_count sent + 1
     more = red_count_red sent m (omega arith)
 
     before : (u v : Message) → Has (packet.Msg u) sent → 0 < u.stamp.red → v ≡ m → Precedes u v
-    before u v h l e = subst (λ x. Precedes u x) (sym e) (omega (arith, red_there sent i log waiting u g r full h l, k.deps u.stamp.id.site))
+    before u v h l e = subst (λ x. Precedes u x) (sym e) (omega (arith, red_there u g r full h l, k.deps u.stamp.id.site))
 
     le_cases : (a b : ℕ) → (a ≤ b) ⊎ (b < a)
     le_cases a b = ⊎_elim (λ x. inr x) (λ x. inl x) (cases_lt b a)
 
 -- no shadow more
-pub reds_token : (sent : List Packet) (t : Token) → RedsInOrder sent → RedsInOrder (sent ++ packet.Token t ∷ [])
-reds_token sent t r = record {
+pub reds_token : {sent : List Packet} (t : Token) → RedsInOrder sent → RedsInOrder (sent ++ packet.Token t ∷ [])
+reds_token {sent} t r = record {
   small = λ u h. omega (arith, r.small u (not_shadow t u sent h), red_count_right sent t);
   single = λ u v hu hv. r.single u v (not_shadow t u sent hu) (not_shadow t v sent hv);
   ordered = λ u v hu hv. r.ordered u v (not_shadow t u sent hu) (not_shadow t v sent hv);

@@ -11,9 +11,9 @@ abbrev pub NoneHolds : (Refusal → Bool) → List Refusal → Type 0
 NoneHolds test [] = ⊤
 NoneHolds test (r ∷ rs) = (test r ≡ false) × NoneHolds test rs
 
-pub not_refused : (test : Refusal → Bool) (rs : List Refusal) (x y : Shadow) → refused_or (find test rs) x ≡ Ok y → NoneHolds test rs × (x ≡ y)
-not_refused test [] x y e = (tt, let p : x ≡ y = cc in p)
-not_refused test (r ∷ rs) x y e = at (test r) refl e (not_refused test rs x y)
+pub not_refused : (test : Refusal → Bool) (rs : List Refusal) (x : Shadow) {y : Shadow} → refused_or (find test rs) x ≡ Ok y → NoneHolds test rs × (x ≡ y)
+not_refused test [] x {y} e = (tt, let p : x ≡ y = cc in p)
+not_refused test (r ∷ rs) x {y} e = at (test r) refl e (not_refused test rs x)
   where
     at : (b : Bool) → test r ≡ b → refused_or (cond b (Some r) (find test rs)) x ≡ Ok y
         → (refused_or (find test rs) x ≡ Ok y → NoneHolds test rs × (x ≡ y)) → ((test r ≡ false) × NoneHolds test rs) × (x ≡ y)

@@ -29,7 +29,7 @@ module _ (all : Message → Type 0) (v : Message) (past : List Message) (known :
       at : (o : Option _) → at_id f i (cores past) ≡ o → IsSome o → Preceded all v (λ m. (i ≡ m.stamp.id) × IsSome (f (core m)))
       at None e k = absurd (true≢false (sym k))
       at (Some x) e k =
-          let g = found_at f i x (cores past) e in
+          let g = found_at f i (cores past) e in
           let u = core_of g.0 past g.1 in
           let q = known u.0 u.1 in
           (u.0, q.0, (g.2 ∙ ap (λ (c : Core). c.id) (sym u.2), ap is_some (ap f u.2 ∙ g.3)), q.1)

@@ -40,8 +40,7 @@ before_from u v [] h = absurd h
 before_from u v (x ∷ past) (inl e) =
     subst (StandsBefore u v) (sym (reverse-append (x ∷ []) past))
     (subst (λ q. StandsBefore u v (reverse past ++ q ∷ [])) e.0 (before_last u v (reverse past) (has_back u past e.1)))
-before_from u v (x ∷ past) (inr h) =
-    subst (StandsBefore u v) (sym (reverse-append (x ∷ []) past)) (before_push u v x (reverse past) (before_from u v past h))
+before_from u v (x ∷ past) (inr h) = subst (StandsBefore u v) (sym (reverse-append (x ∷ []) past)) (before_push u v x (reverse past) (before_from u v past h))
 
 behind_end : (x v : Message) (ps : List Message) → Has v ps → Behind x v (ps ++ x ∷ [])
 unfolding Behind
@@ -63,13 +62,13 @@ behind_from u v (x ∷ log) (inl e) =
 behind_from u v (x ∷ log) (inr h) = subst (Behind u v) (sym (reverse-append (x ∷ []) log)) (behind_more u v x (reverse log) (behind_from u v log h))
 
 -- ---- ids
-pub unique : (w : World) (u v : Message) → Sound w → Sent w u → Sent w v → u.stamp.id.site ≡ v.stamp.id.site → u.stamp.id.seq ≡ v.stamp.id.seq → u ≡ v
-unique w u v s a b e f =
+pub unique : {w : World} (u v : Message) → Sound w → Sent w u → Sent w v → u.stamp.id.site ≡ v.stamp.id.site → u.stamp.id.seq ≡ v.stamp.id.seq → u ≡ v
+unique {w} u v s a b e f =
     once (reverse (site w v.stamp.id.site).log) u v (s.good v.stamp.id.site).released (subst (λ q. Has u (reverse (site w q).log)) e (s.home.home u a))
     (s.home.home v b) e f
 
-positive : (w : World) (u : Message) → Sound w → Sent w u → 1 ≤ u.stamp.id.seq
-positive w u s a = (seq_within (reverse (site w u.stamp.id.site).log) u (s.good u.stamp.id.site).released (s.home.home u a)).0
+positive : {w : World} (u : Message) → Sound w → Sent w u → 1 ≤ u.stamp.id.seq
+positive {w} u s a = (seq_within (reverse (site w u.stamp.id.site).log) u (s.good u.stamp.id.site).released (s.home.home u a)).0
 
 -- its origin had released all before it
 pub own : (w : World) (v : Message) → Sound w → Sent w v → v.stamp.id.seq ≡ dep v v.stamp.id.site + 1
@@ -81,43 +80,41 @@ own w v s b =
 pub there : (w : World) (past : List Message) (u : Message) → Sound w → Released past → ((x : Message) → Has x past → Sent w x) → Sent w u
     → u.stamp.id.seq ≤ counted u.stamp.id.site past → Has u past
 there w past u s r all a l =
-    let f = found past u.stamp.id.site u.stamp.id.seq r (positive w u s a) l in
-    subst (λ x. Has x past) (unique w f.0 u s (all f.0 f.1) a f.2 f.3) f.1
+    let f = found past u.stamp.id.site u.stamp.id.seq r (positive u s a) l in
+    subst (λ x. Has x past) (unique f.0 u s (all f.0 f.1) a f.2 f.3) f.1
 
 -- a site saw all that precedes what it released
-pub seen : (w : World) (past : List Message) (u v : Message) → Sound w → Ready past v → Sent w v → Precedes u v
+pub seen : {w : World} {past : List Message} (u : Message) {v : Message} → Sound w → Ready past v → Sent w v → Precedes u v
     → u.stamp.id.seq ≤ counted u.stamp.id.site past
-seen w past u v s r b p = ⊎_elim (λ e. same e) (λ n. let k = r.released u.stamp.id.site n in omega arith) (cases_eq u.stamp.id.site v.stamp.id.site)
+seen {w} {past} u {v} s r b p = ⊎_elim (λ e. same e) (λ n. let k = r.released u.stamp.id.site n in omega arith) (cases_eq u.stamp.id.site v.stamp.id.site)
   where
     same : u.stamp.id.site ≡ v.stamp.id.site → u.stamp.id.seq ≤ counted u.stamp.id.site past
     same e = let k = own w v s b in let a = r.next in let c = ap (λ q. dep v q) e in let d = ap (λ q. counted q past) e in omega arith
 
-behind_head : (w : World) (past : List Message) (u v x : Message) → Sound w → Released (x ∷ past) → ((y : Message) → Has y (x ∷ past) → Sent w y)
+behind_head : {w : World} (past : List Message) (u : Message) {v x : Message} → Sound w → Released (x ∷ past) → ((y : Message) → Has y (x ∷ past) → Sent w y)
     → Sent w u → v ≡ x → Precedes u v → Has u past
-behind_head w past u v x s r all a e p =
+behind_head {w} past u {x} s r all a e p =
     let q : Precedes u x = subst (Precedes u) e p in
-    there w past u s r.1 (λ y h. all y (inr h)) a (seen w past u x s r.0 (all x (inl refl)) q)
+    there w past u s r.1 (λ y h. all y (inr h)) a (seen u s r.0 (all x (inl refl)) q)
 
-behind_all : (w : World) (past : List Message) (u v : Message) → Sound w → Released past → ((y : Message) → Has y past → Sent w y) → Sent w u
-    → Has v past → Precedes u v → Behind u v past
+behind_all : {w : World} (past : List Message) (u v : Message) → Sound w → Released past → ((y : Message) → Has y past → Sent w y) → Sent w u → Has v past
+    → Precedes u v → Behind u v past
 unfolding Behind
-behind_all w [] u v s r all a h p = absurd h
-behind_all w (x ∷ past) u v s r all a (inl e) p = inl (e, behind_head w past u v x s r all a e p)
-behind_all w (x ∷ past) u v s r all a (inr h) p = inr (behind_all w past u v s r.1 (λ y k. all y (inr k)) a h p)
+behind_all [] u v s r all a h p = absurd h
+behind_all (x ∷ past) u v s r all a (inl e) p = inl (e, behind_head past u s r all a e p)
+behind_all (x ∷ past) u v s r all a (inr h) p = inr (behind_all past u v s r.1 (λ y k. all y (inr k)) a h p)
 
-pub causal_back : (i : ℕ) (past : List Message) (u v : Message) → Released past → CountedBy i past → Behind u v past → v.stamp.id.site ≡ i
-    → Precedes u v
+pub causal_back : {i : ℕ} (past : List Message) (u v : Message) → Released past → CountedBy i past → Behind u v past → v.stamp.id.site ≡ i → Precedes u v
 unfolding Behind
-causal_back i [] u v r m h o = absurd h
-causal_back i (x ∷ past) u v r m (inl e) o =
+causal_back [] u v r m h o = absurd h
+causal_back (x ∷ past) u v r m (inl e) o =
     subst (Precedes u) (sym e.0) (omega (arith, (seq_within past u r.1 e.1).1, m.0 (ap (λ (q : Message). q.stamp.id.site) (sym e.0) ∙ o) u.stamp.id.site))
-causal_back i (x ∷ past) u v r m (inr h) o = causal_back i past u v r.1 m.1 h o
+causal_back (x ∷ past) u v r m (inr h) o = causal_back past u v r.1 m.1 h o
 
 pub distinct_back : (past : List Message) (u : Message) → Released past → Behind u u past → ⊥
 unfolding Behind
 distinct_back [] u r h = h
-distinct_back (x ∷ past) u r (inl e) =
-    clash x past u r e.1 (ap (λ (q : Message). q.stamp.id.site) (sym e.0)) (ap (λ (q : Message). q.stamp.id.seq) (sym e.0))
+distinct_back (x ∷ past) u r (inl e) = clash x past u r e.1 (ap (λ (q : Message). q.stamp.id.site) (sym e.0)) (ap (λ (q : Message). q.stamp.id.seq) (sym e.0))
 distinct_back (x ∷ past) u r (inr h) = distinct_back past u r.1 h
 
 -- ---- the claims
@@ -127,22 +124,20 @@ transitive w u v x s b c p q =
     (s.good x.stamp.id.site).released (s.home.home x c) refl in
     let h : Has v m.0 = there w m.0 v s m.1 (λ y k. (s.good x.stamp.id.site).log_sent y (m.3 y k)) b (omega (arith, m.2 v.stamp.id.site)) in
     ⊎_elim (λ e. let d = ap (λ k. dep v k) e in let f = ap (λ k. dep x k) e in let o = own w v s b in omega arith)
-    (λ n. omega (arith, dep_within m.0 v u.stamp.id.site m.1 h n, m.2 u.stamp.id.site))
-    (cases_eq u.stamp.id.site v.stamp.id.site)
+    (λ n. omega (arith, dep_within m.0 v u.stamp.id.site m.1 h n, m.2 u.stamp.id.site)) (cases_eq u.stamp.id.site v.stamp.id.site)
 
-serializes : (w : World) (i : ℕ) → Sound w → Serializes i (Sent w) (site w i).log
-serializes w i s = record {
+serializes : {w : World} (i : ℕ) → Sound w → Serializes i (Sent w) (site w i).log
+serializes {w} i s = record {
   members = λ u h. (s.good i).log_sent u (has_back u (site w i).log h);
   distinct = λ u h. distinct_back (reverse (site w i).log) u (s.good i).released (behind_from u u (site w i).log h);
   closed =
-      λ u v a h p. subst (StandsBefore u v) (reverse-reverse (site w i).log)
-      (before_from u v (reverse (site w i).log)
-      (behind_all w (reverse (site w i).log) u v s (s.good i).released (s.good i).log_sent a (has_back v (site w i).log h) p));
-  causal = λ u v h o. causal_back i (reverse (site w i).log) u v (s.good i).released (s.good i).made (behind_from u v (site w i).log h) o;
+      λ u v a h p. subst (StandsBefore u v) (reverse-reverse (site w i).log) (before_from u v (reverse (site w i).log)
+      (behind_all (reverse (site w i).log) u v s (s.good i).released (s.good i).log_sent a (has_back v (site w i).log h) p));
+  causal = λ u v h o. causal_back (reverse (site w i).log) u v (s.good i).released (s.good i).made (behind_from u v (site w i).log h) o;
 }
 
-is_ours : (keep : ℕ) (w : World) (i : ℕ) (m : Message) → Sound w → Sent w m → not_ours (place keep w i) (site w i) m ≡ true → ⊥
-is_ours keep w i m s a e =
+is_ours : (keep : ℕ) {w : World} (i : ℕ) (m : Message) → Sound w → Sent w m → not_ours (place keep w i) (site w i) m ≡ true → ⊥
+is_ours keep {w} i m s a e =
     let p = and_parts (m.stamp.id.site == i) (nat_lt (counted i (site w i).log) m.stamp.id.seq) e in
     let o : m.stamp.id.site ≡ i = eqb-true m.stamp.id.site i p.0 in
     let l = ltb-true (counted i (site w i).log) m.stamp.id.seq p.1 in
@@ -152,8 +147,8 @@ is_ours keep w i m s a e =
     omega arith
 
 -- the answer to a message is NotOurs only where that is tested
-answer_is : (b c d : Bool) (s t : Replica) (n : ℕ) → b ≡ false
-    → (cond {A = Replica × Result Arrival Refusal} b (s, Err NotOurs) (cond c (s, Ok arrival.Repeat) (cond d (s, Err Full) (t, Ok (arrival_of n))))).1 ≢ Err
+answer_is : (b c d : Bool) (s t : Replica) (n : ℕ) → b ≡ false →
+    (cond {A = Replica × Result Arrival Refusal} b (s, Err NotOurs) (cond c (s, Ok arrival.Repeat) (cond d (s, Err Full) (t, Ok (arrival_of n))))).1 ≢ Err
     NotOurs
 answer_is true c d s t n e = absurd (true≢false e)
 answer_is false true d s t n e = λ q. absurd cc
@@ -162,8 +157,7 @@ answer_is false false false s t n e = λ q. absurd cc
 
 ours : (keep : ℕ) (w : World) (i : ℕ) (m : Message) → Sound w → Sent w m → (arrived (place keep w i) (site w i) m).1 ≢ Err NotOurs
 ours keep w i m s a = answer_is (not_ours (place keep w i) (site w i) m) (is_repeat (site w i) m) (is_full keep (site w i)) (site w i) (after_came (site w i) m)
-    (length (after_came (site w i) m).log - length (site w i).log)
-    (false_from_ne_true (not_ours (place keep w i) (site w i) m) (is_ours keep w i m s a))
+    (length (after_came (site w i) m).log - length (site w i).log) (false_from_ne_true (not_ours (place keep w i) (site w i) m) (is_ours keep i m s a))
 
 pub foundation : (w : World) (v : Message) → Sound w → Sent w v → Foundation (Sent w) v
 foundation w v s b = record {
@@ -191,7 +185,7 @@ foundation w v s b = record {
 
 serial : (w : World) → Sound w → SerializeOneOrder (Sent w) (IsLogOf w)
 serial w s = record {
-  ids = λ u v a b. unique w u v s a b;
+  ids = λ u v a b. unique u v s a b;
   order = record {
     irreflexive = λ u a p. let o = own w u s a in omega arith;
     transitive = λ u v x a b c p q. transitive w u v x s b c p q;
@@ -199,7 +193,7 @@ serial w s = record {
         λ u v a b l k. ⊎_elim (λ e. inl (s.reds.single u v a b l e))
         (λ o. inr (⊎_elim (λ f. inl (s.reds.ordered u v a b l f)) (λ f. inr (s.reds.ordered v u b a k f)) o)) (cases_order u.stamp.red v.stamp.red);
   };
-  logs = λ log of. subst (Serializes log.site (Sent w)) (sym of.messages) (serializes w log.site s);
+  logs = λ log of. subst (Serializes log.site (Sent w)) (sym of.messages) (serializes log.site s);
 }
 
 pub in_order : (w : World) → Sound w → InOrder w

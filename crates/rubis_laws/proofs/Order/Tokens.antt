@@ -12,17 +12,17 @@ use Rattle.rubis_laws.proofs.Order.Making.{not_right, right_cases, red_count_rig
 use Rattle.rubis_model.proofs.Lists.{has_last}
 
 -- only where the token stands is it held, and it says how many red ones were sent
-pub held_is : (n : ℕ) (held : ℕ → Option ℕ) (last : ℕ → ℕ) (sent : List Packet) (i issued : ℕ) → OneToken n held last sent → held i ≡ Some issued
+pub held_is : (n : ℕ) (held : ℕ → Option ℕ) (last : ℕ → ℕ) (sent : List Packet) (i : ℕ) {issued : ℕ} → OneToken n held last sent → held i ≡ Some issued
     → Stands n held last sent i × (issued ≡ red_count sent)
-held_is n held last sent i issued (inr t) e = let k = t.1.nowhere i in absurd (cc)
-held_is n held last sent i issued (inl t) e = ⊎_elim (here) (λ k. let a = t.1.alone i k in absurd (cc)) (cases_eq i t.0)
+held_is n held last sent i (inr t) e = let k = t.1.nowhere i in absurd (cc)
+held_is n held last sent i {issued} (inl t) e = ⊎_elim (here) (λ k. let a = t.1.alone i k in absurd (cc)) (cases_eq i t.0)
   where
     here : i ≡ t.0 → Stands n held last sent i × (issued ≡ red_count sent)
     here k = let s = subst (Stands n held last sent) (sym k) t.1 in (s, same_Some issued (red_count sent) (sym e ∙ s.here))
 
 -- the same token, told of other functions and packets
-pub token_same : (n : ℕ) (held held' : ℕ → Option ℕ) (last last' : ℕ → ℕ) (sent sent' : List Packet)
-    → ((i : ℕ) → held' i ≡ held i) → ((i : ℕ) → last' i ≡ last i) → red_count sent' ≡ red_count sent → turns sent' ≡ turns sent
+pub token_same : (n : ℕ) (held held' : ℕ → Option ℕ) (last last' : ℕ → ℕ) (sent sent' : List Packet) → ((i : ℕ) → held' i ≡ held i)
+    → ((i : ℕ) → last' i ≡ last i) → red_count sent' ≡ red_count sent → turns sent' ≡ turns sent
     → ((t : Token) → Has (packet.Token t) sent' → Has (packet.Token t) sent) → ((t : Token) → Has (packet.Token t) sent → Has (packet.Token t) sent')
     → OneToken n held last sent → OneToken n held' last' sent'
 token_same n held held' last last' sent sent' eh el ec et back on (inl t) = inl (
@@ -51,10 +51,10 @@ token_same n held held' last last' sent sent' eh el ec et back on (inr t) = inr 
 )
 
 -- a red message more
-pub token_red : (n : ℕ) (held held' : ℕ → Option ℕ) (last last' : ℕ → ℕ) (sent : List Packet) (m : Message) (i : ℕ)
+pub token_red : {n : ℕ} {held : ℕ → Option ℕ} (held' : ℕ → Option ℕ) {last : ℕ → ℕ} (last' : ℕ → ℕ) {sent : List Packet} (m : Message) {i : ℕ}
     → held' i ≡ Some (red_count sent + 1) → ((j : ℕ) → (j ≡ i → ⊥) → held' j ≡ held j) → ((j : ℕ) → last' j ≡ last j) → 0 < m.stamp.red
     → Stands n held last sent i → Stands n held' last' (sent ++ packet.Msg m ∷ []) i
-token_red n held held' last last' sent m i e eh el l s = record {
+token_red held' last' {sent} m {i} e eh el l s = record {
   within = s.within;
   here = e ∙ ap (λ k. Some k) (sym (red_count_red sent m l));
   alone = λ j k. eh j k ∙ s.alone j k;
@@ -64,11 +64,10 @@ token_red n held held' last last' sent m i e eh el l s = record {
 }
 
 -- it is passed on
-pub token_passed : (n : ℕ) (held held' : ℕ → Option ℕ) (last last' : ℕ → ℕ) (sent : List Packet) (t : Token) (i : ℕ)
-    → held' i ≡ None → ((j : ℕ) → (j ≡ i → ⊥) → held' j ≡ held j) → ((j : ℕ) → last' j ≡ last j)
-    → t.turn ≡ last i + 1 → t.to < n → t.issued ≡ red_count sent
+pub token_passed : {n : ℕ} {held : ℕ → Option ℕ} (held' : ℕ → Option ℕ) {last : ℕ → ℕ} (last' : ℕ → ℕ) {sent : List Packet} (t : Token) {i : ℕ} → held' i ≡ None
+    → ((j : ℕ) → (j ≡ i → ⊥) → held' j ≡ held j) → ((j : ℕ) → last' j ≡ last j) → t.turn ≡ last i + 1 → t.to < n → t.issued ≡ red_count sent
     → Stands n held last sent i → Travels n held' last' (sent ++ packet.Token t ∷ []) t
-token_passed n held held' last last' sent t i e eh el turn to issued s = record {
+token_passed held' last' {sent} t {i} e eh el turn to issued s = record {
   within = to;
   there = has_last (packet.Token t) sent;
   issued = issued ∙ sym (red_count_right sent t);
@@ -80,9 +79,8 @@ token_passed n held held' last last' sent t i e eh el turn to issued s = record 
 }
 
 -- only the one untaken packet is taken
-pub token_taken : (n : ℕ) (held held' : ℕ → Option ℕ) (last last' : ℕ → ℕ) (sent : List Packet) (u : Token)
-    → Has (packet.Token u) sent → last u.to < u.turn → held' u.to ≡ Some u.issued → last' u.to ≡ u.turn
-    → ((j : ℕ) → (j ≡ u.to → ⊥) → held' j ≡ held j) → ((j : ℕ) → (j ≡ u.to → ⊥) → last' j ≡ last j)
+pub token_taken : (n : ℕ) (held held' : ℕ → Option ℕ) (last last' : ℕ → ℕ) (sent : List Packet) (u : Token) → Has (packet.Token u) sent → last u.to < u.turn
+    → held' u.to ≡ Some u.issued → last' u.to ≡ u.turn → ((j : ℕ) → (j ≡ u.to → ⊥) → held' j ≡ held j) → ((j : ℕ) → (j ≡ u.to → ⊥) → last' j ≡ last j)
     → OneToken n held last sent → Stands n held' last' sent u.to
 token_taken n held held' last last' sent u h l e f eh el (inl t) = absurd (omega (arith, t.1.taken u h))
 token_taken n held held' last last' sent u h l e f eh el (inr t) = ⊎_elim here (λ k. absurd (omega arith)) (t.1.others u h)

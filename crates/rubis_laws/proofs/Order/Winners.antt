@@ -39,26 +39,25 @@ pub same_row : (a : List Core) (j : Id) (n : NewItem) (r : ItemRow) → Some (it
 same_row a j n r e f = ap (λ o. option_map f (option_and_then item_in o)) e
 
 -- ---- what the checks say of one shadow
-open_for : (a : List Core) (j : Id) (x : Shadow) → Fits a x → bids_on j x ≡ true → close_of j a ≡ None
-open_for a j (Bid b) f e = subst (λ k. close_of k a ≡ None) (sym ((Decides-same_id j b.item).0 e)) (by_kind a (Bid b) f).2
-open_for a j x f e = absurd (true≢false (sym e))
+open_for : {a : List Core} (j : Id) (x : Shadow) → Fits a x → bids_on j x ≡ true → close_of j a ≡ None
+open_for {a} j (Bid b) f e = subst (λ k. close_of k a ≡ None) (sym ((Decides-same_id j b.item).0 e)) (by_kind a (Bid b) f).2
+open_for j x f e = absurd (true≢false (sym e))
 
-open_before : (a : List Core) (j : Id) (x : Shadow) → Fits a x → closes j x ≡ true → close_of j a ≡ None
-open_before a j (Close b) f e = subst (λ k. close_of k a ≡ None) (sym ((Decides-same_id j b.item).0 e)) (by_kind a (Close b) f).1
-open_before a j x f e = absurd (true≢false (sym e))
+open_before : {a : List Core} (j : Id) (x : Shadow) → Fits a x → closes j x ≡ true → close_of j a ≡ None
+open_before {a} j (Close b) f e = subst (λ k. close_of k a ≡ None) (sym ((Decides-same_id j b.item).0 e)) (by_kind a (Close b) f).1
+open_before j x f e = absurd (true≢false (sym e))
 
-won_by : (a : List Core) (j : Id) (x : Shadow) → Fits a x → closes j x ≡ true → winner_of x ≡ option_map (λ (m : Core). m.id) (best_bid j a)
-won_by a j (Close b) f e = subst (λ k. b.winner ≡ option_map (λ (m : Core). m.id) (best_bid k a)) (sym ((Decides-same_id j b.item).0 e))
+won_by : {a : List Core} (j : Id) (x : Shadow) → Fits a x → closes j x ≡ true → winner_of x ≡ option_map (λ (m : Core). m.id) (best_bid j a)
+won_by {a} j (Close b) f e = subst (λ k. b.winner ≡ option_map (λ (m : Core). m.id) (best_bid k a)) (sym ((Decides-same_id j b.item).0 e))
     (by_kind a (Close b) f).2
-won_by a j x f e = absurd (true≢false (sym e))
+won_by j x f e = absurd (true≢false (sym e))
 
 not_both : (j : Id) (x : Shadow) → bids_on j x ≡ true → closes j x ≡ true → ⊥
 not_both j (Bid b) e f = true≢false (sym f)
 not_both j x e f = true≢false (sym e)
 
 none_closes : (a : List Core) (j : Id) (m : Core) → close_of j a ≡ None → Member a m → closes j m.shadow ≡ true → ⊥
-none_closes a j m e h t =
-    true≢false (sym t ∙ subst (IsChoice earlier (λ x. closes j x.shadow) a) e (choose_is earlier_ranks (λ x. closes j x.shadow) a) m h)
+none_closes a j m e h t = true≢false (sym t ∙ subst (IsChoice earlier (λ x. closes j x.shadow) a) e (choose_is earlier_ranks (λ x. closes j x.shadow) a) m h)
 
 -- ---- what v was decided against: oldest first, with every red message of a smaller number
 pub record Ground (all : Message → Type 0) (v : Message) : Type 0 where
@@ -79,9 +78,9 @@ module _ (all : Message → Type 0) (ground : (v : Message) → all v → Ground
 
   pub one_close : (j : Id) (u v : Message) → all u → all v → closes j u.shadow ≡ true → closes j v.shadow ≡ true → u ≡ v
   one_close j u v a b e f = ⊎_elim (λ q. q) (λ o. absurd (⊎_elim
-      (λ h. none_closes (cores (ground v b).past) j (core u) (open_before (cores (ground v b).past) j v.shadow (ground v b).fits f)
+      (λ h. none_closes (cores (ground v b).past) j (core u) (open_before j v.shadow (ground v b).fits f)
       (has_core u (ground v b).past h) e)
-      (λ h. none_closes (cores (ground u a).past) j (core v) (open_before (cores (ground u a).past) j u.shadow (ground u a).fits e)
+      (λ h. none_closes (cores (ground u a).past) j (core v) (open_before j u.shadow (ground u a).fits e)
       (has_core v (ground u a).past h) f) o))
       (red_cases u v a b (close_red j u.shadow e) (close_red j v.shadow f))
 
@@ -91,12 +90,12 @@ module _ (all : Message → Type 0) (ground : (v : Message) → all v → Ground
   bid_before j b c sb sc e f = has_core b (ground c sc).past (⊎_elim
       (λ q. absurd (not_both j c.shadow (subst (λ (x : Message). bids_on j x.shadow ≡ true) q e) f))
       (λ o. ⊎_elim (λ h. h)
-      (λ h. absurd (none_closes (cores (ground b sb).past) j (core c) (open_for (cores (ground b sb).past) j b.shadow (ground b sb).fits e)
+      (λ h. absurd (none_closes (cores (ground b sb).past) j (core c) (open_for j b.shadow (ground b sb).fits e)
       (has_core c (ground b sb).past h) f)) o)
       (red_cases b c sb sc (bid_red j b.shadow e) (close_red j c.shadow f)))
 
   pub winner_is : (j : Id) (c : Message) → all c → closes j c.shadow ≡ true → IsHighestBid all j (winner_of c.shadow)
-  winner_is j c sc f = subst (IsHighestBid all j) (sym (won_by (cores (ground c sc).past) j c.shadow (ground c sc).fits f))
+  winner_is j c sc f = subst (IsHighestBid all j) (sym (won_by j c.shadow (ground c sc).fits f))
       (at (best_bid j (cores (ground c sc).past)) (choose_is higher_ranks (λ m. bids_on j m.shadow) (cores (ground c sc).past)))
     where
       at : (o : Option Core) → IsChoice higher (λ m. bids_on j m.shadow) (cores (ground c sc).past) o
@@ -139,10 +138,10 @@ module _ (all : Message → Type 0) (ground : (v : Message) → all v → Ground
           sale_of n g = same_Some _ _ (same_row (cores a) j n r g (λ (q : ItemRow). q.sale))
 
 -- what wasn't sold is what the item's row shows
-pub stock_left : (a : List Core) (j : Id) (n : NewItem) (r : ItemRow) → Holds a → item_at j a ≡ Some n
-    → meaning_row a (key.Item j) ≡ Some (row.Item r) → r.stock + r.sold ≡ supply a j n
+pub stock_left : {a : List Core} (j : Id) {n : NewItem} (r : ItemRow) → Holds a → item_at j a ≡ Some n → meaning_row a (key.Item j) ≡ Some (row.Item r)
+    → r.stock + r.sold ≡ supply a j n
 unfolding meaning_row
-stock_left a j n r h e g =
+stock_left {a} j {n} r h e g =
     let same : Some (item_row a j n) ≡ Some (row.Item r) = ap (option_map (item_row a j)) (sym e) ∙ g in
     let stock : supply a j n - total (sold_of j) a ≡ r.stock = same_Some _ _ (same_row a j n r same (λ (q : ItemRow). q.stock)) in
     let sold : total (sold_of j) a ≡ r.sold = same_Some _ _ (same_row a j n r same (λ (q : ItemRow). q.sold)) in

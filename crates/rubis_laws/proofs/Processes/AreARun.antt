@@ -70,8 +70,7 @@ unfolding answers
 answers_more p [] more s n = ap (λ k. answers p s k more) (omega arith)
 answers_more p (fields ∷ rest) more s n =
     let step = input_step p s n (input_of p.sites fields) in
-    ap (λ rows. step.1 ++ rows) (answers_more p rest more step.0 (n + 1))
-    ∙ sym (append_assoc step.1 (answers p step.0 (n + 1) rest) _)
+    ap (λ rows. step.1 ++ rows) (answers_more p rest more step.0 (n + 1)) ∙ sym (append_assoc step.1 (answers p step.0 (n + 1) rest) _)
     ∙ ap (λ k. (step.1 ++ answers p step.0 (n + 1) rest) ++ answers p (site_after p step.0 (n + 1) rest) k more) (omega arith)
 
 pub answers_stay : AnswersStay
@@ -89,8 +88,8 @@ unfolding answers
 answer_one p s n fields = append-nil (input_step p s n (input_of p.sites fields)).1
 
 pub output_one : (p : Place) (records : List (List (List ℕ))) (fields : List (List ℕ))
-    → output_of p (records ++ fields ∷ [])
-    ≡ output_of p records ++ (input_step p (site_after p (opening_at p.site) 1 records) (1 + length records) (input_of p.sites fields)).1
+    → output_of p (records ++ fields ∷ []) ≡ output_of p records ++
+    (input_step p (site_after p (opening_at p.site) 1 records) (1 + length records) (input_of p.sites fields)).1
 output_one p records fields =
     answers_stay p records (fields ∷ [])
     ∙ ap (λ rows. output_of p records ++ rows) (answer_one p (site_after p (opening_at p.site) 1 records) (1 + length records) fields)
@@ -106,8 +105,8 @@ read_more i (r ∷ rest) more = at (r.site == i) (read_more i rest more)
     at true e = ap (λ l. r.fields ∷ l) e
     at false e = e
 
-pub is_itself : (i j : ℕ) → i ≡ j → (i == j) ≡ true
-is_itself i j e = grind (arith, nat_tests)
+pub is_itself : {i j : ℕ} → i ≡ j → (i == j) ≡ true
+is_itself e = grind (arith, nat_tests)
 
 pub is_other : (i j : ℕ) → (j ≡ i → ⊥) → (i == j) ≡ false
 is_other i j e = grind (arith, nat_tests)
@@ -116,8 +115,7 @@ is_within : (i n : ℕ) → i < n → nat_lt i n ≡ true
 is_within i n l = grind (arith, nat_tests)
 
 pub read_here : (before : List Reading) (r : Reading) → read_by r.site (before ++ r ∷ []) ≡ read_by r.site before ++ r.fields ∷ []
-read_here before r =
-    read_more r.site before (r ∷ []) ∙ ap (λ b. read_by r.site before ++ cond b (r.fields ∷ []) []) (is_itself r.site r.site refl)
+read_here before r = read_more r.site before (r ∷ []) ∙ ap (λ b. read_by r.site before ++ cond b (r.fields ∷ []) []) (is_itself refl)
 
 pub read_there : (i : ℕ) (before : List Reading) (r : Reading) → (i ≡ r.site → ⊥) → read_by i (before ++ r ∷ []) ≡ read_by i before
 read_there i before r n =
@@ -236,7 +234,8 @@ rows_listed log f listing.Tables = rows_of_tables listing.Tables f.tables
 
 send_listed : (n : ℕ) (rows : List (List (List ℕ))) → BeginWithRow rows → Sends (listed_rows n (Ok rows)) []
 send_listed n rows begin =
-    send_none (listed_rows n (Ok rows)) (none_after n (codes "rows" ∷ decimal (length rows) ∷ []) rows (λ fields h. let b = (begin (send_row fields) h).1 in absurd cc))
+    send_none (listed_rows n (Ok rows))
+    (none_after n (codes "rows" ∷ decimal (length rows) ∷ []) rows (λ fields h. let b = (begin (send_row fields) h).1 in absurd cc))
 
 -- ---- an event, or none, does what the process does
 

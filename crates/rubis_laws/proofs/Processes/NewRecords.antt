@@ -41,9 +41,9 @@ module _ (sites j : ℕ) (keep : ℕ → ℕ) (moments : List Moment) (fields : 
   still_level : IsLevel sites keep after j
   still_level =
       subst (λ l. IsShortened (process sites keep j) (opening_at j) l (read_by j (recorded after)))
-      (sym (read_now j ∙ ap (λ b. cond b (has_read j moments ++ fields ∷ []) (has_read j moments)) (is_itself j j refl)))
+      (sym (read_now j ∙ ap (λ b. cond b (has_read j moments ++ fields ∷ []) (has_read j moments)) (is_itself refl)))
       (subst (λ l. IsShortened (process sites keep j) (opening_at j) (has_read j moments ++ fields ∷ []) l)
-      (sym (kept_now j ∙ ap (λ b. read_by j (recorded moments) ++ cond b (fields ∷ []) []) (is_itself j j refl)))
+      (sym (kept_now j ∙ ap (λ b. read_by j (recorded moments) ++ cond b (fields ∷ []) []) (is_itself refl)))
       (short_more (process sites keep j) fields (read_by j (recorded moments)) (has_read j moments) (opening_at j) level))
 
   -- before it, where nobody but process j may read a new record

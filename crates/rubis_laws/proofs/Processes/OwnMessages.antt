@@ -56,9 +56,9 @@ refused_other n r other k (inr h) = h
 
 -- ---- an ask
 
-find_is : {A : Type 0} (p : A → Bool) (xs : List A) (r : A) → find p xs ≡ Some r → p r ≡ true
-find_is p [] r e = absurd cc
-find_is p (x ∷ xs) r e = at (p x) refl (find_is p xs r) e
+find_is : {A : Type 0} (p : A → Bool) (xs : List A) {r : A} → find p xs ≡ Some r → p r ≡ true
+find_is p [] e = absurd cc
+find_is p (x ∷ xs) {r} e = at (p x) refl (find_is p xs) e
   where
     at : (b : Bool) → p x ≡ b → (find p xs ≡ Some r → p r ≡ true) → cond b (Some x) (find p xs) ≡ Some r → p r ≡ true
     at true is more e = subst (λ y. p y ≡ true) (let q : x ≡ r = cc in q) is
@@ -71,10 +71,10 @@ due_other t s ask r e is = at (find (is_due t s ask) (order_of ask)) refl e
     at None f e = absurd cc
     at (Some q) f e =
         let same : q ≡ NotOurs = (let z : q ≡ r = cc in z) ∙ is in
-        true≢false (sym (find_is (is_due t s ask) (order_of ask) q f) ∙ ap (is_due t s ask) same)
+        true≢false (sym (find_is (is_due t s ask) (order_of ask) f) ∙ ap (is_due t s ask) same)
 
-asked_own : (p : Place) (s : Replica) (n : ℕ) (a : Result Shadow Refusal) → ((r : Refusal) → a ≡ Err r → r ≡ NotOurs → ⊥) →
-    NotRefused (asked_rows n (generating p s a).1)
+asked_own : (p : Place) (s : Replica) (n : ℕ) (a : Result Shadow Refusal) → ((r : Refusal) → a ≡ Err r → r ≡ NotOurs → ⊥)
+    → NotRefused (asked_rows n (generating p s a).1)
 asked_own p s n (Err r) other k h = refused_other n r (other r refl) k h
 asked_own p s n (Ok x) other k (inl e) = absurd cc
 asked_own p s n (Ok x) other k (inr (inl e)) = absurd cc
@@ -88,8 +88,7 @@ passed_own p s n to (Some issued) =
     cond_both (nat_le p.sites to || (to == p.site)) (s, Err BadTarget) _ (λ (a : Replica × Result Token Refusal). NotRefused (passed_rows n a.1))
     (λ _. refused_other n BadTarget (λ e. absurd cc))
     (λ _. cond_both (nat_le 1000000000 s.last) (s, Err LastTurn) _ (λ (a : Replica × Result Token Refusal). NotRefused (passed_rows n a.1))
-    (λ _. refused_other n LastTurn (λ e. absurd cc))
-    (λ _. sent))
+    (λ _. refused_other n LastTurn (λ e. absurd cc)) (λ _. sent))
   where
     sent : NotRefused (passed_rows n (Ok (token_for s to issued)))
     sent k (inl e) = absurd cc
@@ -127,8 +126,9 @@ took_own p s n t =
 -- ---- all readings
 
 -- what holds of the packets of all readings holds of the first ones
-pub carried_before : (sites : ℕ) (keep : ℕ → ℕ) (all before later : List Reading) → all ≡ before ++ later → Carried sites keep all → Carried sites keep before
-carried_before sites keep all before later is carried first rest r p e =
+pub carried_before : (sites : ℕ) (keep : ℕ → ℕ) {all : List Reading} (before later : List Reading) → all ≡ before ++ later → Carried sites keep all
+    → Carried sites keep before
+carried_before sites keep before later is carried first rest r p e =
     carried first (rest ++ later) r p (is ∙ ap (λ l. l ++ later) e ∙ append_assoc first (r ∷ rest) later)
 
 module _ (sites : ℕ) (keep : ℕ → ℕ) (some : 1 ≤ sites) (top : sites ≤ COUNTED_MAX) (small : (i : ℕ) → keep i ≤ 1000000) where
@@ -172,7 +172,7 @@ module _ (sites : ℕ) (keep : ℕ → ℕ) (some : 1 ≤ sites) (top : sites �
   own_all : (all : List Reading) → Carried sites keep all → (later before : List Reading) → all ≡ before ++ later → Own before → Own all
   own_all all carried [] before is own = subst Own (sym (is ∙ append-nil before)) own
   own_all all carried (r ∷ later) before is own =
-      let first = processes_run sites keep before some top small (carried_before sites keep all before (r ∷ later) is carried) in
+      let first = processes_run sites keep before some top small (carried_before sites keep before (r ∷ later) is carried) in
       own_all all carried later (before ++ r ∷ []) (is ∙ sym (append_assoc before (r ∷ []) later))
       (own_next before r (λ l. own_step before r (run 1000000 first.0 (start sites)) l first.2 (every_order sites 1000000 first.0 some (omega arith) first.1)
       (λ p e. carried before later r p is e)) own)

@@ -89,15 +89,14 @@ module _ (sites : ℕ) (top : sites ≤ COUNTED_MAX) where
 
 -- ---- what was sent stays sent
 
-pub sent_later : (sites : ℕ) (keep : ℕ → ℕ) (all before later : List Reading) (fields : List (List ℕ)) → all ≡ before ++ later
+pub sent_later : (sites : ℕ) (keep : ℕ → ℕ) {all : List Reading} (before later : List Reading) (fields : List (List ℕ)) → all ≡ before ++ later
     → WasSent sites keep before fields → WasSent sites keep all fields
-sent_later sites keep all before later fields is h =
+sent_later sites keep before later fields is h =
     let p = process sites keep h.0 in (
       h.0,
       h.1,
       subst (Has _) (sym (ap (λ l. output_of p (read_by h.0 l)) is ∙ ap (output_of p) (read_more h.0 before later)
-          ∙ answers_stay p (read_by h.0 before) (read_by h.0 later)))
-          (has_left _ (answers_of sites keep before h.0) _ h.2),
+          ∙ answers_stay p (read_by h.0 before) (read_by h.0 later))) (has_left _ (answers_of sites keep before h.0) _ h.2),
     )
 
 -- ---- what a process has read it has
@@ -115,13 +114,13 @@ module _ (sites : ℕ) (keep : ℕ → ℕ) (some : 1 ≤ sites) (top : sites �
       ≡ Some (packet.Msg m)
       → Had (step sites keep before r).0 m
   has_now before later r is here m e =
-      let q = processes_run sites keep before some top small (carried_before sites keep all before (r ∷ later) is carried) in
+      let q = processes_run sites keep before some top small (carried_before sites keep before (r ∷ later) is carried) in
       let w = run 1000000 q.0 (start sites) in
       let s = sound_run sites 1000000 q.0 some (omega arith) q.1 in
       let rest = rests_run sites 1000000 q.0 some (omega arith) q.1 in
       let a : Sent w m = (q.2.sent (packet.Msg m)).1 (r.fields, carried before later r (packet.Msg m) is e, e) in
       let covers : (x : Message) → Sent w x → Has x keeps.0 = λ x h. let k = (q.2.sent (packet.Msg x)).0 h in
-      keeps.1 x (k.0, sent_later sites keep all before (r ∷ later) k.0 is k.1, k.2) in
+      keeps.1 x (k.0, sent_later sites keep before (r ∷ later) k.0 is k.1, k.2) in
       let had : Had (arrived (place (keep i) w i) (site w i) m).0 m = had_among w s rest i m a (keep i) keeps.0 covers keeps.2 in
       let same : (arrived (place (keep i) w i) (site w i) m).0 ≡ (step sites keep before r).0 =
       (λ j. (arrived (record { site = i; sites = q.2.count j; keep = keep i }) (q.2.states i within j) m).0)
@@ -189,8 +188,7 @@ processes_converge sites keep readings some top small carried i j li lj ri rj ki
 
 level_state : (sites : ℕ) (keep : ℕ → ℕ) (moments : List Moment) (i : ℕ) → IsLevel sites keep moments i
     → state_since_start sites keep moments i ≡ state_of sites keep (recorded moments) i
-level_state sites keep moments i e =
-    short_state (process sites keep i) (read_by i (recorded moments)) (has_read i moments) (opening_at i) 1 1 e
+level_state sites keep moments i e = short_state (process sites keep i) (read_by i (recorded moments)) (has_read i moments) (opening_at i) 1 1 e
 
 -- what is shown of processes in these two states
 abbrev Converged : ℕ → (ℕ → ℕ) → List Reading → Replica → Replica → Type 0

@@ -32,8 +32,8 @@ nothing_in : {A : Type 0} (c d : List A) → c ++ d ≡ [] → (c ≡ []) × (d 
 nothing_in [] d e = (refl, e)
 nothing_in (x ∷ c) d e = absurd cc
 
-pub split_append : {A : Type 0} (xs ys c d : List A) → xs ++ ys ≡ c ++ d → ((e : List A) × (xs ≡ c ++ e) × (d ≡ e ++ ys))
-    ⊎ ((e : List A) × (c ≡ xs ++ e) × (ys ≡ e ++ d))
+pub split_append : {A : Type 0} (xs ys c d : List A) → xs ++ ys ≡ c ++ d → ((e : List A) × (xs ≡ c ++ e) × (d ≡ e ++ ys)) ⊎
+    ((e : List A) × (c ≡ xs ++ e) × (ys ≡ e ++ d))
 split_append xs ys [] d e = inl (xs, refl, sym e)
 split_append [] ys (z ∷ c) d e = inr (z ∷ c, refl, e)
 split_append (x ∷ xs) ys (z ∷ c) d e =
@@ -72,8 +72,8 @@ passed_same n m (Ok u) fields (inr h) = inr h
 passed_same n m (Err r) fields (inl e) = absurd cc
 passed_same n m (Err r) fields (inr h) = absurd h
 
-same_sent : (p : Place) (s : Replica) (n m : ℕ) (x : Input) (fields : List (List ℕ)) → Has (send_row fields) (input_step p s n x).1 →
-    Has (send_row fields) (input_step p s m x).1
+same_sent : (p : Place) (s : Replica) (n m : ℕ) (x : Input) (fields : List (List ℕ)) → Has (send_row fields) (input_step p s n x).1
+    → Has (send_row fields) (input_step p s m x).1
 same_sent p s n m (Asked (request.Ask a)) fields h = asked_same n m (asked p s a).1 fields h
 same_sent p s n m (Asked (request.Pass to)) fields h = passed_same n m (passed p s to).1 fields h
 same_sent p s n m (Asked (request.List l)) fields (inl e) = absurd cc
@@ -129,16 +129,14 @@ module _ (p : Place) where
 abbrev WasRead : ℕ → List Reading → List (List (List ℕ)) → Type 0
 WasRead i readings records = (before later : List Reading) × (readings ≡ before ++ later) × (read_by i before ≡ records)
 
-own_first : (i : ℕ) (r : Reading) (rest : List Reading) (x : List (List ℕ)) (records : List (List (List ℕ))) → (r.site == i) ≡ true → x ≡ r.fields →
-    WasRead i rest records
-    → WasRead i (r ∷ rest) (x ∷ records)
-own_first i r rest x records is same w =
+own_first : (i : ℕ) (r : Reading) (rest : List Reading) {x : List (List ℕ)} (records : List (List (List ℕ))) → (r.site == i) ≡ true → x ≡ r.fields
+    → WasRead i rest records → WasRead i (r ∷ rest) (x ∷ records)
+own_first i r rest records is same w =
     (r ∷ w.0, w.1, ap (λ l. r ∷ l) w.2, ap (λ b. cond b (r.fields ∷ read_by i w.0) (read_by i w.0)) is ∙ (λ j. sym same j ∷ w.3 j))
 
-other_first : (i : ℕ) (r : Reading) (rest : List Reading) (records : List (List (List ℕ))) → (r.site == i) ≡ false → WasRead i rest records →
-    WasRead i (r ∷ rest) records
-other_first i r rest records is w =
-    (r ∷ w.0, w.1, ap (λ l. r ∷ l) w.2, ap (λ b. cond b (r.fields ∷ read_by i w.0) (read_by i w.0)) is ∙ w.3)
+other_first : (i : ℕ) (r : Reading) (rest : List Reading) (records : List (List (List ℕ))) → (r.site == i) ≡ false → WasRead i rest records
+    → WasRead i (r ∷ rest) records
+other_first i r rest records is w = (r ∷ w.0, w.1, ap (λ l. r ∷ l) w.2, ap (λ b. cond b (r.fields ∷ read_by i w.0) (read_by i w.0)) is ∙ w.3)
 
 -- a prefix of all that it reads it has read at some moment
 read_first : (i : ℕ) (readings : List Reading) (records more : List (List (List ℕ))) → records ++ more ≡ read_by i readings → WasRead i readings records
@@ -149,7 +147,7 @@ read_first i (r ∷ rest) (x ∷ records) more e = at (r.site == i) refl e (read
     at : (b : Bool) → (r.site == i) ≡ b → x ∷ records ++ more ≡ cond b (r.fields ∷ read_by i rest) (read_by i rest)
         → (records ++ more ≡ read_by i rest → WasRead i rest records) → (x ∷ records ++ more ≡ read_by i rest → WasRead i rest (x ∷ records))
         → WasRead i (r ∷ rest) (x ∷ records)
-    at true is e own other = own_first i r rest x records is (let h : x ≡ r.fields = cc in h) (own (let q : records ++ more ≡ read_by i rest = cc in q))
+    at true is e own other = own_first i r rest records is (let h : x ≡ r.fields = cc in h) (own (let q : records ++ more ≡ read_by i rest = cc in q))
     at false is e own other = other_first i r rest (x ∷ records) is (other e)
 
 pub read_on_more : (i : ℕ) (so_far : List (List (List ℕ))) (a b : List Moment) → read_on i so_far (a ++ b) ≡ read_on i (read_on i so_far a) b
@@ -253,7 +251,7 @@ module _ (sites : ℕ) (keep : ℕ → ℕ) (moments : List Moment) (replayed : 
           let same : state_of sites keep (recorded done) j ≡ site_after p o 1 (has_read j done) =
           ap (site_after p o 1) whole ∙ sym (short_state p q.first (has_read j done) o 1 1 q.again) in
           let now : has_read j (done ++ Reads j x ∷ []) ≡ has_read j done ++ x ∷ [] =
-          read_on_more j [] done (Reads j x ∷ []) ∙ ap (λ b. cond b (has_read j done ++ x ∷ []) (has_read j done)) (is_itself j j refl) in (
+          read_on_more j [] done (Reads j x ∷ []) ∙ ap (λ b. cond b (has_read j done ++ x ∷ []) (has_read j done)) (is_itself refl) in (
             j,
             l,
             done ++ Reads j x ∷ [],
@@ -360,28 +358,27 @@ readings_are_moments sites keep readings carried = (replayed, carried_on)
 
 -- ---- a recording that is read again
 
-kept_first : (p : Place) (z : List (List ℕ)) (full : List (List (List ℕ))) (s : Replica) (a : List (List ℕ)) (x : List (List (List ℕ))) → z ≡ a
+kept_first : (p : Place) {z : List (List ℕ)} {full : List (List (List ℕ))} (s : Replica) {a : List (List ℕ)} (x : List (List (List ℕ))) → z ≡ a
     → (f g : List (List (List ℕ))) × (full ≡ f ++ g) × IsShortened p (input_step p s 1 (input_of p.sites z)).0 x f
     → (f g : List (List (List ℕ))) × (z ∷ full ≡ f ++ g) × IsShortened p s (a ∷ x) f
-kept_first p z full s a x same w = (z ∷ w.0, w.1, ap (λ l. z ∷ l) w.2, inr (x, (λ i. sym same i ∷ x), w.3))
+kept_first p {z} s x same w = (z ∷ w.0, w.1, ap (λ l. z ∷ l) w.2, inr (x, (λ i. sym same i ∷ x), w.3))
 
 -- a prefix of a shortened list is a prefix of the list, shortened
-short_first : (p : Place) (full short : List (List (List ℕ))) (s : Replica) (x y : List (List (List ℕ))) → IsShortened p s short full → short ≡ x ++ y
-    → (f g : List (List (List ℕ))) × (full ≡ f ++ g) × IsShortened p s x f
-short_first p [] short s x y h e = ([], [], refl, (nothing_in x y (sym e ∙ h)).0)
-short_first p (z ∷ full) short s x y (inl h) e =
-    let w = short_first p full short s x y h.1 e in (z ∷ w.0, w.1, ap (λ l. z ∷ l) w.2, inl (h.0, w.3))
-short_first p (z ∷ full) short s [] y (inr h) e = ([], z ∷ full, refl, refl)
-short_first p (z ∷ full) short s (a ∷ x) y (inr h) e =
+short_first : (p : Place) (full : List (List (List ℕ))) {short : List (List (List ℕ))} (s : Replica) (x y : List (List (List ℕ))) → IsShortened p s short full
+    → short ≡ x ++ y → (f g : List (List (List ℕ))) × (full ≡ f ++ g) × IsShortened p s x f
+short_first p [] s x y h e = ([], [], refl, (nothing_in x y (sym e ∙ h)).0)
+short_first p (z ∷ full) s x y (inl h) e =
+    let w = short_first p full s x y h.1 e in (z ∷ w.0, w.1, ap (λ l. z ∷ l) w.2, inl (h.0, w.3))
+short_first p (z ∷ full) s [] y (inr h) e = ([], z ∷ full, refl, refl)
+short_first p (z ∷ full) s (a ∷ x) y (inr h) e =
     let k : z ∷ h.0 ≡ a ∷ x ++ y = sym h.1 ∙ e in
-    kept_first p z full s a x (let same : z ≡ a = cc in same)
-    (short_first p full h.0 (input_step p s 1 (input_of p.sites z)).0 x y h.2 (let q : h.0 ≡ x ++ y = cc in q))
+    kept_first p s x (let same : z ≡ a = cc in same) (short_first p full (input_step p s 1 (input_of p.sites z)).0 x y h.2 (let q : h.0 ≡ x ++ y = cc in q))
 
-read_again : (i j : ℕ) → i ≡ j → (so_far records : List (List (List ℕ))) → read_on i so_far (map (Replays j) records) ≡ so_far ++ records
-read_again i j e so_far [] = sym (append-nil so_far)
-read_again i j e so_far (x ∷ records) =
-    ap (λ b. read_on i (cond b (so_far ++ x ∷ []) so_far) (map (Replays j) records)) (is_itself j i (sym e))
-    ∙ read_again i j e (so_far ++ x ∷ []) records ∙ append_assoc so_far (x ∷ []) records
+read_again : {i j : ℕ} → i ≡ j → (so_far records : List (List (List ℕ))) → read_on i so_far (map (Replays j) records) ≡ so_far ++ records
+read_again e so_far [] = sym (append-nil so_far)
+read_again {i} {j} e so_far (x ∷ records) =
+    ap (λ b. read_on i (cond b (so_far ++ x ∷ []) so_far) (map (Replays j) records)) (is_itself (sym e))
+    ∙ read_again e (so_far ++ x ∷ []) records ∙ append_assoc so_far (x ∷ []) records
 
 read_elsewhere : (i j : ℕ) → (i ≡ j → ⊥) → (so_far records : List (List (List ℕ))) → read_on i so_far (map (Replays j) records) ≡ so_far
 read_elsewhere i j n so_far [] = refl
@@ -392,10 +389,10 @@ recorded_none : (j : ℕ) (records : List (List (List ℕ))) → recorded (map (
 recorded_none j [] = refl
 recorded_none j (x ∷ records) = recorded_none j records
 
-no_new : {P : Type 0} (j : ℕ) (records : List (List (List ℕ))) (i : ℕ) (fields : List (List ℕ)) (more : List Moment) → map (Replays j) records
-    ≡ Reads i fields ∷ more → P
-no_new j [] i fields more e = absurd cc
-no_new j (x ∷ records) i fields more e = absurd cc
+no_new : {P : Type 0} (j : ℕ) (records : List (List (List ℕ))) (i : ℕ) (fields : List (List ℕ)) {more : List Moment}
+    → map (Replays j) records ≡ Reads i fields ∷ more → P
+no_new j [] i fields e = absurd cc
+no_new j (x ∷ records) i fields e = absurd cc
 
 module _ (sites : ℕ) (keep : ℕ → ℕ) (j : ℕ) (moments : List Moment) (records : List (List (List ℕ))) (replayed : AreReplayed sites keep moments)
     (carried : CarriedWithRestarts sites keep moments) (short : IsShortened (process sites keep j) (opening_at j) records (read_by j (recorded moments))) where
@@ -425,10 +422,10 @@ module _ (sites : ℕ) (keep : ℕ → ℕ) (j : ℕ) (moments : List Moment) (r
 
       own : i ≡ j → Replayed sites keep i (moments ++ Restarts j ∷ map (Replays j) x) later
       own q =
-          let w = short_first (process sites keep j) (read_by j (recorded moments)) records (opening_at j) x y short e in
+          let w = short_first (process sites keep j) (read_by j (recorded moments)) (opening_at j) x y short e in
           let now : has_read j (moments ++ Restarts j ∷ map (Replays j) x) ≡ x =
           read_on_more j [] moments (Restarts j ∷ map (Replays j) x)
-          ∙ ap (λ b. read_on j (cond b [] (has_read j moments)) (map (Replays j) x)) (is_itself j j refl) ∙ read_again j j refl [] x in
+          ∙ ap (λ b. read_on j (cond b [] (has_read j moments)) (map (Replays j) x)) (is_itself refl) ∙ read_again refl [] x in
           subst (λ k. Replayed sites keep k (moments ++ Restarts j ∷ map (Replays j) x) later) (sym q) (record {
             first = w.0;
             rest = w.1;
@@ -466,7 +463,7 @@ module _ (sites : ℕ) (keep : ℕ → ℕ) (j : ℕ) (moments : List Moment) (r
           let k : map (Replays j) records ≡ e ++ later = cc in
           let w = split_map (Replays j) records e later k in
           subst (λ l. Replayed sites keep i l later) (sym (f ∙ (λ n. moments ++ h n ∷ w.3 n)))
-          (while_read i w.0 w.1 later w.2 (λ k fields more q. no_new j w.1 k fields more (sym w.4 ∙ q)))
+          (while_read i w.0 w.1 later w.2 (λ k fields more q. no_new j w.1 k fields (sym w.4 ∙ q)))
 
   still_carried : CarriedWithRestarts sites keep (restarted_on j records moments)
   still_carried before later i fields p e is = ⊎_elim (λ k. earlier k.0 k.1 k.2) (λ k. after k.0 k.2)
@@ -482,7 +479,7 @@ module _ (sites : ℕ) (keep : ℕ → ℕ) (j : ℕ) (moments : List Moment) (r
       after (z ∷ e) g =
           let k : map (Replays j) records ≡ e ++ Reads i fields ∷ later = cc in
           let w = split_map (Replays j) records e (Reads i fields ∷ later) k in
-          no_new j w.1 i fields later (sym w.4)
+          no_new j w.1 i fields (sym w.4)
 
 pub recordings_replay : RecordingsReplay
 recordings_replay sites j keep moments records replayed carried short =

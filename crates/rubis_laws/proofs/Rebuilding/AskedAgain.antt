@@ -60,14 +60,14 @@ abbrev is_for_behind : Refusal → Bool
 is_for_behind RedBehind = true
 is_for_behind r = false
 
-or_later : (a b : Bool) → b ≡ true → (a || b) ≡ true
-or_later true b e = refl
-or_later false b e = e
+or_later : (a : Bool) {b : Bool} → b ≡ true → (a || b) ≡ true
+or_later true e = refl
+or_later false e = e
 
 any_of : (p : Refusal → Bool) (r : Refusal) (rs : List Refusal) → p r ≡ true → Has r rs → list_any p rs ≡ true
 any_of p r [] t h = absurd h
 any_of p r (x ∷ rs) t (inl e) = ap (λ b. b || list_any p rs) (ap p (sym e) ∙ t)
-any_of p r (x ∷ rs) t (inr h) = or_later (p x) (list_any p rs) (any_of p r rs t h)
+any_of p r (x ∷ rs) t (inr h) = or_later (p x) (any_of p r rs t h)
 
 token_named : (t : Rows) (a : Ask) → list_any is_for_token (order_of a) ≡ is_red (shadow_of t a)
 token_named t (ask.User n) = refl
@@ -84,8 +84,8 @@ behind_red : (t : Rows) (a : Ask) → Has RedBehind (order_of a) → is_red (sha
 behind_red t a h = sym (behind_named t a) ∙ any_of is_for_behind RedBehind (order_of a) refl h
 
 -- a refusal that wasn't due isn't due where the site stands as well
-due_again : (t : Rows) (s u : Standing) (a : Ask) → u.full ≡ false → (is_red (shadow_of t a) ≡ true → (u.holds ≡ true) × (u.current ≡ true))
-    → (r : Refusal) → Has r (order_of a) → is_due t s a r ≡ false → is_due t u a r ≡ false
+due_again : (t : Rows) (s u : Standing) (a : Ask) → u.full ≡ false → (is_red (shadow_of t a) ≡ true → (u.holds ≡ true) × (u.current ≡ true)) → (r : Refusal)
+    → Has r (order_of a) → is_due t s a r ≡ false → is_due t u a r ≡ false
 due_again t s u a f k Full h e = f
 due_again t s u a f k NoToken h e = ap not (k (token_red t a h)).0
 due_again t s u a f k RedBehind h e = ap not (k (behind_red t a h)).1
@@ -126,8 +126,8 @@ asked_seller : (o : Option ItemRow) (u s : Id) → is_none o ≡ false → optio
 asked_seller None u s e f k = absurd (true≢false e)
 asked_seller (Some i) u s e f k = k i refl ∙ seller_is (Some i) u s e f
 
-pub same_ask : (t : Rows) (s : Standing) (all : List Message) → TellSellers all t → (a : Ask) → find (is_due t s a) (order_of a) ≡ None →
-    ask_of all (shadow_of t a) ≡ a
+pub same_ask : (t : Rows) (s : Standing) (all : List Message) → TellSellers all t → (a : Ask) → find (is_due t s a) (order_of a) ≡ None
+    → ask_of all (shadow_of t a) ≡ a
 same_ask t s all k (ask.Close c) e =
     let seller = asked_seller (item_in t c.item) c.seller (seller_in all c.item)
     (none_found (is_due t s (ask.Close c)) (order_of (ask.Close c)) e NoItem (inr (inr (inr (inl refl)))))
@@ -151,8 +151,8 @@ asks_are_read_off all m seller same = by m.shadow
     by x = refl
 
 -- where the sellers of the items that it refers to are within the limits
-pub ask_in_limits : (sites : ℕ) (all : List Message) (Known : RowKey → Type 0) → ((j : Id) → Known (key.Item j) → IsId sites (seller_in all j))
-    → (x : Shadow) → InLimits sites x → HasShadowTexts x → All Known (refers_of x) → IsRequest sites (request.Ask (ask_of all x))
+pub ask_in_limits : (sites : ℕ) (all : List Message) (Known : RowKey → Type 0) → ((j : Id) → Known (key.Item j) → IsId sites (seller_in all j)) → (x : Shadow)
+    → InLimits sites x → HasShadowTexts x → All Known (refers_of x) → IsRequest sites (request.Ask (ask_of all x))
 ask_in_limits sites all Known seller (shadow.Close c) h t r = ((h.0, seller c.item (All-head Known (key.Item c.item) (winner_key c.winner) r)), tt)
 ask_in_limits sites all Known seller (shadow.Restock q) h t r = ((h.0, seller q.item (All-head Known (key.Item q.item) [] r), h.1), tt)
 ask_in_limits sites all Known seller (shadow.Rename q) h t r = (h.0, t.1)
@@ -183,10 +183,10 @@ row_seller a id t m r e = by (item_at id a) refl (ap (option_and_then as_item_ro
     by None q h = absurd (cc)
     by (Some n) q h = (n, q, ap (λ (o : Option ItemRow). option_map_or (λ (i : ItemRow). i.seller) o n.seller) h)
 
-first_found : (id : Id) (n : NewItem) (a : List Core) (c : Core) → Member a c → id ≡ c.id → as_item c.shadow ≡ Some n
+first_found : {id : Id} {n : NewItem} (a : List Core) (c : Core) → Member a c → id ≡ c.id → as_item c.shadow ≡ Some n
     → ((d : Core) (k : NewItem) → Member a d → id ≡ d.id → as_item d.shadow ≡ Some k → k ≡ n) → item_at id a ≡ Some n
-first_found id n [] c h i f only = absurd h
-first_found id n (y ∷ a) c h i f only = go (same_id id y.id) refl (as_item y.shadow) refl (λ q. first_found id n a c q i f (λ d k l. only d k (inr l))) h
+first_found [] c h i f only = absurd h
+first_found {id} {n} (y ∷ a) c h i f only = go (same_id id y.id) refl (as_item y.shadow) refl (λ q. first_found a c q i f (λ d k l. only d k (inr l))) h
   where
     go : (b : Bool) → same_id id y.id ≡ b → (o : Option NewItem) → as_item y.shadow ≡ o → (Member a c → item_at id a ≡ Some n) → Member (y ∷ a) c →
         item_at id (y ∷ a) ≡ Some n
@@ -201,12 +201,11 @@ pub tell_sellers : (log all : List Message) (t : Rows) → ((q : RowKey) → t q
     → ((u v : Message) → Has u all → Has v all → u.stamp.id ≡ v.stamp.id → u ≡ v) → TellSellers all t
 tell_sellers log all t means within single id r e =
     let n = row_seller (cores log) id t (means (key.Item id)) r e in
-    let f = found_at (λ (c : Core). as_item c.shadow) id n.0 (cores log) n.1 in
+    let f = found_at (λ (c : Core). as_item c.shadow) id (cores log) n.1 in
     let m = core_of f.0 log f.1 in
     let there : Has m.0 all = within m.0 m.1 in
-    let at = first_found id n.0 (cores all) (core m.0) (has_core m.0 all there) (f.2 ∙ ap (λ (c : Core). c.id) (sym m.2))
-    (ap (λ (c : Core). as_item c.shadow) m.2 ∙ f.3)
-    (λ d k h i g. let u = core_of d all h in
+    let at = first_found (cores all) (core m.0) (has_core m.0 all there) (f.2 ∙ ap (λ (c : Core). c.id) (sym m.2))
+    (ap (λ (c : Core). as_item c.shadow) m.2 ∙ f.3) (λ d k h i g. let u = core_of d all h in
     let same : u.0 ≡ m.0 = single u.0 m.0 u.1 there (ap (λ (c : Core). c.id) u.2 ∙ sym i ∙ f.2 ∙ ap (λ (c : Core). c.id) (sym m.2)) in
     same_Some k n.0 (sym g ∙ ap (λ (c : Core). as_item c.shadow) (sym u.2) ∙ ap (λ (y : Message). as_item y.shadow) same
     ∙ ap (λ (c : Core). as_item c.shadow) m.2 ∙ f.3)) in

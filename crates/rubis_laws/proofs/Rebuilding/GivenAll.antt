@@ -72,14 +72,13 @@ delivered_next keep i k v m l e =
     (λ (p : World × Result Happened Refusal). site p.0 i ≡ (arrived (place keep v i) (site v i) m).0)
     (λ _. subst (λ o. site (coming keep v i o).0 i ≡ (arrived (place keep v i) (site v i) m).0) (sym e)
     (set_at (λ q y. q ≡ i → y ≡ (arrived (place keep v i) (site v i) m).0) v.sites i (arrived (place keep v i) (site v i) m).0 (opening_at 1) l (λ _. refl)
-    (λ q n h. absurd (n h)) i refl))
-    (λ b. absurd (outside i (length v.sites) l b))
+    (λ q n h. absurd (n h)) i refl)) (λ b. absurd (outside i (length v.sites) l b))
   where
     outside : (x y : ℕ) → x < y → nat_lt x y ≡ false → ⊥
     outside x y l b = grind (arith, nat_tests)
 
-deliver_each : (keep i : ℕ) (messages : List Message) (v : World) → i < length v.sites → ((m : Message) → Has m messages → Sent v m) →
-    Delivered keep i v messages
+deliver_each : (keep i : ℕ) (messages : List Message) (v : World) → i < length v.sites → ((m : Message) → Has m messages → Sent v m)
+    → Delivered keep i v messages
 deliver_each keep i [] v l sent = record { events = []; only = tt; here = refl; each = λ m h. absurd h }
 deliver_each keep i (m ∷ messages) v l sent =
     let k = number_of (packet.Msg m) v.sent (sent m (inl refl)) in
@@ -155,31 +154,29 @@ pub given_are_released : GivenAreReleased
 given_are_released n keep i events messages some few a are = exactly n keep i events messages some few a are
 
 -- two sites of two worlds whose logs have the same messages
-same_tables : (keep i j : ℕ) (u v : World) → keep ≤ 1000000 → Sound u → Sound v → Room keep u → Room keep v → SameSet (site u i).log (site v j).log
+same_tables : (keep i j : ℕ) {u v : World} → keep ≤ 1000000 → Sound u → Sound v → Room keep u → Room keep v → SameSet (site u i).log (site v j).log
     → tables_at u i ≡ tables_at v j
-same_tables keep i j u v few s t r q same =
-    equal_sets_equal_tables (cores (site u i).log) (cores (site v j).log) (log_checked u i s) (log_checked v j t) (short keep u i few r) (short keep v j few q)
+same_tables keep i j {u} {v} few s t r q same =
+    equal_sets_equal_tables (cores (site u i).log) (cores (site v j).log) (log_checked i s) (log_checked j t) (short keep u i few r) (short keep v j few q)
     (same_cores (site u i).log (site v j).log same)
 
 pub given_converge : GivenConverge
 given_converge n keep i j events messages others some few a are there =
     let p = is_there n keep i events messages some few a are in
     let q = is_there n keep j events others some few a there in
-    ap (λ (s : Replica). (fold_of (cores s.log)).tables) (sym p.here)
-    ∙ same_tables keep i j p.world q.world few p.sound q.sound p.room q.room (λ m. (
+    ap (λ (s : Replica). (fold_of (cores s.log)).tables) (sym p.here) ∙ same_tables keep i j few p.sound q.sound p.room q.room (λ m. (
       (λ h. contains (site q.world j).log m
           ((q.done.released m).0 (subst (λ ps. Has (packet.Msg m) ps) (p.sent ∙ sym q.sent) ((p.done.released m).1 (contained (site p.world i).log m h))))),
       λ h. contains (site p.world i).log m
           ((p.done.released m).0 (subst (λ ps. Has (packet.Msg m) ps) (q.sent ∙ sym p.sent) ((q.done.released m).1 (contained (site q.world j).log m h)))),
-    ))
-    ∙ ap (λ (s : Replica). (fold_of (cores s.log)).tables) q.here
+    )) ∙ ap (λ (s : Replica). (fold_of (cores s.log)).tables) q.here
 
 pub given_have_the_tables_of_the_run : GivenHaveTheTablesOfTheRun
 given_have_the_tables_of_the_run n keep i j events messages some few a are done =
     let p = is_there n keep i events messages some few a are in
     let v = run keep events (start n) in
     ap (λ (s : Replica). (fold_of (cores s.log)).tables) (sym p.here)
-    ∙ same_tables keep i j p.world v few p.sound (sound_run n keep events some few a) p.room (room_of n keep events) (λ m. (
+    ∙ same_tables keep i j few p.sound (sound_run n keep events some few a) p.room (room_of n keep events) (λ m. (
       (λ h. contains (site v j).log m
           ((done.released m).0 (subst (λ ps. Has (packet.Msg m) ps) p.sent ((p.done.released m).1 (contained (site p.world i).log m h))))),
       λ h. contains (site p.world i).log m

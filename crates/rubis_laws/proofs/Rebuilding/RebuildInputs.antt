@@ -25,8 +25,8 @@ after_append : (p : Place) (s : Replica) (xs ys : List Input) → after_inputs p
 after_append p s [] ys = refl
 after_append p s (x ∷ xs) ys = after_append p (input_step p s 1 x).0 xs ys
 
-sent_append : (p : Place) (s : Replica) (xs ys : List Input) → sent_on_inputs p s (xs ++ ys) ≡ sent_on_inputs p s xs
-    ++ sent_on_inputs p (after_inputs p s xs) ys
+sent_append : (p : Place) (s : Replica) (xs ys : List Input) → sent_on_inputs p s (xs ++ ys) ≡ sent_on_inputs p s xs ++ sent_on_inputs p
+    (after_inputs p s xs) ys
 sent_append p s [] ys = refl
 sent_append p s (x ∷ xs) ys = ap (λ ps. sent_on p s x ++ ps) (sent_append p (input_step p s 1 x).0 xs ys)
     ∙ sym (append_assoc (sent_on p s x) (sent_on_inputs p (input_step p s 1 x).0 xs) (sent_on_inputs p (after_inputs p (input_step p s 1 x).0 xs) ys))
@@ -58,13 +58,12 @@ holding_leads p tokens s =
     either_leads p s s (with_token p s (next_token p.site s.last tokens)) [] (token_as (next_token p.site s.last tokens)) (is_some s.held) (refl, refl)
     (token_leads p s (next_token p.site s.last tokens))
 
-prepared_leads : (p : Place) (tokens : List Token) (all : List Message) (s : Replica) (m : Message) →
-    LeadTo p s (inputs_before p tokens all s m) (prepared p tokens all s m)
+prepared_leads : (p : Place) (tokens : List Token) (all : List Message) (s : Replica) (m : Message)
+    → LeadTo p s (inputs_before p tokens all s m) (prepared p tokens all s m)
 prepared_leads p tokens all s m =
     let g = after_all p s (lacking p.site s.log m all) in
     lead_on p s g (prepared p tokens all s m) (map (λ u. Came (packet.Msg u)) (lacking p.site s.log m all))
-    (cond (is_red m.shadow) (token_before p tokens g) [])
-    (messages_lead p s (lacking p.site s.log m all))
+    (cond (is_red m.shadow) (token_before p tokens g) []) (messages_lead p s (lacking p.site s.log m all))
     (either_leads p g (holding p tokens g) g (token_before p tokens g) [] (is_red m.shadow) (holding_leads p tokens g) (refl, refl))
 
 -- then one more
@@ -77,12 +76,11 @@ one_more p s t xs x a = (
 )
 
 inputs_are : (p : Place) (tokens : List Token) (all : List Message) (s : Replica) (x : Packet)
-    → (after_inputs p s (inputs_for p tokens all s x) ≡ (sent_again p tokens all s x).0)
-    × (sent_on_inputs p s (inputs_for p tokens all s x) ≡ (sent_again p tokens all s x).1)
+    → (after_inputs p s (inputs_for p tokens all s x) ≡ (sent_again p tokens all s x).0) ×
+    (sent_on_inputs p s (inputs_for p tokens all s x) ≡ (sent_again p tokens all s x).1)
 inputs_are p tokens all s (packet.Msg m) =
     one_more p s (prepared p tokens all s m) (inputs_before p tokens all s m) (Asked (request.Ask (ask_of all m.shadow))) (prepared_leads p tokens all s m)
-inputs_are p tokens all s (packet.Token t) =
-    one_more p s (holding p tokens s) (token_before p tokens s) (Asked (request.Pass t.to)) (holding_leads p tokens s)
+inputs_are p tokens all s (packet.Token t) = one_more p s (holding p tokens s) (token_before p tokens s) (Asked (request.Pass t.to)) (holding_leads p tokens s)
 
 -- ---- each packet was sent
 in_map : (x : Packet) (us : List Message) → Has (Came x) (map (λ u. Came (packet.Msg u)) us) → (u : Message) × Has u us × (x ≡ packet.Msg u)
@@ -105,7 +103,7 @@ module _ (p : Place) (sent : List Packet) (all : List Message) (tokens : List To
     (told : (t : Token) → Has t tokens → Has (packet.Token t) sent) where
   token_was : (last : ℕ) (x : Packet) (o : Option Token) → next_token p.site last tokens ≡ o → Has (Came x) (token_as o) → Has x sent
   token_was last x None e h = absurd h
-  token_was last x (Some t) e (inl q) = subst (λ y. Has y sent) (came_same x t q) (told t (next_is p.site last tokens t e).0)
+  token_was last x (Some t) e (inl q) = subst (λ y. Has y sent) (came_same x t q) (told t (next_is p.site last tokens e).0)
   token_was last x (Some t) e (inr q) = absurd q
 
   before_was : (s : Replica) (x : Packet) → Has (Came x) (token_before p tokens s) → Has x sent

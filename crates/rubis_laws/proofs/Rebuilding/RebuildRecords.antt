@@ -225,8 +225,8 @@ here_sent keep w i (request.Ask a) x h = has_right x w.sent _ h
 here_sent keep w i (request.Pass to) x h = has_right x w.sent _ h
 here_sent keep w i (request.List l) x h = absurd h
 
-event_sends : (keep : ℕ) (w : World) (i : ℕ) (q : Request) (x : Packet) → i < length w.sites → Has x (sent_here keep w i q) →
-    Has x (happens keep w (At i q)).0.sent
+event_sends : (keep : ℕ) (w : World) (i : ℕ) (q : Request) (x : Packet) → i < length w.sites → Has x (sent_here keep w i q)
+    → Has x (happens keep w (At i q)).0.sent
 event_sends keep w i q x l h =
     subst (λ (step : World × Result Happened Refusal). Has x step.0.sent) (sym (at_inside w i (requested keep w i q) l)) (here_sent keep w i q x h)
 
@@ -261,14 +261,13 @@ run_written keep few (e ∷ es) w n h s all =
     let same : length v.sites ≡ length w.sites = event_sites keep w e in
     subst (λ k. AllPackets k (run keep es v).sent) same
     (run_written keep few es v (subst (λ k. k ≤ 16) (sym same) n) (subst (λ k. AreWritten k es) (sym same) h.1)
-    (event_keeps keep few w e (written_event (length w.sites) e h.0) s)
-    (subst (λ k. AllPackets k v.sent) (sym same) (event_written keep few w e n h.0 s all)))
+    (event_keeps keep few w e (written_event (length w.sites) e h.0) s) (subst (λ k. AllPackets k v.sent) (sym same) (event_written keep few w e n h.0 s all)))
 
 -- ---- the item of an id
 
-item_there : (j : Id) (a : List Core) (c : Core) → Member a c → j ≡ c.id → IsSome (as_item c.shadow) → item_at j a ≡ None → ⊥
-item_there j [] c h i f e = absurd h
-item_there j (y ∷ a) c h i f e = go (same_id j y.id) refl (as_item y.shadow) refl (λ l q. item_there j a c l i f q) h
+item_there : {j : Id} (a : List Core) (c : Core) → Member a c → j ≡ c.id → IsSome (as_item c.shadow) → item_at j a ≡ None → ⊥
+item_there [] c h i f e = absurd h
+item_there {j} (y ∷ a) c h i f e = go (same_id j y.id) refl (as_item y.shadow) refl (λ l q. item_there a c l i f q) h
   where
     go : (b : Bool) → same_id j y.id ≡ b → (o : Option NewItem) → as_item y.shadow ≡ o → (Member a c → item_at j a ≡ None → ⊥) → Member (y ∷ a) c → ⊥
     go true q (Some k) r ih l = let p : Some k ≡ None = (λ t. option_or (when (sym q t) (sym r t)) (item_at j a)) ∙ e in absurd cc
@@ -277,9 +276,9 @@ item_there j (y ∷ a) c h i f e = go (same_id j y.id) refl (as_item y.shadow) r
     go false q o r ih (inl m) = true≢false (sym ((Decides-same_id j y.id).1 (i ∙ sym (ap (λ (z : Core). z.id) m))) ∙ q)
     go false q o r ih (inr l) = ih l ((λ t. option_or (when (sym q t) (as_item y.shadow)) (item_at j a)) ∙ e)
 
-item_seller : (sites : ℕ) (x : Shadow) (n : NewItem) → as_item x ≡ Some n → InLimits sites x → IsId sites n.seller
-item_seller sites (shadow.Item k) n e h = subst (λ (z : NewItem). IsId sites z.seller) (let p : k ≡ n = cc in p) h.seller
-item_seller sites x n e h = absurd cc
+item_seller : (sites : ℕ) (x : Shadow) {n : NewItem} → as_item x ≡ Some n → InLimits sites x → IsId sites n.seller
+item_seller sites (shadow.Item k) {n} e h = subst (λ (z : NewItem). IsId sites z.seller) (let p : k ≡ n = cc in p) h.seller
+item_seller sites x e h = absurd cc
 
 -- ---- the ask of each message can be said
 
@@ -292,11 +291,11 @@ module _ (n keep i : ℕ) (few : keep ≤ 1000000) (w : World) (s : Sound w) (pa
   seller_is v b o j p = at (item_at j (cores all)) refl
     where
       at : (k : Option NewItem) → item_at j (cores all) ≡ k → IsId n (option_map_or (λ (n : NewItem). n.seller) k (record { site = 0; seq = 0 }))
-      at None e = absurd (item_there j (cores all) _ (has_core p.0 all (whole p.0 p.1 (inr (v, b, o, p.3)))) p.2.0 p.2.1 e)
+      at None e = absurd (item_there (cores all) _ (has_core p.0 all (whole p.0 p.1 (inr (v, b, o, p.3)))) p.2.0 p.2.1 e)
       at (Some k) e =
-          let f = found_at (λ (c : Core). as_item c.shadow) j k (cores all) e in
+          let f = found_at (λ (c : Core). as_item c.shadow) j (cores all) e in
           let u = core_of f.0 all f.1 in
-          item_seller n u.0.shadow k (ap (λ (c : Core). as_item c.shadow) u.2 ∙ f.3) (limits u.0 (within u.0 u.1))
+          item_seller n u.0.shadow (ap (λ (c : Core). as_item c.shadow) u.2 ∙ f.3) (limits u.0 (within u.0 u.1))
 
   can_ask : (v : Message) → Sent w v → v.stamp.id.site ≡ i → IsRequest n (request.Ask (ask_of all v.shadow))
   can_ask v b o = ask_in_limits n all (λ k. Preceded (Sent w) v (IsMadeBy k)) (seller_is v b o) v.shadow (limits v b) (packets (packet.Msg v) b).2
@@ -313,7 +312,7 @@ module _ (n keep i : ℕ) (few : keep ≤ 1000000) (w : World) (s : Sound w) (pa
 
     token_given : (last : ℕ) (o : Option Token) → next_token i last tokens ≡ o → AreGiven n (token_as o)
     token_given last None e = tt
-    token_given last (Some t) e = (packets (packet.Token t) (told t (next_is i last tokens t e).0), tt)
+    token_given last (Some t) e = (packets (packet.Token t) (told t (next_is i last tokens e).0), tt)
 
     before_given : (r : Replica) → AreGiven n (token_before here tokens r)
     before_given r = given_either n (is_some r.held) [] (token_as (next_token i r.last tokens)) tt (token_given r.last (next_token i r.last tokens) refl)

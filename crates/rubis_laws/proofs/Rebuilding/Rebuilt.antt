@@ -57,41 +57,40 @@ abbrev Least : ℕ → ℕ → List Token → Option Token → Type 0
 Least i last ts None = (u : Token) → Has u ts → u.to ≡ i → last < u.turn → ⊥
 Least i last ts (Some t) = Has t ts × (t.to ≡ i) × (last < t.turn) × ((u : Token) → Has u ts → u.to ≡ i → last < u.turn → t.turn ≤ u.turn)
 
-turn_same : (u t : Token) → u ≡ t → u.turn ≡ t.turn
-turn_same u t e = ap (λ (x : Token). x.turn) e
+turn_same : {u t : Token} → u ≡ t → u.turn ≡ t.turn
+turn_same e = ap (λ (x : Token). x.turn) e
 
-tested : (a b c d : ℕ) → a ≡ b → c < d → ((a == b) && nat_lt c d) ≡ true
-tested a b c d q l = and_from (a == b) (nat_lt c d) (grind (arith, nat_tests)) (grind (arith, nat_tests))
+tested : {a b : ℕ} (c d : ℕ) → a ≡ b → c < d → ((a == b) && nat_lt c d) ≡ true
+tested {a} {b} c d q l = and_from (a == b) (nat_lt c d) (grind (arith, nat_tests)) (grind (arith, nat_tests))
 
 over_it : (a b : ℕ) → nat_le a b ≡ false → b < a
 over_it a b e = grind (arith, nat_tests)
 
-least_of : (i last : ℕ) (t u : Token) (ts : List Token) → (t.to ≡ i) × (last < t.turn) → Least i last ts (Some u) → (b : Bool) → nat_le t.turn u.turn ≡ b
+least_of : {i : ℕ} (last : ℕ) (t u : Token) (ts : List Token) → (t.to ≡ i) × (last < t.turn) → Least i last ts (Some u) → (b : Bool) → nat_le t.turn u.turn ≡ b
     → Least i last (t ∷ ts) (Some (cond b t u))
-least_of i last t u ts p k true e =
+least_of last t u ts p k true e =
     let l = leb-true t.turn u.turn e in
-    (inl refl, p.0, p.1, λ x h a c. ⊎_elim (λ q. omega (arith, turn_same x t q)) (λ q. let d = k.3 x q a c in omega (arith, l, d)) h)
-least_of i last t u ts p k false e =
+    (inl refl, p.0, p.1, λ x h a c. ⊎_elim (λ q. omega (arith, turn_same q)) (λ q. let d = k.3 x q a c in omega (arith, l, d)) h)
+least_of last t u ts p k false e =
     let l = over_it t.turn u.turn e in
-    (inr k.0, k.1, k.2, λ x h a c. ⊎_elim (λ q. omega (arith, turn_same x t q, l)) (λ q. k.3 x q a c) h)
+    (inr k.0, k.1, k.2, λ x h a c. ⊎_elim (λ q. omega (arith, turn_same q, l)) (λ q. k.3 x q a c) h)
 
 least_by : (i last : ℕ) (t : Token) (ts : List Token) (b : Bool) → ((t.to == i) && nat_lt last t.turn) ≡ b → (o : Option Token) → Least i last ts o
     → Least i last (t ∷ ts) (cond b (Some (sooner t o)) o)
 least_by i last t ts true e None k =
     let p = and_parts (t.to == i) (nat_lt last t.turn) e in
-    (inl refl, eqb-true t.to i p.0, ltb-true last t.turn p.1, λ x h a c. ⊎_elim (λ q. omega (arith, turn_same x t q)) (λ q. absurd (k x q a c)) h)
+    (inl refl, eqb-true t.to i p.0, ltb-true last t.turn p.1, λ x h a c. ⊎_elim (λ q. omega (arith, turn_same q)) (λ q. absurd (k x q a c)) h)
 least_by i last t ts true e (Some u) k =
     let p = and_parts (t.to == i) (nat_lt last t.turn) e in
-    least_of i last t u ts (eqb-true t.to i p.0, ltb-true last t.turn p.1) k (nat_le t.turn u.turn) refl
+    least_of last t u ts (eqb-true t.to i p.0, ltb-true last t.turn p.1) k (nat_le t.turn u.turn) refl
 least_by i last t ts false e None k =
-    λ x h a c. ⊎_elim (λ q. true≢false (sym (tested t.to i last t.turn (ap (λ (y : Token). y.to) (sym q) ∙ a) (subst (λ (y : Token). last < y.turn) q c)) ∙ e))
+    λ x h a c. ⊎_elim (λ q. true≢false (sym (tested last t.turn (ap (λ (y : Token). y.to) (sym q) ∙ a) (subst (λ (y : Token). last < y.turn) q c)) ∙ e))
     (λ q. k x q a c) h
 least_by i last t ts false e (Some u) k = (
   inr k.0,
   k.1,
   k.2,
-  λ x h a c. ⊎_elim (λ q. absurd
-      (true≢false (sym (tested t.to i last t.turn (ap (λ (y : Token). y.to) (sym q) ∙ a) (subst (λ (y : Token). last < y.turn) q c)) ∙ e)))
+  λ x h a c. ⊎_elim (λ q. absurd (true≢false (sym (tested last t.turn (ap (λ (y : Token). y.to) (sym q) ∙ a) (subst (λ (y : Token). last < y.turn) q c)) ∙ e)))
       (λ q. k.3 x q a c) h,
 )
 
@@ -99,12 +98,12 @@ least : (i last : ℕ) (ts : List Token) → Least i last ts (next_token i last 
 least i last [] = λ u h. absurd h
 least i last (t ∷ ts) = least_by i last t ts ((t.to == i) && nat_lt last t.turn) refl (next_token i last ts) (least i last ts)
 
-pub next_is : (i last : ℕ) (ts : List Token) (t : Token) → next_token i last ts ≡ Some t → Has t ts × (t.to ≡ i) × (last < t.turn)
-next_is i last ts t e = let k = subst (Least i last ts) e (least i last ts) in (k.0, k.1, k.2)
+pub next_is : (i last : ℕ) (ts : List Token) {t : Token} → next_token i last ts ≡ Some t → Has t ts × (t.to ≡ i) × (last < t.turn)
+next_is i last ts e = let k = subst (Least i last ts) e (least i last ts) in (k.0, k.1, k.2)
 
-pub next_one : (i last : ℕ) (ts : List Token) (t : Token) → Has t ts → t.to ≡ i → last < t.turn
+pub next_one : {i : ℕ} (last : ℕ) (ts : List Token) (t : Token) → Has t ts → t.to ≡ i → last < t.turn
     → ((u : Token) → Has u ts → u.to ≡ i → last < u.turn → (u ≡ t) ⊎ (t.turn < u.turn)) → next_token i last ts ≡ Some t
-next_one i last ts t h to late only = by (next_token i last ts) (least i last ts)
+next_one {i} last ts t h to late only = by (next_token i last ts) (least i last ts)
   where
     by : (o : Option Token) → Least i last ts o → o ≡ Some t
     by None k = absurd (k t h to late)
@@ -123,9 +122,8 @@ pub record IsBehind (i : ℕ) (r s : Replica) (sent : List Packet) (tokens : Lis
 abbrev pub TokenKept : ℕ → Replica → Replica → List Packet → List Token → Type 0
 TokenKept i r s sent tokens = ((r.held ≡ s.held) × (r.last ≡ s.last)) ⊎ IsBehind i r s sent tokens
 
-pub kept_same : (i : ℕ) (r r' s s' : Replica) (sent more : List Packet) (tokens : List Token) → r'.held ≡ r.held → r'.last ≡ r.last → s'.held ≡ s.held → s'.last
-    ≡ s.last
-    → TokenKept i r s sent tokens → TokenKept i r' s' (sent ++ more) tokens
+pub kept_same : (i : ℕ) (r r' s s' : Replica) (sent more : List Packet) (tokens : List Token) → r'.held ≡ r.held → r'.last ≡ r.last → s'.held ≡ s.held
+    → s'.last ≡ s.last → TokenKept i r s sent tokens → TokenKept i r' s' (sent ++ more) tokens
 kept_same i r r' s s' sent more tokens rh rl sh sl (inl k) = inl (rh ∙ k.0 ∙ sym sh, rl ∙ k.1 ∙ sym sl)
 kept_same i r r' s s' sent more tokens rh rl sh sl (inr b) = inr (record {
   token = b.token;
@@ -136,9 +134,8 @@ kept_same i r r' s s' sent more tokens rh rl sh sl (inr b) = inr (record {
   last = sl ∙ b.last;
 })
 
-pub kept_here : (i : ℕ) (r r' s s' : Replica) (sent : List Packet) (tokens : List Token) → r'.held ≡ r.held → r'.last ≡ r.last → s'.held ≡ s.held → s'.last
-    ≡ s.last
-    → TokenKept i r s sent tokens → TokenKept i r' s' sent tokens
+pub kept_here : (i : ℕ) (r r' s s' : Replica) (sent : List Packet) (tokens : List Token) → r'.held ≡ r.held → r'.last ≡ r.last → s'.held ≡ s.held
+    → s'.last ≡ s.last → TokenKept i r s sent tokens → TokenKept i r' s' sent tokens
 kept_here i r r' s s' sent tokens rh rl sh sl k = subst (λ ps. TokenKept i r' s' ps tokens) (append-nil sent)
     (kept_same i r r' s s' sent [] tokens rh rl sh sl k)
 
@@ -179,7 +176,7 @@ module _ (n keep i : ℕ) (some : 1 ≤ n) (few : keep ≤ 1000000) (inside : i 
   }
   hold_token (inr b) =
       let t = b.token in
-      let q = next_is i (site v i).last tokens t b.next in
+      let q = next_is i (site v i).last tokens b.next in
       let x : Replica = (took (place keep v i) (site v i) t).0 in
       let new : x ≡ record (site v i) { held = Some t.issued; last = t.turn } = took_new (place keep v i) (site v i) t q.1 q.2 in
       let at : site (with_site v i x) i ≡ x = site_set n keep i some few inside w v x f.reached in
@@ -187,7 +184,7 @@ module _ (n keep i : ℕ) (some : 1 ≤ n) (few : keep ≤ 1000000) (inside : i 
         next = with_site v i x;
         fed = record {
           reached = delivering n keep i some few inside w v (packet.Token t) f.reached (subst (Has (packet.Token t)) (sym f.alike.sent) b.was);
-          alike = alike_there i w v x f.alike;
+          alike = alike_there x f.alike;
           within = λ y k. f.within y (subst (λ s. Had s y) is k);
         };
         state = at ∙ ap (λ p. (took p (site v i) t).0) (at_place n keep i some few inside w v f.reached)
@@ -233,8 +230,8 @@ under keep a b e = grind (arith, nat_tests)
 not_over : (keep a b : ℕ) → a + b < keep → nat_le keep (a + b) ≡ false
 not_over keep a b l = grind (arith, nat_tests)
 
-is_other : (a b : ℕ) → not (a == b) ≡ true → a ≡ b → ⊥
-is_other a b e q = grind (arith, nat_tests)
+is_other : {a b : ℕ} → not (a == b) ≡ true → a ≡ b → ⊥
+is_other e q = grind (arith, nat_tests)
 
 lacks : (a i c s d : ℕ) → (a ≡ i → ⊥) → c < s → s ≤ d → (not (a == i) && (nat_lt c s && nat_le s d)) ≡ true
 lacks a i c s d n l m =
@@ -278,9 +275,9 @@ module _ (n keep i : ℕ) (some : 1 ≤ n) (few : keep ≤ 1000000) (inside : i 
     sellers_told =
         let sf = sound_of n keep final some few rf in
         tell_sellers (site w i).log all (rows_at (site w i).log)
-        (λ q. (fold_is_meaning (cores (site w i).log) (log_checked w i sw) (short keep w i few (room_in n keep w some few rw))).0.rows q)
+        (λ q. (fold_is_meaning (cores (site w i).log) (log_checked i sw) (short keep w i few (room_in n keep w some few rw))).0.rows q)
         (λ m h. streams.1 m (on m (logged m h)) (concerns m h))
-        (λ u y a b e. unique final u y sf (streams.0 u a) (streams.0 y b) (ap (λ c. c.site) e) (ap (λ c. c.seq) e))
+        (λ u y a b e. unique u y sf (streams.0 u a) (streams.0 y b) (ap (λ c. c.site) e) (ap (λ c. c.seq) e))
 
     each : (u : Message) → Has u (lacking i (site v i).log (made (place keep w i) (site w i) x) all) → Sent w u × Has u (site w i).log
         × (u.stamp.id.site ≡ i → ⊥)
@@ -297,7 +294,7 @@ module _ (n keep i : ℕ) (some : 1 ≤ n) (few : keep ≤ 1000000) (inside : i 
         has_reverse u (site w i).log
         (there final (reverse (site w i).log) u (sound_of n keep final some few rf) (sw.good i).released (λ y c. on y ((sw.good i).log_sent y c))
         (streams.0 u f.0) (omega (arith, l, dep_is u.stamp.id.site, counted_reverse u.stamp.id.site (site w i).log))) in
-        (logged u here, here, is_other u.stamp.id.site i p.0)
+        (logged u here, here, is_other p.0)
 
     give : Gave n keep i w v (lacking i (site v i).log (made (place keep w i) (site w i) x) all)
     give = give_all n keep i some few inside w room (lacking i (site v i).log (made (place keep w i) (site w i) x) all) v k.fed each
@@ -363,8 +360,7 @@ red_same x g h false r k = ap (λ b. cond b (unwrap_or g 0 + 1) 0) r ∙ sym (ap
 abbrev pub makes : ℕ → World → ℕ → Shadow → World
 makes keep w i x = record {
   sites = slice_set w.sites i (after_made (place keep w i) (site w i) x);
-  sent = w.sent
-      ++ packet.Msg (made (place keep w i) (site w i) x) ∷ [];
+  sent = w.sent ++ packet.Msg (made (place keep w i) (site w i) x) ∷ [];
 }
 
 module _ (n keep i : ℕ) (some : 1 ≤ n) (few : keep ≤ 1000000) (inside : i < n) (w v : World) (rw : Reached n keep w) (tokens : List Token) (all : List Message)
@@ -387,7 +383,7 @@ module _ (n keep i : ℕ) (some : 1 ≤ n) (few : keep ≤ 1000000) (inside : i 
   )
 
   rows : rows_at (site p.next i).log ≡ rows_at (site w i).log
-  rows = ap row_by_key (equal_sets_equal_tables (cores (site p.next i).log) (cores (site w i).log) (log_checked p.next i sound_p) (log_checked w i sound_w)
+  rows = ap row_by_key (equal_sets_equal_tables (cores (site p.next i).log) (cores (site w i).log) (log_checked i sound_p) (log_checked i sound_w)
       (short keep p.next i few (room_in n keep p.next some few p.fed.reached)) (short keep w i few (room_in n keep w some few rw))
       (same_cores (site p.next i).log (site w i).log both))
 

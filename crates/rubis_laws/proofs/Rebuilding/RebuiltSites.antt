@@ -47,11 +47,10 @@ abbrev passes_on : World → ℕ → ℕ → ℕ → World
 passes_on w i to issued =
     record { sites = slice_set w.sites i (record (site w i) { held = None }); sent = w.sent ++ packet.Token (token_for (site w i) to issued) ∷ [] }
 
-passed_is : (p : Place) (s : Replica) (to issued : ℕ) → s.held ≡ Some issued → (nat_le p.sites to || (to == p.site)) ≡ false → nat_le 1000000000 s.last ≡ false
-    → passed p s to ≡ (record s { held = None }, Ok (token_for s to issued))
-passed_is p s to issued e f g =
-    ap (passing p s to) e
-    ∙ ap (λ b. cond {A = Replica × Result Token Refusal} b (s, Err BadTarget)
+passed_is : (p : Place) (s : Replica) (to : ℕ) {issued : ℕ} → s.held ≡ Some issued → (nat_le p.sites to || (to == p.site)) ≡ false
+    → nat_le 1000000000 s.last ≡ false → passed p s to ≡ (record s { held = None }, Ok (token_for s to issued))
+passed_is p s to {issued} e f g =
+    ap (passing p s to) e ∙ ap (λ b. cond {A = Replica × Result Token Refusal} b (s, Err BadTarget)
     (cond (nat_le 1000000000 s.last) (s, Err LastTurn) (record s { held = None }, Ok (token_for s to issued)))) f
     ∙ ap (λ b. cond {A = Replica × Result Token Refusal} b (s, Err LastTurn) (record s { held = None }, Ok (token_for s to issued))) g
 
@@ -63,7 +62,7 @@ module _ (n keep i : ℕ) (some : 1 ≤ n) (few : keep ≤ 1000000) (inside : i 
   h = hold_token n keep i some few inside w v k.fed tokens issued e k.token
 
   passed_there : passed (place keep h.next i) (site h.next i) to ≡ (record (site h.next i) { held = None }, Ok (token_for (site h.next i) to issued))
-  passed_there = passed_is (place keep h.next i) (site h.next i) to issued (h.held ∙ e)
+  passed_there = passed_is (place keep h.next i) (site h.next i) to (h.held ∙ e)
       (subst (λ m. (nat_le m to || (to == i)) ≡ false) (sym h.fed.alike.sites) f) (subst (λ l. nat_le 1000000000 l ≡ false) (sym h.last) g)
 
   same_token : token_for (site h.next i) to issued ≡ token_for (site w i) to issued
@@ -121,7 +120,7 @@ module _ (n keep i : ℕ) (some : 1 ≤ n) (few : keep ≤ 1000000) (inside : i 
       let e : site (with_site w i x) i ≡ x = site_set n keep i some few inside w w x rw in record {
         fed = record {
           reached = k.fed.reached;
-          alike = alike_here i w v x k.fed.alike;
+          alike = alike_here x k.fed.alike;
           within = λ u h. subst (λ (s : Replica). Has u s.log) (sym e) (arriving (place keep w i) (site w i) m (λ s. Has u s.log) (k.fed.within u h)
               (has_reverse u (settle (length ((site w i).waiting ++ m ∷ [])) (site w i).log ((site w i).waiting ++ m ∷ [])).0
               (settle_grows u (length ((site w i).waiting ++ m ∷ [])) (site w i).log ((site w i).waiting ++ m ∷ [])
@@ -142,7 +141,7 @@ module _ (n keep i : ℕ) (some : 1 ≤ n) (few : keep ≤ 1000000) (inside : i 
     next_taken : (t : Token) → Has (packet.Token t) w.sent → t.to ≡ i → (site w i).last < t.turn → TokenKept i (site v i) (site w i) w.sent tokens
         → (next_token i (site v i).last tokens ≡ Some t) × ((site v i).held ≡ None)
     next_taken t h to late (inr b) =
-        let s = held_is (length w.sites) (λ j. (site w j).held) (λ j. (site w j).last) w.sent i b.token.issued (sound_of n keep w some few rw).token b.held in
+        let s = held_is (length w.sites) (λ j. (site w j).held) (λ j. (site w j).last) w.sent i (sound_of n keep w some few rw).token b.held in
         absurd (let q = s.0.taken t h in let c = ap (λ j. (site w j).last) to in omega (arith, q, c, late))
     next_taken t h to late (inl q) = ⊎_elim stands travels (sound_of n keep v some few k.fed.reached).token
       where
@@ -159,7 +158,7 @@ module _ (n keep i : ℕ) (some : 1 ≤ n) (few : keep ≤ 1000000) (inside : i 
         travels : ((x : Token) × Travels (length v.sites) (λ j. (site v j).held) (λ j. (site v j).last) v.sent x) →
             (next_token i (site v i).last tokens ≡ Some t) × ((site v i).held ≡ None)
         travels s = (
-          next_one i (site v i).last tokens t (told.1 t (subst (Has (packet.Token t)) (sym grown) (has_left (packet.Token t) w.sent later h)) to) to
+          next_one (site v i).last tokens t (told.1 t (subst (Has (packet.Token t)) (sym grown) (has_left (packet.Token t) w.sent later h)) to) to
               (omega (arith, q.1, late)) only,
           s.1.nowhere i,
         )
@@ -199,7 +198,7 @@ module _ (n keep i : ℕ) (some : 1 ≤ n) (few : keep ≤ 1000000) (inside : i 
             let q = next_taken t h to late k.token in record {
               fed = record {
                 reached = k.fed.reached;
-                alike = alike_here i w v x k.fed.alike;
+                alike = alike_here x k.fed.alike;
                 within = λ u c. subst (λ (s : Replica). Has u s.log) (sym e) (k.fed.within u c);
               };
               none_waits = k.none_waits;
@@ -227,16 +226,16 @@ record Goes (n keep i : ℕ) (w v : World) (tokens : List Token) (all : List Mes
   again : (rest : List Packet) → rebuilt (spot n keep i) tokens all (site v i) (part i keep w e ++ rest)
       ≡ ((rebuilt (spot n keep i) tokens all (site next i) rest).0, part i keep w e ++ (rebuilt (spot n keep i) tokens all (site next i) rest).1)
 
-none_again : (p : Place) (sent : List Token) (packets rest : List Packet) (all : List Message) (r s : Replica) → s ≡ r → packets ≡ []
+none_again : (p : Place) (sent : List Token) {packets : List Packet} (rest : List Packet) (all : List Message) {r s : Replica} → s ≡ r → packets ≡ []
     → rebuilt p sent all r (packets ++ rest) ≡ ((rebuilt p sent all s rest).0, packets ++ (rebuilt p sent all s rest).1)
-none_again p sent packets rest all r s e f =
+none_again p sent rest all {r} {s} e f =
     subst (λ ps. rebuilt p sent all r (ps ++ rest) ≡ ((rebuilt p sent all s rest).0, ps ++ (rebuilt p sent all s rest).1)) (sym f)
     (λ j. rebuilt p sent all (sym e j) rest)
 
-one_again : (p : Place) (sent : List Token) (packets rest : List Packet) (all : List Message) (r s : Replica) (x : Packet) → sent_again p sent all r x
-    ≡ (s, x ∷ []) → packets ≡ x ∷ []
-    → rebuilt p sent all r (packets ++ rest) ≡ ((rebuilt p sent all s rest).0, packets ++ (rebuilt p sent all s rest).1)
-one_again p sent packets rest all r s x e f =
+one_again : (p : Place) (sent : List Token) {packets : List Packet} (rest : List Packet) (all : List Message) (r s : Replica) {x : Packet}
+    → sent_again p sent all r x ≡ (s, x ∷ []) → packets ≡ x ∷ [] → rebuilt p sent all r (packets ++ rest) ≡
+    ((rebuilt p sent all s rest).0, packets ++ (rebuilt p sent all s rest).1)
+one_again p sent rest all r s e f =
     subst (λ ps. rebuilt p sent all r (ps ++ rest) ≡ ((rebuilt p sent all s rest).0, ps ++ (rebuilt p sent all s rest).1)) (sym f)
     (ap (λ q. ((rebuilt p sent all q.0 rest).0, q.1 ++ (rebuilt p sent all q.0 rest).1)) e)
 
@@ -268,16 +267,15 @@ Grown sent y = (new : List Packet) × (y.sent ≡ sent ++ new) × ((u : Token) �
 same_packet : (u t : Token) → packet.Token u ≡ packet.Token t → u ≡ t
 same_packet u t e = cc
 
-pass_turns : (keep j to : ℕ) (w : World) → Sound w → (o : Option ℕ) → (site w j).held ≡ o → (u : Token) →
-    Has (packet.Token u) (sending packet.Token (passing (place keep w j) (site w j) to o).1)
-    → turns w.sent < u.turn
-pass_turns keep j to w s None e u = λ h. absurd h
-pass_turns keep j to w s (Some issued) e u =
+pass_turns : (keep j to : ℕ) {w : World} → Sound w → (o : Option ℕ) → (site w j).held ≡ o → (u : Token)
+    → Has (packet.Token u) (sending packet.Token (passing (place keep w j) (site w j) to o).1) → turns w.sent < u.turn
+pass_turns keep j to s None e u = λ h. absurd h
+pass_turns keep j to {w} s (Some issued) e u =
     cond_both (nat_le (length w.sites) to || (to == j)) (site w j, Err BadTarget) _
     (λ (p : Replica × Result Token Refusal). Has (packet.Token u) (sending packet.Token p.1) → turns w.sent < u.turn) (λ _ h. absurd h)
     (λ _. cond_both (nat_le 1000000000 (site w j).last) (site w j, Err LastTurn) _
     (λ (p : Replica × Result Token Refusal). Has (packet.Token u) (sending packet.Token p.1) → turns w.sent < u.turn) (λ _ h. absurd h)
-    (λ _ h. ⊎_elim (λ q. let d = (held_is (length w.sites) (λ j. (site w j).held) (λ j. (site w j).last) w.sent j issued s.token e).0.now in
+    (λ _ h. ⊎_elim (λ q. let d = (held_is (length w.sites) (λ j. (site w j).held) (λ j. (site w j).last) w.sent j s.token e).0.now in
     let c = ap (λ (x : Token). x.turn) (same_packet u (token_for (site w j) to issued) q) in omega (arith, d, c)) (λ q. absurd q) h))
 
 no_token : (r : Result Message Refusal) (u : Token) → Has (packet.Token u) (sending packet.Msg r) → ⊥
@@ -288,21 +286,21 @@ no_token (Err r) u h = h
 nothing_new : (w : World) → Grown w.sent w
 nothing_new w = ([], sym (append-nil w.sent), λ u h. absurd h)
 
-requested_grows : (keep j : ℕ) (w : World) → Sound w → (r : Request) → Grown w.sent (requested keep w j r).0
-requested_grows keep j w s (request.Ask a) =
+requested_grows : (keep j : ℕ) {w : World} → Sound w → (r : Request) → Grown w.sent (requested keep w j r).0
+requested_grows keep j {w} s (request.Ask a) =
     (sending packet.Msg (asked (place keep w j) (site w j) a).1, refl, λ u h. absurd (no_token (asked (place keep w j) (site w j) a).1 u h))
-requested_grows keep j w s (request.Pass to) =
-    (sending packet.Token (passed (place keep w j) (site w j) to).1, refl, pass_turns keep j to w s (site w j).held refl)
-requested_grows keep j w s (request.List l) = nothing_new w
+requested_grows keep j {w} s (request.Pass to) =
+    (sending packet.Token (passed (place keep w j) (site w j) to).1, refl, pass_turns keep j to s (site w j).held refl)
+requested_grows keep j {w} s (request.List l) = nothing_new w
 
 coming_grows : (keep j : ℕ) (w : World) (o : Option Packet) → Grown w.sent (coming keep w j o).0
 coming_grows keep j w None = nothing_new w
 coming_grows keep j w (Some (packet.Msg m)) = ([], sym (append-nil w.sent), λ u h. absurd h)
 coming_grows keep j w (Some (packet.Token t)) = ([], sym (append-nil w.sent), λ u h. absurd h)
 
-event_grows : (keep : ℕ) (w : World) (e : Event) → Sound w → Grown w.sent (happens keep w e).0
-event_grows keep w (At j r) s = at_one (Grown w.sent) w j (requested keep w j r) (nothing_new w) (λ _. requested_grows keep j w s r)
-event_grows keep w (Deliver j k) s = at_one (Grown w.sent) w j (coming keep w j (packet_at w.sent k)) (nothing_new w)
+event_grows : (keep : ℕ) {w : World} (e : Event) → Sound w → Grown w.sent (happens keep w e).0
+event_grows keep {w} (At j r) s = at_one (Grown w.sent) w j (requested keep w j r) (nothing_new w) (λ _. requested_grows keep j s r)
+event_grows keep {w} (Deliver j k) s = at_one (Grown w.sent) w j (coming keep w j (packet_at w.sent k)) (nothing_new w)
     (λ _. coming_grows keep j w (packet_at w.sent k))
 
 turns_append : (xs ys : List Packet) → turns (xs ++ ys) ≡ turns xs + turns ys
@@ -313,7 +311,7 @@ turns_append (packet.Token t ∷ xs) ys = let e = turns_append xs ys in omega ar
 run_grows : (n keep : ℕ) → 1 ≤ n → keep ≤ 1000000 → (es : List Event) (w : World) → AreEvents n es → Reached n keep w → Grown w.sent (run keep es w)
 run_grows n keep some few [] w a r = nothing_new w
 run_grows n keep some few (e ∷ es) w a r =
-    let c = event_grows keep w e (sound_of n keep w some few r) in
+    let c = event_grows keep e (sound_of n keep w some few r) in
     let b = run_grows n keep some few es (happens keep w e).0 a.1 (reach_on n keep w e r a.0) in (
       c.0 ++ b.0,
       b.1 ∙ ap (λ ps. ps ++ b.0) c.1 ∙ append_assoc w.sent c.0 b.0,
@@ -334,12 +332,12 @@ module _ (n keep i : ℕ) (some : 1 ≤ n) (few : keep ≤ 1000000) (inside : i 
   goes_other e a c =
       let x = site_stays keep i w e c in
       let y = site_stays keep i v e c in
-      let g = event_grows keep w e (sound_of n keep w some few rw) in record {
+      let g = event_grows keep e (sound_of n keep w some few rw) in record {
         next = (happens keep v e).0;
         follows = record {
           fed = record {
             reached = reach_on n keep v e k.fed.reached a;
-            alike = alike_event keep i w v e c k.fed.alike;
+            alike = alike_event keep e c k.fed.alike;
             within = λ u h. subst (λ (s : Replica). Has u s.log) (sym x) (k.fed.within u (subst (λ s. Had s u) y h));
           };
           none_waits = ap (λ (s : Replica). s.waiting) y ∙ k.none_waits;
@@ -349,7 +347,7 @@ module _ (n keep i : ℕ) (some : 1 ≤ n) (few : keep ≤ 1000000) (inside : i 
           before = λ u h. ⊎_elim (λ q. inl q) (λ q. inr (q.0, subst (Has (packet.Msg q.0)) (sym g.1) (has_left (packet.Msg q.0) w.sent g.0 q.1), q.2, q.3))
               (k.before u (subst (λ (s : Replica). Has u s.log) y h));
         };
-        again = λ rest. none_again (spot n keep i) tokens (part i keep w e) rest all (site v i) (site (happens keep v e).0 i) y (part_other i keep w e c);
+        again = λ rest. none_again (spot n keep i) tokens rest all y (part_other i keep w e c);
       }
 
   is_in : i < length w.sites
@@ -357,7 +355,7 @@ module _ (n keep i : ℕ) (some : 1 ≤ n) (few : keep ≤ 1000000) (inside : i 
 
   -- it changes nothing of what is followed
   goes_on : (e : Event) → Follows n keep i tokens (happens keep w e).0 v → part i keep w e ≡ [] → Goes n keep i w v tokens all e
-  goes_on e f c = record { next = v; follows = f; again = λ rest. none_again (spot n keep i) tokens (part i keep w e) rest all (site v i) (site v i) refl c }
+  goes_on e f c = record { next = v; follows = f; again = λ rest. none_again (spot n keep i) tokens rest all refl c }
 
   own_is : (r : Request) → (happens keep w (At i r)).0 ≡ (requested keep w i r).0
   own_is r = ap (λ (y : World × Result Happened Refusal). y.0) (at_inside w i (requested keep w i r) is_in)
@@ -377,7 +375,7 @@ module _ (n keep i : ℕ) (some : 1 ≤ n) (few : keep ≤ 1000000) (inside : i 
   stepped r w' x e f s = record {
     next = s.next;
     follows = subst (λ y. Follows n keep i tokens y s.next) (sym e) s.follows;
-    again = λ rest. one_again (spot n keep i) tokens (part i keep w (At i r)) rest all (site v i) (site s.next i) x s.again f;
+    again = λ rest. one_again (spot n keep i) tokens rest all (site v i) (site s.next i) s.again f;
   }
 
   goes_ask : (a : Ask) → IsAsk n a → ((y : Packet) → Has y (happens keep w (At i (request.Ask a))).0.sent → Has y final.sent) → (d : Result Shadow Refusal) →
@@ -411,7 +409,7 @@ module _ (n keep i : ℕ) (some : 1 ≤ n) (few : keep ≤ 1000000) (inside : i 
       ∙ ap (λ b. cond {A = Replica × Result Token Refusal} b (site w i, Err LastTurn) (record (site w i) { held = None }, Ok (token_for (site w i) to issued)))
       g)
   goes_pass to (Some issued) e false f false g =
-      let q = passed_is (place keep w i) (site w i) to issued e f g in
+      let q = passed_is (place keep w i) (site w i) to e f g in
       stepped (request.Pass to) (passes_on w i to issued) (packet.Token (token_for (site w i) to issued))
       (own_is (request.Pass to) ∙ ap (λ d. answering packet.Token w i d) q)
       (own_part (request.Pass to) ∙ ap (λ d. sending packet.Token d.1) q)
@@ -450,12 +448,12 @@ record Simulated (n keep i : ℕ) (tokens : List Token) (final v : World) (all :
   follows : Follows n keep i tokens final next
   again : rebuilt (spot n keep i) tokens all (site v i) packets ≡ (site next i, packets)
 
-sent_of : (v final : World) (ps : List Packet) → v ≡ final → v.sent ≡ ps → final.sent ≡ ps
-sent_of v final ps e f = ap (λ (y : World). y.sent) (sym e) ∙ f
+sent_of : {v final : World} {ps : List Packet} → v ≡ final → v.sent ≡ ps → final.sent ≡ ps
+sent_of e f = ap (λ (y : World). y.sent) (sym e) ∙ f
 
-one_on : (f : List Packet → Replica × List Packet) (packets first rest : List Packet) (q : Replica × List Packet) (s : Replica) → packets ≡ first ++ rest
-    → f (first ++ rest) ≡ (q.0, first ++ q.1) → q ≡ (s, rest) → f packets ≡ (s, packets)
-one_on f packets first rest q s a b c = ap f a ∙ b ∙ ap (λ (x : Replica × List Packet). (x.0, first ++ x.1)) c ∙ (λ j. (s, sym a j))
+one_on : (f : List Packet → Replica × List Packet) {packets : List Packet} (first rest : List Packet) {q : Replica × List Packet} (s : Replica)
+    → packets ≡ first ++ rest → f (first ++ rest) ≡ (q.0, first ++ q.1) → q ≡ (s, rest) → f packets ≡ (s, packets)
+one_on f first rest s a b c = ap f a ∙ b ∙ ap (λ (x : Replica × List Packet). (x.0, first ++ x.1)) c ∙ (λ j. (s, sym a j))
 
 sent_parts : (i keep : ℕ) (e : Event) (es : List Event) (w : World) → sent_by i keep (e ∷ es) w ≡ part i keep w e ++ sent_by i keep es (happens keep w e).0
 sent_parts i keep (At j r) es w = refl
@@ -471,16 +469,16 @@ module _ (n keep i : ℕ) (some : 1 ≤ n) (few : keep ≤ 1000000) (inside : i 
     simulate (x ∷ es) w v a rw k e =
         let later = run_grows n keep some few (x ∷ es) w a rw in
         let rest = run_grows n keep some few es (happens keep w x).0 a.1 (reach_on n keep w x rw a.0) in
-        let whole : final.sent ≡ w.sent ++ later.0 = sent_of (run keep (x ∷ es) w) final (w.sent ++ later.0) e later.1 in
+        let whole : final.sent ≡ w.sent ++ later.0 = sent_of e later.1 in
         let whole_on : final.sent ≡ (happens keep w x).0.sent
-        ++ rest.0 = sent_of (run keep es (happens keep w x).0) final ((happens keep w x).0.sent ++ rest.0) e rest.1 in
+        ++ rest.0 = sent_of e rest.1 in
         let g = goes n keep i some few inside final rf all streams tokens told w v rw k later.0 whole later.2 x a.0
         (λ y h. subst (Has y) (sym whole_on) (has_left y (happens keep w x).0.sent rest.0 h)) in
         let s = simulate es (happens keep w x).0 g.next a.1 (reach_on n keep w x rw a.0) g.follows e in record {
           next = s.next;
           follows = s.follows;
-          again = one_on (rebuilt (spot n keep i) tokens all (site v i)) (sent_by i keep (x ∷ es) w) (part i keep w x) (sent_by i keep es (happens keep w x).0)
-              (rebuilt (spot n keep i) tokens all (site g.next i) (sent_by i keep es (happens keep w x).0)) (site s.next i) (sent_parts i keep x es w)
+          again = one_on (rebuilt (spot n keep i) tokens all (site v i)) (part i keep w x) (sent_by i keep es (happens keep w x).0) (site s.next i)
+              (sent_parts i keep x es w)
               (g.again (sent_by i keep es (happens keep w x).0)) s.again;
         }
 

@@ -19,7 +19,7 @@ use Rattle.rubis_model.specs.Laws.{Sent}
 use Rattle.rubis_model.specs.Order.{Released}
 use Rattle.rubis_model.specs.Arrivals.{after_all}
 use Rattle.rubis_model.specs.Rebuild.{InPlaceOf}
-use Rattle.rubis_model.specs.Settle.{Has, Settles, counted, reds, settle}
+use Rattle.rubis_model.specs.Settle.{Has, Settles, counted, reds}
 use Rattle.rubis_model.specs.Settle.Settles.{Rest, Release}
 use Rattle.rubis_model.specs.Site.{Place, Replica, opening_at, settled, not_ours, is_repeat, is_full, after_came, arrived, asked, took, passed}
 use Rattle.rubis_model.specs.Sound.{Sound, Room}
@@ -49,28 +49,26 @@ at_outside w j step l = ap (λ b. cond b step (w, Err BadEvent)) (not_below j (l
     not_below a b l = grind (arith, nat_tests)
 
 -- ---- the same happens at another site
-pub both_set : (i j : ℕ) (w v : World) (x y : Replica) → j < length w.sites → InPlaceOf i w v → y ≡ x → (q : ℕ) → (q ≡ i → ⊥)
+pub both_set : {i : ℕ} (j : ℕ) {w v : World} {x y : Replica} → j < length w.sites → InPlaceOf i w v → y ≡ x → (q : ℕ) → (q ≡ i → ⊥)
     → get_or (set v.sites j y) q (opening_at 1) ≡ get_or (set w.sites j x) q (opening_at 1)
-both_set i j w v x y l k e q n = ⊎_elim
-    (λ p. subst (λ q. get_or (set v.sites j y) q (opening_at 1) ≡ get_or (set w.sites j x) q (opening_at 1)) (sym p)
+both_set j {w} {v} {x} {y} l k e q n = ⊎_elim (λ p. subst (λ q. get_or (set v.sites j y) q (opening_at 1) ≡ get_or (set w.sites j x) q (opening_at 1)) (sym p)
     (get_or-set_same v.sites j y (opening_at 1) (subst (λ n. j < n) (sym k.sites) l) ∙ e ∙ sym (get_or-set_same w.sites j x (opening_at 1) l)))
-    (λ p. get_or-set_other v.sites j q y (opening_at 1) p ∙ k.others q n ∙ sym (get_or-set_other w.sites j q x (opening_at 1) p))
-    (cases_eq q j)
+    (λ p. get_or-set_other v.sites j q y (opening_at 1) p ∙ k.others q n ∙ sym (get_or-set_other w.sites j q x (opening_at 1) p)) (cases_eq q j)
 
-pub alike_sending : (i j : ℕ) (w v : World) (x y : Replica) (sent sent' : List Packet) → j < length w.sites → InPlaceOf i w v → y ≡ x
-    → sent' ≡ sent → InPlaceOf i (record { sites = slice_set w.sites j x; sent = w.sent ++ sent })
-    (record { sites = slice_set v.sites j y; sent = v.sent ++ sent' })
-alike_sending i j w v x y sent sent' l k e f = record {
+pub alike_sending : {i : ℕ} (j : ℕ) {w v : World} {x y : Replica} {sent sent' : List Packet} → j < length w.sites → InPlaceOf i w v → y ≡ x → sent' ≡ sent
+    → InPlaceOf i (record { sites = slice_set w.sites j x; sent = w.sent ++ sent }) (record { sites = slice_set v.sites j y; sent = v.sent ++ sent' })
+alike_sending j {w} {v} {x} {y} {sent} l k e f = record {
   sent = λ q. k.sent q ++ f q;
   sites = length-set v.sites j y ∙ k.sites ∙ sym (length-set w.sites j x);
-  others = both_set i j w v x y l k e;
+  others = both_set j l k e;
 }
 
-pub alike_taking : (i j : ℕ) (w v : World) (x y : Replica) → j < length w.sites → InPlaceOf i w v → y ≡ x → InPlaceOf i (with_site w j x) (with_site v j y)
-alike_taking i j w v x y l k e = record {
+pub alike_taking : {i : ℕ} (j : ℕ) {w v : World} {x y : Replica} → j < length w.sites → InPlaceOf i w v → y ≡ x
+    → InPlaceOf i (with_site w j x) (with_site v j y)
+alike_taking j {w} {v} {x} {y} l k e = record {
   sent = k.sent;
   sites = length-set v.sites j y ∙ k.sites ∙ sym (length-set w.sites j x);
-  others = both_set i j w v x y l k e;
+  others = both_set j l k e;
 }
 
 module _ (keep i j : ℕ) (w v : World) (n : j ≡ i → ⊥) (k : InPlaceOf i w v) (l : j < length w.sites) where
@@ -80,53 +78,50 @@ module _ (keep i j : ℕ) (w v : World) (n : j ≡ i → ⊥) (k : InPlaceOf i w
   alike_requested : (r : Request) → InPlaceOf i (requested keep w j r).0 (requested keep v j r).0
   alike_requested (request.Ask a) =
       let e : asked (place keep v j) (site v j) a ≡ asked (place keep w j) (site w j) a = λ q. asked (same_place q) (k.others j n q) a in
-      alike_sending i j w v (asked (place keep w j) (site w j) a).0 (asked (place keep v j) (site v j) a).0
-      (sending packet.Msg (asked (place keep w j) (site w j) a).1) (sending packet.Msg (asked (place keep v j) (site v j) a).1) l k (λ q. (e q).0)
+      alike_sending j l k (λ q. (e q).0)
       (λ q. sending packet.Msg (e q).1)
   alike_requested (request.Pass to) =
       let e : passed (place keep v j) (site v j) to ≡ passed (place keep w j) (site w j) to = λ q. passed (same_place q) (k.others j n q) to in
-      alike_sending i j w v (passed (place keep w j) (site w j) to).0 (passed (place keep v j) (site v j) to).0
-      (sending packet.Token (passed (place keep w j) (site w j) to).1) (sending packet.Token (passed (place keep v j) (site v j) to).1) l k (λ q. (e q).0)
+      alike_sending j l k (λ q. (e q).0)
       (λ q. sending packet.Token (e q).1)
   alike_requested (request.List x) = k
 
   alike_coming : (o : Option Packet) → InPlaceOf i (coming keep w j o).0 (coming keep v j o).0
   alike_coming None = k
   alike_coming (Some (packet.Msg m)) =
-      alike_taking i j w v (arrived (place keep w j) (site w j) m).0 (arrived (place keep v j) (site v j) m).0 l k
+      alike_taking j l k
       (λ q. (arrived (same_place q) (k.others j n q) m).0)
   alike_coming (Some (packet.Token t)) =
-      alike_taking i j w v (took (place keep w j) (site w j) t).0 (took (place keep v j) (site v j) t).0 l k (λ q. (took (same_place q) (k.others j n q) t).0)
+      alike_taking j l k (λ q. (took (same_place q) (k.others j n q) t).0)
 
 abbrev pub site_of : Event → ℕ
 site_of (At j r) = j
 site_of (Deliver j k) = j
 
-alike_at : (i j : ℕ) (w v : World) (a b : World × Result Happened Refusal) → InPlaceOf i w v → (j < length w.sites → InPlaceOf i a.0 b.0)
+alike_at : {i : ℕ} (j : ℕ) {w v : World} (a b : World × Result Happened Refusal) → InPlaceOf i w v → (j < length w.sites → InPlaceOf i a.0 b.0)
     → InPlaceOf i (at_site w j a).0 (at_site v j b).0
-alike_at i j w v a b k h = ⊎_elim
-    (λ l. subst (λ (x : World × Result Happened Refusal). InPlaceOf i x.0 (at_site v j b).0) (sym (at_inside w j a l))
+alike_at {i} j {w} {v} a b k h = ⊎_elim (λ l. subst (λ (x : World × Result Happened Refusal). InPlaceOf i x.0 (at_site v j b).0) (sym (at_inside w j a l))
     (subst (λ (x : World × Result Happened Refusal). InPlaceOf i a.0 x.0) (sym (at_inside v j b (subst (λ n. j < n) (sym k.sites) l))) (h l)))
     (λ l. subst (λ (x : World × Result Happened Refusal). InPlaceOf i x.0 (at_site v j b).0) (sym (at_outside w j a l))
     (subst (λ (x : World × Result Happened Refusal). InPlaceOf i w x.0) (sym (at_outside v j b (subst (λ n. n ≤ j) (sym k.sites) l))) k))
     (cases_lt j (length w.sites))
 
-pub alike_event : (keep i : ℕ) (w v : World) (e : Event) → (site_of e ≡ i → ⊥) → InPlaceOf i w v → InPlaceOf i (happens keep w e).0 (happens keep v e).0
-alike_event keep i w v (At j r) n k = alike_at i j w v (requested keep w j r) (requested keep v j r) k (λ l. alike_requested keep i j w v n k l r)
-alike_event keep i w v (Deliver j q) n k = alike_at i j w v (coming keep w j (packet_at w.sent q)) (coming keep v j (packet_at v.sent q)) k
+pub alike_event : (keep : ℕ) {i : ℕ} {w v : World} (e : Event) → (site_of e ≡ i → ⊥) → InPlaceOf i w v → InPlaceOf i (happens keep w e).0 (happens keep v e).0
+alike_event keep {i} {w} {v} (At j r) n k = alike_at j (requested keep w j r) (requested keep v j r) k (λ l. alike_requested keep i j w v n k l r)
+alike_event keep {i} {w} {v} (Deliver j q) n k = alike_at j (coming keep w j (packet_at w.sent q)) (coming keep v j (packet_at v.sent q)) k
     (λ l. subst (λ ps. InPlaceOf i (coming keep w j (packet_at w.sent q)).0 (coming keep v j (packet_at ps q)).0) (sym k.sent)
     (alike_coming keep i j w v n k l (packet_at w.sent q)))
 
 -- another state at site i
-pub alike_there : (i : ℕ) (w v : World) (y : Replica) → InPlaceOf i w v → InPlaceOf i w (with_site v i y)
-alike_there i w v y k = record {
+pub alike_there : {i : ℕ} {w v : World} (y : Replica) → InPlaceOf i w v → InPlaceOf i w (with_site v i y)
+alike_there {i} {v} y k = record {
   sent = k.sent;
   sites = length-set v.sites i y ∙ k.sites;
   others = λ q n. get_or-set_other v.sites i q y (opening_at 1) n ∙ k.others q n;
 }
 
-pub alike_here : (i : ℕ) (w v : World) (x : Replica) → InPlaceOf i w v → InPlaceOf i (with_site w i x) v
-alike_here i w v x k = record {
+pub alike_here : {i : ℕ} {w v : World} (x : Replica) → InPlaceOf i w v → InPlaceOf i (with_site w i x) v
+alike_here {i} {w} x k = record {
   sent = k.sent;
   sites = k.sites ∙ sym (length-set w.sites i x);
   others = λ q n. k.others q n ∙ sym (get_or-set_other w.sites i q x (opening_at 1) n);
@@ -180,15 +175,15 @@ has_filter f u [] h e = absurd h
 has_filter f u (x ∷ xs) (inl q) e = subst (λ b. Has u (cond b (x ∷ filter f xs) (filter f xs))) (sym (ap f (sym q) ∙ e)) (inl q)
 has_filter f u (x ∷ xs) (inr h) e = in_either u x (filter f xs) (f x) (has_filter f u xs h e)
 
-pub same_counts : (a b : List Message) → Released (reverse a) → Released (reverse b) → ((x : Message) → Has x a → Has x b)
-    → ((x : Message) → Has x b → Has x a) → (j : ℕ) → counted j a ≡ counted j b
+pub same_counts : (a b : List Message) → Released (reverse a) → Released (reverse b) → ((x : Message) → Has x a → Has x b) → ((x : Message) → Has x b → Has x a)
+    → (j : ℕ) → counted j a ≡ counted j b
 same_counts a b ra rb f g j =
     let p = counted_most (reverse a) (reverse b) ra rb (λ x h. has_back x b (f x (has_reverse x a h))) j in
     let q = counted_most (reverse b) (reverse a) rb ra (λ x h. has_back x a (g x (has_reverse x b h))) j in
     omega (arith, p, q, counted_reverse j a, counted_reverse j b)
 
-pub same_reds : (a b : List Message) → Released (reverse a) → Released (reverse b) → ((x : Message) → Has x a → Has x b)
-    → ((x : Message) → Has x b → Has x a) → reds a ≡ reds b
+pub same_reds : (a b : List Message) → Released (reverse a) → Released (reverse b) → ((x : Message) → Has x a → Has x b) → ((x : Message) → Has x b → Has x a)
+    → reds a ≡ reds b
 same_reds a b ra rb f g =
     let p = reds_most (reverse a) (reverse b) ra rb (λ x h. has_back x b (f x (has_reverse x a h))) in
     let q = reds_most (reverse b) (reverse a) rb ra (λ x h. has_back x a (g x (has_reverse x b h))) in
@@ -200,11 +195,11 @@ at_most a b ra f =
     omega (arith, l, length-reverse a)
 
 -- ---- nothing is had that didn't come
-settles_from : (m : Message) (log waiting log' waiting' : List Message) → Settles log waiting log' waiting' → Has m log' ⊎ Has m waiting'
+settles_from : (m : Message) {log waiting log' waiting' : List Message} → Settles log waiting log' waiting' → Has m log' ⊎ Has m waiting'
     → Has m log ⊎ Has m waiting
-settles_from m _ _ _ _ (Rest log waiting n) h = h
-settles_from m _ _ _ _ (Release log front back log' waiting' u n r s) h =
-    ⊎_elim logs (λ k. inr (between k)) (settles_from m (log ++ u ∷ []) (front ++ back) log' waiting' s h)
+settles_from m (Rest log waiting n) h = h
+settles_from m (Release log front back log' waiting' u n r s) h =
+    ⊎_elim logs (λ k. inr (between k)) (settles_from m s h)
   where
     logs : Has m (log ++ u ∷ []) → Has m log ⊎ Has m (front ++ u ∷ back)
     logs k = ⊎_elim (λ l. inl l) (λ e. inr (has_right m front (u ∷ back) (inl e))) (push_cases m u log k)
@@ -213,8 +208,7 @@ settles_from m _ _ _ _ (Release log front back log' waiting' u n r s) h =
     between k = ⊎_elim (λ l. has_left m front (u ∷ back) l) (λ q. has_right m front (u ∷ back) (inr q)) (has_append m front back k)
 
 pub settled_from : (s : Replica) (m : Message) → Had (settled s) m → Had s m
-settled_from s m h = settles_from m s.log s.waiting (settle (length s.waiting) s.log s.waiting).0 (settle (length s.waiting) s.log s.waiting).1
-    (settle_settles (length s.waiting) s.log s.waiting (omega arith)) h
+settled_from s m h = settles_from m (settle_settles (length s.waiting) s.log s.waiting (omega arith)) h
 
 came_from : (s : Replica) (m u : Message) → Had (after_came s m) u → Had s u ⊎ (u ≡ m)
 came_from s m u h = ⊎_elim (λ l. inl (inl l)) (λ q. ⊎_elim (λ k. inl (inr k)) (λ e. inr e) (push_cases u m s.waiting q))
@@ -290,9 +284,9 @@ module _ (n keep i : ℕ) (some : 1 ≤ n) (few : keep ≤ 1000000) (inside : i 
       (λ _. cond_both (is_repeat (site v i) u) (site v i, Ok arrival.Repeat) _ (λ (q : Replica × Result Arrival Refusal). Had q.0 u)
       (λ e. repeat_had v s r i u a e)
       (λ new. cond_both (is_full keep (site v i)) (site v i, Err Full) _ (λ (q : Replica × Result Arrival Refusal). Had q.0 u)
-      (λ e. absurd (let k = leb-true keep (length (site v i).log + length (site v i).waiting) e in let l = fewer_than v i u (site w i).log s r f.within h new in
+      (λ e. absurd (let k = leb-true keep (length (site v i).log + length (site v i).waiting) e in let l = fewer_than i u (site w i).log s r f.within h new in
       omega (arith, k, l, room)))
-      (λ _. came_had (site v i) u u (inr refl))))
+      (λ _. came_had (site v i) (inr refl))))
 
   give_one : (room : length (site w i).log < keep) (v : World) (u : Message) → Fed n keep i w v → Sent w u → Has u (site w i).log → (u.stamp.id.site ≡ i → ⊥)
       → Gave n keep i w v (u ∷ [])
@@ -303,7 +297,7 @@ module _ (n keep i : ℕ) (some : 1 ≤ n) (few : keep ≤ 1000000) (inside : i 
         next = with_site v i x;
         fed = record {
           reached = delivering v (packet.Msg u) f.reached b;
-          alike = alike_there i w v x f.alike;
+          alike = alike_there x f.alike;
           within = λ y k. ⊎_elim (λ q. f.within y q) (λ q. subst (λ m. Has m (site w i).log) (sym q) h)
               (arrived_from (place keep v i) (site v i) u y (subst (λ q. Had q y) e k));
         };
@@ -343,8 +337,8 @@ module _ (n keep i : ℕ) (some : 1 ≤ n) (few : keep ≤ 1000000) (inside : i 
         → Has m (reverse (site v i).log)
     one_there past m p a within had = ⊎_elim (λ h. has_back m (site v i).log h)
         (λ h. absurd ((rests_at v i rest_there).unready m h
-        (ready_forth (site v i).log m
-        (still_ready v past (reverse (site v i).log) m sound_there p (sound_there.good i).released (sound_there.good i).log_sent a within
+        (ready_forth (site v i).log
+        (still_ready past (reverse (site v i).log) m sound_there p (sound_there.good i).released (sound_there.good i).log_sent a within
         (λ l. (rests_at v i rest_there).apart.not_logged m h (has_reverse m (site v i).log l))))))
         had
 

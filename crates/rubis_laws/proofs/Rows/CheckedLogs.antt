@@ -76,46 +76,43 @@ if_some_both None f h k = tt
 if_some_both (Some x) f h k = f x h k
 
 -- no other item, and q pieces of this one bought
-stocked : (i : Id) (a : List Core) (m : Core) (q : ℕ) → sold_of i m.shadow ≡ q → (n : NewItem) → total (sold_of i) a + q ≤ supply a i n
-    → Stocked a i n → Stocked (a ++ m ∷ []) i n
-stocked i a m q e n l h =
+stocked : {i : Id} {a : List Core} (m : Core) {q : ℕ} → sold_of i m.shadow ≡ q → (n : NewItem) → total (sold_of i) a + q ≤ supply a i n → Stocked a i n
+    → Stocked (a ++ m ∷ []) i n
+stocked {i} {a} m e n l h =
     record { enough = (let t = total_push (sold_of i) a m in let k = total_push (restocked_of i) a m in omega (arith, t, k, e, l)); opening = h.opening }
 
-none_sold : (i : Id) (a : List Core) (n : NewItem) → Stocked a i n → total (sold_of i) a + 0 ≤ supply a i n
-none_sold i a n h = let e = h.enough in omega (arith, e)
+none_sold : {i : Id} {a : List Core} {n : NewItem} → Stocked a i n → total (sold_of i) a + 0 ≤ supply a i n
+none_sold h = let e = h.enough in omega (arith, e)
 
 same_items : (i : Id) (a : List Core) (m : Core) → as_item m.shadow ≡ None → IfSome (item_at i a) (Stocked (a ++ m ∷ []) i)
     → IfSome (item_at i (a ++ m ∷ [])) (Stocked (a ++ m ∷ []) i)
 same_items i a m e h = subst (λ o. IfSome o (Stocked (a ++ m ∷ []) i)) (sym (at_id_push_not (λ m. as_item m.shadow) i a m e)) h
 
 listed_stocked : (i : Id) (a : List Core) (s : Head) (n : NewItem) (o : Option NewItem) → n.stock ≤ 1000000 → (o ≡ None → total (sold_of i) a ≡ 0)
-    → IfSome o (Stocked a i) → (b : Bool) →
-    IfSome (option_or o (when b (Some n))) (Stocked (a ++ msg s (Item n) ∷ []) i)
-listed_stocked i a s n (Some k) l z h b = stocked i a (msg s (Item n)) 0 refl k (none_sold i a k h) h
+    → IfSome o (Stocked a i) → (b : Bool) → IfSome (option_or o (when b (Some n))) (Stocked (a ++ msg s (Item n) ∷ []) i)
+listed_stocked i a s n (Some k) l z h b = stocked (msg s (Item n)) refl k (none_sold h) h
 listed_stocked i a s n None l z h true =
     record { enough = (let e = z refl in let t = total_push (sold_of i) a (msg s (Item n)) in omega (arith, e, t)); opening = l }
 listed_stocked i a s n None l z h false = tt
 
-stock_push : (a : List Core) (s : Head) (x : Shadow) → Good a → FitsByKind a x → IsLimited x → (i : Id)
+stock_push : {a : List Core} (s : Head) (x : Shadow) → Good a → FitsByKind a x → IsLimited x → (i : Id)
     → IfSome (item_at i (a ++ msg s x ∷ [])) (Stocked (a ++ msg s x ∷ []) i)
-stock_push a s (Buy p) g f l i = same_items i a (msg s (Buy p)) refl (at (same_id i p.item) refl)
+stock_push {a} s (Buy p) g f l i = same_items i a (msg s (Buy p)) refl (at (same_id i p.item) refl)
   where
     at : (b : Bool) → same_id i p.item ≡ b → IfSome (item_at i a) (Stocked (a ++ msg s (Buy p) ∷ []) i)
-    at true e = if_some_both (item_at i a) (λ n. stocked i a (msg s (Buy p)) p.quantity (ap (λ b. cond b p.quantity 0) e) n)
+    at true e = if_some_both (item_at i a) (λ n. stocked (msg s (Buy p)) (ap (λ b. cond b p.quantity 0) e) n)
         (subst (λ j. IfSome (item_at j a) (λ n. total (sold_of j) a + p.quantity ≤ supply a j n)) (sym ((Decides-same_id i p.item).0 e)) f.3) (g.stock i)
     at false e =
-        if_some_map (item_at i a) (λ n h. stocked i a (msg s (Buy p)) 0 (ap (λ b. cond b p.quantity 0) e) n (none_sold i a n h) h) (g.stock i)
-stock_push a s (Item n) g f l i =
+        if_some_map (item_at i a) (λ n h. stocked (msg s (Buy p)) (ap (λ b. cond b p.quantity 0) e) n (none_sold h) h) (g.stock i)
+stock_push {a} s (Item n) g f l i =
     subst (λ o. IfSome o (Stocked (a ++ msg s (Item n) ∷ []) i)) (sym (at_id_push (λ m. as_item m.shadow) i a (msg s (Item n))))
     (listed_stocked i a s n (item_at i a) l.1.stock.small (λ e. (g.no_item i e).sold) (g.stock i) (same_id i s.id))
-stock_push a s x g f l i =
-    same_items i a (msg s x) refl (if_some_map (item_at i a) (λ n h. stocked i a (msg s x) 0 refl n (none_sold i a n h) h) (g.stock i))
+stock_push {a} s x g f l i = same_items i a (msg s x) refl (if_some_map (item_at i a) (λ n h. stocked (msg s x) refl n (none_sold h) h) (g.stock i))
 
 pub abs_sum : (a b : ℤ) → unsigned_abs (a +ℤ b) ≤ unsigned_abs a + unsigned_abs b
 abs_sum a b = grind (arith, ints)
 
-pub more_reds : (a : List Core) (m : Core) → m.red ≡ cond (is_red m.shadow) (count is_red a + 1) 0
-    → m.red ≤ count is_red a + cond (is_red m.shadow) 1 0
+pub more_reds : (a : List Core) (m : Core) → m.red ≡ cond (is_red m.shadow) (count is_red a + 1) 0 → m.red ≤ count is_red a + cond (is_red m.shadow) 1 0
 more_reds a m e =
     elim (is_red m.shadow) as (λ b. m.red ≡ cond b (count is_red a + 1) 0 → m.red ≤ count is_red a + cond b 1 0)
     [ true ↦ λ h. omega arith | false ↦ λ h. omega arith ] e
@@ -129,37 +126,36 @@ choice_red n k beats p (Some x) m le r h =
 
 -- ---- nicknames
 
-pub user_gives : (a : List Core) (s : Head) (k : List ℕ) → Good a → Follows a (msg s (User k)) → (v : Id) → nick_at v (a ++ msg s (User k) ∷ [])
-    ≡ cond (same_id v s.id) (Some k) (nick_at v a)
-user_gives a s k g f v =
+pub user_gives : {a : List Core} (s : Head) (k : List ℕ) → Good a → Follows a (msg s (User k)) → (v : Id)
+    → nick_at v (a ++ msg s (User k) ∷ []) ≡ cond (same_id v s.id) (Some k) (nick_at v a)
+user_gives {a} s k g f v =
     let none : user_at s.id a ≡ None = none_at (λ m. as_user m.shadow) s.id a f.new_id in
     nick_push_user v a s k none (g.no_user s.id none).rename
 
-red_above : (a : List Core) (s : Head) (x : Shadow) → Follows a (msg s x) → is_red x ≡ true → count is_red a < s.red
-red_above a s x f e = let r = f.next_red ∙ ap (λ b. cond b (count is_red a + 1) 0) e in omega (arith, r)
+red_above : {a : List Core} (s : Head) (x : Shadow) → Follows a (msg s x) → is_red x ≡ true → count is_red a < s.red
+red_above {a} s x f e = let r = f.next_red ∙ ap (λ b. cond b (count is_red a + 1) 0) e in omega (arith, r)
 
-pub rename_gives : (a : List Core) (s : Head) (r : NewRename) → Good a → Follows a (msg s (Rename r)) → (v : Id)
+pub rename_gives : {a : List Core} (s : Head) (r : NewRename) → Good a → Follows a (msg s (Rename r)) → (v : Id)
     → nick_at v (a ++ msg s (Rename r) ∷ []) ≡ cond (same_id v r.user) (Some r.to) (nick_at v a)
-rename_gives a s r g f v =
-    nick_push_rename (count is_red a) v a s r (some_nick r.user a r.from (by_kind a (Rename r) f.fits).0) (red_above a s (Rename r) f refl)
+rename_gives {a} s r g f v =
+    nick_push_rename (count is_red a) v a s r (some_nick r.user a (by_kind a (Rename r) f.fits).0) (red_above s (Rename r) f refl)
     (g.reds later (λ m. renames v m.shadow))
 
-nicks_push : (a : List Core) (s : Head) (x : Shadow) → Good a → Follows a (msg s x) → Unique (λ u. nick_at u (a ++ msg s x ∷ []))
-nicks_push a s (User k) g f =
-    unique_given (λ u. nick_at u a) (λ u. nick_at u (a ++ msg s (User k) ∷ [])) s.id k (user_gives a s k g f) g.nicks
-    (not_named k a (by_kind a (User k) f.fits))
-nicks_push a s (Rename r) g f =
-    unique_given (λ u. nick_at u a) (λ u. nick_at u (a ++ msg s (Rename r) ∷ [])) r.user r.to (rename_gives a s r g f) g.nicks
+nicks_push : {a : List Core} (s : Head) (x : Shadow) → Good a → Follows a (msg s x) → Unique (λ u. nick_at u (a ++ msg s x ∷ []))
+nicks_push {a} s (User k) g f =
+    unique_given (λ u. nick_at u a) (λ u. nick_at u (a ++ msg s (User k) ∷ [])) s.id k (user_gives s k g f) g.nicks (not_named k a (by_kind a (User k) f.fits))
+nicks_push {a} s (Rename r) g f =
+    unique_given (λ u. nick_at u a) (λ u. nick_at u (a ++ msg s (Rename r) ∷ [])) r.user r.to (rename_gives s r g f) g.nicks
     (not_named r.to a (by_kind a (Rename r) f.fits).1)
-nicks_push a s x g f = λ n u v p q. g.nicks n u v (sym (keeps_nicks u a (msg s x) refl) ∙ p) (sym (keeps_nicks v a (msg s x) refl) ∙ q)
+nicks_push {a} s x g f = λ n u v p q. g.nicks n u v (sym (keeps_nicks u a (msg s x) refl) ∙ p) (sym (keeps_nicks v a (msg s x) refl) ∙ q)
 
 -- ---- one more message
 
 none_more : {b : Bool} {n : ℕ} → n ≡ 0 → b ≡ false → n + cond b 1 0 ≡ 0
 none_more {b} {n} e h = subst (λ c. n + cond c 1 0 ≡ 0) (sym h) (omega (arith, e))
 
-pub good_push : (a : List Core) (m : Core) → Good a → Follows a m → Good (a ++ m ∷ [])
-good_push a m g f = record {
+pub good_push : {a : List Core} {m : Core} → Good a → Follows a m → Good (a ++ m ∷ [])
+good_push {a} {m} g f = record {
   no_user = λ u e.
       let w = user_before u a m e in
       let z = g.no_user u w in
@@ -200,8 +196,8 @@ good_push a m g f = record {
       let r = g.restocked i in
       let l = length-append a (m ∷ []) in
       omega (arith, p, q, r, l);
-  stock = stock_push a (head_of m) m.shadow g (by_kind a m.shadow f.fits) f.limits;
-  nicks = nicks_push a (head_of m) m.shadow g f;
+  stock = stock_push (head_of m) m.shadow g (by_kind a m.shadow f.fits) f.limits;
+  nicks = nicks_push (head_of m) m.shadow g f;
   rating = λ u.
       let p = int_sum_push (λ n. rating_for u n.shadow) a m in
       let q = rated_in u m.shadow f.limits in

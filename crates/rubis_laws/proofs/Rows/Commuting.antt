@@ -32,7 +32,7 @@ module _ (log : List Core) (u v : Core) (checked : Checked log) (fu : Follows lo
   -- the other one still follows after the blue one
   follows_blue : Follows (log ++ u ∷ []) v
   follows_blue =
-      let after = apart_push log u apart fu in
+      let after = apart_push apart fu in
       let same : count is_red (log ++ u ∷ []) ≡ count is_red log = omega (arith, count_push is_red log u, ap (λ b. cond {A = ℕ} b 1 0) blue) in record {
         new_id = still_new log u v fv.new_id other;
         next_red = fv.next_red ∙ ap (λ n. cond (is_red v.shadow) (n + 1) 0) (sym same);
@@ -47,7 +47,7 @@ module _ (log : List Core) (u v : Core) (checked : Checked log) (fu : Follows lo
   -- and the blue one after the other one
   blue_follows : Follows (log ++ v ∷ []) u
   blue_follows =
-      let after = apart_push log v apart fv in record {
+      let after = apart_push apart fv in record {
         new_id = still_new log v u fu.new_id (λ e. other (sym e));
         next_red = fu.next_red ∙ (λ i. cond (blue i) (count is_red log + 1) 0) ∙ (λ i. cond (sym blue i) (count is_red (log ++ v ∷ []) + 1) 0);
         fits = fits_on log (log ++ v ∷ []) (λ m h. member_left log (v ∷ []) m h) apart.ids after.ids after.reds u.shadow
@@ -56,10 +56,10 @@ module _ (log : List Core) (u v : Core) (checked : Checked log) (fu : Follows lo
       }
 
   one_order : Checked (log ++ u ∷ v ∷ [])
-  one_order = subst Checked (append_assoc log (u ∷ []) (v ∷ [])) (checked_end [] (log ++ u ∷ []) v (checked_end [] log u checked fu) follows_blue)
+  one_order = subst Checked (append_assoc log (u ∷ []) (v ∷ [])) (checked_end [] (log ++ u ∷ []) (checked_end [] log checked fu) follows_blue)
 
   other_order : Checked (log ++ v ∷ u ∷ [])
-  other_order = subst Checked (append_assoc log (v ∷ []) (u ∷ [])) (checked_end [] (log ++ v ∷ []) u (checked_end [] log v checked fv) blue_follows)
+  other_order = subst Checked (append_assoc log (v ∷ []) (u ∷ [])) (checked_end [] (log ++ v ∷ []) (checked_end [] log checked fv) blue_follows)
 
 turned : (log : List Core) (u v m : Core) → Member (log ++ u ∷ v ∷ []) m → Member (log ++ v ∷ u ∷ []) m
 turned log u v m h = ⊎_elim (λ k. member_left log (v ∷ u ∷ []) m k)

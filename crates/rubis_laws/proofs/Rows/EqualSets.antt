@@ -48,11 +48,11 @@ one_each_push (x ∷ a) m u e = (
     or_second None p e = e
     or_second (Some x) p e = absurd cc
 
-pub red_of_new : (a : List Core) (m : Core) → Follows a m → is_red m.shadow ≡ true → m.red ≡ count is_red a + 1
-red_of_new a m f e = f.next_red ∙ ap (λ b. cond b (count is_red a + 1) 0) e
+pub red_of_new : {a : List Core} {m : Core} → Follows a m → is_red m.shadow ≡ true → m.red ≡ count is_red a + 1
+red_of_new {a} f e = f.next_red ∙ ap (λ b. cond b (count is_red a + 1) 0) e
 
-pub apart_push : (a : List Core) (m : Core) → Apart a → Follows a m → Apart (a ++ m ∷ [])
-apart_push a m u f = record {
+pub apart_push : {a : List Core} {m : Core} → Apart a → Follows a m → Apart (a ++ m ∷ [])
+apart_push {a} {m} u f = record {
   ids = one_each_push a m u.ids f.new_id;
   low = λ n h.
       let c = count_push is_red a m in
@@ -60,28 +60,23 @@ apart_push a m u f = record {
       ⊎_elim (λ l. let w = u.low n l in omega (arith, c, w))
       (λ q. ⊎_elim (λ e. subst (λ (k : Core). k.red ≤ count is_red (a ++ m ∷ [])) e (omega (arith, c, r))) (λ z. absurd z) q) (member_append a (m ∷ []) n h);
   reds = λ k n h l p q e.
-      ⊎_elim
-      (λ hk. ⊎_elim (λ ln. u.reds k n hk ln p q e)
-      (λ r. ⊎_elim (λ en. absurd
-      (let w = u.low k hk in let v = red_of_new a m f (subst (λ (z : Core). is_red z.shadow ≡ true) (sym en) q) in
-      let y : m.red ≡ n.red = ap (λ (z : Core). z.red) en in omega (arith, w, v, y, e))) (λ z. absurd z) r) (member_append a (m ∷ []) n l))
-      (λ r. ⊎_elim
-      (λ ek. ⊎_elim (λ ln. absurd
-      (let w = u.low n ln in let v = red_of_new a m f (subst (λ (z : Core). is_red z.shadow ≡ true) (sym ek) p) in
+      ⊎_elim (λ hk. ⊎_elim (λ ln. u.reds k n hk ln p q e) (λ r. ⊎_elim (λ en. absurd
+      (let w = u.low k hk in let v = red_of_new f (subst (λ (z : Core). is_red z.shadow ≡ true) (sym en) q) in
+      let y : m.red ≡ n.red = ap (λ (z : Core). z.red) en in omega (arith, w, v, y, e))) (λ z. absurd z) r) (member_append a (m ∷ []) n l)) (λ r. ⊎_elim
+      (λ ek. ⊎_elim (λ ln. absurd (let w = u.low n ln in let v = red_of_new f (subst (λ (z : Core). is_red z.shadow ≡ true) (sym ek) p) in
       let y : m.red ≡ k.red = ap (λ (z : Core). z.red) ek in omega (arith, w, v, y, e)))
-      (λ s. ⊎_elim (λ en. sym ek ∙ en) (λ z. absurd z) s) (member_append a (m ∷ []) n l))
-      (λ z. absurd z) r) (member_append a (m ∷ []) k h);
+      (λ s. ⊎_elim (λ en. sym ek ∙ en) (λ z. absurd z) s) (member_append a (m ∷ []) n l)) (λ z. absurd z) r) (member_append a (m ∷ []) k h);
 }
 
-apart_from : (a rest : List Core) → Apart a → CheckedFrom a rest → Apart (a ++ rest)
-apart_from a [] u c = subst Apart (search Rattle.std.proofs.Common.rules) u
-apart_from a (m ∷ rest) u c = subst Apart (append_assoc a (m ∷ []) rest) (apart_from (a ++ m ∷ []) rest (apart_push a m u c.0) c.1)
+apart_from : {a : List Core} (rest : List Core) → Apart a → CheckedFrom a rest → Apart (a ++ rest)
+apart_from [] u c = subst Apart (search Rattle.std.proofs.Common.rules) u
+apart_from {a} (m ∷ rest) u c = subst Apart (append_assoc a (m ∷ []) rest) (apart_from rest (apart_push u c.0) c.1)
 
 pub no_apart : Apart []
 no_apart = record { ids = tt; low = λ m h. absurd h; reds = λ m n h. absurd h }
 
 pub checked_apart : (log : List Core) → Checked log → Apart log
-checked_apart log c = apart_from [] log no_apart c
+checked_apart log c = apart_from log no_apart c
 
 -- ---- the meaning depends on the set alone
 

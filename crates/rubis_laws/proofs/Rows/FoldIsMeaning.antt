@@ -66,8 +66,8 @@ pub get-effects_after : (t : Tables) (es : List Effect) (q : RowKey) → map.get
 get-effects_after t [] q = refl
 get-effects_after t (e ∷ es) q = get-effects_after (after_part t e) es q ∙ ap (λ o. fold (at_key q) o es) (get-after t e q)
 
-folded_fit : (t : Tables) (ms : List Misfit) (entry part : ℕ) (id : Id) (es : List Effect) → AllFit t es →
-    fold_on (record { tables = t; misfits = ms }) (number_parts entry part id es) ≡ record { tables = effects_after t es; misfits = ms }
+folded_fit : (t : Tables) (ms : List Misfit) (entry part : ℕ) (id : Id) (es : List Effect) → AllFit t es
+    → fold_on (record { tables = t; misfits = ms }) (number_parts entry part id es) ≡ record { tables = effects_after t es; misfits = ms }
 folded_fit t ms entry part id [] h = refl
 folded_fit t ms entry part id (e ∷ es) h =
     ap (λ w. fold_on (record { tables = after_part t e; misfits = ms ++ noted (record { entry = entry; part = part; id = id; effect = e }) w })
@@ -97,9 +97,9 @@ some_of : {X : Type 0} (o : Option X) → IsSome o → (x : X) × (o ≡ Some x)
 some_of None s = absurd (true≢false (sym s))
 some_of (Some x) s = (x, refl)
 
-of_mapped : {X Y : Type 0} (f : X → Y) (o : Option X) (y : Y) → option_map f o ≡ Some y → IsSome o
-of_mapped f None y e = absurd cc
-of_mapped f (Some x) y e = refl
+of_mapped : {X Y : Type 0} (f : X → Y) (o : Option X) {y : Y} → option_map f o ≡ Some y → IsSome o
+of_mapped f None e = absurd cc
+of_mapped f (Some x) e = refl
 
 user_fits : (a : List Core) (u : Id) (c : Change) → ((n : List ℕ) → (change_row c (Some (user_row a u n))).misfit ≡ None) → IsSome (user_at u a)
     → (change_row c (meaning_row a (key.User u))).misfit ≡ None
@@ -124,10 +124,10 @@ renamed_fits : (a : List Core) (u : Id) (k n : List ℕ) → (change_row (Rename
 unfolding change_row
 renamed_fits a u k n = refl
 
-item_fits : (a : List Core) (i : Id) (c : Change) → IsSome (item_at i a) → close_of i a ≡ None →
-    ((n : NewItem) → item_at i a ≡ Some n →
-    (change_row c (Some (item_of (supply a i) (total (sold_of i) a) (count (bids_on i) a) (best_bid i a) None n))).misfit ≡ None) →
-    (change_row c (meaning_row a (key.Item i))).misfit ≡ None
+item_fits : (a : List Core) (i : Id) (c : Change) → IsSome (item_at i a) → close_of i a ≡ None
+    → ((n : NewItem) → item_at i a ≡ Some n →
+    (change_row c (Some (item_of (supply a i) (total (sold_of i) a) (count (bids_on i) a) (best_bid i a) None n))).misfit ≡ None)
+    → (change_row c (meaning_row a (key.Item i))).misfit ≡ None
 unfolding meaning_row
 item_fits a i c s shut each =
     let n = some_of (item_at i a) s in
@@ -175,66 +175,59 @@ cat_ended a k = refl
 no_row : {X : Type 0} (f : Core → Option X) (wrap : X → Row) (i : Id) (a : List Core) → has_id i a ≡ None → option_map wrap (at_id f i a) ≡ None
 no_row f wrap i a e = ap (option_map wrap) (none_at f i a e)
 
-all_fit : (t : Tables) (a : List Core) (s : Head) (x : Shadow) → ((q : RowKey) → map.get t q ≡ meaning_row a q) → Good a → Follows a (msg s x)
+all_fit : (t : Tables) {a : List Core} (s : Head) (x : Shadow) → ((q : RowKey) → map.get t q ≡ meaning_row a q) → Good a → Follows a (msg s x)
     → AllFit t (parts s.id s.red x)
 unfolding meaning_row
-all_fit t a s (shadow.User n) r g f =
-    fit_two t _ _ (λ e. cc)
-    (fits_at t a (key.User s.id) _ (r _)
+all_fit t {a} s (shadow.User n) r g f =
+    fit_two t _ _ (λ e. cc) (fits_at t a (key.User s.id) _ (r _)
     (new_row a (key.User s.id) _ (ap (option_map (user_row a s.id)) (nick_none s.id a (none_at (λ m. as_user m.shadow) s.id a f.new_id)))))
     (fits_at t a (key.Nick n) _ (r _) (new_row a (key.Nick n) _ (ap (option_map (λ (m : Core). row.Nick m.id)) (by_kind a (shadow.User n) f.fits))))
-all_fit t a s (shadow.Item n) r g f =
+all_fit t {a} s (shadow.Item n) r g f =
     fit_three t _ _ _ (λ e. cc) (λ e. cc) (λ e. cc)
     (fits_at t a (key.Item s.id) _ (r _) (new_row a (key.Item s.id) _ (ap (option_map (item_row a s.id)) (none_at (λ m. as_item m.shadow) s.id a f.new_id))))
     (fits_at t a (key.User n.seller) _ (r _) (user_fits a n.seller _ (listed_fits a n.seller) (by_kind a (shadow.Item n) f.fits)))
     (fits_at t a (key.Cat n.cat) _ (r _) (cat_fits a n.cat _ f.limits.1.cat (cat_listed a n.cat)))
-all_fit t a s (shadow.Bid b) r g f =
-    fit_two t _ _ (λ e. cc)
-    (fits_at t a (key.Bid s.id) _ (r _) (new_row a (key.Bid s.id) _ (no_row (λ m. as_bid m.red m.shadow) row.Bid s.id a f.new_id)))
-    (fits_at t a (key.Item b.item) _ (r _)
-    (item_fits a b.item _ (by_kind a (shadow.Bid b) f.fits).0 (by_kind a (shadow.Bid b) f.fits).2
+all_fit t {a} s (shadow.Bid b) r g f =
+    fit_two t _ _ (λ e. cc) (fits_at t a (key.Bid s.id) _ (r _) (new_row a (key.Bid s.id) _ (no_row (λ m. as_bid m.red m.shadow) row.Bid s.id a f.new_id)))
+    (fits_at t a (key.Item b.item) _ (r _) (item_fits a b.item _ (by_kind a (shadow.Bid b) f.fits).0 (by_kind a (shadow.Bid b) f.fits).2
     (λ n e. bid_fits _ (supply a b.item) (total (sold_of b.item) a) (count (bids_on b.item) a) (best_bid b.item a) n)))
-all_fit t a s (shadow.Buy p) r g f =
+all_fit t {a} s (shadow.Buy p) r g f =
     fit_three t _ _ _ (λ e. cc) (λ e. cc) (λ e. cc)
     (fits_at t a (key.Purchase s.id) _ (r _) (new_row a (key.Purchase s.id) _ (no_row (λ m. as_purchase m.shadow) row.Purchase s.id a f.new_id)))
-    (fits_at t a (key.Item p.item) _ (r _)
-    (item_fits a p.item _ (by_kind a (shadow.Buy p) f.fits).0 (by_kind a (shadow.Buy p) f.fits).2
+    (fits_at t a (key.Item p.item) _ (r _) (item_fits a p.item _ (by_kind a (shadow.Buy p) f.fits).0 (by_kind a (shadow.Buy p) f.fits).2
     (λ n e. sold_fits p.quantity (supply a p.item) (total (sold_of p.item) a) (count (bids_on p.item) a) (best_bid p.item a) n
     (subst (λ o. IfSome o (λ n. total (sold_of p.item) a + p.quantity ≤ supply a p.item n)) e (by_kind a (shadow.Buy p) f.fits).3))))
     (fits_at t a (key.User p.buyer) _ (r _) (user_fits a p.buyer _ (bought_fits a p.buyer p.quantity) (by_kind a (shadow.Buy p) f.fits).1))
-all_fit t a s (shadow.Close c) r g f =
-    fit_two t _ _ (λ e. cc)
-    (fits_at t a (key.Item c.item) _ (r _)
-    (item_fits a c.item _ (of_mapped _ _ _ (by_kind a (shadow.Close c) f.fits).0) (by_kind a (shadow.Close c) f.fits).1
+all_fit t {a} s (shadow.Close c) r g f =
+    fit_two t _ _ (λ e. cc) (fits_at t a (key.Item c.item) _ (r _)
+    (item_fits a c.item _ (of_mapped _ _ (by_kind a (shadow.Close c) f.fits).0) (by_kind a (shadow.Close c) f.fits).1
     (λ n e. end_fits c.winner (supply a c.item) (total (sold_of c.item) a) (count (bids_on c.item) a) (best_bid c.item a) n)))
     (fits_at t a (key.Cat c.cat) _ (r _) (cat_fits a c.cat _ f.limits.1.1 (cat_ended a c.cat)))
-all_fit t a s (shadow.Comment c) r g f =
+all_fit t {a} s (shadow.Comment c) r g f =
     fit_two t _ _ (λ e. cc)
     (fits_at t a (key.Comment s.id) _ (r _) (new_row a (key.Comment s.id) _ (no_row (λ m. as_comment m.shadow) row.Comment s.id a f.new_id)))
     (fits_at t a (key.User c.to) _ (r _) (user_fits a c.to _ (rated_fits a c.to c.rating) (by_kind a (shadow.Comment c) f.fits).2))
-all_fit t a s (shadow.Restock k) r g f =
+all_fit t {a} s (shadow.Restock k) r g f =
     (fits_at t a (key.Item k.item) _ (r _) (restocked_fits a k.item k.quantity (by_kind a (shadow.Restock k) f.fits)), tt)
-all_fit t a s (shadow.Rename k) r g f =
-    fit_three t _ _ _ (λ e. cc) (λ e. cc) (λ e. f.limits.1.1 (let w : k.from ≡ k.to = cc in w))
-    (fits_at t a (key.User k.user) _ (r _)
-    (user_fits a k.user _ (renamed_fits a k.user k.to) (some_nick k.user a k.from (by_kind a (shadow.Rename k) f.fits).0)))
+all_fit t {a} s (shadow.Rename k) r g f =
+    fit_three t _ _ _ (λ e. cc) (λ e. cc) (λ e. f.limits.1.1 (let w : k.from ≡ k.to = cc in w)) (fits_at t a (key.User k.user) _ (r _)
+    (user_fits a k.user _ (renamed_fits a k.user k.to) (some_nick k.user a (by_kind a (shadow.Rename k) f.fits).0)))
     (fits_at t a (key.Nick k.from) _ (r _) (freed_fits a s k g f))
     (fits_at t a (key.Nick k.to) _ (r _) (new_row a (key.Nick k.to) _ (ap (option_map (λ (m : Core). row.Nick m.id)) (by_kind a (shadow.Rename k) f.fits).1)))
 
 -- ---- one more message
 
-rows_more : (t : Tables) (a : List Core) (s : Head) (x : Shadow) → ((q : RowKey) → map.get t q ≡ meaning_row a q) → Good a → Follows a (msg s x)
-    → length a < 2 ^ 32 →
-    (q : RowKey) → map.get (effects_after t (parts s.id s.red x)) q ≡ meaning_row (a ++ msg s x ∷ []) q
-rows_more t a s x r g f h q = get-effects_after t (parts s.id s.red x) q ∙ ap (λ o. fold (at_key q) o (parts s.id s.red x)) (r q) ∙ at q
+rows_more : (t : Tables) {a : List Core} (s : Head) (x : Shadow) → ((q : RowKey) → map.get t q ≡ meaning_row a q) → Good a → Follows a (msg s x)
+    → length a < 2 ^ 32 → (q : RowKey) → map.get (effects_after t (parts s.id s.red x)) q ≡ meaning_row (a ++ msg s x ∷ []) q
+rows_more t {a} s x r g f h q = get-effects_after t (parts s.id s.red x) q ∙ ap (λ o. fold (at_key q) o (parts s.id s.red x)) (r q) ∙ at q
   where
     at : (q : RowKey) → fold (at_key q) (meaning_row a q) (parts s.id s.red x) ≡ meaning_row (a ++ msg s x ∷ []) q
-    at (key.User i) = row_of_user a s x g f h i
-    at (key.Item i) = row_of_item a s x g f h i
-    at (key.Bid i) = row_of_bid a s x f i
-    at (key.Purchase i) = row_of_purchase a s x f i
-    at (key.Comment i) = row_of_comment a s x f i
-    at (key.Nick n) = row_of_nick a s x g (good_push a (msg s x) g f) f n
+    at (key.User i) = row_of_user s x g f h i
+    at (key.Item i) = row_of_item s x g f h i
+    at (key.Bid i) = row_of_bid s x f i
+    at (key.Purchase i) = row_of_purchase s x f i
+    at (key.Comment i) = row_of_comment s x f i
+    at (key.Nick n) = row_of_nick s x g (good_push g f) f n
     at (key.Cat k) = row_of_cat a s x h k
 
 -- ---- the opening tables
@@ -283,12 +276,10 @@ opening_rows q = map.get-from_entries key_total (categories_from 0 1000) q ∙ o
 append_none : {X : Type 0} (xs : List X) → xs ++ [] ≡ xs
 append_none xs = search Rattle.std.proofs.Common.rules
 
-numbered_push : (k : ℕ) (a : List Core) (m : Core)
-    → numbered_from k (a ++ m ∷ []) ≡ numbered_from k a ++ number_parts (k + length a) 1 m.id (parts_of m)
+numbered_push : (k : ℕ) (a : List Core) (m : Core) → numbered_from k (a ++ m ∷ []) ≡ numbered_from k a ++ number_parts (k + length a) 1 m.id (parts_of m)
 numbered_push k [] m = append_none _ ∙ ap (λ n. number_parts n 1 m.id (parts_of m)) (omega arith)
 numbered_push k (x ∷ a) m =
-    ap (λ ns. number_parts k 1 x.id (parts_of x) ++ ns) (numbered_push (k + 1) a m)
-    ∙ sym (append_assoc (number_parts k 1 x.id (parts_of x)) _ _)
+    ap (λ ns. number_parts k 1 x.id (parts_of x) ++ ns) (numbered_push (k + 1) a m) ∙ sym (append_assoc (number_parts k 1 x.id (parts_of x)) _ _)
     ∙ ap (λ n. (number_parts k 1 x.id (parts_of x) ++ numbered_from (k + 1) a) ++ number_parts n 1 m.id (parts_of m)) (omega arith)
 
 pub fold_push_parts : (a : List Core) (m : Core) → fold_of (a ++ m ∷ []) ≡ fold_on (fold_of a) (number_parts (1 + length a) 1 m.id (parts_of m))
@@ -302,27 +293,27 @@ pub record Right (a : List Core) : Type 0 where
 right_none : Right []
 right_none = record { rows = opening_rows; clean = refl; good = good_none }
 
-right_push : (a : List Core) (m : Core) → Right a → Follows a m → length a < 2 ^ 32 → Right (a ++ m ∷ [])
-right_push a m r f h =
+right_push : {a : List Core} {m : Core} → Right a → Follows a m → length a < 2 ^ 32 → Right (a ++ m ∷ [])
+right_push {a} {m} r f h =
     let together : fold_of (a ++ m ∷ []) ≡ record { tables = effects_after (fold_of a).tables (parts_of m); misfits = (fold_of a).misfits } =
     fold_push_parts a m ∙ folded_fit (fold_of a).tables (fold_of a).misfits (1 + length a) 1 m.id (parts_of m)
-    (all_fit (fold_of a).tables a (head_of m) m.shadow r.rows r.good f) in
+    (all_fit (fold_of a).tables (head_of m) m.shadow r.rows r.good f) in
     record {
-      rows = λ q. ap (λ (w : Folded). map.get w.tables q) together ∙ rows_more (fold_of a).tables a (head_of m) m.shadow r.rows r.good f h q;
+      rows = λ q. ap (λ (w : Folded). map.get w.tables q) together ∙ rows_more (fold_of a).tables (head_of m) m.shadow r.rows r.good f h q;
       clean = ap (λ (w : Folded). w.misfits) together ∙ r.clean;
-      good = good_push a m r.good f;
+      good = good_push r.good f;
     }
 
-right_from : (a rest : List Core) → Right a → CheckedFrom a rest → length a + length rest ≤ 2 ^ 32 → Right (a ++ rest)
-right_from a [] r c h = subst Right (sym (append_none a)) r
-right_from a (m ∷ rest) r c h =
+right_from : {a : List Core} (rest : List Core) → Right a → CheckedFrom a rest → length a + length rest ≤ 2 ^ 32 → Right (a ++ rest)
+right_from {a} [] r c h = subst Right (sym (append_none a)) r
+right_from {a} (m ∷ rest) r c h =
     let l = length-append a (m ∷ []) in
-    subst Right (append_assoc a (m ∷ []) rest) (right_from (a ++ m ∷ []) rest (right_push a m r c.0 (omega arith)) c.1 (omega (arith, l, h)))
+    subst Right (append_assoc a (m ∷ []) rest) (right_from rest (right_push r c.0 (omega arith)) c.1 (omega (arith, l, h)))
 
 -- a checked log has no misfit, and its tables are its meaning
 pub fold_is_meaning : (log : List Core) → Checked log → length log ≤ 2 ^ 32 → IsMeaning log (fold_of log).tables × ((fold_of log).misfits ≡ [])
 fold_is_meaning log c h =
-    let r = right_from [] log right_none c (omega arith) in
+    let r = right_from log right_none c (omega arith) in
     (record { rows = r.rows }, r.clean)
 
 -- and the set has one meaning

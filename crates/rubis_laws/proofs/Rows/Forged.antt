@@ -41,17 +41,15 @@ folded_tables : (entry part : ℕ) (id : Id) (es : List Effect) (f : Folded) →
 folded_tables entry part id [] f = refl
 folded_tables entry part id (e ∷ es) f = folded_tables entry (part + 1) id es (step f (record { entry = entry; part = part; id = id; effect = e }))
 
-row_after : (a : List Core) (m : Core) (q : RowKey)
-    → map.get (fold_of (a ++ m ∷ [])).tables q ≡ fold (at_key q) (map.get (fold_of a).tables q) (parts_of m)
+row_after : (a : List Core) (m : Core) (q : RowKey) → map.get (fold_of (a ++ m ∷ [])).tables q ≡ fold (at_key q) (map.get (fold_of a).tables q) (parts_of m)
 row_after a m q =
-    ap (λ (f : Folded). map.get f.tables q) (fold_push_parts a m)
-    ∙ ap (λ t. map.get t q) (folded_tables (1 + length a) 1 m.id (parts_of m) (fold_of a))
+    ap (λ (f : Folded). map.get f.tables q) (fold_push_parts a m) ∙ ap (λ t. map.get t q) (folded_tables (1 + length a) 1 m.id (parts_of m) (fold_of a))
     ∙ get-effects_after (fold_of a).tables (parts_of m) q
 
 -- ---- nicknames
 
-inserted_nick : (b : Bool) (u : Id) (o : Option Id)
-    → cond b (change_row (Insert (row.Nick u)) (option_map row.Nick o)).row (option_map row.Nick o) ≡ option_map row.Nick (option_or o (when b (Some u)))
+inserted_nick : (b : Bool) (u : Id) (o : Option Id) → cond b (change_row (Insert (row.Nick u)) (option_map row.Nick o)).row
+    (option_map row.Nick o) ≡ option_map row.Nick (option_or o (when b (Some u)))
 unfolding change_row
 inserted_nick true u None = refl
 inserted_nick true u (Some v) = refl
@@ -74,8 +72,8 @@ still_is : (n : List ℕ) (x : Shadow) (o : Option Id) → ((u : Id) → frees n
 still_is n x None e = refl
 still_is n x (Some u) e = ap (λ b. cond b None (Some u)) (e u)
 
-nick_after : (n : List ℕ) (m : Core) (x : Shadow) (o : Option Id)
-    → fold (at_key (key.Nick n)) (option_map row.Nick o) (parts m.id m.red x) ≡ option_map row.Nick (option_or (still_named n o x) (named_by n m.id x))
+nick_after : (n : List ℕ) (m : Core) (x : Shadow) (o : Option Id) → fold (at_key (key.Nick n)) (option_map row.Nick o)
+    (parts m.id m.red x) ≡ option_map row.Nick (option_or (still_named n o x) (named_by n m.id x))
 nick_after n m (shadow.User k) o =
     inserted_nick (bytes_eq n k) m.id o
     ∙ ap (λ p. option_map row.Nick (option_or p (when (bytes_eq n k) (Some m.id)))) (sym (still_is n (shadow.User k) o (λ u. refl)))
@@ -108,26 +106,25 @@ abbrev Small : Option ℕ → Type 0
 Small o = IfSome o (λ s. s < 2 ^ 64)
 
 -- a bid or a close leaves stock as it is
-bid_keeps : (b : Best) (s : ℕ) (x : ItemRow) (z : Sale) → x.sold + x.stock ≡ s
-    → Has s (if_open x z (fits_as (row.Item (record x { bids = count_up x.bids 1; best = better x.best b })))).row
-bid_keeps b s x Open e = (record x { bids = count_up x.bids 1; best = better x.best b }, refl, e)
-bid_keeps b s x (Ended w) e = (x, refl, e)
+bid_keeps : (b : Best) {s : ℕ} (x : ItemRow) (z : Sale) → x.sold + x.stock ≡ s → Has s
+    (if_open x z (fits_as (row.Item (record x { bids = count_up x.bids 1; best = better x.best b })))).row
+bid_keeps b x Open e = (record x { bids = count_up x.bids 1; best = better x.best b }, refl, e)
+bid_keeps b x (Ended w) e = (x, refl, e)
 
-end_keeps : (w : Option Id) (s : ℕ) (x : ItemRow) (z : Sale) → x.sold + x.stock ≡ s
-    → Has s (if_open x z (fits_as (row.Item (record x { sale = Ended w })))).row
-end_keeps w s x Open e = (record x { sale = Ended w }, refl, e)
-end_keeps w s x (Ended v) e = (x, refl, e)
+end_keeps : (w : Option Id) {s : ℕ} (x : ItemRow) (z : Sale) → x.sold + x.stock ≡ s → Has s (if_open x z (fits_as (row.Item (record x { sale = Ended w })))).row
+end_keeps w x Open e = (record x { sale = Ended w }, refl, e)
+end_keeps w x (Ended v) e = (x, refl, e)
 
 -- what is sold is taken from what is left, or stays there
-sold_sum : (q sold stock s : ℕ) → nat_le q stock ≡ true → sold + stock ≡ s → s < 2 ^ 64 → count_up sold q + (stock - q) ≡ s
-sold_sum q sold stock s h e l = let k : q ≤ stock = grind (arith, nat_tests) in omega (arith, k)
+sold_sum : (q sold stock : ℕ) {s : ℕ} → nat_le q stock ≡ true → sold + stock ≡ s → s < 2 ^ 64 → count_up sold q + (stock - q) ≡ s
+sold_sum q sold stock h e l = let k : q ≤ stock = grind (arith, nat_tests) in omega (arith, k)
 
-sold_keeps : (q s : ℕ) (x : ItemRow) (z : Sale) (b : Bool) → nat_le q x.stock ≡ b → s < 2 ^ 64 → x.sold + x.stock ≡ s
+sold_keeps : (q : ℕ) {s : ℕ} (x : ItemRow) (z : Sale) (b : Bool) → nat_le q x.stock ≡ b → s < 2 ^ 64 → x.sold + x.stock ≡ s
     → Has s (if_open x z (cond b (fits_as (row.Item (record x { stock = x.stock - q; sold = count_up x.sold q })))
     (misfits_as StockShort (Some (row.Item x))))).row
-sold_keeps q s x Open true h l e = (record x { stock = x.stock - q; sold = count_up x.sold q }, refl, sold_sum q x.sold x.stock s h e l)
-sold_keeps q s x Open false h l e = (x, refl, e)
-sold_keeps q s x (Ended w) b h l e = (x, refl, e)
+sold_keeps q x Open true h l e = (record x { stock = x.stock - q; sold = count_up x.sold q }, refl, sold_sum q x.sold x.stock h e l)
+sold_keeps q x Open false h l e = (x, refl, e)
+sold_keeps q x (Ended w) b h l e = (x, refl, e)
 
 -- a change of an item's row, not its insert
 data Kind : Type 0 where
@@ -142,9 +139,9 @@ change (AsEnd w) = End w
 
 here_keeps : (c : Kind) (s : ℕ) (r : Option Row) → s < 2 ^ 64 → Has s r → Has s (change_row (change c) r).row
 unfolding change_row
-here_keeps (AsBid b) s r l (x, p, e) = subst (λ o. Has s (change_row (BidTaken b) o).row) (sym p) (bid_keeps b s x x.sale e)
-here_keeps (AsSale q) s r l (x, p, e) = subst (λ o. Has s (change_row (Sold q) o).row) (sym p) (sold_keeps q s x x.sale (nat_le q x.stock) refl l e)
-here_keeps (AsEnd w) s r l (x, p, e) = subst (λ o. Has s (change_row (End w) o).row) (sym p) (end_keeps w s x x.sale e)
+here_keeps (AsBid b) s r l (x, p, e) = subst (λ o. Has s (change_row (BidTaken b) o).row) (sym p) (bid_keeps b x x.sale e)
+here_keeps (AsSale q) s r l (x, p, e) = subst (λ o. Has s (change_row (Sold q) o).row) (sym p) (sold_keeps q x x.sale (nat_le q x.stock) refl l e)
+here_keeps (AsEnd w) s r l (x, p, e) = subst (λ o. Has s (change_row (End w) o).row) (sym p) (end_keeps w x x.sale e)
 
 none_stays : (c : Kind) → (change_row (change c) None).row ≡ None
 unfolding change_row
@@ -173,25 +170,24 @@ insert_keeps i k false None r h = h
 insert_keeps i k false (Some s) r (x, p, e) = (x, p, omega (arith, e))
 
 -- a restock adds to the stock of an item that has a row, and else does nothing
-add_sum : (q sold stock s : ℕ) → sold + stock ≡ s → s + q < 2 ^ 64 → sold + count_up stock q ≡ s + q
-add_sum q sold stock s e l = omega (arith, l, e)
+add_sum : (q sold stock : ℕ) {s : ℕ} → sold + stock ≡ s → s + q < 2 ^ 64 → sold + count_up stock q ≡ s + q
+add_sum q sold stock e l = omega (arith, l, e)
 
 some_added : (q : ℕ) (b : Bool) (s : ℕ) (r : Option Row) → s + cond b q 0 < 2 ^ 64 → Has s r → Has (s + cond b q 0) (cond b (change_row (Restocked q) r).row r)
 unfolding change_row
-some_added q true s r l (x, p, e) =
-    (record x { stock = count_up x.stock q }, ap (λ o. (change_row (Restocked q) o).row) p, add_sum q x.sold x.stock s e l)
+some_added q true s r l (x, p, e) = (record x { stock = count_up x.stock q }, ap (λ o. (change_row (Restocked q) o).row) p, add_sum q x.sold x.stock e l)
 some_added q false s r l (x, p, e) = (x, p, omega (arith, e))
 
-none_added : (q : ℕ) (b own : Bool) (r : Option Row) → r ≡ None → IsKept (when {X = ℕ} own None) (cond b (change_row (Restocked q) r).row r)
+none_added : (q : ℕ) (b own : Bool) {r : Option Row} → r ≡ None → IsKept (when {X = ℕ} own None) (cond b (change_row (Restocked q) r).row r)
 unfolding change_row
-none_added q true true r h = ap (λ o. (change_row (Restocked q) o).row) h
-none_added q true false r h = ap (λ o. (change_row (Restocked q) o).row) h
-none_added q false true r h = h
-none_added q false false r h = h
+none_added q true true h = ap (λ o. (change_row (Restocked q) o).row) h
+none_added q true false h = ap (λ o. (change_row (Restocked q) o).row) h
+none_added q false true h = h
+none_added q false false h = h
 
 restock_keeps : (i : Id) (k : NewRestock) (own : Bool) (o : Option ℕ) (r : Option Row) → Small (supplied i own o (shadow.Restock k)) → IsKept o r
     → IsKept (supplied i own o (shadow.Restock k)) (cond (same_id i k.item) (change_row (Restocked k.quantity) r).row r)
-restock_keeps i k own None r l h = none_added k.quantity (same_id i k.item) own r h
+restock_keeps i k own None r l h = none_added k.quantity (same_id i k.item) own h
 restock_keeps i k own (Some s) r l h = some_added k.quantity (same_id i k.item) s r l h
 
 -- another kind, which lists nothing and adds nothing
@@ -222,8 +218,7 @@ unfolding meaning_row
 no_item i = opening_rows (key.Item i)
 
 pub stock_is_kept : StockIsKept
-stock_is_kept log i = by_pushes (λ a. Small (supply_at i a) → IsKept (supply_at i a) (map.get (fold_of a).tables (key.Item i))) (λ l. no_item i)
-    (λ a m h l.
+stock_is_kept log i = by_pushes (λ a. Small (supply_at i a) → IsKept (supply_at i a) (map.get (fold_of a).tables (key.Item i))) (λ l. no_item i) (λ a m h l.
     let e = fold_push (λ s (n : Core). supplied i (same_id i n.id) s n.shadow) None a m in
     let s = subst Small e l in
     subst (λ o. IsKept o (map.get (fold_of (a ++ m ∷ [])).tables (key.Item i))) (sym e)

@@ -96,8 +96,7 @@ nick_push_rename n v a s r i l h = at (same_id v r.user) refl
 abbrev pub Free : List ℕ → (Id → Option (List ℕ)) → Type 0
 Free n o = (v : Id) → o v ≡ Some n → ⊥
 
-pub unique_given : (o p : Id → Option (List ℕ)) (w : Id) (n : List ℕ) → ((v : Id) → p v ≡ given (same_id v w) n (o v)) → Unique o → Free n o
-    → Unique p
+pub unique_given : (o p : Id → Option (List ℕ)) (w : Id) (n : List ℕ) → ((v : Id) → p v ≡ given (same_id v w) n (o v)) → Unique o → Free n o → Unique p
 unique_given o p w n e h f k u v a b = at (same_id u w) refl (same_id v w) refl (sym (e u) ∙ a) (sym (e v) ∙ b)
   where
     at : (c : Bool) → same_id u w ≡ c → (d : Bool) → same_id v w ≡ d → given (same_id u w) n (o u) ≡ Some k → given (same_id v w) n (o v) ≡ Some k
@@ -124,8 +123,8 @@ some_mapped f (Some k) e = refl
 pub nick_user : (u : Id) (a : List Core) → IsSome (nick_at u a) → IsSome (user_at u a)
 nick_user u a e = mapped_some (last_rename u a) (user_at u a) e
 
-pub some_nick : (u : Id) (a : List Core) (n : List ℕ) → nick_at u a ≡ Some n → IsSome (user_at u a)
-some_nick u a n e = nick_user u a (ap is_some e)
+pub some_nick : (u : Id) (a : List Core) {n : List ℕ} → nick_at u a ≡ Some n → IsSome (user_at u a)
+some_nick u a e = nick_user u a (ap is_some e)
 
 pub nick_some : (u : Id) (a : List Core) → IsSome (user_at u a) → IsSome (nick_at u a)
 nick_some u a e = some_mapped (last_rename u a) (user_at u a) e
@@ -137,23 +136,23 @@ pub is_nick_of : (n : List ℕ) (o : Option (List ℕ)) → is_same_nick n o ≡
 is_nick_of n None e = absurd (true≢false (sym e))
 is_nick_of n (Some k) e = ap Some (sym ((bytes_decides n k).0 e))
 
-pub is_nick_at : (n : List ℕ) (o : Option (List ℕ)) → o ≡ Some n → is_same_nick n o ≡ true
-is_nick_at n o e = ap (is_same_nick n) e ∙ (bytes_decides n n).1 refl
+pub is_nick_at : {n : List ℕ} {o : Option (List ℕ)} → o ≡ Some n → is_same_nick n o ≡ true
+is_nick_at {n} e = ap (is_same_nick n) e ∙ (bytes_decides n n).1 refl
 
 member_with : (v : Id) (a : List Core) → IsSome (user_at v a) → (m : Core) × Member a m × (v ≡ m.id)
 member_with v a s = at (has_id v a) refl
   where
     at : (o : Option Core) → has_id v a ≡ o → (m : Core) × Member a m × (v ≡ m.id)
     at None e = absurd (true≢false (sym s ∙ (λ j. is_some (none_at (λ m. as_user m.shadow) v a e j))))
-    at (Some m) e = let w = found_member v a m e in (m, w.0, w.1)
+    at (Some m) e = let w = found_member v a e in (m, w.0, w.1)
 
 abbrev pub has : List ℕ → List Core → Core → Bool
 has n a m = is_same_nick n (nick_at m.id a)
 
 pub not_named : (n : List ℕ) (a : List Core) → named n a ≡ None → Free n (λ v. nick_at v a)
 not_named n a e v h =
-    let w = member_with v a (some_nick v a n h) in
-    true≢false (sym (is_nick_at n (nick_at w.0.id a) (subst (λ u. nick_at u a ≡ Some n) w.2 h))
+    let w = member_with v a (some_nick v a h) in
+    true≢false (sym (is_nick_at (subst (λ u. nick_at u a ≡ Some n) w.2 h))
     ∙ subst (IsChoice earlier (has n a) a) e (choose_is earlier_ranks (has n a) a) w.0 w.1)
 
 pub named_none : (n : List ℕ) (a : List Core) → Free n (λ v. nick_at v a) → named n a ≡ None
@@ -166,8 +165,8 @@ named_none n a f = at (named n a) (choose_is earlier_ranks (has n a) a)
 abbrev pub named_row : Option Core → Option Row
 named_row o = option_map (λ m. row.Nick m.id) o
 
-pub named_is : (n : List ℕ) (a : List Core) (u : Id) → Unique (λ v. nick_at v a) → nick_at u a ≡ Some n → named_row (named n a) ≡ Some (row.Nick u)
-named_is n a u h e = at (named n a) refl (choose_is earlier_ranks (has n a) a)
+pub named_is : {n : List ℕ} (a : List Core) (u : Id) → Unique (λ v. nick_at v a) → nick_at u a ≡ Some n → named_row (named n a) ≡ Some (row.Nick u)
+named_is {n} a u h e = at (named n a) refl (choose_is earlier_ranks (has n a) a)
   where
     at : (o : Option Core) → named n a ≡ o → IsChoice earlier (has n a) a o → named_row o ≡ Some (row.Nick u)
     at None q k = absurd (not_named n a q u e)
@@ -176,6 +175,5 @@ named_is n a u h e = at (named n a) refl (choose_is earlier_ranks (has n a) a)
 pub named_same : (n : List ℕ) (a : List Core) (m : Core) → ((v : Id) → is_same_nick n (nick_at v (a ++ m ∷ [])) ≡ is_same_nick n (nick_at v a))
     → nick_at m.id a ≡ None → named n (a ++ m ∷ []) ≡ named n a
 named_same n a m e h =
-    choose_push earlier (has n (a ++ m ∷ [])) a m
-    ∙ choice_not earlier (has n (a ++ m ∷ [])) _ m (e m.id ∙ ap (is_same_nick n) h)
+    choose_push earlier (has n (a ++ m ∷ [])) a m ∙ choice_not earlier (has n (a ++ m ∷ [])) _ m (e m.id ∙ ap (is_same_nick n) h)
     ∙ (λ j. choose earlier (λ k. e k.id j) a)

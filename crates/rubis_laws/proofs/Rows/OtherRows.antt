@@ -46,23 +46,23 @@ module _ {X : Type 0} (f : Core → Option X) (wrap : X → Row) where
       ∙ ap (option_map wrap) (sym (at_id_push f i a m ∙ (λ j. option_or (gone j) (when (h j) (e j)))))
   one_more i a m x false e none h = ap (option_map wrap) (sym (at_id_push f i a m ∙ ap (λ b. option_or (at_id f i a) (when b (f m))) h ∙ or_none _))
 
-pub row_of_bid : (a : List Core) (s : Head) (x : Shadow) → Follows a (msg s x) → (i : Id) →
-    fold (at_key (key.Bid i)) (meaning_row a (key.Bid i)) (parts s.id s.red x) ≡ meaning_row (a ++ msg s x ∷ []) (key.Bid i)
+pub row_of_bid : {a : List Core} (s : Head) (x : Shadow) → Follows a (msg s x) → (i : Id)
+    → fold (at_key (key.Bid i)) (meaning_row a (key.Bid i)) (parts s.id s.red x) ≡ meaning_row (a ++ msg s x ∷ []) (key.Bid i)
 unfolding meaning_row
-row_of_bid a s (shadow.Bid b) f i = one_more (λ m. as_bid m.red m.shadow) row.Bid i a (msg s (shadow.Bid b)) _ _ refl f.new_id refl
-row_of_bid a s x f i = same_rows (λ m. as_bid m.red m.shadow) row.Bid i a (msg s x) refl
+row_of_bid {a} s (shadow.Bid b) f i = one_more (λ m. as_bid m.red m.shadow) row.Bid i a (msg s (shadow.Bid b)) _ _ refl f.new_id refl
+row_of_bid {a} s x f i = same_rows (λ m. as_bid m.red m.shadow) row.Bid i a (msg s x) refl
 
-pub row_of_purchase : (a : List Core) (s : Head) (x : Shadow) → Follows a (msg s x) → (i : Id) →
-    fold (at_key (key.Purchase i)) (meaning_row a (key.Purchase i)) (parts s.id s.red x) ≡ meaning_row (a ++ msg s x ∷ []) (key.Purchase i)
+pub row_of_purchase : {a : List Core} (s : Head) (x : Shadow) → Follows a (msg s x) → (i : Id)
+    → fold (at_key (key.Purchase i)) (meaning_row a (key.Purchase i)) (parts s.id s.red x) ≡ meaning_row (a ++ msg s x ∷ []) (key.Purchase i)
 unfolding meaning_row
-row_of_purchase a s (shadow.Buy b) f i = one_more (λ m. as_purchase m.shadow) row.Purchase i a (msg s (shadow.Buy b)) _ _ refl f.new_id refl
-row_of_purchase a s x f i = same_rows (λ m. as_purchase m.shadow) row.Purchase i a (msg s x) refl
+row_of_purchase {a} s (shadow.Buy b) f i = one_more (λ m. as_purchase m.shadow) row.Purchase i a (msg s (shadow.Buy b)) _ _ refl f.new_id refl
+row_of_purchase {a} s x f i = same_rows (λ m. as_purchase m.shadow) row.Purchase i a (msg s x) refl
 
-pub row_of_comment : (a : List Core) (s : Head) (x : Shadow) → Follows a (msg s x) → (i : Id) →
-    fold (at_key (key.Comment i)) (meaning_row a (key.Comment i)) (parts s.id s.red x) ≡ meaning_row (a ++ msg s x ∷ []) (key.Comment i)
+pub row_of_comment : {a : List Core} (s : Head) (x : Shadow) → Follows a (msg s x) → (i : Id)
+    → fold (at_key (key.Comment i)) (meaning_row a (key.Comment i)) (parts s.id s.red x) ≡ meaning_row (a ++ msg s x ∷ []) (key.Comment i)
 unfolding meaning_row
-row_of_comment a s (shadow.Comment b) f i = one_more (λ m. as_comment m.shadow) row.Comment i a (msg s (shadow.Comment b)) _ _ refl f.new_id refl
-row_of_comment a s x f i = same_rows (λ m. as_comment m.shadow) row.Comment i a (msg s x) refl
+row_of_comment {a} s (shadow.Comment b) f i = one_more (λ m. as_comment m.shadow) row.Comment i a (msg s (shadow.Comment b)) _ _ refl f.new_id refl
+row_of_comment {a} s x f i = same_rows (λ m. as_comment m.shadow) row.Comment i a (msg s x) refl
 
 -- ---- nicknames
 
@@ -78,19 +78,18 @@ not_given : (n k : List ℕ) (b : Bool) (o : Option (List ℕ)) → bytes_eq n k
 not_given n k true o e h = e ∙ sym (h refl)
 not_given n k false o e h = refl
 
-new_nick : (a : List Core) (s : Head) (k n : List ℕ) → Good a → Good (a ++ msg s (shadow.User k) ∷ []) → Follows a (msg s (shadow.User k))
-    → (b : Bool) → bytes_eq n k ≡ b →
-    cond b (change_row (Insert (row.Nick s.id)) (named_row (named n a))).row (named_row (named n a)) ≡ named_row (named n (a ++ msg s (shadow.User k) ∷ []))
+new_nick : {a : List Core} (s : Head) (k n : List ℕ) → Good a → Good (a ++ msg s (shadow.User k) ∷ []) → Follows a (msg s (shadow.User k)) → (b : Bool)
+    → bytes_eq n k ≡ b → cond b (change_row (Insert (row.Nick s.id)) (named_row (named n a))).row (named_row (named n a)) ≡ named_row
+    (named n (a ++ msg s (shadow.User k) ∷ []))
 unfolding change_row
-new_nick a s k n g h f true e =
+new_nick {a} s k n g h f true e =
     let same : n ≡ k = (bytes_decides n k).0 e in
     ap (λ o. (change_row (Insert (row.Nick s.id)) (named_row o)).row) (subst (λ w. named w a ≡ None) (sym same) (by_kind a (shadow.User k) f.fits))
-    ∙ sym (named_is n (a ++ msg s (shadow.User k) ∷ []) s.id h.nicks
-    (user_gives a s k g f s.id ∙ ap (λ b. cond b (Some k) (nick_at s.id a)) ((Decides-same_id s.id s.id).1 refl) ∙ ap Some (sym same)))
-new_nick a s k n g h f false e =
+    ∙ sym (named_is (a ++ msg s (shadow.User k) ∷ []) s.id h.nicks
+    (user_gives s k g f s.id ∙ ap (λ b. cond b (Some k) (nick_at s.id a)) ((Decides-same_id s.id s.id).1 refl) ∙ ap Some (sym same)))
+new_nick {a} s k n g h f false e =
     let none : nick_at s.id a ≡ None = nick_none s.id a (none_at (λ m. as_user m.shadow) s.id a f.new_id) in
-    ap named_row (sym (named_same n a (msg s (shadow.User k))
-    (λ v. ap (is_same_nick n) (user_gives a s k g f v)
+    ap named_row (sym (named_same n a (msg s (shadow.User k)) (λ v. ap (is_same_nick n) (user_gives s k g f v)
     ∙ not_given n k (same_id v s.id) (nick_at v a) e (λ t. ap (is_same_nick n) (subst (λ w. nick_at w a ≡ None) (sym ((Decides-same_id v s.id).0 t)) none)))
     none))
 
@@ -103,13 +102,13 @@ module _ (a : List Core) (s : Head) (r : NewRename) (g : Good a) (f : Follows a 
 
   -- who has the old nickname before
   had : named_row (named r.from a) ≡ Some (row.Nick r.user)
-  had = named_is r.from a r.user g.nicks fit.0
+  had = named_is a r.user g.nicks fit.0
 
   two_nicks : ¬ (r.from ≡ r.to)
   two_nicks e = not_named r.to a fit.1 r.user (fit.0 ∙ ap Some e)
 
   gone : Free r.from (λ v. nick_at v (a ++ x ∷ []))
-  gone v e = at (same_id v r.user) refl (sym (rename_gives a s r g f v) ∙ e)
+  gone v e = at (same_id v r.user) refl (sym (rename_gives s r g f v) ∙ e)
     where
       at : (b : Bool) → same_id v r.user ≡ b → cond (same_id v r.user) (Some r.to) (nick_at v a) ≡ Some r.from → ⊥
       at true t p =
@@ -148,21 +147,21 @@ module _ (a : List Core) (s : Head) (r : NewRename) (g : Good a) (f : Follows a 
   renamed_nick h n false p true q =
       let same : n ≡ r.to = (bytes_decides n r.to).0 q in
       ap (λ o. (change_row (Insert (row.Nick r.user)) (named_row o)).row) (subst (λ w. named w a ≡ None) (sym same) fit.1) ∙ put
-      ∙ sym (named_is n (a ++ x ∷ []) r.user h.nicks
-      (rename_gives a s r g f r.user ∙ ap (λ b. cond b (Some r.to) (nick_at r.user a)) ((Decides-same_id r.user r.user).1 refl) ∙ ap Some (sym same)))
+      ∙ sym (named_is (a ++ x ∷ []) r.user h.nicks
+      (rename_gives s r g f r.user ∙ ap (λ b. cond b (Some r.to) (nick_at r.user a)) ((Decides-same_id r.user r.user).1 refl) ∙ ap Some (sym same)))
   renamed_nick h n false p false q =
       ap named_row (sym (named_same n a x
-      (λ v. ap (is_same_nick n) (rename_gives a s r g f v)
+      (λ v. ap (is_same_nick n) (rename_gives s r g f v)
       ∙ not_given n r.to (same_id v r.user) (nick_at v a) q
       (λ t. ap (is_same_nick n) (subst (λ w. nick_at w a ≡ Some r.from) (sym ((Decides-same_id v r.user).0 t)) fit.0) ∙ p))
       (nick_none s.id a (none_at (λ m. as_user m.shadow) s.id a f.new_id))))
 
-pub row_of_nick : (a : List Core) (s : Head) (x : Shadow) → Good a → Good (a ++ msg s x ∷ []) → Follows a (msg s x) → (n : List ℕ) →
-    fold (at_key (key.Nick n)) (meaning_row a (key.Nick n)) (parts s.id s.red x) ≡ meaning_row (a ++ msg s x ∷ []) (key.Nick n)
+pub row_of_nick : {a : List Core} (s : Head) (x : Shadow) → Good a → Good (a ++ msg s x ∷ []) → Follows a (msg s x) → (n : List ℕ)
+    → fold (at_key (key.Nick n)) (meaning_row a (key.Nick n)) (parts s.id s.red x) ≡ meaning_row (a ++ msg s x ∷ []) (key.Nick n)
 unfolding meaning_row
-row_of_nick a s (shadow.User k) g h f n = new_nick a s k n g h f _ refl
-row_of_nick a s (shadow.Rename r) g h f n = renamed_nick a s r g f h n _ refl _ refl
-row_of_nick a s x g h f n = other_nick n a (msg s x) f.new_id refl
+row_of_nick s (shadow.User k) g h f n = new_nick s k n g h f _ refl
+row_of_nick {a} s (shadow.Rename r) g h f n = renamed_nick a s r g f h n _ refl _ refl
+row_of_nick {a} s x g h f n = other_nick n a (msg s x) f.new_id refl
 
 -- ---- categories
 
@@ -191,8 +190,8 @@ one_live c e p q = grind (arith, ints)
 one_ended : (c e : ℕ) → c < 2 ^ 61 → e < 2 ^ 61 → unsigned_abs (pos c -ℤ pos e +ℤ negsuc 0) < 2 ^ 63
 one_ended c e p q = grind (arith, ints)
 
-listed : (t b : Bool) (c e : ℕ) → c < 2 ^ 61 → e < 2 ^ 61
-    → cond b (change_row CatListed (when t (Some (cat_of c e)))).row (when t (Some (cat_of c e))) ≡ when t (Some (cat_of (c + cond b 1 0) (e + 0)))
+listed : (t b : Bool) (c e : ℕ) → c < 2 ^ 61 → e < 2 ^ 61 → cond b (change_row CatListed (when t (Some (cat_of c e)))).row (when t (Some (cat_of c e))) ≡ when t
+    (Some (cat_of (c + cond b 1 0) (e + 0)))
 unfolding change_row
 listed true true c e p q = λ j. Some (row.Cat (record { items = small_sum c 1 (omega arith) j; live = (small_int _ (one_live c e p q) ∙ sums) j }))
   where
@@ -201,8 +200,8 @@ listed true true c e p q = λ j. Some (row.Cat (record { items = small_sum c 1 (
 listed false true c e p q = refl
 listed t false c e p q = still t c e
 
-ended : (t b : Bool) (c e : ℕ) → c < 2 ^ 61 → e < 2 ^ 61
-    → cond b (change_row CatEnded (when t (Some (cat_of c e)))).row (when t (Some (cat_of c e))) ≡ when t (Some (cat_of (c + 0) (e + cond b 1 0)))
+ended : (t b : Bool) (c e : ℕ) → c < 2 ^ 61 → e < 2 ^ 61 → cond b (change_row CatEnded (when t (Some (cat_of c e)))).row (when t (Some (cat_of c e))) ≡ when t
+    (Some (cat_of (c + 0) (e + cond b 1 0)))
 unfolding change_row
 ended true true c e p q = λ j. Some (row.Cat (record { items = zero_more c j; live = (small_int _ (one_ended c e p q) ∙ sums) j }))
   where
@@ -214,8 +213,8 @@ ended t false c e p q = still t c e
 small : (p : Shadow → Bool) (a : List Core) → length a < 2 ^ 32 → count p a < 2 ^ 61
 small p a h = let l = count_by-le-length (λ (m : Core). p m.shadow) a in omega (arith, l, h)
 
-pub row_of_cat : (a : List Core) (s : Head) (x : Shadow) → length a < 2 ^ 32 → (k : ℕ) →
-    fold (at_key (key.Cat k)) (meaning_row a (key.Cat k)) (parts s.id s.red x) ≡ meaning_row (a ++ msg s x ∷ []) (key.Cat k)
+pub row_of_cat : (a : List Core) (s : Head) (x : Shadow) → length a < 2 ^ 32 → (k : ℕ)
+    → fold (at_key (key.Cat k)) (meaning_row a (key.Cat k)) (parts s.id s.red x) ≡ meaning_row (a ++ msg s x ∷ []) (key.Cat k)
 unfolding meaning_row
 row_of_cat a s (shadow.Item n) h k =
     listed (nat_lt k 1000) (nat_eq k n.cat) _ _ (small (lists_in k) a h) (small (closes_in k) a h) ∙ meaning_push a (msg s (shadow.Item n)) k

@@ -77,8 +77,8 @@ item_meaning_push : (a : List Core) (m : Core) (i : Id) → as_item m.shadow ≡
 unfolding meaning_row
 item_meaning_push a m i e r = λ j. option_map (λ n. item_row_push a m i n r j) (at_id_push_not (λ m. as_item m.shadow) i a m e j)
 
-still : (w : NewItem → ℕ) (s b : ℕ) (best close : Option Core) (i : Id) (m : Core) (o : Option NewItem) → bids i m ≡ false → ends i m ≡ false →
-    option_map (item_of w s b best close) o ≡ option_map (item_of w (s + 0) (b + 0) (choice higher (bids i) best m) (choice earlier (ends i) close m)) o
+still : (w : NewItem → ℕ) (s b : ℕ) (best close : Option Core) (i : Id) (m : Core) (o : Option NewItem) → bids i m ≡ false → ends i m ≡ false
+    → option_map (item_of w s b best close) o ≡ option_map (item_of w (s + 0) (b + 0) (choice higher (bids i) best m) (choice earlier (ends i) close m)) o
 still w s b best close i m o p q =
     λ j. option_map (λ n. same_item w {s = s} {t = s + 0} {b = b} {c = b + 0} n (omega arith) (omega arith) (sym (choice_not higher (bids i) best m p))
     (sym (choice_not earlier (ends i) close m q)) j) o
@@ -87,16 +87,16 @@ still w s b best close i m o p q =
 not_before : (m old n : ℕ) → n < m → old ≤ n → nat_lt m old ≡ false
 not_before m old n p q = grind (arith, nat_tests)
 
-drop_tie : (a b c : Bool) → c ≡ false → (a || (b && c)) ≡ a
-drop_tie true b c e = refl
-drop_tie false true c e = e
-drop_tie false false c e = refl
+drop_tie : (a b : Bool) {c : Bool} → c ≡ false → (a || (b && c)) ≡ a
+drop_tie true b e = refl
+drop_tie false true e = e
+drop_tie false false e = refl
 
 higher_later : (n : ℕ) (m old : Core) → n < m.red → old.red ≤ n → higher m old ≡ nat_lt (amount_of old.shadow) (amount_of m.shadow)
-higher_later n m old p q = drop_tie _ _ _ (not_before m.red old.red n p q)
+higher_later n m old p q = drop_tie _ _ (not_before m.red old.red n p q)
 
-best_more : (n : ℕ) (p : Core → Bool) (best : Option Core) (m : Core) → n < m.red → IfSome best (λ x. x.red ≤ n) → p m ≡ true →
-    better (option_map best_of best) (best_of m) ≡ option_map best_of (choice higher p best m)
+best_more : (n : ℕ) (p : Core → Bool) (best : Option Core) (m : Core) → n < m.red → IfSome best (λ x. x.red ≤ n) → p m ≡ true
+    → better (option_map best_of best) (best_of m) ≡ option_map best_of (choice higher p best m)
 best_more n p None m later h e = ap (λ b. option_map best_of (cond b (Some m) None)) (sym e)
 best_more n p (Some old) m later h e =
     split (nat_lt (amount_of old.shadow) (amount_of m.shadow))
@@ -107,16 +107,14 @@ best_more n p (Some old) m later h e =
     split false = refl
 
 -- a bid
-bid_taken : (t : Bool) (n : ℕ) (w : NewItem → ℕ) (s c : ℕ) (best close : Option Core) (i : Id) (m : Core) (o : Option NewItem) → bids i m ≡ t
-    → ends i m ≡ false → (t ≡ true → close ≡ None) →
-    n < m.red → IfSome best (λ x. x.red ≤ n) → c < 2 ^ 62 →
-    cond t (change_row (BidTaken (best_of m)) (option_map (item_of w s c best close) o)).row (option_map (item_of w s c best close) o)
-    ≡ option_map (item_of w (s + 0) (c + cond t 1 0) (choice higher (bids i) best m) (choice earlier (ends i) close m)) o
+bid_taken : (t : Bool) (n : ℕ) (w : NewItem → ℕ) (s c : ℕ) (best close : Option Core) (i : Id) (m : Core) (o : Option NewItem) → bids i m ≡ t → ends i m ≡ false
+    → (t ≡ true → close ≡ None) → n < m.red → IfSome best (λ x. x.red ≤ n) → c < 2 ^ 62
+    → cond t (change_row (BidTaken (best_of m)) (option_map (item_of w s c best close) o)).row (option_map (item_of w s c best close) o) ≡ option_map
+    (item_of w (s + 0) (c + cond t 1 0) (choice higher (bids i) best m) (choice earlier (ends i) close m)) o
 unfolding change_row
 bid_taken true n w s c best close i m None p q shut later h small = refl
 bid_taken true n w s c best close i m (Some k) p q shut later h small =
-    (λ j. (change_row (BidTaken (best_of m)) (Some (item_of w s c best (shut refl j) k))).row)
-    ∙ (λ j. Some (row.Item (record {
+    (λ j. (change_row (BidTaken (best_of m)) (Some (item_of w s c best (shut refl j) k))).row) ∙ (λ j. Some (row.Item (record {
       seller = k.seller;
       name = k.name;
       cat = k.cat;
@@ -127,8 +125,7 @@ bid_taken true n w s c best close i m (Some k) p q shut later h small =
       bids = small_sum c 1 (more small) j;
       best = best_more n (bids i) best m later h p j;
       sale = Open;
-    })))
-    ∙ ap (λ z. Some (item_of w (s + 0) (c + 1) (choice higher (bids i) best m) z k)) (sym (choice_not earlier (ends i) close m q ∙ shut refl))
+    }))) ∙ ap (λ z. Some (item_of w (s + 0) (c + 1) (choice higher (bids i) best m) z k)) (sym (choice_not earlier (ends i) close m q ∙ shut refl))
   where
     zero_more : (x : ℕ) → x ≡ x + 0
     zero_more x = omega arith
@@ -142,10 +139,9 @@ pub le_true : (m n : ℕ) → m ≤ n → nat_le m n ≡ true
 le_true m n h = grind (arith, nat_tests)
 
 sold_more : (t : Bool) (q : ℕ) (w : NewItem → ℕ) (s c : ℕ) (best close : Option Core) (i : Id) (m : Core) (o : Option NewItem) → bids i m ≡ false
-    → ends i m ≡ false → (t ≡ true → close ≡ None) →
-    (t ≡ true → IfSome o (λ n. s + q ≤ w n)) → s + q < 2 ^ 62 →
-    cond t (change_row (Sold q) (option_map (item_of w s c best close) o)).row (option_map (item_of w s c best close) o)
-    ≡ option_map (item_of w (s + cond t q 0) (c + 0) (choice higher (bids i) best m) (choice earlier (ends i) close m)) o
+    → ends i m ≡ false → (t ≡ true → close ≡ None) → (t ≡ true → IfSome o (λ n. s + q ≤ w n)) → s + q < 2 ^ 62
+    → cond t (change_row (Sold q) (option_map (item_of w s c best close) o)).row (option_map (item_of w s c best close) o) ≡ option_map
+    (item_of w (s + cond t q 0) (c + 0) (choice higher (bids i) best m) (choice earlier (ends i) close m)) o
 unfolding change_row
 sold_more true q w s c best close i m None p e shut stock small = refl
 sold_more true q w s c best close i m (Some k) p e shut stock small =
@@ -162,8 +158,7 @@ sold_more true q w s c best close i m (Some k) p e shut stock small =
       bids = zero_more c j;
       best = option_map best_of (sym (choice_not higher (bids i) best m p) j);
       sale = Open;
-    })))
-    ∙ ap (λ z. Some (item_of w (s + q) (c + 0) (choice higher (bids i) best m) z k)) (sym (choice_not earlier (ends i) close m e ∙ shut refl))
+    }))) ∙ ap (λ z. Some (item_of w (s + q) (c + 0) (choice higher (bids i) best m) z k)) (sym (choice_not earlier (ends i) close m e ∙ shut refl))
   where
     zero_more : (x : ℕ) → x ≡ x + 0
     zero_more x = omega arith
@@ -193,15 +188,14 @@ sold_more true q w s c best close i m (Some k) p e shut stock small =
 sold_more false q w s c best close i m o p e shut stock small = still w s c best close i m o p e
 
 -- a close
-closed : (t : Bool) (w : NewItem → ℕ) (s c : ℕ) (best close : Option Core) (i : Id) (st : Head) (e : NewClose) (o : Option NewItem)
-    → same_id i e.item ≡ t → (t ≡ true → close ≡ None) →
-    cond t (change_row (End e.winner) (option_map (item_of w s c best close) o)).row (option_map (item_of w s c best close) o)
-    ≡ option_map (item_of w (s + 0) (c + 0) (choice higher (bids i) best (msg st (shadow.Close e))) (choice earlier (ends i) close (msg st (shadow.Close e)))) o
+closed : (t : Bool) (w : NewItem → ℕ) (s c : ℕ) (best close : Option Core) (i : Id) (st : Head) (e : NewClose) (o : Option NewItem) → same_id i e.item ≡ t
+    → (t ≡ true → close ≡ None) → cond t (change_row (End e.winner) (option_map (item_of w s c best close) o)).row
+    (option_map (item_of w s c best close) o) ≡ option_map
+    (item_of w (s + 0) (c + 0) (choice higher (bids i) best (msg st (shadow.Close e))) (choice earlier (ends i) close (msg st (shadow.Close e)))) o
 unfolding change_row
 closed true w s c best close i st e None h shut = refl
 closed true w s c best close i st e (Some k) h shut =
-    (λ j. (change_row (End e.winner) (Some (item_of w s c best (shut refl j) k))).row)
-    ∙ (λ j. Some (row.Item (record {
+    (λ j. (change_row (End e.winner) (Some (item_of w s c best (shut refl j) k))).row) ∙ (λ j. Some (row.Item (record {
       seller = k.seller;
       name = k.name;
       cat = k.cat;
@@ -225,9 +219,9 @@ plus_none : (x : ℕ) → x ≡ x + 0
 plus_none x = omega arith
 
 restocked_more : (t : Bool) (q : ℕ) (w : NewItem → ℕ) (s c : ℕ) (best close : Option Core) (i : Id) (m : Core) (o : Option NewItem) → bids i m ≡ false
-    → ends i m ≡ false → (t ≡ true → IfSome o (λ n. (s ≤ w n) × (w n + q < 2 ^ 63))) →
-    cond t (change_row (Restocked q) (option_map (item_of w s c best close) o)).row (option_map (item_of w s c best close) o)
-    ≡ option_map (item_of (λ n. w n + cond t q 0) (s + 0) (c + 0) (choice higher (bids i) best m) (choice earlier (ends i) close m)) o
+    → ends i m ≡ false → (t ≡ true → IfSome o (λ n. (s ≤ w n) × (w n + q < 2 ^ 63)))
+    → cond t (change_row (Restocked q) (option_map (item_of w s c best close) o)).row (option_map (item_of w s c best close) o) ≡ option_map
+    (item_of (λ n. w n + cond t q 0) (s + 0) (c + 0) (choice higher (bids i) best m) (choice earlier (ends i) close m)) o
 unfolding change_row
 restocked_more true q w s c best close i m None p e h = refl
 restocked_more true q w s c best close i m (Some k) p e h = λ j. Some (row.Item (record {
@@ -249,11 +243,10 @@ restocked_more false q w s c best close i m o p e h =
     still w s c best close i m o p e
     ∙ (λ j. option_map (item_of (λ n. plus_none (w n) j) (s + 0) (c + 0) (choice higher (bids i) best m) (choice earlier (ends i) close m)) o)
 
-restocked_meaning : (a : List Core) (s : Head) (r : NewRestock) (i : Id) → meaning_row (a ++ msg s (shadow.Restock r) ∷ []) (key.Item i)
-    ≡ option_map (grown_to (λ n. supply a i n + cond (same_id i r.item) r.quantity 0) a (msg s (shadow.Restock r)) i) (item_at i a)
+restocked_meaning : (a : List Core) (s : Head) (r : NewRestock) (i : Id) → meaning_row (a ++ msg s (shadow.Restock r) ∷ []) (key.Item i) ≡ option_map
+    (grown_to (λ n. supply a i n + cond (same_id i r.item) r.quantity 0) a (msg s (shadow.Restock r)) i) (item_at i a)
 unfolding meaning_row
-restocked_meaning a s r i = λ j. option_map
-    (λ n. item_row_to (λ n. supply a i n + cond (same_id i r.item) r.quantity 0) a (msg s (shadow.Restock r)) i n
+restocked_meaning a s r i = λ j. option_map (λ n. item_row_to (λ n. supply a i n + cond (same_id i r.item) r.quantity 0) a (msg s (shadow.Restock r)) i n
     (λ k. let t = total_push (restocked_of i) a (msg s (shadow.Restock r)) in omega (arith, t)) j)
     (at_id_push_not (λ m. as_item m.shadow) i a (msg s (shadow.Restock r)) refl j)
 
@@ -281,11 +274,11 @@ opening_supply : (a : List Core) (i : Id) (k : NewItem) → total (restocked_of 
 opening_supply a i k e = omega (arith, e)
 
 -- a new item's row
-inserted : (a : List Core) (s : Head) (n : NewItem) (i : Id) (b : Bool) → same_id i s.id ≡ b → Good a → Follows a (msg s (shadow.Item n)) →
-    cond b (change_row (Insert (row.Item (new_item n))) (meaning_row a (key.Item i))).row (meaning_row a (key.Item i))
-    ≡ meaning_row (a ++ msg s (shadow.Item n) ∷ []) (key.Item i)
+inserted : {a : List Core} (s : Head) (n : NewItem) (i : Id) (b : Bool) → same_id i s.id ≡ b → Good a → Follows a (msg s (shadow.Item n))
+    → cond b (change_row (Insert (row.Item (new_item n))) (meaning_row a (key.Item i))).row (meaning_row a (key.Item i)) ≡ meaning_row
+    (a ++ msg s (shadow.Item n) ∷ []) (key.Item i)
 unfolding change_row meaning_row
-inserted a s n i true e g f =
+inserted {a} s n i true e g f =
     let none : item_at i a ≡ None = none_at (λ m. as_item m.shadow) i a (subst (λ w. at_id Some w a ≡ None) (sym ((Decides-same_id i s.id).0 e)) f.new_id) in
     let z = g.no_item i none in
     let there : item_at i (a ++ msg s (shadow.Item n) ∷ []) ≡ Some n = at_id_push (λ m. as_item m.shadow) i a (msg s (shadow.Item n))
@@ -294,9 +287,8 @@ inserted a s n i true e g f =
     ∙ ap Some (new_item_is n ∙ (λ j. item_of (λ k. opening_supply a i k z.restocked j) 0 0 None None n)
     ∙ same_item (supply a i) {s = 0} {b = 0} {best = None} {close = None} n (sym (ap (λ k. k + 0) z.sold)) (sym (ap (λ k. k + 0) z.bids))
     (sym (choice_not higher (bids i) _ (msg s (shadow.Item n)) refl ∙ z.best)) (sym (choice_not earlier (ends i) _ (msg s (shadow.Item n)) refl ∙ z.close))
-    ∙ sym (item_row_push a (msg s (shadow.Item n)) i n refl))
-    ∙ ap (option_map (item_row (a ++ msg s (shadow.Item n) ∷ []) i)) (sym there)
-inserted a s n i false e g f =
+    ∙ sym (item_row_push a (msg s (shadow.Item n)) i n refl)) ∙ ap (option_map (item_row (a ++ msg s (shadow.Item n) ∷ []) i)) (sym there)
+inserted {a} s n i false e g f =
     still _ _ _ _ _ i (msg s (shadow.Item n)) (item_at i a) refl refl
     ∙ (λ j. option_map (λ k. sym (item_row_push a (msg s (shadow.Item n)) i k refl) j) (item_at i a))
     ∙ ap (option_map (item_row (a ++ msg s (shadow.Item n) ∷ []) i))
@@ -309,27 +301,25 @@ at_named P i j h e = subst P (sym ((Decides-same_id i j).0 e)) h
 sold_small : (t : Bool) (l s q : ℕ) → s ≤ l * 1000000 → q ≤ 1000000 → l < 2 ^ 32 → s + q < 2 ^ 62
 sold_small t l s q g h small = omega arith
 
-pub row_of_item : (a : List Core) (s : Head) (x : Shadow) → Good a → Follows a (msg s x) → length a < 2 ^ 32 → (i : Id) →
-    fold (at_key (key.Item i)) (meaning_row a (key.Item i)) (parts s.id s.red x) ≡ meaning_row (a ++ msg s x ∷ []) (key.Item i)
+pub row_of_item : {a : List Core} (s : Head) (x : Shadow) → Good a → Follows a (msg s x) → length a < 2 ^ 32 → (i : Id)
+    → fold (at_key (key.Item i)) (meaning_row a (key.Item i)) (parts s.id s.red x) ≡ meaning_row (a ++ msg s x ∷ []) (key.Item i)
 unfolding meaning_row
-row_of_item a s (shadow.Item n) g f h i = inserted a s n i _ refl g f
-row_of_item a s (shadow.Bid b) g f h i =
+row_of_item s (shadow.Item n) g f h i = inserted s n i _ refl g f
+row_of_item {a} s (shadow.Bid b) g f h i =
     bid_taken (same_id i b.item) (count is_red a) _ _ _ _ _ i (msg s (shadow.Bid b)) (item_at i a) refl refl
     (at_named (λ k. close_of k a ≡ None) i b.item (by_kind a (shadow.Bid b) f.fits).2)
     (let r = f.next_red in omega (arith, r)) (g.reds higher (bids i)) (count_small (bids_on i) a h)
     ∙ sym (item_meaning_push a (msg s (shadow.Bid b)) i refl refl)
-row_of_item a s (shadow.Buy p) g f h i =
+row_of_item {a} s (shadow.Buy p) g f h i =
     sold_more (same_id i p.item) p.quantity _ _ _ _ _ i (msg s (shadow.Buy p)) (item_at i a) refl refl
     (at_named (λ k. close_of k a ≡ None) i p.item (by_kind a (shadow.Buy p) f.fits).2)
     (at_named (λ k. IfSome (item_at k a) (λ n. total (sold_of k) a + p.quantity ≤ supply a k n)) i p.item (by_kind a (shadow.Buy p) f.fits).3)
-    (sold_small true _ _ _ (g.sold i) f.limits.1.quantity.small h)
-    ∙ sym (item_meaning_push a (msg s (shadow.Buy p)) i refl refl)
-row_of_item a s (shadow.Close c) g f h i =
+    (sold_small true _ _ _ (g.sold i) f.limits.1.quantity.small h) ∙ sym (item_meaning_push a (msg s (shadow.Buy p)) i refl refl)
+row_of_item {a} s (shadow.Close c) g f h i =
     closed (same_id i c.item) _ _ _ _ _ i s c (item_at i a) refl (at_named (λ k. close_of k a ≡ None) i c.item (by_kind a (shadow.Close c) f.fits).1)
     ∙ sym (item_meaning_push a (msg s (shadow.Close c)) i refl refl)
-row_of_item a s (shadow.Restock r) g f h i =
-    restocked_more (same_id i r.item) r.quantity (supply a i) _ _ _ _ i (msg s (shadow.Restock r)) (item_at i a) refl refl
-    (λ e. if_some_map (item_at i a)
+row_of_item {a} s (shadow.Restock r) g f h i =
+    restocked_more (same_id i r.item) r.quantity (supply a i) _ _ _ _ i (msg s (shadow.Restock r)) (item_at i a) refl refl (λ e. if_some_map (item_at i a)
     (λ n k. (k.enough, restock_small (length a) n.stock (total (restocked_of i) a) r.quantity k.opening (g.restocked i) f.limits.1.1.small h)) (g.stock i))
     ∙ sym (restocked_meaning a s r i)
-row_of_item a s x g f h i = still _ _ _ _ _ i (msg s x) (item_at i a) refl refl ∙ sym (item_meaning_push a (msg s x) i refl refl)
+row_of_item {a} s x g f h i = still _ _ _ _ _ i (msg s x) (item_at i a) refl refl ∙ sym (item_meaning_push a (msg s x) i refl refl)

@@ -67,25 +67,24 @@ still c s k r o =
     λ i. option_map (λ n. same_user {c = c} {d = c + 0} {s = s} {t = s + 0} {k = k} {l = k + 0} n (omega arith) (omega arith) (nothing_added r) (omega arith) i)
     o
 
-listed : (b : Bool) (c s k : ℕ) (r : ℤ) (o : Option (List ℕ)) → c < 2 ^ 62
-    → cond b (change_row ItemListed (option_map (user_of c s r k) o)).row (option_map (user_of c s r k) o)
-    ≡ option_map (user_of (c + cond b 1 0) (s + 0) (r +ℤ pos 0) (k + 0)) o
+listed : (b : Bool) (c s k : ℕ) (r : ℤ) (o : Option (List ℕ)) → c < 2 ^ 62 → cond b (change_row ItemListed (option_map (user_of c s r k) o)).row
+    (option_map (user_of c s r k) o) ≡ option_map (user_of (c + cond b 1 0) (s + 0) (r +ℤ pos 0) (k + 0)) o
 unfolding change_row
 listed true c s k r None h = refl
 listed true c s k r (Some n) h = ap Some (same_user n (small_sum c 1 (omega arith)) (omega arith) (nothing_added r) (omega arith))
 listed false c s k r o h = still c s k r o
 
 bought_more : (b : Bool) (q c s k : ℕ) (r : ℤ) (o : Option (List ℕ)) → s + q < 2 ^ 62
-    → cond b (change_row (Bought q) (option_map (user_of c s r k) o)).row (option_map (user_of c s r k) o)
-    ≡ option_map (user_of (c + 0) (s + cond b q 0) (r +ℤ pos 0) (k + 0)) o
+    → cond b (change_row (Bought q) (option_map (user_of c s r k) o)).row (option_map (user_of c s r k) o) ≡ option_map
+    (user_of (c + 0) (s + cond b q 0) (r +ℤ pos 0) (k + 0)) o
 unfolding change_row
 bought_more true q c s k r None h = refl
 bought_more true q c s k r (Some n) h = ap Some (same_user n (omega arith) (small_sum s q (omega arith)) (nothing_added r) (omega arith))
 bought_more false q c s k r o h = still c s k r o
 
 rated : (b : Bool) (z : ℤ) (c s k : ℕ) (r : ℤ) (o : Option (List ℕ)) → k < 2 ^ 62 → unsigned_abs (r +ℤ z) < 2 ^ 63
-    → cond b (change_row (Rated z) (option_map (user_of c s r k) o)).row (option_map (user_of c s r k) o)
-    ≡ option_map (user_of (c + 0) (s + 0) (r +ℤ cond b z (pos 0)) (k + cond b 1 0)) o
+    → cond b (change_row (Rated z) (option_map (user_of c s r k) o)).row (option_map (user_of c s r k) o) ≡ option_map
+    (user_of (c + 0) (s + 0) (r +ℤ cond b z (pos 0)) (k + cond b 1 0)) o
 unfolding change_row
 rated true z c s k r None h g = refl
 rated true z c s k r (Some n) h g = ap Some (same_user n (omega arith) (omega arith) (small_int _ g) (small_sum k 1 (omega arith)))
@@ -93,49 +92,48 @@ rated false z c s k r o h g = still c s k r o
 
 -- a rename
 renamed : (b : Bool) (n : List ℕ) (c s k : ℕ) (r : ℤ) (o : Option (List ℕ)) → (b ≡ true → IsSome o)
-    → cond b (change_row (Renamed n) (option_map (user_of c s r k) o)).row (option_map (user_of c s r k) o)
-    ≡ option_map (user_of (c + 0) (s + 0) (r +ℤ pos 0) (k + 0)) (cond b (Some n) o)
+    → cond b (change_row (Renamed n) (option_map (user_of c s r k) o)).row (option_map (user_of c s r k) o) ≡ option_map
+    (user_of (c + 0) (s + 0) (r +ℤ pos 0) (k + 0)) (cond b (Some n) o)
 unfolding change_row
 renamed true n c s k r None h = absurd (true≢false (sym (h refl)))
 renamed true n c s k r (Some m) h = still c s k r (Some n)
 renamed false n c s k r o h = still c s k r o
 
 -- a new user's row
-inserted : (a : List Core) (s : Head) (n : List ℕ) (u : Id) (b : Bool) → same_id u s.id ≡ b → Good a → Follows a (msg s (shadow.User n)) →
-    cond b (change_row (Insert (user_of 0 0 (pos 0) 0 n)) (meaning_row a (key.User u))).row (meaning_row a (key.User u))
-    ≡ meaning_row (a ++ msg s (shadow.User n) ∷ []) (key.User u)
+inserted : {a : List Core} (s : Head) (n : List ℕ) (u : Id) (b : Bool) → same_id u s.id ≡ b → Good a → Follows a (msg s (shadow.User n))
+    → cond b (change_row (Insert (user_of 0 0 (pos 0) 0 n)) (meaning_row a (key.User u))).row (meaning_row a (key.User u)) ≡ meaning_row
+    (a ++ msg s (shadow.User n) ∷ []) (key.User u)
 unfolding change_row meaning_row
-inserted a s n u true e g f =
+inserted {a} s n u true e g f =
     let none : user_at u a ≡ None = none_at (λ m. as_user m.shadow) u a (subst (λ w. at_id Some w a ≡ None) (sym ((Decides-same_id u s.id).0 e)) f.new_id) in
     let z = g.no_user u none in
-    let there : nick_at u (a ++ msg s (shadow.User n) ∷ []) ≡ Some n = user_gives a s n g f u ∙ ap (λ b. cond b (Some n) (nick_at u a)) e in
+    let there : nick_at u (a ++ msg s (shadow.User n) ∷ []) ≡ Some n = user_gives s n g f u ∙ ap (λ b. cond b (Some n) (nick_at u a)) e in
     ap (λ o. (change_row (Insert (user_of 0 0 (pos 0) 0 n)) (option_map (user_row a u) o)).row) (nick_none u a none)
     ∙ ap Some (same_user n (sym (ap (λ k. k + 0) z.items)) (sym (ap (λ k. k + 0) z.bought)) (sym (ap (λ k. k +ℤ pos 0) z.rating))
     (sym (ap (λ k. k + 0) z.comments)) ∙ sym (user_row_push a (msg s (shadow.User n)) u n))
     ∙ ap (option_map (user_row (a ++ msg s (shadow.User n) ∷ []) u)) (sym there)
-inserted a s n u false e g f =
-    still _ _ _ _ (nick_at u a)
-    ∙ (λ i. option_map (λ k. sym (user_row_push a (msg s (shadow.User n)) u k) i) (nick_at u a))
-    ∙ ap (option_map (user_row (a ++ msg s (shadow.User n) ∷ []) u)) (sym (user_gives a s n g f u ∙ ap (λ b. cond b (Some n) (nick_at u a)) e))
+inserted {a} s n u false e g f =
+    still _ _ _ _ (nick_at u a) ∙ (λ i. option_map (λ k. sym (user_row_push a (msg s (shadow.User n)) u k) i) (nick_at u a))
+    ∙ ap (option_map (user_row (a ++ msg s (shadow.User n) ∷ []) u)) (sym (user_gives s n g f u ∙ ap (λ b. cond b (Some n) (nick_at u a)) e))
 
 pub count_small : (p : Shadow → Bool) (a : List Core) → length a < 2 ^ 32 → count p a < 2 ^ 62
 count_small p a h = let l = count_by-le-length (λ (m : Core). p m.shadow) a in omega (arith, l, h)
 
-pub row_of_user : (a : List Core) (s : Head) (x : Shadow) → Good a → Follows a (msg s x) → length a < 2 ^ 32 → (u : Id) →
-    fold (at_key (key.User u)) (meaning_row a (key.User u)) (parts s.id s.red x) ≡ meaning_row (a ++ msg s x ∷ []) (key.User u)
+pub row_of_user : {a : List Core} (s : Head) (x : Shadow) → Good a → Follows a (msg s x) → length a < 2 ^ 32 → (u : Id)
+    → fold (at_key (key.User u)) (meaning_row a (key.User u)) (parts s.id s.red x) ≡ meaning_row (a ++ msg s x ∷ []) (key.User u)
 unfolding meaning_row
-row_of_user a s (shadow.User n) g f h u = inserted a s n u _ refl g f
-row_of_user a s (shadow.Item n) g f h u =
+row_of_user s (shadow.User n) g f h u = inserted s n u _ refl g f
+row_of_user {a} s (shadow.Item n) g f h u =
     listed (same_id u n.seller) _ _ _ _ (nick_at u a) (count_small (lists_item_of u) a h) ∙ sym (user_meaning_push a (msg s (shadow.Item n)) u refl)
-row_of_user a s (shadow.Buy p) g f h u =
+row_of_user {a} s (shadow.Buy p) g f h u =
     bought_more (same_id u p.buyer) p.quantity _ _ _ _ (nick_at u a) (let l = g.bought u in let q = f.limits.1.quantity.small in omega (arith, l, q, h))
     ∙ sym (user_meaning_push a (msg s (shadow.Buy p)) u refl)
-row_of_user a s (shadow.Comment c) g f h u =
+row_of_user {a} s (shadow.Comment c) g f h u =
     rated (same_id u c.to) c.rating _ _ _ _ (nick_at u a) (count_small (rates u) a h)
     (let l = g.rating u in let q = f.limits.1.rating in let t = abs_sum (int_sum_by (λ m. rating_for u m.shadow) a) c.rating in omega (arith, l, q, t, h))
     ∙ sym (user_meaning_push a (msg s (shadow.Comment c)) u refl)
-row_of_user a s (shadow.Rename r) g f h u =
+row_of_user {a} s (shadow.Rename r) g f h u =
     renamed (same_id u r.user) r.to _ _ _ _ (nick_at u a)
     (λ e. subst (λ w. IsSome (nick_at w a)) (sym ((Decides-same_id u r.user).0 e)) (ap is_some (by_kind a (shadow.Rename r) f.fits).0))
-    ∙ (λ i. option_map (λ k. sym (user_row_push a (msg s (shadow.Rename r)) u k) i) (sym (rename_gives a s r g f u) i))
-row_of_user a s x g f h u = still _ _ _ _ (nick_at u a) ∙ sym (user_meaning_push a (msg s x) u refl)
+    ∙ (λ i. option_map (λ k. sym (user_row_push a (msg s (shadow.Rename r)) u k) i) (sym (rename_gives s r g f u) i))
+row_of_user {a} s x g f h u = still _ _ _ _ (nick_at u a) ∙ sym (user_meaning_push a (msg s x) u refl)

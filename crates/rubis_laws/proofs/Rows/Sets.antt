@@ -78,9 +78,9 @@ pub apart : (xs : List Core) (x : Core) → has_id x.id xs ≡ None → ¬ (Memb
 apart xs x e h = true≢false (sym (itself x.id) ∙ not_member xs x.id x e h)
 
 -- at an id, the row that its message gives
-keep_first : {X : Type 0} (o p : Option X) → p ≡ None → option_or o p ≡ o
-keep_first None p e = e
-keep_first (Some x) p e = refl
+keep_first : {X : Type 0} (o : Option X) {p : Option X} → p ≡ None → option_or o p ≡ o
+keep_first None e = e
+keep_first (Some x) e = refl
 
 pub turned : (i j : Id) → same_id i j ≡ false → same_id j i ≡ false
 turned i j e = elim (same_id j i) as (λ b. same_id j i ≡ b → b ≡ false) [
@@ -91,15 +91,13 @@ turned i j e = elim (same_id j i) as (λ b. same_id j i ≡ b → b ≡ false) [
 pub at_member : {X : Type 0} (f : Core → Option X) (xs : List Core) (m : Core) → OneEach xs → Member xs m → at_id f m.id xs ≡ f m
 at_member f [] m u h = absurd h
 at_member f (x ∷ xs) m u (inl p) =
-    (λ i. option_or (when (same_id m.id (p i).id) (f (p i))) (at_id f m.id xs))
-    ∙ (λ i. option_or (when (itself m.id i) (f m)) (at_id f m.id xs))
-    ∙ keep_first (f m) _ (none_at f m.id xs (subst (λ (n : Core). has_id n.id xs ≡ None) p u.0))
-at_member f (x ∷ xs) m u (inr h) =
-    ap (λ b. option_or (when b (f x)) (at_id f m.id xs)) (turned x.id m.id (not_member xs x.id m u.0 h)) ∙ at_member f xs m u.1 h
+    (λ i. option_or (when (same_id m.id (p i).id) (f (p i))) (at_id f m.id xs)) ∙ (λ i. option_or (when (itself m.id i) (f m)) (at_id f m.id xs))
+    ∙ keep_first (f m) (none_at f m.id xs (subst (λ (n : Core). has_id n.id xs ≡ None) p u.0))
+at_member f (x ∷ xs) m u (inr h) = ap (λ b. option_or (when b (f x)) (at_id f m.id xs)) (turned x.id m.id (not_member xs x.id m u.0 h)) ∙ at_member f xs m u.1 h
 
-pub found_member : (i : Id) (xs : List Core) (m : Core) → has_id i xs ≡ Some m → Member xs m × (i ≡ m.id)
-found_member i [] m e = absurd cc
-found_member i (x ∷ xs) m e = go (same_id i x.id) refl (found_member i xs m)
+pub found_member : (i : Id) (xs : List Core) {m : Core} → has_id i xs ≡ Some m → Member xs m × (i ≡ m.id)
+found_member i [] e = absurd cc
+found_member i (x ∷ xs) {m} e = go (same_id i x.id) refl (found_member i xs)
   where
     go : (b : Bool) → same_id i x.id ≡ b → (has_id i xs ≡ Some m → Member xs m × (i ≡ m.id)) → Member (x ∷ xs) m × (i ≡ m.id)
     go true q ih =
@@ -118,11 +116,11 @@ same_at f i a b u v s = go (has_id i a) refl (has_id i b) refl
   where
     go : (o : Option Core) → has_id i a ≡ o → (p : Option Core) → has_id i b ≡ p → at_id f i a ≡ at_id f i b
     go (Some m) e p q =
-        let w = found_member i a m e in
+        let w = found_member i a e in
         subst (λ j. at_id f j a ≡ at_id f j b) (sym w.1) (at_member f a m u w.0 ∙ sym (at_member f b m v ((s m).0 w.0)))
     go None e None q = none_at f i a e ∙ sym (none_at f i b q)
     go None e (Some m) q =
-        let w = found_member i b m q in
+        let w = found_member i b q in
         absurd (true≢false (sym ((Decides-same_id i m.id).1 w.1) ∙ not_member a i m e ((s m).1 w.0)))
 
 -- ---- one is a permutation of the other
@@ -162,8 +160,7 @@ same_permutation (x ∷ a) b u v s =
     let w = split_at b x ((s x).0 (inl refl)) in
     let o = one_each_without w.0 w.1 x (subst OneEach w.2 v) in
     let tail = same_permutation a (w.0 ++ w.1) u.1 o.0 (same_without a w.0 w.1 x u.0 o.1 (subst (Same (x ∷ a)) w.2 s)) in
-    subst (IsPermutation (x ∷ a)) (sym w.2)
-    (IsPermutation-trans _ _ _ (IsPermutation-cons x _ _ tail) (IsPermutation-sym _ _ (IsPermutation-middle w.0 x w.1)))
+    subst (IsPermutation (x ∷ a)) (sym w.2) (IsPermutation-trans _ _ _ (IsPermutation-cons x _ _ tail) (IsPermutation-sym _ _ (IsPermutation-middle w.0 x w.1)))
 
 -- ---- sums
 
@@ -185,15 +182,14 @@ one_int : (n m : ℕ) (z : ℤ) → pos n -ℤ pos m +ℤ z ≡ pos (n + above z
 one_int n m (pos k) = omega (arith, ints)
 one_int n m (negsuc k) = omega (arith, ints)
 
-int_sum_split : (f : Core → ℤ) (n m : ℕ) (a : List Core)
-    → fold (λ s x. s +ℤ f x) (pos n -ℤ pos m) a ≡ pos (n + sum_by (λ x. above (f x)) a) -ℤ pos (m + sum_by (λ x. below (f x)) a)
+int_sum_split : (f : Core → ℤ) (n m : ℕ) (a : List Core) → fold (λ s x. s +ℤ f x) (pos n -ℤ pos m) a ≡ pos (n + sum_by (λ x. above (f x)) a) -ℤ pos
+    (m + sum_by (λ x. below (f x)) a)
 int_sum_split f n m [] = λ i. pos (zero_more n i) -ℤ pos (zero_more m i)
   where
     zero_more : (k : ℕ) → k ≡ k + 0
     zero_more k = omega arith
 int_sum_split f n m (x ∷ a) =
-    ap (λ s. fold (λ s y. s +ℤ f y) s a) (one_int n m (f x))
-    ∙ int_sum_split f (n + above (f x)) (m + below (f x)) a
+    ap (λ s. fold (λ s y. s +ℤ f y) s a) (one_int n m (f x)) ∙ int_sum_split f (n + above (f x)) (m + below (f x)) a
     ∙ (λ i. pos (more n (above (f x)) _ _ (sum_by-cons (λ y. above (f y)) x a) i) -ℤ pos (more m (below (f x)) _ _ (sum_by-cons (λ y. below (f y)) x a) i))
   where
     more : (k j r t : ℕ) → t ≡ j + r → k + j + r ≡ k + t
@@ -201,7 +197,5 @@ int_sum_split f n m (x ∷ a) =
 
 pub same_int_sum : (f : Core → ℤ) (a b : List Core) → IsPermutation a b → int_sum_by f a ≡ int_sum_by f b
 same_int_sum f a b h =
-    int_sum_split f 0 0 a
-    ∙ (λ i. pos (0 + sum_by-IsPermutation (λ x. above (f x)) b a (IsPermutation-sym a b h) i) -ℤ pos
-    (0 + sum_by-IsPermutation (λ x. below (f x)) b a (IsPermutation-sym a b h) i))
-    ∙ sym (int_sum_split f 0 0 b)
+    int_sum_split f 0 0 a ∙ (λ i. pos (0 + sum_by-IsPermutation (λ x. above (f x)) b a (IsPermutation-sym a b h) i) -ℤ pos
+    (0 + sum_by-IsPermutation (λ x. below (f x)) b a (IsPermutation-sym a b h) i)) ∙ sym (int_sum_split f 0 0 b)

@@ -47,29 +47,29 @@ abbrev pub answers_by : ℕ → List Event → World → List (Result Happened R
 answers_by keep [] w = []
 answers_by keep (e ∷ es) w = (happens_by keep w e).1 ∷ answers_by keep es (happens_by keep w e).0
 
-same_request : (keep : ℕ) (w : World) (i : ℕ) (r : Request) → InRun w → requested keep w i r ≡ requested_by keep w i r
-same_request keep w i (request.Ask ask) h =
+same_request : (keep : ℕ) {w : World} (i : ℕ) (r : Request) → InRun w → requested keep w i r ≡ requested_by keep w i r
+same_request keep {w} i (request.Ask ask) h =
     λ k. sends packet.Msg w i
     (generating (place keep w i) (site w i) (decision (λ q. (h.invariants.meaning (log_at w i) (is_log w i)).rows q k) (standing_of keep (site w i)) ask))
-same_request keep w i (request.Pass to) h = refl
-same_request keep w i (request.List l) h = refl
+same_request keep i (request.Pass to) h = refl
+same_request keep i (request.List l) h = refl
 
-same_event : (keep : ℕ) (w : World) (e : Event) → InRun w → happens keep w e ≡ happens_by keep w e
-same_event keep w (At i r) h = ap (at_site w i) (same_request keep w i r h)
-same_event keep w (Deliver i k) h = refl
+same_event : (keep : ℕ) {w : World} (e : Event) → InRun w → happens keep w e ≡ happens_by keep w e
+same_event keep {w} (At i r) h = ap (at_site w i) (same_request keep i r h)
+same_event keep (Deliver i k) h = refl
 
 module _ (keep : ℕ) (few : keep ≤ 1000000) where
   pub same_run : (es : List Event) (w : World) → AreEvents (length w.sites) es → Sound w → Room keep w → run keep es w ≡ run_by keep es w
   same_run [] w a s r = refl
   same_run (e ∷ es) w a s r =
       same_run es (happens keep w e).0 (subst (λ n. AreEvents n es) (sym (event_sites keep w e)) a.1) (event_keeps keep few w e a.0 s) (room_event keep w e r)
-      ∙ ap (λ p. run_by keep es p.0) (same_event keep w e (in_run keep w few r s))
+      ∙ ap (λ p. run_by keep es p.0) (same_event keep e (in_run keep few r s))
 
   pub same_answers : (es : List Event) (w : World) → AreEvents (length w.sites) es → Sound w → Room keep w → answers keep es w ≡ answers_by keep es w
   same_answers [] w a s r = refl
   same_answers (e ∷ es) w a s r =
-      let h = in_run keep w few r s in
-      (λ k. (same_event keep w e h k).1 ∷
+      let h = in_run keep few r s in
+      (λ k. (same_event keep e h k).1 ∷
       (same_answers es (happens keep w e).0 (subst (λ n. AreEvents n es) (sym (event_sites keep w e)) a.1) (event_keeps keep few w e a.0 s)
       (room_event keep w e r)
-      ∙ ap (λ p. answers_by keep es p.0) (same_event keep w e h)) k)
+      ∙ ap (λ p. answers_by keep es p.0) (same_event keep e h)) k)

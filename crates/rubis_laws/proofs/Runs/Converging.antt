@@ -43,17 +43,13 @@ reds_most a past ra rp within = ⊎_elim some (λ l. omega arith) (cases_lt 0 (r
         let d = f.2 in omega arith
 
 -- what was ready after some messages is ready after a log that has those, and not it
-pub still_ready : (w : World) (past log : List Message) (m : Message) → Sound w → Released (m ∷ past) → Released log
-    → ((x : Message) → Has x log → Sent w x) → Sent w m → ((x : Message) → Has x past → Has x log) → (Has m log → ⊥) → Ready log m
-still_ready w past log m s r rl all a within new = record {
-  next = ⊎_elim
-      (λ l. let c = counted_most past log r.1 rl within m.stamp.id.site in let e = r.0.next in omega arith)
-      (λ l. absurd (new (there w log m s rl all a l)))
-      (cases_lt (counted m.stamp.id.site log) m.stamp.id.seq);
+pub still_ready : {w : World} (past log : List Message) (m : Message) → Sound w → Released (m ∷ past) → Released log → ((x : Message) → Has x log → Sent w x)
+    → Sent w m → ((x : Message) → Has x past → Has x log) → (Has m log → ⊥) → Ready log m
+still_ready {w} past log m s r rl all a within new = record {
+  next = ⊎_elim (λ l. let c = counted_most past log r.1 rl within m.stamp.id.site in let e = r.0.next in omega arith)
+      (λ l. absurd (new (there w log m s rl all a l))) (cases_lt (counted m.stamp.id.site log) m.stamp.id.seq);
   released = λ j n. let c = counted_most past log r.1 rl within j in let d = r.0.released j n in omega arith;
-  number = λ p. ⊎_elim
-      (λ l. let c = reds_most past log r.1 rl within in let e = r.0.number p in omega arith)
-      (λ l. absurd (new (red_there p l)))
+  number = λ p. ⊎_elim (λ l. let c = reds_most past log r.1 rl within in let e = r.0.number p in omega arith) (λ l. absurd (new (red_there p l)))
       (cases_lt (reds log) m.stamp.red);
 }
   where
@@ -63,8 +59,8 @@ still_ready w past log m s r rl all a within new = record {
         let e = f.2 in
         subst (λ x. Has x log) (s.reds.single f.0 m (all f.0 f.1) a (omega arith) e) f.1
 
-pub ready_forth : (log : List Message) (m : Message) → Ready (reverse log) m → Ready log m
-ready_forth log m r = record {
+pub ready_forth : (log : List Message) {m : Message} → Ready (reverse log) m → Ready log m
+ready_forth log {m} r = record {
   next = r.next ∙ ap (λ k. k + 1) (counted_reverse m.stamp.id.site log);
   released = λ j n. subst (λ k. dep m j ≤ k) (counted_reverse j log) (r.released j n);
   number = λ l. r.number l ∙ ap (λ k. k + 1) (reds_reverse log);
@@ -82,8 +78,7 @@ module _ (w : World) (s : Sound w) (r : AllRest w) (i : ℕ) (These : Message �
       → Has m (reverse (site w i).log)
   one_there past m p a within = ⊎_elim (λ h. has_back m (site w i).log h)
       (λ h. absurd ((rests_at w i r).unready m h
-      (ready_forth (site w i).log m
-      (still_ready w past (reverse (site w i).log) m s p (s.good i).released (s.good i).log_sent (sent m a) within
+      (ready_forth (site w i).log (still_ready past (reverse (site w i).log) m s p (s.good i).released (s.good i).log_sent (sent m a) within
       (λ l. (rests_at w i r).apart.not_logged m h (has_reverse m (site w i).log l))))))
       (has m a)
 
@@ -114,10 +109,10 @@ same_set w i j a b m = (
   λ c. contains (site w i).log m ((a.released m).0 ((b.released m).1 (contained (site w j).log m c))),
 )
 
-pub same_tables : (keep : ℕ) (w : World) (i j : ℕ) → keep ≤ 1000000 → Sound w → Room keep w → HasReleasedAll w i → HasReleasedAll w j
+pub same_tables : (keep : ℕ) {w : World} (i j : ℕ) → keep ≤ 1000000 → Sound w → Room keep w → HasReleasedAll w i → HasReleasedAll w j
     → tables_at w i ≡ tables_at w j
-same_tables keep w i j few s room a b =
-    equal_sets_equal_tables (cores (site w i).log) (cores (site w j).log) (log_checked w i s) (log_checked w j s)
+same_tables keep {w} i j few s room a b =
+    equal_sets_equal_tables (cores (site w i).log) (cores (site w j).log) (log_checked i s) (log_checked j s)
     (short keep w i few room) (short keep w j few room) (same_cores (site w i).log (site w j).log (same_set w i j a b))
 
 -- ---- every run
@@ -131,5 +126,5 @@ all_had_are_released n keep events some few a i has =
 
 pub having_all_converges : HavingAllConverges
 having_all_converges n keep events some few a i j hi hj =
-    same_tables keep (run keep events (start n)) i j few (sound_run n keep events some few a) (room_of n keep events)
+    same_tables keep i j few (sound_run n keep events some few a) (room_of n keep events)
     (all_had_are_released n keep events some few a i hi) (all_had_are_released n keep events some few a j hj)

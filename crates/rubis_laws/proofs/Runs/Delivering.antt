@@ -23,7 +23,7 @@ use Rattle.rubis_model.specs.Convergence.{HasAll, message_count, AreDeliveries, 
 use Rattle.rubis_model.specs.Convergence.{AllCanBeDelivered}
 use Rattle.rubis_model.specs.Laws.{Sent}
 use Rattle.rubis_model.specs.Order.{Released}
-use Rattle.rubis_model.specs.Settle.{Has, Settles, counted, settle}
+use Rattle.rubis_model.specs.Settle.{Has, Settles, counted}
 use Rattle.rubis_model.specs.Settle.Settles.{Rest, Release}
 use Rattle.rubis_model.specs.Site.{Place, Replica, opening_at, settled, not_ours, is_repeat, is_full, after_came, arrival_of, arrived, took}
 use Rattle.rubis_model.specs.Sound.{Sound}
@@ -67,8 +67,7 @@ no_longer {A} (x ∷ xs) ys s within =
 
 pub singly_both : {A : Type 0} (xs ys : List A) → Singly xs → Singly ys → ((x : A) → Has x xs → Has x ys → ⊥) → Singly (xs ++ ys)
 singly_both [] ys s t n = t
-singly_both (x ∷ xs) ys s t n =
-    ((λ h. ⊎_elim (λ k. s.0 k) (λ k. n x (inl refl) k) (has_append x xs ys h)), singly_both xs ys s.1 t (λ y h k. n y (inr h) k))
+singly_both (x ∷ xs) ys s t n = ((λ h. ⊎_elim (λ k. s.0 k) (λ k. n x (inl refl) k) (has_append x xs ys h)), singly_both xs ys s.1 t (λ y h k. n y (inr h) k))
 
 pub singly_released : (past : List Message) → Released past → Singly past
 singly_released [] r = tt
@@ -107,11 +106,11 @@ number_of x sent h = let k = get_of x sent h in (suc k.0, k.1)
 abbrev pub Had : Replica → Message → Type 0
 Had s m = Has m s.log ⊎ Has m s.waiting
 
-settles_had : (m : Message) (log waiting log' waiting' : List Message) → Settles log waiting log' waiting' → Has m log ⊎ Has m waiting
+settles_had : (m : Message) {log waiting log' waiting' : List Message} → Settles log waiting log' waiting' → Has m log ⊎ Has m waiting
     → Has m log' ⊎ Has m waiting'
-settles_had m _ _ _ _ (Rest log waiting n) h = h
-settles_had m _ _ _ _ (Release log front back log' waiting' u n r s) h =
-    settles_had m (log ++ u ∷ []) (front ++ back) log' waiting' s (⊎_elim (λ l. inl (has_left m log (u ∷ []) l)) waits h)
+settles_had m (Rest log waiting n) h = h
+settles_had m (Release log front back log' waiting' u n r s) h =
+    settles_had m s (⊎_elim (λ l. inl (has_left m log (u ∷ []) l)) waits h)
   where
     waits : Has m (front ++ u ∷ back) → Has m (log ++ u ∷ []) ⊎ Has m (front ++ back)
     waits k = ⊎_elim (λ l. inr (has_left m front back l))
@@ -119,11 +118,10 @@ settles_had m _ _ _ _ (Release log front back log' waiting' u n r s) h =
         (has_append m front (u ∷ back) k)
 
 pub settled_had : (s : Replica) (m : Message) → Had s m → Had (settled s) m
-settled_had s m h = settles_had m s.log s.waiting (settle (length s.waiting) s.log s.waiting).0 (settle (length s.waiting) s.log s.waiting).1
-    (settle_settles (length s.waiting) s.log s.waiting (omega arith)) h
+settled_had s m h = settles_had m (settle_settles (length s.waiting) s.log s.waiting (omega arith)) h
 
-pub came_had : (s : Replica) (m u : Message) → Had s u ⊎ (u ≡ m) → Had (after_came s m) u
-came_had s m u h = settled_had (record s { waiting = s.waiting ++ m ∷ [] }) u
+pub came_had : (s : Replica) {m u : Message} → Had s u ⊎ (u ≡ m) → Had (after_came s m) u
+came_had s {m} {u} h = settled_had (record s { waiting = s.waiting ++ m ∷ [] }) u
     (⊎_elim (λ k. ⊎_elim (λ l. inl l) (λ q. inr (has_left u s.waiting (m ∷ []) q)) k)
     (λ e. inr (subst (λ x. Has x (s.waiting ++ m ∷ [])) (sym e) (has_last m s.waiting))) h)
 
@@ -132,8 +130,7 @@ pub arrived_keeps : (p : Place) (s : Replica) (m u : Message) → Had s u → Ha
 arrived_keeps p s m u h =
     cond_both (not_ours p s m) (s, Err NotOurs) _ (λ (q : Replica × Result Arrival Refusal). Had q.0 u) (λ _. h)
     (λ _. cond_both (is_repeat s m) (s, Ok arrival.Repeat) _ (λ (q : Replica × Result Arrival Refusal). Had q.0 u) (λ _. h)
-    (λ _. cond_both (is_full p.keep s) (s, Err Full) _ (λ (q : Replica × Result Arrival Refusal). Had q.0 u) (λ _. h)
-    (λ _. came_had s m u (inl h))))
+    (λ _. cond_both (is_full p.keep s) (s, Err Full) _ (λ (q : Replica × Result Arrival Refusal). Had q.0 u) (λ _. h) (λ _. came_had s (inl h))))
 
 pub took_keeps : (p : Place) (s : Replica) (t : Token) (u : Message) → Had s u → Had (took p s t).0 u
 took_keeps p s t u h =
@@ -163,13 +160,12 @@ coming_sent keep w i (Some (packet.Msg m)) = refl
 coming_sent keep w i (Some (packet.Token t)) = refl
 
 pub deliver_sent : (keep : ℕ) (w : World) (i k : ℕ) → (happens keep w (Deliver i k)).0.sent ≡ w.sent
-deliver_sent keep w i k =
-    at_one (λ v. v.sent ≡ w.sent) w i (coming keep w i (packet_at w.sent k)) refl (λ _. coming_sent keep w i (packet_at w.sent k))
+deliver_sent keep w i k = at_one (λ v. v.sent ≡ w.sent) w i (coming keep w i (packet_at w.sent k)) refl (λ _. coming_sent keep w i (packet_at w.sent k))
 
 -- a site that has only messages of a list, and not m of it, has fewer
-pub fewer_than : (v : World) (i : ℕ) (m : Message) (xs : List Message) → Sound v → AllRest v → ((u : Message) → Had (site v i) u → Has u xs) → Has m xs
+pub fewer_than : {v : World} (i : ℕ) (m : Message) (xs : List Message) → Sound v → AllRest v → ((u : Message) → Had (site v i) u → Has u xs) → Has m xs
     → is_repeat (site v i) m ≡ false → length (site v i).log + length (site v i).waiting < length xs
-fewer_than v i m xs s r within h e =
+fewer_than {v} i m xs s r within h e =
     let q = or_parts (list_any (λ u. same_id m.stamp.id u.stamp.id) (site v i).log) (list_any (λ u. same_id m.stamp.id u.stamp.id) (site v i).waiting) e in
     let new : Has m (reverse (site v i).log ++ (site v i).waiting) →
     ⊥ = λ h. ⊎_elim (λ k. unlisted m (site v i).log q.0 (has_reverse m (site v i).log k)) (λ k. unlisted m (site v i).waiting q.1 k)
@@ -187,11 +183,9 @@ fewer_than v i m xs s r within h e =
         (has_append x (reverse (site v i).log) (site v i).waiting k)
 
 -- ---- what is delivered is had
-pub by_id : (m : Message) (xs : List Message) → list_any (λ u. same_id m.stamp.id u.stamp.id) xs ≡ true
-    → (u : Message) × (Has u xs) × (m.stamp.id ≡ u.stamp.id)
+pub by_id : (m : Message) (xs : List Message) → list_any (λ u. same_id m.stamp.id u.stamp.id) xs ≡ true → (u : Message) × (Has u xs) × (m.stamp.id ≡ u.stamp.id)
 by_id m [] e = absurd (cc)
-by_id m (x ∷ xs) e = ⊎_elim (λ k. (x, inl refl, (Decides-same_id m.stamp.id x.stamp.id).0 k))
-    (λ k. let f = by_id m xs k in (f.0, inr f.1, f.2))
+by_id m (x ∷ xs) e = ⊎_elim (λ k. (x, inl refl, (Decides-same_id m.stamp.id x.stamp.id).0 k)) (λ k. let f = by_id m xs k in (f.0, inr f.1, f.2))
     (or_cases (same_id m.stamp.id x.stamp.id) (list_any (λ u. same_id m.stamp.id u.stamp.id) xs) e)
 
 module _ (w : World) (s : Sound w) (r : AllRest w) (i : ℕ) (m : Message) (a : Sent w m) where
@@ -207,7 +201,7 @@ module _ (w : World) (s : Sound w) (r : AllRest w) (i : ℕ) (m : Message) (a : 
       omega arith
 
   same_message : (u : Message) → Sent w u → m.stamp.id ≡ u.stamp.id → u ≡ m
-  same_message u b e = sym (unique w m u s a b (ap (λ x. x.site) e) (ap (λ x. x.seq) e))
+  same_message u b e = sym (unique m u s a b (ap (λ x. x.site) e) (ap (λ x. x.seq) e))
 
   pub repeat_had : is_repeat (site w i) m ≡ true → Had (site w i) m
   repeat_had e = ⊎_elim
@@ -220,7 +214,7 @@ module _ (w : World) (s : Sound w) (r : AllRest w) (i : ℕ) (m : Message) (a : 
   pub fewer_among : (all : List Message) → ((x : Message) → Sent w x → Has x all) → is_repeat (site w i) m ≡ false
       → length (site w i).log + length (site w i).waiting < length all
   fewer_among all has e =
-      fewer_than w i m all s r (λ u h. has u (⊎_elim (λ k. (s.good i).log_sent u (has_back u (site w i).log k)) ((s.good i).waiting_sent u) h)) (has m a) e
+      fewer_than i m all s r (λ u h. has u (⊎_elim (λ k. (s.good i).log_sent u (has_back u (site w i).log k)) ((s.good i).waiting_sent u) h)) (has m a) e
 
   pub fewer : is_repeat (site w i) m ≡ false → length (site w i).log + length (site w i).waiting < message_count w.sent
   fewer e = subst (λ n. length (site w i).log + length (site w i).waiting < n) (messages_length w.sent)
@@ -234,7 +228,7 @@ module _ (w : World) (s : Sound w) (r : AllRest w) (i : ℕ) (m : Message) (a : 
       (λ _. cond_both (is_repeat (site w i) m) (site w i, Ok arrival.Repeat) _ (λ (p : Replica × Result Arrival Refusal). Had p.0 m) (λ e. repeat_had e)
       (λ new. cond_both (is_full keep (site w i)) (site w i, Err Full) _ (λ (p : Replica × Result Arrival Refusal). Had p.0 m)
       (λ e. absurd (let k = leb-true keep (length (site w i).log + length (site w i).waiting) e in let f = fewer_among all has new in omega arith))
-      (λ _. came_had (site w i) m m (inr refl))))
+      (λ _. came_had (site w i) (inr refl))))
 
   pub arrived_had : (keep : ℕ) → message_count w.sent ≤ keep → Had (arrived (place keep w i) (site w i) m).0 m
   arrived_had keep room = had_among keep (messages_of w.sent) (λ x h. message_in x w.sent h) (subst (λ n. n ≤ keep) (sym (messages_length w.sent)) room)
@@ -254,14 +248,14 @@ module _ (w : World) (s : Sound w) (r : AllRest w) (i : ℕ) (m : Message) (a : 
 
 -- ---- after any deliveries
 pub delivered : (keep : ℕ) → keep ≤ 1000000 → (es : List Event) (w : World) (i k : ℕ) (m : Message) → AreDeliveries es → Sound w → AllRest w
-    → message_count w.sent ≤ keep → i < length w.sites → packet_at w.sent k ≡ Some (packet.Msg m) → Sent w m
-    → Has (Deliver i k) es ⊎ Had (site w i) m → Had (site (run keep es w) i) m
+    → message_count w.sent ≤ keep → i < length w.sites → packet_at w.sent k ≡ Some (packet.Msg m) → Sent w m → Has (Deliver i k) es ⊎ Had (site w i) m
+    → Had (site (run keep es w) i) m
 delivered keep few [] w i k m d s r room l e a (inl h) = absurd h
 delivered keep few [] w i k m d s r room l e a (inr h) = h
 delivered keep few (At j q ∷ es) w i k m d s r room l e a h = absurd d
 delivered keep few (Deliver j q ∷ es) w i k m d s r room l e a h =
     let same = deliver_sent keep w j q in
-    delivered keep few es (happens keep w (Deliver j q)).0 i k m d (event_keeps keep few w (Deliver j q) tt s) (rest_event keep w (Deliver j q) s r)
+    delivered keep few es (happens keep w (Deliver j q)).0 i k m d (event_keeps keep few w (Deliver j q) tt s) (rest_event keep (Deliver j q) s r)
     (subst (λ ps. message_count ps ≤ keep) (sym same) room) (subst (λ n. i < n) (sym (event_sites keep w (Deliver j q))) l)
     (subst (λ ps. packet_at ps k ≡ Some (packet.Msg m)) (sym same) e) (subst (λ ps. Has (packet.Msg m) ps) (sym same) a)
     (⊎_elim (λ c. ⊎_elim (λ p. inr (subst (λ x. Had (site (happens keep w x).0 i) m) p (delivered_now w s r i m a keep k room l e))) (λ p. inl p) c)
@@ -302,7 +296,7 @@ delivering_all_converges n keep events deliveries some few a d room i j li lj di
     (rests_run n keep events some few a) in
     let hi = released_all v s r i (delivered_are_had n keep events deliveries some few a d room i li di) in
     let hj = released_all v s r j (delivered_are_had n keep events deliveries some few a d room j lj dj) in
-    (hi, hj, same_tables keep v i j few s (room_run keep deliveries w (room_of n keep events)) hi hj)
+    (hi, hj, same_tables keep i j few s (room_run keep deliveries w (room_of n keep events)) hi hj)
 
 -- ---- none is refused
 not_refused : (a b c : Bool) (s t : Replica) (n : ℕ) (r : Refusal) → (a ≡ true → ⊥) → (b ≡ false → c ≡ true → ⊥)
@@ -312,11 +306,10 @@ not_refused false true c s t n r h k e = absurd cc
 not_refused false false true s t n r h k e = k refl refl
 not_refused false false false s t n r h k e = absurd cc
 
-none_refused : (keep : ℕ) (w : World) (i : ℕ) (m : Message) (r : Refusal) → Sound w → AllRest w → message_count w.sent ≤ keep → Sent w m
+none_refused : (keep : ℕ) {w : World} (i : ℕ) (m : Message) (r : Refusal) → Sound w → AllRest w → message_count w.sent ≤ keep → Sent w m
     → (arrived (place keep w i) (site w i) m).1 ≢ Err r
-none_refused keep w i m x s r room a = not_refused (not_ours (place keep w i) (site w i) m) (is_repeat (site w i) m) (is_full keep (site w i)) (site w i)
-    (after_came (site w i) m) (length (after_came (site w i) m).log - length (site w i).log) x
-    (is_ours w s r i m a keep)
+none_refused keep {w} i m x s r room a = not_refused (not_ours (place keep w i) (site w i) m) (is_repeat (site w i) m) (is_full keep (site w i)) (site w i)
+    (after_came (site w i) m) (length (after_came (site w i) m).log - length (site w i).log) x (is_ours w s r i m a keep)
     (λ new e. let k = leb-true keep (length (site w i).log + length (site w i).waiting) e in let f = fewer w s r i m a new in absurd (omega arith))
 
 pub no_message_is_refused : NoMessageIsRefused
@@ -327,7 +320,7 @@ no_message_is_refused n keep events deliveries some few a d room i m x b =
     let s : Sound v = run_keeps keep few deliveries w (are_events (length w.sites) deliveries d) (sound_run n keep events some few a) in
     let r : AllRest v = rest_run keep few deliveries w (are_events (length w.sites) deliveries d) (sound_run n keep events some few a)
     (rests_run n keep events some few a) in
-    none_refused keep v i m x s r (subst (λ ps. message_count ps ≤ keep) (sym same) room) (subst (λ ps. Has (packet.Msg m) ps) (sym same) b)
+    none_refused keep i m x s r (subst (λ ps. message_count ps ≤ keep) (sym same) room) (subst (λ ps. Has (packet.Msg m) ps) (sym same) b)
 
 -- ---- every packet to every site
 each_to : ℕ → ℕ → List Event
@@ -359,23 +352,21 @@ each_has i (suc c) k l = ⊎_elim (λ q. inr (each_has i c k q)) (λ q. inl (ap 
 to_each_has : (n count i k : ℕ) → i < n → k < count → Has (Deliver i (suc k)) (to_each n count)
 unfolding to_each
 to_each_has zero count i k l h = absurd (omega arith)
-to_each_has (suc j) count i k l h = ⊎_elim
-    (λ q. has_right (Deliver i (suc k)) (each_to j count) (to_each j count) (to_each_has j count i k q h))
+to_each_has (suc j) count i k l h = ⊎_elim (λ q. has_right (Deliver i (suc k)) (each_to j count) (to_each j count) (to_each_has j count i k q h))
     (λ q. has_left (Deliver i (suc k)) (each_to j count) (to_each j count)
-    (subst (λ x. Has (Deliver i (suc k)) (each_to x count)) (same i j l q) (each_has i count k h)))
-    (cases_lt i j)
+    (subst (λ x. Has (Deliver i (suc k)) (each_to x count)) (same i j l q) (each_has i count k h))) (cases_lt i j)
   where
     same : (k c : ℕ) → k < suc c → c ≤ k → k ≡ c
     same k c l q = omega arith
 
-get_below : {A : Type 0} (xs : List A) (k : ℕ) (x : A) → slice_get xs k ≡ Some x → k < length xs
-get_below [] k x e = absurd (cc)
-get_below (y ∷ xs) zero x e = omega arith
-get_below (y ∷ xs) (suc k) x e = let l = get_below xs k x e in omega arith
+get_below : {A : Type 0} (xs : List A) (k : ℕ) {x : A} → slice_get xs k ≡ Some x → k < length xs
+get_below [] k e = absurd (cc)
+get_below (y ∷ xs) zero e = omega arith
+get_below (y ∷ xs) (suc k) e = let l = get_below xs k e in omega arith
 
 pub all_can_be_delivered : AllCanBeDelivered
 all_can_be_delivered w = (to_each (length w.sites) (length w.sent), to_each_are (length w.sites) (length w.sent), λ i l k m e. at i l k m e)
   where
     at : (i : ℕ) → i < length w.sites → DeliversAll w i (to_each (length w.sites) (length w.sent))
     at i l zero m e = absurd (cc)
-    at i l (suc k) m e = to_each_has (length w.sites) (length w.sent) i k l (get_below w.sent k (packet.Msg m) e)
+    at i l (suc k) m e = to_each_has (length w.sites) (length w.sent) i k l (get_below w.sent k e)

@@ -41,11 +41,11 @@ module _ (w : World) (s : Sound w) where
     ids = one_each_back (foundation w v s b).past (foundation w v s b).released;
     fits = (foundation w v s b).decided.fits;
     reds =
-        λ u a e f q. has_back u (foundation w v s b).past (((foundation w v s b).exactly u).1 (a, s.reds.ordered u v a b (red_positive w u s a e) q));
+        λ u a e f q. has_back u (foundation w v s b).past (((foundation w v s b).exactly u).1 (a, s.reds.ordered u v a b (red_positive u s a e) q));
   }
 
   pub single : (u v : Message) → Sent w u → Sent w v → is_red u.shadow ≡ true → is_red v.shadow ≡ true → u.stamp.red ≡ v.stamp.red → u ≡ v
-  single u v a b e f q = s.reds.single u v a b (red_positive w u s a e) q
+  single u v a b e f q = s.reds.single u v a b (red_positive u s a e) q
 
   pub refers : (v : Message) → Sent w v → RefersToPast (Sent w) v v.shadow
   refers v b =
@@ -62,11 +62,11 @@ log_at w i = record { site = i; messages = (site w i).log; rows = None }
 pub is_log : (w : World) (i : ℕ) → IsLogOf w (log_at w i)
 is_log w i = record { messages = refl; rows = tt }
 
-pub in_run : (keep : ℕ) (w : World) → keep ≤ 1000000 → Room keep w → Sound w → InRun w
-in_run keep w few room s = record { in_order = in_order w s; invariants = invariants; agree = same_tables }
+pub in_run : (keep : ℕ) {w : World} → keep ≤ 1000000 → Room keep w → Sound w → InRun w
+in_run keep {w} few room s = record { in_order = in_order w s; invariants = invariants; agree = same_tables }
   where
     at : (i : ℕ) → Checked (cores (site w i).log)
-    at i = log_checked w i s
+    at i = log_checked i s
 
     means : (i : ℕ) → IsMeaning (cores (site w i).log) (fold_of (cores (site w i).log)).tables × ((fold_of (cores (site w i).log)).misfits ≡ [])
     means i = fold_is_meaning (cores (site w i).log) (at i) (short keep w i few room)
@@ -84,7 +84,7 @@ in_run keep w few room s = record { in_order = in_order w s; invariants = invari
       refers = refers w s;
       holds = λ log of. subst (λ l. Holds (cores l)) (sym of.messages) (checked_holds (cores (site w log.site).log) (at log.site));
       stock = λ log of j n r e f. subst (λ l. r.stock + r.sold ≡ supply (cores l) j n) (sym of.messages)
-          (stock_left (cores (site w log.site).log) j n r (checked_holds (cores (site w log.site).log) (at log.site))
+          (stock_left j r (checked_holds (cores (site w log.site).log) (at log.site))
           (ap (λ l. item_at j (cores l)) (sym of.messages) ∙ e)
           (sym ((means log.site).0.rows (key.Item j)) ∙ ap (λ l. rows_at l (key.Item j)) (sym of.messages) ∙ f));
       closed_once = one_close (Sent w) (ground w s) (single w s);
@@ -95,14 +95,13 @@ in_run keep w few room s = record { in_order = in_order w s; invariants = invari
 
 -- ---- every run is sound
 pub sound_run : (n keep : ℕ) (events : List Event) → 1 ≤ n → keep ≤ 1000000 → AreEvents n events → Sound (run keep events (start n))
-sound_run n keep events some few a =
-    run_keeps keep few events (start n) (subst (λ k. AreEvents k events) (sym (start_sites n)) a) (start_sound n some)
+sound_run n keep events some few a = run_keeps keep few events (start n) (subst (λ k. AreEvents k events) (sym (start_sites n)) a) (start_sound n some)
 
 pub room_of : (n keep : ℕ) (events : List Event) → Room keep (run keep events (start n))
 room_of n keep events = room_run keep events (start n) (room_start keep n)
 
 pub every_run : RunsKeepInvariants
-every_run n keep events some few a = in_run keep (run keep events (start n)) few (room_of n keep events) (sound_run n keep events some few a)
+every_run n keep events some few a = in_run keep few (room_of n keep events) (sound_run n keep events some few a)
 
 pub every_order : RunsAreInOrder
 every_order n keep events some few a = in_order (run keep events (start n)) (sound_run n keep events some few a)
@@ -112,7 +111,7 @@ equal_tables n keep events some few a m kept later more less b i j same =
     let w = run keep events (start n) in
     let v = run kept later (start m) in
     equal_sets_equal_tables (cores (site w i).log) (cores (site v j).log)
-    (log_checked w i (sound_run n keep events some few a)) (log_checked v j (sound_run m kept later more less b))
+    (log_checked i (sound_run n keep events some few a)) (log_checked j (sound_run m kept later more less b))
     (short keep w i few (room_of n keep events)) (short kept v j less (room_of m kept later)) (same_cores (site w i).log (site v j).log same)
 
 pub every_packet : RunsSendDeliverables

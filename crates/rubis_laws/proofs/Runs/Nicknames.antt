@@ -39,19 +39,18 @@ numbered_push n [] m a e = (e ∙ omega arith, tt)
 numbered_push n (x ∷ ms) m a e = (a.0, numbered_push (n + 1) ms m a.1 (e ∙ omega arith))
 
 -- two such lists of one length are one, where a red number is one message's
-same_numbered : (w : World) (s : Sound w) (n : ℕ) (xs ys : List Message) → ((m : Message) → Has m xs → Sent w m) → ((m : Message) → Has m ys → Sent w m)
+same_numbered : {w : World} (s : Sound w) (n : ℕ) (xs ys : List Message) → ((m : Message) → Has m xs → Sent w m) → ((m : Message) → Has m ys → Sent w m)
     → AreNumberedFrom n xs → AreNumberedFrom n ys → length xs ≡ length ys → xs ≡ ys
-same_numbered w s n [] [] a b p q e = refl
-same_numbered w s n [] (y ∷ ys) a b p q e = absurd (omega (arith, e))
-same_numbered w s n (x ∷ xs) [] a b p q e = absurd (omega (arith, e))
-same_numbered w s n (x ∷ xs) (y ∷ ys) a b p q e =
+same_numbered s n [] [] a b p q e = refl
+same_numbered s n [] (y ∷ ys) a b p q e = absurd (omega (arith, e))
+same_numbered s n (x ∷ xs) [] a b p q e = absurd (omega (arith, e))
+same_numbered s n (x ∷ xs) (y ∷ ys) a b p q e =
     let one : x ≡ y = s.reds.single x y (a x (inl refl)) (b y (inl refl)) (omega (arith, p.0)) (p.0 ∙ sym q.0) in
-    let rest = same_numbered w s (n + 1) xs ys (λ m h. a m (inr h)) (λ m h. b m (inr h)) p.1 q.1 (omega (arith, e)) in
+    let rest = same_numbered s (n + 1) xs ys (λ m h. a m (inr h)) (λ m h. b m (inr h)) p.1 q.1 (omega (arith, e)) in
     λ i. one i ∷ rest i
 
 -- the last of them
-last_numbered : (n : ℕ) (x : Message) (xs : List Message) → AreNumberedFrom n (x ∷ xs)
-    → (m : Message) × (Has m (x ∷ xs)) × (m.stamp.red ≡ n + length (x ∷ xs))
+last_numbered : (n : ℕ) (x : Message) (xs : List Message) → AreNumberedFrom n (x ∷ xs) → (m : Message) × (Has m (x ∷ xs)) × (m.stamp.red ≡ n + length (x ∷ xs))
 last_numbered n x [] a = (x, inl refl, a.0)
 last_numbered n x (y ∷ ys) a = let k = last_numbered (n + 1) y ys a.1 in (k.0, inr k.1, k.2 ∙ omega arith)
 
@@ -113,35 +112,35 @@ record SaySame (u : Id) (a b : List Core) : Type 0 where
   given : user_at u a ≡ user_at u b
   renamed : last_rename u a ≡ last_rename u b
 
-say_push : (u : Id) (a b : List Core) (m : Core) → SaySame u a b → SaySame u (a ++ m ∷ []) (b ++ m ∷ [])
-say_push u a b m s = record {
+say_push : {u : Id} {a b : List Core} (m : Core) → SaySame u a b → SaySame u (a ++ m ∷ []) (b ++ m ∷ [])
+say_push {u} {a} {b} m s = record {
   given = at_id_push (λ n. as_user n.shadow) u a m ∙ ap (λ o. option_or o (when (same_id u m.id) (as_user m.shadow))) s.given
       ∙ sym (at_id_push (λ n. as_user n.shadow) u b m);
   renamed = choose_push later (λ n. renames u n.shadow) a m ∙ ap (λ o. choice later (λ n. renames u n.shadow) o m) s.renamed
       ∙ sym (choose_push later (λ n. renames u n.shadow) b m);
 }
 
-say_skip : (u : Id) (a b : List Core) (m : Core) → gives_nick m.shadow ≡ false → SaySame u a b → SaySame u (a ++ m ∷ []) b
-say_skip u a b m e s = record {
+say_skip : {u : Id} {a b : List Core} (m : Core) → gives_nick m.shadow ≡ false → SaySame u a b → SaySame u (a ++ m ∷ []) b
+say_skip {u} {a} m e s = record {
   given = at_id_push_not (λ n. as_user n.shadow) u a m (no_user_in m.shadow e) ∙ s.given;
   renamed = last_push_not u a m (no_rename_in u m.shadow e) ∙ s.renamed;
 }
 
-reds_say : (w : World) (s : Sound w) (u : Id) (past : List Message) → ((m : Message) → Has m past → Sent w m)
+reds_say : {w : World} (s : Sound w) (u : Id) (past : List Message) → ((m : Message) → Has m past → Sent w m)
     → SaySame u (cores (reverse past)) (cores (reverse (red_only past)))
 unfolding red_only
-reds_say w s u [] all = record { given = refl; renamed = refl }
-reds_say w s u (m ∷ past) all = at (nat_lt 0 m.stamp.red) refl (reds_say w s u past (λ x h. all x (inr h)))
+reds_say s u [] all = record { given = refl; renamed = refl }
+reds_say {w} s u (m ∷ past) all = at (nat_lt 0 m.stamp.red) refl (reds_say s u past (λ x h. all x (inr h)))
   where
     at : (b : Bool) → nat_lt 0 m.stamp.red ≡ b → SaySame u (cores (reverse past)) (cores (reverse (red_only past)))
         → SaySame u (cores (reverse (m ∷ past))) (cores (reverse (cond b (m ∷ red_only past) (red_only past))))
     at true e rest =
         subst (λ l. SaySame u (cores (reverse (m ∷ past))) l) (sym (back_push m (red_only past)))
         (subst (λ l. SaySame u l (cores (reverse (red_only past)) ++ core m ∷ [])) (sym (back_push m past))
-        (say_push u (cores (reverse past)) (cores (reverse (red_only past))) (core m) rest))
+        (say_push (core m) rest))
     at false e rest =
         subst (λ l. SaySame u l (cores (reverse (red_only past)))) (sym (back_push m past))
-        (say_skip u (cores (reverse past)) (cores (reverse (red_only past))) (core m) (blue_gives_none m.shadow (colour w m s (all m (inl refl)) ∙ e)) rest)
+        (say_skip (core m) (blue_gives_none m.shadow (colour w m s (all m (inl refl)) ∙ e)) rest)
 
 -- ---- the law
 
@@ -154,7 +153,7 @@ released_rest (m ∷ front) rest r = released_rest front rest r.1
 
 module _ (w : World) (s : Sound w) where
   unique_back : (past : List Message) → Released past → ((m : Message) → Has m past → Sent w m) → Unique (λ u. nick_at u (cores (reverse past)))
-  unique_back past r all = (checked_holds (cores (reverse past)) (checked_back w past s r all)).nicks
+  unique_back past r all = (checked_holds (cores (reverse past)) (checked_back past s r all)).nicks
 
   -- of the log of the site that made m, up to m
   unique_upto : (ms front back : List Message) (m : Message) → Released (front ++ m ∷ back) → ((x : Message) → Has x (front ++ m ∷ back) → Sent w x)
@@ -167,9 +166,9 @@ module _ (w : World) (s : Sound w) where
       let counts : reds past ≡ reds back + 1 = ap (λ b. reds back + cond b 1 0) red in
       let many : length ms ≡ length (reverse (red_only past)) =
       omega (arith, e, rest.0.number (omega (arith, e, some)), counts, only_many past, length-reverse (red_only past)) in
-      let same : ms ≡ reverse (red_only past) = same_numbered w s 0 ms (reverse (red_only past)) first.sent
+      let same : ms ≡ reverse (red_only past) = same_numbered s 0 ms (reverse (red_only past)) first.sent
       (λ x h. within x (only_within past x (has_reverse x (red_only past) h))) first.numbered (only_numbered past rest) many in
-      let as_there : (z : Id) → nick_at z (cores ms) ≡ nick_at z (cores (reverse past)) = λ z. let k = reds_say w s z past within in
+      let as_there : (z : Id) → nick_at z (cores ms) ≡ nick_at z (cores (reverse past)) = λ z. let k = reds_say s z past within in
       ap (λ l. nick_at z (cores l)) same ∙ (λ i. option_map (nick_after (sym k.renamed i)) (sym k.given i)) in
       unique_back past rest within n u v (sym (as_there u) ∙ p) (sym (as_there v) ∙ q)
 

@@ -40,31 +40,29 @@ after_some : {A B : Type 0} (P : B → Type 0) (o : Option (A × List (List ℕ)
 after_some P None next y rest k e = absurd cc
 after_some P (Some p) next y rest k e = k p.0 p.1 e
 
-none_left : {A : Type 0} (P : A → Type 0) (y x : A) (left : List (List ℕ)) → P y → no_more (Some (y, left)) ≡ Some x → P x
-none_left P y x [] h e = subst P (same_Some y x e) h
-none_left P y x (field ∷ rest) h e = absurd cc
+none_left : {A : Type 0} (P : A → Type 0) (y : A) {x : A} (left : List (List ℕ)) → P y → no_more (Some (y, left)) ≡ Some x → P x
+none_left P y {x} [] h e = subst P (same_Some y x e) h
+none_left P y (field ∷ rest) h e = absurd cc
 
-read_whole : {A : Type 0} (P : A → Type 0) (o : Option (A × List (List ℕ))) (x : A) → ((y : A) (rest : List (List ℕ)) → o ≡ Some (y, rest) → P y)
+read_whole : {A : Type 0} (P : A → Type 0) (o : Option (A × List (List ℕ))) {x : A} → ((y : A) (rest : List (List ℕ)) → o ≡ Some (y, rest) → P y)
     → no_more o ≡ Some x → P x
-read_whole P None x k e = absurd cc
-read_whole P (Some p) x k e = none_left P p.0 x p.1 (k p.0 p.1 refl) e
+read_whole P None k e = absurd cc
+read_whole P (Some p) k e = none_left P p.0 p.1 (k p.0 p.1 refl) e
 
 delivery_limits : (sites : ℕ) (fields rest : List (List ℕ)) (x : WorldInput) → take_delivery sites fields ≡ Some (x, rest) → IsWorldInput sites x
 unfolding take_delivery
 delivery_limits sites fields rest x e =
     let P = IsWorldInput sites in
-    after_some P (take_word (codes "deliver") fields) _ x rest
-    (λ _ a f. after_some P (take_site sites a) _ x rest
-    (λ i b g. after_some P (take_number RECORDS_MAX b) _ x rest
-    (λ k c h. given (λ y _. P y) (Delivered i k) x c rest h tt) g) f) e
+    after_some P (take_word (codes "deliver") fields) _ x rest (λ _ a f. after_some P (take_site sites a) _ x rest
+    (λ i b g. after_some P (take_number RECORDS_MAX b) _ x rest (λ k c h. given (λ y _. P y) (Delivered i k) x c rest h tt) g) f) e
 
 audit_limits : (sites : ℕ) (fields rest : List (List ℕ)) (x : WorldInput) → take_audit fields ≡ Some (x, rest) → IsWorldInput sites x
 unfolding take_audit
 audit_limits sites fields rest x e =
     after_some (IsWorldInput sites) (take_word (codes "audit") fields) _ x rest (λ _ a f. given (λ y _. IsWorldInput sites y) Audit x a rest f tt) e
 
-request_limits : (sites : ℕ) → sites < 2 ^ 8 → (i : ℕ) (fields : List (List ℕ)) (o : Option Request) → request_of sites fields ≡ o →
-    IsWorldInput sites (Asked i o)
+request_limits : (sites : ℕ) → sites < 2 ^ 8 → (i : ℕ) (fields : List (List ℕ)) (o : Option Request) → request_of sites fields ≡ o
+    → IsWorldInput sites (Asked i o)
 request_limits sites few i fields None e = tt
 request_limits sites few i fields (Some r) e = ((request_is sites few fields r).0 e).0
 
@@ -99,8 +97,8 @@ input_limits sites few fields =
     let P = IsWorldInput sites in
     first_limits sites (request_at sites fields) (whole (take_delivery sites) fields) (whole take_audit fields)
     (if_found P (request_at sites fields) (at_limits sites few fields))
-    (if_found P (whole (take_delivery sites) fields) (λ x. read_whole P (take_delivery sites fields) x (λ y rest. delivery_limits sites fields rest y)))
-    (if_found P (whole take_audit fields) (λ x. read_whole P (take_audit fields) x (λ y rest. audit_limits sites fields rest y)))
+    (if_found P (whole (take_delivery sites) fields) (λ x. read_whole P (take_delivery sites fields) (λ y rest. delivery_limits sites fields rest y)))
+    (if_found P (whole take_audit fields) (λ x. read_whole P (take_audit fields) (λ y rest. audit_limits sites fields rest y)))
 
 event_limits : (sites : ℕ) (input : WorldInput) (es : List Event) → IsWorldInput sites input → AreEvents sites es → AreEvents sites (input_events input ++ es)
 event_limits sites (Asked i (Some (request.Ask ask))) es h a = (h.0, a)
@@ -136,8 +134,7 @@ run_is keep (fields ∷ rest) w n = step_is keep w n rest (world_input (length w
 pub records_run : RecordsAreARun
 records_run sites keep records few = (
   are_events sites (omega (arith, few)) records,
-  run_is keep records (start sites) 1
-      ∙ ap (λ k. run keep (record_events k records) (start sites)) (start_sites sites),
+  run_is keep records (start sites) 1 ∙ ap (λ k. run keep (record_events k records) (start sites)) (start_sites sites),
 )
 
 pub records_keep : RecordsKeepInvariants
@@ -152,8 +149,7 @@ unfolding world_answers
 answers_more keep [] more w n = ap (λ k. world_answers keep w k more) (omega arith)
 answers_more keep (fields ∷ rest) more w n =
     let step = world_step keep w n (world_input (length w.sites) fields) in
-    ap (λ rows. step.1 ++ rows) (answers_more keep rest more step.0 (n + 1))
-    ∙ sym (append_assoc step.1 (world_answers keep step.0 (n + 1) rest) _)
+    ap (λ rows. step.1 ++ rows) (answers_more keep rest more step.0 (n + 1)) ∙ sym (append_assoc step.1 (world_answers keep step.0 (n + 1) rest) _)
     ∙ ap (λ k. (step.1 ++ world_answers keep step.0 (n + 1) rest) ++ world_answers keep (world_after keep step.0 (n + 1) rest) k more) (omega arith)
 
 after_sites : (keep : ℕ) (es : List Event) (w : World) → length (run keep es w).sites ≡ length w.sites
@@ -164,19 +160,17 @@ world_sites : (keep : ℕ) (records : List (List (List ℕ))) (sites : ℕ) → 
 world_sites keep records sites few =
     ap (λ (v : World). length v.sites) (records_run sites keep records few).1 ∙ after_sites keep (record_events sites records) (start sites) ∙ start_sites sites
 
-told_last : (keep : ℕ) (w : World) (n : ℕ) (fields : List (List ℕ)) → world_answers keep w n (fields ∷ [])
-    ≡ (world_step keep w n (world_input (length w.sites) fields)).1
+told_last : (keep : ℕ) (w : World) (n : ℕ) (fields : List (List ℕ)) → world_answers keep w n (fields ∷ []) ≡
+    (world_step keep w n (world_input (length w.sites) fields)).1
 unfolding world_answers
 told_last keep w n fields = append-nil _
 
 one_more : (sites keep : ℕ) (before : List (List (List ℕ))) (fields : List (List ℕ)) → sites ≤ COUNTED_MAX
-    → world_output_of sites keep (before ++ fields ∷ [])
-    ≡ world_output_of sites keep before ++ (world_step keep (world_after keep (start sites) 1 before) (length before + 1) (world_input sites fields)).1
+    → world_output_of sites keep (before ++ fields ∷ []) ≡ world_output_of sites keep before ++
+    (world_step keep (world_after keep (start sites) 1 before) (length before + 1) (world_input sites fields)).1
 one_more sites keep before fields few =
     let w = world_after keep (start sites) 1 before in
-    answers_more keep before (fields ∷ []) (start sites) 1
-    ∙ ap (λ rows. world_output_of sites keep before ++ rows)
-    (told_last keep w (1 + length before) fields
+    answers_more keep before (fields ∷ []) (start sites) 1 ∙ ap (λ rows. world_output_of sites keep before ++ rows) (told_last keep w (1 + length before) fields
     ∙ ap (λ k. (world_step keep w k (world_input (length w.sites) fields)).1) (omega arith)
     ∙ ap (λ k. (world_step keep w (length before + 1) (world_input k fields)).1) (world_sites keep before sites few))
 
@@ -192,10 +186,8 @@ answers_are_a_run sites keep records some few small = record {
       let same_runs = subst (λ (w : World). SameSet (site w a).log (site (world_at sites keep records k) b).log) e.1 same in
       let same_logs = subst (λ (v : World). SameSet (site (run keep (record_events sites (take j records)) (start sites)) a).log (site v b).log) f.1 same_runs
       in
-      ap (λ (w : World). tables_at w a) e.1
-      ∙ equal_tables sites keep (record_events sites (take j records)) some small e.0 sites keep
-      (record_events sites (take k records)) some small f.0 a b same_logs
-      ∙ sym (ap (λ (v : World). tables_at v b) f.1);
+      ap (λ (w : World). tables_at w a) e.1 ∙ equal_tables sites keep (record_events sites (take j records)) some small e.0 sites keep
+      (record_events sites (take k records)) some small f.0 a b same_logs ∙ sym (ap (λ (v : World). tables_at v b) f.1);
 }
 
 -- ---- an audit is answered Agree
@@ -210,14 +202,13 @@ are_logs w log h =
     subst (WasLogOf w) (sym found.1) (record { later = []; messages = append-nil _; rows = refl })
 
 -- the logs of all sites, each with its tables, agree
-pub logs_agree : (w : World) → Sound w → verdict (logs_of w) ≡ Agree
-logs_agree w s = faultless_agree (logs_of w) (run_faultless w s (logs_of w) (are_logs w)) (run_formed w s (logs_of w) (are_logs w))
+pub logs_agree : {w : World} → Sound w → verdict (logs_of w) ≡ Agree
+logs_agree {w} s = faultless_agree (logs_of w) (run_faultless w s (logs_of w) (are_logs w)) (run_formed w s (logs_of w) (are_logs w))
 
-audit_told : (keep : ℕ) (w : World) (n : ℕ) (fields : List (List ℕ)) → Sound w → world_input (length w.sites) fields ≡ Audit
+audit_told : (keep : ℕ) {w : World} (n : ℕ) (fields : List (List ℕ)) → Sound w → world_input (length w.sites) fields ≡ Audit
     → world_answers keep w n (fields ∷ []) ≡ verdict_record Agree ∷ []
 unfolding world_answers
-audit_told keep w n fields s is =
-    ap (λ (input : WorldInput). (world_step keep w n input).1 ++ []) is ∙ ap (λ v. verdict_record v ∷ []) (logs_agree w s)
+audit_told keep {w} n fields s is = ap (λ (input : WorldInput). (world_step keep w n input).1 ++ []) is ∙ ap (λ v. verdict_record v ∷ []) (logs_agree s)
 
 pub audits_agree : AuditsAgree
 audits_agree sites keep records fields some few small is =
@@ -227,4 +218,4 @@ audits_agree sites keep records fields some few small is =
     let count : length w.sites ≡ sites = ap (λ (v : World). length v.sites) r.1 ∙ after_sites keep (record_events sites records) (start sites)
     ∙ start_sites sites in
     answers_more keep records (fields ∷ []) (start sites) 1
-    ∙ ap (λ rows. world_output_of sites keep records ++ rows) (audit_told keep w (1 + length records) fields sound (ap (λ k. world_input k fields) count ∙ is))
+    ∙ ap (λ rows. world_output_of sites keep records ++ rows) (audit_told keep (1 + length records) fields sound (ap (λ k. world_input k fields) count ∙ is))

@@ -17,7 +17,7 @@ use Rattle.rubis_message.specs.declared.answers.Arrival.TheVariants as arrival
 use Rattle.rubis_message.specs.declared.answers.Taken.{Taken}
 use Rattle.rubis_message.specs.declared.answers.Taken.TheVariants as taken
 use Rattle.rubis_generate.specs.Decision.{decision}
-use Rattle.rubis_model.specs.Settle.{Has, Ready, Settles, settle}
+use Rattle.rubis_model.specs.Settle.{Has, Ready, Settles}
 use Rattle.rubis_model.specs.Settle.Settles.{Rest, Release}
 use Rattle.rubis_model.specs.Site.{Replica, opening_at, settled, made, after_made, issued_after, token_for, generating, rows_at, standing_of, not_ours}
 use Rattle.rubis_model.specs.Site.{is_repeat, is_full, after_came, arrived, took, passing}
@@ -65,23 +65,21 @@ pub record AtRest (log waiting : List Message) : Type 0 where
   pub unready : (x : Message) → Has x waiting → Ready log x → ⊥
   pub apart : Apart log waiting
 
-release_apart : (log front back : List Message) (m : Message) → Apart log (front ++ m ∷ back) → Apart (log ++ m ∷ []) (front ++ back)
-release_apart log front back m a = let k = singly_out m front back a.singly in record {
+release_apart : {log : List Message} (front back : List Message) (m : Message) → Apart log (front ++ m ∷ back) → Apart (log ++ m ∷ []) (front ++ back)
+release_apart {log} front back m a = let k = singly_out m front back a.singly in record {
   not_logged = λ x h l. ⊎_elim (λ q. a.not_logged x (around x m front back h) q) (λ e. k.1 (subst (λ q. Has q (front ++ back)) e h)) (push_cases x m log l);
   singly = k.0;
 }
 
-pub settles_rest : (log waiting log' waiting' : List Message) → Settles log waiting log' waiting' → Apart log waiting → AtRest log' waiting'
-settles_rest _ _ _ _ (Rest log waiting h) a = record { unready = h; apart = a }
-settles_rest _ _ _ _ (Release log front back log' waiting' m h r s) a =
-    settles_rest (log ++ m ∷ []) (front ++ back) log' waiting' s (release_apart log front back m a)
+pub settles_rest : {log waiting log' waiting' : List Message} → Settles log waiting log' waiting' → Apart log waiting → AtRest log' waiting'
+settles_rest (Rest log waiting h) a = record { unready = h; apart = a }
+settles_rest (Release log front back log' waiting' m h r s) a = settles_rest s (release_apart front back m a)
 
 abbrev pub Rests : Replica → Type 0
 Rests s = AtRest s.log s.waiting
 
 settled_rests : (s : Replica) → Apart s.log s.waiting → Rests (settled s)
-settled_rests s a = settles_rest s.log s.waiting (settle (length s.waiting) s.log s.waiting).0 (settle (length s.waiting) s.log s.waiting).1
-    (settle_settles (length s.waiting) s.log s.waiting (omega arith)) a
+settled_rests s a = settles_rest (settle_settles (length s.waiting) s.log s.waiting (omega arith)) a
 
 -- ---- every event
 pub AllRest : World → Type 0
@@ -93,10 +91,8 @@ rests_at w i r = r i
 
 rest_set : (w : World) (i : ℕ) (x : Replica) (sent : List Packet) → AllRest w → Rests x → AllRest (record { sites = slice_set w.sites i x; sent = sent })
 unfolding AllRest
-rest_set w i x sent r h j = ⊎_elim
-    (λ l. set_at (λ q y. Rests y) w.sites i x (opening_at 1) l h (λ q _. r q) j)
-    (λ l. subst (λ (s : List Replica). Rests (get_or s j (opening_at 1))) (sym (set_past w.sites i x l)) (r j))
-    (cases_lt i (length w.sites))
+rest_set w i x sent r h j = ⊎_elim (λ l. set_at (λ q y. Rests y) w.sites i x (opening_at 1) l h (λ q _. r q) j)
+    (λ l. subst (λ (s : List Replica). Rests (get_or s j (opening_at 1))) (sym (set_past w.sites i x l)) (r j)) (cases_lt i (length w.sites))
 
 -- what is in the list has an id that is found there
 pub listed : (m : Message) (log : List Message) → Has m log → list_any (λ u. same_id m.stamp.id u.stamp.id) log ≡ true
@@ -116,9 +112,9 @@ came_apart s m b a =
       singly = singly_push m s.waiting a.singly (unlisted m s.waiting q.1);
     }
 
-made_apart : (sent : List Packet) (i : ℕ) (log waiting : List Message) (m : Message) → Good sent i log waiting → m.stamp.id.site ≡ i → Apart log waiting
+made_apart : {sent : List Packet} {i : ℕ} {log waiting : List Message} (m : Message) → Good sent i log waiting → m.stamp.id.site ≡ i → Apart log waiting
     → Apart (log ++ m ∷ []) waiting
-made_apart sent i log waiting m g o a = record {
+made_apart {log} m g o a = record {
   not_logged = λ x h l. ⊎_elim (λ k. a.not_logged x h k) (λ e. g.waiting_others x h (ap (λ (y : Message). y.stamp.id.site) e ∙ o)) (push_cases x m log l);
   singly = a.singly;
 }
@@ -132,7 +128,7 @@ module _ (keep : ℕ) (w : World) (i : ℕ) (s : Sound w) (r : AllRest w) where
   rest_asking (Ok x) =
       rest_set w i (after_made (place keep w i) (site w i) x) (w.sent ++ packet.Msg (made (place keep w i) (site w i) x) ∷ []) r
       (settled_rests (record (site w i) { log = (site w i).log ++ made (place keep w i) (site w i) x ∷ []; held = issued_after x (site w i).held })
-      (made_apart w.sent i (site w i).log (site w i).waiting (made (place keep w i) (site w i) x) (s.good i) refl here.apart))
+      (made_apart (made (place keep w i) (site w i) x) (s.good i) refl here.apart))
 
   rest_passing : (to : ℕ) (o : Option ℕ) → AllRest (answering packet.Token w i (passing (place keep w i) (site w i) to o))
   rest_passing to None = rest_set w i (site w i) (w.sent ++ []) r here
@@ -172,16 +168,15 @@ module _ (keep : ℕ) (w : World) (i : ℕ) (s : Sound w) (r : AllRest w) where
   rest_requested (request.Pass to) = rest_passing to (site w i).held
   rest_requested (request.List l) = r
 
-pub rest_event : (keep : ℕ) (w : World) (e : Event) → Sound w → AllRest w → AllRest (happens keep w e).0
-rest_event keep w (At i q) s r = at_one AllRest w i (requested keep w i q) r (λ _. rest_requested keep w i s r q)
-rest_event keep w (Deliver i k) s r =
-    at_one AllRest w i (coming keep w i (packet_at w.sent k)) r (λ _. rest_coming keep w i s r (packet_at w.sent k))
+pub rest_event : (keep : ℕ) {w : World} (e : Event) → Sound w → AllRest w → AllRest (happens keep w e).0
+rest_event keep {w} (At i q) s r = at_one AllRest w i (requested keep w i q) r (λ _. rest_requested keep w i s r q)
+rest_event keep {w} (Deliver i k) s r = at_one AllRest w i (coming keep w i (packet_at w.sent k)) r (λ _. rest_coming keep w i s r (packet_at w.sent k))
 
 pub rest_run : (keep : ℕ) → keep ≤ 1000000 → (es : List Event) (w : World) → AreEvents (length w.sites) es → Sound w → AllRest w → AllRest (run keep es w)
 rest_run keep few [] w a s r = r
 rest_run keep few (e ∷ es) w a s r =
     rest_run keep few es (happens keep w e).0 (subst (λ n. AreEvents n es) (sym (event_sites keep w e)) a.1) (event_keeps keep few w e a.0 s)
-    (rest_event keep w e s r)
+    (rest_event keep e s r)
 
 none_rest : AtRest [] []
 none_rest = record { unready = λ x h. absurd h; apart = record { not_logged = λ x h. absurd h; singly = tt } }

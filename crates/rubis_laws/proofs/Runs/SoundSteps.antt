@@ -57,21 +57,20 @@ nothing_sent w i = λ j. record { sites = same_sites w i j; sent = none_more w.s
     none_more ps = search Rattle.std.proofs.Common.rules
 
 -- ---- a site made a message
-inside : (w : World) (i : ℕ) (m : Message) → Sound w → Has m (reverse (site w i).log) → m.stamp.id.site < length w.sites
-inside w i m s h = s.home.origin m ((s.good i).log_sent m h)
+inside : {w : World} (i : ℕ) (m : Message) → Sound w → Has m (reverse (site w i).log) → m.stamp.id.site < length w.sites
+inside i m s h = s.home.origin m ((s.good i).log_sent m h)
 
 -- the site after message m, which it made
 after : World → ℕ → Message → Option ℕ → Replica
 after w i m held = settled (record (site w i) { log = (site w i).log ++ m ∷ []; held = held })
 
-good_after : (w : World) (i : ℕ) (m : Message) (held : Option ℕ) → i < length w.sites → Sound w → IsMade i (site w i).log m
-    → (j : ℕ) → Good (w.sent ++ packet.Msg m ∷ []) j (get_or (set w.sites i (after w i m held)) j (opening_at 1)).log
+good_after : {w : World} {i : ℕ} {m : Message} (held : Option ℕ) → i < length w.sites → Sound w → IsMade i (site w i).log m → (j : ℕ)
+    → Good (w.sent ++ packet.Msg m ∷ []) j (get_or (set w.sites i (after w i m held)) j (opening_at 1)).log
     (get_or (set w.sites i (after w i m held)) j (opening_at 1)).waiting
 unfolding after
-good_after w i m held l s k j = set_at (λ q x. Good (w.sent ++ packet.Msg m ∷ []) q x.log x.waiting) w.sites i (after w i m held) (opening_at 1) l
-    (good_settle (w.sent ++ packet.Msg m ∷ []) i (length (site w i).waiting) ((site w i).log ++ m ∷ []) (site w i).waiting
-    (good_make w.sent i (site w i).log (site w i).waiting m k (s.good i)))
-    (λ q _. good_more w.sent (packet.Msg m) q (site w q).log (site w q).waiting (s.good q)) j
+good_after {w} {i} {m} held l s k j = set_at (λ q x. Good (w.sent ++ packet.Msg m ∷ []) q x.log x.waiting) w.sites i (after w i m held) (opening_at 1) l
+    (good_settle (w.sent ++ packet.Msg m ∷ []) i (length (site w i).waiting) ((site w i).log ++ m ∷ []) (site w i).waiting (good_make k (s.good i)))
+    (λ q _. good_more (packet.Msg m) (s.good q)) j
 
 -- what is in a log stays there
 stays : (w : World) (i : ℕ) (m u : Message) (held : Option ℕ) → i < length w.sites → (j : ℕ) → Has u (reverse (site w j).log)
@@ -79,8 +78,7 @@ stays : (w : World) (i : ℕ) (m u : Message) (held : Option ℕ) → i < length
 unfolding after
 stays w i m u held l j = set_at (λ q x. Has u (reverse (site w q).log) → Has u (reverse x.log)) w.sites i (after w i m held) (opening_at 1) l
     (λ h. settle_grows u (length (site w i).waiting) ((site w i).log ++ m ∷ []) (site w i).waiting
-    (subst (Has u) (sym (reverse_push (site w i).log m)) (inr h)))
-    (λ q _ h. h) j
+    (subst (Has u) (sym (reverse_push (site w i).log m)) (inr h))) (λ q _ h. h) j
 
 arrives : (w : World) (i : ℕ) (m : Message) (held : Option ℕ) → i < length w.sites
     → Has m (reverse (get_or (set w.sites i (after w i m held)) i (opening_at 1)).log)
@@ -88,9 +86,9 @@ unfolding after
 arrives w i m held l = subst (λ (x : Replica). Has m (reverse x.log)) (sym (get_or-set_same w.sites i (after w i m held) (opening_at 1) l))
     (settle_grows m (length (site w i).waiting) ((site w i).log ++ m ∷ []) (site w i).waiting (subst (Has m) (sym (reverse_push (site w i).log m)) (inl refl)))
 
-home_after : (w : World) (i : ℕ) (m : Message) (held : Option ℕ) → i < length w.sites → Sound w → IsMade i (site w i).log m
+home_after : {w : World} {i : ℕ} {m : Message} (held : Option ℕ) → i < length w.sites → Sound w → IsMade i (site w i).log m
     → HasOrigins (length w.sites) (λ j. (get_or (set w.sites i (after w i m held)) j (opening_at 1)).log) (w.sent ++ packet.Msg m ∷ [])
-home_after w i m held l s k = record {
+home_after {w} {i} {m} held l s k = record {
   origin =
       λ u h. ⊎_elim (λ a. s.home.origin u a) (λ e. let o = ap (λ (x : Message). x.stamp.id.site) e in omega (arith, k.origin)) (shadow_cases u m w.sent h);
   home = λ u h. ⊎_elim (λ a. stays w i m u held l u.stamp.id.site (s.home.home u a))
@@ -113,68 +111,51 @@ held_after_same : (w : World) (i : ℕ) (m : Message) (held : Option ℕ) → i 
 unfolding after
 held_after_same w i m held l = ap (λ (x : Replica). x.held) (get_or-set_same w.sites i (after w i m held) (opening_at 1) l)
 
-sound_after : (w : World) (i : ℕ) (m : Message) (held : Option ℕ) → i < length w.sites → Sound w → IsMade i (site w i).log m
-    → RedsInOrder (w.sent ++ packet.Msg m ∷ [])
-    → OneToken (length w.sites) (λ j. (get_or (set w.sites i (after w i m held)) j (opening_at 1)).held)
+sound_after : {w : World} {i : ℕ} {m : Message} (held : Option ℕ) → i < length w.sites → Sound w → IsMade i (site w i).log m
+    → RedsInOrder (w.sent ++ packet.Msg m ∷ []) → OneToken (length w.sites) (λ j. (get_or (set w.sites i (after w i m held)) j (opening_at 1)).held)
     (λ j. (get_or (set w.sites i (after w i m held)) j (opening_at 1)).last) (w.sent ++ packet.Msg m ∷ [])
     → Sound (record { sites = set w.sites i (after w i m held); sent = w.sent ++ packet.Msg m ∷ [] })
-sound_after w i m held l s k r t = record {
-  good = good_after w i m held l s k;
+sound_after {w} {i} {m} held l s k r t = record {
+  good = good_after held l s k;
   home =
       subst (λ n. HasOrigins n (λ j. (get_or (set w.sites i (after w i m held)) j (opening_at 1)).log) (w.sent ++ packet.Msg m ∷ []))
-      (sym (length-set w.sites i (after w i m held))) (home_after w i m held l s k);
+      (sym (length-set w.sites i (after w i m held))) (home_after held l s k);
   reds = r;
   token =
       subst (λ n. OneToken n (λ j. (get_or (set w.sites i (after w i m held)) j (opening_at 1)).held)
-      (λ j. (get_or (set w.sites i (after w i m held)) j (opening_at 1)).last) (w.sent ++ packet.Msg m ∷ []))
-      (sym (length-set w.sites i (after w i m held))) t;
+      (λ j. (get_or (set w.sites i (after w i m held)) j (opening_at 1)).last) (w.sent ++ packet.Msg m ∷ [])) (sym (length-set w.sites i (after w i m held))) t;
 }
 
-sound_blue : (keep : ℕ) (w : World) (i : ℕ) (x : Shadow) → i < length w.sites → red_for x (site w i).held ≡ 0
-    → issued_after x (site w i).held ≡ (site w i).held
-    → IsMade i (site w i).log (made (place keep w i) (site w i) x) → Sound w →
-    Sound (record {
-      sites = set w.sites i (after_made (place keep w i) (site w i) x);
-      sent = w.sent
-          ++ packet.Msg (made (place keep w i) (site w i) x) ∷ [];
-    })
+sound_blue : (keep : ℕ) {w : World} {i : ℕ} (x : Shadow) → i < length w.sites → red_for x (site w i).held ≡ 0 → issued_after x (site w i).held ≡ (site w i).held
+    → IsMade i (site w i).log (made (place keep w i) (site w i) x) → Sound w → Sound
+    (record { sites = set w.sites i (after_made (place keep w i) (site w i) x); sent = w.sent ++ packet.Msg (made (place keep w i) (site w i) x) ∷ [] })
 unfolding after
-sound_blue keep w i x l none same k s =
+sound_blue keep {w} {i} x l none same k s =
     let m = made (place keep w i) (site w i) x in
     let held = issued_after x (site w i).held in
-    sound_after w i m held l s k (reds_blue w.sent m none s.reds)
+    sound_after held l s k (reds_blue m none s.reds)
     (token_same (length w.sites) (λ j. (site w j).held) (λ j. (get_or (set w.sites i (after w i m held)) j (opening_at 1)).held) (λ j. (site w j).last)
     (λ j. (get_or (set w.sites i (after w i m held)) j (opening_at 1)).last) w.sent (w.sent ++ packet.Msg m ∷ [])
     (λ j. ⊎_elim (λ e. subst (λ q. (get_or (set w.sites i (after w i m held)) q (opening_at 1)).held ≡ (site w q).held) (sym e)
-    (held_after_same w i m held l ∙ same)) (λ e. held_after_other w i m held j e) (cases_eq j i))
-    (last_after w i m held l)
+    (held_after_same w i m held l ∙ same)) (λ e. held_after_other w i m held j e) (cases_eq j i)) (last_after w i m held l)
     (red_count_blue w.sent m none) (turns_shadow w.sent m) (λ t h. not_right t m w.sent h)
     (λ t h. has_left (packet.Token t) w.sent (packet.Msg m ∷ []) h) s.token)
 
-sound_red : (keep : ℕ) (w : World) (i issued : ℕ) (x : Shadow) → (site w i).held ≡ Some issued → i < length w.sites → reds (site w i).log ≡ issued
-    → red_for x (site w i).held ≡ issued + 1 → issued_after x (site w i).held ≡ Some (issued + 1)
-    → IsMade i (site w i).log (made (place keep w i) (site w i) x) → Sound w →
-    Sound (record {
-      sites = set w.sites i (after_made (place keep w i) (site w i) x);
-      sent = w.sent
-          ++ packet.Msg (made (place keep w i) (site w i) x) ∷ [];
-    })
+sound_red : (keep : ℕ) {w : World} {i issued : ℕ} (x : Shadow) → (site w i).held ≡ Some issued → i < length w.sites → reds (site w i).log ≡ issued
+    → red_for x (site w i).held ≡ issued + 1 → issued_after x (site w i).held ≡ Some (issued + 1) → IsMade i (site w i).log (made (place keep w i) (site w i) x)
+    → Sound w → Sound (record
+    { sites = set w.sites i (after_made (place keep w i) (site w i) x); sent = w.sent ++ packet.Msg (made (place keep w i) (site w i) x) ∷ [] })
 unfolding after
-sound_red keep w i issued x e l f number next k s =
-    let h = held_is (length w.sites) (λ j. (site w j).held) (λ j. (site w j).last) w.sent i issued s.token e in
+sound_red keep {w} {i} x e l f number next k s =
+    let h = held_is (length w.sites) (λ j. (site w j).held) (λ j. (site w j).last) w.sent i s.token e in
     let m = made (place keep w i) (site w i) x in
     let held = issued_after x (site w i).held in
     let positive : 0 < m.stamp.red = omega (arith, number) in
-    sound_after w i m held l s k
-    (reds_red w.sent i (site w i).log (site w i).waiting m (s.good i) (f ∙ h.1) k (number ∙ ap (λ x. x + 1) h.1) s.reds)
-    (inl (
+    sound_after held l s k (reds_red (s.good i) (f ∙ h.1) k (number ∙ ap (λ x. x + 1) h.1) s.reds) (inl (
       i,
-      token_red (length w.sites) (λ j. (site w j).held) (λ j. (get_or (set w.sites i (after w i m held)) j (opening_at 1)).held) (λ j. (site w j).last)
-          (λ j. (get_or (set w.sites i (after w i m held)) j (opening_at 1)).last) w.sent m i
-          (held_after_same w i m held l ∙ next ∙ ap (λ x. Some (x + 1)) h.1)
-          (held_after_other w i m held)
-          (last_after w i m held l)
-          positive h.0,
+      token_red (λ j. (get_or (set w.sites i (after w i m held)) j (opening_at 1)).held)
+          (λ j. (get_or (set w.sites i (after w i m held)) j (opening_at 1)).last) m (held_after_same w i m held l ∙ next ∙ ap (λ x. Some (x + 1)) h.1)
+          (held_after_other w i m held) (last_after w i m held l) positive h.0,
     ))
 
 -- ---- a site whose log and waiting messages stay
@@ -182,54 +163,53 @@ quiet : World → ℕ → Option ℕ → ℕ → Replica
 quiet w i held last = record (site w i) { held = held; last = last }
 
 quiet_site : (w : World) (i : ℕ) (held : Option ℕ) (last : ℕ) → i < length w.sites → (j : ℕ)
-    → ((get_or (set w.sites i (quiet w i held last)) j (opening_at 1)).log ≡ (site w j).log)
-    × ((get_or (set w.sites i (quiet w i held last)) j (opening_at 1)).waiting ≡ (site w j).waiting)
+    → ((get_or (set w.sites i (quiet w i held last)) j (opening_at 1)).log ≡ (site w j).log) ×
+    ((get_or (set w.sites i (quiet w i held last)) j (opening_at 1)).waiting ≡ (site w j).waiting)
 unfolding quiet
 quiet_site w i held last l j =
     set_at (λ q x. (x.log ≡ (site w q).log) × (x.waiting ≡ (site w q).waiting)) w.sites i (quiet w i held last) (opening_at 1) l (refl, refl)
     (λ q _. (refl, refl)) j
 
 quiet_same : (w : World) (i : ℕ) (held : Option ℕ) (last : ℕ) → i < length w.sites
-    → ((get_or (set w.sites i (quiet w i held last)) i (opening_at 1)).held ≡ held)
-    × ((get_or (set w.sites i (quiet w i held last)) i (opening_at 1)).last ≡ last)
+    → ((get_or (set w.sites i (quiet w i held last)) i (opening_at 1)).held ≡ held) ×
+    ((get_or (set w.sites i (quiet w i held last)) i (opening_at 1)).last ≡ last)
 unfolding quiet
 quiet_same w i held last l =
     let e = get_or-set_same w.sites i (quiet w i held last) (opening_at 1) l in (ap (λ (x : Replica). x.held) e, ap (λ (x : Replica). x.last) e)
 
-quiet_other : (w : World) (i : ℕ) (x : Replica) (j : ℕ) → (j ≡ i → ⊥)
-    → ((get_or (set w.sites i x) j (opening_at 1)).held ≡ (site w j).held) × ((get_or (set w.sites i x) j (opening_at 1)).last ≡ (site w j).last)
+quiet_other : (w : World) (i : ℕ) (x : Replica) (j : ℕ) → (j ≡ i → ⊥) → ((get_or (set w.sites i x) j (opening_at 1)).held ≡ (site w j).held) ×
+    ((get_or (set w.sites i x) j (opening_at 1)).last ≡ (site w j).last)
 quiet_other w i x j n = let e = get_or-set_other w.sites i j x (opening_at 1) n in (ap (λ (q : Replica). q.held) e, ap (λ (q : Replica). q.last) e)
 
-home_more : (n : ℕ) (log : ℕ → List Message) (sent : List Packet) (t : Token) → HasOrigins n log sent → HasOrigins n log (sent ++ packet.Token t ∷ [])
-home_more n log sent t h = record {
+home_more : {n : ℕ} {log : ℕ → List Message} {sent : List Packet} (t : Token) → HasOrigins n log sent → HasOrigins n log (sent ++ packet.Token t ∷ [])
+home_more {sent} t h = record {
   origin = λ u k. h.origin u (not_shadow t u sent k);
   home = λ u k. h.home u (not_shadow t u sent k);
 }
 
-home_same : (n : ℕ) (log log' : ℕ → List Message) (sent : List Packet) → ((j : ℕ) → log' j ≡ log j) → HasOrigins n log sent → HasOrigins n log' sent
-home_same n log log' sent e h = record {
+home_same : {n : ℕ} {log : ℕ → List Message} (log' : ℕ → List Message) {sent : List Packet} → ((j : ℕ) → log' j ≡ log j) → HasOrigins n log sent
+    → HasOrigins n log' sent
+home_same log' e h = record {
   origin = h.origin;
   home = λ u k. subst (λ x. Has u (reverse x)) (sym (e u.stamp.id.site)) (h.home u k);
 }
 
-good_same : (sent : List Packet) (i : ℕ) (log waiting log' waiting' : List Message) → (log' ≡ log) × (waiting' ≡ waiting) → Good sent i log waiting
+good_same : {sent : List Packet} {i : ℕ} {log waiting log' waiting' : List Message} → (log' ≡ log) × (waiting' ≡ waiting) → Good sent i log waiting
     → Good sent i log' waiting'
-good_same sent i log waiting log' waiting' e g = subst (λ x. Good sent i x waiting') (sym e.0) (subst (λ x. Good sent i log x) (sym e.1) g)
+good_same {sent} {i} {log} {waiting'} e g = subst (λ x. Good sent i x waiting') (sym e.0) (subst (λ x. Good sent i log x) (sym e.1) g)
 
 -- logs and waiting messages are the same, and at most one token more was sent
-sound_quiet : (w : World) (i : ℕ) (held : Option ℕ) (last : ℕ) (sent : List Packet) → i < length w.sites
+sound_quiet : (w : World) (i : ℕ) (held : Option ℕ) (last : ℕ) {sent : List Packet} → i < length w.sites
     → ((j : ℕ) → Good sent j (site w j).log (site w j).waiting) → HasOrigins (length w.sites) (λ j. (site w j).log) sent → RedsInOrder sent
     → OneToken (length w.sites) (λ j. (get_or (set w.sites i (quiet w i held last)) j (opening_at 1)).held)
     (λ j. (get_or (set w.sites i (quiet w i held last)) j (opening_at 1)).last) sent
     → Sound (record { sites = set w.sites i (quiet w i held last); sent = sent })
-sound_quiet w i held last sent l g h r t = record {
+sound_quiet w i held last {sent} l g h r t = record {
   good =
-      λ j. good_same sent j (site w j).log (site w j).waiting (get_or (set w.sites i (quiet w i held last)) j (opening_at 1)).log
-      (get_or (set w.sites i (quiet w i held last)) j (opening_at 1)).waiting (quiet_site w i held last l j) (g j);
+      λ j. good_same (quiet_site w i held last l j) (g j);
   home = subst (λ n. HasOrigins n (λ j. (get_or (set w.sites i (quiet w i held last)) j (opening_at 1)).log) sent)
       (sym (length-set w.sites i (quiet w i held last)))
-      (home_same (length w.sites) (λ j. (site w j).log) (λ j. (get_or (set w.sites i (quiet w i held last)) j (opening_at 1)).log) sent
-      (λ j. (quiet_site w i held last l j).0) h);
+      (home_same (λ j. (get_or (set w.sites i (quiet w i held last)) j (opening_at 1)).log) (λ j. (quiet_site w i held last l j).0) h);
   reds = r;
   token =
       subst (λ n. OneToken n (λ j. (get_or (set w.sites i (quiet w i held last)) j (opening_at 1)).held)
@@ -237,68 +217,57 @@ sound_quiet w i held last sent l g h r t = record {
 }
 
 -- ---- the token is passed
-sound_passed : (w : World) (i to issued : ℕ) → (site w i).held ≡ Some issued → i < length w.sites → to < length w.sites → Sound w
+sound_passed : {w : World} (i to : ℕ) {issued : ℕ} → (site w i).held ≡ Some issued → i < length w.sites → to < length w.sites → Sound w
     → Sound (record {
       sites = set w.sites i (quiet w i None (site w i).last);
-      sent = w.sent
-          ++ packet.Token (record { turn = (site w i).last + 1; to = to; issued = issued }) ∷ [];
+      sent = w.sent ++ packet.Token
+          (record { turn = (site w i).last + 1; to = to; issued = issued }) ∷ [];
     })
-sound_passed w i to issued e l there s =
-    let h = held_is (length w.sites) (λ j. (site w j).held) (λ j. (site w j).last) w.sent i issued s.token e in
+sound_passed {w} i to {issued} e l there s =
+    let h = held_is (length w.sites) (λ j. (site w j).held) (λ j. (site w j).last) w.sent i s.token e in
     let t : Token = record { turn = (site w i).last + 1; to = to; issued = issued } in
-    sound_quiet w i None (site w i).last (w.sent ++ packet.Token t ∷ []) l
-    (λ j. good_more w.sent (packet.Token t) j (site w j).log (site w j).waiting (s.good j))
-    (home_more (length w.sites) (λ j. (site w j).log) w.sent t s.home)
-    (reds_token w.sent t s.reds)
-    (inr (
+    sound_quiet w i None (site w i).last l (λ j. good_more (packet.Token t) (s.good j)) (home_more t s.home) (reds_token t s.reds) (inr (
       t,
-      token_passed (length w.sites) (λ j. (site w j).held) (λ j. (get_or (set w.sites i (quiet w i None (site w i).last)) j (opening_at 1)).held)
-          (λ j. (site w j).last) (λ j. (get_or (set w.sites i (quiet w i None (site w i).last)) j (opening_at 1)).last) w.sent t i
-          (quiet_same w i None (site w i).last l).0
+      token_passed (λ j. (get_or (set w.sites i (quiet w i None (site w i).last)) j (opening_at 1)).held)
+          (λ j. (get_or (set w.sites i (quiet w i None (site w i).last)) j (opening_at 1)).last) t (quiet_same w i None (site w i).last l).0
           (λ j n. (quiet_other w i (quiet w i None (site w i).last) j n).0)
           (λ j. ⊎_elim (λ q. subst (λ x. (get_or (set w.sites i (quiet w i None (site w i).last)) x (opening_at 1)).last ≡ (site w x).last) (sym q)
-          (quiet_same w i None (site w i).last l).1) (λ n. (quiet_other w i (quiet w i None (site w i).last) j n).1) (cases_eq j i))
-          refl there h.1 h.0,
+          (quiet_same w i None (site w i).last l).1) (λ n. (quiet_other w i (quiet w i None (site w i).last) j n).1) (cases_eq j i)) refl there h.1 h.0,
     ))
 
 -- ---- the token comes
-sound_taken : (w : World) (i : ℕ) (t : Token) → Has (packet.Token t) w.sent → i < length w.sites → t.to ≡ i → (site w i).last < t.turn → Sound w
+sound_taken : {w : World} {i : ℕ} (t : Token) → Has (packet.Token t) w.sent → i < length w.sites → t.to ≡ i → (site w i).last < t.turn → Sound w
     → Sound (record { sites = set w.sites i (quiet w i (Some t.issued) t.turn); sent = w.sent })
-sound_taken w i t has l e late s =
+sound_taken {w} {i} t has l e late s =
     let late_to : (site w t.to).last < t.turn = subst (λ x. (site w x).last < t.turn) (sym e) late in
-    sound_quiet w i (Some t.issued) t.turn w.sent l s.good s.home s.reds
-    (inl (
+    sound_quiet w i (Some t.issued) t.turn l s.good s.home s.reds (inl (
       t.to,
       token_taken (length w.sites) (λ j. (site w j).held) (λ j. (get_or (set w.sites i (quiet w i (Some t.issued) t.turn)) j (opening_at 1)).held)
-          (λ j. (site w j).last) (λ j. (get_or (set w.sites i (quiet w i (Some t.issued) t.turn)) j (opening_at 1)).last) w.sent t
-          has late_to
+          (λ j. (site w j).last) (λ j. (get_or (set w.sites i (quiet w i (Some t.issued) t.turn)) j (opening_at 1)).last) w.sent t has late_to
           (subst (λ x. (get_or (set w.sites i (quiet w i (Some t.issued) t.turn)) x (opening_at 1)).held ≡ Some t.issued) (sym e)
           (quiet_same w i (Some t.issued) t.turn l).0)
           (subst (λ x. (get_or (set w.sites i (quiet w i (Some t.issued) t.turn)) x (opening_at 1)).last ≡ t.turn) (sym e)
-          (quiet_same w i (Some t.issued) t.turn l).1)
-          (λ j n. (quiet_other w i (quiet w i (Some t.issued) t.turn) j (λ q. n (q ∙ sym e))).0)
-          (λ j n. (quiet_other w i (quiet w i (Some t.issued) t.turn) j (λ q. n (q ∙ sym e))).1)
-          s.token,
+          (quiet_same w i (Some t.issued) t.turn l).1) (λ j n. (quiet_other w i (quiet w i (Some t.issued) t.turn) j (λ q. n (q ∙ sym e))).0)
+          (λ j n. (quiet_other w i (quiet w i (Some t.issued) t.turn) j (λ q. n (q ∙ sym e))).1) s.token,
     ))
 
 -- ---- a message comes
-or_first : (x y : Bool) → x ≡ true → (x || y) ≡ true
-or_first x y e = ap (λ b. b || y) e
+or_first : {x : Bool} (y : Bool) → x ≡ true → (x || y) ≡ true
+or_first y e = ap (λ b. b || y) e
 
-or_second : (x y : Bool) → y ≡ true → (x || y) ≡ true
-or_second true y e = refl
-or_second false y e = e
+or_second : (x : Bool) {y : Bool} → y ≡ true → (x || y) ≡ true
+or_second true e = refl
+or_second false e = e
 
 known : (m : Message) (log : List Message) → Has m log → list_any (λ u. same_id m.stamp.id u.stamp.id) log ≡ true
 known m [] h = absurd h
 known m (x ∷ log) (inl e) =
-    or_first (same_id m.stamp.id x.stamp.id) (list_any (λ u. same_id m.stamp.id u.stamp.id) log)
-    ((Decides-same_id m.stamp.id x.stamp.id).1 (ap (λ (u : Message). u.stamp.id) e))
-known m (x ∷ log) (inr h) = or_second (same_id m.stamp.id x.stamp.id) (list_any (λ u. same_id m.stamp.id u.stamp.id) log) (known m log h)
+    or_first (list_any (λ u. same_id m.stamp.id u.stamp.id) log) ((Decides-same_id m.stamp.id x.stamp.id).1 (ap (λ (u : Message). u.stamp.id) e))
+known m (x ∷ log) (inr h) = or_second (same_id m.stamp.id x.stamp.id) (known m log h)
 
 -- what isn't released or waiting is another site's
-foreign : (w : World) (i : ℕ) (m : Message) → Has (packet.Msg m) w.sent → is_repeat (site w i) m ≡ false → Sound w → m.stamp.id.site ≡ i → ⊥
-foreign w i m h b s e =
+foreign : {w : World} {i : ℕ} (m : Message) → Has (packet.Msg m) w.sent → is_repeat (site w i) m ≡ false → Sound w → m.stamp.id.site ≡ i → ⊥
+foreign {w} {i} m h b s e =
     let q = or_parts (list_any (λ u. same_id m.stamp.id u.stamp.id) (site w i).log) (list_any (λ u. same_id m.stamp.id u.stamp.id) (site w i).waiting) b in
     let k = known m (site w i).log (has_reverse m (site w i).log (subst (λ x. Has m (reverse (site w x).log)) e (s.home.home m h))) in
     true≢false (sym k ∙ q.0)
@@ -306,9 +275,9 @@ foreign w i m h b s e =
 came : World → ℕ → Message → Replica
 came w i m = after_came (site w i) m
 
-good_waiting : (sent : List Packet) (i : ℕ) (log waiting : List Message) (m : Message) → Has (packet.Msg m) sent → (m.stamp.id.site ≡ i → ⊥)
+good_waiting : {sent : List Packet} {i : ℕ} {log waiting : List Message} (m : Message) → Has (packet.Msg m) sent → (m.stamp.id.site ≡ i → ⊥)
     → Good sent i log waiting → Good sent i log (waiting ++ m ∷ [])
-good_waiting sent i log waiting m h n g = record {
+good_waiting {sent} {waiting} m h n g = record {
   released = g.released;
   made = g.made;
   decided = g.decided;
@@ -318,13 +287,12 @@ good_waiting sent i log waiting m h n g = record {
       λ u k o. ⊎_elim (λ a. g.waiting_others u a o) (λ e. n (ap (λ (x : Message). x.stamp.id.site) (sym e) ∙ o)) (push_cases u m waiting k);
 }
 
-sound_came : (w : World) (i : ℕ) (m : Message) → i < length w.sites → Has (packet.Msg m) w.sent → (m.stamp.id.site ≡ i → ⊥) → Sound w
+sound_came : {w : World} (i : ℕ) (m : Message) → i < length w.sites → Has (packet.Msg m) w.sent → (m.stamp.id.site ≡ i → ⊥) → Sound w
     → Sound (record { sites = set w.sites i (came w i m); sent = w.sent })
 unfolding came
-sound_came w i m l h n s = record {
+sound_came {w} i m l h n s = record {
   good = set_at (λ q x. Good w.sent q x.log x.waiting) w.sites i (came w i m) (opening_at 1) l
-      (good_settle w.sent i (length ((site w i).waiting ++ m ∷ [])) (site w i).log ((site w i).waiting ++ m ∷ [])
-      (good_waiting w.sent i (site w i).log (site w i).waiting m h n (s.good i)))
+      (good_settle w.sent i (length ((site w i).waiting ++ m ∷ [])) (site w i).log ((site w i).waiting ++ m ∷ []) (good_waiting m h n (s.good i)))
       (λ q _. s.good q);
   home = subst (λ n. HasOrigins n (λ j. (get_or (set w.sites i (came w i m)) j (opening_at 1)).log) w.sent) (sym (length-set w.sites i (came w i m)))
       (record { origin = s.home.origin; home = λ u k. stay u u.stamp.id.site (s.home.home u k) });
@@ -334,8 +302,7 @@ sound_came w i m l h n s = record {
       (token_same (length w.sites) (λ j. (site w j).held) (λ j. (get_or (set w.sites i (came w i m)) j (opening_at 1)).held) (λ j. (site w j).last)
       (λ j. (get_or (set w.sites i (came w i m)) j (opening_at 1)).last) w.sent w.sent
       (λ j. set_at (λ q x. x.held ≡ (site w q).held) w.sites i (came w i m) (opening_at 1) l refl (λ q _. refl) j)
-      (λ j. set_at (λ q x. x.last ≡ (site w q).last) w.sites i (came w i m) (opening_at 1) l refl (λ q _. refl) j)
-      refl refl (λ t k. k) (λ t k. k) s.token);
+      (λ j. set_at (λ q x. x.last ≡ (site w q).last) w.sites i (came w i m) (opening_at 1) l refl (λ q _. refl) j) refl refl (λ t k. k) (λ t k. k) s.token);
 }
   where
     stay : (u : Message) (j : ℕ) → Has u (reverse (site w j).log) → Has u (reverse (get_or (set w.sites i (came w i m)) j (opening_at 1)).log)
@@ -344,10 +311,10 @@ sound_came w i m l h n s = record {
         (λ q _ k. k) j
 
 -- ---- every event
-has_get : {A : Type 0} (xs : List A) (k : ℕ) (x : A) → slice_get xs k ≡ Some x → Has x xs
-has_get [] k x e = absurd (cc)
-has_get (y ∷ xs) zero x e = inl (sym (same_Some y x e))
-has_get (y ∷ xs) (suc k) x e = inr (has_get xs k x e)
+has_get : {A : Type 0} (xs : List A) (k : ℕ) {x : A} → slice_get xs k ≡ Some x → Has x xs
+has_get [] k e = absurd (cc)
+has_get (y ∷ xs) zero {x} e = inl (sym (same_Some y x e))
+has_get (y ∷ xs) (suc k) e = inr (has_get xs k e)
 
 module _ (keep : ℕ) (w : World) (i : ℕ) (l : i < length w.sites) (s : Sound w) where
   back : Sound (with_site w i (site w i))
@@ -360,7 +327,7 @@ module _ (keep : ℕ) (w : World) (i : ℕ) (l : i < length w.sites) (s : Sound 
       (λ _. back)
       (λ _. cond_both (is_repeat (site w i) m) (site w i, Ok arrival.Repeat) _ (λ (p : Replica × Result Arrival Refusal). Sound (with_site w i p.0)) (λ _. back)
       (λ new. cond_both (is_full keep (site w i)) (site w i, Err Full) _ (λ (p : Replica × Result Arrival Refusal). Sound (with_site w i p.0)) (λ _. back)
-      (λ _. sound_came w i m l h (foreign w i m h new s) s)))
+      (λ _. sound_came i m l h (foreign m h new s) s)))
 
   token_keeps : (t : Token) → Has (packet.Token t) w.sent → Sound (with_site w i (took (place keep w i) (site w i) t).0)
   unfolding quiet
@@ -368,7 +335,7 @@ module _ (keep : ℕ) (w : World) (i : ℕ) (l : i < length w.sites) (s : Sound 
       cond_both (not (t.to == i)) (site w i, Err NotForMe) _ (λ (p : Replica × Result Taken Refusal). Sound (with_site w i p.0)) (λ _. back)
       (λ mine. cond_both (nat_le t.turn (site w i).last) (site w i, Ok taken.Repeat) _ (λ (p : Replica × Result Taken Refusal). Sound (with_site w i p.0))
       (λ _. back)
-      (λ late. sound_taken w i t h l (is_mine t.to i mine) (is_late t.turn (site w i).last late) s))
+      (λ late. sound_taken t h l (is_mine t.to i mine) (is_late t.turn (site w i).last late) s))
     where
       is_mine : (a b : ℕ) → not (a == b) ≡ false → a ≡ b
       is_mine a b e = grind (arith, nat_tests)
@@ -392,7 +359,7 @@ module _ (keep : ℕ) (w : World) (i : ℕ) (l : i < length w.sites) (s : Sound 
       (λ (p : Replica × Result Token Refusal). Sound (answering packet.Token w i p)) (λ _. refused)
       (λ there. cond_both (nat_le 1000000000 (site w i).last) (site w i, Err LastTurn) _
       (λ (p : Replica × Result Token Refusal). Sound (answering packet.Token w i p)) (λ _. refused)
-      (λ _. sound_passed w i to issued e l (is_there (length w.sites) to (or_parts (nat_le (length w.sites) to) (to == i) there).0) s))
+      (λ _. sound_passed i to e l (is_there (length w.sites) to (or_parts (nat_le (length w.sites) to) (to == i) there).0) s))
     where
       is_there : (n to : ℕ) → nat_le n to ≡ false → to < n
       is_there n to e = grind (arith, nat_tests)
@@ -402,7 +369,7 @@ module _ (keep : ℕ) (w : World) (i : ℕ) (l : i < length w.sites) (s : Sound 
         → is_red x ≡ nat_lt 0 (red_for x (site w i).held) → (0 < red_for x (site w i).held → red_for x (site w i).held ≡ reds (site w i).log + 1)
         → IsMade i (site w i).log (made (place keep w i) (site w i) x)
     inside_made x e colour number =
-        is_made (place keep w i) (site w i) x (decided keep few w i s ask x limits e colour) (λ m h. inside w i m s h) number
+        is_made (place keep w i) (site w i) x (decided keep few w i s ask x limits e colour) (λ m h. inside i m s h) number
 
     made_keeps : (x : Shadow) → decision (rows_at (site w i).log) (standing_of keep (site w i)) ask ≡ Ok x → (b : Bool) → is_red x ≡ b
         → (o : Option ℕ) → (site w i).held ≡ o
@@ -413,7 +380,7 @@ module _ (keep : ℕ) (w : World) (i : ℕ) (l : i < length w.sites) (s : Sound 
         })
     made_keeps x e false r o h =
         let none : red_for x (site w i).held ≡ 0 = ap (λ b. cond b (unwrap_or (site w i).held 0 + 1) 0) r in
-        sound_blue keep w i x l none (ap (λ b. cond b (option_map (λ issued. issued + 1) (site w i).held) (site w i).held) r)
+        sound_blue keep x l none (ap (λ b. cond b (option_map (λ issued. issued + 1) (site w i).held) (site w i).held) r)
         (inside_made x e (r ∙ sym (ap (nat_lt 0) none)) (λ q. absurd (omega (arith, none)))) s
     made_keeps x e true r None h =
         absurd (true≢false (sym (red_allowed (rows_at (site w i).log) (standing_of keep (site w i)) ask x e r).0 ∙ ap is_some h))
@@ -423,7 +390,7 @@ module _ (keep : ℕ) (w : World) (i : ℕ) (l : i < length w.sites) (s : Sound 
         ≡ issued = eqb-true (reds (site w i).log) issued
         (ap (λ q. option_map_or (λ n. reds (site w i).log == n) q false) (sym h)
         ∙ (red_allowed (rows_at (site w i).log) (standing_of keep (site w i)) ask x e r).1) in
-        sound_red keep w i issued x h l up number (λ j. cond (r j) (option_map (λ issued. issued + 1) (h j)) (h j))
+        sound_red keep x h l up number (λ j. cond (r j) (option_map (λ issued. issued + 1) (h j)) (h j))
         (inside_made x e (r ∙ sym (ap (nat_lt 0) number ∙ positive issued)) (λ _. number ∙ ap (λ n. n + 1) (sym up))) s
       where
         positive : (n : ℕ) → nat_lt 0 (n + 1) ≡ true
@@ -435,14 +402,13 @@ module _ (keep : ℕ) (w : World) (i : ℕ) (l : i < length w.sites) (s : Sound 
     asking_keeps (Ok x) e = made_keeps x e (is_red x) refl (site w i).held refl
 
 -- where there is no such site, nothing happens
-pub at_one : (P : World → Type 0) (w : World) (i : ℕ) (step : World × Result Happened Refusal) → P w → (i < length w.sites → P step.0)
-    → P (at_site w i step).0
+pub at_one : (P : World → Type 0) (w : World) (i : ℕ) (step : World × Result Happened Refusal) → P w → (i < length w.sites → P step.0) → P (at_site w i step).0
 at_one P w i step old new = cond_both (nat_lt i (length w.sites)) step _ (λ (p : World × Result Happened Refusal). P p.0)
     (λ l. new (ltb-true i (length w.sites) l)) (λ _. old)
 
 pub has_packet : (sent : List Packet) (k : ℕ) (p : Packet) → packet_at sent k ≡ Some p → Has p sent
 has_packet sent zero p e = absurd (cc)
-has_packet sent (suc k) p e = has_get sent k p e
+has_packet sent (suc k) p e = has_get sent k e
 
 requested_keeps : (keep : ℕ) → keep ≤ 1000000 → (w : World) (i : ℕ) (r : Request) → IsEvent (length w.sites) (At i r) → i < length w.sites → Sound w
     → Sound (requested keep w i r).0
@@ -468,8 +434,7 @@ requested_sites keep w i (request.Pass to) = length-set w.sites i _
 requested_sites keep w i (request.List l) = refl
 
 pub event_sites : (keep : ℕ) (w : World) (e : Event) → length (happens keep w e).0.sites ≡ length w.sites
-event_sites keep w (At i r) =
-    at_one (λ v. length v.sites ≡ length w.sites) w i (requested keep w i r) refl (λ _. requested_sites keep w i r)
+event_sites keep w (At i r) = at_one (λ v. length v.sites ≡ length w.sites) w i (requested keep w i r) refl (λ _. requested_sites keep w i r)
 event_sites keep w (Deliver i k) =
     at_one (λ v. length v.sites ≡ length w.sites) w i (coming keep w i (packet_at w.sent k)) refl (λ _. coming_sites keep w i (packet_at w.sent k))
 
@@ -483,10 +448,8 @@ pub start_sites : (n : ℕ) → length (start n).sites ≡ n
 start_sites n = length-map-range_with_len opening_at 0 n
 
 pub start_at : (P : ℕ → Replica → Type 0) → ((i : ℕ) → P i (opening_at i)) → ((i : ℕ) → P i (opening_at 1)) → (n i : ℕ) → P i (site (start n) i)
-start_at P here there n i = ⊎_elim
-    (λ k. subst (P i) (sym (get_or-map-range_with_len opening_at 0 n i i (opening_at 1) k (omega arith))) (here i))
-    (λ k. subst (P i) (sym (get_or_past (start n).sites i (opening_at 1) (subst (λ x. x ≤ i) (sym (start_sites n)) k))) (there i))
-    (cases_lt i n)
+start_at P here there n i = ⊎_elim (λ k. subst (P i) (sym (get_or-map-range_with_len opening_at 0 n i i (opening_at 1) k (omega arith))) (here i))
+    (λ k. subst (P i) (sym (get_or_past (start n).sites i (opening_at 1) (subst (λ x. x ≤ i) (sym (start_sites n)) k))) (there i)) (cases_lt i n)
 
 good_start : (i : ℕ) → Good [] i [] []
 good_start i =

@@ -46,9 +46,9 @@ use Rattle.rubis_laws.proofs.Order.Tokens.{held_is}
 
 -- ---- a nickname of the tables is one of a message
 
-user_text : (x : Shadow) (n : List ℕ) → as_user x ≡ Some n → HasShadowTexts x → IsNick n
-user_text (shadow.User k) n e h = subst IsNick (let p : k ≡ n = cc in p) h
-user_text x n e h = absurd cc
+user_text : (x : Shadow) {n : List ℕ} → as_user x ≡ Some n → HasShadowTexts x → IsNick n
+user_text (shadow.User k) {n} e h = subst IsNick (let p : k ≡ n = cc in p) h
+user_text x e h = absurd cc
 
 rename_text : (u : Id) (x : Shadow) → renames u x ≡ true → HasShadowTexts x → IsNick (new_nick x)
 rename_text u (shadow.Rename r) e h = h.1
@@ -61,7 +61,7 @@ nick_text a texts u n e = at (last_rename u a) (choose_is later_ranks (λ m. ren
         → IsNick n
     at o c None is e = absurd cc
     at None c (Some k) is e =
-        let w = found_at (λ (m : Core). as_user m.shadow) u k a is in subst IsNick (same_Some k n e) (user_text w.0.shadow k w.3 (texts w.0 w.1))
+        let w = found_at (λ (m : Core). as_user m.shadow) u a is in subst IsNick (same_Some k n e) (user_text w.0.shadow w.3 (texts w.0 w.1))
     at (Some m) c (Some k) is e = subst IsNick (same_Some (new_nick m.shadow) n e) (rename_text u m.shadow c.passes (texts m c.there))
 
 -- ---- each event
@@ -91,7 +91,7 @@ module _ (keep : ℕ) (few : keep ≤ 1000000) (w : World) (i : ℕ) (s : Sound 
 
   fits_here : (a : Ask) (x : Shadow) → decision (rows_at (site w i).log) (standing_of keep (site w i)) a ≡ Ok x → Fits (cores (site w i).log) x
   fits_here a x e =
-      let c = log_checked w i s in
+      let c = log_checked i s in
       let b = least keep (length (site w i).log) (length (site w i).waiting) few (not_full (rows_at (site w i).log) (standing_of keep (site w i)) a x e) in
       let n = cores_length (site w i).log in
       let l : length (cores (site w i).log) ≤ 2 ^ 32 = omega (arith, b, n) in
@@ -137,7 +137,7 @@ module _ (keep : ℕ) (few : keep ≤ 1000000) (w : World) (i : ℕ) (s : Sound 
       (λ there. cond_both (nat_le 1000000000 (site w i).last) (site w i, Err LastTurn) _
       (λ (p : Replica × Result Token Refusal). AllPackets (length w.sites) (answering packet.Token w i p).sent) (λ _. none_more)
       (λ early. one_more (packet.Token (token_for (site w i) to issued)) (
-      let e = (held_is (length w.sites) (λ j. (site w j).held) (λ j. (site w j).last) w.sent i issued s.token h).1 in
+      let e = (held_is (length w.sites) (λ j. (site w j).held) (λ j. (site w j).last) w.sent i s.token h).1 in
       record {
         turn = is_early (site w i).last early;
         to = is_there (length w.sites) to (or_parts (nat_le (length w.sites) to) (to == i) there).0;
@@ -156,9 +156,8 @@ module _ (keep : ℕ) (few : keep ≤ 1000000) (w : World) (i : ℕ) (s : Sound 
   coming_written (Some (packet.Msg m)) = all
   coming_written (Some (packet.Token t)) = all
 
-requested_written : (keep : ℕ) → keep ≤ 1000000 → (w : World) (i : ℕ) (q : Request) → length w.sites ≤ 16 → IsRequest (length w.sites) q → i < length w.sites →
-    Sound w
-    → AllPackets (length w.sites) w.sent → AllPackets (length w.sites) (requested keep w i q).0.sent
+requested_written : (keep : ℕ) → keep ≤ 1000000 → (w : World) (i : ℕ) (q : Request) → length w.sites ≤ 16 → IsRequest (length w.sites) q → i < length w.sites
+    → Sound w → AllPackets (length w.sites) w.sent → AllPackets (length w.sites) (requested keep w i q).0.sent
 requested_written keep few w i (request.Ask a) n is l s all =
     asking_written keep few w i s all (decision (rows_at (site w i).log) (standing_of keep (site w i)) a)
     (λ x e. let d = made_deliverable keep few w i s l n a is.0 x e in (d.0, d.1, made_texts keep few w i s all a x is.1 e))

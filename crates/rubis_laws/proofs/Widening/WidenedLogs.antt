@@ -32,9 +32,9 @@ use Rattle.rubis_model.proofs.Lists.{has_left, has_right, has_append}
 use Rattle.rubis_laws.proofs.Audits.EntryOrder.{counted_past, nothing_past, number_same}
 
 -- ---- tests over lists and numbers
-no_and : (a b : Bool) → b ≡ false → (a && b) ≡ false
-no_and true b e = e
-no_and false b e = refl
+no_and : (a : Bool) {b : Bool} → b ≡ false → (a && b) ≡ false
+no_and true e = e
+no_and false e = refl
 
 any_map : {A B : Type 0} (p : B → Bool) (q : A → Bool) (f : A → B) (xs : List A) → ((u : A) → Has u xs → p (f u) ≡ q u) → list_any p (map f xs) ≡ list_any q xs
 any_map p q f [] h = refl
@@ -45,8 +45,8 @@ none_from p a zero h = refl
 none_from p a (suc n) h = or_from (p a) (list_any p (range_with_len (a + 1) n)) (h a (omega arith)) (none_from p (a + 1) n (λ j l. h j (omega (arith, l))))
 
 -- further numbers, of which none passes, change no test
-beyond : (p : ℕ → Bool) (a few many : ℕ) → few ≤ many → ((j : ℕ) → a + few ≤ j → p j ≡ false) → list_any p (range_with_len a many)
-    ≡ list_any p (range_with_len a few)
+beyond : (p : ℕ → Bool) (a few many : ℕ) → few ≤ many → ((j : ℕ) → a + few ≤ j → p j ≡ false)
+    → list_any p (range_with_len a many) ≡ list_any p (range_with_len a few)
 beyond p a zero many l h = none_from p a many (λ j m. h j (omega (arith, m)))
 beyond p a (suc few) zero l h = absurd (omega (arith, l))
 beyond p a (suc few) (suc many) l h = ap (λ b. p a || b) (beyond p (a + 1) few many (omega (arith, l)) (λ j m. h j (omega (arith, m))))
@@ -58,10 +58,8 @@ zeros (suc n) zero = refl
 zeros (suc n) (suc j) = zeros n j
 
 count_widened : (deps : List ℕ) (n j : ℕ) → slice_index (deps ++ replicate n 0) j ≡ slice_index deps j
-count_widened deps n j = ⊎_elim
-    (λ l. get_or_append_left deps (replicate n 0) 0 j l)
-    (λ l. get_or-append_right deps (replicate n 0) j 0 l ∙ zeros n _ ∙ sym (get_or_past deps j 0 l))
-    (cases_lt j (length deps))
+count_widened deps n j = ⊎_elim (λ l. get_or_append_left deps (replicate n 0) 0 j l)
+    (λ l. get_or-append_right deps (replicate n 0) j 0 l ∙ zeros n _ ∙ sym (get_or_past deps j 0 l)) (cases_lt j (length deps))
 
 -- it counts `sites` sites, and belongs to one of them
 record Counts (sites : ℕ) (u : Message) : Type 0 where
@@ -145,7 +143,7 @@ module _ (from to : ℕ) (up : from ≤ to) where
         (λ j. not (j == v.stamp.id.site) && nat_lt (counted j (map w own)) (dep (w v) j))
         (λ j. not (j == v.stamp.id.site) && nat_lt (counted j own) (dep v j))
         (λ j i. not (j == v.stamp.id.site) && nat_lt (counted_w j own i) (dep_w v j i))
-        (λ j l. no_and (not (j == v.stamp.id.site)) _ (le-ltb (counted j own) (dep v j) (let z = nothing v this j l in omega (arith, z))))
+        (λ j l. no_and (not (j == v.stamp.id.site)) (le-ltb (counted j own) (dep v j) (let z = nothing v this j l in omega (arith, z))))
 
     miscounts_w : (site : ℕ) → miscounts site (map w own) (w v) ≡ miscounts site own v
     unfolding AllCount
@@ -153,7 +151,7 @@ module _ (from to : ℕ) (up : from ≤ to) where
         (λ j. not (dep (w v) j == counted j (map w own)))
         (λ j. not (dep v j == counted j own))
         (λ j i. not (dep_w v j i == counted_w j own i))
-        (λ j l. number_same (dep v j) (counted j own) (nothing v this j l ∙ sym (counted_past own from j l (λ u h. (here u h).site)))))
+        (λ j l. number_same (nothing v this j l ∙ sym (counted_past own from j l (λ u h. (here u h).site)))))
 
     forgets_w : (u : Message) → Counts from u → forgets (w v) (w u) ≡ forgets v u
     forgets_w u c = λ i. (u.stamp.id.seq == dep_w v u.stamp.id.site i) && at_sites v this.counts

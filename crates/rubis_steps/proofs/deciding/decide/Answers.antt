@@ -20,7 +20,7 @@ returns-then-not-may c =
     let x = c.index-events-at.result in
     let e = event_of x in
     let before = take n (events_of xs) in
-    let more = events_more xs n x c.loop-at-test.true c.index-events-at.is in
+    let more = events_more xs n c.loop-at-test.true c.index-events-at.is in
     let no : may c.args.carrier (run start before) e ≡ false =
     ap (λ s. may c.args.carrier s e) (sym c.loop-at.invariant.stands) ∙ sym c.may.ensures ∙ c.if-not-may.true in (
       omega (arith, length-map xs event_of, c.loop-at-test.true),
@@ -35,15 +35,13 @@ loop-at-preserved c =
     let x = c.index-events-at.result in
     let e = event_of x in
     let before = take n (events_of xs) in
-    let more = events_more xs n x c.loop-at-test.true c.index-events-at.is in
+    let more = events_more xs n c.loop-at-test.true c.index-events-at.is in
     let yes : may c.args.carrier (run start before) e ≡ true =
     ap (λ s. may c.args.carrier s e) (sym c.loop-at.invariant.stands) ∙ sym c.may.ensures ∙ c.if-not-may.false in
     let allowed : May c.args.carrier (run start before) e = (may_decides c.args.carrier (run start before) e).0 yes in
     record {
-      steps = subst (AreSteps c.args.carrier start) (sym more)
-          (steps_append c.args.carrier start before (e ∷ []) c.loop-at.invariant.steps (allowed, tt));
-      stands = c.in_ok-happens.ensures ∙ ap (λ s. after s e) c.loop-at.invariant.stands
-          ∙ sym (ap (run start) more ∙ run_append start before (e ∷ []));
+      steps = subst (AreSteps c.args.carrier start) (sym more) (steps_append c.args.carrier start before (e ∷ []) c.loop-at.invariant.steps (allowed, tt));
+      stands = c.in_ok-happens.ensures ∙ ap (λ s. after s e) c.loop-at.invariant.stands ∙ sym (ap (run start) more ∙ run_append start before (e ∷ []));
     }
 
 pub returns : goal.returns

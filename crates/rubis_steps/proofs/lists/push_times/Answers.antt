@@ -5,5 +5,5 @@ use Rattle.rubis_steps.proofs.lists.push_times.Goals as goal
 pub loop-done-preserved : goal.loop-done-preserved
 loop-done-preserved c = record {
   within = omega arith;
-  pushed = c.in_ok-push.ensures.items ∙ pushed_more c.loop-done.done c.args.number c.loop-done.numbers.items c.args.numbers.now.items c.loop-done.invariant.pushed;
+  pushed = c.in_ok-push.ensures.items ∙ pushed_more c.loop-done.done c.args.number c.args.numbers.now.items c.loop-done.invariant.pushed;
 }

@@ -8,6 +8,5 @@ pub returns : goal.returns
 returns c =
     let old = c.args.self.now in
     let x = c.args.packet in
-    stream_replaced old c.list_stream.new.self c.sender-site.result c.index_mut.result.now c.push.new.self (λ xs. xs ++ x ∷ [])
-    c.in_ok-list_stream.ensures c.index_mut.ensures.value c.in_ok-push.ensures.items
+    stream_replaced c.push.new.self (λ xs. xs ++ x ∷ []) c.in_ok-list_stream.ensures c.index_mut.ensures.value c.in_ok-push.ensures.items
     ∙ ap (λ j. with_stream j (stream_at old j ++ x ∷ []) (shop_of old)) c.sender-site.ensures

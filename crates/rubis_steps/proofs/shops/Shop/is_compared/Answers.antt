@@ -12,10 +12,8 @@ returns-then-folders_reached c =
     let i = c.args.it.now.site in
     let n = c.highest-number.result in
     let t = c.last_turn-turn.result in
-    second (folders_reached i n t s.folders.items) (streams_reached i n t s.streams.items) c.streams_reached.result
-    (sym (c.folders_reached.ensures ∙ ap (folders_reached i n t) c.deref-3.ensures.value) ∙ c.if-folders_reached.true)
-    (c.streams_reached.ensures ∙ ap (streams_reached i n t) c.deref-then-folders_reached.ensures.value)
-    ∙ compared_is s i n t
+    second (sym (c.folders_reached.ensures ∙ ap (folders_reached i n t) c.deref-3.ensures.value) ∙ c.if-folders_reached.true)
+    (c.streams_reached.ensures ∙ ap (streams_reached i n t) c.deref-then-folders_reached.ensures.value) ∙ compared_is s i n t
     ∙ ap₂ (λ n t. reaches_all i n t (shop_of s)) (c.highest-number.ensures ∙ ap (highest i) c.deref.ensures.value)
     (c.last_turn-turn.ensures ∙ ap (last_turn i) c.deref-2.ensures.value)
 
@@ -27,8 +25,6 @@ returns-else-folders_reached c =
     let t = c.last_turn-turn.result in
     let reached : c.folders_reached.result ≡ folders_reached i n t s.folders.items =
     c.folders_reached.ensures ∙ ap (folders_reached i n t) c.deref-3.ensures.value in
-    first_false (folders_reached i n t s.folders.items) (streams_reached i n t s.streams.items) c.folders_reached.result
-    (sym reached ∙ c.if-folders_reached.false) reached
-    ∙ compared_is s i n t
+    first_false (streams_reached i n t s.streams.items) (sym reached ∙ c.if-folders_reached.false) reached ∙ compared_is s i n t
     ∙ ap₂ (λ n t. reaches_all i n t (shop_of s)) (c.highest-number.ensures ∙ ap (highest i) c.deref.ensures.value)
     (c.last_turn-turn.ensures ∙ ap (last_turn i) c.deref-2.ensures.value)

@@ -10,6 +10,6 @@ returns c =
     let old = c.args.self.now in
     let k = c.args.folder in
     let life = c.in_ok-life.life in
-    ap (λ (s : Shop). record s { begun = life }) (replaced_is old c.list.new.self k c.index_mut.result.now c.start.new.self (λ f. started f life)
+    ap (λ (s : Shop). record s { begun = life }) (replaced_is c.start.new.self (λ f. started f life)
     c.in_ok-list.ensures c.index_mut.ensures.value c.start.ensures)
     ∙ ap (λ b. record (with_folder k (started (folder_at old k) b) (shop_of old)) { begun = b }) c.in_ok-life.ensures

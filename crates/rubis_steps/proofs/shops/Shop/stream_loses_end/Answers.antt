@@ -3,5 +3,4 @@ use Rattle.rubis_steps.proofs.Leading.{stream_replaced}
 use Rattle.rubis_steps.proofs.shops.Shop.stream_loses_end.Goals as goal
 
 pub returns : goal.returns
-returns c = stream_replaced c.args.self.now c.list_stream.new.self c.args.site c.index_mut.result.now c.truncate.new.self (take c.args.count)
-    c.in_ok-list_stream.ensures c.index_mut.ensures.value c.truncate.ensures.items
+returns c = stream_replaced c.truncate.new.self (take c.args.count) c.in_ok-list_stream.ensures c.index_mut.ensures.value c.truncate.ensures.items

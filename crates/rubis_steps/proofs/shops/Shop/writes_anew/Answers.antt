@@ -10,6 +10,5 @@ returns c =
     let old = c.args.self.now in
     let k = c.args.folder in
     let all = own (folder_at old k).site (folder_at old k).kept in
-    stream_replaced old c.list_stream.new.self c.site-site.result c.index_mut.result.now c.in_ok-stream.stream (λ xs. all)
-    c.in_ok-list_stream.ensures c.index_mut.ensures.value c.in_ok-stream.ensures
+    stream_replaced c.in_ok-stream.stream (λ xs. all) c.in_ok-list_stream.ensures c.index_mut.ensures.value c.in_ok-stream.ensures
     ∙ ap (λ i. with_stream i all (shop_of old)) c.site-site.ensures
