@@ -296,9 +296,9 @@ class Supervisor(Shop):
         self._say_ready()
 
     async def _compared(self) -> None:
-        """Waits until it is known whether the sites that are up are fenced, for some time, or until the link fails."""
+        """Waits until it is known whether the sites that are up are fenced, or that this can't be seen, for some time."""
         until = time.monotonic() + COMPARE_SECONDS
-        while any(site.up.is_set and not site.compared.is_set for site in self.sites.values()) and not self.link.state.startswith("down"):
+        while any(site.up.is_set and not (site.compared.is_set or self.link.is_unseen(site)) for site in self.sites.values()):
             if not await waited(self.progress, max(until - time.monotonic(), 0.001)):
                 break
 

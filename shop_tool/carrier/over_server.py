@@ -164,6 +164,9 @@ class ServerLink(Link):
     def _is_called(site: Site, life: bytes | None) -> bool:
         return is_called(None if life is None else life.decode("utf-8", "replace"), life_text(site.lives), bool(site.fenced_by))
 
+    def is_unseen(self, site: Site) -> bool:
+        return Publisher(self, site).name in self.down
+
     def published(self, site: Site) -> int:
         return min(self.counts.get(site.number, 0), len(site.ledger.sends))
 

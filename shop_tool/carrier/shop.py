@@ -38,6 +38,10 @@ class Link(abc.ABC):
     def published(self, site: Site) -> int:
         """How many packets of a site here would stay if its folder were lost: another site has them, or the server does."""
 
+    def is_unseen(self, _site: Site) -> bool:
+        """Whether it was tried to see what the others have of a site here, and can't be seen now."""
+        return self.state.startswith("down")
+
 
 class Shop(abc.ABC):
     sites: Mapping[int, Site]                       # those that run here
