@@ -96,7 +96,7 @@ class Clone:
                 (self.top / "crates" / name / part).mkdir(parents=True)
             root = "main.rt" if name in ("rubis_app", "rubis_site") else "lib.rt"
             (self.top / "crates" / name / "src" / root).write_text("//! A crate.\n\nfn a() {}\n\npub fn b() {}\n")
-        shutil.copytree(TOP / "crates/rubis_cli/src", self.top / "crates/rubis_cli/src")
+        shutil.copytree(TOP / "crates/rubis_command/src", self.top / "crates/rubis_command/src")
         self.words = {**os.environ, "KIT": str(self.kit), "TMPDIR": str(self.temporary), "HOME": str(self.home)}
         self.words.pop("XDG_CACHE_HOME", None)
         self.with_toolchain()

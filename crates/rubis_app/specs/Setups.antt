@@ -1,10 +1,10 @@
 -- What a command line asks for, but for the configuration of one site.
 use Rattle.std.specs.Prelude.{Bool, not, is_some, unwrap_or, ◌&&◌, ◌||◌}
 use Rattle.rubis_schema.specs.declared.limits.TheConstants.{KEEP_MAX}
-use Rattle.rubis_cli.specs.declared.keep_options.KeepOptions.{KeepOptions}
-use Rattle.rubis_cli.specs.declared.options.LackOptions.{LackOptions}
-use Rattle.rubis_cli.specs.declared.options.Options.{Options}
-use Rattle.rubis_cli.specs.declared.options.SetupOptions.{SetupOptions}
+use Rattle.rubis_command.specs.declared.options.KeepOptions.{KeepOptions}
+use Rattle.rubis_command.specs.declared.options.LackOptions.{LackOptions}
+use Rattle.rubis_command.specs.declared.options.Options.{Options}
+use Rattle.rubis_command.specs.declared.options.SetupOptions.{SetupOptions}
 use Rattle.rubis_keep.specs.declared.keep.Wanted.{Wanted}
 use Rattle.rubis_world.specs.Setup.{WorldSetup}
 

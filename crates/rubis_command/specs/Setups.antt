@@ -1,6 +1,6 @@
 -- The configuration that a command line asks for.
 use Rattle.rubis_replica.specs.Setup.{Setup}
-use Rattle.rubis_cli.specs.declared.options.Options.{Options}
+use Rattle.rubis_command.specs.declared.options.Options.{Options}
 
 -- the configuration of one site
 abbrev pub setup_of : Options → Setup

@@ -1,10 +1,10 @@
 -- The program's exit status: 0 if all went well, 1 if a fault ended the run, 2 if the command line is
 -- invalid.
-use Rattle.std.specs.Prelude.{◌≡◌, ◌⊎◌, ℕ, List, [], ◌∷◌}
-use Rattle.clap.specs.Words.{Kinds, Text, fault_of}
+use Rattle.std.specs.Prelude.{◌≡◌, ◌⊎◌, ℕ, List, []}
+use Rattle.clap.specs.Words.{IsAmong, Text, fault_of}
 use Rattle.clap.specs.declared.error.kind.ErrorKind.{ErrorKind}
 use Rattle.clap.specs.declared.error.kind.ErrorKind.TheVariants.{DisplayHelp, DisplayVersion}
-use Rattle.rubis_cli.specs.CommandLine.{command_line}
+use Rattle.rubis_command.specs.CommandLine.{command_line}
 
 -- help and the version are shown, and all else that `clap` says is a mistake
 abbrev pub status_by : ErrorKind → ℕ
@@ -24,13 +24,8 @@ IsRefusal s = (s ≡ 1) ⊎ (s ≡ 2)
 abbrev pub IsStatus : ℕ → Type 0
 IsStatus s = IsRunStatus s ⊎ (s ≡ 2)
 
--- the status of words that are refused for one of these reasons
-abbrev pub IsStatusAmong : Kinds → ℕ → Type 0
-IsStatusAmong [] s = ⊥
-IsStatusAmong (k ∷ ks) s = (s ≡ status_by k) ⊎ IsStatusAmong ks s
-
 -- the status for these words: 1, since a fault may end any run; that of one of the reasons to refuse them; or, if there is
 -- none, 0 for a run that went well, or 2 for a site that isn't below `sites`, a `to` that is, an option without its flag, or a folder that
 -- isn't the one that is asked for
 abbrev pub IsStatusOf : List Text → ℕ → Type 0
-IsStatusOf words s = (s ≡ 1) ⊎ IsStatusAmong (fault_of command_line words) s ⊎ ((fault_of command_line words ≡ []) × ((s ≡ 0) ⊎ (s ≡ 2)))
+IsStatusOf words s = (s ≡ 1) ⊎ ((k : ErrorKind) × IsAmong k (fault_of command_line words) × (s ≡ status_by k)) ⊎ ((fault_of command_line words ≡ []) × ((s ≡ 0) ⊎ (s ≡ 2)))
