@@ -8,8 +8,8 @@ use Rattle.rubis_keep.specs.Lines.{HasNoEnd, asked_after, asked_line, begun_afte
 use Rattle.rubis_keep.proofs.LineFacts.{begun-append, begun-pushed, begun-stays, kept-append, kept_begun, question_begun}
 use Rattle.rubis_keep.proofs.SoundFacts.{no-end-more}
 
-pub asked-append : (asks : Bool) (kept line xs ys : List ℕ)
-    → asked_after asks kept line (xs ++ ys) ≡ asked_after asks kept line xs ++ asked_after asks (kept ++ kept_after asks line xs) (begun_after line xs) ys
+pub asked-append : (asks : Bool) (kept line xs ys : List ℕ) → asked_after asks kept line (xs ++ ys) ≡ asked_after asks kept line xs ++ asked_after asks
+    (kept ++ kept_after asks line xs) (begun_after line xs) ys
 asked-append asks kept line [] ys = ap (λ k. asked_after asks k line ys) (sym (append-nil kept))
 asked-append asks kept line (b ∷ xs) ys =
     let next = kept ++ kept_line asks line in
@@ -20,47 +20,45 @@ asked-append asks kept line (b ∷ xs) ys =
       | true ↦
           ap (λ r. asked_line asks kept line ++ r) (asked-append asks next [] xs ys)
           ∙ ap (λ k. asked_line asks kept line ++ (asked_after asks next [] xs ++ asked_after asks k (begun_after [] xs) ys))
-          (append_assoc kept (kept_line asks line) (kept_after asks [] xs))
-          ∙ sym (append_assoc (asked_line asks kept line) (asked_after asks next [] xs)
+          (append_assoc kept (kept_line asks line) (kept_after asks [] xs)) ∙ sym (append_assoc (asked_line asks kept line) (asked_after asks next [] xs)
           (asked_after asks (kept ++ (kept_line asks line ++ kept_after asks [] xs)) (begun_after [] xs) ys))
       | false ↦ asked-append asks kept (line ++ b ∷ []) xs ys
     ]
 
 -- ---- the cutter
 
-pub cut-none : (asks : Bool) (line begun kept question : List ℕ) → begun ≡ begun_bytes line → CutsLines asks line [] begun kept kept false question
-cut-none asks line begun kept question e = record { begins = e; keeps = sym (append-nil kept); questions = λ done. refl }
+pub cut-none : (asks : Bool) (line : List ℕ) {begun : List ℕ} (kept question : List ℕ) → begun ≡ begun_bytes line
+    → CutsLines asks line [] begun kept kept false question
+cut-none asks line kept question e = record { begins = e; keeps = sym (append-nil kept); questions = λ done. refl }
 
 -- bytes that ask nothing, and then more
-pub cut-more : (asks : Bool) (line xs ys begun begun2 kept0 kept1 kept2 question question2 : List ℕ) (asked : Bool)
+pub cut-more : {asks : Bool} {line xs ys begun begun2 kept0 kept1 kept2 question question2 : List ℕ} {asked : Bool}
     → CutsLines asks line xs begun kept0 kept1 false question → CutsLines asks (begun_after line xs) ys begun2 kept1 kept2 asked question2
     → CutsLines asks line (xs ++ ys) begun2 kept0 kept2 asked question2
-cut-more asks line xs ys begun begun2 kept0 kept1 kept2 question question2 asked a b =
+cut-more {asks} {line} {xs} {ys} {kept0} {question2} {asked} a b =
     let first = kept_after asks line xs in
     let second = kept_after asks (begun_after line xs) ys in
     record {
       begins = b.begins ∙ ap begun_bytes (sym (begun-append line xs ys));
       keeps = b.keeps ∙ ap (λ t. t ++ second) a.keeps ∙ append_assoc kept0 first second ∙ ap (λ t. kept0 ++ t) (sym (kept-append asks line xs ys));
       questions = λ done.
-          asked-append asks done line xs ys
-          ∙ ap (λ t. t ++ asked_after asks (done ++ first) (begun_after line xs) ys) (a.questions done)
+          asked-append asks done line xs ys ∙ ap (λ t. t ++ asked_after asks (done ++ first) (begun_after line xs) ys) (a.questions done)
           ∙ b.questions (done ++ first)
           ∙ ap (λ k. asked_by asked k question2) (append_assoc done first second ∙ ap (λ t. done ++ t) (sym (kept-append asks line xs ys)));
     }
 
-pub cut-next : (asks : Bool) (line piece begun begun2 kept0 kept1 kept2 question question2 : List ℕ) (asked : Bool) (i : ℕ) → i < length piece
-    → CutsLines asks line (take i piece) begun kept0 kept1 false question
+pub cut-next : {asks : Bool} {line : List ℕ} (piece : List ℕ) {begun begun2 kept0 kept1 kept2 question question2 : List ℕ} {asked : Bool} (i : ℕ)
+    → i < length piece → CutsLines asks line (take i piece) begun kept0 kept1 false question
     → CutsLines asks (begun_after line (take i piece)) (get_or piece i 0 ∷ []) begun2 kept1 kept2 asked question2
     → CutsLines asks line (take (i + 1) piece) begun2 kept0 kept2 asked question2
-cut-next asks line piece begun begun2 kept0 kept1 kept2 question question2 asked i h a b =
-    subst (λ t. CutsLines asks line t begun2 kept0 kept2 asked question2) (sym (take_more piece i 0 h))
-    (cut-more asks line (take i piece) (get_or piece i 0 ∷ []) begun begun2 kept0 kept1 kept2 question question2 asked a b)
+cut-next {asks} {line} piece {begun2} {kept0} {kept2} {question2} {asked} i h a b =
+    subst (λ t. CutsLines asks line t begun2 kept0 kept2 asked question2) (sym (take_more piece i 0 h)) (cut-more a b)
 
 -- a line ends
-pub cut-ended : (asks : Bool) (line begun begun2 kept kept2 question : List ℕ) (asked : Bool) → begun ≡ begun_bytes line → begun2 ≡ []
-    → asked ≡ (asks && is_question begun) → (asked ≡ true → question ≡ begun) → kept2 ≡ kept ++ kept_line asks begun
+pub cut-ended : (asks : Bool) (line : List ℕ) {begun begun2 : List ℕ} (kept : List ℕ) {kept2 : List ℕ} (question : List ℕ) {asked : Bool}
+    → begun ≡ begun_bytes line → begun2 ≡ [] → asked ≡ (asks && is_question begun) → (asked ≡ true → question ≡ begun) → kept2 ≡ kept ++ kept_line asks begun
     → CutsLines asks line (10 ∷ []) begun2 kept kept2 asked question
-cut-ended asks line begun begun2 kept kept2 question asked h none is q k = record {
+cut-ended asks line kept question {asked} h none is q k = record {
   begins = none;
   keeps = k ∙ ap (λ l. kept ++ l) (ap (kept_line asks) h ∙ kept_begun asks line ∙ sym (append-nil (kept_line asks line)));
   questions = λ done. go done (asks && is_question line) (is ∙ ap (λ l. asks && is_question l) h ∙ ap (λ t. asks && t) (question_begun line));
@@ -73,18 +71,18 @@ cut-ended asks line begun begun2 kept kept2 question asked h none is q k = recor
     go done false e = rw e refl
 
 -- or goes on
-pub cut-pushed : (asks : Bool) (line begun begun2 kept question : List ℕ) (b : ℕ) → eqb b 10 ≡ false → begun ≡ begun_bytes line → length begun ≤ 4096
-    → begun2 ≡ begun ++ b ∷ [] → CutsLines asks line (b ∷ []) begun2 kept kept false question
-cut-pushed asks line begun begun2 kept question b e h l new = record {
-  begins = rw e (begun-pushed line begun begun2 b h l new);
+pub cut-pushed : (asks : Bool) (line : List ℕ) {begun begun2 : List ℕ} (kept question : List ℕ) (b : ℕ) → eqb b 10 ≡ false → begun ≡ begun_bytes line
+    → length begun ≤ 4096 → begun2 ≡ begun ++ b ∷ [] → CutsLines asks line (b ∷ []) begun2 kept kept false question
+cut-pushed asks line kept question b e h l new = record {
+  begins = rw e (begun-pushed line b h l new);
   keeps = rw e (sym (append-nil kept));
   questions = λ done. rw e refl;
 }
 
-pub cut-stays : (asks : Bool) (line begun kept question : List ℕ) (b : ℕ) → eqb b 10 ≡ false → begun ≡ begun_bytes line → 4096 < length begun
-    → CutsLines asks line (b ∷ []) begun kept kept false question
-cut-stays asks line begun kept question b e h l = record {
-  begins = rw e (begun-stays line begun b h l);
+pub cut-stays : (asks : Bool) (line : List ℕ) {begun : List ℕ} (kept question : List ℕ) (b : ℕ) → eqb b 10 ≡ false → begun ≡ begun_bytes line
+    → 4096 < length begun → CutsLines asks line (b ∷ []) begun kept kept false question
+cut-stays asks line kept question b e h l = record {
+  begins = rw e (begun-stays line b h l);
   keeps = rw e (sym (append-nil kept));
   questions = λ done. rw e refl;
 }
@@ -110,7 +108,8 @@ kept-ended line rest false h e rest_kept =
 pub kept-without : (line bytes : List ℕ) → HasNoEnd line → kept_of (without_after line bytes) ≡ kept_after true line bytes
 kept-without line [] h = nothing-kept [] line h
 kept-without line (b ∷ rest) h =
-    elim (eqb b 10) as (λ v. eqb b 10 ≡ v → kept_of (cond v (cond (is_question line) [] (line ++ 10 ∷ []) ++ without_after [] rest) (without_after (line ++ b ∷ []) rest))
+    elim (eqb b 10) as (λ v. eqb b 10 ≡ v → kept_of
+    (cond v (cond (is_question line) [] (line ++ 10 ∷ []) ++ without_after [] rest) (without_after (line ++ b ∷ []) rest))
     ≡ cond v (kept_line true line ++ kept_after true [] rest) (kept_after true (line ++ b ∷ []) rest)) [
       | true ↦ λ e. kept-ended line rest (is_question line) h refl (kept-without [] rest tt)
       | false ↦ λ e. kept-without (line ++ b ∷ []) rest (no-end-more line b h e)

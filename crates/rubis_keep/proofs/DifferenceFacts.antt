@@ -24,7 +24,8 @@ first-line-at text i inside here before =
 
 pub first-line-all : (text : List ℕ) → All (λ b. b ≢ 10) text → text ≡ before_first (λ b. b == 10) text
 first-line-all text none =
-    sym (ap (λ n. take n text) (position_or_len_is (λ b. b == 10) text (length text) 0 (omega arith) (λ k l. ne_eqb _ _ (All-get_or (λ b. b ≢ 10) text k 0 l none))
+    sym (ap (λ n. take n text)
+    (position_or_len_is (λ b. b == 10) text (length text) 0 (omega arith) (λ k l. ne_eqb _ _ (All-get_or (λ b. b ≢ 10) text k 0 l none))
     (λ l. absurd (omega (arith, l)))) ∙ take-length text)
 
 pub last-line-at : (text : List ℕ) (i : ℕ) → i < length text → get_or text i 0 ≡ 10 → ((k : ℕ) → i + 1 ≤ k → k < length text → get_or text k 0 ≢ 10)
@@ -37,7 +38,8 @@ last-line-at text i inside here after =
 
 pub last-line-all : (text : List ℕ) → All (λ b. b ≢ 10) text → text ≡ after_last (λ b. b == 10) text
 last-line-all text none =
-    let size = suffix_len_is (λ b. not (b == 10)) text 0 0 (omega arith) (λ k l m. ap not (ne_eqb _ _ (All-get_or (λ b. b ≢ 10) text k 0 m none))) (λ l. absurd (omega (arith, l))) in
+    let size = suffix_len_is (λ b. not (b == 10)) text 0 0 (omega arith) (λ k l m. ap not (ne_eqb _ _ (All-get_or (λ b. b ≢ 10) text k 0 m none)))
+    (λ l. absurd (omega (arith, l))) in
     let whole : 0 ≡ length text - suffix_len (λ b. not (b == 10)) text = omega (arith, size) in
     ap (λ n. drop n text) whole
 
@@ -58,8 +60,7 @@ same-none n found text l =
 pub is-difference : (at same : ℕ) (text found : List ℕ) (lines : ℕ) (d : Difference) → at ≤ length text → same ≡ same_in found (drop at text)
     → (let number = lines + ends_in (take (at + same) text) + 1 in number < 2 ^ 64 → d.line ≡ number)
     → string_bytes d.found ≡ shown_line (last_line (take (at + same) text)) (drop same found)
-    → string_bytes d.answered ≡ shown_line (last_line (take (at + same) text)) (drop (at + same) text)
-    → IsDifference (take at text ++ found) text lines d
+    → string_bytes d.answered ≡ shown_line (last_line (take (at + same) text)) (drop (at + same) text) → IsDifference (take at text ++ found) text lines d
 is-difference at same text found lines d l e line shown answered =
     let size = length-take-le at text l in
     let here : same_in (take at text ++ found) text ≡ at + same =
@@ -77,17 +78,17 @@ is-difference at same text found lines d l e line shown answered =
 pub shown-of : {begun begun2 more more2 : List ℕ} → begun ≡ begun2 → more ≡ more2 → shown_line begun more ≡ shown_line begun2 more2
 shown-of {begun} {begun2} {more} {more2} e f = ap (λ t. shown_line t more) e ∙ ap (shown_line begun2) f
 
-pub has-difference : (o : Option (List ℕ)) (came text : List ℕ) (lines : ℕ) (d : Difference) → IfSome o (λ old. IsFrontOf came old)
-    → DiffersFrom came text → IsDifference came text lines d → IfSome o (λ old. HasDifference old text lines d)
-has-difference None came text lines d f g h = tt
-has-difference (Some old) came text lines d f g h = record { came = came; front = f; differs = g; tells = h }
+pub has-difference : (o : Option (List ℕ)) {came text : List ℕ} {lines : ℕ} {d : Difference} → IfSome o (λ old. IsFrontOf came old) → DiffersFrom came text
+    → IsDifference came text lines d → IfSome o (λ old. HasDifference old text lines d)
+has-difference None f g h = tt
+has-difference (Some old) {came} f g h = record { came = came; front = f; differs = g; tells = h }
 
 none-left : (xs ys : List ℕ) → xs ++ ys ≡ [] → xs ≡ []
 none-left [] ys e = refl
 none-left (x ∷ xs) ys e = absurd (cc e)
 
-pub more-left : (old : List ℕ) (lines : ℕ) (d : Difference) → HasMore old lines d → old ≢ []
-more-left old lines d more none = more.some (none-left more.came more.front.0 (more.front.1 ∙ none))
+pub more-left : {old : List ℕ} {lines : ℕ} {d : Difference} → HasMore old lines d → old ≢ []
+more-left more none = more.some (none-left more.came more.front.0 (more.front.1 ∙ none))
 
 -- what a text and some first bytes differ in, it and all bytes do
 differs-all : (came old text : List ℕ) → IsFrontOf came old → DiffersFrom came text → DiffersFrom old text
@@ -120,7 +121,8 @@ pub may-there : {T : Type 0} (r : Result T KeepFault) (o : Option (List ℕ)) (t
     → IfErr r (λ e. MayDiffer e (λ _. IfSome o (λ old. DiffersFrom old text)))
 may-there (Ok x) o text lines h = tt
 may-there (Err e) o text lines h =
-    may-differ-more e (λ d. IfSome o (λ old. HasDifference old text lines d)) (λ _. IfSome o (λ old. DiffersFrom old text)) (λ d. differs-there o text lines d) h
+    may-differ-more e (λ d. IfSome o (λ old. HasDifference old text lines d)) (λ _. IfSome o (λ old. DiffersFrom old text))
+    (λ d. differs-there o text lines d) h
 
 -- the same of what was held
 pub may-held : {T : Type 0} (r : Result T KeepFault) (o : Option (List ℕ)) (old new : Account) (sink held : List ℕ) (lines : ℕ) → TextStays old new sink held

@@ -28,18 +28,18 @@ err-is P Q (Err x) e bad q = subst Q (sym bad) q
 
 -- ---- the limit
 
-pub within-more : (limit n limit2 n2 limit3 n3 : ℕ) → StaysWithin limit n limit2 n2 → StaysWithin limit2 n2 limit3 n3 → StaysWithin limit n limit3 n3
-within-more limit n limit2 n2 limit3 n3 a b = record { same = b.same ∙ a.same; within = λ l. b.within (a.within l) }
+pub within-more : {limit n limit2 n2 limit3 n3 : ℕ} → StaysWithin limit n limit2 n2 → StaysWithin limit2 n2 limit3 n3 → StaysWithin limit n limit3 n3
+within-more a b = record { same = b.same ∙ a.same; within = λ l. b.within (a.within l) }
 
-pub within-still : (limit n limit2 n2 limit3 n3 : ℕ) → StaysWithin limit n limit2 n2 → limit3 ≡ limit2 → n3 ≡ n2 → StaysWithin limit n limit3 n3
-within-still limit n limit2 n2 limit3 n3 a same count =
+pub within-still : {limit n limit2 n2 limit3 n3 : ℕ} → StaysWithin limit n limit2 n2 → limit3 ≡ limit2 → n3 ≡ n2 → StaysWithin limit n limit3 n3
+within-still a same count =
     record { same = same ∙ a.same; within = λ l. let before = a.within l in omega (arith, before, same, count) }
 
 -- as many records as the limit are answered, and more are to come
-pub too-many : (rows rest : List (List (List ℕ))) (all more : Account) (told old : List ℕ) (before out0 out : Option (List ℕ)) (sink : List ℕ)
-    (limit answered : ℕ) (kept : List ℕ) → Feeds (rows ++ rest) all more told old before out0 out sink (answered + 1) kept → 0 < length rows
-    → limit ≤ answered → limit < length (input_records kept)
-too-many rows rest all more told old before out0 out sink limit answered kept f some l =
+pub too-many : (rows rest : List (List (List ℕ))) {all more : Account} {told old : List ℕ} {before out0 out : Option (List ℕ)} {sink : List ℕ}
+    (limit answered : ℕ) {kept : List ℕ} → Feeds (rows ++ rest) all more told old before out0 out sink (answered + 1) kept → 0 < length rows → limit ≤ answered
+    → limit < length (input_records kept)
+too-many rows rest limit answered f some l =
     let whole = ap length f.parts in
     let size = length-append f.done (rows ++ rest) in
     let size2 = length-append rows rest in
@@ -58,34 +58,32 @@ apart : (front xs ys more later : List ℕ) → DiffersFrom xs ys → (front ++ 
 apart front xs ys more later (k, inside, there, differ) e =
     differ (sym (at-front front xs more k there) ∙ ap (λ t. get_or t (length front + k) 0) e ∙ at-front front ys later k inside)
 
-pub none-added : (old added since left : List ℕ) → old ++ added ≡ since ++ left → (added ≡ []) ⊎ (left ≡ []) → left ≢ [] → old ≡ since ++ left
-none-added old added since left e (inl none) some = sym (append-nil old) ∙ ap (λ t. old ++ t) (sym none) ∙ e
-none-added old added since left e (inr none) some = absurd (some none)
+pub none-added : (old : List ℕ) {added : List ℕ} (since : List ℕ) {left : List ℕ} → old ++ added ≡ since ++ left → (added ≡ []) ⊎ (left ≡ []) → left ≢ []
+    → old ≡ since ++ left
+none-added old since e (inl none) some = sym (append-nil old) ∙ ap (λ t. old ++ t) (sym none) ∙ e
+none-added old since e (inr none) some = absurd (some none)
 
 some-there : (xs : List ℕ) (k : ℕ) → k < length xs → xs ≢ []
 some-there [] k l none = absurd (omega (arith, l))
 some-there (x ∷ xs) k l none = cc none
 
 -- what waits to be put differs from what stands there
-pub feeds-unlike : (rest : List (List (List ℕ))) (all more : Account) (told old : List ℕ) (before out0 out : Option (List ℕ)) (sink : List ℕ) (number : ℕ)
-    (kept : List ℕ) → Feeds rest all more told old before out0 out sink number kept → IfSome before (λ left. DiffersFrom left sink)
+pub feeds-unlike : {rest : List (List (List ℕ))} {all more : Account} {told old : List ℕ} {before out0 out : Option (List ℕ)} {sink : List ℕ} {number : ℕ}
+    {kept : List ℕ} → Feeds rest all more told old before out0 out sink number kept → IfSome before (λ left. DiffersFrom left sink)
     → IsNoFront all (told ++ old) kept
-feeds-unlike rest all more told old before out0 out sink number kept f unlike rows (later, e) =
+feeds-unlike {told} {old} {sink} f unlike rows (later, e) =
     let w = f.wrote in
-    let b = begins rest all more told old before out0 out sink number kept f rows in
+    let b = begins f rows in
     let d : DiffersFrom w.left sink = subst (λ o. IfSome o (λ left. DiffersFrom left sink)) w.unread unlike in
-    let is : old ≡ f.since ++ w.left = none-added old w.added f.since w.left w.same w.one (some-there w.left d.0 d.2) in
-    apart (told ++ f.since) w.left sink later b.0 d
-    (ap (λ t. t ++ later) (append_assoc told f.since w.left ∙ ap (λ t. told ++ t) (sym is)) ∙ e ∙ sym b.1
+    let is : old ≡ f.since ++ w.left = none-added old f.since w.same w.one (some-there w.left d.0 d.2) in
+    apart (told ++ f.since) w.left sink later b.0 d (ap (λ t. t ++ later) (append_assoc told f.since w.left ∙ ap (λ t. told ++ t) (sym is)) ∙ e ∙ sym b.1
     ∙ ap (λ t. t ++ b.0) (sym (append_assoc told f.since sink)))
 
 -- what was held does, once it is answered
-pub finish-unlike : (rest : List (List (List ℕ))) (all more more2 : Account) (told old : List ℕ) (before out0 out : Option (List ℕ)) (sink : List ℕ)
-    (number : ℕ) (kept : List ℕ) → Feeds rest all more told old before out0 out sink number kept → FinishedUnlike more more2 sink before
+pub finish-unlike : {rest : List (List (List ℕ))} {all more : Account} (more2 : Account) {told old : List ℕ} {before out0 out : Option (List ℕ)} {sink : List ℕ}
+    {number : ℕ} {kept : List ℕ} → Feeds rest all more told old before out0 out sink number kept → FinishedUnlike more more2 sink before
     → IsNoFront all (told ++ old) kept
-finish-unlike rest all more more2 told old before out0 out sink number kept f (held, stays, unlike) =
-    feeds-unlike rest all more2 told old before out0 out held number kept
-    (feeds-kept rest all more more2 told old before out0 out sink held number kept f stays) unlike
+finish-unlike more2 f (held, stays, unlike) = feeds-unlike (feeds-kept more2 held f stays) unlike
 
 -- ---- causes
 
@@ -115,8 +113,7 @@ each-failure asks limit more input input2 log before out begun number len e fail
 
 -- the fault has its cause in what came
 pub each-caused : (asks : Bool) (limit : ℕ) (more : Account) (input input2 log log1 log2 before out : Option (List ℕ)) (begun begun2 chunk : List ℕ)
-    (number len : ℕ) (goes : Bool) (e : KeepFault)
-    → ((line : List ℕ) → begun ≡ begun_bytes line → TookPiece asks line input input2 log1 log2 chunk begun2 goes)
+    (number len : ℕ) (goes : Bool) (e : KeepFault) → ((line : List ℕ) → begun ≡ begun_bytes line → TookPiece asks line input input2 log1 log2 chunk begun2 goes)
     → InEachRest more before out number (λ all told old out0 kept. HasCause limit all (told ++ old) (kept ++ chunk) e)
     → HasCauseInEach asks limit more input log before out begun number len input2 e
 each-caused asks limit more input input2 log log1 log2 before out begun begun2 chunk number len goes e takes caused all told old base line input0 log0 out0 len0
@@ -132,20 +129,19 @@ each-caused asks limit more input input2 log log1 log2 before out begun begun2 c
 
 -- what came was answered before
 pub late-failure : (asks : Bool) (limit : ℕ) (more more2 : Account) (input input2 log log2 before before2 out out2 : Option (List ℕ)) (begun begun2 : List ℕ)
-    (number number2 len len2 : ℕ) (e : KeepFault) → IsFailure e
-    → HaveGone asks more input log before out begun number len more2 input2 log2 before2 out2 begun2 number2 len2
-    → HasCauseInEach asks limit more input log before out begun number len input2 e
+    (number number2 len len2 : ℕ) (e : KeepFault) → IsFailure e → HaveGone asks more input log before out begun number len more2 input2 log2 before2 out2 begun2
+    number2 len2 → HasCauseInEach asks limit more input log before out begun number len input2 e
 late-failure asks limit more more2 input input2 log log2 before before2 out out2 begun begun2 number number2 len len2 e fails gone all told old base line input0
     log0 out0 len0 s =
     let t = gone all told old base line input0 log0 out0 len0 s in
     (t.bytes, t.taken, failure-cause limit all (told ++ old) (base ++ kept_after asks line t.bytes) e fails)
 
-pub gone-caused : (asks : Bool) (limit limit2 : ℕ) (more more2 : Account) (input input2 input3 log log2 before before2 out out2 : Option (List ℕ))
+pub gone-caused : (asks : Bool) {limit limit2 : ℕ} (more more2 : Account) (input input2 input3 log log2 before before2 out out2 : Option (List ℕ))
     (begun begun2 : List ℕ) (number number2 len len2 : ℕ) (e : KeepFault) → limit2 ≡ limit
     → HaveGone asks more input log before out begun number len more2 input2 log2 before2 out2 begun2 number2 len2
     → HasCauseInEach asks limit2 more2 input2 log2 before2 out2 begun2 number2 len2 input3 e
     → HasCauseInEach asks limit more input log before out begun number len input3 e
-gone-caused asks limit limit2 more more2 input input2 input3 log log2 before before2 out out2 begun begun2 number number2 len len2 e same gone caused all told old
+gone-caused asks more more2 input input2 input3 log log2 before before2 out out2 begun begun2 number number2 len len2 e same gone caused all told old
     base line input0 log0 out0 len0 s =
     let c = caused all told old base line input0 log0 out0 len0 (gone all told old base line input0 log0 out0 len0 s) in
     (c.0, c.1, subst (λ n. HasCause n all (told ++ old) (base ++ kept_after asks line c.0) e) same c.2)

@@ -31,8 +31,8 @@ grows-more (Some h) (Some h2) (Some h3) xs ys f g =
     g ∙ ap (λ (t : History). record { start = t.start; events = t.events ++ ys }) f
     ∙ ap (λ (es : List Event). record { start = h.start; events = es }) (append_assoc h.events xs ys)
 
-pub now-more : (h h2 : History) (es : List Event) → h2 ≡ record { start = h.start; events = h.events ++ es } → now h2 ≡ after_all (now h) es
-now-more h h2 es e = ap now e ∙ after-append h.start h.events es
+pub now-more : (h : History) {h2 : History} (es : List Event) → h2 ≡ record { start = h.start; events = h.events ++ es } → now h2 ≡ after_all (now h) es
+now-more h es e = ap now e ∙ after-append h.start h.events es
 
 -- ---- answers
 
@@ -59,7 +59,8 @@ only-tells live (Settled ∷ es) due due2 s a = absurd a
 only-tells live (Began n counts ∷ es) due due2 s a = absurd a
 only-tells live (Replied question reply ∷ es) due due2 s a = absurd a
 
-pub answers-append : (live : Bool) (xs ys : List Event) (due mid due2 : List ℕ) → Answers live xs due mid → Answers live ys mid due2 → Answers live (xs ++ ys) due due2
+pub answers-append : (live : Bool) (xs ys : List Event) (due mid due2 : List ℕ) → Answers live xs due mid → Answers live ys mid due2
+    → Answers live (xs ++ ys) due due2
 answers-append live [] ys due mid due2 a b = subst (λ d. Answers live ys d due2) a b
 answers-append live (Told c ∷ xs) ys due mid due2 a b = answers-append live xs ys (cond live (due ++ c ∷ []) due) mid due2 a b
 answers-append live (Shown c ∷ xs) ys due mid due2 a b = (a.0, a.1, answers-append live xs ys a.0 mid due2 a.2 b)
@@ -92,7 +93,8 @@ shown-tells-none (b ∷ text) = shown-tells-none text
 pub answers-told : (live : Bool) (text due : List ℕ) → Answers live (map (λ b. Told b) text) due (cond live (due ++ text) due)
 answers-told true [] due = append-nil due
 answers-told false [] due = refl
-answers-told true (b ∷ text) due = subst (Answers true (map (λ b. Told b) text) (due ++ b ∷ [])) (append_assoc due (b ∷ []) text) (answers-told true text (due ++ b ∷ []))
+answers-told true (b ∷ text) due = subst (Answers true (map (λ b. Told b) text) (due ++ b ∷ [])) (append_assoc due (b ∷ []) text)
+    (answers-told true text (due ++ b ∷ []))
 answers-told false (b ∷ text) due = answers-told false text due
 
 pub answers-shown : (text due : List ℕ) → Answers true (map (λ b. Shown b) text) (text ++ due) due
@@ -109,8 +111,7 @@ pub safe-last : (says : Says) (s : FileState) (es : List Event) → AreSafe says
 safe-last says s [] h = h
 safe-last says s (e ∷ es) h = safe-last says (after s e) es h.2
 
-pub safe-append : (says : Says) (s : FileState) (xs ys : List Event) → AreSafe says s xs → AreSafe says (after_all s xs) ys
-    → AreSafe says s (xs ++ ys)
+pub safe-append : (says : Says) (s : FileState) (xs ys : List Event) → AreSafe says s xs → AreSafe says (after_all s xs) ys → AreSafe says s (xs ++ ys)
 safe-append says s [] ys h k = k
 safe-append says s (e ∷ xs) ys h k = (h.0, h.1, safe-append says (after s e) xs ys h.2 k)
 
@@ -123,7 +124,7 @@ stays-more says (Some h) None c f g = absurd f.1
 stays-more says (Some h) (Some h2) c f g = (
   f.0 ++ g.0,
   grows-more (Some h) (Some h2) c f.0 g.0 f.1 g.1,
-  safe-append says (now h) f.0 g.0 f.2 (subst (λ s. AreSafe says s g.0) (now-more h h2 f.0 f.1) g.2),
+  safe-append says (now h) f.0 g.0 f.2 (subst (λ s. AreSafe says s g.0) (now-more h f.0 f.1) g.2),
 )
 
 -- what is shown is what `out` has, but for `due`; or nothing is shown
@@ -141,14 +142,15 @@ due-told : (live : Bool) (s : FileState) (due : List ℕ) (b : ℕ) → IsDue li
 due-told true s due b d = (d.0, sym (append_assoc s.shown due (b ∷ [])) ∙ ap (λ t. t ++ b ∷ []) d.1)
 due-told false s due b d = d
 
-due-more : (live : Bool) (s : FileState) (due rest : List ℕ) (b : ℕ) → due ≡ b ∷ rest → IsDue live s due → IsDue live (after s (Shown b)) rest
-due-more true s due rest b e d = (d.0, append_assoc s.shown (b ∷ []) rest ∙ ap (λ t. s.shown ++ t) (sym e) ∙ d.1)
-due-more false s due rest b e d = absurd (cc (d.1.1, e))
+due-more : (live : Bool) (s : FileState) {due rest : List ℕ} {b : ℕ} → due ≡ b ∷ rest → IsDue live s due → IsDue live (after s (Shown b)) rest
+due-more true s {rest} {b} e d = (d.0, append_assoc s.shown (b ∷ []) rest ∙ ap (λ t. s.shown ++ t) (sym e) ∙ d.1)
+due-more false s e d = absurd (cc (d.1.1, e))
 
-pub due-after : (live : Bool) (es : List Event) (due due2 : List ℕ) (s : FileState) → Answers live es due due2 → IsDue live s due → IsDue live (after_all s es) due2
+pub due-after : (live : Bool) (es : List Event) (due due2 : List ℕ) (s : FileState) → Answers live es due due2 → IsDue live s due
+    → IsDue live (after_all s es) due2
 due-after live [] due due2 s a d = subst (IsDue live s) (sym a) d
 due-after live (Told b ∷ es) due due2 s a d = due-after live es (cond live (due ++ b ∷ []) due) due2 (after s (Told b)) a (due-told live s due b d)
-due-after live (Shown b ∷ es) due due2 s a d = due-after live es a.0 due2 (after s (Shown b)) a.2 (due-more live s due a.0 b a.1 d)
+due-after live (Shown b ∷ es) due due2 s a d = due-after live es a.0 due2 (after s (Shown b)) a.2 (due-more live s a.1 d)
 due-after live (Kept b ∷ es) due due2 s a d = absurd a
 due-after live (Flushed ∷ es) due due2 s a d = absurd a
 due-after live (CutTo n ∷ es) due due2 s a d = absurd a
@@ -156,15 +158,14 @@ due-after live (Settled ∷ es) due due2 s a d = absurd a
 due-after live (Began n counts ∷ es) due due2 s a d = absurd a
 due-after live (Replied question reply ∷ es) due due2 s a d = absurd a
 
-safe-here : (text : List (List (List ℕ)) → List ℕ) (live : Bool) (due rest : List ℕ) (s : FileState) → AreSound [] (s.kept ++ s.cut) → IsFrontOf s.flushed s.kept
-    → IsDue live s due → IsFrontOf (s.out ++ rest) (text (records_in s.flushed)) → IsSafe text s
+safe-here : (text : List (List (List ℕ)) → List ℕ) (live : Bool) (due rest : List ℕ) (s : FileState) → AreSound [] (s.kept ++ s.cut)
+    → IsFrontOf s.flushed s.kept → IsDue live s due → IsFrontOf (s.out ++ rest) (text (records_in s.flushed)) → IsSafe text s
 safe-here text live due rest s sound flushed d (more, e) =
     record { sound = sound; flushed = flushed; told = (rest ++ more, sym (append_assoc s.out rest more) ∙ e); shown = due-shown live s due d }
 
 -- what is told is the next of the text of the records that were flushed
-pub safe-answers : (says : Says) (live : Bool) (es : List Event) (due due2 : List ℕ) (s : FileState) → Answers live es due due2
-    → AreSound [] (s.kept ++ s.cut) → IsFrontOf s.flushed s.kept → IsDue live s due → IsFrontOf (s.out ++ told_of es) (says.text (records_in s.flushed))
-    → AreSafe says s es
+pub safe-answers : (says : Says) (live : Bool) (es : List Event) (due due2 : List ℕ) (s : FileState) → Answers live es due due2 → AreSound [] (s.kept ++ s.cut)
+    → IsFrontOf s.flushed s.kept → IsDue live s due → IsFrontOf (s.out ++ told_of es) (says.text (records_in s.flushed)) → AreSafe says s es
 safe-answers says live [] due due2 s a sound flushed d f = safe-here says.text live due [] s sound flushed d f
 safe-answers says live (Told b ∷ es) due due2 s a sound flushed d f = (
   safe-here says.text live due (b ∷ told_of es) s sound flushed d f,
@@ -175,7 +176,7 @@ safe-answers says live (Told b ∷ es) due due2 s a sound flushed d f = (
 safe-answers says live (Shown b ∷ es) due due2 s a sound flushed d f = (
   safe-here says.text live due (told_of es) s sound flushed d f,
   tt,
-  safe-answers says live es a.0 due2 (after s (Shown b)) a.2 sound flushed (due-more live s due a.0 b a.1 d) f,
+  safe-answers says live es a.0 due2 (after s (Shown b)) a.2 sound flushed (due-more live s a.1 d) f,
 )
 safe-answers says live (Kept b ∷ es) due due2 s a sound flushed d f = absurd a
 safe-answers says live (Flushed ∷ es) due due2 s a sound flushed d f = absurd a
@@ -200,34 +201,32 @@ only-keeps (b ∷ bytes) s =
     let r = only-keeps bytes (after s (Kept b)) in
     record { kept = r.kept ∙ append_assoc s.kept (b ∷ []) bytes; flushed = r.flushed; cut = r.cut; begun = r.begun; shown = r.shown; out = r.out }
 
-pub safe-keeps : (says : Says) (bytes : List ℕ) (s : FileState) → IsSafe says.text s → IsShown s → s.cut ≡ []
-    → AreSound [] (s.kept ++ bytes) → AreSafe says s (map (λ b. Kept b) bytes)
-safe-keeps says [] s safe shown none sound = safe
-safe-keeps says (b ∷ bytes) s safe shown none sound =
+pub safe-keeps : (says : Says) (bytes : List ℕ) {s : FileState} → IsSafe says.text s → IsShown s → s.cut ≡ [] → AreSound [] (s.kept ++ bytes)
+    → AreSafe says s (map (λ b. Kept b) bytes)
+safe-keeps says [] safe shown none sound = safe
+safe-keeps says (b ∷ bytes) {s} safe shown none sound =
     let all : AreSound [] ((s.kept ++ b ∷ []) ++ bytes) = subst (AreSound []) (sym (append_assoc s.kept (b ∷ []) bytes)) sound in (
       safe,
       shown,
-      safe-keeps says bytes (after s (Kept b))
-          (record {
-            sound = subst (λ c. AreSound [] ((s.kept ++ b ∷ []) ++ c)) (sym none)
-                (subst (AreSound []) (sym (append-nil (s.kept ++ b ∷ []))) (sound-front [] (s.kept ++ b ∷ []) bytes all));
-            flushed = (safe.flushed.0 ++ b ∷ [], sym (append_assoc s.flushed safe.flushed.0 (b ∷ [])) ∙ ap (λ t. t ++ b ∷ []) safe.flushed.1);
-            told = safe.told;
-            shown = safe.shown;
-          })
-          shown none all,
+      safe-keeps says bytes (record {
+        sound = subst (λ c. AreSound [] ((s.kept ++ b ∷ []) ++ c)) (sym none)
+            (subst (AreSound []) (sym (append-nil (s.kept ++ b ∷ []))) (sound-front [] (s.kept ++ b ∷ []) bytes all));
+        flushed = (safe.flushed.0 ++ b ∷ [], sym (append_assoc s.flushed safe.flushed.0 (b ∷ [])) ∙ ap (λ t. t ++ b ∷ []) safe.flushed.1);
+        told = safe.told;
+        shown = safe.shown;
+      }) shown none all,
     )
 
 -- ---- what the files have
 
-pub tells-out : (live : Bool) (old new : Option History) (text due : List ℕ) → Tells live old new text due → Appends (out_in old) (out_in new) text
-tells-out live None new text due t = tt
-tells-out live (Some h) None text due t = absurd t.1
-tells-out live (Some h) (Some h2) text due t =
-    ap (λ (s : FileState). s.out) (now-more h h2 t.0 t.1) ∙ (only-tells live t.0 [] due (now h) t.2).out ∙ ap (λ x. (now h).out ++ x) t.3
+pub tells-out : (live : Bool) (old new : Option History) {text due : List ℕ} → Tells live old new text due → Appends (out_in old) (out_in new) text
+tells-out live None new t = tt
+tells-out live (Some h) None t = absurd t.1
+tells-out live (Some h) (Some h2) {due} t =
+    ap (λ (s : FileState). s.out) (now-more h t.0 t.1) ∙ (only-tells live t.0 [] due (now h) t.2).out ∙ ap (λ x. (now h).out ++ x) t.3
 
-pub tells-more : (live : Bool) (a b c : Option History) (xs ys due : List ℕ) → Tells live a b xs [] → Tells live b c ys due → Tells live a c (xs ++ ys) due
-tells-more live a b c xs ys due f g = (
+pub tells-more : (live : Bool) (a b c : Option History) {xs ys due : List ℕ} → Tells live a b xs [] → Tells live b c ys due → Tells live a c (xs ++ ys) due
+tells-more live a b c {xs} {due} f g = (
   f.0 ++ g.0,
   grows-more a b c f.0 g.0 f.1 g.1,
   answers-append live f.0 g.0 [] [] due f.2 g.2,
@@ -250,38 +249,39 @@ kept-log false a b lines k = tt
 kept-log true None b lines k = tt
 kept-log true (Some h) None lines (inl g) = absurd g
 kept-log true (Some h) None lines (inr g) = absurd g.0
-kept-log true (Some h) (Some h2) lines (inl g) = ap (λ (s : FileState). s.kept) (now-more h h2 _ g) ∙ kept-all (now h) lines
+kept-log true (Some h) (Some h2) lines (inl g) = ap (λ (s : FileState). s.kept) (now-more h _ g) ∙ kept-all (now h) lines
 kept-log true (Some h) (Some h2) lines (inr g) =
-    ap (λ (s : FileState). s.kept) (now-more h h2 [] g.0) ∙ sym (append-nil (now h).kept) ∙ ap (λ t. (now h).kept ++ t) (sym g.1)
+    ap (λ (s : FileState). s.kept) (now-more h [] g.0) ∙ sym (append-nil (now h).kept) ∙ ap (λ t. (now h).kept ++ t) (sym g.1)
 
 pub front-log : (a b : Option History) (bytes : List ℕ) → Grows a b (map (λ b. Kept b) bytes) → Appends (log_of true a) (log_of true b) bytes
 front-log None b bytes g = tt
 front-log (Some h) None bytes g = absurd g
-front-log (Some h) (Some h2) bytes g = ap (λ (s : FileState). s.kept) (now-more h h2 _ g) ∙ (only-keeps bytes (now h)).kept
+front-log (Some h) (Some h2) bytes g = ap (λ (s : FileState). s.kept) (now-more h _ g) ∙ (only-keeps bytes (now h)).kept
 
 pub kept-out : (keeps : Bool) (a b : Option History) (lines : List ℕ) → KeepsLines keeps a b lines → Keeps (out_in a) (out_in b)
 kept-out keeps None b lines k = tt
 kept-out true (Some h) None lines (inl g) = absurd g
 kept-out true (Some h) None lines (inr g) = absurd g.0
 kept-out false (Some h) None lines g = absurd g
-kept-out true (Some h) (Some h2) lines (inl g) = ap (λ (s : FileState). s.out) (now-more h h2 _ g) ∙ kept-same-out (now h) lines
-kept-out true (Some h) (Some h2) lines (inr g) = ap (λ (s : FileState). s.out) (now-more h h2 [] g.0)
-kept-out false (Some h) (Some h2) lines g = ap (λ (s : FileState). s.out) (now-more h h2 [] g)
+kept-out true (Some h) (Some h2) lines (inl g) = ap (λ (s : FileState). s.out) (now-more h _ g) ∙ kept-same-out (now h) lines
+kept-out true (Some h) (Some h2) lines (inr g) = ap (λ (s : FileState). s.out) (now-more h [] g.0)
+kept-out false (Some h) (Some h2) lines g = ap (λ (s : FileState). s.out) (now-more h [] g)
 
 pub front-out : (a b : Option History) (bytes : List ℕ) → Grows a b (map (λ b. Kept b) bytes) → Keeps (out_in a) (out_in b)
 front-out None b bytes g = tt
 front-out (Some h) None bytes g = absurd g
-front-out (Some h) (Some h2) bytes g = ap (λ (s : FileState). s.out) (now-more h h2 _ g) ∙ (only-keeps bytes (now h)).out
+front-out (Some h) (Some h2) bytes g = ap (λ (s : FileState). s.out) (now-more h _ g) ∙ (only-keeps bytes (now h)).out
 
-tells-log : (keeps live : Bool) (a b : Option History) (text due : List ℕ) → Tells live a b text due → Keeps (log_of keeps a) (log_of keeps b)
-tells-log false live a b text due t = tt
-tells-log true live None b text due t = tt
-tells-log true live (Some h) None text due t = absurd t.1
-tells-log true live (Some h) (Some h2) text due t = ap (λ (s : FileState). s.kept) (now-more h h2 t.0 t.1) ∙ (only-tells live t.0 [] due (now h) t.2).kept
+tells-log : (keeps live : Bool) (a b : Option History) {text due : List ℕ} → Tells live a b text due → Keeps (log_of keeps a) (log_of keeps b)
+tells-log false live a b t = tt
+tells-log true live None b t = tt
+tells-log true live (Some h) None t = absurd t.1
+tells-log true live (Some h) (Some h2) {due} t = ap (λ (s : FileState). s.kept) (now-more h t.0 t.1) ∙ (only-tells live t.0 [] due (now h) t.2).kept
 
-pub told-log : {T E : Type 0} (keeps live live2 : Bool) (a b : Option History) (r : Result T E) → HasTold live live2 a b r → Keeps (log_of keeps a) (log_of keeps b)
-told-log keeps live live2 a b (Ok x) t = tells-log keeps live a b t.1.0 [] t.1.1
-told-log keeps live live2 a b (Err e) t = tells-log keeps live a b t.1.0 t.1.1 t.1.2
+pub told-log : {T E : Type 0} (keeps live live2 : Bool) (a b : Option History) (r : Result T E) → HasTold live live2 a b r
+    → Keeps (log_of keeps a) (log_of keeps b)
+told-log keeps live live2 a b (Ok x) t = tells-log keeps live a b t.1.1
+told-log keeps live live2 a b (Err e) t = tells-log keeps live a b t.1.2
 
 -- ---- one write and the next
 
@@ -309,19 +309,19 @@ once-torn a b c text n f g = (
       ∙ append-nil (told_of (map (λ d. Told d) text)) ∙ told-all text,
 )
 
-pub tells-after : (live : Bool) (a b c : Option History) (text due : List ℕ) → Grows a b [] → Tells live b c text due → Tells live a c text due
-tells-after live a b c text due g t = tells-more live a b c [] text due ([], g, refl, refl) t
+pub tells-after : (live : Bool) (a b c : Option History) {text due : List ℕ} → Grows a b [] → Tells live b c text due → Tells live a c text due
+tells-after live a b c g t = tells-more live a b c ([], g, refl, refl) t
 
-pub told-after : {T E : Type 0} (live live2 : Bool) (a b c : Option History) (r : Result T E) → Grows a b [] → HasTold live live2 b c r → HasTold live live2 a c r
-told-after live live2 a b c (Ok x) g t = (t.0, (t.1.0, tells-after live a b c t.1.0 [] g t.1.1))
-told-after live live2 a b c (Err e) g t = (t.0, (t.1.0, t.1.1, tells-after live a b c t.1.0 t.1.1 g t.1.2))
+pub told-after : {T E : Type 0} (live live2 : Bool) (a b c : Option History) (r : Result T E) → Grows a b [] → HasTold live live2 b c r
+    → HasTold live live2 a c r
+told-after live live2 a b c (Ok x) g t = (t.0, (t.1.0, tells-after live a b c g t.1.1))
+told-after live live2 a b c (Err e) g t = (t.0, (t.1.0, t.1.1, tells-after live a b c g t.1.2))
 
 -- more is told after what was told
-pub told-more : {T E : Type 0} (live live2 live3 : Bool) (a b c : Option History) (r : Result T E) → live2 ≡ live → (text : List ℕ) → Tells live a b text []
-    → HasTold live2 live3 b c r → HasTold live live3 a c r
-told-more live live2 live3 a b c (Ok x) e text f t = (t.0 ∙ e, (text ++ t.1.0, tells-more live a b c text t.1.0 [] f (subst (λ l. Tells l b c t.1.0 []) e t.1.1)))
-told-more live live2 live3 a b c (Err x) e text f t =
-    (t.0 ∙ e, (text ++ t.1.0, t.1.1, tells-more live a b c text t.1.0 t.1.1 f (subst (λ l. Tells l b c t.1.0 t.1.1) e t.1.2)))
+pub told-more : {T E : Type 0} {live live2 : Bool} (live3 : Bool) (a b c : Option History) (r : Result T E) → live2 ≡ live → (text : List ℕ)
+    → Tells live a b text [] → HasTold live2 live3 b c r → HasTold live live3 a c r
+told-more {live} live3 a b c (Ok x) e text f t = (t.0 ∙ e, (text ++ t.1.0, tells-more live a b c f (subst (λ l. Tells l b c t.1.0 []) e t.1.1)))
+told-more {live} live3 a b c (Err x) e text f t = (t.0 ∙ e, (text ++ t.1.0, t.1.1, tells-more live a b c f (subst (λ l. Tells l b c t.1.0 t.1.1) e t.1.2)))
 
 pub told_none : {T E : Type 0} (live : Bool) (a : Option History) (r : Result T E) → HasTold live live a a r
 told_none live a (Ok x) = (refl, ([], tells-none live a))
@@ -331,16 +331,15 @@ pub match-err : {T E Q : Type 0} (P : Type 0) (r : Result T E) → IsErr r → Q
 match-err P (Ok x) e q = absurd (cc e)
 match-err P (Err x) e q = q
 
-pub told-failed : {T E : Type 0} (live live2 : Bool) (a b : Option History) (r : Result T E) → IsErr r
+pub told-failed : {T E : Type 0} {live live2 : Bool} (a b : Option History) (r : Result T E) → IsErr r
     → (live2 ≡ live) × ((text : List ℕ) × (due : List ℕ) × Tells live a b text due) → HasTold live live2 a b r
-told-failed live live2 a b (Ok x) e t = absurd (cc e)
-told-failed live live2 a b (Err x) e t = t
+told-failed a b (Ok x) e t = absurd (cc e)
+told-failed a b (Err x) e t = t
 
 -- all that was told was shown, and then more
-pub tells-later : (live live2 live3 : Bool) (a b c : Option History) → live2 ≡ live → (text : List ℕ) → Tells live a b text []
+pub tells-later : {live live2 live3 : Bool} (a b c : Option History) → live2 ≡ live → (text : List ℕ) → Tells live a b text []
     → (live3 ≡ live2) × ((text2 : List ℕ) × Tells live2 b c text2 []) → (live3 ≡ live) × ((text2 : List ℕ) × Tells live a c text2 [])
-tells-later live live2 live3 a b c e text f (g, (text2, t)) =
-    (g ∙ e, (text ++ text2, tells-more live a b c text text2 [] f (subst (λ l. Tells l b c text2 []) e t)))
+tells-later {live} a b c e text f (g, (text2, t)) = (g ∙ e, (text ++ text2, tells-more live a b c f (subst (λ l. Tells l b c text2 []) e t)))
 
 -- ---- bytes that are written one part after the other
 
@@ -359,15 +358,15 @@ grows-still a b c xs f g = subst (Grows a c) (append-nil xs) (grows-more a b c x
 
 pub kept-end : {T E : Type 0} (a b c : Option History) (r : Result T E) (lines : List ℕ) (at : ℕ) → length lines ≤ at → at ≤ length lines
     → Grows a b (map (λ d. Kept d) (take at lines)) → HasDone Flushed b c r → HasKept true a c r lines
-kept-end a b c (Ok x) lines at l m g d =
-    inl (subst (λ t. Grows a c (map (λ d. Kept d) t ++ Flushed ∷ [])) (take_all at lines l) (grows-more a b c _ _ g d))
+kept-end a b c (Ok x) lines at l m g d = inl (subst (λ t. Grows a c (map (λ d. Kept d) t ++ Flushed ∷ [])) (take_all at lines l) (grows-more a b c _ _ g d))
 kept-end a b c (Err e) lines at l m g d = (refl, at, m, grows-still a b c _ g d)
 
 pub tells-grown : (live : Bool) (a b c : Option History) (at n : ℕ) (text due : List ℕ) → Tells live a b (take at text) []
     → Tells live b c (take n (take (length text - at) (drop at text))) due → Tells live a c (take (at + n) text) due
-tells-grown live a b c at n text due f g = subst (λ t. Tells live a c t due) (take-more at n text) (tells-more live a b c _ _ due f g)
+tells-grown live a b c at n text due f g = subst (λ t. Tells live a c t due) (take-more at n text) (tells-more live a b c f g)
 
-pub tells-whole : (live : Bool) (a b : Option History) (at : ℕ) (text due : List ℕ) → length text ≤ at → Tells live a b (take at text) due → Tells live a b text due
+pub tells-whole : (live : Bool) (a b : Option History) (at : ℕ) (text due : List ℕ) → length text ≤ at → Tells live a b (take at text) due
+    → Tells live a b text due
 tells-whole live a b at text due l t = subst (λ x. Tells live a b x due) (take_all at text l) t
 
 pub tells-front : (live : Bool) (a b c : Option History) (at : ℕ) (text : List ℕ) → at ≤ length text → Tells live a b (take at text) []
@@ -375,7 +374,7 @@ pub tells-front : (live : Bool) (a b c : Option History) (at : ℕ) (text : List
 tells-front live a b c at text l f (n, m, due, t) = (at + n, more-bound at n text l m, due, tells-grown live a b c at n text due f t)
 
 pub front-front : (live : Bool) (a b : Option History) (text : List ℕ) → TellsFront live a b text → AppendsFront (out_in a) (out_in b) text
-front-front live a b text (n, l, due, t) = (n, l, tells-out live a b (take n text) due t)
+front-front live a b text (n, l, due, t) = (n, l, tells-out live a b t)
 
 pub has-told : {T E : Type 0} (live : Bool) (a b : Option History) (r : Result T E) (text : List ℕ)
     → MatchResult r (λ _. Tells live a b text []) (λ _. TellsFront live a b text) → HasTold live live a b r
@@ -394,11 +393,12 @@ still-more (Some x) None c f g = absurd f
 still-more (Some x) (Some y) None f g = absurd g
 still-more (Some x) (Some y) (Some z) f g = g ∙ f
 
-pub still-by : (a b : Option History) (es : List Event) → Grows a b es → ((s : FileState) → ((after_all s es).kept ≡ s.kept) × ((after_all s es).out ≡ s.out)) → IsStill a b
+pub still-by : (a b : Option History) (es : List Event) → Grows a b es → ((s : FileState) → ((after_all s es).kept ≡ s.kept) × ((after_all s es).out ≡ s.out))
+    → IsStill a b
 still-by None b es g h = (tt, tt)
 still-by (Some x) None es g h = absurd g
 still-by (Some x) (Some y) es g h =
-    let e = now-more x y es g in
+    let e = now-more x es g in
     (ap (λ (s : FileState). s.kept) e ∙ (h (now x)).0, ap (λ (s : FileState). s.out) e ∙ (h (now x)).1)
 
 pub still-none : (a b : Option History) → Grows a b [] → IsStill a b
@@ -425,14 +425,14 @@ pub cut-by : (a b : Option History) (len : ℕ) → Grows a b (CutTo len ∷ [])
 cut-by None b len g = (tt, tt)
 cut-by (Some x) None len g = absurd g
 cut-by (Some x) (Some y) len g =
-    let e = now-more x y (CutTo len ∷ []) g in
+    let e = now-more x (CutTo len ∷ []) g in
     (ap (λ (s : FileState). Some s.kept) e, ap (λ (s : FileState). s.out) e)
 
 pub cut-flushed : (a b : Option History) (len : ℕ) → Grows a b (CutTo len ∷ Flushed ∷ []) → IsCut a b len
 cut-flushed None b len g = (tt, tt)
 cut-flushed (Some x) None len g = absurd g
 cut-flushed (Some x) (Some y) len g =
-    let e = now-more x y (CutTo len ∷ Flushed ∷ []) g in
+    let e = now-more x (CutTo len ∷ Flushed ∷ []) g in
     (ap (λ (s : FileState). Some s.kept) e, ap (λ (s : FileState). s.out) e)
 
 cuts-still : (a b c : Option (List ℕ)) (len : ℕ) → CutsTo a b len → Keeps b c → CutsTo a c len
@@ -445,18 +445,18 @@ pub cut-still : (a b c : Option History) (len : ℕ) → IsCut a b len → IsSti
 cut-still a b c len f g = (cuts-still (kept_in a) (kept_in b) (kept_in c) len f.0 g.0, still-more (out_in a) (out_in b) (out_in c) f.1 g.1)
 
 -- whatever was told and not shown yet, all that was told was
-pub told-either : {T E : Type 0} (live live2 : Bool) (a b : Option History) (r : Result T E) → (live2 ≡ live) × ((text : List ℕ) × Tells live a b text [])
+pub told-either : {T E : Type 0} {live live2 : Bool} (a b : Option History) (r : Result T E) → (live2 ≡ live) × ((text : List ℕ) × Tells live a b text [])
     → HasTold live live2 a b r
-told-either live live2 a b (Ok x) t = t
-told-either live live2 a b (Err e) (same, (text, t)) = (same, (text, [], t))
+told-either a b (Ok x) t = t
+told-either a b (Err e) (same, (text, t)) = (same, (text, [], t))
 
 pub told-kept : {T E : Type 0} (live live2 : Bool) (a b : Option History) (r : Result T E) → HasTold live live2 a b r → Keeps (kept_in a) (kept_in b)
 told-kept live live2 a b r t = told-log true live live2 a b r t
 
 -- only the first bytes of lines were kept
-pub torn-log : (keeps : Bool) (a b : Option History) (lines : List ℕ) → keeps ≡ true → (n : ℕ) → n ≤ length lines → Grows a b (map (λ c. Kept c) (take n lines))
+pub torn-log : {keeps : Bool} (a b : Option History) (lines : List ℕ) → keeps ≡ true → (n : ℕ) → n ≤ length lines → Grows a b (map (λ c. Kept c) (take n lines))
     → AppendsFront (log_of keeps a) (log_of keeps b) lines
-torn-log keeps a b lines is n l g = rw is (n, l, front-log a b (take n lines) g)
+torn-log a b lines is n l g = rw is (n, l, front-log a b (take n lines) g)
 
 pub torn-out : (a b : Option History) (lines : List ℕ) (n : ℕ) → Grows a b (map (λ c. Kept c) (take n lines)) → Keeps (out_in a) (out_in b)
 torn-out a b lines n g = front-out a b (take n lines) g

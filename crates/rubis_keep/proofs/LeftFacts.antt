@@ -15,8 +15,7 @@ pub left-taken : (unread : List ℕ) (n : ℕ) (input0 input : Option (List ℕ)
     → Consumes input0 (left_of (drop n unread) input) (take n unread)
 left-taken unread n None input c = tt
 left-taken unread n (Some xs) None c = absurd c
-left-taken unread n (Some xs) (Some ys) c =
-    c ∙ ap (λ t. t ++ ys) (sym (take-append-drop n unread)) ∙ append_assoc (take n unread) (drop n unread) ys
+left-taken unread n (Some xs) (Some ys) c = c ∙ ap (λ t. t ++ ys) (sym (take-append-drop n unread)) ∙ append_assoc (take n unread) (drop n unread) ys
 
 -- what is left of bytes between two places, after some of them
 pub left-passed : (piece : List ℕ) (at end n : ℕ) → at ≤ end → n ≤ length (take (end - at) (drop at piece))
@@ -24,7 +23,8 @@ pub left-passed : (piece : List ℕ) (at end n : ℕ) → at ≤ end → n ≤ l
 left-passed piece at end n h l =
     let size = length-take (end - at) (drop at piece) in
     let parts : end - at ≡ n + (end - (at + n)) = omega (arith, h, l, size) in
-    ap (take (end - (at + n))) (sym (drop-drop n at piece)) ∙ sym (drop-take n (end - (at + n)) (drop at piece)) ∙ ap (λ m. drop n (take m (drop at piece))) (sym parts)
+    ap (take (end - (at + n))) (sym (drop-drop n at piece)) ∙ sym (drop-take n (end - (at + n)) (drop at piece)) ∙ ap (λ m. drop n (take m (drop at piece)))
+    (sym parts)
 
 abbrev pub none-of : List ℕ
 none-of = []
@@ -37,9 +37,9 @@ pub take-none : (n : ℕ) → take n none-of ≡ []
 take-none zero = refl
 take-none (suc n) = refl
 
-pub left-end : (unread : List ℕ) (input : Option (List ℕ)) → unread ≡ [] → IsAtEnd input → IsAtEnd (left_of unread input)
-left-end unread None e end = tt
-left-end unread (Some xs) e end = ap (λ t. t ++ xs) e ∙ end
+pub left-end : {unread : List ℕ} (input : Option (List ℕ)) → unread ≡ [] → IsAtEnd input → IsAtEnd (left_of unread input)
+left-end None e end = tt
+left-end (Some xs) e end = ap (λ t. t ++ xs) e ∙ end
 
 -- some are taken of some
 pub taken-some : (xs : List ℕ) (n : ℕ) → 0 < length xs → 0 < n → take n xs ≢ []

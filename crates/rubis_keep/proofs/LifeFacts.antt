@@ -22,9 +22,10 @@ use Rattle.rubis_keep.proofs.SoundFacts.{whole-sound}
 use Rattle.rubis_keep.proofs.WholeFacts.{kept-whole, whole-append}
 
 -- a run over an input begins
-pub stands-start : (asks : Bool) (all more : Account) (told old base : List ℕ) (input log out : Option (List ℕ)) (begun : List ℕ) (number len : ℕ)
-    → HasAnswered all more told number base → begun ≡ [] → Stands asks all more told old base [] input input log log (Some old) out out begun number len len
-stands-start asks all more told old base input log out begun number len h e = record {
+pub stands-start : (asks : Bool) {all more : Account} {told : List ℕ} (old : List ℕ) {base : List ℕ} (input log out : Option (List ℕ)) {begun : List ℕ}
+    {number : ℕ} (len : ℕ) → HasAnswered all more told number base → begun ≡ [] → Stands asks all more told old base [] input input log log
+    (Some old) out out begun number len len
+stands-start asks {all} {more} {told} old {base} input log out {number} len h e = record {
   bytes = [];
   taken = consumes-none input;
   logged = appends-none log;
@@ -65,9 +66,8 @@ known xs (Some ys) added a = ap (λ t. Some t) a
 
 -- what was kept is answered, and all answers of before were found
 pub replayed : (all more : Account) (kept old : List ℕ) (later before out log : Option (List ℕ)) (begun : List ℕ) (number len : ℕ) → AreSound [] kept
-    → Stands false all more [] old [] [] (Some kept) later log log before (Some old) out begun number 0 len → IsAtEnd later → (ended : Option (List ℕ)) →
-    IsAtEnd ended → Keeps before ended
-    → Replayed all more kept old ended out number len
+    → Stands false all more [] old [] [] (Some kept) later log log before (Some old) out begun number 0 len → IsAtEnd later → (ended : Option (List ℕ))
+    → IsAtEnd ended → Keeps before ended → Replayed all more kept old ended out number len
 replayed all more kept old later before out log begun number len sound s e ended at same =
     let r = s.rests in
     let w = r.wrote in
@@ -97,9 +97,9 @@ replayed all more kept old later before out log begun number len sound s e ended
     still left (Some xs) k = ap (λ t. Some t) k
 
 -- the log is cut back to its whole lines
-pub cut-back : (kept : List ℕ) (log log2 : Option (List ℕ)) (len : ℕ) → log ≡ Some kept → len ≡ length (whole_lines kept) → CutsTo log log2 len → log2
-    ≡ Some (whole_lines kept)
-cut-back kept log log2 len e f c =
+pub cut-back : {kept : List ℕ} {log : Option (List ℕ)} (log2 : Option (List ℕ)) {len : ℕ} → log ≡ Some kept → len ≡ length (whole_lines kept)
+    → CutsTo log log2 len → log2 ≡ Some (whole_lines kept)
+cut-back {kept} log2 {len} e f c =
     let cut : log2 ≡ Some (take len kept) = rw e at c in
     cut ∙ ap (λ n. Some (take n kept)) f ∙ ap (λ t. Some (take (length (whole_lines kept)) t)) (sym (whole-rest [] kept))
     ∙ ap (λ t. Some t) (take-append_seam (whole_lines kept) (begun_after [] kept))
@@ -109,11 +109,11 @@ none-right [] ys h = h
 none-right (x ∷ xs) ys h = absurd (cc h)
 
 -- the input ends
-pub lived : (all more : Account) (kept old told : List ℕ) (input later log log2 before out : Option (List ℕ)) (begun : List ℕ) (number len0 len : ℕ)
-    → AreSound [] kept → log ≡ Some (whole_lines kept) →
-    Stands true all more told [] (whole_lines kept) [] input later log log2 before (Some told) out begun number len0 len
-    → IsAtEnd later → IsFrontOf old (all.text AtEnd (input_records (whole_lines kept))) → Lived all kept old input later log2 out
-lived all more kept old told input later log log2 before out begun number len0 len sound e s end found =
+pub lived : {all more : Account} {kept : List ℕ} (old : List ℕ) {told : List ℕ} {input later log log2 before out : Option (List ℕ)} {begun : List ℕ}
+    {number len0 len : ℕ} → AreSound [] kept → log ≡ Some (whole_lines kept) → Stands true all more told [] (whole_lines kept) [] input later log log2 before
+    (Some told) out begun number len0 len → IsAtEnd later → IsFrontOf old (all.text AtEnd (input_records (whole_lines kept)))
+    → Lived all kept old input later log2 out
+lived {all} {more} {kept} old {told} {log2} {out} sound e s end found =
     let r = s.rests in
     let w = r.wrote in
     let none : w.left ≡ [] = none-left w.added r.since w.left w.one w.same in
@@ -154,9 +154,9 @@ pub unread : (all : Account) (kept old : List ℕ) (input : Option (List ℕ)) �
 unread all kept old input = still all kept old old input (Some old) refl (inl (refl, refl))
 
 -- the text of what was replayed begins that of all that was kept
-pub replay-fails : (all : Account) (kept old : List ℕ) (input past log log2 out : Option (List ℕ)) → AreSound [] kept
+pub replay-fails : {all : Account} {kept old : List ℕ} (input : Option (List ℕ)) {past log log2 out : Option (List ℕ)} → AreSound [] kept
     → Fails false all [] old [] [] (Some kept) past log log2 (Some old) out → Ended all kept old input input (Some kept) out
-replay-fails all kept old input past log log2 out sound f = go past f.taken f.out_ends
+replay-fails {all} {kept} {old} input {past} {out} sound f = go past f.taken f.out_ends
   where
     with_found : (added : List ℕ) → Beginning all kept (old ++ added) → AreSound [] kept × IsFrontOf old (all.text AtEnd (input_records (whole_lines kept)))
         × Beginning all kept (old ++ added)
@@ -177,7 +177,7 @@ replay-fails all kept old input past log log2 out sound f = go past f.taken f.ou
         sym (sound-kept [] kept sound) ∙ ap read_back (c ∙ append_assoc f.bytes f.next rest) ∙ kept-append false [] f.bytes left in
         let later_lines = kept_after false (begun_after [] f.bytes) left in
         let records = ap input_records lines
-        ∙ records-append (kept_after false [] f.bytes) later_lines (kept-whole false [] f.bytes) (kept-whole false (begun_after [] f.bytes) left).unmarked in
+        ∙ records-append later_lines (kept-whole false [] f.bytes) (kept-whole false (begun_after [] f.bytes) left).unmarked in
         let b = begins (input_records later_lines ++ more) in (
           b.0,
           b.1 ∙ ap (all.text AtEnd)
@@ -185,17 +185,16 @@ replay-fails all kept old input past log log2 out sound f = go past f.taken f.ou
         ))))
 
 -- the log could not be cut back
-pub uncut : (all more : Account) (kept old : List ℕ) (input before out : Option (List ℕ)) (number len : ℕ) → AreSound [] kept →
-    Replayed all more kept old before out number len
-    → Ended all kept old input input (Some kept) out
-uncut all more kept old input before out number len sound r =
+pub uncut : {all more : Account} {kept old : List ℕ} (input : Option (List ℕ)) {before out : Option (List ℕ)} {number len : ℕ} → AreSound [] kept
+    → Replayed all more kept old before out number len → Ended all kept old input input (Some kept) out
+uncut {all} {more} {kept} {old} input {out} sound r =
     still all kept old r.told input out r.out_is (inr (sound, r.found, λ m. (more.text AtEnd m, sym (r.answered.text AtEnd m))))
 
 -- a line could not be kept or answered
-pub live-fails : (all : Account) (kept old told : List ℕ) (input later log log2 out : Option (List ℕ)) → AreSound [] kept → log ≡ Some (whole_lines kept)
-    → Fails true all told [] (whole_lines kept) [] input later log log2 (Some told) out → IsFrontOf old (all.text AtEnd (input_records (whole_lines kept)))
-    → Ended all kept old input later log2 out
-live-fails all kept old told input later log log2 out sound e f found = go f.out_ends
+pub live-fails : {all : Account} {kept : List ℕ} (old : List ℕ) {told : List ℕ} {input later log log2 out : Option (List ℕ)} → AreSound [] kept
+    → log ≡ Some (whole_lines kept) → Fails true all told [] (whole_lines kept) [] input later log log2 (Some told) out
+    → IsFrontOf old (all.text AtEnd (input_records (whole_lines kept))) → Ended all kept old input later log2 out
+live-fails {all} {kept} old {told} {input} {later} {log2} {out} sound e f found = go f.out_ends
   where
     log_is : log2 ≡ Some (whole_lines kept ++ (kept_of f.bytes ++ f.torn))
     log_is = known (whole_lines kept) log2 (kept_of f.bytes ++ f.torn) (subst (λ l. Appends l log2 (kept_of f.bytes ++ f.torn)) e f.logged)
@@ -214,7 +213,7 @@ live-fails all kept old told input later log log2 out sound e f found = go f.out
         (subst (λ l. AreSound l (kept_of f.bytes ++ f.torn)) (sym (whole-ends kept sound)) tail_sound)
 
     front_whole : IsWhole (whole_lines kept ++ kept_of f.bytes)
-    front_whole = whole-append (whole_lines kept) (kept_of f.bytes) (subst IsWhole (sound-kept [] kept sound) (kept-whole false [] kept)) (kept-whole true [] f.bytes)
+    front_whole = whole-append (subst IsWhole (sound-kept [] kept sound) (kept-whole false [] kept)) (kept-whole true [] f.bytes)
 
     front_ends : begun_after [] (whole_lines kept ++ kept_of f.bytes) ≡ []
     front_ends = begun-append [] (whole_lines kept) (kept_of f.bytes) ∙ ap (λ s. begun_after s (kept_of f.bytes)) (whole-ends kept sound) ∙ kept-ends f.bytes
@@ -235,7 +234,7 @@ live-fails all kept old told input later log log2 out sound e f found = go f.out
 
     records : input_records (whole_lines (whole_lines kept ++ (kept_of f.bytes ++ f.torn))) ≡ input_records (whole_lines kept ++ kept_of f.bytes)
         ++ input_records (whole_lines f.torn)
-    records = ap input_records lines ∙ records-append (whole_lines kept ++ kept_of f.bytes) (whole_lines f.torn) front_whole torn_unmarked
+    records = ap input_records lines ∙ records-append (whole_lines f.torn) front_whole torn_unmarked
 
     go : OutEnds all told [] (Some told) out (whole_lines kept ++ kept_of f.bytes) → Ended all kept old input later log2 out
     go (added, a, inl unread) = absurd (unread.4 (none-right unread.1 unread.2 (sym unread.3)))
@@ -266,173 +265,159 @@ live-fails all kept old told input later log log2 out sound e f found = go f.out
 
 -- ---- the same of a run as the code has it
 
-pub replay-starts : (account : ℕ → Account) (kept old : List ℕ) (past before out log : Option (List ℕ)) (begun : List ℕ) (answered len : ℕ)
+pub replay-starts : (account : ℕ → Account) {kept old : List ℕ} {past before out : Option (List ℕ)} (log : Option (List ℕ)) {begun : List ℕ} {answered len : ℕ}
     → (account 1).text Cut [] ≡ [] → begun ≡ [] → answered ≡ 0 → len ≡ 0 → Begins kept old past (Some kept) before out
     → Stands false (account 1) (account (answered + 1)) [] old [] [] (Some kept) past log log before (Some old) out begun (answered + 1) 0 len
-replay-starts account kept old past before out log begun answered len none e f k b =
-    rw (f, k, b.past_is, b.before_is, b.out_is)
-    (stands-start false (account 1) (account 1) [] old [] (Some kept) log (Some old) begun 1 0 (answered-none (account 1) none) e)
+replay-starts account {kept} {old} log none e f k b =
+    rw (f, k, b.past_is, b.before_is, b.out_is) (stands-start false old (Some kept) log (Some old) 0 (answered-none (account 1) none) e)
 
-pub replay-err : (account : ℕ → Account) (past past2 log log2 before out out2 : Option (List ℕ)) (begun : List ℕ) (answered len : ℕ)
-    → (account 1).text Cut [] ≡ [] → begun ≡ [] → answered ≡ 0 → len ≡ 0
-    → HaveFailed false (account (answered + 1)) past log before out begun (answered + 1) len past2 log2 out2
-    → (kept old : List ℕ) (input : Option (List ℕ)) → Begins kept old past (Some kept) before out → Ended (account 1) kept old input input (Some kept) out2
-replay-err account past past2 log log2 before out out2 begun answered len none e f k h kept old input b =
-    replay-fails (account 1) kept old input past2 log log2 out2 b.sound
-    (h (account 1) [] old [] [] (Some kept) log (Some old) 0 (replay-starts account kept old past before out log begun answered len none e f k b))
+pub replay-err : (account : ℕ → Account) {past : Option (List ℕ)} (past2 log log2 : Option (List ℕ)) {before out : Option (List ℕ)} (out2 : Option (List ℕ))
+    {begun : List ℕ} {answered len : ℕ} → (account 1).text Cut [] ≡ [] → begun ≡ [] → answered ≡ 0 → len ≡ 0
+    → HaveFailed false (account (answered + 1)) past log before out begun (answered + 1) len past2 log2 out2 → (kept old : List ℕ) (input : Option (List ℕ))
+    → Begins kept old past (Some kept) before out → Ended (account 1) kept old input input (Some kept) out2
+replay-err account past2 log log2 out2 none e f k h kept old input b =
+    replay-fails input b.sound (h (account 1) [] old [] [] (Some kept) log (Some old) 0 (replay-starts account log none e f k b))
 
 pub replay-ok : (account account2 : ℕ → Account) (past past2 before before2 ended out out2 : Option (List ℕ)) (begun begun2 : List ℕ)
-    (answered answered2 len len2 : ℕ)
-    → (account 1).text Cut [] ≡ [] → begun ≡ [] → answered ≡ 0 → len ≡ 0
+    (answered answered2 len len2 : ℕ) → (account 1).text Cut [] ≡ [] → begun ≡ [] → answered ≡ 0 → len ≡ 0
     → HaveGone false (account (answered + 1)) past None before out begun (answered + 1) len (account2 (answered2 + 1)) past2 None before2 out2 begun2
-    (answered2 + 1) len2
-    → IsAtEnd past2 → IsAtEnd ended → Keeps before2 ended
-    → (kept old : List ℕ) → Begins kept old past (Some kept) before out →
-    Replayed (account 1) (account2 (answered2 + 1)) kept old ended out2 (answered2 + 1) len2
+    (answered2 + 1) len2 → IsAtEnd past2 → IsAtEnd ended → Keeps before2 ended → (kept old : List ℕ) → Begins kept old past (Some kept) before out
+    → Replayed (account 1) (account2 (answered2 + 1)) kept old ended out2 (answered2 + 1) len2
 replay-ok account account2 past past2 before before2 ended out out2 begun begun2 answered answered2 len len2 none e f k h end at same kept old b =
     replayed (account 1) (account2 (answered2 + 1)) kept old past2 before2 out2 None begun2 (answered2 + 1) len2 b.sound
-    (h (account 1) [] old [] [] (Some kept) None (Some old) 0 (replay-starts account kept old past before out None begun answered len none e f k b)) end ended
-    at same
+    (h (account 1) [] old [] [] (Some kept) None (Some old) 0 (replay-starts account None none e f k b)) end ended at same
 
 -- some answer of before was not found
-pub replay-unfound : (account account2 : ℕ → Account) (past past2 before before2 out out2 out3 : Option (List ℕ)) (begun begun2 : List ℕ)
-    (answered answered2 len len2 : ℕ)
-    → (account 1).text Cut [] ≡ [] → begun ≡ [] → answered ≡ 0 → len ≡ 0 → out3 ≡ out2
-    → HaveGone false (account (answered + 1)) past None before out begun (answered + 1) len (account2 (answered2 + 1)) past2 None before2 out2 begun2
-    (answered2 + 1) len2
-    → (kept old : List ℕ) (input : Option (List ℕ)) → Begins kept old past (Some kept) before out → Ended (account 1) kept old input input (Some kept) out3
-replay-unfound account account2 past past2 before before2 out out2 out3 begun begun2 answered answered2 len len2 none e f k same h kept old input b =
-    subst (Ended (account 1) kept old input input (Some kept)) (sym same)
-    (replay-err account past past2 None None before out out2 begun answered len none e f k
-    (gone-failed false (account (answered + 1)) (account2 (answered2 + 1)) past past2 past2 None None None before before2 out out2 out2 begun begun2 (answered + 1)
-    (answered2 + 1) len len2 h
-    (each-stops false (account2 (answered2 + 1)) past2 None before2 out2 begun2 (answered2 + 1) len2)) kept old input b)
+pub replay-unfound : (account account2 : ℕ → Account) {past : Option (List ℕ)} (past2 : Option (List ℕ)) {before : Option (List ℕ)} (before2 : Option (List ℕ))
+    {out out2 out3 : Option (List ℕ)} {begun : List ℕ} (begun2 : List ℕ) {answered : ℕ} (answered2 : ℕ) {len : ℕ} (len2 : ℕ) → (account 1).text Cut [] ≡ []
+    → begun ≡ [] → answered ≡ 0 → len ≡ 0 → out3 ≡ out2 → HaveGone false (account (answered + 1)) past None before out begun (answered + 1) len
+    (account2 (answered2 + 1)) past2 None before2 out2 begun2 (answered2 + 1) len2 → (kept old : List ℕ) (input : Option (List ℕ))
+    → Begins kept old past (Some kept) before out → Ended (account 1) kept old input input (Some kept) out3
+replay-unfound account account2 {past} past2 {before} before2 {out} {out2} {begun} begun2 {answered} answered2 {len} len2 none e f k same h kept old input b =
+    subst (Ended (account 1) kept old input input (Some kept)) (sym same) (replay-err account past2 None None out2 none e f k
+    (gone-failed false (account (answered + 1)) (account2 (answered2 + 1)) past past2 past2 None None None before before2 out out2 out2 begun begun2
+    (answered + 1)
+    (answered2 + 1) len len2 h (each-stops false (account2 (answered2 + 1)) past2 None before2 out2 begun2 (answered2 + 1) len2)) kept old input b)
 
 -- ---- a whole run
 
 -- the log that was read through is one of lines that are kept as they are
-pub begins : (kept old : List ℕ) (first past log before out : Option (List ℕ)) → Opens kept old first past log before out →
-    IfSome first (λ text. AreSound [] text) → Begins kept old past (Some kept) before out
+pub begins : (kept old : List ℕ) (first past log before out : Option (List ℕ)) → Opens kept old first past log before out
+    → IfSome first (λ text. AreSound [] text) → Begins kept old past (Some kept) before out
 begins kept old first past log before out o sound =
     record { past_is = o.past_is; log_is = refl; before_is = o.before_is; out_is = o.out_is; sound = rw o.first_is at sound }
 
 -- it ended before anything was answered
-pub run-unread : (all : Account) (first past log before input out : Option (List ℕ)) (kept old : List ℕ) → Opens kept old first past log before out →
-    Ended all kept old input input log out
-run-unread all first past log before input out kept old o = rw (o.log_is, o.out_is) (unread all kept old input)
+pub run-unread : (all : Account) {first past log before : Option (List ℕ)} (input : Option (List ℕ)) {out : Option (List ℕ)} (kept old : List ℕ)
+    → Opens kept old first past log before out → Ended all kept old input input log out
+run-unread all input kept old o = rw (o.log_is, o.out_is) (unread all kept old input)
 
-kept-known : (kept : List ℕ) (log log2 : Option (List ℕ)) → log ≡ Some kept → Keeps log log2 → log2 ≡ Some kept
-kept-known kept None log2 e k = absurd (cc e)
-kept-known kept (Some xs) None e k = absurd k
-kept-known kept (Some xs) (Some ys) e k = ap (λ t. Some t) k ∙ e
+kept-known : {kept : List ℕ} (log log2 : Option (List ℕ)) → log ≡ Some kept → Keeps log log2 → log2 ≡ Some kept
+kept-known None log2 e k = absurd (cc e)
+kept-known (Some xs) None e k = absurd k
+kept-known (Some xs) (Some ys) e k = ap (λ t. Some t) k ∙ e
 
 -- files that have not changed meanwhile
-opens-kept : (kept old : List ℕ) (first past log log2 before out out2 : Option (List ℕ)) → Keeps log log2 → Keeps out out2 → Opens kept old first past log before out
-    → Opens kept old first past log2 before out2
-opens-kept kept old first past log log2 before out out2 same same2 o = record {
+opens-kept : {kept old : List ℕ} {first past log log2 before out out2 : Option (List ℕ)} → Keeps log log2 → Keeps out out2
+    → Opens kept old first past log before out → Opens kept old first past log2 before out2
+opens-kept {log} {log2} {out} {out2} same same2 o = record {
   first_is = o.first_is;
   past_is = o.past_is;
-  log_is = kept-known kept log log2 o.log_is same;
+  log_is = kept-known log log2 o.log_is same;
   before_is = o.before_is;
-  out_is = kept-known old out out2 o.out_is same2;
+  out_is = kept-known out out2 o.out_is same2;
 }
 
-pub run-unflushed : (all : Account) (first past log log2 before input out out2 : Option (List ℕ)) → Keeps log log2 → Keeps out out2
-    → (kept old : List ℕ) → Opens kept old first past log before out → Ended all kept old input input log2 out2
-run-unflushed all first past log log2 before input out out2 same same2 kept old o =
-    run-unread all first past log2 before input out2 kept old (opens-kept kept old first past log log2 before out out2 same same2 o)
+pub run-unflushed : (all : Account) {first past log log2 before : Option (List ℕ)} (input : Option (List ℕ)) {out out2 : Option (List ℕ)} → Keeps log log2
+    → Keeps out out2 → (kept old : List ℕ) → Opens kept old first past log before out → Ended all kept old input input log2 out2
+run-unflushed all input same same2 kept old o = run-unread all input kept old (opens-kept same same2 o)
 
-pub run-begins : (first past log log1 before out out1 : Option (List ℕ)) → IfSome first (λ text. AreSound [] text) → Keeps log log1 → Keeps out out1
-    → (kept old : List ℕ) → Opens kept old first past log before out → Begins kept old past (Some kept) before out1
-run-begins first past log log1 before out out1 sound same same1 kept old o =
-    begins kept old first past log1 before out1 (opens-kept kept old first past log log1 before out out1 same same1 o) sound
+pub run-begins : {first past log : Option (List ℕ)} (log1 : Option (List ℕ)) {before out out1 : Option (List ℕ)} → IfSome first (λ text. AreSound [] text)
+    → Keeps log log1 → Keeps out out1 → (kept old : List ℕ) → Opens kept old first past log before out → Begins kept old past (Some kept) before out1
+run-begins {first} {past} log1 {before} {out1} sound same same1 kept old o = begins kept old first past log1 before out1 (opens-kept same same1 o) sound
 
-pub run-unreplayed : (all : Account) (first past log log1 log2 before input out out1 out2 : Option (List ℕ)) → IfSome first (λ text. AreSound [] text)
-    → Keeps log log1 → Keeps out out1 → Keeps log1 log2
+pub run-unreplayed : (all : Account) {first past log : Option (List ℕ)} (log1 : Option (List ℕ)) {log2 before : Option (List ℕ)} (input : Option (List ℕ))
+    {out out1 : Option (List ℕ)} (out2 : Option (List ℕ)) → IfSome first (λ text. AreSound [] text) → Keeps log log1 → Keeps out out1 → Keeps log1 log2
     → ((kept old : List ℕ) (input : Option (List ℕ)) → Begins kept old past (Some kept) before out1 → Ended all kept old input input (Some kept) out2)
     → (kept old : List ℕ) → Opens kept old first past log before out → Ended all kept old input input log2 out2
-run-unreplayed all first past log log1 log2 before input out out1 out2 sound same same1 same2 h kept old o =
-    let o1 = opens-kept kept old first past log log1 before out out1 same same1 o in
-    rw (kept-known kept log1 log2 o1.log_is same2) (h kept old input (begins kept old first past log1 before out1 o1 sound))
+run-unreplayed all {first} {past} log1 {log2} {before} input {out1} out2 sound same same1 same2 h kept old o =
+    let o1 = opens-kept same same1 o in
+    rw (kept-known log1 log2 o1.log_is same2) (h kept old input (begins kept old first past log1 before out1 o1 sound))
 
-pub run-lived : (all more : Account) (first past log log1 log2 log3 before before2 input input2 out out1 out2 out3 : Option (List ℕ)) (number len : ℕ) →
-    IfSome first (λ text. AreSound [] text) → Keeps log log1 → Keeps out out1 → Keeps log1 log2
+pub run-lived : (all more : Account) {first past log : Option (List ℕ)} (log1 : Option (List ℕ)) {log2 : Option (List ℕ)} (log3 : Option (List ℕ))
+    {before : Option (List ℕ)} (before2 input input2 : Option (List ℕ)) {out out1 : Option (List ℕ)} (out2 out3 : Option (List ℕ)) (number len : ℕ)
+    → IfSome first (λ text. AreSound [] text) → Keeps log log1 → Keeps out out1 → Keeps log1 log2
     → ((kept old : List ℕ) → Begins kept old past (Some kept) before out1 → Replayed all more kept old before2 out2 number len)
-    → ((all : Account) (kept old : List ℕ) → AreSound [] kept → log2 ≡ Some kept → Replayed all more kept old before2 out2 number len →
-    Lived all kept old input input2 log3 out3)
-    → (kept old : List ℕ) → Opens kept old first past log before out → Lived all kept old input input2 log3 out3
-run-lived all more first past log log1 log2 log3 before before2 input input2 out out1 out2 out3 number len sound same same1 same2 r h kept old o =
-    let o1 = opens-kept kept old first past log log1 before out out1 same same1 o in
+    → ((all : Account) (kept old : List ℕ) → AreSound [] kept → log2 ≡ Some kept → Replayed all more kept old before2 out2 number len
+    → Lived all kept old input input2 log3 out3) → (kept old : List ℕ) → Opens kept old first past log before out → Lived all kept old input input2 log3 out3
+run-lived all more {first} {past} log1 {log2} log3 {before} before2 input input2 {out1} out2 out3 number len sound same same1 same2 r h kept old o =
+    let o1 = opens-kept same same1 o in
     let b = begins kept old first past log1 before out1 o1 sound in
-    h all kept old b.sound (kept-known kept log1 log2 o1.log_is same2) (r kept old b)
+    h all kept old b.sound (kept-known log1 log2 o1.log_is same2) (r kept old b)
 
-pub run-ended : (all more : Account) (first past log log1 log2 log3 before before2 input input2 out out1 out2 out3 : Option (List ℕ)) (number len : ℕ) →
-    IfSome first (λ text. AreSound [] text) → Keeps log log1 → Keeps out out1 → Keeps log1 log2
+pub run-ended : (all more : Account) {first past log : Option (List ℕ)} (log1 : Option (List ℕ)) {log2 : Option (List ℕ)} (log3 : Option (List ℕ))
+    {before : Option (List ℕ)} (before2 input input2 : Option (List ℕ)) {out out1 : Option (List ℕ)} (out2 out3 : Option (List ℕ)) (number len : ℕ)
+    → IfSome first (λ text. AreSound [] text) → Keeps log log1 → Keeps out out1 → Keeps log1 log2
     → ((kept old : List ℕ) → Begins kept old past (Some kept) before out1 → Replayed all more kept old before2 out2 number len)
-    → ((all : Account) (kept old : List ℕ) → AreSound [] kept → log2 ≡ Some kept → Replayed all more kept old before2 out2 number len →
-    Ended all kept old input input2 log3 out3)
-    → (kept old : List ℕ) → Opens kept old first past log before out → Ended all kept old input input2 log3 out3
-run-ended all more first past log log1 log2 log3 before before2 input input2 out out1 out2 out3 number len sound same same1 same2 r h kept old o =
-    let o1 = opens-kept kept old first past log log1 before out out1 same same1 o in
+    → ((all : Account) (kept old : List ℕ) → AreSound [] kept → log2 ≡ Some kept → Replayed all more kept old before2 out2 number len
+    → Ended all kept old input input2 log3 out3) → (kept old : List ℕ) → Opens kept old first past log before out → Ended all kept old input input2 log3 out3
+run-ended all more {first} {past} log1 {log2} log3 {before} before2 input input2 {out1} out2 out3 number len sound same same1 same2 r h kept old o =
+    let o1 = opens-kept same same1 o in
     let b = begins kept old first past log1 before out1 o1 sound in
-    h all kept old b.sound (kept-known kept log1 log2 o1.log_is same2) (r kept old b)
+    h all kept old b.sound (kept-known log1 log2 o1.log_is same2) (r kept old b)
 
 -- ---- after the replay
 
-pub live-starts : (all more : Account) (kept old : List ℕ) (input log before out : Option (List ℕ)) (begun : List ℕ) (number len : ℕ) →
-    (r : Replayed all more kept old before out number len) → begun ≡ []
-    → Stands true all more r.told [] (whole_lines kept) [] input input log log before (Some r.told) out begun number len len
-live-starts all more kept old input log before out begun number len r e =
+pub live-starts : {all more : Account} {kept old : List ℕ} (input log : Option (List ℕ)) {before out : Option (List ℕ)} {begun : List ℕ} {number len : ℕ}
+    → (r : Replayed all more kept old before out number len) → begun ≡ [] → Stands true all more r.told [] (whole_lines kept) [] input input log log before
+    (Some r.told) out begun number len len
+live-starts {all} {more} {kept} input log {out} {begun} {number} {len} r e =
     subst (λ b. Stands true all more r.told [] (whole_lines kept) [] input input log log b (Some r.told) out begun number len len) (sym r.before_is)
     (subst (λ o. Stands true all more r.told [] (whole_lines kept) [] input input log log (Some []) (Some r.told) o begun number len len) (sym r.out_is)
-    (stands-start true all more r.told [] (whole_lines kept) input log (Some r.told) begun number len r.answered e))
+    (stands-start true [] input log (Some r.told) len r.answered e))
 
 -- the same where `out` has not changed meanwhile
-pub told-of : (all more : Account) (kept old : List ℕ) (before out out1 : Option (List ℕ)) (number len : ℕ) → Keeps out out1 →
-    Replayed all more kept old before out number len → Replayed all more kept old before out1 number len
-told-of all more kept old before out out1 number len same r = record {
+pub told-of : {all more : Account} {kept old : List ℕ} {before out out1 : Option (List ℕ)} {number len : ℕ} → Keeps out out1
+    → Replayed all more kept old before out number len → Replayed all more kept old before out1 number len
+told-of {out} {out1} same r = record {
   found = r.found;
   told = r.told;
   answered = r.answered;
   before_is = r.before_is;
-  out_is = kept-known r.told out out1 r.out_is same;
+  out_is = kept-known out out1 r.out_is same;
   length_is = r.length_is;
 }
 
-pub go-uncut : (more : Account) (input log log2 before out out2 : Option (List ℕ)) (number len : ℕ) → Keeps log log2 → Keeps out out2
-    → (all : Account) (kept old : List ℕ) → AreSound [] kept → log ≡ Some kept → Replayed all more kept old before out number len →
-    Ended all kept old input input log2 out2
-go-uncut more input log log2 before out out2 number len keeps same all kept old sound e r =
-    rw (kept-known kept log log2 e keeps)
-    (uncut all more kept old input before out2 number len sound (told-of all more kept old before out out2 number len same r))
+pub go-uncut : {more : Account} (input : Option (List ℕ)) {log log2 before out out2 : Option (List ℕ)} {number len : ℕ} → Keeps log log2 → Keeps out out2
+    → (all : Account) (kept old : List ℕ) → AreSound [] kept → log ≡ Some kept → Replayed all more kept old before out number len
+    → Ended all kept old input input log2 out2
+go-uncut input {log} {log2} keeps same all kept old sound e r = rw (kept-known log log2 e keeps) (uncut input sound (told-of same r))
 
-pub go-err : (more : Account) (input input2 log log2 log3 before out out1 out2 : Option (List ℕ)) (begun : List ℕ) (number len : ℕ) → CutsTo log log2 len →
-    begun ≡ [] → Keeps out out1
-    → HaveFailed true more input log2 before out1 begun number len input2 log3 out2
-    → (all : Account) (kept old : List ℕ) → AreSound [] kept → log ≡ Some kept → Replayed all more kept old before out number len →
-    Ended all kept old input input2 log3 out2
-go-err more input input2 log log2 log3 before out out1 out2 begun number len cuts e same f all kept old sound known replayed =
-    let r = told-of all more kept old before out out1 number len same replayed in
-    live-fails all kept old r.told input input2 log2 log3 out2 sound (cut-back kept log log2 len known r.length_is cuts)
-    (f all r.told [] (whole_lines kept) [] input log2 (Some r.told) len (live-starts all more kept old input log2 before out1 begun number len r e)) r.found
+pub go-err : {more : Account} (input input2 : Option (List ℕ)) {log : Option (List ℕ)} (log2 log3 : Option (List ℕ)) {before out out1 : Option (List ℕ)}
+    (out2 : Option (List ℕ)) {begun : List ℕ} {number len : ℕ} → CutsTo log log2 len → begun ≡ [] → Keeps out out1
+    → HaveFailed true more input log2 before out1 begun number len input2 log3 out2 → (all : Account) (kept old : List ℕ) → AreSound [] kept → log ≡ Some kept
+    → Replayed all more kept old before out number len → Ended all kept old input input2 log3 out2
+go-err input input2 log2 log3 out2 {len} cuts e same f all kept old sound known replayed =
+    let r = told-of same replayed in
+    live-fails old sound (cut-back log2 known r.length_is cuts)
+    (f all r.told [] (whole_lines kept) [] input log2 (Some r.told) len (live-starts input log2 r e)) r.found
 
 -- it ended before the first new record
-pub go-untold : (more : Account) (input log log2 before out out1 : Option (List ℕ)) (number len : ℕ) → CutsTo log log2 len → Keeps out out1
-    → (all : Account) (kept old : List ℕ) → AreSound [] kept → log ≡ Some kept → Replayed all more kept old before out number len →
-    Ended all kept old input input log2 out1
-go-untold more input log log2 before out out1 number len cuts same =
-    go-err more input input log log2 log2 before out out1 out1 [] number len cuts refl same (each-stops true more input log2 before out1 [] number len)
+pub go-untold : {more : Account} (input : Option (List ℕ)) {log : Option (List ℕ)} (log2 : Option (List ℕ)) {before out out1 : Option (List ℕ)} {number len : ℕ}
+    → CutsTo log log2 len → Keeps out out1 → (all : Account) (kept old : List ℕ) → AreSound [] kept → log ≡ Some kept
+    → Replayed all more kept old before out number len → Ended all kept old input input log2 out1
+go-untold {more} input log2 {before} {out1} {number} {len} cuts same =
+    go-err input input log2 log2 out1 cuts refl same (each-stops true more input log2 before out1 [] number len)
 
-pub go-ok : (more more2 : Account) (input input2 log log2 log3 before before2 out out1 out2 : Option (List ℕ)) (begun begun2 : List ℕ)
-    (number number2 len len2 : ℕ) → CutsTo log log2 len → begun ≡ [] → Keeps out out1
-    → HaveGone true more input log2 before out1 begun number len more2 input2 log3 before2 out2 begun2 number2 len2 → IsAtEnd input2
-    → (all : Account) (kept old : List ℕ) → AreSound [] kept → log ≡ Some kept → Replayed all more kept old before out number len →
-    Lived all kept old input input2 log3 out2
-go-ok more more2 input input2 log log2 log3 before before2 out out1 out2 begun begun2 number number2 len len2 cuts e same g end all kept old sound known
-    replayed =
-    let r = told-of all more kept old before out out1 number len same replayed in
-    lived all more2 kept old r.told input input2 log2 log3 before2 out2 begun2 number2 len len2 sound (cut-back kept log log2 len known r.length_is cuts)
-    (g all r.told [] (whole_lines kept) [] input log2 (Some r.told) len (live-starts all more kept old input log2 before out1 begun number len r e)) end r.found
+pub go-ok : {more : Account} (more2 : Account) (input : Option (List ℕ)) {input2 log : Option (List ℕ)} (log2 log3 : Option (List ℕ)) {before : Option (List ℕ)}
+    (before2 : Option (List ℕ)) {out out1 : Option (List ℕ)} (out2 : Option (List ℕ)) {begun : List ℕ} (begun2 : List ℕ) {number : ℕ} (number2 : ℕ) {len : ℕ}
+    (len2 : ℕ) → CutsTo log log2 len → begun ≡ [] → Keeps out out1 → HaveGone true more input log2 before out1 begun number len more2 input2 log3 before2 out2
+    begun2 number2 len2 → IsAtEnd input2 → (all : Account) (kept old : List ℕ) → AreSound [] kept → log ≡ Some kept
+    → Replayed all more kept old before out number len → Lived all kept old input input2 log3 out2
+go-ok more2 input log2 log3 before2 out2 begun2 number2 {len} len2 cuts e same g end all kept old sound known replayed =
+    let r = told-of same replayed in
+    lived old sound (cut-back log2 known r.length_is cuts)
+    (g all r.told [] (whole_lines kept) [] input log2 (Some r.told) len (live-starts input log2 r e)) end r.found
 
 -- ---- what was read and not looked at
 
@@ -446,14 +431,15 @@ at-end-too : (input : Option (List ℕ)) (unread : List ℕ) → IsAtEnd (left_o
 at-end-too None unread e = tt
 at-end-too (Some xs) unread e = none-right unread xs e
 
-pub read-all : (input input2 : Option (List ℕ)) (bytes unread : List ℕ) → IsAtEnd (left_of unread input2) → Consumes input (left_of unread input2) bytes → Consumes input input2 bytes
+pub read-all : (input input2 : Option (List ℕ)) (bytes unread : List ℕ) → IsAtEnd (left_of unread input2) → Consumes input (left_of unread input2) bytes
+    → Consumes input input2 bytes
 read-all None input2 bytes unread e c = tt
 read-all (Some xs) None bytes unread e c = absurd c
 read-all (Some xs) (Some ys) bytes unread e c = c ∙ ap (λ t. bytes ++ t) (e ∙ sym (none-right unread ys e))
 
-pub lived-read : (all : Account) (kept old : List ℕ) (input input2 log out : Option (List ℕ)) (unread : List ℕ) → Lived all kept old input (left_of unread input2) log out
-    → Lived all kept old input input2 log out
-lived-read all kept old input input2 log out unread l = record {
+pub lived-read : {all : Account} {kept old : List ℕ} {input : Option (List ℕ)} (input2 : Option (List ℕ)) {log out : Option (List ℕ)} (unread : List ℕ)
+    → Lived all kept old input (left_of unread input2) log out → Lived all kept old input input2 log out
+lived-read {input} input2 unread l = record {
   sound = l.sound;
   found = l.found;
   bytes = l.bytes;
@@ -464,9 +450,9 @@ lived-read all kept old input input2 log out unread l = record {
   begins = l.begins;
 }
 
-pub ended-read : (all : Account) (kept old : List ℕ) (input input2 log out : Option (List ℕ)) (unread : List ℕ) → Ended all kept old input (left_of unread input2) log out
-    → Ended all kept old input input2 log out
-ended-read all kept old input input2 log out unread e = record {
+pub ended-read : {all : Account} {kept old : List ℕ} {input : Option (List ℕ)} (input2 : Option (List ℕ)) {log out : Option (List ℕ)} (unread : List ℕ)
+    → Ended all kept old input (left_of unread input2) log out → Ended all kept old input input2 log out
+ended-read {kept} {input} input2 unread e = record {
   kept = e.kept;
   told = e.told;
   bytes = e.bytes ++ unread;
@@ -492,29 +478,26 @@ ended-read all kept old input input2 log out unread e = record {
           ),
         )
 
-pub none-unread : (unread : List ℕ) (input : Option (List ℕ)) → unread ≡ [] → left_of unread input ≡ input
-none-unread unread None e = refl
-none-unread unread (Some xs) e = ap (λ t. Some (t ++ xs)) e
+pub none-unread : {unread : List ℕ} (input : Option (List ℕ)) → unread ≡ [] → left_of unread input ≡ input
+none-unread None e = refl
+none-unread (Some xs) e = ap (λ t. Some (t ++ xs)) e
 
 -- the same of a run as the code has it, which looks at what it read
-pub go-ok-read : (more more2 : Account) (start input input2 log log2 log3 before before2 out out1 out2 : Option (List ℕ)) (unread begun begun2 : List ℕ)
-    (number number2 len len2 : ℕ) → start ≡ input → CutsTo log log2 len → begun ≡ [] → Keeps out out1
+pub go-ok-read : {more : Account} (more2 : Account) (start : Option (List ℕ)) {input : Option (List ℕ)} (input2 : Option (List ℕ)) {log : Option (List ℕ)}
+    (log2 log3 : Option (List ℕ)) {before : Option (List ℕ)} (before2 : Option (List ℕ)) {out out1 : Option (List ℕ)} (out2 : Option (List ℕ)) (unread : List ℕ)
+    {begun : List ℕ} (begun2 : List ℕ) {number : ℕ} (number2 : ℕ) {len : ℕ} (len2 : ℕ) → start ≡ input → CutsTo log log2 len → begun ≡ [] → Keeps out out1
     → HaveGone true more start log2 before out1 begun number len more2 (left_of unread input2) log3 before2 out2 begun2 number2 len2
     → IsAtEnd (left_of unread input2) → (all : Account) (kept old : List ℕ) → AreSound [] kept → log ≡ Some kept
     → Replayed all more kept old before out number len → Lived all kept old input input2 log3 out2
-go-ok-read more more2 start input input2 log log2 log3 before before2 out out1 out2 unread begun begun2 number number2 len len2 is cuts e same g end all kept old
-    sound known r =
-    subst (λ i. Lived all kept old i input2 log3 out2) is
-    (lived-read all kept old start input2 log3 out2 unread
-    (go-ok more more2 start (left_of unread input2) log log2 log3 before before2 out out1 out2 begun begun2 number number2 len len2 cuts e same g end all kept old
-    sound known r))
+go-ok-read more2 start input2 log2 log3 before2 out2 unread begun2 number2 len2 is cuts e same g end all kept old sound known r =
+    subst (λ i. Lived all kept old i input2 log3 out2) is (lived-read input2 unread
+    (go-ok more2 start log2 log3 before2 out2 begun2 number2 len2 cuts e same g end all kept old sound known r))
 
-pub go-err-read : (more : Account) (start input input2 log log2 log3 before out out1 out2 : Option (List ℕ)) (unread begun : List ℕ) (number len : ℕ)
-    → start ≡ input → CutsTo log log2 len → begun ≡ [] → Keeps out out1
-    → HaveFailed true more start log2 before out1 begun number len (left_of unread input2) log3 out2
-    → (all : Account) (kept old : List ℕ) → AreSound [] kept → log ≡ Some kept → Replayed all more kept old before out number len
-    → Ended all kept old input input2 log3 out2
-go-err-read more start input input2 log log2 log3 before out out1 out2 unread begun number len is cuts e same f all kept old sound known r =
-    subst (λ i. Ended all kept old i input2 log3 out2) is
-    (ended-read all kept old start input2 log3 out2 unread
-    (go-err more start (left_of unread input2) log log2 log3 before out out1 out2 begun number len cuts e same f all kept old sound known r))
+pub go-err-read : {more : Account} (start : Option (List ℕ)) {input : Option (List ℕ)} (input2 : Option (List ℕ)) {log : Option (List ℕ)}
+    (log2 log3 : Option (List ℕ)) {before out out1 : Option (List ℕ)} (out2 : Option (List ℕ)) (unread : List ℕ) {begun : List ℕ} {number len : ℕ}
+    → start ≡ input → CutsTo log log2 len → begun ≡ [] → Keeps out out1 → HaveFailed true more start log2 before out1 begun number len
+    (left_of unread input2) log3 out2 → (all : Account) (kept old : List ℕ) → AreSound [] kept → log ≡ Some kept
+    → Replayed all more kept old before out number len → Ended all kept old input input2 log3 out2
+go-err-read start input2 log2 log3 out2 unread is cuts e same f all kept old sound known r =
+    subst (λ i. Ended all kept old i input2 log3 out2) is (ended-read input2 unread
+    (go-err start (left_of unread input2) log2 log3 out2 cuts e same f all kept old sound known r))

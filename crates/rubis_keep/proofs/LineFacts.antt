@@ -15,7 +15,8 @@ kept-append asks line (b ∷ xs) ys =
     elim (eqb b 10) as (λ t. cond t (kept_line asks line ++ kept_after asks [] (xs ++ ys)) (kept_after asks (line ++ b ∷ []) (xs ++ ys))
     ≡ cond t (kept_line asks line ++ kept_after asks [] xs) (kept_after asks (line ++ b ∷ []) xs)
     ++ kept_after asks (cond t (begun_after [] xs) (begun_after (line ++ b ∷ []) xs)) ys) [
-      | true ↦ ap (λ r. kept_line asks line ++ r) (kept-append asks [] xs ys) ∙ sym (append_assoc (kept_line asks line) (kept_after asks [] xs) (kept_after asks (begun_after [] xs) ys))
+      | true ↦ ap (λ r. kept_line asks line ++ r) (kept-append asks [] xs ys) ∙ sym
+          (append_assoc (kept_line asks line) (kept_after asks [] xs) (kept_after asks (begun_after [] xs) ys))
       | false ↦ kept-append asks (line ++ b ∷ []) xs ys
     ]
 
@@ -34,12 +35,12 @@ state-append s (c ∷ xs) ys = state-append (step default_config s c).0 xs ys
 
 -- ---- one byte more of a list that is read from its start
 
-pub state_take_more : (s : State) (xs : List ℕ) (i : ℕ) → i < length xs
-    → state_after s (take (i + 1) xs) ≡ (step default_config (state_after s (take i xs)) (get_or xs i 0)).0
+pub state_take_more : (s : State) (xs : List ℕ) (i : ℕ) → i < length xs → state_after s (take (i + 1) xs) ≡
+    (step default_config (state_after s (take i xs)) (get_or xs i 0)).0
 state_take_more s xs i h = ap (state_after s) (take_more xs i 0 h) ∙ state-append s (take i xs) (get_or xs i 0 ∷ [])
 
-pub begun_take_more : (line xs : List ℕ) (i : ℕ) → i < length xs
-    → begun_after line (take (i + 1) xs) ≡ begun_after (begun_after line (take i xs)) (get_or xs i 0 ∷ [])
+pub begun_take_more : (line xs : List ℕ) (i : ℕ) → i < length xs → begun_after line (take (i + 1) xs) ≡ begun_after (begun_after line (take i xs))
+    (get_or xs i 0 ∷ [])
 begun_take_more line xs i h = ap (begun_after line) (take_more xs i 0 h) ∙ begun-append line (take i xs) (get_or xs i 0 ∷ [])
 
 -- ---- the first bytes of a line say what is kept of it
@@ -91,16 +92,16 @@ begun_full line b h =
     let size = length-take 4097 line in
     take-append-le 4097 line (b ∷ []) (omega (arith, size, h))
 
-pub begun-pushed : (line begun new : List ℕ) (b : ℕ) → begun ≡ begun_bytes line → length begun ≤ 4096 → new ≡ begun ++ b ∷ [] → new
-    ≡ begun_bytes (line ++ b ∷ [])
-begun-pushed line begun new b h l e = e ∙ ap (λ t. t ++ b ∷ []) h ∙ sym (begun_more line b (rw h at l))
+pub begun-pushed : (line : List ℕ) {begun new : List ℕ} (b : ℕ) → begun ≡ begun_bytes line → length begun ≤ 4096 → new ≡ begun ++ b ∷ []
+    → new ≡ begun_bytes (line ++ b ∷ [])
+begun-pushed line b h l e = e ∙ ap (λ t. t ++ b ∷ []) h ∙ sym (begun_more line b (rw h at l))
 
-pub begun-stays : (line begun : List ℕ) (b : ℕ) → begun ≡ begun_bytes line → 4096 < length begun → begun ≡ begun_bytes (line ++ b ∷ [])
-begun-stays line begun b h l = h ∙ sym (begun_full line b (rw h at l))
+pub begun-stays : (line : List ℕ) {begun : List ℕ} (b : ℕ) → begun ≡ begun_bytes line → 4096 < length begun → begun ≡ begun_bytes (line ++ b ∷ [])
+begun-stays line b h l = h ∙ sym (begun_full line b (rw h at l))
 
 and_true : (b : Bool) → (b && true) ≡ b
 and_true true = refl
 and_true false = refl
 
-pub sound-ended : (line begun : List ℕ) → begun ≡ begun_bytes line → is_sound begun ≡ (is_sound line && true)
-sound-ended line begun h = ap is_sound h ∙ sound_begun line ∙ sym (and_true (is_sound line))
+pub sound-ended : (line : List ℕ) {begun : List ℕ} → begun ≡ begun_bytes line → is_sound begun ≡ (is_sound line && true)
+sound-ended line h = ap is_sound h ∙ sound_begun line ∙ sym (and_true (is_sound line))

@@ -9,11 +9,12 @@ use Rattle.rubis_keep.specs.declared.pages.Listed.{Listed}
 use Rattle.rubis_keep.proofs.LifeFacts.{none-read}
 
 -- what is held of a listing is let go where records are answered, and stays right where none are
-pub listed-after : (p : Place) (s s2 : Replica) (records : List ℕ) (old new : Option Listed) → AreListed s old
+pub listed-after : (p : Place) (s : Replica) {s2 : Replica} {records : List ℕ} {old new : Option Listed} → AreListed s old
     → (new ≡ None) ⊎ ((records ≡ []) × (new ≡ old)) → s2 ≡ state_after p s (input_records records) → AreListed s2 new
-listed-after p s s2 records old new h (inl none) led = subst (AreListed s2) (sym none) tt
-listed-after p s s2 records old new h (inr same) led =
-    subst (λ x. AreListed x new) (sym (led ∙ ap (λ r. state_after p s (input_records r)) same.0 ∙ ap (state_after p s) none-read)) (subst (AreListed s) (sym same.1) h)
+listed-after p s {s2} h (inl none) led = subst (AreListed s2) (sym none) tt
+listed-after p s {new} h (inr same) led =
+    subst (λ x. AreListed x new) (sym (led ∙ ap (λ r. state_after p s (input_records r)) same.0 ∙ ap (state_after p s) none-read))
+    (subst (AreListed s) (sym same.1) h)
 
 pub get-later : {X : Type 0} (xs : List X) (k i : ℕ) → slice_get (drop k xs) i ≡ slice_get xs (i + k)
 get-later xs zero i = ap (slice_get xs) (omega arith)

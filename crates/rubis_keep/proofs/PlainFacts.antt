@@ -10,9 +10,9 @@ use Rattle.rubis_engine.specs.Text.{input_records, plain_writer, rows_text}
 use Rattle.rubis_keep.specs.Lines.{is_marked}
 
 -- the text of plain fields is that of their row, but for its first byte and its end
-pub row-of : (fields : List (List ℕ)) (text line : List ℕ) → text ≡ joined fields → all_plain fields ≡ true → 2 ≤ length fields → drop 1 text ≡ line
+pub row-of : (fields : List (List ℕ)) {text line : List ℕ} → text ≡ joined fields → all_plain fields ≡ true → 2 ≤ length fields → drop 1 text ≡ line
     → row_text plain_writer fields ≡ line ++ 10 ∷ []
-row-of fields text line is plain some same = row-plain fields plain some ∙ ap (λ t. t ++ 10 ∷ []) (ap (drop 1) (sym is) ∙ same)
+row-of fields is plain some same = row-plain fields plain some ∙ ap (λ t. t ++ 10 ∷ []) (ap (drop 1) (sym is) ∙ same)
 
 only-row : (fields row : List (List ℕ)) → 2 ≤ length fields → Has row (fields ∷ []) → row ≢ []
 only-row fields row some (inl same) none = absurd (few fields (sym same ∙ none) some)
@@ -30,6 +30,5 @@ pub row-back : (fields : List (List ℕ)) (line : List ℕ) → is_marked line �
     → input_records (line ++ 10 ∷ []) ≡ fields ∷ []
 row-back fields line unmarked written some =
     let text : rows_text (fields ∷ []) ≡ line ++ 10 ∷ [] = append-nil (row_text plain_writer fields) ∙ written in
-    ap input_records (sym text)
-    ∙ rows_back (fields ∷ []) (λ row has. only-row fields row some has)
+    ap input_records (sym text) ∙ rows_back (fields ∷ []) (λ row has. only-row fields row some has)
     (no_mark (rows_text (fields ∷ [])) (subst (λ t. is_marked t ≡ false) (sym text) (mark-first line unmarked)))

@@ -15,9 +15,9 @@ use Rattle.rubis_keep.specs.Kept.{OutEnds, Puts, PutsFront, Wrote}
 use Rattle.rubis_engine.proofs.FrontFacts.{front-kept as appends-kept, more-bound}
 use Rattle.rubis_keep.proofs.HistoryFacts.{front-front, tells-out}
 
-pub puts-front : (before before2 out out2 : Option (List ℕ)) (n : ℕ) (text : List ℕ) → Found before before2 text n
+pub puts-front : (before before2 out out2 : Option (List ℕ)) {n : ℕ} {text : List ℕ} → Found before before2 text n
     → AppendsFront out out2 (take (length text - n) (drop n text)) → PutsFront before before2 out out2 text
-puts-front before before2 out out2 n text f a =
+puts-front before before2 out out2 {n} {text} f a =
     let m = a.0 in
     let bound = more-bound n m text f.0 a.1 in
     let size = length-take (n + m) text in
@@ -42,9 +42,9 @@ none-behind [] ys e = e
 none-behind (x ∷ xs) ys e = absurd (cc e)
 
 -- one more text was put
-pub wrote-more : (old : List ℕ) (before before2 out0 out out2 : Option (List ℕ)) (since text : List ℕ)
-    → Wrote old before out0 out since → Puts before before2 out out2 text → Wrote old before2 out0 out2 (since ++ text)
-wrote-more old before before2 out0 out out2 since text w p = go before2 (rw w.unread at p.1)
+pub wrote-more : {old : List ℕ} {before : Option (List ℕ)} (before2 : Option (List ℕ)) {out0 out : Option (List ℕ)} (out2 : Option (List ℕ)) {since : List ℕ}
+    (text : List ℕ) → Wrote old before out0 out since → Puts before before2 out out2 text → Wrote old before2 out0 out2 (since ++ text)
+wrote-more {old} before2 {out0} {out} out2 {since} text w p = go before2 (rw w.unread at p.1)
   where
     appended : Appends out0 out2 (w.added ++ drop p.0 text)
     appended = appends-more out0 out out2 w.added (drop p.0 text) w.appended p.2
@@ -79,10 +79,11 @@ wrote-more old before before2 out0 out out2 since text w p = go before2 (rw w.un
     ]
 
 -- at any moment what stands there is the beginning of each text that what was put is the beginning of, or it is as it was
-pub wrote-ends : (all : Account) (told old : List ℕ) (before out0 out : Option (List ℕ)) (since kept : List ℕ) → Wrote old before out0 out since
-    → ((more : List (List (List ℕ))) → (rest : List ℕ) × ((told ++ since) ++ rest ≡ all.text AtEnd (input_records kept ++ more)))
+pub wrote-ends : (all : Account) (told : List ℕ) {old : List ℕ} {before out0 out : Option (List ℕ)} {since : List ℕ} (kept : List ℕ)
+    → Wrote old before out0 out since →
+    ((more : List (List (List ℕ))) → (rest : List ℕ) × ((told ++ since) ++ rest ≡ all.text AtEnd (input_records kept ++ more)))
     → OutEnds all told old out0 out kept
-wrote-ends all told old before out0 out since kept w begins = go w.left w.same w.one
+wrote-ends all told {old} {out0} {out} {since} kept w begins = go w.left w.same w.one
   where
     go : (left : List ℕ) → old ++ w.added ≡ since ++ left → (w.added ≡ []) ⊎ (left ≡ []) → OutEnds all told old out0 out kept
     go [] e one = (
@@ -96,42 +97,35 @@ wrote-ends all told old before out0 out since kept w begins = go w.left w.same w
     go (x ∷ left) e (inl none) = (w.added, w.appended, inl (none, since, x ∷ left, sym (append-nil old) ∙ ap (λ t. old ++ t) (sym none) ∙ e, λ never. cc never))
 
 -- the same where a text could not be put
-pub put-ends : (all : Account) (told old : List ℕ) (before before2 out0 out out2 : Option (List ℕ)) (since text kept : List ℕ) → Wrote old before out0 out since
-    → PutsFront before before2 out out2 text
+pub put-ends : (all : Account) (told : List ℕ) {old : List ℕ} {before : Option (List ℕ)} (before2 : Option (List ℕ)) {out0 out : Option (List ℕ)}
+    (out2 : Option (List ℕ)) {since : List ℕ} (text kept : List ℕ) → Wrote old before out0 out since → PutsFront before before2 out out2 text
     → ((more : List (List (List ℕ))) → (rest : List ℕ) × ((told ++ (since ++ text)) ++ rest ≡ all.text AtEnd (input_records kept ++ more)))
     → OutEnds all told old out0 out2 kept
-put-ends all told old before before2 out0 out out2 since text kept w (inl same) begins =
-    wrote-ends all told old before out0 out2 since kept
-    (record {
+put-ends all told before2 {out0} {out} out2 {since} text kept w (inl same) begins =
+    wrote-ends all told kept (record {
       added = w.added;
       left = w.left;
       unread = w.unread;
       appended = appends-kept out0 out out2 w.added w.appended same;
       same = w.same;
       one = w.one;
-    })
-    (λ more. let b = begins more in (text ++ b.0, sym (append_assoc (told ++ since) text b.0) ∙ ap (λ t. t ++ b.0) (append_assoc told since text) ∙ b.1))
-put-ends all told old before before2 out0 out out2 since text kept w (inr p) begins =
-    wrote-ends all told old before2 out0 out2 (since ++ take p.0 text) kept (wrote-more old before before2 out0 out out2 since (take p.0 text) w p.2)
-    (λ more. let b = begins more in (
+    }) (λ more. let b = begins more in (text ++ b.0, sym (append_assoc (told ++ since) text b.0) ∙ ap (λ t. t ++ b.0) (append_assoc told since text) ∙ b.1))
+put-ends all told before2 out2 {since} text kept w (inr p) begins =
+    wrote-ends all told kept (wrote-more before2 out2 (take p.0 text) w p.2) (λ more. let b = begins more in (
       drop p.0 text ++ b.0,
-      sym (append_assoc (told ++ (since ++ take p.0 text)) (drop p.0 text) b.0)
-          ∙ ap (λ t. t ++ b.0) (append_assoc told (since ++ take p.0 text) (drop p.0 text)
-          ∙ ap (λ t. told ++ t) (append_assoc since (take p.0 text) (drop p.0 text) ∙ ap (λ t. since ++ t) (take-append-drop p.0 text)))
-          ∙ b.1,
+      sym (append_assoc (told ++ (since ++ take p.0 text)) (drop p.0 text) b.0) ∙ ap (λ t. t ++ b.0) (append_assoc told (since ++ take p.0 text) (drop p.0 text)
+          ∙ ap (λ t. told ++ t) (append_assoc since (take p.0 text) (drop p.0 text) ∙ ap (λ t. since ++ t) (take-append-drop p.0 text))) ∙ b.1,
     ))
 
 -- a text was found as far as there was more of before, and the rest was told
-pub puts-told : {T E : Type 0} (live : Bool) (before before2 : Option (List ℕ)) (a b : Option History) (r : Result T E) (n : ℕ) (text : List ℕ)
-    → Found before before2 text n
-    → MatchResult r (λ _. Tells live a b (take (length text - n) (drop n text)) []) (λ _. TellsFront live a b (take (length text - n) (drop n text)))
-    → OnOk r (Puts before before2 (out_in a) (out_in b) text)
-puts-told live before before2 a b (Ok x) n text f t = (n, f, subst (Appends (out_in a) (out_in b)) (take_rest text n) (tells-out live a b _ [] t))
-puts-told live before before2 a b (Err e) n text f t = tt
+pub puts-told : {T E : Type 0} (live : Bool) (before before2 : Option (List ℕ)) (a b : Option History) (r : Result T E) {n : ℕ} (text : List ℕ)
+    → Found before before2 text n → MatchResult r (λ _. Tells live a b (take (length text - n) (drop n text)) [])
+    (λ _. TellsFront live a b (take (length text - n) (drop n text))) → OnOk r (Puts before before2 (out_in a) (out_in b) text)
+puts-told live before before2 a b (Ok x) {n} text f t = (n, f, subst (Appends (out_in a) (out_in b)) (take_rest text n) (tells-out live a b t))
+puts-told live before before2 a b (Err e) text f t = tt
 
-pub puts-torn : {T E : Type 0} (live : Bool) (before before2 : Option (List ℕ)) (a b : Option History) (r : Result T E) (n : ℕ) (text : List ℕ)
-    → Found before before2 text n
-    → MatchResult r (λ _. Tells live a b (take (length text - n) (drop n text)) []) (λ _. TellsFront live a b (take (length text - n) (drop n text)))
-    → OnErr r (PutsFront before before2 (out_in a) (out_in b) text)
-puts-torn live before before2 a b (Ok x) n text f t = tt
-puts-torn live before before2 a b (Err e) n text f t = puts-front before before2 (out_in a) (out_in b) n text f (front-front live a b _ t)
+pub puts-torn : {T E : Type 0} (live : Bool) (before before2 : Option (List ℕ)) (a b : Option History) (r : Result T E) {n : ℕ} (text : List ℕ)
+    → Found before before2 text n → MatchResult r (λ _. Tells live a b (take (length text - n) (drop n text)) [])
+    (λ _. TellsFront live a b (take (length text - n) (drop n text))) → OnErr r (PutsFront before before2 (out_in a) (out_in b) text)
+puts-torn live before before2 a b (Ok x) text f t = tt
+puts-torn live before before2 a b (Err e) text f t = puts-front before before2 (out_in a) (out_in b) f (front-front live a b _ t)

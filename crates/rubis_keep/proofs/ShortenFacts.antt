@@ -36,11 +36,11 @@ none-changed p s [] h = refl
 none-changed p s (d ∷ done) (inl h) = ap (λ t. state_after p t done) h.0 ∙ none-changed p s done h.1
 none-changed p s (d ∷ done) (inr h) = absurd (cc h.1)
 
-shortened-more : (p : Place) (s : Replica) (done : List (List (List ℕ))) (fields : List (List ℕ)) → IsShortened p s [] done
+shortened-more : (p : Place) {s : Replica} (done : List (List (List ℕ))) (fields : List (List ℕ)) → IsShortened p s [] done
     → (input_step p s 1 (input_of p.sites fields)).0 ≡ s → IsShortened p s [] (done ++ fields ∷ [])
-shortened-more p s [] fields h e = inl (e, refl)
-shortened-more p s (d ∷ done) fields (inl h) e = inl (h.0, shortened-more p s done fields h.1 e)
-shortened-more p s (d ∷ done) fields (inr h) e = absurd (cc h.1)
+shortened-more p [] fields h e = inl (e, refl)
+shortened-more p (d ∷ done) fields (inl h) e = inl (h.0, shortened-more p done fields h.1 e)
+shortened-more p (d ∷ done) fields (inr h) e = absurd (cc h.1)
 
 -- the records of a line so far
 pub record SoFar {R : Type 0} (rem : R → Option (List ℕ)) (records : Records R) (all : List (List (List ℕ))) (old new : SiteState) (changed : Bool) :
@@ -52,21 +52,22 @@ pub record SoFar {R : Type 0} (rem : R → Option (List ℕ)) (records : Records
   pub place : new.place ≡ old.place
   pub takes : TakesRecords old new done changed
 
-pub line-starts : {R : Type 0} (rem : R → Option (List ℕ)) (records : Records R) (all : List (List (List ℕ))) (old : SiteState) → Gives rem records all →
-    SoFar rem records all old old false
+pub line-starts : {R : Type 0} (rem : R → Option (List ℕ)) (records : Records R) (all : List (List (List ℕ))) (old : SiteState) → Gives rem records all
+    → SoFar rem records all old old false
 line-starts rem records all old gives = record { done = []; rest = all; parts = refl; gives = gives; place = refl; takes = (refl, λ same. refl) }
 
-pub line-ends : {R : Type 0} (rem : R → Option (List ℕ)) (a b : Records R) (all : List (List (List ℕ))) (old new : SiteState) (changed : Bool)
+pub line-ends : {R : Type 0} {rem : R → Option (List ℕ)} {a : Records R} (b : Records R) {all : List (List (List ℕ))} {old new : SiteState} {changed : Bool}
     → SoFar rem a all old new changed → Advances rem a b false → TakesRecords old new all changed
-line-ends rem a b all old new changed s end =
+line-ends b {all} {old} {new} {changed} s end =
     let whole : all ≡ s.done = s.parts ∙ ap (λ t. s.done ++ t) (end s.rest s.gives) ∙ append-nil s.done in
     subst (λ records. TakesRecords old new records changed) (sym whole) s.takes
 
 -- one record more: the line changed the site if it did before, or if this record does
-pub line-more : {R : Type 0} (rem : R → Option (List ℕ)) (a b : Records R) (all : List (List (List ℕ))) (old mid new : SiteState) (before now after : Bool)
-    → SoFar rem a all old mid before → Advances rem a b true → new.place ≡ mid.place → TakesRecord mid new (input_of mid.place.sites (fields_now b)) now
-    → (after ≡ false → (before ≡ false)) → (after ≡ false → now ≡ false) → SoFar rem b all old new after
-line-more rem a b all old mid new before now after s takes place took f g =
+pub line-more : {R : Type 0} {rem : R → Option (List ℕ)} {a : Records R} (b : Records R) {all : List (List (List ℕ))} {old mid : SiteState} (new : SiteState)
+    {before : Bool} (now after : Bool) → SoFar rem a all old mid before → Advances rem a b true → new.place ≡ mid.place
+    → TakesRecord mid new (input_of mid.place.sites (fields_now b)) now → (after ≡ false → (before ≡ false)) → (after ≡ false → now ≡ false)
+    → SoFar rem b all old new after
+line-more b {old} {mid} new now after s takes place took f g =
     let next = takes s.rest s.gives in
     let p = old.place in
     let fields = fields_now b in
@@ -85,19 +86,17 @@ line-more rem a b all old mid new before now after s takes place took f g =
             let short = s.takes.1 (f no_more) in
             let still : mid.state ≡ old.state = s.takes.0 ∙ none-changed p old.state s.done short in
             let same : (input_step mid.place mid.state 1 (input_of mid.place.sites fields)).0 ≡ mid.state = took.1 (g no_more) in
-            shortened-more p old.state s.done fields short
-            (subst (λ (q : Place). (input_step q old.state 1 (input_of q.sites fields)).0 ≡ old.state) s.place
+            shortened-more p s.done fields short (subst (λ (q : Place). (input_step q old.state 1 (input_of q.sites fields)).0 ≡ old.state) s.place
             (subst (λ (t : Replica). (input_step mid.place t 1 (input_of mid.place.sites fields)).0 ≡ t) still same)),
       );
     }
 
 -- ---- line after line
 
-pub shortened-append : (p : Place) (s : Replica) (a b xs ys : List (List (List ℕ))) → IsShortened p s a xs → IsShortened p (state_after p s xs) b ys →
-    IsShortened p s (a ++ b) (xs ++ ys)
+pub shortened-append : (p : Place) (s : Replica) (a b xs ys : List (List (List ℕ))) → IsShortened p s a xs → IsShortened p (state_after p s xs) b ys
+    → IsShortened p s (a ++ b) (xs ++ ys)
 shortened-append p s a b [] ys h k = subst (λ t. IsShortened p s (t ++ b) ys) (sym h) k
-shortened-append p s a b (x ∷ xs) ys (inl h) k =
-    inl (h.0, shortened-append p s a b xs ys h.1 (subst (λ t. IsShortened p (state_after p t xs) b ys) h.0 k))
+shortened-append p s a b (x ∷ xs) ys (inl h) k = inl (h.0, shortened-append p s a b xs ys h.1 (subst (λ t. IsShortened p (state_after p t xs) b ys) h.0 k))
 shortened-append p s a b (x ∷ xs) ys (inr h) k =
     inr (h.0 ++ b, ap (λ t. t ++ b) h.1, shortened-append p (input_step p s 1 (input_of p.sites x)).0 h.0 b xs ys h.2 k)
 
@@ -108,23 +107,21 @@ after-append p s (x ∷ xs) ys = after-append p (input_step p s 1 (input_of p.si
 whole-of : (text : List ℕ) → AreSound [] text → IsWhole (whole_lines text)
 whole-of text h = subst IsWhole (sound-kept [] text h) (kept-whole false [] text)
 
-text-whole : (text : List ℕ) → AreSound [] text → begun_after [] text ≡ [] → IsWhole text
-text-whole text h e =
-    subst IsWhole (sym (append-nil (whole_lines text)) ∙ ap (λ t. whole_lines text ++ t) (sym e) ∙ whole-rest [] text) (whole-of text h)
+text-whole : {text : List ℕ} → AreSound [] text → begun_after [] text ≡ [] → IsWhole text
+text-whole {text} h e = subst IsWhole (sym (append-nil (whole_lines text)) ∙ ap (λ t. whole_lines text ++ t) (sym e) ∙ whole-rest [] text) (whole-of text h)
 
 -- a line that is begun in a text has no line end
-line-ended : (line done : List ℕ) → line ≡ begun_after [] done → begun_after [] (line ++ 10 ∷ []) ≡ []
-line-ended line done e = ap (λ l. begun_after [] (l ++ 10 ∷ [])) e ∙ begun-line [] (begun_after [] done) (begun-no-end [] done tt)
+line-ended : {line : List ℕ} (done : List ℕ) → line ≡ begun_after [] done → begun_after [] (line ++ 10 ∷ []) ≡ []
+line-ended done e = ap (λ l. begun_after [] (l ++ 10 ∷ [])) e ∙ begun-line [] (begun_after [] done) (begun-no-end [] done tt)
 
-line-sound : (line done : List ℕ) → line ≡ begun_after [] done → IsTrue (is_sound line) → AreSound [] (line ++ 10 ∷ [])
-line-sound line done e s =
-    subst (λ l. AreSound [] (l ++ 10 ∷ [])) (sym e)
-    (sound-line [] (begun_after [] done) [] (begun-no-end [] done tt) (subst (λ l. IsTrue (is_sound l)) e s) tt)
+line-sound : {line : List ℕ} (done : List ℕ) → line ≡ begun_after [] done → IsTrue (is_sound line) → AreSound [] (line ++ 10 ∷ [])
+line-sound done e s =
+    subst (λ l. AreSound [] (l ++ 10 ∷ [])) (sym e) (sound-line [] (begun_after [] done) [] (begun-no-end [] done tt) (subst (λ l. IsTrue (is_sound l)) e s) tt)
 
 -- a byte that ends no line
-short-byte : (p : Place) (s state : Replica) (done line text : List ℕ) (b : ℕ) → eqb b 10 ≡ false → IsShort p s done line text state →
-    IsShort p s (done ++ b ∷ []) (line ++ b ∷ []) text state
-short-byte p s state done line text b e h =
+short-byte : {p : Place} {s state : Replica} {done line text : List ℕ} (b : ℕ) → eqb b 10 ≡ false → IsShort p s done line text state
+    → IsShort p s (done ++ b ∷ []) (line ++ b ∷ []) text state
+short-byte {p} {s} {done} {text} b e h =
     let lines : whole_lines (done ++ b ∷ []) ≡ whole_lines done =
     whole-append-after [] done (b ∷ []) ∙ ap (λ t. whole_lines done ++ cond t ((begun_after [] done ++ 10 ∷ []) ++ []) []) e ∙ append-nil (whole_lines done) in
     record {
@@ -136,11 +133,11 @@ short-byte p s state done line text b e h =
     }
 
 -- a line ends, whose records were taken
-short-line : (p : Place) (s state state2 : Replica) (done line text : List ℕ) (changed : Bool) → AreSound [] (done ++ 10 ∷ []) →
-    IsShort p s done line text state
-    → state2 ≡ state_after p state (input_records (line ++ 10 ∷ [])) → (changed ≡ false → IsShortened p state [] (input_records (line ++ 10 ∷ [])))
-    → IsShort p s (done ++ 10 ∷ []) [] (cond changed (text ++ (line ++ 10 ∷ [])) text) state2
-short-line p s state state2 done line text changed all h after same =
+short-line : {p : Place} {s state state2 : Replica} {done line text : List ℕ} (changed : Bool) → AreSound [] (done ++ 10 ∷ [])
+    → IsShort p s done line text state → state2 ≡ state_after p state (input_records (line ++ 10 ∷ []))
+    → (changed ≡ false → IsShortened p state [] (input_records (line ++ 10 ∷ []))) → IsShort p s (done ++ 10 ∷ []) []
+    (cond changed (text ++ (line ++ 10 ∷ [])) text) state2
+short-line {p} {s} {state} {state2} {done} {line} {text} changed all h after same =
     let front = sound-front [] done (10 ∷ []) all in
     let last : AreSound line (10 ∷ []) = subst (λ l. AreSound l (10 ∷ [])) (sym h.begun) (sound-back [] done (10 ∷ []) all) in
     let whole = sound-whole line last.0 in
@@ -148,7 +145,7 @@ short-line p s state state2 done line text changed all h after same =
     whole-append-after [] done (10 ∷ [])
     ∙ ap (λ t. whole_lines done ++ t) (append-nil (begun_after [] done ++ 10 ∷ []) ∙ ap (λ t. t ++ 10 ∷ []) (sym h.begun)) in
     let records : input_records (whole_lines (done ++ 10 ∷ [])) ≡ input_records (whole_lines done) ++ input_records (line ++ 10 ∷ []) =
-    ap input_records lines ∙ records-append (whole_lines done) (line ++ 10 ∷ []) (whole-of done front) whole.unmarked in
+    ap input_records lines ∙ records-append (line ++ 10 ∷ []) (whole-of done front) whole.unmarked in
     let reached : state2 ≡ state_after p s (input_records (whole_lines (done ++ 10 ∷ []))) =
     after ∙ ap (λ t. state_after p t (input_records (line ++ 10 ∷ []))) h.reached
     ∙ sym (after-append p s (input_records (whole_lines done)) (input_records (line ++ 10 ∷ []))) ∙ ap (state_after p s) (sym records) in
@@ -160,12 +157,12 @@ short-line p s state state2 done line text changed all h after same =
         reached = reached;
         short = subst (IsShortened p s (input_records (text ++ (line ++ 10 ∷ [])))) (sym records)
             (subst (λ t. IsShortened p s t (input_records (whole_lines done) ++ input_records (line ++ 10 ∷ [])))
-            (sym (records-append text (line ++ 10 ∷ []) (text-whole text h.sound h.ends) whole.unmarked))
+            (sym (records-append (line ++ 10 ∷ []) (text-whole h.sound h.ends) whole.unmarked))
             (shortened-append p s (input_records text) (input_records (line ++ 10 ∷ [])) (input_records (whole_lines done))
             (input_records (line ++ 10 ∷ [])) h.short
             (nothing_left_out p (state_after p s (input_records (whole_lines done))) (input_records (line ++ 10 ∷ [])))));
-        sound = sound-append [] text (line ++ 10 ∷ []) h.sound (subst (λ l. AreSound l (line ++ 10 ∷ [])) (sym h.ends) (line-sound line done h.begun last.0));
-        ends = begun-append [] text (line ++ 10 ∷ []) ∙ ap (λ l. begun_after l (line ++ 10 ∷ [])) h.ends ∙ line-ended line done h.begun;
+        sound = sound-append [] text (line ++ 10 ∷ []) h.sound (subst (λ l. AreSound l (line ++ 10 ∷ [])) (sym h.ends) (line-sound done h.begun last.0));
+        ends = begun-append [] text (line ++ 10 ∷ []) ∙ ap (λ l. begun_after l (line ++ 10 ∷ [])) h.ends ∙ line-ended done h.begun;
       }
       | false ↦ λ f. record {
         begun = begun;
@@ -183,17 +180,17 @@ told-more : (changed : Bool) (told text line : List ℕ) → cond changed ((told
 told-more true told text line = append_assoc told text line
 told-more false told text line = refl
 
-pub next-line : (p : Place) (s state state2 : Replica) (done told line text text2 : List ℕ) (changed : Bool) → AreSound [] (done ++ 10 ∷ []) →
-    IsShort p s done line (told ++ text) state
-    → state2 ≡ state_after p state (input_records (line ++ 10 ∷ [])) → (changed ≡ false → IsShortened p state [] (input_records (line ++ 10 ∷ [])))
-    → text2 ≡ cond changed (text ++ (line ++ 10 ∷ [])) text → IsShort p s (done ++ 10 ∷ []) [] (told ++ text2) state2
-next-line p s state state2 done told line text text2 changed all h after same e =
+pub next-line : {p : Place} {s state state2 : Replica} {done : List ℕ} (told : List ℕ) {line : List ℕ} (text : List ℕ) {text2 : List ℕ} (changed : Bool)
+    → AreSound [] (done ++ 10 ∷ []) → IsShort p s done line (told ++ text) state → state2 ≡ state_after p state (input_records (line ++ 10 ∷ []))
+    → (changed ≡ false → IsShortened p state [] (input_records (line ++ 10 ∷ []))) → text2 ≡ cond changed (text ++ (line ++ 10 ∷ [])) text
+    → IsShort p s (done ++ 10 ∷ []) [] (told ++ text2) state2
+next-line {p} {s} {state2} {done} told {line} text changed all h after same e =
     subst (λ t. IsShort p s (done ++ 10 ∷ []) [] t state2) (told-more changed told text (line ++ 10 ∷ []) ∙ ap (λ t. told ++ t) (sym e))
-    (short-line p s state state2 done line (told ++ text) changed all h after same)
+    (short-line changed all h after same)
 
-pub next-byte : (p : Place) (s state : Replica) (done line line2 text : List ℕ) (b : ℕ) → eqb b 10 ≡ false → line2 ≡ line ++ b ∷ [] →
-    IsShort p s done line text state → IsShort p s (done ++ b ∷ []) line2 text state
-next-byte p s state done line line2 text b e f h = subst (λ l. IsShort p s (done ++ b ∷ []) l text state) (sym f) (short-byte p s state done line text b e h)
+pub next-byte : {p : Place} {s state : Replica} {done line line2 text : List ℕ} (b : ℕ) → eqb b 10 ≡ false → line2 ≡ line ++ b ∷ []
+    → IsShort p s done line text state → IsShort p s (done ++ b ∷ []) line2 text state
+next-byte {p} {s} {state} {done} {text} b e f h = subst (λ l. IsShort p s (done ++ b ∷ []) l text state) (sym f) (short-byte b e h)
 
 pub short-starts : (p : Place) (s : Replica) → IsShort p s [] [] [] s
 unfolding input_records records_from strip_bom next_record
@@ -206,10 +203,10 @@ pub short-more : (p : Place) (s state state2 : Replica) (bytes more line line2 t
 short-more p s state state2 bytes more line line2 told text h k sound =
     k bytes told sound (subst (λ t. IsShort p s bytes line t state) (sym (append-nil told)) (h (sound-front [] bytes more sound)))
 
-pub short-ends : (p : Place) (s state : Replica) (past mid past2 fresh fresh2 : Option (List ℕ)) (bytes last line told : List ℕ) → Consumes past mid bytes →
-    Consumes mid past2 last → last ≡ [] → IsAtEnd past2
-    → Appends fresh fresh2 told → (AreSound [] bytes → IsShort p s bytes line told state) → Shortens p s past fresh fresh2
-short-ends p s state past mid past2 fresh fresh2 bytes last line told c d none end a h kept is sound =
+pub short-ends : (p : Place) (s state : Replica) (past mid past2 fresh fresh2 : Option (List ℕ)) (bytes : List ℕ) {last : List ℕ} (line : List ℕ)
+    {told : List ℕ} → Consumes past mid bytes → Consumes mid past2 last → last ≡ [] → IsAtEnd past2 → Appends fresh fresh2 told
+    → (AreSound [] bytes → IsShort p s bytes line told state) → Shortens p s past fresh fresh2
+short-ends p s state past mid past2 fresh fresh2 bytes {last} line {told} c d none end a h kept is sound =
     let all : kept ≡ bytes = read-all past mid past2 bytes last kept c d none end is in
     let short = h (subst (AreSound []) all sound) in
     (told, a, subst (λ t. IsShortened p s (input_records told) (input_records (whole_lines t))) (sym all) short.short, short.sound, short.ends)
@@ -233,28 +230,28 @@ front-sound done piece n h =
     (subst (AreSound []) (ap (λ t. done ++ t) (sym (take-append-drop n piece)) ∙ sym (append_assoc done (take n piece) (drop n piece))) h)
 
 -- the same where the site is at the same place
-pub at-place : (p p2 : Place) (s state state2 : Replica) (done done2 line line2 text text2 : List ℕ) → p2 ≡ p
-    → (IsShort p2 s done line text state → IsShort p2 s done2 line2 text2 state2) → IsShort p s done line text state → IsShort p s done2 line2 text2 state2
-at-place p p2 s state state2 done done2 line line2 text text2 e k h =
+pub at-place : {p p2 : Place} {s state : Replica} (state2 : Replica) {done : List ℕ} (done2 : List ℕ) {line : List ℕ} (line2 : List ℕ) {text : List ℕ}
+    (text2 : List ℕ) → p2 ≡ p → (IsShort p2 s done line text state → IsShort p2 s done2 line2 text2 state2) → IsShort p s done line text state
+    → IsShort p s done2 line2 text2 state2
+at-place {s} {state} state2 {done} done2 {line} line2 {text} text2 e k h =
     subst (λ q. IsShort q s done2 line2 text2 state2) e (k (subst (λ q. IsShort q s done line text state) (sym e) h))
 
-pub piece-taken : (p p2 : Place) (s state state2 : Replica) (line line2 start text more : List ℕ) → p2 ≡ p → start ≡ []
-    → ((s2 : Replica) (done told : List ℕ) → AreSound [] (done ++ more) → IsShort p2 s2 done line (told ++ start) state →
-    IsShort p2 s2 (done ++ more) line2 (told ++ text) state2)
-    → (done told : List ℕ) → AreSound [] (done ++ more) → IsShort p s done line (told ++ []) state → IsShort p s (done ++ more) line2 (told ++ text) state2
-piece-taken p p2 s state state2 line line2 start text more e none k done told sound h =
-    at-place p p2 s state state2 done (done ++ more) line line2 (told ++ start) (told ++ text) e (k s done told sound)
-    (subst (λ t. IsShort p s done line (told ++ t) state) (sym none) h)
+pub piece-taken : {p p2 : Place} {s state : Replica} (state2 : Replica) {line : List ℕ} (line2 start text more : List ℕ) → p2 ≡ p → start ≡ []
+    → ((s2 : Replica) (done told : List ℕ) → AreSound [] (done ++ more) → IsShort p2 s2 done line (told ++ start) state
+    → IsShort p2 s2 (done ++ more) line2 (told ++ text) state2) → (done told : List ℕ) → AreSound [] (done ++ more) → IsShort p s done line (told ++ []) state
+    → IsShort p s (done ++ more) line2 (told ++ text) state2
+piece-taken {p} {s} {state} state2 {line} line2 start text more e none k done told sound h =
+    at-place state2 (done ++ more) line2 (told ++ text) e (k s done told sound) (subst (λ t. IsShort p s done line (told ++ t) state) (sym none) h)
 
 -- a line ends with this byte, and its records were taken
-pub line-taken : (old new : SiteState) (s : Replica) (done told line pushed seen line2 text text2 : List ℕ) (byte : ℕ) (changed : Bool) → byte ≡ 10 →
-    AreSound [] (done ++ byte ∷ [])
-    → IsShort old.place s done line (told ++ text) old.state → pushed ≡ line ++ byte ∷ [] → seen ≡ pushed → TakesRecords old new (input_records seen) changed
-    → text2 ≡ cond changed (text ++ seen) text → line2 ≡ [] → IsShort old.place s (done ++ byte ∷ []) line2 (told ++ text2) new.state
-line-taken old new s done told line pushed seen line2 text text2 byte changed end sound h one two takes add none =
+pub line-taken : (old new : SiteState) {s : Replica} {done : List ℕ} (told : List ℕ) {line pushed seen line2 : List ℕ} (text : List ℕ) {text2 : List ℕ}
+    {byte : ℕ} (changed : Bool) → byte ≡ 10 → AreSound [] (done ++ byte ∷ []) → IsShort old.place s done line (told ++ text) old.state
+    → pushed ≡ line ++ byte ∷ [] → seen ≡ pushed → TakesRecords old new (input_records seen) changed → text2 ≡ cond changed (text ++ seen) text → line2 ≡ []
+    → IsShort old.place s (done ++ byte ∷ []) line2 (told ++ text2) new.state
+line-taken old new {s} {done} told {line} {seen} {line2} text {text2} changed end sound h one two takes add none =
     let at_end : seen ≡ line ++ 10 ∷ [] = two ∙ one ∙ ap (λ b. line ++ b ∷ []) end in
     let taken = subst (λ t. TakesRecords old new (input_records t) changed) at_end takes in
     subst (λ b. IsShort old.place s (done ++ b ∷ []) line2 (told ++ text2) new.state) (sym end)
     (subst (λ l. IsShort old.place s (done ++ 10 ∷ []) l (told ++ text2) new.state) (sym none)
-    (next-line old.place s old.state new.state done told line text text2 changed (subst (λ b. AreSound [] (done ++ b ∷ [])) end sound) h taken.0 taken.1
+    (next-line told text changed (subst (λ b. AreSound [] (done ++ b ∷ [])) end sound) h taken.0 taken.1
     (add ∙ ap (λ t. cond changed (text ++ t) text) at_end)))

@@ -54,8 +54,8 @@ are-sound-append line (b ∷ xs) ys =
       | false ↦ are-sound-append (line ++ b ∷ []) xs ys
     ]
 
-pub sound_take_more : (line xs : List ℕ) (i : ℕ) → i < length xs
-    → are_sound line (take (i + 1) xs) ≡ (are_sound line (take i xs) && are_sound (begun_after line (take i xs)) (get_or xs i 0 ∷ []))
+pub sound_take_more : (line xs : List ℕ) (i : ℕ) → i < length xs → are_sound line (take (i + 1) xs) ≡
+    (are_sound line (take i xs) && are_sound (begun_after line (take i xs)) (get_or xs i 0 ∷ []))
 sound_take_more line xs i h = ap (are_sound line) (take_more xs i 0 h) ∙ are-sound-append line (take i xs) (get_or xs i 0 ∷ [])
 
 pub sound_more : (line xs ys : List ℕ) → are_sound line xs ≡ true → are_sound (begun_after line xs) ys ≡ true → are_sound line (xs ++ ys) ≡ true
@@ -84,13 +84,12 @@ unsound-at line xs i sound h before at no_more =
     (sound_take_more line xs i h ∙ ap (λ t. t && are_sound (begun_after line (take i xs)) (get_or xs i 0 ∷ [])) before ∙ sym at ∙ no_more))
 
 -- all that a reader gave is sound
-pub sound-end : (old mid new : Option (List ℕ)) (bytes more : List ℕ) → Consumes old mid bytes → are_sound [] bytes ≡ true → Consumes mid new more → more ≡ [] →
-    IsAtEnd new
-    → IfSome old (λ text. AreSound [] text)
-sound-end None mid new bytes more f s g none end = tt
-sound-end (Some x) None new bytes more f s g none end = absurd f
-sound-end (Some x) (Some y) None bytes more f s g none end = absurd g
-sound-end (Some x) (Some y) (Some z) bytes more f s g none end =
+pub sound-end : (old mid new : Option (List ℕ)) (bytes : List ℕ) {more : List ℕ} → Consumes old mid bytes → are_sound [] bytes ≡ true → Consumes mid new more
+    → more ≡ [] → IsAtEnd new → IfSome old (λ text. AreSound [] text)
+sound-end None mid new bytes f s g none end = tt
+sound-end (Some x) None new bytes f s g none end = absurd f
+sound-end (Some x) (Some y) None bytes f s g none end = absurd g
+sound-end (Some x) (Some y) (Some z) bytes f s g none end =
     let rest : y ≡ [] = g ∙ ap (λ t. t ++ z) none ∙ end in
     let all : x ≡ bytes = f ∙ ap (λ t. bytes ++ t) rest ∙ append-nil bytes in
     are-sound [] x (ap (are_sound []) all ∙ s)
@@ -128,10 +127,8 @@ whole-rest line (b ∷ t) =
     elim (eqb b 10) as (λ v. eqb b 10 ≡ v → cond v ((line ++ 10 ∷ []) ++ whole_after [] t) (whole_after (line ++ b ∷ []) t)
     ++ cond v (begun_after [] t) (begun_after (line ++ b ∷ []) t) ≡ line ++ b ∷ t) [
       | true ↦ λ e.
-          append_assoc (line ++ 10 ∷ []) (whole_after [] t) (begun_after [] t)
-          ∙ ap (λ k. (line ++ 10 ∷ []) ++ k) (whole-rest [] t)
-          ∙ append_assoc line (10 ∷ []) t
-          ∙ ap (λ c. line ++ c ∷ t) (sym (eqb-true b 10 e))
+          append_assoc (line ++ 10 ∷ []) (whole_after [] t) (begun_after [] t) ∙ ap (λ k. (line ++ 10 ∷ []) ++ k) (whole-rest [] t)
+          ∙ append_assoc line (10 ∷ []) t ∙ ap (λ c. line ++ c ∷ t) (sym (eqb-true b 10 e))
       | false ↦ λ e. whole-rest (line ++ b ∷ []) t ∙ append_assoc line (b ∷ []) t
     ] refl
 
@@ -200,8 +197,10 @@ kept-line-begun asks line h =
 pub kept-begun-after : (asks : Bool) (line bytes : List ℕ) → HasNoEnd line → begun_after [] (kept_after asks line bytes) ≡ []
 kept-begun-after asks line [] h = refl
 kept-begun-after asks line (b ∷ rest) h =
-    elim (eqb b 10) as (λ v. eqb b 10 ≡ v → begun_after [] (cond v (kept_line asks line ++ kept_after asks [] rest) (kept_after asks (line ++ b ∷ []) rest)) ≡ []) [
-      | true ↦ λ e. begun-append [] (kept_line asks line) (kept_after asks [] rest) ∙ ap (λ s. begun_after s (kept_after asks [] rest)) (kept-line-begun asks line h)
+    elim (eqb b 10) as (λ v. eqb b 10 ≡ v → begun_after [] (cond v (kept_line asks line ++ kept_after asks [] rest) (kept_after asks (line ++ b ∷ []) rest)) ≡
+    []) [
+      | true ↦ λ e. begun-append [] (kept_line asks line) (kept_after asks [] rest) ∙ ap (λ s. begun_after s (kept_after asks [] rest))
+          (kept-line-begun asks line h)
           ∙ kept-begun-after asks [] rest tt
       | false ↦ λ e. kept-begun-after asks (line ++ b ∷ []) rest (no-end-more line b h e)
     ] refl

@@ -41,8 +41,8 @@ shortened-may-replace p kept written sound h =
       without = subst (λ t. IsShortened p (opening_at p.site) (input_records t) (records_in kept)) (sym whole) w.2;
     }
 
-some-same : (a b : List ℕ) → Some a ≡ Some b → a ≡ b
-some-same a b e = cc e
+some-same : {a b : List ℕ} → Some a ≡ Some b → a ≡ b
+some-same e = cc e
 
 none-read : (bytes : List ℕ) (later : Option (List ℕ)) → Consumes (Some []) later bytes → bytes ≡ []
 none-read [] later c = refl
@@ -55,14 +55,14 @@ module _ (p : Place) (keep : ℕ) (kept old : List ℕ) (done : Option (List ℕ
   read = ap (λ b. whole_lines kept ++ kept_of b) (none-read l.bytes done l.taken) ∙ append-nil (whole_lines kept)
 
   kept-is : s.kept ≡ whole_lines kept
-  kept-is = some-same s.kept (whole_lines kept ++ kept_of l.bytes) l.log_is ∙ read
+  kept-is = some-same l.log_is ∙ read
 
   whole : whole_lines s.kept ≡ s.kept
   whole = ap whole_lines kept-is ∙ whole-whole kept l.sound ∙ sym kept-is
 
   answered : s.out ≡ text_of p (records_in s.kept)
   answered =
-      some-same s.out (text_of p (input_records (whole_lines kept ++ kept_of l.bytes))) l.out_is
+      some-same l.out_is
       ∙ ap (λ t. text_of p (input_records t)) (read ∙ sym kept-is ∙ sym whole)
 
   raised : IsFrontOf s.out (text_of (keeping p keep) (records_in s.kept)) → RaisesKeep p s keep

@@ -18,25 +18,26 @@ goes-on-sound : (log input : List ℕ) → AreSound [] log → AreSound [] (whol
 goes-on-sound log input h = sound-append [] (whole_lines log) (kept_of input) (whole-sound log h)
     (subst (λ l. AreSound l (kept_of input)) (sym (whole-ends log h)) (kept-sound input))
 
-life-left : (text : List (List (List ℕ)) → List ℕ) (files : Files) (life : Life) → IsLeft text files → IsLeft text (after_life text files life)
-life-left text files life h = record {
+life-left : {text : List (List (List ℕ)) → List ℕ} {files : Files} (life : Life) → IsLeft text files → IsLeft text (after_life text files life)
+life-left {text} {files} life h = record {
   sound = sound-front [] (take life.log_bytes (whole_lines files.log ++ kept_of life.input)) (drop life.log_bytes (whole_lines files.log ++ kept_of life.input))
       (subst (AreSound []) (sym (take-append-drop life.log_bytes (whole_lines files.log ++ kept_of life.input))) (goes-on-sound files.log life.input h.sound));
   rest = drop life.out_bytes (text (input_records (whole_lines (after_life text files life).log)));
   begins = take-append-drop life.out_bytes (text (input_records (whole_lines (after_life text files life).log)));
 }
 
-lives-left : (text : List (List (List ℕ)) → List ℕ) (files : Files) (lives : List Life) → IsLeft text files → IsLeft text (after_lives text files lives)
-lives-left text files [] h = h
-lives-left text files (life ∷ lives) h = lives-left text (after_life text files life) lives (life-left text files life h)
+lives-left : {text : List (List (List ℕ)) → List ℕ} (files : Files) (lives : List Life) → IsLeft text files → IsLeft text (after_lives text files lives)
+lives-left files [] h = h
+lives-left {text} files (life ∷ lives) h = lives-left (after_life text files life) lives (life-left life h)
 
-same-files : (text : List (List (List ℕ)) → List ℕ) (files : Files) (input : List ℕ) → AreSound [] files.log → goes_on text files input
-    ≡ files_of text (whole_lines files.log) input
-same-files text files input h = ap (λ (l : List ℕ). record { log = l ++ kept_of input; out = text (input_records (l ++ kept_of input)) }) (sym (read-whole files.log h))
+same-files : (text : List (List (List ℕ)) → List ℕ) (files : Files) (input : List ℕ) → AreSound [] files.log
+    → goes_on text files input ≡ files_of text (whole_lines files.log) input
+same-files text files input h = ap (λ (l : List ℕ). record { log = l ++ kept_of input; out = text (input_records (l ++ kept_of input)) })
+    (sym (read-whole files.log h))
 
 pub comes-back : ComesBack
 comes-back text files lives input h =
-    let left = lives-left text files lives h in
+    let left = lives-left files lives h in
     (left, same-files text (after_lives text files lives) input left.sound)
 
 pub questions-leave-nothing : QuestionsLeaveNothing
@@ -95,8 +96,8 @@ lives-left-too all files input later log out h l =
       l.out_is,
     )
 
-refused : (all : Account) (files : Files) → (AreSound [] files.log → IsFrontOf files.out (all.text AtEnd (input_records (whole_lines files.log))) → ⊥) →
-    IsRefused all files
+refused : (all : Account) (files : Files) → (AreSound [] files.log → IsFrontOf files.out (all.text AtEnd (input_records (whole_lines files.log))) → ⊥)
+    → IsRefused all files
 refused all files never input later log out = (λ l. never l.sound l.found, λ e. go e e.answers)
   where
     go : (e : Ended all files.log files.out input later log out) → IsEnd all files e.kept e.told → (log ≡ Some files.log) × (out ≡ Some files.out)

@@ -231,7 +231,7 @@ keep i = KEEP_MAX
 
 is-open : (i : ℕ) → IsOpened (text_of (site_keeping 2 i KEEP_MAX)) nothing
 unfolding nothing
-is-open i = shortened-opened (text_of (site_keeping 2 i KEEP_MAX)) [] tt
+is-open i = shortened-opened (text_of (site_keeping 2 i KEEP_MAX)) tt
 
 once-begun : FileState
 once-begun = after_all nothing beginning
@@ -247,8 +247,7 @@ beginning-safe i =
         (
           sym (none-told i),
           ap length (sym none-read-in),
-          ap (λ records. counts 2 (state_after (site_keeping 2 i KEEP_MAX) (opening_at i) records).log)
-              (sym none-read-in),
+          ap (λ records. counts 2 (state_after (site_keeping 2 i KEEP_MAX) (opening_at i) records).log) (sym none-read-in),
           refl,
           refl,
         ),
@@ -262,7 +261,7 @@ answering-safe =
     let says = words_of (site_keeping 2 0 KEEP_MAX) in
     let lines = map (λ b. Kept b) asked in
     let begins = beginning-safe 0 in
-    let first = safe-keeps says asked once-begun (safe-last says nothing beginning begins) (refl, refl) refl asked-sound in
+    let first = safe-keeps says asked (safe-last says nothing beginning begins) (refl, refl) refl asked-sound in
     let s = after_all once-begun lines in
     let answer = map (λ b. Told b) (take 20 told_to_ask) in
     safe-append says nothing beginning (lines ++ Flushed ∷ answer) begins (safe-append says once-begun lines (Flushed ∷ answer) first (
@@ -283,7 +282,7 @@ taking-safe =
     let says = words_of (site_keeping 2 1 KEEP_MAX) in
     let lines = map (λ b. Kept b) sent in
     let begins = beginning-safe 1 in
-    let first = safe-keeps says sent once-begun (safe-last says nothing beginning begins) (refl, refl) refl sent-sound in
+    let first = safe-keeps says sent (safe-last says nothing beginning begins) (refl, refl) refl sent-sound in
     let s = after (after_all once-begun lines) Flushed in
     let answer = map (λ b. Told b) told_to_message ++ map (λ b. Shown b) told_to_message in
     let is_shown : Answers true answer [] [] =
@@ -292,7 +291,7 @@ taking-safe =
     let answered = safe-answers says true answer [] [] s is_shown sent-sound ([], refl) (refl, refl) ([], sym message-told) in
     let t = after_all s answer in
     let more = map (λ b. Kept b) listed in
-    let second = safe-keeps says listed t (safe-last says s answer answered) (refl, refl) refl both-sound in
+    let second = safe-keeps says listed (safe-last says s answer answered) (refl, refl) refl both-sound in
     let rows = map (λ b. Told b) told_to_listing in
     safe-append says nothing beginning (lines ++ Flushed ∷ answer ++ more ++ Flushed ∷ rows) begins
     (safe-append says once-begun lines (Flushed ∷ answer ++ more ++ Flushed ∷ rows) first (
@@ -370,17 +369,17 @@ elsewhere-both i (Does (Replays j fields) ∷ a) b f g = (f.0, elsewhere-both i 
 shows-elsewhere : (i j : ℕ) (text : List ℕ) (later : List Step) → eqb j i ≡ false → Elsewhere i later → Elsewhere i (shows j text later)
 shows-elsewhere i j text later e h = happens-elsewhere i j (map (λ b. Shown b) text) later e h
 
-skip : {A : Type 0} (b : Bool) (x y : A) → b ≡ false → cond b x y ≡ y
-skip b x y e = ap (λ c. cond c x y) e
+skip : {A : Type 0} {b : Bool} (x y : A) → b ≡ false → cond b x y ≡ y
+skip x y e = ap (λ c. cond c x y) e
 
 none-own : (i : ℕ) (a b : List Step) → Elsewhere i a → own_steps i (a ++ b) ≡ own_steps i b
 none-own i [] b h = refl
-none-own i (Happens j e ∷ a) b h = skip (eqb j i) (Happens j e ∷ own_steps i (a ++ b)) (own_steps i (a ++ b)) h.0 ∙ none-own i a b h.1
-none-own i (Fails j files ∷ a) b h = skip (eqb j i) (Fails j files ∷ own_steps i (a ++ b)) (own_steps i (a ++ b)) h.0 ∙ none-own i a b h.1
-none-own i (Shortens j short ∷ a) b h = skip (eqb j i) (Shortens j short ∷ own_steps i (a ++ b)) (own_steps i (a ++ b)) h.0 ∙ none-own i a b h.1
-none-own i (Raises j more ∷ a) b h = skip (eqb j i) (Raises j more ∷ own_steps i (a ++ b)) (own_steps i (a ++ b)) h.0 ∙ none-own i a b h.1
+none-own i (Happens j e ∷ a) b h = skip (Happens j e ∷ own_steps i (a ++ b)) (own_steps i (a ++ b)) h.0 ∙ none-own i a b h.1
+none-own i (Fails j files ∷ a) b h = skip (Fails j files ∷ own_steps i (a ++ b)) (own_steps i (a ++ b)) h.0 ∙ none-own i a b h.1
+none-own i (Shortens j short ∷ a) b h = skip (Shortens j short ∷ own_steps i (a ++ b)) (own_steps i (a ++ b)) h.0 ∙ none-own i a b h.1
+none-own i (Raises j more ∷ a) b h = skip (Raises j more ∷ own_steps i (a ++ b)) (own_steps i (a ++ b)) h.0 ∙ none-own i a b h.1
 none-own i (Does (Reads j fields) ∷ a) b h = none-own i a b h.1
-none-own i (Does (Restarts j) ∷ a) b h = skip (eqb j i) (Does (Restarts j) ∷ own_steps i (a ++ b)) (own_steps i (a ++ b)) h.0 ∙ none-own i a b h.1
+none-own i (Does (Restarts j) ∷ a) b h = skip (Does (Restarts j) ∷ own_steps i (a ++ b)) (own_steps i (a ++ b)) h.0 ∙ none-own i a b h.1
 none-own i (Does (Replays j fields) ∷ a) b h = none-own i a b h.1
 
 first-elsewhere : (i : ℕ) → eqb 0 i ≡ false → Elsewhere i steps_of_0
@@ -671,8 +670,8 @@ no-packet-listed : packet_of 2 listing ≡ None
 unfolding packet_of take_packet
 no-packet-listed = refl
 
-no-packet : (fields known : List (List ℕ)) (p : Packet) → known ≡ fields → packet_of 2 known ≡ None → packet_of 2 fields ≡ Some p → ⊥
-no-packet fields known p same none is = not_some (packet_of 2 known) none (ap (packet_of 2) same ∙ is)
+no-packet : {fields known : List (List ℕ)} {p : Packet} → known ≡ fields → packet_of 2 known ≡ None → packet_of 2 fields ≡ Some p → ⊥
+no-packet {known} same none is = not_some (packet_of 2 known) none (ap (packet_of 2) same ∙ is)
 
 -- the message that site 1 reads was sent by site 0, before the power failed and again
 sent-before : WasEverSent 2 most (Reads 0 ann_is_asked ∷ Restarts 0 ∷ Replays 0 ann_is_asked ∷ []) ann_is_sent
@@ -686,7 +685,7 @@ sent-before = (
 )
 
 is-carried : CarriedWithRestarts 2 most moments
-is-carried [] later i fields p e is = absurd (no-packet fields ann_is_asked p (let same : ann_is_asked ≡ fields = cc e in same) no_packet_asked is)
+is-carried [] later i fields p e is = absurd (no-packet (let same : ann_is_asked ≡ fields = cc e in same) no_packet_asked is)
 is-carried (a ∷ []) later i fields p e is = absurd (cc e)
 is-carried (a ∷ b ∷ []) later i fields p e is = absurd (cc e)
 is-carried (a ∷ b ∷ c ∷ []) later i fields p e is =
@@ -698,7 +697,7 @@ is-carried (a ∷ b ∷ c ∷ []) later i fields p e is =
     (subst (λ m. WasEverSent 2 most (Reads 0 ann_is_asked ∷ m ∷ c ∷ []) ann_is_sent) second
     (subst (λ m. WasEverSent 2 most (Reads 0 ann_is_asked ∷ Restarts 0 ∷ m ∷ []) ann_is_sent) third sent-before)))
 is-carried (a ∷ b ∷ c ∷ d ∷ []) later i fields p e is =
-    absurd (no-packet fields listing p (let same : listing ≡ fields = cc e in same) no-packet-listed is)
+    absurd (no-packet (let same : listing ≡ fields = cc e in same) no-packet-listed is)
 is-carried (a ∷ b ∷ c ∷ d ∷ f ∷ []) later i fields p e is = absurd (cc e)
 is-carried (a ∷ b ∷ c ∷ d ∷ f ∷ g ∷ []) later i fields p e is = absurd (cc e)
 is-carried (a ∷ b ∷ c ∷ d ∷ f ∷ g ∷ h ∷ before) later i fields p e is = absurd (nothing-left before (cc e))

@@ -69,10 +69,9 @@ same-inputs p s n (fields ∷ records) =
     same-state p s n (Came (packet.Token t)) = refl
     same-state p s n Neither = refl
 
-rebuilds : (sites : ℕ) (events : List Event) (i : ℕ) (all : List Message) (tokens : List Token) (bytes : List ℕ) → 1 ≤ sites → AreEvents sites events → i < sites
-    → AreOfSite i (run KEEP_MAX events (start sites)) all tokens
-    → map (input_of sites) (records_in bytes) ≡ inputs_to_rebuild (site_keeping sites i KEEP_MAX) tokens all (opening_at i) (sent_by i KEEP_MAX events (start sites))
-    → IsRebuiltFolder sites i events all tokens bytes
+rebuilds : (sites : ℕ) (events : List Event) (i : ℕ) (all : List Message) (tokens : List Token) (bytes : List ℕ) → 1 ≤ sites → AreEvents sites events
+    → i < sites → AreOfSite i (run KEEP_MAX events (start sites)) all tokens → map (input_of sites) (records_in bytes) ≡ inputs_to_rebuild
+    (site_keeping sites i KEEP_MAX) tokens all (opening_at i) (sent_by i KEEP_MAX events (start sites)) → IsRebuiltFolder sites i events all tokens bytes
 rebuilds sites events i all tokens bytes some are within of read =
     let p = site_keeping sites i KEEP_MAX in
     let packets = sent_by i KEEP_MAX events (start sites) in
@@ -91,8 +90,8 @@ rebuilds sites events i all tokens bytes some are within of read =
 
 pub folders-are-a-run : FoldersAreARun
 folders-are-a-run sites keep first lives running steps some top small shop carried =
-    let histories = shop-histories sites keep first lives running steps shop in
-    let again = histories-are-replayed sites keep first steps small histories in
+    let histories = shop-histories first shop in
+    let again = histories-are-replayed first small histories in
     let never = restarts_change_nothing sites most (moments_in steps) again carried in
     let a_run = processes_run sites most (recorded (moments_in steps)) some top (λ i. omega arith) never.carried in
     record {

@@ -14,14 +14,14 @@ whole-grow a b sa (rest, e) =
     ap whole_lines (sym e) ∙ whole-append-after [] (whole_lines a) rest ∙ ap (λ t. t ++ whole_after (begun_after [] (whole_lines a)) rest) (whole-whole a sa)
     ∙ ap (λ s. whole_lines a ++ whole_after s rest) (whole-ends a sa)
 
-pub records-grow : (a b : List ℕ) → AreSound [] a → AreSound [] b → IsFrontOf (whole_lines a) b
+pub records-grow : (a : List ℕ) {b : List ℕ} → AreSound [] a → AreSound [] b → IsFrontOf (whole_lines a) b
     → (more : List (List (List ℕ))) × (input_records (whole_lines a) ++ more ≡ input_records (whole_lines b))
-records-grow a b sa sb (rest, e) =
+records-grow a {b} sa sb (rest, e) =
     let lines = whole-grow a b sa (rest, e) in
     let sr : AreSound [] rest = subst (λ l. AreSound l rest) (whole-ends a sa) (sound-back [] (whole_lines a) rest (subst (AreSound []) (sym e) sb)) in
     let whole = subst IsWhole (sound-kept [] a sa) (kept-whole false [] a) in
     let unmarked = subst (λ t. is_marked t ≡ false) (sound-kept [] rest sr) (kept-whole false [] rest).unmarked in
-    (input_records (whole_lines rest), sym (ap input_records lines ∙ records-append (whole_lines a) (whole_lines rest) whole unmarked))
+    (input_records (whole_lines rest), sym (ap input_records lines ∙ records-append (whole_lines rest) whole unmarked))
 
 pub whole-more : (a b c : List ℕ) → AreSound [] a → IsFrontOf (whole_lines a) b → IsFrontOf (whole_lines b) c → IsFrontOf (whole_lines a) c
 whole-more a b c sa f (rest, e) =

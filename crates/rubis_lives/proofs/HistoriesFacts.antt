@@ -29,8 +29,8 @@ use Rattle.rubis_keep.proofs.SoundFacts.{sound-front}
 
 -- ---- what was flushed stays
 
-flushed-sound : (text : List (List (List ℕ)) → List ℕ) (s : FileState) → IsSafe text s → AreSound [] s.flushed
-flushed-sound text s h = sound-front [] s.flushed h.flushed.0 (subst (AreSound []) (sym h.flushed.1) (sound-front [] s.kept s.cut h.sound))
+flushed-sound : {text : List (List (List ℕ)) → List ℕ} {s : FileState} → IsSafe text s → AreSound [] s.flushed
+flushed-sound {s} h = sound-front [] s.flushed h.flushed.0 (subst (AreSound []) (sym h.flushed.1) (sound-front [] s.kept s.cut h.sound))
 
 take-front : (n : ℕ) (a b : List ℕ) → length a ≤ n → IsFrontOf a b → IsFrontOf a (take n b)
 take-front n [] b l f = (take n b, refl)
@@ -44,10 +44,10 @@ take-front (suc n) (x ∷ a) (y ∷ b) l f =
 front-length : (a b : List ℕ) → IsFrontOf a b → length a ≤ length b
 front-length a b f = omega (arith, ap length f.1, length-append a f.0)
 
-cut-flushed-front : (text : List (List (List ℕ)) → List ℕ) (s : FileState) (n : ℕ) → IsSafe text s → IsFrontOf (whole_lines s.kept) (take n s.kept)
+cut-flushed-front : {text : List (List (List ℕ)) → List ℕ} {s : FileState} (n : ℕ) → IsSafe text s → IsFrontOf (whole_lines s.kept) (take n s.kept)
     → IsFrontOf (whole_lines s.flushed) (take n s.flushed)
-cut-flushed-front text s n h f =
-    let short = flushed-sound text s h in
+cut-flushed-front {s} n h f =
+    let short = flushed-sound h in
     let within : IsFrontOf (whole_lines s.flushed) (whole_lines s.kept) =
     let front = front-more (whole_lines s.flushed) s.flushed s.kept (whole-front s.flushed) h.flushed in
     (whole_lines front.0, sym (whole-grow s.flushed s.kept short front)) in
@@ -56,54 +56,52 @@ cut-flushed-front text s n h f =
     let c = length-take n s.kept in
     take-front n (whole_lines s.flushed) s.flushed (omega (arith, a, b, c)) (whole-front s.flushed)
 
-event-flushed : (says : Says) (s : FileState) (e : Event) → IsSafe says.text s → Follows says s e
-    → IsFrontOf (whole_lines s.flushed) (after s e).flushed
-event-flushed says s (Kept b) h f = whole-front s.flushed
-event-flushed says s Flushed h f = front-more (whole_lines s.flushed) s.flushed s.kept (whole-front s.flushed) h.flushed
-event-flushed says s (CutTo n) h f = cut-flushed-front says.text s n h f
-event-flushed says s (Told b) h f = whole-front s.flushed
-event-flushed says s Settled h f = whole-front s.flushed
-event-flushed says s (Began n counts) h f = whole-front s.flushed
-event-flushed says s (Replied question reply) h f = whole-front s.flushed
-event-flushed says s (Shown b) h f = whole-front s.flushed
+event-flushed : (says : Says) {s : FileState} (e : Event) → IsSafe says.text s → Follows says s e → IsFrontOf (whole_lines s.flushed) (after s e).flushed
+event-flushed says {s} (Kept b) h f = whole-front s.flushed
+event-flushed says {s} Flushed h f = front-more (whole_lines s.flushed) s.flushed s.kept (whole-front s.flushed) h.flushed
+event-flushed says (CutTo n) h f = cut-flushed-front n h f
+event-flushed says {s} (Told b) h f = whole-front s.flushed
+event-flushed says {s} Settled h f = whole-front s.flushed
+event-flushed says {s} (Began n counts) h f = whole-front s.flushed
+event-flushed says {s} (Replied question reply) h f = whole-front s.flushed
+event-flushed says {s} (Shown b) h f = whole-front s.flushed
 
 -- what survives a power failure grows record by record, but where it is shortened
-step-flushed : (p : Place) (s : FileState) (e : Step) → IsSafe (text_of p) s → MayHappen p s e
+step-flushed : (p : Place) {s : FileState} (e : Step) → IsSafe (text_of p) s → MayHappen p s e
     → IsFrontOf (whole_lines s.flushed) (stand_after p.site s e).flushed ⊎ ((short : List ℕ) × (e ≡ Shortens p.site short))
-step-flushed p s (Happens j e) h m =
+step-flushed p {s} (Happens j e) h m =
     elim (eqb j p.site) as (λ b. MatchBool b (Follows (words_of p) s e) ⊤
     → IsFrontOf (whole_lines s.flushed) (cond b (after s e) s).flushed ⊎ ((short : List ℕ) × (Happens j e ≡ Shortens p.site short))) [
-      | true ↦ λ f. inl (event-flushed (words_of p) s e h f)
+      | true ↦ λ f. inl (event-flushed (words_of p) e h f)
       | false ↦ λ f. inl (whole-front s.flushed)
     ] m
-step-flushed p s (Fails j files) h m =
+step-flushed p {s} (Fails j files) h m =
     elim (eqb j p.site) as (λ b. MatchBool b (SurvivesIn s files) ⊤
     → IsFrontOf (whole_lines s.flushed) (cond b (from_disk files) s).flushed ⊎ ((short : List ℕ) × (Fails j files ≡ Shortens p.site short))) [
       | true ↦ λ f. inl (front-more (whole_lines s.flushed) s.flushed files.log (whole-front s.flushed) f.0)
       | false ↦ λ f. inl (whole-front s.flushed)
     ] m
-step-flushed p s (Shortens j short) h m =
+step-flushed p {s} (Shortens j short) h m =
     elim (eqb j p.site) as (λ b. eqb j p.site ≡ b
     → IsFrontOf (whole_lines s.flushed) (cond b (shortened_to short) s).flushed ⊎ ((lines : List ℕ) × (Shortens j short ≡ Shortens p.site lines))) [
       | true ↦ λ is. inr (short, ap (λ n. Shortens n short) (eqb-true j p.site is))
       | false ↦ λ is. inl (whole-front s.flushed)
     ] refl
-step-flushed p s (Raises j keep) h m = inl (whole-front s.flushed)
-step-flushed p s (Does (Reads j fields)) h m = inl (whole-front s.flushed)
-step-flushed p s (Does (Restarts j)) h m =
+step-flushed p {s} (Raises j keep) h m = inl (whole-front s.flushed)
+step-flushed p {s} (Does (Reads j fields)) h m = inl (whole-front s.flushed)
+step-flushed p {s} (Does (Restarts j)) h m =
     elim (eqb j p.site) as (λ b. IsFrontOf (whole_lines s.flushed) (cond b (opened_again s) s).flushed
     ⊎ ((short : List ℕ) × (Does (Restarts j) ≡ Shortens p.site short))) [
       | true ↦ inl (whole-front s.flushed)
       | false ↦ inl (whole-front s.flushed)
     ]
-step-flushed p s (Does (Replays j fields)) h m = inl (whole-front s.flushed)
+step-flushed p {s} (Does (Replays j fields)) h m = inl (whole-front s.flushed)
 
-pub safe-here : (sites i keep : ℕ) (s : FileState) (steps : List Step) → IsHistory sites i keep s steps → IsSafe (text_of (site_keeping sites i keep)) s
-safe-here sites i keep s [] h = h
-safe-here sites i keep s (e ∷ later) h = h.0
+pub safe-here : (sites i keep : ℕ) {s : FileState} (steps : List Step) → IsHistory sites i keep s steps → IsSafe (text_of (site_keeping sites i keep)) s
+safe-here sites i keep [] h = h
+safe-here sites i keep (e ∷ later) h = h.0
 
-history-later : (sites i keep : ℕ) (s : FileState) (a b : List Step) → IsHistory sites i keep s (a ++ b)
-    → IsHistory sites i (keeps i keep a) (stands i s a) b
+history-later : (sites i keep : ℕ) (s : FileState) (a b : List Step) → IsHistory sites i keep s (a ++ b) → IsHistory sites i (keeps i keep a) (stands i s a) b
 history-later sites i keep s [] b h = h
 history-later sites i keep s (e ∷ a) b h = history-later sites i (keep_after i keep e) (stand_after i s e) a b h.2
 
@@ -125,8 +123,8 @@ keeps-append : (i keep : ℕ) (a b : List Step) → keeps i keep (a ++ b) ≡ ke
 keeps-append i keep [] b = refl
 keeps-append i keep (e ∷ a) b = keeps-append i (keep_after i keep e) a b
 
-answered-append : (sites i keep n : ℕ) (a b : List Step)
-    → answered_on sites i keep n (a ++ b) ≡ answered_on sites i (keeps i keep a) (answered_on sites i keep n a) b
+answered-append : (sites i keep n : ℕ) (a b : List Step) → answered_on sites i keep n (a ++ b) ≡ answered_on sites i (keeps i keep a)
+    (answered_on sites i keep n a) b
 answered-append sites i keep n [] b = refl
 answered-append sites i keep n (Happens j e ∷ a) b = answered-append sites i keep n a b
 answered-append sites i keep n (Fails j files ∷ a) b = answered-append sites i keep n a b
@@ -170,10 +168,9 @@ moment-at (y ∷ before) m later (Does x ∷ steps) e =
 
 -- the steps up to any moments
 steps-to : (before later : List Moment) (steps : List Step) → moments_in steps ≡ before ++ later
-    → (a : List Step) × (b : List Step) × (steps ≡ a ++ b) × (moments_in a ≡ before)
-    × ((m : Moment) (more : List Moment) → later ≡ m ∷ more → (c : List Step) × (b ≡ Does m ∷ c))
-steps-to before [] steps e =
-    (steps, [], sym (append-nil steps), e ∙ append-nil before, λ m more f. absurd (cc f))
+    → (a : List Step) × (b : List Step) × (steps ≡ a ++ b) × (moments_in a ≡ before) ×
+    ((m : Moment) (more : List Moment) → later ≡ m ∷ more → (c : List Step) × (b ≡ Does m ∷ c))
+steps-to before [] steps e = (steps, [], sym (append-nil steps), e ∙ append-nil before, λ m more f. absurd (cc f))
 steps-to before (m ∷ later) steps e =
     let r = moment-at before m later steps e in
     (r.0, Does m ∷ r.1, r.2, r.3, λ n more f. (r.1, ap (λ t. Does t ∷ r.1) (let same : m ≡ n = cc f in same)))
@@ -234,9 +231,9 @@ module _ (sites : ℕ) (keep : ℕ → ℕ) (start : ℕ → FileState) (steps :
       let s2 = stand_after i (at done) x in
       let more : IsPrefix (records_in (at done).flushed) (records_in s2.flushed) =
       ⊎_elim
-      (λ f. records-grow (at done).flushed s2.flushed (flushed-sound (text_of (p done)) (at done) h.0)
-      (flushed-sound (text_of (site_keeping sites i (keep_after i (room done) x))) s2 (safe-here sites i (keep_after i (room done) x) s2 later h.2)) f)
-      (λ w. absurd (none w.0 w.1)) (step-flushed (p done) (at done) x h.0 h.1) in
+      (λ f. records-grow (at done).flushed (flushed-sound h.0)
+      (flushed-sound (safe-here sites i (keep_after i (room done) x) later h.2)) f)
+      (λ w. absurd (none w.0 w.1)) (step-flushed (p done) x h.0 h.1) in
       subst (λ n. IsPrefix (taken done) (taken_in (site_keeping sites i n) (at (done ++ x ∷ [])).flushed)) (sym (room-now done x ∙ same))
       (subst (λ (t : FileState). IsPrefix (taken done) (taken_in (p done) t.flushed)) (sym (at-now done x))
       (taken-more (p done) (opening_at i) (records_in (at done).flushed) (records_in s2.flushed) more))
@@ -276,7 +273,8 @@ module _ (sites : ℕ) (keep : ℕ → ℕ) (start : ℕ → FileState) (steps :
       let x = Does (Reads i fields) in
       let had = has_read i (moments_in done) in
       let all = read_by i (recorded (moments_in done)) in
-      let same : had ≡ c.recording = prefix-same had c.recording (taken done) (k.ahead i done (x ∷ later) e) c.kept (k.anew i fields done later e ∙ sym c.count) in
+      let same : had ≡ c.recording = prefix-same had c.recording (taken done) (k.ahead i done (x ∷ later) e) c.kept
+      (k.anew i fields done later e ∙ sym c.count) in
       let now : has_read i (moments_in (done ++ x ∷ [])) ≡ c.recording ++ fields ∷ [] =
       read-now done x ∙ read_on_more i [] (moments_in done) (Reads i fields ∷ [])
       ∙ ap (λ b. cond b (had ++ fields ∷ []) had) is ∙ ap (λ t. t ++ fields ∷ []) same in
@@ -303,12 +301,12 @@ module _ (sites : ℕ) (keep : ℕ → ℕ) (start : ℕ → FileState) (steps :
       let x = Shortens i lines in
       let h = here done (x ∷ later) e in
       let short : ShortensKept (p done) (at done).kept lines = subst (λ b. MatchBool b (ShortensKept (p done) (at done).kept lines) ⊤) is h.1 in
-      let flushed = flushed-sound (text_of (p done)) (at done) h.0 in
+      let flushed = flushed-sound h.0 in
       let sound : AreSound [] (at done).kept = sound-front [] (at done).kept (at done).cut h.0.sound in
       let front = front-more (whole_lines (at done).flushed) (at done).flushed (at done).kept (whole-front (at done).flushed) h.0.flushed in
       let whole = taken_in (p done) (at done).kept in
       let within = taken-more (p done) (opening_at i) (records_in (at done).flushed) (records_in (at done).kept)
-      (records-grow (at done).flushed (at done).kept flushed sound front) in
+      (records-grow (at done).flushed flushed sound front) in
       let all : c.recording ≡ whole =
       prefix-same c.recording whole whole (prefix-more c.recording (taken done) whole c.kept within) ([], append-nil whole)
       (c.count ∙ k.answered i lines done later e) in
@@ -427,7 +425,7 @@ module _ (sites : ℕ) (keep : ℕ → ℕ) (start : ℕ → FileState) (steps :
       ] refl
 
   pub history-at : IsSafe (text_of (p steps)) (at steps)
-  history-at = safe-here sites i (room steps) (at steps) [] (here steps [] (sym (append-nil steps)))
+  history-at = safe-here sites i (room steps) [] (here steps [] (sym (append-nil steps)))
 
   walk : (a done b : List Step) → steps ≡ done ++ (a ++ b) → ComeTo done → ComeTo (done ++ a)
   walk [] done b e c = subst ComeTo (sym (append-nil done)) c
@@ -478,13 +476,13 @@ module _ (sites : ℕ) (keep : ℕ → ℕ) (start : ℕ → FileState) (steps :
       })
       (cases_eq (length (has_read i before)) (length c.recording))
 
-pub histories-are-replayed : (sites : ℕ) (keep : ℕ → ℕ) (start : ℕ → FileState) (steps : List Step) → ((i : ℕ) → keep i ≤ KEEP_MAX)
+pub histories-are-replayed : {sites : ℕ} {keep : ℕ → ℕ} (start : ℕ → FileState) {steps : List Step} → ((i : ℕ) → keep i ≤ KEEP_MAX)
     → AreHistories sites keep start steps → AreReplayed sites most (moments_in steps)
-histories-are-replayed sites keep start steps small k i before later e = replayed sites keep start steps k i (small i) before later e
+histories-are-replayed {sites} {keep} start {steps} small k i before later e = replayed sites keep start steps k i (small i) before later e
 
 pub histories-are-runs : HistoriesAreRuns
 histories-are-runs sites keep start steps some top small k carried =
-    let again = histories-are-replayed sites keep start steps small k in
+    let again = histories-are-replayed start small k in
     let never = restarts_change_nothing sites most (moments_in steps) again carried in (
       never,
       processes_run sites most (recorded (moments_in steps)) some top (λ i. omega arith) never.carried,

@@ -20,15 +20,15 @@ safe-at : (says : Says) (s : FileState) (first later : List Event) → AreSafe s
 safe-at says s [] later h = safe-first says s later h
 safe-at says s (e ∷ first) later h = safe-at says (after s e) first later h.2
 
-sound-of : (text : List (List (List ℕ)) → List ℕ) (s : FileState) → IsSafe text s → AreSound [] s.kept
-sound-of text s h = sound-front [] s.kept s.cut h.sound
+sound-of : {text : List (List (List ℕ)) → List ℕ} {s : FileState} → IsSafe text s → AreSound [] s.kept
+sound-of {s} h = sound-front [] s.kept s.cut h.sound
 
 -- what is told of what was flushed is the beginning of what is told of more
-told-of-more : (text : List (List (List ℕ)) → List ℕ) (flushed log out : List ℕ) → Extends text → AreSound [] log → IsFrontOf flushed log
+told-of-more : (text : List (List (List ℕ)) → List ℕ) (flushed : List ℕ) {log : List ℕ} (out : List ℕ) → Extends text → AreSound [] log → IsFrontOf flushed log
     → IsFrontOf out (text (records_in flushed)) → IsFrontOf out (text (records_in log))
-told-of-more text flushed log out extends sound front told =
+told-of-more text flushed {log} out extends sound front told =
     let short = sound-front [] flushed front.0 (subst (AreSound []) (sym front.1) sound) in
-    let more = records-grow flushed log short sound (front-more (whole_lines flushed) flushed log (whole-front flushed) front) in
+    let more = records-grow flushed short sound (front-more (whole_lines flushed) flushed log (whole-front flushed) front) in
     front-more out (text (records_in flushed)) (text (records_in log)) told
     (subst (λ r. IsFrontOf (text (records_in flushed)) (text r)) more.1 (extends (records_in flushed) more.0))
 
@@ -47,15 +47,16 @@ lines-stay : (says : Says) (s : FileState) (first later : List Event) → AreSaf
     → IsFrontOf (whole_lines s.kept) (after_all s first).kept
 lines-stay says s [] later h = whole-front s.kept
 lines-stay says s (e ∷ first) later h =
-    whole-more s.kept (after s e).kept (after_all (after s e) first).kept (sound-of says.text s h.0) (follows-lines says s e h.1) (lines-stay says (after s e) first later h.2)
+    whole-more s.kept (after s e).kept (after_all (after s e) first).kept (sound-of h.0) (follows-lines says s e h.1)
+    (lines-stay says (after s e) first later h.2)
 
-opens-again : (text : List (List (List ℕ)) → List ℕ) (s : FileState) → Extends text → IsSafe text s → IsOpened text (opened_again s)
-opens-again text s extends h =
-    let told = told-of-more text s.flushed s.kept s.out extends (sound-of text s h) h.flushed h.told in
+opens-again : {text : List (List (List ℕ)) → List ℕ} {s : FileState} → Extends text → IsSafe text s → IsOpened text (opened_again s)
+opens-again {text} {s} extends h =
+    let told = told-of-more text s.flushed s.out extends (sound-of h) h.flushed h.told in
     record {
       safe = record { sound = h.sound; flushed = h.flushed; told = h.told; shown = refl };
       begun = refl;
-      left = record { sound = sound-of text s h; rest = told.0; begins = told.1 };
+      left = record { sound = sound-of h; rest = told.0; begins = told.1 };
     }
 
 -- where the line `kept,..` is shown among these events, and all that was kept is answered then
@@ -70,13 +71,13 @@ one-later text s e events (before, since, n, counts, is, answered) = (e ∷ befo
 pub kills-leave-files : KillsLeaveFiles
 kills-leave-files says s events extends h first later e =
     let safe = subst (AreSafe says s) (sym e) h in
-    (opens-again says.text (after_all s first) extends (safe-at says s first later safe), lines-stay says s first later safe)
+    (opens-again extends (safe-at says s first later safe), lines-stay says s first later safe)
 
-survives : (text : List (List (List ℕ)) → List ℕ) (t : FileState) (files : Files) → Extends text → IsSafe text t → SurvivesIn t files
+survives : {text : List (List (List ℕ)) → List ℕ} {t : FileState} (files : Files) → Extends text → IsSafe text t → SurvivesIn t files
     → IsOpened text (from_disk files) × IsFrontOf t.out (text (records_in files.log))
-survives text t files extends h left =
+survives {text} {t} files extends h left =
     let sound : AreSound [] files.log = sound-front [] files.log left.1.0 (subst (AreSound []) (sym left.1.1) h.sound) in
-    let told = told-of-more text t.flushed files.log t.out extends sound left.0 h.told in
+    let told = told-of-more text t.flushed t.out extends sound left.0 h.told in
     let out = front-more files.out t.out (text (records_in files.log)) left.2 told in (
       record {
         safe = record { sound = subst (AreSound []) (sym (append-nil files.log)) sound; flushed = ([], append-nil files.log); told = out; shown = refl };
@@ -88,24 +89,29 @@ survives text t files extends h left =
 
 pub power-failures-leave-files : PowerFailuresLeaveFiles
 power-failures-leave-files says s events extends h first later e files left =
-    survives says.text (after_all s first) files extends (safe-at says s first later (subst (AreSafe says s) (sym e) h)) left
+    survives files extends (safe-at says s first later (subst (AreSafe says s) (sym e) h)) left
 
 pub answered-before-more : AnsweredBeforeMore
 answered-before-more says s [] later b not_yet h = absurd (cc (not_yet, h.1.0))
 answered-before-more says s (Began n counts ∷ first) later b not_yet h = ([], first, n, counts, refl, h.1.0)
 answered-before-more says s (Kept c ∷ first) later b not_yet h = absurd (cc (not_yet, h.1.0))
-answered-before-more says s (Flushed ∷ first) later b not_yet h = one-later says.text s Flushed first (answered-before-more says (after s Flushed) first later b not_yet h.2)
-answered-before-more says s (CutTo n ∷ first) later b not_yet h = one-later says.text s (CutTo n) first (answered-before-more says (after s (CutTo n)) first later b not_yet h.2)
-answered-before-more says s (Told c ∷ first) later b not_yet h = one-later says.text s (Told c) first (answered-before-more says (after s (Told c)) first later b not_yet h.2)
-answered-before-more says s (Settled ∷ first) later b not_yet h = one-later says.text s Settled first (answered-before-more says (after s Settled) first later b not_yet h.2)
-answered-before-more says s (Shown c ∷ first) later b not_yet h = one-later says.text s (Shown c) first (answered-before-more says (after s (Shown c)) first later b not_yet h.2)
+answered-before-more says s (Flushed ∷ first) later b not_yet h = one-later says.text s Flushed first
+    (answered-before-more says (after s Flushed) first later b not_yet h.2)
+answered-before-more says s (CutTo n ∷ first) later b not_yet h = one-later says.text s (CutTo n) first
+    (answered-before-more says (after s (CutTo n)) first later b not_yet h.2)
+answered-before-more says s (Told c ∷ first) later b not_yet h = one-later says.text s (Told c) first
+    (answered-before-more says (after s (Told c)) first later b not_yet h.2)
+answered-before-more says s (Settled ∷ first) later b not_yet h = one-later says.text s Settled first
+    (answered-before-more says (after s Settled) first later b not_yet h.2)
+answered-before-more says s (Shown c ∷ first) later b not_yet h = one-later says.text s (Shown c) first
+    (answered-before-more says (after s (Shown c)) first later b not_yet h.2)
 answered-before-more says s (Replied question reply ∷ first) later b not_yet h =
     one-later says.text s (Replied question reply) first (answered-before-more says (after s (Replied question reply)) first later b not_yet h.2)
 
 -- ---- a site that keeps more messages from now on
 
-some-same : (a b : List ℕ) → Some a ≡ Some b → a ≡ b
-some-same a b e = cc e
+some-same : {a b : List ℕ} → Some a ≡ Some b → a ≡ b
+some-same e = cc e
 
 none-read : (bytes : List ℕ) (later : Option (List ℕ)) → Consumes (Some []) later bytes → bytes ≡ []
 none-read [] later c = refl
@@ -113,18 +119,17 @@ none-read (b ∷ bytes) None c = absurd c
 none-read (b ∷ bytes) (Some rest) c = absurd (cc c)
 
 -- the answers to what was kept are complete
-completed : (before : Account) (files mid : Files) (done log1 out1 : Option (List ℕ))
+completed : {before : Account} (files mid : Files) {done log1 out1 : Option (List ℕ)}
     → ((records : List (List (List ℕ))) → before.text Cut records ≡ before.text AtEnd records) → Lived before files.log files.out (Some []) done log1 out1
     → log1 ≡ Some mid.log → out1 ≡ Some mid.out → mid.out ≡ before.text AtEnd (records_in files.log)
-completed before files mid done log1 out1 same l e f =
+completed {before} files mid {done} same l e f =
     let none : kept_of l.bytes ≡ [] = ap kept_of (none-read l.bytes done l.taken) in
-    some-same mid.out (before.text Cut (input_records (whole_lines files.log ++ kept_of l.bytes))) (sym f ∙ l.out_is)
-    ∙ ap (λ k. before.text Cut (input_records (whole_lines files.log ++ k))) none
+    some-same (sym f ∙ l.out_is) ∙ ap (λ k. before.text Cut (input_records (whole_lines files.log ++ k))) none
     ∙ ap (λ k. before.text Cut (input_records k)) (append-nil (whole_lines files.log)) ∙ same (records_in files.log)
 
 pub raised-keeps-tell-the-same : RaisedKeepsTellTheSame
 raised-keeps-tell-the-same before raised files mid done log1 out1 input later log out told same l e f front =
-    let all : IsFrontOf told mid.out = subst (IsFrontOf told) (sym (completed before files mid done log1 out1 same l e f)) front in (
+    let all : IsFrontOf told mid.out = subst (IsFrontOf told) (sym (completed files mid same l e f)) front in (
       λ lived. front-more told mid.out (raised.text AtEnd (records_in mid.log)) all lived.found,
       λ ended. ends all ended ended.answers,
     )

@@ -7,8 +7,8 @@ use Rattle.rubis_keep.specs.Kept.{IsFrontOf}
 use Rattle.rubis_lives.specs.Moments.{BegunTooEarlyIsUnsafe, KeptTooEarlyIsUnsafe, ShownTooEarlyIsUnsafe, ToldTooEarlyIsUnsafe}
 use Rattle.rubis_keep.proofs.HistoryFacts.{safe-first}
 
-none-begins : (out : List ℕ) (b : ℕ) (all : List ℕ) → out ≡ [] → all ≡ [] → IsFrontOf (out ++ b ∷ []) all → ⊥
-none-begins out b all e f (rest, g) =
+none-begins : {out : List ℕ} (b : ℕ) {all : List ℕ} → out ≡ [] → all ≡ [] → IsFrontOf (out ++ b ∷ []) all → ⊥
+none-begins {out} b e f (rest, g) =
     let long = length-append (out ++ b ∷ []) rest in
     let first = length-append out (b ∷ []) in
     omega (arith, ap length g, ap length f, long, first)
@@ -16,14 +16,14 @@ none-begins out b all e f (rest, g) =
 pub told-too-early : ToldTooEarlyIsUnsafe
 told-too-early says s [] b later none e f h =
     let safe = safe-first says (after s (Told b)) later h.2 in
-    none-begins s.out b (says.text (records_in s.flushed)) f (ap (λ k. says.text (records_in k)) e ∙ none) safe.told
+    none-begins b f (ap (λ k. says.text (records_in k)) e ∙ none) safe.told
 told-too-early says s (c ∷ lines) b later none e f h = told-too-early says (after s (Kept c)) lines b later none e f h.2
 
 no-end : (shown : List ℕ) (b : ℕ) → shown ++ b ∷ [] ≡ [] → ⊥
 no-end shown b e = let long = length-append shown (b ∷ []) in omega (arith, ap length e, long)
 
-not-longer : (shown out : List ℕ) (b : ℕ) → shown ≡ out → IsFrontOf (shown ++ b ∷ []) out → ⊥
-not-longer shown out b e (rest, g) =
+not-longer : {shown out : List ℕ} (b : ℕ) → shown ≡ out → IsFrontOf (shown ++ b ∷ []) out → ⊥
+not-longer {shown} b e (rest, g) =
     let long = length-append (shown ++ b ∷ []) rest in
     let first = length-append shown (b ∷ []) in
     omega (arith, ap length g, ap length e, long, first)
@@ -33,7 +33,7 @@ shown-too-early says s b later early h = go s.begun early (safe-first says (afte
   where
     go : (begun : Bool) → (begun ≡ false) ⊎ (s.shown ≡ s.out) → MatchBool begun (IsFrontOf (s.shown ++ b ∷ []) s.out) (s.shown ++ b ∷ [] ≡ []) → ⊥
     go true (inl e) m = cc e
-    go true (inr e) m = not-longer s.shown s.out b e m
+    go true (inr e) m = not-longer b e m
     go false early m = no-end s.shown b m
 
 pub kept-too-early : KeptTooEarlyIsUnsafe

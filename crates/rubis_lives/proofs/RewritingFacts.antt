@@ -39,37 +39,36 @@ settle-longer : (n : ℕ) (log waiting : List Message) → length log ≤ length
 settle-longer n log waiting =
     settle_keeps (λ l w. length log ≤ length l) (λ l w p t h. let e = length-append l (p.0 ∷ []) in omega (arith, h, e)) n log waiting (omega arith)
 
-none-made : (p : Place) (s : Replica) (r : Result Shadow Refusal) → (generating p s r).0 ≡ s → sending packet.Msg (generating p s r).1 ≡ []
-none-made p s (Ok x) same =
+none-made : (p : Place) {s : Replica} (r : Result Shadow Refusal) → (generating p s r).0 ≡ s → sending packet.Msg (generating p s r).1 ≡ []
+none-made p {s} (Ok x) same =
     let more = settle-longer (length s.waiting) (s.log ++ made p s x ∷ []) s.waiting in
     let size = length-append s.log (made p s x ∷ []) in
     absurd (omega (arith, more, size, ap (λ (t : Replica). length t.log) same))
-none-made p s (Err r) same = refl
+none-made p (Err r) same = refl
 
-none-passed : (p : Place) (s : Replica) (to : ℕ) (held : Option ℕ) → s.held ≡ held → (passing p s to held).0 ≡ s
+none-passed : (p : Place) {s : Replica} (to : ℕ) (held : Option ℕ) → s.held ≡ held → (passing p s to held).0 ≡ s
     → sending packet.Token (passing p s to held).1 ≡ []
-none-passed p s to None is same = refl
-none-passed p s to (Some issued) is same =
+none-passed p to None is same = refl
+none-passed p {s} to (Some issued) is same =
     cond_both (nat_le p.sites to || (to == p.site)) (s, Err BadTarget) _
     (λ (a : Replica × Result Token Refusal). a.0 ≡ s → sending packet.Token a.1 ≡ []) (λ _ q. refl)
     (λ _. cond_both (nat_le 1000000000 s.last) (s, Err LastTurn) _
     (λ (a : Replica × Result Token Refusal). a.0 ≡ s → sending packet.Token a.1 ≡ []) (λ _ q. refl)
     (λ _ q. let gone : None ≡ s.held = ap (λ (t : Replica). t.held) q in absurd (cc (gone, is)))) same
 
-none-sent : (p : Place) (s : Replica) (x : Input) → (input_step p s 1 x).0 ≡ s → sent_on p s x ≡ []
-none-sent p s (Asked (request.Ask a)) same = none-made p s (decision (rows_at s.log) (standing_of p.keep s) a) same
-none-sent p s (Asked (request.Pass to)) same = none-passed p s to s.held refl same
-none-sent p s (Asked (request.List l)) same = refl
-none-sent p s (Came x) same = refl
-none-sent p s Neither same = refl
+none-sent : (p : Place) {s : Replica} (x : Input) → (input_step p s 1 x).0 ≡ s → sent_on p s x ≡ []
+none-sent p {s} (Asked (request.Ask a)) same = none-made p (decision (rows_at s.log) (standing_of p.keep s) a) same
+none-sent p {s} (Asked (request.Pass to)) same = none-passed p to s.held refl same
+none-sent p (Asked (request.List l)) same = refl
+none-sent p (Came x) same = refl
+none-sent p Neither same = refl
 
 short-sent : (p : Place) (s : Replica) (short full : Records) → IsShortened p s short full
     → sent_on_inputs p s (map (input_of p.sites) short) ≡ sent_on_inputs p s (map (input_of p.sites) full)
 short-sent p s short [] h = ap (λ (l : Records). sent_on_inputs p s (map (input_of p.sites) l)) h
 short-sent p s short (x ∷ full) (inl h) =
-    short-sent p s short full h.1
-    ∙ ap (λ t. sent_on_inputs p t (map (input_of p.sites) full)) (sym h.0)
-    ∙ ap (λ l. l ++ sent_on_inputs p (input_step p s 1 (input_of p.sites x)).0 (map (input_of p.sites) full)) (sym (none-sent p s (input_of p.sites x) h.0))
+    short-sent p s short full h.1 ∙ ap (λ t. sent_on_inputs p t (map (input_of p.sites) full)) (sym h.0)
+    ∙ ap (λ l. l ++ sent_on_inputs p (input_step p s 1 (input_of p.sites x)).0 (map (input_of p.sites) full)) (sym (none-sent p (input_of p.sites x) h.0))
 short-sent p s short (x ∷ full) (inr h) =
     ap (λ (l : Records). sent_on_inputs p s (map (input_of p.sites) l)) h.1
     ∙ ap (λ l. sent_on p s (input_of p.sites x) ++ l) (short-sent p (input_step p s 1 (input_of p.sites x)).0 h.0 full h.2)
@@ -82,8 +81,7 @@ shortening-keeps p short full more h =
       state = short_state p (full ++ more) (short ++ more) o 1 1 longer;
       sent = short-sent p o (short ++ more) (full ++ more) longer;
       was = answers_stay p full more;
-      is = answers_stay p short more
-          ∙ ap (λ t. output_of p short ++ answers p t (1 + length short) more) (short_state p full short o 1 1 h);
+      is = answers_stay p short more ∙ ap (λ t. output_of p short ++ answers p t (1 + length short) more) (short_state p full short o 1 1 h);
     }
 
 -- ---- what is left of the files
@@ -111,8 +109,7 @@ front-of [] next (x ∷ first) later e = inr (x ∷ first, later, refl, e)
 front-of (b ∷ bytes) next (x ∷ first) later e =
     let same : x ≡ Wrote b = cc e in
     ⊎_elim (λ w. inl (b ∷ w.0, ap (λ t. x ∷ t) w.1 ∙ ap (λ t. t ∷ Wrotes w.0) same))
-    (λ w. inr (w.0, w.1, ap (λ t. x ∷ t) w.2 ∙ ap (λ t. t ∷ (Wrotes bytes ++ w.0)) same, w.3))
-    (front-of bytes next first later (cc e))
+    (λ w. inr (w.0, w.1, ap (λ t. x ∷ t) w.2 ∙ ap (λ t. t ∷ (Wrotes bytes ++ w.0)) same, w.3)) (front-of bytes next first later (cc e))
 
 module _ (text : List (List (List ℕ)) → List ℕ) (s : FileState) (safe : IsSafe text s) (rest : s.flushed ≡ s.kept) where
   -- the old lines, with a prefix of their answers

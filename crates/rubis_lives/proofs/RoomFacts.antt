@@ -55,9 +55,9 @@ full-first : (t : Rows) (s : Standing) (a : Ask) → s.full ≡ true → decisio
 full-first t s (ask.User n) e = first-due s.full _ _ e
 full-first t s a e = first-due s.full _ _ e
 
-found-holds : (p : Refusal → Bool) (rs : List Refusal) (r : Refusal) → find p rs ≡ Some r → p r ≡ true
-found-holds p [] r e = absurd (cc e)
-found-holds p (x ∷ rs) r e = at (p x) refl e (found-holds p rs r)
+found-holds : (p : Refusal → Bool) (rs : List Refusal) {r : Refusal} → find p rs ≡ Some r → p r ≡ true
+found-holds p [] e = absurd (cc e)
+found-holds p (x ∷ rs) {r} e = at (p x) refl e (found-holds p rs)
   where
     at : (b : Bool) → p x ≡ b → cond b (Some x) (find p rs) ≡ Some r → (find p rs ≡ Some r → p r ≡ true) → p r ≡ true
     at true is e more = let same : x ≡ r = cc e in ap p (sym same) ∙ is
@@ -71,7 +71,7 @@ not-full t s a none e = at (find (is_due t s a) (order_of a)) refl e
     at None is e = cc e
     at (Some r) is e =
         let same : r ≡ Full = cc e in
-        let due : s.full ≡ true = found-holds (is_due t s a) (order_of a) Full (is ∙ ap (λ x. Some x) same) in
+        let due : s.full ≡ true = found-holds (is_due t s a) (order_of a) (is ∙ ap (λ x. Some x) same) in
         cc (due, none)
 
 roomier : (keep more : ℕ) (s : Replica) → keep ≤ more → is_full keep s ≡ false → is_full more s ≡ false
@@ -113,7 +113,8 @@ module _ (p : Place) (keep : ℕ) (more : p.keep ≤ keep) where
   pub same-step : (s : Replica) (n : ℕ) (x : Input) → refuses_as_full p s x ≡ false → input_step p s n x ≡ input_step q s n x
   same-step s n (Asked (request.Ask a)) e =
       let less = roomier p.keep keep s more e in
-      ap (λ (f : Bool). told (asked_rows n) (generating p s (decision (rows_at s.log) (record { full = f; holds = (standing_of keep s).holds; current = (standing_of keep s).current }) a)))
+      ap (λ (f : Bool). told (asked_rows n)
+      (generating p s (decision (rows_at s.log) (record { full = f; holds = (standing_of keep s).holds; current = (standing_of keep s).current }) a)))
       (e ∙ sym less)
       ∙ ap (told (asked_rows n)) (generates-same s (decision (rows_at s.log) (standing_of keep s) a))
   same-step s n (Asked (request.Pass to)) e = ap (told (passed_rows n)) (passes-same s to s.held)
@@ -139,8 +140,7 @@ module _ (p : Place) (keep : ℕ) (more : p.keep ≤ keep) where
   still-takes s Neither e = refl
 
 pub full-step : (p : Place) (s : Replica) (n : ℕ) (x : Input) → refuses_as_full p s x ≡ true → input_step p s n x ≡ (s, refused_row n Full ∷ [])
-full-step p s n (Asked (request.Ask a)) e =
-    ap (λ r. told (asked_rows n) (generating p s r)) (full-first (rows_at s.log) (standing_of p.keep s) a e)
+full-step p s n (Asked (request.Ask a)) e = ap (λ r. told (asked_rows n) (generating p s r)) (full-first (rows_at s.log) (standing_of p.keep s) a e)
 full-step p s n (Asked (request.Pass to)) e = absurd (cc e)
 full-step p s n (Asked (request.List l)) e = absurd (cc e)
 full-step p s n (Came (packet.Msg m)) e =
@@ -209,7 +209,8 @@ module _ (p : Place) (keep : ℕ) (more : p.keep ≤ keep) where
           → site_after p (next s 1 x) (n + 1) records ≡ site_after wide (next s 1 x) (m + 1) (taken_by p (next s 1 x) records)
           → site_after p s n (x ∷ records) ≡ site_after wide s m (taken_by p s (x ∷ records))
       at true is not one =
-          ap (λ t. site_after p t (n + 1) records) (full-stays p s n (input_of p.sites x) is) ∙ not ∙ ap (site_after wide s m) (sym (taken-not p s x records is))
+          ap (λ t. site_after p t (n + 1) records) (full-stays p s n (input_of p.sites x) is) ∙ not ∙ ap (site_after wide s m)
+          (sym (taken-not p s x records is))
       at false is not one =
           ap (λ t. site_after p t (n + 1) records) (number n 1) ∙ one
           ∙ ap (λ t. site_after wide t (m + 1) (taken_by p (next s 1 x) records)) (number 1 m ∙ next-same s m x is)
@@ -251,7 +252,8 @@ module _ (p : Place) (keep : ℕ) (more : p.keep ≤ keep) where
       at false is not one =
           ap (λ l. l ++ sent_on_inputs p (next s 1 x) (map (input_of p.sites) records)) (sends-same s (input_of p.sites x) is)
           ∙ ap (λ l. sent_on wide s (input_of p.sites x) ++ l) one
-          ∙ ap (λ t. sent_on wide s (input_of p.sites x) ++ sent_on_inputs wide t (map (input_of p.sites) (taken_by p (next s 1 x) records))) (next-same s 1 x is)
+          ∙ ap (λ t. sent_on wide s (input_of p.sites x) ++ sent_on_inputs wide t (map (input_of p.sites) (taken_by p (next s 1 x) records)))
+          (next-same s 1 x is)
           ∙ ap (λ (l : Records). sent_on_inputs wide s (map (input_of p.sites) l)) (sym (taken-one p s x records is))
 
   -- what is left of some records leaves of those that are taken what is taken of it
@@ -316,8 +318,7 @@ row-first a b xs ys more later e =
     let left = ap (λ t. next_record default_config st.StartRecord [] [] (t ++ more)) (same-row (a ∷ xs)) ∙ read-write (a ∷ xs) more in
     let right = ap (λ t. next_record default_config st.StartRecord [] [] (t ++ later)) (same-row (b ∷ ys)) ∙ read-write (b ∷ ys) later in
     let all = sym left ∙ ap (next_record default_config st.StartRecord [] []) e ∙ right in
-    ap (λ (t : List (List ℕ) × State × List ℕ). t.0)
-    (same_Some (read_back (a ∷ xs), st.StartRecord, more) (read_back (b ∷ ys), st.StartRecord, later) all)
+    ap (λ (t : List (List ℕ) × State × List ℕ). t.0) (same_Some (read_back (a ∷ xs), st.StartRecord, more) (read_back (b ∷ ys), st.StartRecord, later) all)
 
 -- ---- what is told by a site that keeps more
 

@@ -34,7 +34,7 @@ own-history sites i keep s (Happens j e ∷ later) h =
     → IsHistory sites i keep s (Happens j e ∷ later)) [
       | true ↦ λ own is. (own.0, own.1, own-history sites i keep (stand_after i s (Happens j e)) later own.2)
       | false ↦ λ own is. (
-        safe-here sites i keep s (own_steps i later) own,
+        safe-here sites i keep (own_steps i later) own,
         subst (λ b. MatchBool b (Follows (words_of (site_keeping sites i keep)) s e) ⊤) (sym is) tt,
         subst (λ b. IsHistory sites i keep (cond b (after s e) s) later) (sym is) (own-history sites i keep s later own),
       )
@@ -44,7 +44,7 @@ own-history sites i keep s (Fails j files ∷ later) h =
     → IsHistory sites i keep s (Fails j files ∷ later)) [
       | true ↦ λ own is. (own.0, own.1, own-history sites i keep (stand_after i s (Fails j files)) later own.2)
       | false ↦ λ own is. (
-        safe-here sites i keep s (own_steps i later) own,
+        safe-here sites i keep (own_steps i later) own,
         subst (λ b. MatchBool b (SurvivesIn s files) ⊤) (sym is) tt,
         subst (λ b. IsHistory sites i keep (cond b (from_disk files) s) later) (sym is) (own-history sites i keep s later own),
       )
@@ -54,7 +54,7 @@ own-history sites i keep s (Shortens j short ∷ later) h =
     → IsHistory sites i keep s (Shortens j short ∷ later)) [
       | true ↦ λ own is. (own.0, own.1, own-history sites i keep (stand_after i s (Shortens j short)) later own.2)
       | false ↦ λ own is. (
-        safe-here sites i keep s (own_steps i later) own,
+        safe-here sites i keep (own_steps i later) own,
         subst (λ b. MatchBool b (ShortensKept (site_keeping sites i keep) s.kept short) ⊤) (sym is) tt,
         subst (λ b. IsHistory sites i keep (cond b (shortened_to short) s) later) (sym is) (own-history sites i keep s later own),
       )
@@ -64,23 +64,23 @@ own-history sites i keep s (Raises j more ∷ later) h =
     → IsHistory sites i keep s (Raises j more ∷ later)) [
       | true ↦ λ own is. (own.0, own.1, own-history sites i (keep_after i keep (Raises j more)) s later own.2)
       | false ↦ λ own is. (
-        safe-here sites i keep s (own_steps i later) own,
+        safe-here sites i keep (own_steps i later) own,
         subst (λ b. MatchBool b (RaisesKeep (site_keeping sites i keep) s more) ⊤) (sym is) tt,
         subst (λ b. IsHistory sites i (cond b more keep) s later) (sym is) (own-history sites i keep s later own),
       )
     ] h refl
-own-history sites i keep s (Does (Reads j fields) ∷ later) h = (safe-here sites i keep s (own_steps i later) h, tt, own-history sites i keep s later h)
+own-history sites i keep s (Does (Reads j fields) ∷ later) h = (safe-here sites i keep (own_steps i later) h, tt, own-history sites i keep s later h)
 own-history sites i keep s (Does (Restarts j) ∷ later) h =
     elim (eqb j i) as (λ b. IsHistory sites i keep s (cond b (Does (Restarts j) ∷ own_steps i later) (own_steps i later)) → eqb j i ≡ b
     → IsHistory sites i keep s (Does (Restarts j) ∷ later)) [
       | true ↦ λ own is. (own.0, own.1, own-history sites i keep (stand_after i s (Does (Restarts j))) later own.2)
       | false ↦ λ own is. (
-        safe-here sites i keep s (own_steps i later) own,
+        safe-here sites i keep (own_steps i later) own,
         tt,
         subst (λ b. IsHistory sites i keep (cond b (opened_again s) s) later) (sym is) (own-history sites i keep s later own),
       )
     ] h refl
-own-history sites i keep s (Does (Replays j fields) ∷ later) h = (safe-here sites i keep s (own_steps i later) h, tt, own-history sites i keep s later h)
+own-history sites i keep s (Does (Replays j fields) ∷ later) h = (safe-here sites i keep (own_steps i later) h, tt, own-history sites i keep s later h)
 
 -- ---- the lives of one site
 
@@ -99,7 +99,8 @@ module _ (sites i : ℕ) where
   events-then keep s (e ∷ events) later h then = (
     h.0,
     subst (λ b. MatchBool b (Follows (words_of (p keep)) s e) ⊤) (sym (same-site i)) h.1,
-    subst (λ b. IsHistory sites i keep (cond b (after s e) s) (happening i events later)) (sym (same-site i)) (events-then keep (after s e) events later h.2 then),
+    subst (λ b. IsHistory sites i keep (cond b (after s e) s) (happening i events later)) (sym (same-site i))
+        (events-then keep (after s e) events later h.2 then),
   )
 
   restart-then : (keep : ℕ) (s : FileState) (later : List Step) → IsSafe (text_of (p keep)) s → IsHistory sites i keep (opened_again s) later
@@ -131,8 +132,8 @@ module _ (sites i : ℕ) where
       )
 
 -- lines that are kept as they are, with no answers yet
-pub shortened-opened : (text : List (List (List ℕ)) → List ℕ) (short : List ℕ) → AreSound [] short → IsOpened text (shortened_to short)
-shortened-opened text short sound = record {
+pub shortened-opened : (text : List (List (List ℕ)) → List ℕ) {short : List ℕ} → AreSound [] short → IsOpened text (shortened_to short)
+shortened-opened text {short} sound = record {
   safe = record {
     sound = subst (AreSound []) (sym (append-nil short)) sound;
     flushed = ([], append-nil short);
@@ -144,8 +145,8 @@ shortened-opened text short sound = record {
 }
 
 -- files with all answers, which are the beginning of those that the site gives when it keeps more
-raised-opened : (p : Place) (s : FileState) (more : ℕ) → IsSafe (text_of p) s → RaisesKeep p s more → IsOpened (text_of (keeping p more)) (opened_again s)
-raised-opened p s more safe r = record {
+raised-opened : {p : Place} {s : FileState} {more : ℕ} → IsSafe (text_of p) s → RaisesKeep p s more → IsOpened (text_of (keeping p more)) (opened_again s)
+raised-opened {p} {s} {more} safe r = record {
   safe = record {
     sound = safe.sound;
     flushed = safe.flushed;
@@ -173,9 +174,9 @@ module _ (sites i : ℕ) where
   opened-by keep s events Stops safe may = (kills-leave-files (words_of (here keep)) s events (extends-at (here keep)) safe events [] (append-nil events)).0
   opened-by keep s events (PowerFails files) safe may =
       (power-failures-leave-files (words_of (here keep)) s events (extends-at (here keep)) safe events [] (append-nil events) files may).0
-  opened-by keep s events (IsRewritten short) safe may = shortened-opened (text_of (here keep)) short may.sound
+  opened-by keep s events (IsRewritten short) safe may = shortened-opened (text_of (here keep)) may.sound
   opened-by keep s events (IsRaised more) safe may =
-      raised-opened (here keep) (after_all s events) more (safe-then (words_of (here keep)) s events safe) may
+      raised-opened (safe-then (words_of (here keep)) s events safe) may
 
   lives-go : (keep : ℕ) (s : FileState) (lives : List SiteLife) (running : List Event) → IsOpened (text_of (here keep)) s
       → AreLives sites i keep s lives running → IsHistory sites i keep s (steps_of i lives running)
@@ -196,9 +197,9 @@ lives-are-histories sites i keep s lives running steps opened all own =
 
 -- ---- a shop
 
-pub shop-histories : (sites : ℕ) (keep : ℕ → ℕ) (start : ℕ → FileState) (lives : ℕ → List SiteLife) (running : ℕ → List Event) (steps : List Step)
+pub shop-histories : {sites : ℕ} {keep : ℕ → ℕ} (start : ℕ → FileState) {lives : ℕ → List SiteLife} {running : ℕ → List Event} {steps : List Step}
     → AreShopLives sites keep start lives running steps → AreHistories sites keep start steps
-shop-histories sites keep start lives running steps shop = record {
+shop-histories {sites} {keep} start {lives} {running} {steps} shop = record {
   safe = λ i. lives-are-histories sites i (keep i) (start i) (lives i) (running i) steps (shop.opened i) (shop.lived i) (shop.own i);
   ahead = shop.ahead;
   anew = shop.anew;
@@ -208,4 +209,4 @@ shop-histories sites keep start lives running steps shop = record {
 
 pub shop-lives-are-runs : ShopLivesAreRuns
 shop-lives-are-runs sites keep start lives running steps some top small shop carried =
-    histories-are-runs sites keep start steps some top small (shop-histories sites keep start lives running steps shop) carried
+    histories-are-runs sites keep start steps some top small (shop-histories start shop) carried

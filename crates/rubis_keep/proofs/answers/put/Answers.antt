@@ -8,10 +8,10 @@ pub returns-in_err-found-clause-told : goal.returns-in_err-found-clause-told
 returns-in_err-found-clause-told g c = told_none _ _ _
 
 pub returns-clause-ok : goal.returns-clause-ok
-returns-clause-ok g c = puts-told _ _ _ _ _ c.tell_all.result _ c.args.text.now c.in_ok-found.ensures.found c.tell_all.ensures.told
+returns-clause-ok g c = puts-told _ _ _ _ _ c.tell_all.result c.args.text.now c.in_ok-found.ensures.found c.tell_all.ensures.told
 
 pub returns-clause-err : goal.returns-clause-err
-returns-clause-err g c = puts-torn _ _ _ _ _ c.tell_all.result _ c.args.text.now c.in_ok-found.ensures.found c.tell_all.ensures.told
+returns-clause-err g c = puts-torn _ _ _ _ _ c.tell_all.result c.args.text.now c.in_ok-found.ensures.found c.tell_all.ensures.told
 
 pub returns-clause-told : goal.returns-clause-told
 returns-clause-told g c = has-told _ _ _ c.tell_all.result _ c.tell_all.ensures.told

@@ -10,7 +10,7 @@ pub returns-in-Ok-eq0-clause-sound : goal.returns-in-Ok-eq0-clause-sound
 returns-in-Ok-eq0-clause-sound g c =
     let before = c.loop-turn.invariant.come in
     let none : c.in-Ok-eq0.field-0 ≡ 0 = search rules in
-    sound-end _ _ _ before.0 _ before.1 before.2 c.in-Ok-eq0.ensures.bytes.0 (ap (λ n. take n c.read_through_signals.new.buf) none)
+    sound-end _ _ _ before.0 before.1 before.2 c.in-Ok-eq0.ensures.bytes.0 (ap (λ n. take n c.read_through_signals.new.buf) none)
     (c.in-Ok-eq0.ensures.bytes.1 none (search rules))
 
 pub returns-then-not-branch-clause-edited : goal.returns-then-not-branch-clause-edited
@@ -29,7 +29,6 @@ loop-turn-preserved g c =
         before.0 ++ more,
         consumes-more _ _ _ before.0 more before.1 c.in-Ok.ensures.bytes.0,
         sound_more [] before.0 more before.2 (sym (c.in_ok-check_bytes-in-Ok.ensures.sound (begun_after [] before.0) before.3) ∙ c.if-not-branch.false),
-        c.in_ok-check_bytes-in-Ok.ensures.begun c.if-not-branch.false (begun_after [] before.0) before.3
-            ∙ ap begun_bytes (sym (begun-append [] before.0 more)),
+        c.in_ok-check_bytes-in-Ok.ensures.begun c.if-not-branch.false (begun_after [] before.0) before.3 ∙ ap begun_bytes (sym (begun-append [] before.0 more)),
       );
     }

@@ -12,8 +12,9 @@ returns-then-not-is_same-clause-differs g c =
     let came = sym (take-append-le c.in-Ok.given buffer rest c.in-Ok.ensures.bound.0) in
     let front = front-consumed _ _ _ _ _ c.loop-turn.invariant.1
     (subst (Consumes (g.O.Read.remaining c.loop-turn.before) (g.O.Read.remaining c.read_through_signals.new.reader)) came c.in-Ok.ensures.bytes.0) in
-    may-differ-more c.differ.result _ _ (λ d told. has-difference _ _ c.args.text.now c.args.lines d
-    front (differs-later c.loop-turn.at c.in-Ok.given c.args.text.now _ c.loop-turn.invariant.0 (c.is_same.ensures.differ c.if-not-is_same.true)) told)
+    may-differ-more c.differ.result _ _
+    (λ d told. has-difference _ front
+    (differs-later c.loop-turn.at c.in-Ok.given c.args.text.now _ c.loop-turn.invariant.0 (c.is_same.ensures.differ c.if-not-is_same.true)) told)
     c.differ.ensures
 
 pub loop-turn-preserved : goal.loop-turn-preserved

@@ -8,18 +8,17 @@ pub returns-then-is_empty : goal.returns-then-is_empty
 returns-then-is_empty g c =
     let none = no-bytes c.args.chunk.now (sym c.is_empty.ensures ∙ c.if-is_empty.true) in
     record {
-      ok = rest-stays _ _ _ _ c.args.chunk.now none;
+      ok = rest-stays _ _ _ _ none;
       idle = c.requires.1;
       err = tt;
       told = (refl, ([], tells-none _ _));
-      leads = led-nowhere c.args.clerk.now.desk.site _ c.args.chunk.now none;
+      leads = led-nowhere c.args.clerk.now.desk.site _ none;
       fault = record { same = refl; within = λ l. l };
     }
 
 pub returns-in_err-feed_text : goal.returns-in_err-feed_text
 returns-in_err-feed_text g c =
-    chunk-failed _ _ c.args.chunk.now _ _ _ _ c.from_residual.result _ c.from_residual.ensures.0 c.from_residual.ensures.1 c.requires.1 c.requires.0 c.in_err-feed_text.ensures
+    chunk-failed _ c.from_residual.result c.from_residual.ensures.0 c.from_residual.ensures.1 c.requires.1 c.requires.0 c.in_err-feed_text.ensures
 
 pub returns : goal.returns
-returns g c =
-    chunk-done _ _ c.args.chunk.now _ _ _ _ _ _ c.finish.result c.requires.1 c.requires.0 c.in_ok-feed_text.ensures c.finish.ensures
+returns g c = chunk-done c.requires.1 c.requires.0 c.in_ok-feed_text.ensures c.finish.ensures

@@ -19,7 +19,7 @@ returns-clause-ok g c line h =
         begun = cut.begins;
         end = λ e.
             let none = c.in_ok-more.ensures.end e in
-            (rw c.pass.ensures (left-end (drop n piece) _ (ap (drop n) none.0 ∙ drop-none n) none.1), ap (take n) none.0 ∙ take-none n);
+            (rw c.pass.ensures (left-end _ (ap (drop n) none.0 ∙ drop-none n) none.1), ap (take n) none.0 ∙ take-none n);
       },
       λ done. cut.questions done ∙ ap (λ k. asked_by c.in_ok-cut.cut.is_asked (done ++ k) c.take.new.question.items) (sym holds),
     )
@@ -33,5 +33,5 @@ returns-clause-came g c =
       question = c.in_ok-cut.ensures.asks;
       end = came-or-ended c.in_ok-more.more _ _ (take n piece) (rw c.pass.ensures (left-taken piece n _ _ c.in_ok-more.ensures.same))
           (λ e. let some = c.in_ok-more.ensures.more e in taken-some piece n some (bound.2 some))
-          (λ e. let none = c.in_ok-more.ensures.end e in rw c.pass.ensures (left-end (drop n piece) _ (ap (drop n) none.0 ∙ drop-none n) none.1));
+          (λ e. let none = c.in_ok-more.ensures.end e in rw c.pass.ensures (left-end _ (ap (drop n) none.0 ∙ drop-none n) none.1));
     }

@@ -34,12 +34,12 @@ loop-turn-preserved g c =
       live = c.next_piece.ensures.goes.live ∙ before.live;
       told = λ off.
           let told = before.told off in
-          tells-later _ _ _ _ _ _ told.0 told.1.0 told.1.1 (went.told off);
+          tells-later _ _ _ told.0 told.1.0 told.1.1 (went.told off);
       safe = λ keeps live.
-          lives-known _ _ _ _ _ _ _ _ c.next_piece.result _ c.in_ok-next_piece.was
+          lives-known _ _ _ _ _ _ _ _ c.in_ok-next_piece.was
           (lives-more _ _ _ _ _ _ _ _ _ _ _ _ c.next_piece.result (before.safe keeps live) (c.next_piece.ensures.goes.safe keeps (before.live ∙ live)));
       asked = λ p s0 kept line input0 h0 a. went.asked p s0 kept line input0 h0 (before.asked p s0 kept line input0 h0 a);
-      within = within-more _ _ _ _ _ _ before.within went.fault;
+      within = within-more before.within went.fault;
     }
 
 -- a piece could not be kept or answered
@@ -55,13 +55,14 @@ returns-in_err-next_piece-clause-goes g c =
       live = c.next_piece.ensures.goes.live ∙ before.live;
       told = λ off.
           let told = before.told off in
-          told-more _ _ _ _ _ _ c.from_residual.result told.0 told.1.0 told.1.1 (told-failed _ _ _ _ c.from_residual.result bad (failed.told off));
+          told-more _ _ _ _ c.from_residual.result told.0 told.1.0 told.1.1 (told-failed _ _ c.from_residual.result bad (failed.told off));
       safe = λ keeps live.
           lives-err _ _ _ _ _ _ _ _ c.next_piece.result c.from_residual.result bad
           (lives-more _ _ _ _ _ _ _ _ _ _ _ _ c.next_piece.result (before.safe keeps live) (c.next_piece.ensures.goes.safe keeps (before.live ∙ live)));
-      asked = on_fault _ c.from_residual.result bad (λ p s0 kept line input0 h0 a. failed.asked p s0 kept line input0 h0 (before.asked p s0 kept line input0 h0 a));
+      asked = on_fault _ c.from_residual.result bad
+          (λ p s0 kept line input0 h0 a. failed.asked p s0 kept line input0 h0 (before.asked p s0 kept line input0 h0 a));
       fault = err-is _ _ c.from_residual.result _ c.from_residual.ensures.1
-          (gone-caused _ _ _ _ _ _ _ _ _ _ _ _ _ _ _ _ _ _ _ _ _ before.within.same before.stands failed.fault);
+          (gone-caused _ _ _ _ _ _ _ _ _ _ _ _ _ _ _ _ _ _ _ before.within.same before.stands failed.fault);
     }
 
 -- the input has ended
@@ -77,12 +78,12 @@ returns-then-not-branch-clause-goes g c =
       live = c.next_piece.ensures.goes.live ∙ before.live;
       told = λ off.
           let told = before.told off in
-          tells-later _ _ _ _ _ _ told.0 told.1.0 told.1.1 (went.told off);
+          tells-later _ _ _ told.0 told.1.0 told.1.1 (went.told off);
       safe = λ keeps live.
-          lives-known _ _ _ _ _ _ _ _ c.next_piece.result _ c.in_ok-next_piece.was
+          lives-known _ _ _ _ _ _ _ _ c.in_ok-next_piece.was
           (lives-more _ _ _ _ _ _ _ _ _ _ _ _ c.next_piece.result (before.safe keeps live) (c.next_piece.ensures.goes.safe keeps (before.live ∙ live)));
       asked = λ p s0 kept line input0 h0 a. went.asked p s0 kept line input0 h0 (before.asked p s0 kept line input0 h0 a);
-      fault = within-more _ _ _ _ _ _ before.within went.fault;
+      fault = within-more before.within went.fault;
     }
 
 pub returns-then-not-branch-clause-end : goal.returns-then-not-branch-clause-end

@@ -37,13 +37,14 @@ returns-in_err-keep_chunk-clause-goes g c =
     record {
       rests = ok-of-err _ c.from_residual-in_err-keep_chunk.result bad;
       ok = ok-of-err _ c.from_residual-in_err-keep_chunk.result bad;
-      err = on_err _ (each-torn _ _ _ _ _ _ _ _ _ _ _ _ (torn-out _ _ _ _ torn.3)
-          (λ line e. torn-front _ line _ _ _ _ _ _ _ (c.in_ok-came.ensures.ok line e).0 (torn-log _ _ _ _ torn.0 torn.1 torn.2 torn.3)));
+      err = on_err _ (each-torn _ _ _ _ _ _ _ _ _ _ (torn-out _ _ _ _ torn.3)
+          (λ line e. torn-front _ _ (c.in_ok-came.ensures.ok line e).0 (torn-log _ _ _ torn.0 torn.1 torn.2 torn.3)));
       live = refl;
       told = λ off. absurd (cc (off, c.in_err-keep_chunk.ensures.kept.0));
-      safe = λ keeps live. lives-torn _ _ _ _ _ _ _ _ c.read_next.new.lines.chunk.items torn.1 c.from_residual-in_err-keep_chunk.result bad
-          (piece-lines _ begun.0 t.bytes _ begun.1 t.holds) torn.3;
-      asked = on_fault _ c.from_residual-in_err-keep_chunk.result bad (each-fails _ _ _ _ _ _ _ _ _ _ _ _ _ c.in_ok-came.ensures.ok (front-silent _ _ _ c.in_err-keep_chunk.ensures.kept.3));
+      safe = λ keeps live. lives-torn _ _ _ _ _ _ _ _ torn.1 c.from_residual-in_err-keep_chunk.result bad
+          (piece-lines _ begun.0 t.bytes begun.1 t.holds) torn.3;
+      asked = on_fault _ c.from_residual-in_err-keep_chunk.result bad
+          (each-fails _ _ _ _ _ _ _ _ _ _ _ _ _ c.in_ok-came.ensures.ok (front-silent _ _ _ c.in_err-keep_chunk.ensures.kept.3));
       fault = err-is _ _ c.from_residual-in_err-keep_chunk.result _ c.from_residual-in_err-keep_chunk.ensures.1
           (each-failure _ c.args.clerk.now.limit _ _ _ _ _ _ _ _ _ _ c.in_err-keep_chunk.ensures.fault
           (λ line e. let t = (c.in_ok-came.ensures.ok line e).0 in (t.bytes, t.taken)));
@@ -59,12 +60,11 @@ returns-in_default-clause-goes g c =
       rests = tt;
       ok = tt;
       err = each-unanswered _ _ _ _ _ _ _ _ _ _ _ c.read_next.new.lines.chunk.items _ _ _
-          (λ line e. took-kept _ line _ _ _ _ _ _ _ (c.in_ok-came.ensures.ok line e).0 (kept-log _ _ _ _ kept))
-          (unanswered-kept _ _ _ _ _ _ (kept-out _ _ _ _ kept) (took-whole _ begun.0 [] _ _ _ _ _ _ _ t));
+          (λ line e. took-kept (c.in_ok-came.ensures.ok line e).0 (kept-log _ _ _ _ kept)) (unanswered-kept _ _ _ _ (kept-out _ _ _ _ kept) (took-whole [] t));
       live = refl;
-      told = λ off. (refl, ([], [], tells-after _ _ _ _ [] [] (rw off at c.in_ok-keep_chunk.ensures.kept) (tells-none _ _)));
+      told = λ off. (refl, ([], [], tells-after _ _ _ _ (rw off at c.in_ok-keep_chunk.ensures.kept) (tells-none _ _)));
       safe = λ keeps live all p s0 h is rested.
-          (piece-unanswered all p s0 _ _ _ h _ c.read_next.new.lines.chunk.items rested (piece-lines _ begun.0 t.bytes _ begun.1 t.holds) (rw is at (rw keeps at kept)), tt);
+          (piece-unanswered h _ rested (piece-lines _ begun.0 t.bytes begun.1 t.holds) (rw is at (rw keeps at kept)), tt);
       asked = each-fails _ _ _ _ _ _ _ _ _ _ _ _ _ c.in_ok-came.ensures.ok (kept-silent _ _ _ _ c.in_ok-keep_chunk.ensures.kept);
       fault = each-failure _ c.args.clerk.now.limit _ _ _ _ _ _ _ _ _ fault.Memory tt
           (λ line e. let t = (c.in_ok-came.ensures.ok line e).0 in (t.bytes, t.taken));
@@ -75,7 +75,7 @@ feed_chunk-requires g c =
     let begun = c.requires.begun in (
       search rules,
       (
-        rw c.deref-3.ensures.value (took-whole _ begun.0 [] _ _ _ _ _ _ _ (c.in_ok-came.ensures.ok begun.0 begun.2).0),
+        rw c.deref-3.ensures.value (took-whole [] (c.in_ok-came.ensures.ok begun.0 begun.2).0),
         record { window = c.requires.window; empty = c.requires.empty },
       ),
     )
@@ -90,23 +90,22 @@ returns-in_err-feed_chunk-clause-goes g c =
     record {
       rests = ok-of-err _ c.from_residual-in_err-feed_chunk.result bad;
       ok = ok-of-err _ c.from_residual-in_err-feed_chunk.result bad;
-      err = on_err _ (each-unanswered _ _ _ _ _ _ _ _ _ _ _ c.read_next.new.lines.chunk.items _ _ _
-          (λ line e. took-kept _ line _ _ _ _ _ _ _ (c.in_ok-came.ensures.ok line e).0
+      err = on_err _ (each-unanswered _ _ _ _ _ _ _ _ _ _ _ c.read_next.new.lines.chunk.items _ _ _ (λ line e. took-kept (c.in_ok-came.ensures.ok line e).0
           (appends-kept _ _ _ _ (kept-log _ _ _ _ kept) (told-log _ _ _ _ _ c.feed_chunk.result c.feed_chunk.ensures.told)))
-          (each-kept _ _ _ _ _ _ (kept-out _ _ _ _ kept) (rw c.deref-3.ensures.value at c.in_err-feed_chunk.ensures.err)));
+          (each-kept _ _ _ _ (kept-out _ _ _ _ kept) (rw c.deref-3.ensures.value at c.in_err-feed_chunk.ensures.err)));
       live = c.feed_chunk.ensures.told.0;
       told = λ off. told-after _ _ _ _ _ c.from_residual-in_err-feed_chunk.result (rw off at c.in_ok-keep_chunk.ensures.kept)
-          (told-failed _ _ _ _ c.from_residual-in_err-feed_chunk.result bad c.in_err-feed_chunk.ensures.told);
+          (told-failed _ _ c.from_residual-in_err-feed_chunk.result bad c.in_err-feed_chunk.ensures.told);
       safe = λ keeps live. lives-err _ _ _ _ _ _ _ _ c.feed_chunk.result c.from_residual-in_err-feed_chunk.result bad
-          (piece-safe c.args.clerk.now.desk.site c.feed_chunk.new.clerk.desk.site c.args.clerk.now.answered c.feed_chunk.new.clerk.answered _ _ _ _ _
-          c.read_next.new.lines.chunk.items _ _ c.feed_chunk.result live (piece-lines _ begun.0 t.bytes _ begun.1 t.holds)
+          (piece-safe c.args.clerk.now.desk.site c.feed_chunk.new.clerk.desk.site c.args.clerk.now.answered c.feed_chunk.new.clerk.answered _ _ _ _ _ _
+          c.feed_chunk.result live (piece-lines _ begun.0 t.bytes begun.1 t.holds)
           (rw keeps at kept) c.feed_chunk.ensures.told (rw c.deref-3.ensures.value at c.feed_chunk.ensures.ok)
           (rw c.deref-3.ensures.value at c.feed_chunk.ensures.err) (rw c.deref-3.ensures.value at c.feed_chunk.ensures.leads));
       asked = on_fault _ c.from_residual-in_err-feed_chunk.result bad (each-fails _ _ _ _ _ _ _ _ _ _ _ _ _ c.in_ok-came.ensures.ok
           (silent-more _ _ _ (kept-silent _ _ _ _ c.in_ok-keep_chunk.ensures.kept) (told-silent _ _ _ _ c.feed_chunk.result c.feed_chunk.ensures.told)));
       fault = err-is _ _ c.from_residual-in_err-feed_chunk.result _ c.from_residual-in_err-feed_chunk.ensures.1
           (each-caused _ c.args.clerk.now.limit _ _ _ _ _ _ _ _ _ _ c.read_next.new.lines.chunk.items _ _ _ _ (λ line e. (c.in_ok-came.ensures.ok line e).0)
-          (each-kept _ _ _ _ _ _ (kept-out _ _ _ _ kept) (rw c.deref-3.ensures.value at c.in_err-feed_chunk.ensures.fault)));
+          (each-kept _ _ _ _ (kept-out _ _ _ _ kept) (rw c.deref-3.ensures.value at c.in_err-feed_chunk.ensures.fault)));
     }
 
 -- it was
@@ -121,26 +120,24 @@ returns-clause-goes g c =
         window = c.in_ok-feed_chunk.ensures.idle.window;
         empty = c.in_ok-feed_chunk.ensures.idle.empty;
         begun = (begun_after begun.0 t.bytes, begun-no-end begun.0 t.bytes begun.1, t.begun);
-        listed = listed-after c.args.clerk.now.desk.site.place c.args.clerk.now.desk.site.state _ c.read_next.new.lines.chunk.items _ _
+        listed = listed-after c.args.clerk.now.desk.site.place c.args.clerk.now.desk.site.state
             (subst (AreListed c.args.clerk.now.desk.site.state) (sym c.read_next.ensures.others.1) c.requires.listed)
             (rw c.deref-2.ensures.value at c.let_go.ensures) led.state;
       };
-      ok = each-more _ _ _ _ _ _ _ _ _ _ _ _ _ c.read_next.new.lines.chunk.items _ _ _ _ _
-          (λ line e. took-kept _ line _ _ _ _ _ _ _ (c.in_ok-came.ensures.ok line e).0
+      ok = each-more _ _ _ _ _ _ _ _ _ _ _ _ _ c.read_next.new.lines.chunk.items _ _ _ _ (λ line e. took-kept (c.in_ok-came.ensures.ok line e).0
           (appends-kept _ _ _ _ (kept-log _ _ _ _ kept) (told-log _ _ _ _ _ c.feed_chunk.result c.feed_chunk.ensures.told)))
-          (each-kept _ _ _ _ _ _ (kept-out _ _ _ _ kept) (rw c.deref-3.ensures.value at c.in_ok-feed_chunk.ensures.ok))
-          (search rules);
+          (each-kept _ _ _ _ (kept-out _ _ _ _ kept) (rw c.deref-3.ensures.value at c.in_ok-feed_chunk.ensures.ok)) (search rules);
       err = tt;
       live = c.feed_chunk.ensures.told.0;
       told = λ off.
           let told = c.in_ok-feed_chunk.ensures.told in
-          (told.0, (told.1.0, tells-after _ _ _ _ told.1.0 [] (rw off at c.in_ok-keep_chunk.ensures.kept) told.1.1));
-      safe = λ keeps live. lives-known _ _ _ _ _ _ _ _ c.feed_chunk.result _ c.in_ok-feed_chunk.was
-          (piece-safe c.args.clerk.now.desk.site c.feed_chunk.new.clerk.desk.site c.args.clerk.now.answered c.feed_chunk.new.clerk.answered _ _ _ _ _
-          c.read_next.new.lines.chunk.items _ _ c.feed_chunk.result live (piece-lines _ begun.0 t.bytes _ begun.1 t.holds)
+          (told.0, (told.1.0, tells-after _ _ _ _ (rw off at c.in_ok-keep_chunk.ensures.kept) told.1.1));
+      safe = λ keeps live. lives-known _ _ _ _ _ _ _ _ c.in_ok-feed_chunk.was
+          (piece-safe c.args.clerk.now.desk.site c.feed_chunk.new.clerk.desk.site c.args.clerk.now.answered c.feed_chunk.new.clerk.answered _ _ _ _ _ _
+          c.feed_chunk.result live (piece-lines _ begun.0 t.bytes begun.1 t.holds)
           (rw keeps at kept) c.feed_chunk.ensures.told (rw c.deref-3.ensures.value at c.feed_chunk.ensures.ok)
           (rw c.deref-3.ensures.value at c.feed_chunk.ensures.err) (rw c.deref-3.ensures.value at c.feed_chunk.ensures.leads));
-      asked = each-asks _ _ _ _ _ _ _ _ _ _ _ _ _ _ _ c.in_ok-came.ensures.ok
+      asked = each-asks _ _ _ _ _ _ _ _ _ _ _ _ c.in_ok-came.ensures.ok
           (silent-more _ _ _ (kept-silent _ _ _ _ c.in_ok-keep_chunk.ensures.kept) (told-silent _ _ _ _ c.feed_chunk.result c.feed_chunk.ensures.told)) led;
       fault = c.in_ok-feed_chunk.ensures.fault;
     }

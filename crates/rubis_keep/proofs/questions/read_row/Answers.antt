@@ -5,5 +5,5 @@ use Rattle.rubis_keep.proofs.questions.read_row.Goals as goal
 pub returns-else-ne : goal.returns-else-ne
 returns-else-ne c =
     let f = c.in-3-Some-Some-Some in
-    row-three c.args.sites c.args.fields.now f.word.now f.table.now f.name.now c.read_key.result (search rules) (search rules) (search rules) (search rules)
+    row-three c.args.sites c.args.fields.now f.word.now f.table.now (search rules) (search rules) (search rules) (search rules)
     (search rules) c.read_key.ensures

@@ -15,8 +15,8 @@ returns-in_err-cut_and_flush g c =
     let cut = c.in_err-cut_and_flush.ensures.err in
     record {
       ok = ok-of-err _ c.from_residual.result bad;
-      err = on_err _ (cut-fails _ _ _ _ _ _ _ cut);
-      safe = λ all p s kept old h is sound found led r. go-safe-uncut all _ p s kept old _ h _ _ _ sound found (rw is at r) (rw is at cut);
+      err = on_err _ (cut-fails _ _ _ cut);
+      safe = λ all p s kept old h is sound found led r. go-safe-uncut p s h _ sound found (rw is at r) (rw is at cut);
       shown = λ all p s kept old h is sound found led r. ok-of-err _ c.from_residual.result bad;
       asked = λ p s kept sound led. replies-none p s kept _ _ _ c.from_residual.result bad (silent-uncut _ _ _ cut);
       fault = λ all kept old sound r l. ends-unread c.args.clerk.now.limit all kept old _ c.from_residual.result _ c.from_residual.ensures.1
@@ -31,8 +31,8 @@ returns-in_err-tell_replayed g c =
     let untold = c.in_err-tell_replayed.ensures.err in
     record {
       ok = ok-of-err _ c.from_residual-in_err-tell_replayed.result bad;
-      err = on_err _ (begin-fails _ _ _ _ _ _ _ _ cut untold);
-      safe = λ all p s kept old h is sound found led r. go-safe-untold all _ p s kept old _ h _ _ _ _ sound found (rw is at r)
+      err = on_err _ (begin-fails _ _ _ _ cut untold);
+      safe = λ all p s kept old h is sound found led r. go-safe-untold p s h _ _ sound found (rw is at r)
           (none-told-at-end c.args.clerk.now.desk.site (c.args.clerk.now.answered + 1)) (rw is at cut) untold;
       shown = λ all p s kept old h is sound found led r. ok-of-err _ c.from_residual-in_err-tell_replayed.result bad;
       asked = λ p s kept sound led. replies-none p s kept _ _ _ c.from_residual-in_err-tell_replayed.result bad
@@ -46,20 +46,19 @@ returns g c =
     let flushed = c.in_ok-cut_and_flush.ensures.ok in
     let told = c.in_ok-tell_replayed.ensures.ok in
     let cut = begun-cut _ _ _ _ _ _ flushed told in
-    let unread = none-unread _ _ c.restart.ensures in
+    let unread = none-unread _ c.restart.ensures in
     record {
-      ok = on_ok_both c.answer_pieces.result (go-ok-read _ _ _ _ _ _ _ _ _ _ _ _ _ _ _ _ _ _ _ _ unread cut.0 c.new.ensures cut.1)
+      ok = on_ok_both c.answer_pieces.result (go-ok-read _ _ _ _ _ _ _ _ _ _ _ unread cut.0 c.new.ensures cut.1)
           c.answer_pieces.ensures.goes.ok c.answer_pieces.ensures.end;
-      err = on_err_weaker c.answer_pieces.result (go-err-read _ _ _ _ _ _ _ _ _ _ _ _ _ _ _ unread cut.0 c.new.ensures cut.1)
-          c.answer_pieces.ensures.goes.err;
-      safe = λ all p s kept old h is sound found led r. go-safe all p s c.args.clerk.now.desk.site c.answer_pieces.new.clerk.desk.site kept old _ _ h _ _ _ _ _ _
-          c.answer_pieces.result sound found led (rw is at r) (rw is at flushed) told (c.answer_pieces.ensures.goes.safe refl refl);
-      shown = λ all p s kept old h is sound found led r. go-shown all p s c.args.clerk.now.desk.site c.answer_pieces.new.clerk.desk.site kept old _ _ h _ _ _ _ _ _
-          c.answer_pieces.result sound found led (rw is at r) (rw is at flushed) told (c.answer_pieces.ensures.goes.safe refl refl);
-      asked = λ p s kept sound led. go-replies p s kept _ _ _ _ _ _ _ _ _ _ _ _ _ c.answer_pieces.result unread
+      err = on_err_weaker c.answer_pieces.result (go-err-read _ _ _ _ _ _ unread cut.0 c.new.ensures cut.1) c.answer_pieces.ensures.goes.err;
+      safe = λ all p s kept old h is sound found led r. go-safe c.answer_pieces.new.clerk.desk.site _ h _ _ _ _ c.answer_pieces.result sound found led
+          (rw is at r) (rw is at flushed) told (c.answer_pieces.ensures.goes.safe refl refl);
+      shown = λ all p s kept old h is sound found led r. go-shown c.answer_pieces.new.clerk.desk.site _ h _ _ _ _ c.answer_pieces.result sound found led
+          (rw is at r) (rw is at flushed) told (c.answer_pieces.ensures.goes.safe refl refl);
+      asked = λ p s kept sound led. go-replies kept _ _ _ _ _ _ _ _ _ c.answer_pieces.result unread
           (silent-more _ _ _ (silent-cut _ _ _ flushed) (silent-begun _ _ _ _ told))
           c.answer_pieces.ensures.goes.asked c.answer_pieces.ensures.end c.new.ensures sound led;
-      fault = go-ends _ _ c.args.clerk.now.limit _ _ _ _ _ _ _ _ _ _ _ _ _ _ _ _ _ _ c.answer_pieces.result unread c.new.ensures cut.1
+      fault = go-ends _ c.args.clerk.now.limit _ _ _ _ _ _ _ _ _ _ _ _ _ c.answer_pieces.result unread c.new.ensures cut.1
           c.answer_pieces.ensures.goes.ok c.answer_pieces.ensures.end c.answer_pieces.ensures.goes.fault;
     }
 

@@ -17,9 +17,8 @@ pub returns-in-Ok-eq0 : goal.returns-in-Ok-eq0
 returns-in-Ok-eq0 g c =
     let come = c.loop-turn.invariant.come in
     let none : c.in-Ok-eq0.field-0 ≡ 0 = search rules in
-    short-ends c.args.desk.now.site.place c.args.desk.now.site.state c.loop-turn.desk.site.state _ _ _ _ _ come.0 _ c.loop-turn.line.items come.1 come.2
-    c.in-Ok-eq0.ensures.bytes.0
-    (ap (λ n. take n c.read_through_signals.new.buf) none) (c.in-Ok-eq0.ensures.bytes.1 none (search rules)) come.3 come.4
+    short-ends c.args.desk.now.site.place c.args.desk.now.site.state c.loop-turn.desk.site.state _ _ _ _ _ come.0 c.loop-turn.line.items come.2
+    c.in-Ok-eq0.ensures.bytes.0 (ap (λ n. take n c.read_through_signals.new.buf) none) (c.in-Ok-eq0.ensures.bytes.1 none (search rules)) come.3 come.4
 
 pub loop-turn-preserved : goal.loop-turn-preserved
 loop-turn-preserved g c =
@@ -37,9 +36,8 @@ loop-turn-preserved g c =
         appends-more _ _ _ come.1 c.take_piece.new.text.items come.3 (subst (Appends _ _) c.deref.ensures.value c.in_default.ensures.ok),
         short-more c.args.desk.now.site.place c.args.desk.now.site.state c.loop-turn.desk.site.state c.take_piece.new.desk.site.state come.0 more
             c.loop-turn.line.items c.take_piece.new.line.items come.1 c.take_piece.new.text.items come.4
-            (piece-taken c.args.desk.now.site.place c.loop-turn.desk.site.place c.args.desk.now.site.state c.loop-turn.desk.site.state
-            c.take_piece.new.desk.site.state
-            c.loop-turn.line.items c.take_piece.new.line.items c.clear.new.self.items c.take_piece.new.text.items more before.place c.clear.ensures.items
+            (piece-taken c.take_piece.new.desk.site.state c.take_piece.new.line.items c.clear.new.self.items c.take_piece.new.text.items more before.place
+            c.clear.ensures.items
             c.in_ok-take_piece-in-Ok.ensures.short),
       );
     }

@@ -8,23 +8,20 @@ turns-init g c = line-starts _ _ _ _ c.new-records.ensures
 
 pub returns-then-not-branch-clause-takes : goal.returns-then-not-branch-clause-takes
 returns-then-not-branch-clause-takes g c =
-    line-ends _ c.turns.records c.advance.new.self _ _ _ _ c.turns.invariant
-    (takes-at _ c.turns.records c.advance.new.self _ false c.if-not-branch.true c.in_ok-advance.ensures.takes)
+    line-ends c.advance.new.self c.turns.invariant (takes-at _ c.turns.records c.advance.new.self _ false c.if-not-branch.true c.in_ok-advance.ensures.takes)
 
 pub turns-preserved-then-branch : goal.turns-preserved-then-branch
 turns-preserved-then-branch g c =
     let found = takes-at _ c.turns.records c.advance.new.self _ true c.if-not-branch.false c.in_ok-advance.ensures.takes in
     let takes = rw c.fields.ensures at c.in_ok-take_record.ensures.takes in
-    line-more _ c.turns.records c.advance.new.self _ c.args.desk.now.site c.turns.desk.site c.take_record.new.desk.site
-    c.turns.changed c.in_ok-take_record.field-0 true
+    line-more c.advance.new.self c.take_record.new.desk.site c.in_ok-take_record.field-0 true
     c.turns.invariant found c.in_ok-take_record.ensures.place takes (λ no_more. absurd (cc no_more)) (λ no_more. absurd (cc no_more))
 
 pub turns-preserved : goal.turns-preserved
 turns-preserved g c =
     let found = takes-at _ c.turns.records c.advance.new.self _ true c.if-not-branch.false c.in_ok-advance.ensures.takes in
     let takes = rw c.fields.ensures at c.in_ok-take_record.ensures.takes in
-    line-more _ c.turns.records c.advance.new.self _ c.args.desk.now.site c.turns.desk.site c.take_record.new.desk.site
-    c.turns.changed c.in_ok-take_record.field-0 c.turns.changed
+    line-more c.advance.new.self c.take_record.new.desk.site c.in_ok-take_record.field-0 c.turns.changed
     c.turns.invariant found c.in_ok-take_record.ensures.place takes (λ same. same) (λ same. c.if-branch.false)
 
 pub turns-smaller-then-branch : goal.turns-smaller-then-branch

@@ -21,8 +21,7 @@ loop-byte-preserved g c =
       short = λ s done told sound h.
           let more = done_more done piece i (search rules) in
           subst (λ d. IsShort c.args.desk.now.site.place s d c.take_next.new.line.items (told ++ c.take_next.new.text.items) c.take_next.new.desk.site.state)
-          (sym more)
-          (at-place c.args.desk.now.site.place c.loop-byte.desk.site.place s _ _ (done ++ take i piece) _ _ _ _ _ c.loop-byte.invariant.place
+          (sym more) (at-place _ _ _ _ c.loop-byte.invariant.place
           (c.in_ok-take_next.ensures.short s (done ++ take i piece) told (subst (AreSound []) more (front-sound done piece (i + 1) sound)))
           (c.loop-byte.invariant.short s done told sound h));
     }

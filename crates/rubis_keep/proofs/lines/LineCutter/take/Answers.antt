@@ -9,7 +9,7 @@ use Rattle.rubis_keep.proofs.lines.LineCutter.take.Goals.{then-is_sound+in_ok-ex
 use Rattle.rubis_keep.proofs.lines.LineCutter.take.Goals as goal
 
 pub loop-byte-init : goal.loop-byte-init
-loop-byte-init c = record { taken = refl; cut = λ line h. cut-none c.args.asks line _ _ _ (c.self.view_is ∙ h) }
+loop-byte-init c = record { taken = refl; cut = λ line h. cut-none c.args.asks line _ _ (c.self.view_is ∙ h) }
 
 pub loop-byte-preserved-then-byte-ne10 : goal.loop-byte-preserved-then-byte-ne10
 loop-byte-preserved-then-byte-ne10 c =
@@ -22,11 +22,11 @@ loop-byte-preserved-then-byte-ne10 c =
           let more = begun_after line (take i piece) in
           elim c.if-len-le-LINE_MAX.branch [
             | then-len-le-LINE_MAX+in_ok-push w ↦
-                rw w.self-inside-is (cut-next c.args.asks line piece _ _ _ _ _ _ _ false i (search rules) before
-                (cut-pushed c.args.asks more _ _ _ _ _ (ne_eqb _ 10 c.if-byte-ne10.true) before.begins (search rules) w.in_ok-push.ensures.items))
+                rw w.self-inside-is (cut-next piece i (search rules) before
+                (cut-pushed c.args.asks more _ _ _ (ne_eqb _ 10 c.if-byte-ne10.true) before.begins (search rules) w.in_ok-push.ensures.items))
             | else-len-le-LINE_MAX w ↦
-                rw w.self-inside-is (cut-next c.args.asks line piece _ _ _ _ _ _ _ false i (search rules) before
-                (cut-stays c.args.asks more _ _ _ _ (ne_eqb _ 10 c.if-byte-ne10.true) before.begins (search rules)))
+                rw w.self-inside-is (cut-next piece i (search rules) before
+                (cut-stays c.args.asks more _ _ _ (ne_eqb _ 10 c.if-byte-ne10.true) before.begins (search rules)))
           ];
     }
 
@@ -38,8 +38,8 @@ returns-then-eq-clause-cut c line h =
     let before = c.loop-byte.invariant.cut line h in
     let first : is_question begun ≡ true = search rules in
     let asked : (c.args.asks && is_question begun) ≡ true = rw (c.if-asks.true, first) refl in
-    rw c.loop-byte.invariant.taken (cut-next c.args.asks line piece _ _ _ _ _ _ _ true i (search rules) before
-    (rw c.if-byte-ne10.false (cut-ended c.args.asks (begun_after line (take i piece)) _ _ _ _ _ true before.begins c.clear-then-eq.ensures.items (sym asked)
+    rw c.loop-byte.invariant.taken (cut-next piece i (search rules) before
+    (rw c.if-byte-ne10.false (cut-ended c.args.asks (begun_after line (take i piece)) _ _ before.begins c.clear-then-eq.ensures.items (sym asked)
     (λ e. c.in_ok-extend_from_slice.ensures.items ∙ (λ j. c.clear.ensures.items j ++ c.deref-then-eq.ensures.value j)) (rw asked (sym (append-nil _))))))
 
 pub loop-byte-preserved : goal.loop-byte-preserved
@@ -68,8 +68,8 @@ loop-byte-preserved c =
       taken = ap (λ n. n + 1) c.loop-byte.invariant.taken;
       cut = λ line h.
           let before = c.loop-byte.invariant.cut line h in
-          cut-next c.args.asks line piece _ _ _ _ _ _ _ false i (search rules) before
-          (rw c.if-byte-ne10.false (cut-ended c.args.asks (begun_after line (take i piece)) _ _ _ _ _ false before.begins c.clear-in-loop-byte.ensures.items (sym asked)
+          cut-next piece i (search rules) before
+          (rw c.if-byte-ne10.false (cut-ended c.args.asks (begun_after line (take i piece)) _ _ before.begins c.clear-in-loop-byte.ensures.items (sym asked)
           (λ e. absurd (cc e)) (rw asked added)));
     }
 
