@@ -11,6 +11,7 @@ import shop_web.schemas
 from tests.folder import Folder
 from tests.needs import TOP, need
 from tests.web import CSV, JSON, Web
+from traffic import KINDS
 
 Schema = dict[str, Any]
 STREAM = "text/event-stream"
@@ -65,7 +66,7 @@ def test_limits_and_examples_of_the_description(web: Web) -> None:
             assert (why := why_invalid(said, schema, example)) is None, f"{where}: {why}"
     named = said["components"]["schemas"]
     assert all(schema.get("examples") for schema in named.values()), "what is named has an example as a whole"
-    assert len(named["ask"]["examples"]) == len(named["ask"]["oneOf"]) == 9, "each kind of ask has one"
+    assert len(named["ask"]["examples"]) == len(named["ask"]["oneOf"]) == 1 + len(KINDS), "each kind of ask has one"
     item = named["ask"]["examples"][1]
     for wrong in ({"ask": "user", "nickname": "Ann"}, {"ask": "user"}, {"record": ""}, {"ask": "close", "item": "00.3", "seller": "0.1"},
                   item | {"name": "x" * 65}, item | {"category": 1000}, item | {"stock": 0}, item | {"start": "-1"}, item | {"key": ""}):
@@ -87,7 +88,7 @@ def test_examples_are_accepted(at: Folder) -> None:
     said = web.get("/openapi.json").json
     asks = said["paths"]["/sites/{site}/asks"]["post"]
     examples = {example.get("ask", "record"): example for example in said["components"]["schemas"]["ask"]["examples"]}
-    for kind in sorted(examples, key=["user", "record", "item", "bid", "buy", "comment", "restock", "rename", "close"].index):
+    for kind in sorted(examples, key=lambda kind: (kind == "close", kind not in ("user", "record"), kind != "item")):
         told = web.post("/sites/0/asks", examples[kind])
         assert told.status in (200, 201) and told.json["answer"] == "ok", f"{kind}: {told}"
         assert (why := why_invalid(said, answer_of(asks), told.json)) is None, why

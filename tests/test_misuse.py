@@ -131,7 +131,8 @@ def test_requests_that_are_none(web: Web) -> None:
             (web.get("/sites/0/bids?item=x"), "`item` is an id, as 0.3, and not x"),
             (web.get("/sites/0/comments?to=ann"), "`to` is an id, as 0.1, and not ann"),
             (web.get("/sites/0/items?seller=ann"), "`seller` is an id, as 0.1, and not ann"),
-            (web.get("/sites/0/users?limit=x"), "`limit` is a number from 1 to 10000"), (web.get("/sites/0/users?x=1"), "there is no x here"),
+            *((web.get(f"/sites/0/users?limit={limit}"), "`limit` is a number from 1 to 10000") for limit in ("x", 0, 10_001)),
+            (web.get("/sites/0/users?x=1"), "there is no x here"),
             (web.get("/sites/0/users?after=zzz"), "there is no row 'zzz' in list,users")):
         assert said.status == 400 and says in said.json["detail"], said.text
     assert web.get("/nothing").status == 404 and web.get("/sites/9/view").json["detail"] == "there is no site 9: this shop has 1"

@@ -44,14 +44,17 @@ def test_other_tables() -> None:
     assert set(re.findall(r'says\(word, b"(\w+)"\)', (TOP / "crates/rubis_message/src/kinds.rt").read_text())) == KINDS.keys() | OTHERS
     assert {kind.decode() for kind in records.RED} == RED
     assert KINDS.keys() - {"close"} == messages.TOLD.keys() and KINDS.keys() < sources.REQUESTS
-    refers = re.search(r"^const REFERS = {(.*)};$", (TOP / "picture_tool/web/run.js").read_text(), re.M)
-    assert refers and set(re.findall(r"(\w+):", refers[1])) == KINDS.keys()
+    said = dict(re.findall(r"^const (REFERS|TOLD) = {(.*)};$", (TOP / "picture_tool/web/run.js").read_text(), re.M))
+    assert set(re.findall(r"(\w+):", said["REFERS"])) == KINDS.keys()
+    assert {kind: int(at) for kind, at in re.findall(r"(\w+): (\d+)", said["TOLD"])} == messages.TOLD
 
 
 def test_asks_over_http() -> None:
     need("python3:aiohttp")
+    from shop_web.access import ASKERS
     from shop_web.asks import FIELDS as asked
     assert asked == {kind: it.asked for kind, it in KINDS.items()}
+    assert ASKERS.keys() == KINDS.keys() - {"user"}
 
 
 def subclasses(kind: type[Fields]) -> list[type[Fields]]:
