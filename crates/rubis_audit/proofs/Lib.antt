@@ -3,7 +3,6 @@ pub mod Awaiting
 pub mod CheckFacts
 pub mod Collecting
 pub mod Comparing
-pub mod FieldFacts
 pub mod Finding
 pub mod Judging
 pub mod Knowing

@@ -1,43 +1,34 @@
 -- What is written of the records of an input.
--- A record of a site gets no row exactly when `packet_of` or `request_of` has a value for it, and one of a world exactly when `world_input`
--- is an event, with a request if it is one at a site. Not proved: that `site_fault` and `world_fault` find something in every other record
--- (its row would say `not in the grammar`), that `audit_fault` finds something exactly in what an audit calls BadRecord, in which lines a
--- record stands, and what was written at an error. Every conversation of the tests is checked, and has to get rows for the records that
--- were refused there, and for no others.
-use Rattle.std.specs.Prelude.{◌≡◌, ◌<◌, ◌≤◌, ℕ, ◌+◌, Bool, true, false, unwrap_or, List, [], ◌∷◌, ◌++◌, codes, decimal, drop, get_or, Option, Some, None}
+-- A record of a site gets no row exactly when `input_of` says that it is a packet or a request, and one of a world exactly when
+-- `world_input` is an event, with a request if it is one at a site. Not proved: that no row of a site or a world says `not in the grammar`,
+-- that `record_fault` finds something exactly in what an audit calls BadRecord, in which lines a record stands, and what was written at an
+-- error. Every conversation of the tests is checked, and has to get rows for the records that were refused there, and for no others.
+use Rattle.std.specs.Prelude.{◌≡◌, ◌<◌, ◌≤◌, ℕ, ◌+◌, Bool, true, if◌then◌else◌, List, [], ◌∷◌, ◌++◌, codes, decimal, drop, get_or, Option, Some, None}
 use Rattle.std.specs.Io.KnownBytes.{Appends}
 use Rattle.rubis_schema.specs.declared.limits.TheConstants.{COUNTED_MAX, RECORDS_MAX}
 use Rattle.rubis_engine.specs.Reading.{HasToGive}
 use Rattle.rubis_engine.specs.Text.{rows_text}
-use Rattle.rubis_audit.specs.Readings.{is_event, is_site_record}
-use Rattle.rubis_audit.specs.RecordFaults.{audit_fault, fault, place_after, site_fault, world_fault}
+use Rattle.rubis_audit.specs.Readings.{is_read}
+use Rattle.rubis_audit.specs.RecordFaults.{place_after, record_fault}
 use Rattle.rubis_audit.specs.Reasons.{reason_text}
 use Rattle.rubis_audit.specs.declared.checker.Check.{Check}
 use Rattle.rubis_audit.specs.declared.checker.Checker.{Checker}
 use Rattle.rubis_audit.specs.declared.checker.Grammar.{Grammar}
-use Rattle.rubis_audit.specs.declared.checker.Grammar.TheVariants.{Site, World, Audit}
+use Rattle.rubis_audit.specs.declared.checker.Grammar.TheVariants.{Audit}
 use Rattle.rubis_audit.specs.declared.checker.Tally.{Tally}
 use Rattle.rubis_audit.specs.declared.line_reader.Recent.{Recent}
 use Rattle.rubis_audit.specs.declared.reasons.Lines.{Lines}
 use Rattle.rubis_audit.specs.declared.record_faults.RecordFault.{RecordFault}
 use Rattle.rubis_audit.specs.declared.widener.LinePlace.{LinePlace}
 use Rattle.rubis_audit.specs.declared.widener.LinePlace.TheVariants.{BeforeLogs}
-use Rattle.rubis_audit.specs.declared.record_faults.Reason.TheVariants.{Other}
 
 -- the bytes that a reader has left which remembers some
 abbrev pub recent : {R : Type 0} → (R → Option (List ℕ)) → Recent R → Option (List ℕ)
 recent rem r = rem r.inner
 
--- nothing is wrong with what is read, and something with all else
-abbrev pub fault_unless : Bool → Option RecordFault → Option RecordFault
-fault_unless true found = None
-fault_unless false found = Some (unwrap_or found (fault 0 Other))
-
--- what is wrong with a record that is read so
+-- what is wrong with a record of that grammar which stands there: nothing with what is read
 abbrev pub fault_for : Grammar → ℕ → LinePlace → List (List ℕ) → Option RecordFault
-fault_for Site sites place fields = fault_unless (is_site_record sites fields) (site_fault sites fields)
-fault_for World sites place fields = fault_unless (is_event sites fields) (world_fault sites fields)
-fault_for Audit sites place fields = audit_fault sites place fields
+fault_for grammar sites place fields = if is_read grammar sites fields then None else record_fault grammar sites place fields
 
 -- where the next one stands, after one with that fault or none
 abbrev pub place_for : Grammar → LinePlace → List (List ℕ) → Option RecordFault → LinePlace

@@ -1,7 +1,7 @@
 pub mod Checking
 pub mod Claimed
 pub mod Contents
-pub mod FieldRules
+pub mod Forms
 pub mod Lacks
 pub mod Lines
 pub mod Lookups
@@ -10,9 +10,9 @@ pub mod Places
 pub mod Readings
 pub mod Reasons
 pub mod RecordFaults
+pub mod Rules
 pub mod Running
 pub mod Seen
-pub mod Shapes
 pub mod Soundness
 pub mod Waits
 pub mod Walks

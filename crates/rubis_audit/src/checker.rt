@@ -1,21 +1,17 @@
 //! The check of an input: a row for each record that is outside the grammar.
 
-ghost use Rattle.std.specs.Prelude.{◌≡◌, ◌≤◌, ◌∷◌, ◌++◌, ℕ, List, [], IfOk, IfSome, OnOk, Option, unwrap_or};
+ghost use Rattle.std.specs.Prelude.{◌≡◌, ◌≤◌, ◌∷◌, ◌++◌, ℕ, List, [], IfOk, IfSome, OnOk, Option};
 ghost use Rattle.std.specs.Bool.{MatchBool};
 ghost use Rattle.rubis_schema.specs.declared.limits.TheConstants.{COUNTED_MAX};
 ghost use Rattle.rubis_engine.specs.Reading.{ReadsNext};
 ghost use Rattle.rubis_engine.specs.Text.{input_records, rows_text};
 ghost use Rattle.rubis_audit.specs.Checking.{CanCheckOneMore, ChecksRow, CountsNext, HasChecked, HasCheckedAll, IsChecked, OfEachCheck, bad_row, checked_row};
 ghost use Rattle.rubis_audit.specs.Checking.{checker_after, fault_for, none_so_far, recent};
-ghost use Rattle.rubis_audit.specs.RecordFaults.{fault};
-ghost use Rattle.rubis_audit.specs.declared.record_faults.Reason.TheVariants.{Other};
 
 use crate::line_reader::LineReader;
-use crate::readings::{is_event, is_site_record};
+use crate::readings::is_read;
 use crate::reasons::{Lines, reason_text};
-use crate::record_faults::{
-    Reason, RecordFault, audit_fault, place_after, site_fault, world_fault,
-};
+use crate::record_faults::{RecordFault, place_after, record_fault};
 use crate::widener::LinePlace;
 use rubis_engine::{RunFault, Sink};
 use rubis_schema::{Fields, RECORDS_MAX, Record, push_number};
@@ -49,40 +45,16 @@ struct Checker {
     tally: Tally,
 }
 
-// The fault that was found in a record that couldn't be read.
-fn known(found: Option<RecordFault>) -> RecordFault
-    ensures { result ≡ unwrap_or found (fault 0 Other) }
-{
-    match found {
-        Some(fault) => fault,
-        None => RecordFault {
-            field: 0,
-            reason: Reason::Other,
-        },
-    }
-}
-
 impl Checker {
     // What is wrong with the next record, if anything.
     fn fault<F: Record>(&self, alloc: Global, fields: &F) -> Result<Option<RecordFault>, AllocError>
         requires { self.now.sites ≤ COUNTED_MAX }
         ensures { IfOk result (λ fault. fault ≡ fault_for self.now.grammar self.now.sites self.now.place (F.fields fields.now)) }
     {
-        match self.grammar {
-            Grammar::Site => {
-                if is_site_record(alloc, fields, self.sites)? {
-                    return Ok(None);
-                }
-                Ok(Some(known(site_fault(fields, self.sites))))
-            }
-            Grammar::World => {
-                if is_event(alloc, fields, self.sites)? {
-                    return Ok(None);
-                }
-                Ok(Some(known(world_fault(fields, self.sites))))
-            }
-            Grammar::Audit => Ok(audit_fault(fields, self.place, self.sites)),
+        if is_read(alloc, fields, self.grammar, self.sites)? {
+            return Ok(None);
         }
+        Ok(record_fault(fields, self.grammar, self.place, self.sites))
     }
 
     // Counts the next record, and says what is wrong with it, if anything.
@@ -98,13 +70,10 @@ impl Checker {
     {
         let fault = self.fault(alloc, fields)?;
         self.tally.records += 1;
-        match fault {
-            Some(_) => self.tally.bad += 1,
-            None => {
-                if let Grammar::Audit = self.grammar {
-                    self.place = place_after(fields, self.place);
-                }
-            }
+        match (self.grammar, fault) {
+            (_, Some(_)) => self.tally.bad += 1,
+            (Grammar::Audit, None) => self.place = place_after(fields, self.place),
+            _ => {}
         }
         Ok(fault)
     }

@@ -1,94 +1,58 @@
-//! What is wrong with a record: which field, and what it should be.
+//! What is wrong with a record: which field, and the rule that it breaks.
 
-ghost use Rattle.std.specs.Prelude.{◌≡◌, ◌≤◌, ◌+◌, drop};
+ghost use Rattle.std.specs.Prelude.{◌≡◌, ◌≤◌};
 ghost use Rattle.rubis_schema.specs.declared.limits.TheConstants.{COUNTED_MAX};
-ghost use Rattle.rubis_audit.specs.RecordFaults.{at_fault, audit_fault, changes_nothing, discord, fault_in, field_at, has_line_end};
-ghost use Rattle.rubis_audit.specs.RecordFaults.{has_room, in_quotes, is_next, line_end_at, line_end_from, misfit, misplaced, place_after};
-ghost use Rattle.rubis_audit.specs.RecordFaults.{shape_misfit, site_fault, unknown, world_fault};
+ghost use Rattle.rubis_audit.specs.Forms.{row};
+ghost use Rattle.rubis_audit.specs.RecordFaults.{discord, fault, fault_in, form_fault, further, has_line_end, has_section, is_next, line_end_at};
+ghost use Rattle.rubis_audit.specs.RecordFaults.{line_end_from, misfit, misplaced, place_after, record_fault, request_fault};
 
+use crate::checker::Grammar;
 use crate::counts::read_counts;
-use crate::field_rules::FieldRule;
-use crate::shapes::{Shape, audit_shape, request_shape, says, site_shape, world_shape};
+use crate::forms::Section::{self, At, Event, LogRow, LogSite, Message, Request, Token};
+use crate::forms::{Form, field_at, form_of, says};
+use crate::rules::Rule;
 use crate::widener::LinePlace;
-use rubis_message::RecordKind;
 use rubis_schema::{Record, SEQ_MAX, read_number};
 
-/// What is wrong with a field, or with a record.
-#[derive(Clone, Copy)]
-pub enum Reason {
-    /// No record begins so.
-    NoRecord,
-    /// No request begins so.
-    NoRequest,
-    /// It is an answer of a site, which goes to the others without its first field.
-    Answer,
-    /// A record of the shape has that many fields.
-    Count(Shape, usize),
-    /// The field isn't as the rule says.
-    Rule(FieldRule),
-    /// The count of a message's own site isn't that of the messages before it.
-    NotNext,
-    /// A rename whose nicknames are one.
-    SameNick,
-    /// No log has begun.
-    NoLog,
-    /// A message behind the rows of its log.
-    BehindRows,
-    /// The field has a line end.
-    LineEnd,
-    /// It isn't in the grammar.
-    Other,
-}
-
-/// What is wrong with a record: the number of the field, from 1, or 0 for the whole record; and why.
+/// What is wrong with a record: the number of the field, from 1, or 0 for the whole record; and the rule that it breaks.
 #[derive(Clone, Copy)]
 pub struct RecordFault {
     pub field: usize,
-    pub reason: Reason,
+    pub rule: Rule,
 }
 
-// The first of the fields from the place `from` on that isn't as its rule says.
-fn misfit<F: Record>(fields: &F, from: usize, rules: &[FieldRule], sites: u8) -> Option<RecordFault>
+// That the field breaks the rule.
+fn broken(field: usize, rule: Rule) -> Option<RecordFault>
+    ensures { result ≡ fault field rule }
+{
+    Some(RecordFault { field, rule })
+}
+
+// The first of the fields from the number `first` on that isn't as its rule says.
+fn misfit<F: Record>(fields: &F, first: usize, rules: &[Rule], sites: u8) -> Option<RecordFault>
     requires few { sites ≤ COUNTED_MAX }
-    requires near { from ≤ 9 }
-    ensures { result ≡ misfit sites (from + 1) rules.now (drop from (F.fields fields.now)) }
+    requires near { first ≤ 256 }
+    ensures { result ≡ misfit sites (F.fields fields.now) first rules.now }
 {
     for (place, rule) in rules.iter().enumerate() {
-        let field = fields.field(from + place)?;
-        if !rule.fits(field, sites) {
-            return Some(RecordFault {
-                field: from + place + 1,
-                reason: Reason::Rule(*rule),
-            });
+        if !rule.fits(field_at(fields, first + place), sites) {
+            return broken(first + place, *rule);
         }
     }
     None
 }
 
-// The first of the fields after the first word, which stands at the place `from`, that isn't as its rule says.
-fn shape_misfit<F: Record>(fields: &F, from: usize, shape: Shape, sites: u8) -> Option<RecordFault>
-    requires few { sites ≤ COUNTED_MAX }
-    requires near { from ≤ 2 }
-    ensures { result ≡ shape_misfit sites from shape (F.fields fields.now) }
+// What is wrong with the fields of a record of this form whose first word is the field with the number `start`.
+fn form_fault<F: Record>(fields: &F, start: u8, form: &Form, sites: u8) -> Option<RecordFault>
+    requires { sites ≤ COUNTED_MAX }
+    ensures { result ≡ form_fault sites start (F.fields fields.now) (row form.now) }
 {
-    let head = shape.head();
-    match misfit(fields, from + 1, head, sites) {
-        Some(fault) => Some(fault),
-        None => misfit(fields, from + 1 + head.len(), shape.tail(), sites),
+    let wanted = usize::from(start) + form.rules.len();
+    let given = fields.len();
+    if given < wanted || (given > wanted && !form.is_open) {
+        return broken(0, Rule::Count(start));
     }
-}
-
-/// The field with that number, from 1; nothing where there is none.
-pub fn field_at<F: Record>(fields: &F, number: usize) -> &[u8]
-    ensures { result.now ≡ field_at (F.fields fields.now) number }
-{
-    if number == 0 {
-        return &[];
-    }
-    match fields.field(number - 1) {
-        Some(field) => field,
-        None => &[],
-    }
+    misfit(fields, usize::from(start) + 1, form.rules, sites)
 }
 
 // Whether a message counts those of its own site before it.
@@ -96,132 +60,94 @@ fn is_next<F: Record>(fields: &F, sites: u8) -> bool
     requires { sites ≤ COUNTED_MAX }
     ensures { result ≡ is_next sites (F.fields fields.now) }
 {
-    let Some(site) = read_number(field_at(fields, 3), 255) else {
-        return false;
-    };
-    let Some(number) = read_number(field_at(fields, 4), u64::from(SEQ_MAX)) else {
-        return false;
-    };
-    let Some(counts) = read_counts(field_at(fields, 6), sites) else {
-        return false;
-    };
-    site < counts.len() as u64 && counts.is_next(site as u8, number)
-}
-
-// Whether it is a rename whose two nicknames are one.
-fn changes_nothing<F: Record>(fields: &F, shape: Shape) -> bool
-    ensures { result ≡ changes_nothing shape (F.fields fields.now) }
-{
-    match shape {
-        Shape::Sent(Some(RecordKind::Rename)) => says(field_at(fields, 9), field_at(fields, 10)),
+    let site = read_number(field_at(fields, 3), 255);
+    let number = read_number(field_at(fields, 4), u64::from(SEQ_MAX));
+    match (site, number, read_counts(field_at(fields, 6), sites)) {
+        (Some(site), Some(number), Some(counts)) => {
+            site < counts.len() as u64 && counts.is_next(site as u8, number)
+        }
         _ => false,
     }
 }
 
-// What is wrong with fields each of which is as its rule says.
-fn discord<F: Record>(fields: &F, shape: Shape, sites: u8) -> Option<RecordFault>
+// What is wrong with a message each field of which is as its rule says.
+fn discord<F: Record>(fields: &F, sites: u8) -> Option<RecordFault>
     requires { sites ≤ COUNTED_MAX }
-    ensures { result ≡ discord sites shape (F.fields fields.now) }
+    ensures { result ≡ discord sites (F.fields fields.now) }
 {
-    if !shape.is_sent() {
-        return None;
-    }
     if !is_next(fields, sites) {
-        return Some(RecordFault {
-            field: 6,
-            reason: Reason::NotNext,
-        });
+        return broken(6, Rule::Next);
     }
-    if changes_nothing(fields, shape) {
-        return Some(RecordFault {
-            field: 10,
-            reason: Reason::SameNick,
-        });
+    if says(field_at(fields, 7), b"rename") && says(field_at(fields, 9), field_at(fields, 10)) {
+        return broken(10, Rule::NewNick);
     }
     None
 }
 
-// Whether a record of this shape may have `given` fields, of which the shape names `wanted`.
-fn has_room(shape: Shape, wanted: usize, given: usize) -> bool
-    ensures { result ≡ has_room shape wanted given }
-{
-    if shape.is_open() {
-        wanted <= given
-    } else {
-        given == wanted
-    }
-}
-
-// What is wrong with a record of this shape whose first word stands at the place `from`.
-fn fault_in<F: Record>(fields: &F, from: usize, shape: Shape, sites: u8) -> Option<RecordFault>
-    requires few { sites ≤ COUNTED_MAX }
-    requires near { from ≤ 2 }
-    ensures { result ≡ fault_in sites from shape (F.fields fields.now) }
-{
-    let wanted = from + 1 + shape.head().len() + shape.tail().len();
-    if !has_room(shape, wanted, fields.len()) {
-        return Some(RecordFault {
-            field: 0,
-            reason: Reason::Count(shape, wanted),
-        });
-    }
-    match shape_misfit(fields, from, shape, sites) {
-        Some(fault) => Some(fault),
-        None => discord(fields, shape, sites),
-    }
-}
-
-// What is wrong with a request at a site of a world.
-fn at_fault<F: Record>(fields: &F, sites: u8) -> Option<RecordFault>
+// What is wrong with the request in a record of a world, from the third field on.
+fn request_fault<F: Record>(fields: &F, sites: u8) -> Option<RecordFault>
     requires { sites ≤ COUNTED_MAX }
-    ensures { result ≡ at_fault sites (F.fields fields.now) }
+    ensures { result ≡ request_fault sites (F.fields fields.now) }
 {
-    if fields.len() < 3 {
-        return Some(RecordFault {
-            field: 0,
-            reason: Reason::Count(Shape::At, 3),
-        });
-    }
-    if let Some(fault) = misfit(fields, 1, Shape::At.tail(), sites) {
-        return Some(fault);
-    }
-    match request_shape(fields, 2) {
-        Some(shape) => fault_in(fields, 2, shape, sites),
-        None => Some(RecordFault {
-            field: 3,
-            reason: Reason::NoRequest,
-        }),
+    match form_of(fields, 3) {
+        Some(form) if matches!(form.section, Request) => { form_fault(fields, 3, form, sites) }
+        _ => broken(3, Rule::Request),
     }
 }
 
-// What is wrong with a record that begins with no word that a record begins with.
-fn unknown<F: Record>(fields: &F) -> RecordFault
-    ensures { result ≡ unknown (F.fields fields.now) }
+// What is wrong with a record of that section, if each field is as its rule says and they agree: in an audit it may stand in the
+// wrong place, and elsewhere it couldn't be read.
+fn misplaced(grammar: Grammar, place: LinePlace, section: Section) -> Option<RecordFault>
+    ensures { result ≡ misplaced grammar place section }
 {
-    if says(field_at(fields, 1), b"send") {
-        return RecordFault {
-            field: 1,
-            reason: Reason::Answer,
-        };
-    }
-    RecordFault {
-        field: 1,
-        reason: Reason::NoRecord,
+    match (grammar, place, section) {
+        (Grammar::Site | Grammar::World, _, _) => broken(0, Rule::InGrammar),
+        (Grammar::Audit, _, LogSite) => None,
+        (Grammar::Audit, LinePlace::BeforeLogs, _) => broken(1, Rule::Log),
+        (Grammar::Audit, LinePlace::InRows, Message) => broken(1, Rule::BeforeRows),
+        (Grammar::Audit, _, _) => None,
     }
 }
 
-// What is wrong with where a record of an audit stands that is well otherwise.
-fn misplaced(place: LinePlace, shape: Shape) -> Option<RecordFault>
-    ensures { result ≡ misplaced place shape }
+// Whether a record of the grammar may have a form of that section.
+fn has_section(grammar: Grammar, section: Section) -> bool
+    ensures { result ≡ has_section grammar section }
 {
-    let reason = match (place, shape) {
-        (_, Shape::LogSite) | (LinePlace::InMessages, _) | (LinePlace::InRows, Shape::LogRow) => {
-            return None;
-        }
-        (LinePlace::BeforeLogs, _) => Reason::NoLog,
-        (LinePlace::InRows, _) => Reason::BehindRows,
-    };
-    Some(RecordFault { field: 1, reason })
+    match grammar {
+        Grammar::Site => matches!(section, Request | Message | Token),
+        Grammar::World => matches!(section, At | Event),
+        Grammar::Audit => matches!(section, Message | LogSite | LogRow),
+    }
+}
+
+// What is wrong with a record of that section each field of which is as its rule says.
+fn further<F: Record>(fields: &F, section: Section, sites: u8) -> Option<RecordFault>
+    requires { sites ≤ COUNTED_MAX }
+    ensures { result ≡ further sites (F.fields fields.now) section }
+{
+    match section {
+        Message => discord(fields, sites),
+        At => request_fault(fields, sites),
+        _ => None,
+    }
+}
+
+// What is wrong with a record, whatever line ends it has.
+fn fault_in<F: Record>(
+    fields: &F,
+    grammar: Grammar,
+    place: LinePlace,
+    sites: u8,
+) -> Option<RecordFault>
+    requires { sites ≤ COUNTED_MAX }
+    ensures { result ≡ fault_in grammar sites place (F.fields fields.now) }
+{
+    match form_of(fields, 1) {
+        Some(form) if has_section(grammar, form.section) => form_fault(fields, 1, form, sites)
+            .or(further(fields, form.section, sites))
+            .or(misplaced(grammar, place, form.section)),
+        _ => broken(1, Rule::Record),
+    }
 }
 
 // Whether a field has a line end, as only one in quotes has.
@@ -236,15 +162,14 @@ fn first_line_end<F: Record>(fields: &F) -> Option<usize>
     ensures { result ≡ line_end_from 1 (F.fields fields.now) }
 {
     for place in 0..fields.len() {
-        let field = fields.field(place)?;
-        if has_line_end(field) {
+        if has_line_end(fields.field(place)?) {
             return Some(place + 1);
         }
     }
     None
 }
 
-// The number of the field whose quote was left open, if it is that what is wrong.
+// The number of the field with a line end, if it is that what is wrong.
 fn line_end_at<F: Record>(fields: &F, number: usize) -> Option<usize>
     ensures { result ≡ line_end_at (F.fields fields.now) number }
 {
@@ -257,69 +182,31 @@ fn line_end_at<F: Record>(fields: &F, number: usize) -> Option<usize>
     None
 }
 
-// The fault, or that its field has a line end: a quote that wasn't closed swallowed what follows.
-fn in_quotes<F: Record>(fields: &F, fault: RecordFault) -> RecordFault
-    ensures { result ≡ in_quotes (F.fields fields.now) fault }
+/// What is wrong with a record of the grammar for `sites` sites that stands there, if anything: a quote that wasn't closed
+/// swallowed what follows if the field at fault has a line end.
+pub fn record_fault<F: Record>(
+    fields: &F,
+    grammar: Grammar,
+    place: LinePlace,
+    sites: u8,
+) -> Option<RecordFault>
+    requires { sites ≤ COUNTED_MAX }
+    ensures { result ≡ record_fault grammar sites place (F.fields fields.now) }
 {
+    let fault = fault_in(fields, grammar, place, sites)?;
     match line_end_at(fields, fault.field) {
-        Some(field) => RecordFault {
-            field,
-            reason: Reason::LineEnd,
-        },
-        None => fault,
+        Some(field) => broken(field, Rule::OneLine),
+        None => Some(fault),
     }
-}
-
-/// What is wrong with a record of one of `sites` sites, if anything.
-pub fn site_fault<F: Record>(fields: &F, sites: u8) -> Option<RecordFault>
-    requires { sites ≤ COUNTED_MAX }
-    ensures { result ≡ site_fault sites (F.fields fields.now) }
-{
-    let fault = match site_shape(fields) {
-        Some(shape) => fault_in(fields, 0, shape, sites)?,
-        None => unknown(fields),
-    };
-    Some(in_quotes(fields, fault))
-}
-
-/// What is wrong with a record of a world of `sites` sites, if anything.
-pub fn world_fault<F: Record>(fields: &F, sites: u8) -> Option<RecordFault>
-    requires { sites ≤ COUNTED_MAX }
-    ensures { result ≡ world_fault sites (F.fields fields.now) }
-{
-    let fault = if says(field_at(fields, 1), b"at") {
-        at_fault(fields, sites)?
-    } else {
-        match world_shape(fields) {
-            Some(shape) => fault_in(fields, 0, shape, sites)?,
-            None => unknown(fields),
-        }
-    };
-    Some(in_quotes(fields, fault))
-}
-
-/// What is wrong with a record of an audit of `sites` sites that stands there, if anything.
-pub fn audit_fault<F: Record>(fields: &F, place: LinePlace, sites: u8) -> Option<RecordFault>
-    requires { sites ≤ COUNTED_MAX }
-    ensures { result ≡ audit_fault sites place (F.fields fields.now) }
-{
-    let fault = match audit_shape(fields) {
-        Some(shape) => match fault_in(fields, 0, shape, sites) {
-            Some(fault) => fault,
-            None => misplaced(place, shape)?,
-        },
-        None => unknown(fields),
-    };
-    Some(in_quotes(fields, fault))
 }
 
 /// Where the next record of an audit stands, after one that is well.
 pub fn place_after<F: Record>(fields: &F, place: LinePlace) -> LinePlace
     ensures { result ≡ place_after place (F.fields fields.now) }
 {
-    match audit_shape(fields) {
-        Some(Shape::LogSite) => LinePlace::InMessages,
-        Some(Shape::LogRow) => LinePlace::InRows,
+    match form_of(fields, 1) {
+        Some(form) if matches!(form.section, LogSite) => LinePlace::InMessages,
+        Some(form) if matches!(form.section, LogRow) => LinePlace::InRows,
         _ => place,
     }
 }

@@ -5,5 +5,5 @@ use Rattle.rubis_audit.proofs.record_faults.misfit.Given as goal
 -- what is left to compare
 abbrev pub invariant-loop-place : goal.invariant-loop-place
 invariant-loop-place g l =
-    misfit l.sites (l.from + l.place + 1) (drop l.place l.rules) (drop (l.from + l.place) (g.F.Record.fields l.fields))
-    ≡ misfit l.sites (l.from + 1) l.rules (drop l.from (g.F.Record.fields l.fields))
+    let fields = g.F.Record.fields l.fields in
+    misfit l.sites fields (l.first + l.place) (drop l.place l.rules) ≡ misfit l.sites fields l.first l.rules

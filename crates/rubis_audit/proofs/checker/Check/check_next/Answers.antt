@@ -1,8 +1,30 @@
-use Rattle.std.proofs.Common.{◌≡◌, false, true, refl, rules, subst, sym}
+use Rattle.std.proofs.Common.{◌≡◌, ◌≤◌, ◌∙◌, ap, arith, false, true, refl, rules, subst, sym}
+use Rattle.std.specs.Prelude.{Option, Some, None}
 use Rattle.rubis_engine.specs.Reading.{ReadsNext}
-use Rattle.rubis_audit.specs.Checking.{HasChecked, HasCheckedAll, recent}
+use Rattle.rubis_audit.specs.Checking.{CountsNext, HasChecked, HasCheckedAll, checker_after, fault_for, recent, tally_for}
+use Rattle.rubis_audit.specs.declared.checker.Tally.{Tally}
+use Rattle.rubis_audit.specs.declared.record_faults.RecordFault.{RecordFault}
 use Rattle.rubis_audit.proofs.CheckFacts.{drained, none_more, one_more}
 use Rattle.rubis_audit.proofs.checker.Check.check_next.Goals as goal
+
+-- one record more, with a fault or without
+one_counted : (t : Tally) (fault : Option RecordFault) → t.bad ≤ t.records → CountsNext true t (tally_for t fault)
+one_counted t None fewer = record { counted = λ found. refl; fewer = omega arith }
+one_counted t (Some fault) fewer = record { counted = λ found. refl; fewer = omega arith }
+
+pub returns-else-is_full-clause-counted : goal.returns-else-is_full-clause-counted
+returns-else-is_full-clause-counted g c =
+    let was = c.args.self.now.checker in
+    let row = c.advance.new.self.records.row in
+    let state = c.in_ok-check_row.ensures.checks.checker ∙ ap (λ k. checker_after k row) c.in_ok-advance.ensures.checker in
+    subst (λ k. CountsNext true was.tally k.tally) (sym state) (one_counted was.tally (fault_for was.grammar was.sites was.place row) c.requires.fewer)
+
+pub returns-in_ok-drain-clause-counted : goal.returns-in_ok-drain-clause-counted
+returns-in_ok-drain-clause-counted g c =
+    let was = c.args.self.now.checker in
+    let row = c.advance.new.self.records.row in
+    let state = c.in_ok-check_row.ensures.checks.checker ∙ ap (λ k. checker_after k row) c.in_ok-advance.ensures.checker in
+    subst (λ k. CountsNext true was.tally k.tally) (sym state) (one_counted was.tally (fault_for was.grammar was.sites was.place row) c.requires.fewer)
 
 pub returns-then-not-branch-clause-goes : goal.returns-then-not-branch-clause-goes
 returns-then-not-branch-clause-goes g c =

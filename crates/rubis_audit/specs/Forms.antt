@@ -1,0 +1,95 @@
+-- The forms of records: the grammar of the manual, a line for each form.
+use Prim.Native.String.{String}
+use Rattle.std.specs.Prelude.{ℕ, ◌+◌, ◌-◌, ◌==◌, ◌&&◌, Bool, true, false, if◌then◌else◌, bytes_eq, codes, find, length}
+use Rattle.std.specs.Prelude.{slice_get, unwrap_or, List, [], ◌∷◌, Option}
+use Rattle.rubis_schema.specs.declared.limits.TheConstants.{PASS_MAX, RECORDS_MAX}
+use Rattle.rubis_audit.specs.declared.forms.Form.{Form as Row}
+use Rattle.rubis_audit.specs.declared.forms.Section.{Section}
+use Rattle.rubis_audit.specs.declared.forms.Section.TheVariants.{Request, Message, Token, At, Event, LogSite, LogRow}
+use Rattle.rubis_audit.specs.declared.forms.TheConstants.{AMOUNT, CATEGORY, COUNT, PRICE, QUANTITY, SEQ, TURN}
+use Rattle.rubis_audit.specs.declared.rules.Rule.{Rule}
+use Rattle.rubis_audit.specs.declared.rules.Rule.TheVariants.{Blue, Counts, Effect, First, Id, Name, Nick, Number, Rating, Red, Second, Shown, Site}
+use Rattle.rubis_audit.specs.declared.rules.Rule.TheVariants.{Text, Told, Version, Winner}
+
+-- a form: its section, its first word, the word that tells it, `at` fields behind the first, what a record of it is called, what its fields
+-- after the first may be, and whether more may follow
+pub record Form : Type 0 where
+  pub section : Section
+  pub first : List ℕ
+  pub at : ℕ
+  pub told : List ℕ
+  pub name : List ℕ
+  pub rules : List Rule
+  pub is_open : Bool
+
+abbrev pub row : Row → Form
+row r = record { section = r.section; first = r.first.now; at = r.at; told = r.told.now; name = r.name.now; rules = r.rules.now; is_open = r.is_open }
+
+abbrev pub plain : Section → String → String → Bool → List Rule → Form
+plain s word name more rules =
+    record { section = s; first = codes word; at = 0; told = codes word; name = codes name; rules = rules; is_open = more }
+
+abbrev pub listed : String → String → List Rule → Form
+listed word name rules =
+    record { section = Request; first = codes "list"; at = 1; told = codes word; name = codes name; rules = Told ∷ rules; is_open = false }
+
+-- a message says in its seventh field what it does
+abbrev pub sent : Rule → Rule → String → String → List Rule → Form
+sent version red word name rules =
+    let head = version ∷ Site ∷ SEQ ∷ red ∷ Counts ∷ Told ∷ rules in
+    record { section = Message; first = codes "msg"; at = 6; told = codes word; name = codes name; rules = head; is_open = false }
+
+-- all forms; those that begin with one word stand in the order in which they are tried
+abbrev pub forms : List Form
+forms =
+    sent First Red "user" "a message with a user" (Nick ∷ [])
+    ∷ sent First Blue "item" "a message with an item" (Id ∷ Name ∷ CATEGORY ∷ QUANTITY ∷ AMOUNT ∷ PRICE ∷ [])
+    ∷ sent First Red "bid" "a message with a bid" (Id ∷ Id ∷ AMOUNT ∷ [])
+    ∷ sent First Red "buy" "a message with a buy" (Id ∷ Id ∷ QUANTITY ∷ [])
+    ∷ sent First Red "close" "a message with a close" (Id ∷ CATEGORY ∷ Winner ∷ [])
+    ∷ sent First Blue "comment" "a message with a comment" (Id ∷ Id ∷ Id ∷ Rating ∷ Text ∷ [])
+    ∷ sent Second Blue "restock" "a message with a restock" (Id ∷ QUANTITY ∷ [])
+    ∷ sent Second Red "rename" "a message with a rename" (Id ∷ Nick ∷ Nick ∷ [])
+    ∷ plain Message "msg" "a message" true (Version ∷ Site ∷ SEQ ∷ COUNT ∷ Counts ∷ Effect ∷ [])
+    ∷ plain Token "token" "a token" false (First ∷ TURN ∷ Site ∷ COUNT ∷ [])
+    ∷ plain LogSite "site" "the site of a log" false (Site ∷ [])
+    ∷ plain LogRow "row" "a row" true []
+    ∷ plain Request "user" "a user" false (Nick ∷ [])
+    ∷ plain Request "item" "an item" false (Id ∷ Name ∷ CATEGORY ∷ QUANTITY ∷ AMOUNT ∷ PRICE ∷ [])
+    ∷ plain Request "bid" "a bid" false (Id ∷ Id ∷ AMOUNT ∷ [])
+    ∷ plain Request "buy" "a buy" false (Id ∷ Id ∷ QUANTITY ∷ [])
+    ∷ plain Request "close" "a close" false (Id ∷ Id ∷ [])
+    ∷ plain Request "comment" "a comment" false (Id ∷ Id ∷ Id ∷ Rating ∷ Text ∷ [])
+    ∷ plain Request "restock" "a restock" false (Id ∷ Id ∷ QUANTITY ∷ [])
+    ∷ plain Request "rename" "a rename" false (Id ∷ Nick ∷ [])
+    ∷ plain Request "pass" "a pass" false (Number PASS_MAX ∷ [])
+    ∷ listed "users" "a list of users" []
+    ∷ listed "items" "a list of items" (CATEGORY ∷ [])
+    ∷ listed "bids" "a list of bids" (Id ∷ [])
+    ∷ listed "purchases" "a list of purchases" (Id ∷ [])
+    ∷ listed "comments" "a list of comments" (Id ∷ [])
+    ∷ listed "categories" "a list of categories" []
+    ∷ listed "log" "a list of the log" []
+    ∷ listed "misfits" "a list of misfits" []
+    ∷ listed "tables" "a list of the tables" []
+    ∷ plain Request "list" "a list" true (Shown ∷ [])
+    ∷ plain At "at" "a request at a site" true (Site ∷ Told ∷ [])
+    ∷ plain Event "deliver" "a delivery" false (Site ∷ Number RECORDS_MAX ∷ [])
+    ∷ plain Event "audit" "an audit" false []
+    ∷ []
+
+-- the field with that number, from 1; nothing where there is none
+abbrev pub field_at : List (List ℕ) → ℕ → List ℕ
+field_at fields number = if number == 0 then [] else unwrap_or (slice_get fields (number - 1)) []
+
+-- the words of a record tell the form, the first of them in the field with the number `start`
+abbrev pub is_told : ℕ → List (List ℕ) → Form → Bool
+is_told start fields form = bytes_eq (field_at fields start) form.first && bytes_eq (field_at fields (start + form.at)) form.told
+
+-- the form that the words tell first
+abbrev pub form_of : ℕ → List (List ℕ) → Option Form
+form_of start fields = find (is_told start fields) forms
+
+-- how many fields a record of the form has, or has at least
+abbrev pub wanted : ℕ → Form → ℕ
+wanted start form = start + length form.rules
