@@ -3,13 +3,12 @@
 ghost use Rattle.std.specs.Prelude.{◌≡◌, All};
 ghost use Rattle.rubis_message.specs.Message.{sites_of};
 
-use crate::records::Window;
-use crate::tries::{Stop, again};
+use crate::records::shop;
+use crate::telling::{Host, Stop};
 use rubis_audit::{Log, MessagePool, Verdict, audit};
-use rubis_message::{Message, ReadFault};
+use rubis_message::Message;
 use rubis_schema::Items;
 use std::alloc::{AllocError, Global};
-use std::io::Print;
 
 // The verdict on one log of messages.
 fn verdict_on(alloc: Global, messages: Items<Message>) -> Result<Verdict, AllocError>
@@ -21,15 +20,10 @@ fn verdict_on(alloc: Global, messages: Items<Message>) -> Result<Verdict, AllocE
     audit(alloc, &[log], 2)
 }
 
-// The verdict on the log of a shop.
-fn audit_shop(alloc: Global) -> Result<Verdict, ReadFault> {
-    let window = Window::shop(alloc)?;
-    Ok(verdict_on(alloc, window.messages.into())?)
-}
-
 /// An audit of the log of a shop, in which more is bought than there is.
-pub fn audit_of_a_shop<R: Print + AllocGlobal>(rt: &R) -> Result<(), Stop> {
-    let verdict = again!(rt, "audit", audit_shop(rt.alloc()));
+pub fn audit_of_a_shop(rt: &impl Host) -> Result<(), Stop> {
+    let window = shop(rt.alloc())?;
+    let verdict = verdict_on(rt.alloc(), window.messages.into())?;
     let _ = println!(rt; "{verdict:?}");
     Ok(())
 }

@@ -3,13 +3,11 @@
 ghost use Rattle.std.specs.Prelude.{◌≡◌};
 
 use crate::records::packet;
-use crate::telling::tell_refused;
-use crate::tries::{Stop, TRIES, again};
+use crate::telling::{Host, Stop, tell_refused};
 use rubis_message::Message;
 use rubis_release::{Arrival, Intake, IntakeFault};
 use rubis_schema::Nick;
 use rubis_shadow::Shadow;
-use std::io::Print;
 
 /// The intake of the second of two sites.
 #[derive(Drop)]
@@ -20,7 +18,7 @@ struct IntakePeer {
 
 impl IntakePeer {
     // Has a message arrive, and once more if it comes back.
-    fn arrive<R: Print>(&mut self, rt: &R, message: Message) -> Result<Arrival, Stop> {
+    fn arrive(&mut self, rt: &impl Host, message: Message) -> Result<Arrival, Stop> {
         if message.stamp().deps.len() != 2 {
             return Err(Stop::GaveUp);
         }
@@ -31,28 +29,24 @@ impl IntakePeer {
             Err(IntakeFault::Refused(_)) => return Err(Stop::GaveUp),
         };
         tell_refused(rt, "Intake::arrive", self.intake.waiting() == waiting);
-        match self.intake.arrive(back) {
-            Ok(arrival) => Ok(arrival),
-            Err(_) => Err(Stop::GaveUp),
-        }
+        self.intake.arrive(back).or(Err(Stop::GaveUp))
     }
 }
 
 /// Messages that arrive out of order.
-pub fn intake<R: Print + AllocGlobal>(rt: &R) -> Result<(), Stop> {
-    let intake = again!(rt, "Intake::new", Intake::new(rt.alloc(), 1, 2, 100));
+pub fn intake(rt: &impl Host) -> Result<(), Stop> {
+    let intake = Intake::new(rt.alloc(), 1, 2, 100)?;
     let mut peer = IntakePeer { intake };
     for place in 0..20 {
-        let message = again!(rt, "read_packet", packet(rt.alloc(), place));
-        let arrival = peer.arrive(rt, message)?;
+        let arrival = peer.arrive(rt, packet(rt.alloc(), place)?)?;
         let _ = println!(rt; "{arrival:?}");
     }
     Ok(())
 }
 
-// The site makes the message of a new user: its number.
-fn make_user<R: Print>(rt: &R, site: &mut Intake, nick: Nick) -> Result<u32, Stop> {
-    for _ in 0..TRIES {
+// The site makes the message of a new user, again where memory is refused: its number.
+fn make_user(rt: &impl Host, site: &mut Intake, nick: Nick) -> Result<u32, Stop> {
+    for _ in 0..2 {
         let standing = site.standing();
         if standing.full || !standing.current {
             return Err(Stop::GaveUp);
@@ -67,8 +61,8 @@ fn make_user<R: Print>(rt: &R, site: &mut Intake, nick: Nick) -> Result<u32, Sto
 }
 
 /// A site that makes messages.
-pub fn own_messages<R: Print + AllocGlobal>(rt: &R) -> Result<(), Stop> {
-    let mut site = again!(rt, "Intake::new", Intake::new(rt.alloc(), 0, 2, 100));
+pub fn own_messages(rt: &impl Host) -> Result<(), Stop> {
+    let mut site = Intake::new(rt.alloc(), 0, 2, 100)?;
     for nick in [b"ann".as_slice(), b"bob", b"cat", b"dan", b"eve"] {
         let nick = Nick::read(nick).ok_or(Stop::GaveUp)?;
         let seq = make_user(rt, &mut site, nick)?;

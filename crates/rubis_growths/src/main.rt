@@ -1,7 +1,7 @@
 //! Scenarios over the public calls of the crates, to be run with memory refused at one call after another. Each argument names
 //! one; they are run in turn. A call that is refused memory is made again, or, if it changes nothing, its scenario is run again.
-//! So the answers of the last time are the same in every run, and lines that begin with an exclamation mark tell what was
-//! refused, and what that left.
+//! So the answers of the last time are the same in every run, and lines that begin with an exclamation mark tell which call, or
+//! which scenario, was refused memory, and what that left.
 #![tactic(auto)]
 
 mod audits;
@@ -13,20 +13,15 @@ mod shards;
 mod sites;
 mod teams;
 mod telling;
-mod tries;
 mod values;
 mod worlds;
 
-use std::io::Print;
 use std::process::ExitCode;
-use std::sync::Wait;
-use std::thread::Threads;
 use std::{env, io};
-use telling::tell_refused;
-use tries::{Stop, TRIES};
+use telling::{Host, Stop, TRIES, tell_refused};
 
 // Runs the scenario of that name.
-fn run<R: Print + AllocGlobal + Threads + Wait + Sync>(rt: &R, name: &str) -> Result<(), Stop> {
+fn run(rt: &impl Host, name: &str) -> Result<(), Stop> {
     match name {
         "every_growth_site" => long::every_growth_site(rt),
         "every_growth_windows" => long::every_growth_windows(rt),
@@ -60,14 +55,11 @@ fn run<R: Print + AllocGlobal + Threads + Wait + Sync>(rt: &R, name: &str) -> Re
 }
 
 // Runs the scenario of that name, and again where a call that changes nothing was refused memory.
-fn run_to_end<R: Print + AllocGlobal + Threads + Wait + Sync>(
-    rt: &R,
-    name: &str,
-) -> Result<(), Stop> {
+fn run_to_end(rt: &impl Host, name: &str) -> Result<(), Stop> {
     for _ in 0..TRIES {
         let _ = println!(rt; "scenario {name}");
         match run(rt, name) {
-            Err(Stop::Refused) => {}
+            Err(Stop::Refused) => tell_refused(rt, name, true),
             ended => return ended,
         }
     }
@@ -75,10 +67,7 @@ fn run_to_end<R: Print + AllocGlobal + Threads + Wait + Sync>(
 }
 
 // Runs scenarios in turn, as long as each comes to its end.
-fn run_all<R: Print + AllocGlobal + Threads + Wait + Sync>(
-    rt: &R,
-    names: &[String],
-) -> Result<(), Stop> {
+fn run_all(rt: &impl Host, names: &[String]) -> Result<(), Stop> {
     for name in names {
         run_to_end(rt, name)?;
     }
@@ -86,32 +75,18 @@ fn run_all<R: Print + AllocGlobal + Threads + Wait + Sync>(
 }
 
 // The arguments, without the program's name.
-fn read_names(rt: &HostRuntime) -> io::Result<Vec<String>> {
-    let names: Vec<String> = env::args(rt)?.skip(1).collect(rt.alloc())?;
-    Ok(names)
-}
-
-// The same, read again where memory is refused.
-fn names(rt: &HostRuntime) -> Result<Vec<String>, Stop> {
-    for _ in 0..TRIES {
-        if let Ok(names) = read_names(rt) {
-            return Ok(names);
-        }
-        tell_refused(rt, "args", true);
-    }
-    Err(Stop::GaveUp)
+fn names(rt: &HostRuntime) -> io::Result<Vec<String>> {
+    Ok(env::args(rt)?.skip(1).collect(rt.alloc())?)
 }
 
 fn main(rt: HostRuntime) -> ExitCode {
-    let ended = match names(&rt) {
-        Ok(names) => run_all(&rt, &names),
-        Err(stop) => Err(stop),
-    };
-    match ended {
-        Ok(()) => ExitCode::SUCCESS,
-        Err(_) => {
-            let _ = println!(&rt; "? gave up");
-            ExitCode::from(1)
+    for _ in 0..TRIES {
+        match names(&rt) {
+            Ok(names) if run_all(&rt, &names).is_ok() => return ExitCode::SUCCESS,
+            Ok(_) => break,
+            Err(_) => tell_refused(&rt, "args", true),
         }
     }
+    let _ = println!(&rt; "? gave up");
+    ExitCode::from(1)
 }

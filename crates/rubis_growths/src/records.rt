@@ -1,56 +1,24 @@
 //! The records that the scenarios read.
 
-ghost use Rattle.std.specs.Prelude.{◌≡◌, ◌≤◌, All, IfOk};
-ghost use Rattle.rubis_schema.specs.declared.limits.TheConstants.{COUNTED_MAX};
-ghost use Rattle.rubis_message.specs.Grammar.{IsRequest};
+ghost use Rattle.std.specs.Prelude.{◌≡◌, IfOk};
 ghost use Rattle.rubis_message.specs.Message.{sites_of};
 
-use rubis_message::{Message, Packet, ReadFault, Request, read_packet, read_request};
-use rubis_schema::Fields;
+use rubis_message::{Message, ReadFault};
+use rubis_tests::records::{ANN, BOB, CUP, Window, message};
 use std::alloc::{AllocError, Global};
 
 /// How many messages site 0 of two sends.
 pub const MESSAGES: u32 = 200;
 
-/// An item that user 0.1 offers.
-pub const CUP: &str = "msg,1,0,3,0,2:0,item,0.1,cup,9,3,50,80";
-
 /// Two users, an item, a bid, a purchase of more than the stock, and a comment.
 const SHOP: [&str; 6] = [
-    "msg,1,0,1,1,0:0,user,ann",
-    "msg,1,0,2,2,1:0,user,bob",
+    ANN,
+    BOB,
     CUP,
     "msg,1,0,4,3,3:0,bid,0.3,0.2,60",
     "msg,1,0,5,4,4:0,buy,0.3,0.2,5",
     "msg,1,0,6,0,5:0,comment,0.3,0.2,0.1,-4,late",
 ];
-
-// The record of these fields, which have commas between them.
-fn record(alloc: Global, text: &str) -> Result<Fields, AllocError> {
-    let mut fields = Fields::new(alloc);
-    for field in text.split(',') {
-        fields.push(field.as_bytes())?;
-    }
-    Ok(fields)
-}
-
-/// The message that is written so, to one of `sites` sites. Anything else than a message is a bad record.
-pub fn message(alloc: Global, text: &str, sites: u8) -> Result<Message, ReadFault>
-    requires { sites ≤ COUNTED_MAX }
-    ensures { IfOk result (λ message. sites_of message ≡ sites) }
-{
-    match read_packet(alloc, &record(alloc, text)?, sites)? {
-        Packet::Msg(message) => Ok(message),
-        Packet::Token(_) => Err(ReadFault::BadRecord),
-    }
-}
-
-/// The request that is written so, to one of `sites` sites.
-pub fn request(alloc: Global, text: &str, sites: u8) -> Result<Request, ReadFault>
-    ensures { IfOk result (IsRequest sites) }
-{
-    read_request(alloc, &record(alloc, text)?, sites)
-}
 
 // What message `seq` of site 0 does, from 1 to 200: users, then items, bids, purchases, comments and closes.
 fn shadow_text(alloc: Global, seq: u32) -> Result<String, AllocError> {
@@ -114,40 +82,16 @@ pub fn all_records(alloc: Global) -> Result<String, AllocError> {
     Ok(text)
 }
 
-/// Messages to one of two sites.
-#[derive(Drop)]
-pub struct Window {
-    pub messages: Vec<Message>,
-    ghost two: { All (λ m. sites_of m ≡ 2) messages.items },
+/// The messages from one place up to another.
+pub fn window(alloc: Global, from: u32, to: u32) -> Result<Window, ReadFault> {
+    let mut window = Window::new(alloc);
+    for place in from..to {
+        window.push(alloc, &packet_text(alloc, seq_at(place))?)?;
+    }
+    Ok(window)
 }
 
-impl Window {
-    /// The messages from one place up to another.
-    pub fn new(alloc: Global, from: u32, to: u32) -> Result<Window, ReadFault> {
-        let mut window = Window {
-            messages: Vec::new(alloc),
-        };
-        for place in from..to {
-            window.push(packet(alloc, place)?)?;
-        }
-        Ok(window)
-    }
-
-    /// The messages of a shop with one item.
-    pub fn shop(alloc: Global) -> Result<Window, ReadFault> {
-        let mut window = Window {
-            messages: Vec::new(alloc),
-        };
-        for text in SHOP {
-            window.push(message(alloc, text, 2)?)?;
-        }
-        Ok(window)
-    }
-
-    fn push(&mut self, message: Message) -> Result<(), AllocError>
-        requires { sites_of message ≡ 2 }
-    {
-        self.messages.push(message)?;
-        Ok(())
-    }
+/// The messages of a shop with one item.
+pub fn shop(alloc: Global) -> Result<Window, ReadFault> {
+    Window::of(alloc, &SHOP)
 }

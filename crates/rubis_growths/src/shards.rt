@@ -1,21 +1,18 @@
 //! Shards and tables.
 
-ghost use Rattle.std.specs.Prelude.{◌≤◌, length};
 ghost use Rattle.rubis_pieces.specs.Pieces.{IsShareOf};
 
-use crate::records::{Window, message, packet_text};
-use crate::telling::{tell_refused, tell_rows};
-use crate::tries::{Stop, TRIES, again};
+use crate::records::{packet_text, shop};
+use crate::telling::{Host, Stop, TRIES, tell_refused, tell_rows};
 use rubis_listing as listings;
 use rubis_message::{Message, ReadFault};
 use rubis_pieces::{misfits, split};
-use rubis_schema::{Fields, Id, IdTable, Items, Listing, Table, shard_of};
+use rubis_schema::{Id, IdTable, Items, Listing, Table, shard_of};
 use rubis_shadow::Numbered;
 use rubis_shard::{Group, Shard, Share, Tables};
+use rubis_tests::records::message;
 use rubis_workers::apply_upto;
 use std::alloc::{AllocError, Global};
-use std::io::Print;
-use std::thread::Threads;
 
 /// How many users there are in a long share.
 const USERS: u32 = 20;
@@ -82,10 +79,6 @@ impl Portion {
         self.share.effects.len()
     }
 
-    fn link_rows(&mut self) -> Result<(), AllocError> {
-        self.shard.link_rows()
-    }
-
     // How many keys, rows and listed rows there are of the shard's users.
     fn counts(&self, alloc: Global) -> Result<(usize, usize, usize), AllocError> {
         let keys = self.shard.keys(alloc, Table::Users)?.len();
@@ -127,61 +120,51 @@ fn users_portion(alloc: Global) -> Result<Portion, ReadFault> {
 }
 
 /// A share that is folded as far as memory goes, and then from there on.
-pub fn short_apply<R: Print + AllocGlobal>(rt: &R) -> Result<(), Stop> {
-    let portion = again!(rt, "Shard::new", users_portion(rt.alloc()));
-    let (mut portion, done) = portion.apply(0);
+pub fn short_apply(rt: &impl Host) -> Result<(), Stop> {
+    let (mut portion, done) = users_portion(rt.alloc())?.apply(0);
     if done < portion.len() {
         let _ = println!(rt; "! Shard::apply: {done} done");
-        if again!(rt, "Shard::keys", portion.users(rt.alloc())) != done {
+        if portion.users(rt.alloc())? != done {
             return Err(Stop::GaveUp);
         }
         (portion, _) = portion.apply(done);
     }
-    let users = again!(rt, "Shard::keys", portion.users(rt.alloc()));
+    let users = portion.users(rt.alloc())?;
     let _ = println!(rt; "users {users}");
     Ok(())
 }
 
 // Folds the part at a place, again where memory is refused.
-fn apply_one<R: Print + AllocGlobal>(rt: &R, portion: Portion, at: usize) -> Result<Portion, Stop> {
+fn apply_one(rt: &impl Host, portion: Portion, at: usize) -> Result<Portion, Stop> {
     let (portion, is_done) = portion.apply_next(at);
     if is_done {
         return Ok(portion);
     }
-    let users = again!(rt, "Shard::keys", portion.users(rt.alloc()));
-    tell_refused(rt, "Shard::apply_next", users == at);
+    tell_refused(rt, "Shard::apply_next", portion.users(rt.alloc())? == at);
     match portion.apply_next(at) {
         (portion, true) => Ok(portion),
         (_, false) => Err(Stop::GaveUp),
     }
 }
 
-// Links the shard's rows, again where memory is refused.
-fn link_rows<R: Print>(rt: &R, portion: &mut Portion) -> Result<(), Stop> {
-    for _ in 0..TRIES {
-        if portion.link_rows().is_ok() {
-            return Ok(());
-        }
-        tell_refused(rt, "Shard::link_rows", true);
-    }
-    Err(Stop::GaveUp)
-}
-
-/// A share that is folded part by part.
-pub fn shard<R: Print + AllocGlobal>(rt: &R) -> Result<(), Stop> {
-    let mut portion = again!(rt, "Shard::new", users_portion(rt.alloc()));
+/// A share that is folded part by part; the shard's rows are linked then, again where memory is refused.
+pub fn shard(rt: &impl Host) -> Result<(), Stop> {
+    let mut portion = users_portion(rt.alloc())?;
     for at in 0..portion.len() {
         portion = apply_one(rt, portion, at)?;
     }
-    link_rows(rt, &mut portion)?;
-    let (keys, rows, listed) = again!(rt, "Shard::rows", portion.counts(rt.alloc()));
+    if portion.shard.link_rows().is_err() {
+        tell_refused(rt, "Shard::link_rows", true);
+        portion.shard.link_rows()?;
+    }
+    let (keys, rows, listed) = portion.counts(rt.alloc())?;
     let _ = println!(rt; "keys {keys}, rows {rows}, listed {listed}");
     Ok(())
 }
 
 // Tables of five shards with a shop's messages.
-fn shop_tables<R: Print + AllocGlobal>(rt: &R, messages: &[Message]) -> Result<Tables, Stop> {
-    let mut tables = again!(rt, "Tables::new", Tables::new(rt.alloc(), 5));
+fn shop_tables(rt: &impl Host, messages: &[Message]) -> Result<Tables, Stop> {
+    let mut tables = Tables::new(rt.alloc(), 5)?;
     let mut at = 0;
     for _ in 0..TRIES {
         if tables.is_empty() || at > messages.len() || messages.len() > 1000 {
@@ -197,142 +180,67 @@ fn shop_tables<R: Print + AllocGlobal>(rt: &R, messages: &[Message]) -> Result<T
     Err(Stop::GaveUp)
 }
 
-// How many users there are.
-fn count_users(alloc: Global, tables: &Tables) -> Result<usize, AllocError> {
-    Ok(tables.rows(alloc, Table::Users)?.len())
-}
-
-// How many items there are of category 9.
-fn count_items(alloc: Global, tables: &Tables) -> Result<usize, AllocError> {
-    Ok(
-        tables
-            .listed(alloc, IdTable::Item, &Listing::Items(9))?
-            .len(),
-    )
-}
-
-// Links the rows of the bids on the cup, again where memory is refused.
-fn link_bids<R: Print>(rt: &R, tables: &mut Tables) -> Result<(), Stop> {
-    for _ in 0..TRIES {
-        if tables.link_rows(&Listing::Bids(CUP)).is_ok() {
-            return Ok(());
-        }
-        tell_refused(rt, "Tables::link_rows", true);
-    }
-    Err(Stop::GaveUp)
-}
-
-// How many bids there are on the cup.
-fn count_bids(alloc: Global, tables: &Tables) -> Result<usize, AllocError> {
-    Ok(tables.group(alloc, &Group::Bids(CUP))?.len())
-}
-
-// How many misfits there are.
-fn count_misfits(alloc: Global, tables: &Tables) -> Result<usize, AllocError> {
-    Ok(misfits(alloc, tables)?.len())
-}
-
-// Tells how much the tables show.
-fn tell_counts<R: Print>(rt: &R, alloc: Global, tables: &Tables) -> Result<(), Stop> {
-    let users = again!(rt, "Tables::rows", count_users(alloc, tables));
-    let items = again!(rt, "Tables::listed", count_items(alloc, tables));
-    let bids = again!(rt, "Tables::group", count_bids(alloc, tables));
-    let misfits = again!(rt, "misfits", count_misfits(alloc, tables));
+// Tells how many users, items of category 9, bids on the cup and misfits the tables show.
+fn tell_counts(rt: &impl Host, tables: &Tables) -> Result<(), Stop> {
+    let alloc = rt.alloc();
+    let users = tables.rows(alloc, Table::Users)?.len();
+    let items = tables
+        .listed(alloc, IdTable::Item, &Listing::Items(9))?
+        .len();
+    let bids = tables.group(alloc, &Group::Bids(CUP))?.len();
+    let misfits = misfits(alloc, tables)?.len();
     let _ = println!(rt; "users {users}, items {items}, bids {bids}, misfits {misfits}");
     Ok(())
 }
 
-/// Tables, and what they show.
-pub fn tables<R: Print + AllocGlobal>(rt: &R) -> Result<(), Stop> {
-    let messages = again!(rt, "read_packet", Window::shop(rt.alloc())).messages;
+/// Tables, and what they show once the bids on the cup are linked, again where memory is refused.
+pub fn tables(rt: &impl Host) -> Result<(), Stop> {
+    let messages = shop(rt.alloc())?.messages;
     let mut tables = shop_tables(rt, &messages)?;
-    link_bids(rt, &mut tables)?;
-    tell_counts(rt, rt.alloc(), &tables)
-}
-
-// The rows of a listing of tables.
-fn rows_of(alloc: Global, tables: &Tables, listing: &Listing) -> Result<Items<Fields>, AllocError> {
-    match listing {
-        Listing::Users => listings::users(alloc, tables),
-        Listing::Items(category) => listings::items(alloc, tables, *category),
-        Listing::Bids(item) => listings::bids(alloc, tables, *item),
-        Listing::Purchases(item) => listings::purchases(alloc, tables, *item),
-        Listing::Comments(user) => listings::comments(alloc, tables, *user),
-        Listing::Categories => listings::categories(alloc, tables),
-        _ => listings::tables(alloc, tables),
+    if tables.link_rows(&Listing::Bids(CUP)).is_err() {
+        tell_refused(rt, "Tables::link_rows", true);
+        tables.link_rows(&Listing::Bids(CUP))?;
     }
+    tell_counts(rt, &tables)
 }
 
 // Tells the listings of tables.
-fn tell_tables<R: Print>(rt: &R, alloc: Global, tables: &Tables) -> Result<(), Stop> {
-    let mut number: u32 = 0;
-    for listing in [
-        Listing::Users,
-        Listing::Items(9),
-        Listing::Bids(CUP),
-        Listing::Purchases(CUP),
-        Listing::Comments(ANN),
-        Listing::Categories,
-        Listing::Tables,
-    ] {
-        number = number.saturating_add(1);
-        tell_rows(
-            rt,
-            number,
-            &again!(rt, "listing", rows_of(alloc, tables, &listing)),
-        );
-    }
+fn tell_tables(rt: &impl Host, tables: &Tables) -> Result<(), Stop> {
+    let alloc = rt.alloc();
+    tell_rows(rt, 1, &listings::users(alloc, tables)?);
+    tell_rows(rt, 2, &listings::items(alloc, tables, 9)?);
+    tell_rows(rt, 3, &listings::bids(alloc, tables, CUP)?);
+    tell_rows(rt, 4, &listings::purchases(alloc, tables, CUP)?);
+    tell_rows(rt, 5, &listings::comments(alloc, tables, ANN)?);
+    tell_rows(rt, 6, &listings::categories(alloc, tables)?);
+    tell_rows(rt, 7, &listings::tables(alloc, tables)?);
     Ok(())
-}
-
-// Tells the listing of a log.
-fn tell_log<R: Print>(rt: &R, alloc: Global, messages: &[Message]) -> Result<(), Stop> {
-    tell_rows(rt, 8, &again!(rt, "log", listings::log(alloc, messages)));
-    Ok(())
-}
-
-// The rows of the listing of misfits.
-fn rows_of_misfits(alloc: Global, tables: &Tables) -> Result<Items<Fields>, AllocError> {
-    listings::misfit_rows(alloc, &misfits(alloc, tables)?)
 }
 
 /// The nine listings of tables and of their log.
-pub fn nine_listings<R: Print + AllocGlobal>(rt: &R) -> Result<(), Stop> {
+pub fn nine_listings(rt: &impl Host) -> Result<(), Stop> {
     let alloc = rt.alloc();
-    let messages = again!(rt, "read_packet", Window::shop(alloc)).messages;
+    let messages = shop(alloc)?.messages;
     let tables = shop_tables(rt, &messages)?;
-    tell_tables(rt, alloc, &tables)?;
-    tell_log(rt, alloc, &messages)?;
+    tell_tables(rt, &tables)?;
+    tell_rows(rt, 8, &listings::log(alloc, &messages)?);
     tell_rows(
         rt,
         9,
-        &again!(rt, "misfits", rows_of_misfits(alloc, &tables)),
+        &listings::misfit_rows(alloc, &misfits(alloc, &tables)?)?,
     );
     Ok(())
 }
 
-// Tells how many parts each share of a batch has.
-fn tell_shares<R: Print + Threads + Sync>(
-    rt: &R,
-    alloc: Global,
-    messages: &[Message],
-) -> Result<(), Stop>
-    requires { length messages.now ≤ 1000 }
-{
-    let shares = again!(rt, "split", split(rt, alloc, messages, 1, 5));
-    for share in &shares {
+/// A batch that is cut into shares: how many parts each has.
+pub fn batch_in_shares(rt: &impl Host) -> Result<(), Stop> {
+    let messages = shop(rt.alloc())?.messages;
+    if messages.len() > 1000 {
+        return Err(Stop::GaveUp);
+    }
+    for share in &split(rt, rt.alloc(), &messages, 1, 5)? {
         let parts = share.effects.len();
         let _ = println!(rt; "parts {parts}");
     }
     Ok(())
-}
-
-/// A batch that is cut into shares.
-pub fn batch_in_shares<R: Print + AllocGlobal + Threads + Sync>(rt: &R) -> Result<(), Stop> {
-    let alloc = rt.alloc();
-    let messages = again!(rt, "read_packet", Window::shop(alloc)).messages;
-    if messages.len() > 1000 {
-        return Err(Stop::GaveUp);
-    }
-    tell_shares(rt, alloc, &messages)
 }

@@ -3,15 +3,12 @@
 ghost use Rattle.std.specs.Prelude.{◌≡◌};
 
 use crate::peers::{Peer, tell_arrival};
-use crate::records::{Window, request};
-use crate::telling::{tell_refused, tell_rows};
-use crate::tries::{Stop, TRIES, again};
+use crate::records::window;
+use crate::telling::{Host, Stop, TRIES, tell_refused, tell_rows};
 use rubis_message::Request;
 use rubis_schema::Listing;
+use rubis_tests::records::request;
 use rubis_world::{Config, Fault, Free, Site};
-use std::io::Print;
-use std::sync::Wait;
-use std::thread::Threads;
 
 /// A site alone.
 #[derive(Drop)]
@@ -22,13 +19,9 @@ struct Single {
 
 impl Single {
     // Asks for what a record says: the number of its message.
-    fn ask<R: Print + AllocGlobal + Threads + Wait + Sync>(
-        &mut self,
-        rt: &R,
-        text: &str,
-    ) -> Result<u32, Stop> {
+    fn ask(&mut self, rt: &impl Host, text: &str) -> Result<u32, Stop> {
         for _ in 0..TRIES {
-            let Request::Ask(ask) = again!(rt, "read_request", request(rt.alloc(), text, 1)) else {
+            let Request::Ask(ask) = request(rt.alloc(), text, 1)? else {
                 return Err(Stop::GaveUp);
             };
             let released = self.site.history().len();
@@ -45,9 +38,9 @@ impl Single {
 }
 
 /// Requests at a site with one worker, which is never behind.
-pub fn site_request<R: Print + AllocGlobal + Threads + Wait + Sync>(rt: &R) -> Result<(), Stop> {
+pub fn site_request(rt: &impl Host) -> Result<(), Stop> {
     let config = Config::new(0, 1, 5, 1, 64, 100).ok_or(Stop::GaveUp)?;
-    let site = again!(rt, "Site::new", Site::new(rt.alloc(), &config, Free));
+    let site = Site::new(rt.alloc(), &config, Free)?;
     let mut single = Single { site };
     for text in [
         "user,ann",
@@ -64,12 +57,9 @@ pub fn site_request<R: Print + AllocGlobal + Threads + Wait + Sync>(rt: &R) -> R
     Ok(())
 }
 
-// A site to which the first messages came, none of which is applied yet.
-fn with_pending<R: Print + AllocGlobal + Threads + Wait + Sync>(
-    rt: &R,
-    messages: u32,
-) -> Result<Peer, Stop> {
-    let mut peer = Peer::new(rt, 1000)?;
+/// A site to which the first messages came, in batches of that many; what became of each is told.
+pub fn peer_with(rt: &impl Host, batch: u32, messages: u32) -> Result<Peer, Stop> {
+    let mut peer = Peer::new(rt, batch)?;
     for place in 0..messages {
         let arrival = peer.arrive(rt, place)?;
         tell_arrival(rt, place.saturating_add(1), arrival);
@@ -77,28 +67,30 @@ fn with_pending<R: Print + AllocGlobal + Threads + Wait + Sync>(
     Ok(peer)
 }
 
+// Lists the users, as record 41.
+fn list_users(rt: &impl Host, peer: &mut Peer) -> Result<(), Stop> {
+    tell_rows(rt, 41, &peer.list(rt, &Listing::Users)?);
+    Ok(())
+}
+
 /// A cut of what is pending, in a batch that workers share.
-pub fn site_cut<R: Print + AllocGlobal + Threads + Wait + Sync>(rt: &R) -> Result<(), Stop> {
-    let mut peer = with_pending(rt, 40)?;
+pub fn site_cut(rt: &impl Host) -> Result<(), Stop> {
+    let mut peer = peer_with(rt, 1000, 40)?;
     peer.cut(rt)?;
     let rest = peer.cut(rt)?;
     let _ = println!(rt; "pending {rest}");
-    tell_rows(rt, 41, &peer.list(rt, &Listing::Users)?);
-    Ok(())
+    list_users(rt, &mut peer)
 }
 
 /// A listing, before which what is pending is applied.
-pub fn site_list<R: Print + AllocGlobal + Threads + Wait + Sync>(rt: &R) -> Result<(), Stop> {
-    let mut peer = with_pending(rt, 40)?;
-    tell_rows(rt, 41, &peer.list(rt, &Listing::Users)?);
-    Ok(())
+pub fn site_list(rt: &impl Host) -> Result<(), Stop> {
+    let mut peer = peer_with(rt, 1000, 40)?;
+    list_users(rt, &mut peer)
 }
 
 /// Messages that arrive together at a site with messages pending.
-pub fn site_arrive_all<R: Print + AllocGlobal + Threads + Wait + Sync>(rt: &R) -> Result<(), Stop> {
-    let mut peer = with_pending(rt, 20)?;
-    let window = again!(rt, "read_packet", Window::new(rt.alloc(), 20, 40));
-    peer.arrive_all(rt, window, 21)?;
-    tell_rows(rt, 41, &peer.list(rt, &Listing::Users)?);
-    Ok(())
+pub fn site_arrive_all(rt: &impl Host) -> Result<(), Stop> {
+    let mut peer = peer_with(rt, 1000, 20)?;
+    peer.arrive_all(rt, window(rt.alloc(), 20, 40)?, 21)?;
+    list_users(rt, &mut peer)
 }

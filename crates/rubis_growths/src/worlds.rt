@@ -1,26 +1,22 @@
 //! The calls of several sites.
 
-use crate::telling::{tell_behind, tell_refused};
-use crate::tries::{Stop, TRIES, again};
+use crate::telling::{Host, Stop, TRIES, tell_fault, tell_refused};
 use rubis_message::{Happened, Request};
 use rubis_schema::{Listing, Nick};
 use rubis_shadow::Ask;
 use rubis_world::{Fault, World, WorldConfig, WorldFault};
-use std::io::Print;
-use std::sync::Wait;
-use std::thread::Threads;
 
 /// How many users are registered before the second site applies any.
 const USERS: u64 = 20;
 
 // Two sites, each with `workers` workers and batches of `batch` messages.
-fn two_sites<R: Print + AllocGlobal>(rt: &R, workers: u8, batch: u32) -> Result<World, Stop> {
+fn two_sites(rt: &impl Host, workers: u8, batch: u32) -> Result<World, Stop> {
     let config = WorldConfig::new(2, 5, workers, batch, 1000).ok_or(Stop::GaveUp)?;
-    Ok(again!(rt, "World::new", World::new(rt.alloc(), &config)))
+    Ok(World::new(rt.alloc(), &config)?)
 }
 
 // Tells what happened.
-fn tell<R: Print>(rt: &R, happened: &Happened) {
+fn tell(rt: &impl Host, happened: &Happened) {
     let _ = match happened {
         Happened::Sent(number) => println!(rt; "sent {number}"),
         Happened::Came(arrival) => println!(rt; "{arrival:?}"),
@@ -30,14 +26,6 @@ fn tell<R: Print>(rt: &R, happened: &Happened) {
             println!(rt; "rows {count}")
         }
     };
-}
-
-/// How a call ended.
-#[derive(Clone, Copy, PartialEq, Eq)]
-enum End {
-    Answered,
-    /// The site is behind, and stays so.
-    Behind,
 }
 
 /// What happens at a site.
@@ -50,8 +38,8 @@ enum WorldEvent {
 }
 
 // Has an event happen at a site.
-fn happen<R: Threads + Wait + Sync>(
-    rt: &R,
+fn happen(
+    rt: &impl Host,
     world: &mut World,
     site: u8,
     event: &WorldEvent,
@@ -64,13 +52,13 @@ fn happen<R: Threads + Wait + Sync>(
     }
 }
 
-// Has an event happen at a site, and tells what came of it.
-fn tell_event<R: Print + Threads + Wait + Sync>(
-    rt: &R,
+// Has an event happen at a site, and tells what came of it: whether it was answered. Else the site is behind, and stays so.
+fn tell_event(
+    rt: &impl Host,
     world: &mut World,
     site: u8,
     event: &WorldEvent,
-) -> Result<End, Stop> {
+) -> Result<bool, Stop> {
     for _ in 0..TRIES {
         let sent = world.packets().len();
         let answer = happen(rt, world, site, event);
@@ -78,12 +66,12 @@ fn tell_event<R: Print + Threads + Wait + Sync>(
         match answer {
             Ok(happened) => {
                 tell(rt, &happened);
-                return Ok(End::Answered);
+                return Ok(true);
             }
             Err(WorldFault::Memory) => tell_refused(rt, "World", same),
             Err(WorldFault::Site(Fault::Behind)) => {
-                tell_behind(rt, "World", same);
-                return Ok(End::Behind);
+                tell_fault(rt, "World", "behind", same);
+                return Ok(false);
             }
             Err(_) => return Err(Stop::GaveUp),
         }
@@ -92,45 +80,41 @@ fn tell_event<R: Print + Threads + Wait + Sync>(
 }
 
 // Has events happen at sites, each of which is answered.
-fn tell_events<R: Print + Threads + Wait + Sync>(
-    rt: &R,
-    world: &mut World,
-    events: &[(u8, WorldEvent)],
-) -> Result<(), Stop> {
+fn tell_events(rt: &impl Host, world: &mut World, events: &[(u8, WorldEvent)]) -> Result<(), Stop> {
     for (site, event) in events {
-        if tell_event(rt, world, *site, event)? == End::Behind {
+        if !tell_event(rt, world, *site, event)? {
             return Err(Stop::GaveUp);
         }
     }
     Ok(())
 }
 
-// Tells the auditor's verdict.
-fn tell_check<R: Print + Threads + Wait + Sync>(rt: &R, world: &mut World) -> Result<(), Stop> {
-    for _ in 0..TRIES {
-        match world.check(rt) {
-            Ok(verdict) => {
-                let _ = println!(rt; "{verdict:?}");
-                return Ok(());
-            }
-            Err(WorldFault::Memory) => tell_refused(rt, "World::check", true),
-            Err(_) => return Err(Stop::GaveUp),
-        }
+// Tells the auditor's verdict, which is asked for again where memory is refused.
+fn tell_check(rt: &impl Host, world: &mut World) -> Result<(), Stop> {
+    let mut verdict = world.check(rt);
+    if verdict == Err(WorldFault::Memory) {
+        tell_refused(rt, "World::check", true);
+        verdict = world.check(rt);
     }
-    Err(Stop::GaveUp)
+    let verdict = verdict.or(Err(Stop::GaveUp))?;
+    let _ = println!(rt; "{verdict:?}");
+    Ok(())
+}
+
+// The user of that nickname.
+fn user(nick: &[u8]) -> Result<WorldEvent, Stop> {
+    Ok(WorldEvent::User(Nick::read(nick).ok_or(Stop::GaveUp)?))
 }
 
 /// Each call of a world whose sites apply each message as it comes, so that none is ever behind.
-pub fn world_calls<R: Print + AllocGlobal + Threads + Wait + Sync>(rt: &R) -> Result<(), Stop> {
+pub fn world_calls(rt: &impl Host) -> Result<(), Stop> {
     let mut world = two_sites(rt, 1, 1)?;
-    let ann = Nick::read(b"ann").ok_or(Stop::GaveUp)?;
-    let bob = Nick::read(b"bob").ok_or(Stop::GaveUp)?;
     let events = [
-        (0, WorldEvent::User(ann)),
+        (0, user(b"ann")?),
         (0, WorldEvent::Pass(1)),
         (1, WorldEvent::Deliver(1)),
         (1, WorldEvent::Deliver(2)),
-        (1, WorldEvent::User(bob)),
+        (1, user(b"bob")?),
         (0, WorldEvent::Deliver(3)),
         (0, WorldEvent::ListUsers),
     ];
@@ -138,22 +122,13 @@ pub fn world_calls<R: Print + AllocGlobal + Threads + Wait + Sync>(rt: &R) -> Re
     tell_check(rt, &mut world)
 }
 
-// The nickname of user `number`.
-fn nick_of(number: u64) -> Option<Nick> {
-    let letter = u8::try_from(number).ok()?.checked_add(b'a')?;
-    Nick::read(&[b'u', letter])
-}
-
 /// A site to which many messages came decides an ask: first it applies them, in shares. If memory for a part is refused then,
 /// the site is behind, sends nothing, and answers no more.
-pub fn world_behind<R: Print + AllocGlobal + Threads + Wait + Sync>(rt: &R) -> Result<(), Stop> {
+pub fn world_behind(rt: &impl Host) -> Result<(), Stop> {
     let mut world = two_sites(rt, 4, 1000)?;
     for number in 0..USERS {
-        let nick = nick_of(number).ok_or(Stop::GaveUp)?;
-        let events = [
-            (0, WorldEvent::User(nick)),
-            (1, WorldEvent::Deliver(number + 1)),
-        ];
+        let nick = user(&[b'u', b'a'.saturating_add(number as u8)])?;
+        let events = [(0, nick), (1, WorldEvent::Deliver(number + 1))];
         tell_events(rt, &mut world, &events)?;
     }
     let events = [
@@ -161,12 +136,11 @@ pub fn world_behind<R: Print + AllocGlobal + Threads + Wait + Sync>(rt: &R) -> R
         (1, WorldEvent::Deliver(USERS + 1)),
     ];
     tell_events(rt, &mut world, &events)?;
-    let zed = Nick::read(b"zed").ok_or(Stop::GaveUp)?;
-    if tell_event(rt, &mut world, 1, &WorldEvent::User(zed))? == End::Behind {
-        return match tell_event(rt, &mut world, 1, &WorldEvent::ListUsers)? {
-            End::Behind => Ok(()),
-            End::Answered => Err(Stop::GaveUp),
-        };
+    if tell_event(rt, &mut world, 1, &user(b"zed")?)? {
+        return tell_check(rt, &mut world);
     }
-    tell_check(rt, &mut world)
+    match tell_event(rt, &mut world, 1, &WorldEvent::ListUsers)? {
+        true => Err(Stop::GaveUp),
+        false => Ok(()),
+    }
 }

@@ -1,21 +1,20 @@
-//! For tests: messages for a site of two, and calls that have them arrive.
+//! For tests: a site of two, and calls that have messages arrive there.
 
-ghost use Rattle.std.specs.Prelude.{◌≡◌, All, IfOk};
-ghost use Rattle.rubis_message.specs.Message.{sites_of};
+ghost use Rattle.std.specs.Prelude.{◌≡◌};
 
-use crate::records::message;
-use rubis_message::{Arrival, Message};
-use rubis_world::{Gate, Site};
+use crate::records::{ANN, BOB, CUP, Window, message};
+use crate::rigs::Rig;
+use rubis_message::Arrival;
+use rubis_world::{Config, Gate, Site};
 use std::alloc::Global;
-use std::sync::Wait;
 use std::test::Fail;
-use std::thread::Threads;
 
-pub const ANN: &str = "msg,1,0,1,1,0:0,user,ann";
-
-pub const BOB: &str = "msg,1,0,2,2,1:0,user,bob";
-
-pub const CUP: &str = "msg,1,0,3,0,2:0,item,0.1,cup,9,3,50,80";
+/// One of two sites.
+#[derive(Drop)]
+pub struct Twin<G: Gate> {
+    pub site: Site<G>,
+    ghost two: { site.place.sites ≡ 2 },
+}
 
 /// The record of a comment on the cup, as the message of site 0 that follows its first `before`.
 pub fn comment_behind(alloc: Global, before: u32) -> Result<String, Fail> {
@@ -24,74 +23,52 @@ pub fn comment_behind(alloc: Global, before: u32) -> Result<String, Fail> {
     Ok(text)
 }
 
-/// Parses `text` and appends the message to a list of messages for `site`, which only the contract names.
-pub fn add_message<G: Gate>(
-    alloc: Global,
-    site: &Site<G>,
-    list: &mut Vec<Message>,
-    text: &str,
-) -> Result<(), Fail>
-    requires two { site.now.place.sites ≡ 2 }
-    requires sites { All (λ m. sites_of m ≡ site.now.place.sites) list.old.items }
-    ensures { All (λ m. sites_of m ≡ site.now.place.sites) list.new.items }
-{
-    let message = message(alloc, text, 2)?;
-    list.push(message)?;
-    Ok(())
-}
-
-/// Parses `text`, and has the message arrive.
-pub fn arrive<G: Gate, R: Threads + Wait + Sync>(
-    rt: &R,
-    site: &mut Site<G>,
-    alloc: Global,
-    text: &str,
-) -> Result<Arrival, Fail>
-    requires { site.old.place.sites ≡ 2 }
-    ensures { site.new.place ≡ site.old.place }
-{
-    let message = message(alloc, text, 2)?;
-    Ok(site.arrive(rt, message)?)
-}
-
-/// Has two users and an item arrive, and returns the answer to the item.
-pub fn arrive_three<G: Gate, R: Threads + Wait + Sync>(
-    rt: &R,
-    site: &mut Site<G>,
-    alloc: Global,
-) -> Result<Arrival, Fail>
-    requires { site.old.place.sites ≡ 2 }
-    ensures { site.new.place ≡ site.old.place }
-{
-    arrive(rt, site, alloc, ANN)?;
-    arrive(rt, site, alloc, BOB)?;
-    arrive(rt, site, alloc, CUP)
-}
-
-/// Has the comment arrive that follows the first `before` messages.
-pub fn arrive_comment<G: Gate, R: Threads + Wait + Sync>(
-    rt: &R,
-    site: &mut Site<G>,
-    alloc: Global,
-    before: u32,
-) -> Result<(), Fail>
-    requires { site.old.place.sites ≡ 2 }
-    ensures { site.new.place ≡ site.old.place }
-{
-    let text = comment_behind(alloc, before)?;
-    arrive(rt, site, alloc, &text)?;
-    Ok(())
-}
-
-/// Two comments that follow the three messages that the site has.
-pub fn two_comments<G: Gate>(alloc: Global, site: &Site<G>) -> Result<Vec<Message>, Fail>
-    requires { site.now.place.sites ≡ 2 }
-    ensures { IfOk result (λ window. All (λ m. sites_of m ≡ site.now.place.sites) window.items) }
-{
-    let first = comment_behind(alloc, 3)?;
-    let second = comment_behind(alloc, 4)?;
-    let mut window = Vec::new(alloc);
-    add_message(alloc, site, &mut window, &first)?;
-    add_message(alloc, site, &mut window, &second)?;
+/// `count` messages, from three on: of two users, an item, and comments on it.
+pub fn many_messages(alloc: Global, count: u32) -> Result<Window, Fail> {
+    let mut window = Window::of(alloc, &[ANN, BOB, CUP])?;
+    for before in 3..count {
+        window.push(alloc, &comment_behind(alloc, before)?)?;
+    }
     Ok(window)
+}
+
+/// Two comments that follow the first three messages.
+pub fn two_comments(alloc: Global) -> Result<Window, Fail> {
+    let (first, second) = (comment_behind(alloc, 3)?, comment_behind(alloc, 4)?);
+    Ok(Window::of(alloc, &[first.as_str(), second.as_str()])?)
+}
+
+impl<G: Gate + Drop> Twin<G> {
+    /// Site `site` of two, with batches of `batch` messages, of which it keeps `keep`.
+    pub fn new(
+        alloc: Global,
+        site: u8,
+        shards: u8,
+        workers: u8,
+        batch: u32,
+        keep: u32,
+        gate: G,
+    ) -> Result<Twin<G>, Fail> {
+        let config = Config::new(site, 2, shards, workers, batch, keep).ok_or("a configuration")?;
+        let site = Site::new(alloc, &config, gate)?;
+        Ok(Twin { site })
+    }
+
+    /// Has the message written as `text` arrive.
+    pub fn arrive(&mut self, rt: &impl Rig, text: &str) -> Result<Arrival, Fail> {
+        let message = message(rt.alloc(), text, 2)?;
+        Ok(self.site.arrive(rt, message)?)
+    }
+
+    /// Has two users and an item arrive: the answers.
+    pub fn arrive_three(&mut self, rt: &impl Rig) -> Result<[Arrival; 3], Fail> {
+        let (ann, bob) = (self.arrive(rt, ANN)?, self.arrive(rt, BOB)?);
+        Ok([ann, bob, self.arrive(rt, CUP)?])
+    }
+
+    /// Has the comment arrive that follows the first `before` messages.
+    pub fn arrive_comment(&mut self, rt: &impl Rig, before: u32) -> Result<Arrival, Fail> {
+        let text = comment_behind(rt.alloc(), before)?;
+        self.arrive(rt, &text)
+    }
 }

@@ -7,22 +7,20 @@ use rubis_pieces::Piece;
 use rubis_schema::Items;
 use rubis_shard::{Shard, Share};
 use std::alloc::{AllocError, Global};
-use std::process::Abort;
 use std::sync::Wait;
-use std::test::*;
+use std::test::Fail;
 use std::thread;
 
 // The piece of that number, of 64, with an empty share.
 fn piece(alloc: Global, number: usize) -> Result<Piece, AllocError>
     requires { number < 64 }
 {
-    Ok(Piece {
-        shard: Shard::new(alloc, number, 64)?,
-        share: Share {
-            number,
-            effects: Items::from(Vec::new(alloc)),
-        },
-    })
+    let share = Share {
+        number,
+        effects: Items::new(alloc),
+    };
+    let shard = Shard::new(alloc, number, 64)?;
+    Ok(Piece { shard, share })
 }
 
 // Takes a piece, of which the test wants the number alone.
@@ -35,26 +33,14 @@ fn take(rt: &impl Wait, board: &Board, pass: &mut Pass) -> Option<usize>
     Some(piece.shard.number())
 }
 
-// Posts pieces 0, 1 and 2, and answers with the one that comes back.
-fn post_three<R: Abort + Wait>(
-    rt: &R,
-    alloc: Global,
-    poster: &mut Poster,
-) -> Result<Option<usize>, AllocError> {
-    for number in 0..2usize {
-        assert!(rt; poster.post(rt, piece(alloc, number)?).is_ok());
-    }
-    match poster.post(rt, piece(alloc, 2)?) {
-        Ok(()) => Ok(None),
-        Err(piece) => Ok(Some(piece.shard.number())),
-    }
-}
-
 #[test]
 fn two_passes_take_in_the_order_of_the_posts(rt: HostRuntime) -> Result<(), Fail> {
     let mut poster = Poster::new(rt.alloc(), 2)?;
-    let back = post_three(&rt, rt.alloc(), &mut poster)?;
-    assert_eq!(rt; back, Some(2));
+    for number in 0..2usize {
+        assert!(rt; poster.post(&rt, piece(rt.alloc(), number)?).is_ok());
+    }
+    let back = poster.post(&rt, piece(rt.alloc(), 2)?).err();
+    assert!(rt; back.is_some_and(|piece| piece.shard.number() == 2));
     let (board, pass) = poster.open();
     let (mut one, mut two) = board.split(pass);
     let numbers = (take(&rt, &board, &mut one), take(&rt, &board, &mut two));
@@ -66,12 +52,7 @@ fn two_passes_take_in_the_order_of_the_posts(rt: HostRuntime) -> Result<(), Fail
 }
 
 // Takes until None, and keeps the pieces' numbers.
-fn drain(
-    rt: &impl Wait,
-    board: &Board,
-    mut pass: Pass,
-    mut numbers: Vec<usize>,
-) -> (Pass, Vec<usize>)
+fn drain(rt: &impl Wait, board: &Board, mut pass: Pass, mut seen: Vec<usize>) -> (Pass, Vec<usize>)
     requires { pass.board ≡ board.now }
     ensures { (result.0.board ≡ board.now) × (result.0.parts ≡ pass.parts) × (result.0.seen_none ≡ true) }
 {
@@ -79,9 +60,9 @@ fn drain(
         let Some(number) = take(rt, board, &mut pass) else {
             break;
         };
-        let _ = numbers.push(number);
+        let _ = seen.push(number);
     }
-    (pass, numbers)
+    (pass, seen)
 }
 
 #[test]

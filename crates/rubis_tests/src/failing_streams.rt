@@ -1,7 +1,9 @@
-//! For tests: readers and a writer that fail.
+//! For tests: a reader and a writer that fail, and runs on them.
 
 ghost use Rattle.std.specs.Prelude.{◌≡◌, Some, Ok, Err, []};
 
+use crate::rigs::Rig;
+use rubis_engine::{Count, RunFault};
 use std::alloc::Global;
 use std::io;
 use std::io::{Read, Write};
@@ -14,11 +16,12 @@ fn broken() -> io::Error {
     io::Error::from(io::ErrorKind::BrokenPipe)
 }
 
-/// Gives a text one byte at a time, and then an error, again and again, in place of its end. Contracts see the bytes that it
-/// still gives.
+/// Gives a text one byte at a time, or all at once as far as there is room for it, and then an error, again and again, in place of
+/// its end. Contracts see the bytes that it still gives.
 #[derive(Drop)]
 pub struct FailingReader<'a> {
     rest: &'a [u8],
+    at_once: bool,
 }
 
 impl<'a> Model for FailingReader<'a> {
@@ -30,11 +33,11 @@ impl<'a> Model for FailingReader<'a> {
 }
 
 impl<'a> FailingReader<'a> {
-    /// A reader that gives `text`, and then fails.
-    pub fn new(text: &'a [u8]) -> FailingReader<'a>
-        ensures { result ≡ text.now }
+    /// A reader that gives this text, and then fails.
+    pub fn new(rest: &'a [u8], at_once: bool) -> FailingReader<'a>
+        ensures { result ≡ rest.now }
     {
-        FailingReader { rest: text }
+        FailingReader { rest, at_once }
     }
 }
 
@@ -42,6 +45,9 @@ impl<'a> Read for FailingReader<'a> {
     ghost remaining = { λ r. Some r };
 
     fn read(&mut self, buf: &mut [u8]) -> io::Result<usize> {
+        if self.at_once && !self.rest.is_empty() {
+            return self.rest.read(buf);
+        }
         match (self.rest.split_first(), buf.first_mut()) {
             (Some((byte, rest)), Some(place)) => {
                 *place = *byte;
@@ -53,46 +59,12 @@ impl<'a> Read for FailingReader<'a> {
     }
 }
 
-/// Gives a text at once, as far as there is room for it, and then an error, again and again, in place of its end. Contracts see
-/// the bytes that it still gives.
-#[derive(Drop)]
-pub struct FailingDelivery<'a> {
-    rest: &'a [u8],
-}
-
-impl<'a> Model for FailingDelivery<'a> {
-    ghost use Rattle.std.specs.Prelude.{ℕ, List};
-
-    ghost Value = { List ℕ };
-
-    ghost view = { λ r. r.rest.now };
-}
-
-impl<'a> FailingDelivery<'a> {
-    /// A reader that gives `text`, and then fails.
-    pub fn new(text: &'a [u8]) -> FailingDelivery<'a>
-        ensures { result ≡ text.now }
-    {
-        FailingDelivery { rest: text }
-    }
-}
-
-impl<'a> Read for FailingDelivery<'a> {
-    ghost remaining = { λ r. Some r };
-
-    fn read(&mut self, buf: &mut [u8]) -> io::Result<usize> {
-        if self.rest.is_empty() {
-            return Err(broken());
-        }
-        self.rest.read(buf)
-    }
-}
-
 /// Takes at most three bytes in one call, and fails at one call; a flush is a call too. Contracts see the bytes that it has
 /// taken.
 #[derive(Drop)]
 pub struct FailingWriter {
     taken: Vec<u8>,
+    // How many calls there were, the failed one among them.
     calls: usize,
     bad: usize,
 }
@@ -115,18 +87,6 @@ impl FailingWriter {
             calls: 0,
             bad,
         }
-    }
-
-    /// The bytes that it has taken.
-    pub fn taken(&self) -> &[u8]
-        ensures { result.now ≡ self.now }
-    {
-        self.taken.as_slice()
-    }
-
-    /// How many calls there were, the failed one among them.
-    pub fn calls(&self) -> usize {
-        self.calls
     }
 
     // Counts a call, and fails if it is the bad one.
@@ -153,4 +113,53 @@ impl Write for FailingWriter {
     fn flush(&mut self) -> io::Result<()> {
         self.call()
     }
+}
+
+// More calls than any writer here gets.
+const CALLS_MAX: usize = 1000;
+
+/// Runs over each prefix of a text, with a reader that fails after it. Each run ends with Read, and has written a prefix of
+/// `answers`: once it has read `from` bytes, one that begins with `sure`.
+pub fn read_until_each_byte<
+    'a,
+    F: FnMut(FailingReader<'a>, &mut Vec<u8>) -> Result<Count, RunFault>,
+>(rt: &impl Rig, text: &'a [u8], answers: &[u8], from: usize, sure: &[u8], mut run: F)
+    requires { F.IsAlwaysCallable run }
+{
+    for cut in 0..text.len() + 1 {
+        let mut out = Vec::new(rt.alloc());
+        let end = run(FailingReader::new(&text[..cut], false), &mut out);
+        assert!(rt; end == Err(RunFault::Read), "after {cut}");
+        assert!(rt; answers.starts_with(out.as_slice()), "after {cut}");
+        assert!(rt;
+            cut < from || out.as_slice().starts_with(sure),
+            "after {cut}"
+        );
+    }
+}
+
+/// Runs with a writer that fails at its first call, at its second, and so on, until a run ends well, with `answers` written. Each
+/// run before ends with Write, and has written a prefix of them. Returns how many those were.
+pub fn write_until_each_call<F: FnMut(&mut FailingWriter) -> Result<Count, RunFault>>(
+    rt: &impl Rig,
+    answers: &[u8],
+    mut run: F,
+) -> usize
+    requires { F.IsAlwaysCallable run }
+{
+    for bad in 1..CALLS_MAX {
+        let mut writer = FailingWriter::new(rt.alloc(), bad);
+        let end = run(&mut writer);
+        if end.is_ok() {
+            assert!(rt; writer.calls < bad);
+            assert!(rt; writer.taken.as_slice() == answers);
+            return bad - 1;
+        }
+        assert!(rt; end == Err(RunFault::Write), "at call {bad}");
+        assert!(rt;
+            answers.starts_with(writer.taken.as_slice()),
+            "at call {bad}"
+        );
+    }
+    panic!(rt; "no run ended well")
 }

@@ -11,8 +11,8 @@ const TURNS: u64 = 50_000_000;
 /// yield can last as long as ten thousand loads.
 const HELD: u64 = 100_000_000;
 
-// Waits until the flag is set, for at most TURNS turns. Returns whether it was.
-fn is_set_in_time(flag: &AtomicBool) -> bool {
+/// Waits until the flag is set, for at most TURNS turns. Returns whether it was.
+pub fn is_set_in_time(flag: &AtomicBool) -> bool {
     for _ in 0..TURNS {
         if flag.load(Ordering::SeqCst) {
             return true;
@@ -29,64 +29,14 @@ fn hold_on(turn: u64) {
     }
 }
 
-/// How many shards were taken, and whether a second one was while the first was held.
-#[derive(Drop)]
-pub struct Meeting {
-    taken: AtomicU64,
-    second: AtomicBool,
-    met: AtomicBool,
-}
-
-impl Meeting {
-    pub fn new() -> Meeting {
-        Meeting {
-            taken: AtomicU64::new(0),
-            second: AtomicBool::new(false),
-            met: AtomicBool::new(false),
-        }
-    }
-
-    pub fn met(&self) -> bool {
-        self.met.load(Ordering::SeqCst)
-    }
-
-    /// How many shards were taken.
-    pub fn taken(&self) -> u64 {
-        self.taken.load(Ordering::SeqCst)
-    }
-}
-
-/// Holds the first shard that is taken until a second is taken.
-#[derive(Drop)]
-pub struct Holding<'a> {
-    pub meeting: &'a Meeting,
-}
-
-impl<'a> Gate for Holding<'a> {
-    fn taken(&self, _piece: usize) {
-        if self.meeting.taken.fetch_add(1, Ordering::SeqCst) > 0 {
-            self.meeting.second.store(true, Ordering::SeqCst);
-        } else if is_set_in_time(&self.meeting.second) {
-            self.meeting.met.store(true, Ordering::SeqCst);
-        }
-    }
-}
-
 /// Which of 64 shards were taken, as bits, and how often the gate was called.
-#[derive(Drop)]
+#[derive(Default, Drop)]
 pub struct Numbers {
     seen: AtomicU64,
     calls: AtomicU64,
 }
 
 impl Numbers {
-    pub fn new() -> Numbers {
-        Numbers {
-            seen: AtomicU64::new(0),
-            calls: AtomicU64::new(0),
-        }
-    }
-
     /// Whether each of the 64 numbers came once: all came, in 64 calls.
     pub fn are_all_seen_once(&self) -> bool {
         self.seen.load(Ordering::SeqCst) == u64::MAX && self.calls.load(Ordering::SeqCst) == 64
@@ -109,7 +59,7 @@ impl Gate for Numbers {
 }
 
 /// Holds the first two shards that are taken until both are taken, and then for HELD turns.
-#[derive(Drop)]
+#[derive(Default, Drop)]
 pub struct HoldsTwo {
     taken: AtomicU64,
     both: AtomicBool,
@@ -117,24 +67,9 @@ pub struct HoldsTwo {
 }
 
 impl HoldsTwo {
-    pub fn new() -> HoldsTwo {
-        HoldsTwo {
-            taken: AtomicU64::new(0),
-            both: AtomicBool::new(false),
-            released: AtomicBool::new(false),
-        }
-    }
-
     /// How many shards were taken before the first one was let go.
     pub fn held(&self) -> u64 {
         self.taken.load(Ordering::SeqCst)
-    }
-
-    // Returns after HELD turns.
-    fn hold(&self) {
-        for turn in 0..HELD {
-            hold_on(turn);
-        }
     }
 }
 
@@ -147,50 +82,39 @@ impl Gate for HoldsTwo {
             self.both.store(true, Ordering::SeqCst);
         }
         if is_set_in_time(&self.both) {
-            self.hold();
+            for turn in 0..HELD {
+                hold_on(turn);
+            }
         }
         self.released.store(true, Ordering::SeqCst);
     }
 }
 
-/// Counts how often each of five shards is taken, in three decimal digits for each. Those of shard 0 are the last three.
-#[derive(Drop)]
-pub struct Counting<'a> {
-    pub taken: &'a AtomicU64,
-}
-
-// One in the digits of shard `piece`.
-fn one_of(piece: usize) -> u64 {
-    match piece {
-        0 => 1,
-        1 => 1_000,
-        2 => 1_000_000,
-        3 => 1_000_000_000,
-        _ => 1_000_000_000_000,
-    }
-}
-
-impl<'a> Gate for Counting<'a> {
-    fn taken(&self, piece: usize) {
-        self.taken.fetch_add(one_of(piece), Ordering::SeqCst);
-    }
-}
-
-/// How many threads hold a shard, and the greatest number that held one at once.
+/// How many shards were taken, and the greatest number of threads that held one at once. Each shard is held until `threads` threads
+/// hold one, or until a wait for them was in vain.
 #[derive(Drop)]
 pub struct Holders {
+    threads: u64,
+    taken: AtomicU64,
     now: AtomicU64,
     most: AtomicU64,
     waited: AtomicBool,
 }
 
 impl Holders {
-    pub fn new() -> Holders {
+    pub fn new(threads: u64) -> Holders {
         Holders {
+            threads,
+            taken: AtomicU64::new(0),
             now: AtomicU64::new(0),
             most: AtomicU64::new(0),
             waited: AtomicBool::new(false),
         }
+    }
+
+    /// How many shards were taken.
+    pub fn taken(&self) -> u64 {
+        self.taken.load(Ordering::SeqCst)
     }
 
     /// The greatest number of threads that held a shard at once since the last call.
@@ -199,10 +123,12 @@ impl Holders {
         self.most.swap(0, Ordering::SeqCst)
     }
 
-    // Waits until `threads` threads hold a shard, for at most HELD turns. After a wait in vain the others don't wait.
-    fn wait(&self, threads: u64) {
+    // Waits until enough threads hold a shard, for at most HELD turns. After a wait in vain the others don't wait.
+    fn wait(&self) {
         for turn in 0..HELD {
-            if self.most.load(Ordering::SeqCst) >= threads || self.waited.load(Ordering::SeqCst) {
+            if self.most.load(Ordering::SeqCst) >= self.threads
+                || self.waited.load(Ordering::SeqCst)
+            {
                 return;
             }
             hold_on(turn);
@@ -211,26 +137,18 @@ impl Holders {
     }
 }
 
-/// Holds each shard until `threads` threads hold one, or until a wait for them was in vain.
-#[derive(Drop)]
-pub struct Gathering<'a> {
-    pub holders: &'a Holders,
-    pub threads: u64,
-}
-
-impl<'a> Gate for Gathering<'a> {
+impl<'a> Gate for &'a Holders {
     fn taken(&self, _piece: usize) {
-        let now = self.holders.now.fetch_add(1, Ordering::SeqCst);
-        self.holders
-            .most
-            .fetch_max(now.saturating_add(1), Ordering::SeqCst);
-        self.holders.wait(self.threads);
-        self.holders.now.fetch_sub(1, Ordering::SeqCst);
+        self.taken.fetch_add(1, Ordering::SeqCst);
+        let now = self.now.fetch_add(1, Ordering::SeqCst);
+        self.most.fetch_max(now.saturating_add(1), Ordering::SeqCst);
+        self.wait();
+        self.now.fetch_sub(1, Ordering::SeqCst);
     }
 }
 
-/// Whether the caller's closure ran while a worker held a shard.
-#[derive(Drop)]
+/// Whether the caller's closure ran while a worker held a shard. Each shard is held until it has run.
+#[derive(Default, Drop)]
 pub struct Halves {
     taken: AtomicBool,
     ran: AtomicBool,
@@ -238,14 +156,6 @@ pub struct Halves {
 }
 
 impl Halves {
-    pub fn new() -> Halves {
-        Halves {
-            taken: AtomicBool::new(false),
-            ran: AtomicBool::new(false),
-            late: AtomicBool::new(false),
-        }
-    }
-
     /// Runs as the closure. Returns whether a worker took a shard meanwhile.
     pub fn run(&self) -> bool {
         let met = is_set_in_time(&self.taken);
@@ -259,17 +169,11 @@ impl Halves {
     }
 }
 
-/// Holds each shard until the closure has run.
-#[derive(Drop)]
-pub struct WaitingGate<'a> {
-    pub halves: &'a Halves,
-}
-
-impl<'a> Gate for WaitingGate<'a> {
+impl Gate for Halves {
     fn taken(&self, _piece: usize) {
-        self.halves.taken.store(true, Ordering::SeqCst);
-        if !is_set_in_time(&self.halves.ran) {
-            self.halves.late.store(true, Ordering::SeqCst);
+        self.taken.store(true, Ordering::SeqCst);
+        if !is_set_in_time(&self.ran) {
+            self.late.store(true, Ordering::SeqCst);
         }
     }
 }

@@ -1,75 +1,13 @@
-//! Tests of the machine of every schedule, event by event.
+//! Tests of two pieces on the machine of every schedule, event by event, and folded by two workers.
 
-ghost use Rattle.std.specs.Prelude.{◌<◌, IfOk};
-ghost use Rattle.std.specs.List.{All};
-ghost use Rattle.rubis_pieces.specs.Work.{IsPiece};
+ghost use Rattle.std.specs.Prelude.{◌<◌};
 
-use rubis_pieces::{Done, Piece, Places, gather};
+use crate::purchases::{SCHEDULE, both_pieces, has_purchase, piece, two_shares};
+use rubis_pieces::{Done, Places, gather};
 use rubis_pool_core::{Event, Pool, run};
-use rubis_schema::{Id, Items, PurchaseRow, Row, RowKey, shard_of};
-use rubis_shadow::{Change, Effect, Numbered};
-use rubis_shard::{Shard, Share};
-use std::alloc::Global;
-use std::test::*;
-
-const SCHEDULE: [Event; 6] = [
-    Event::Take(0),
-    Event::Take(1),
-    Event::Apply(1),
-    Event::Back(1),
-    Event::Apply(0),
-    Event::Back(0),
-];
-
-// The part that puts purchase 0.1 into shard 0 of 2, or 0.2 into shard 1.
-fn purchase(number: usize) -> Numbered
-    requires { number < 2 }
-{
-    let id = Id {
-        site: 0,
-        seq: number as u32 + 1,
-    };
-    let row = PurchaseRow {
-        item: id,
-        buyer: id,
-        quantity: 1,
-    };
-    Numbered {
-        entry: id.seq,
-        part: 1,
-        id,
-        effect: Effect {
-            key: RowKey::Purchase(id),
-            change: Change::Insert(Row::Purchase(row)),
-        },
-    }
-}
-
-/// The piece of shard 0 or 1 of 2, with that part.
-pub fn piece(alloc: Global, number: usize) -> Result<Piece, Fail>
-    requires { number < 2 }
-    ensures { IfOk result (λ piece. IsPiece piece) }
-{
-    let shard = Shard::new(alloc, number, 2)?;
-    let part = purchase(number);
-    if shard_of(&part.effect.key, 2) != number {
-        return Err(Fail::from("another home"));
-    }
-    let mut parts = Vec::new(alloc);
-    parts.push(part)?;
-    let share = Share {
-        number,
-        effects: Items::from(parts),
-    };
-    Ok(Piece { shard, share })
-}
-
-/// Whether this is shard 0 or 1 of 2, and has the purchase of its part.
-pub fn has_purchase(shard: &Shard, number: usize) -> bool
-    requires { number < 2 }
-{
-    shard.number() == number && shard.row(&purchase(number).effect.key).is_some()
-}
+use rubis_shard::Shard;
+use rubis_workers::{Free, apply_beside};
+use std::test::Fail;
 
 // What the worker that had this piece returned: its one part is done.
 fn is_returned(done: &Done, number: usize) -> bool
@@ -86,12 +24,6 @@ fn is_in_order_of_return(back: &[Done]) -> bool {
     }
 }
 
-fn both_pieces(alloc: Global) -> Result<Vec<Piece>, Fail>
-    ensures { IfOk result (λ pieces. All IsPiece pieces.items) }
-{
-    Ok(vec![in alloc; piece(alloc, 0)?, piece(alloc, 1)?]?)
-}
-
 #[test]
 fn two_workers_return_out_of_order(rt: HostRuntime) -> Result<(), Fail> {
     let pieces = both_pieces(rt.alloc())?;
@@ -99,24 +31,35 @@ fn two_workers_return_out_of_order(rt: HostRuntime) -> Result<(), Fail> {
     assert_eq!(rt; pool.step(Event::Take(0))?, false);
     let back = pool.into_back();
     assert!(rt; is_in_order_of_return(back.as_slice()));
-    let Ok(gathered) = gather(back, Places::new(rt.alloc(), 2)?) else {
-        return Err(Fail::from("not one set"));
-    };
-    assert!(rt; gathered.left.is_empty());
+    let gathered = gather(back, Places::new(rt.alloc(), 2)?).or(Err("not one set"))?;
     let numbers = gathered.shards.as_slice().iter().map(Shard::number);
-    assert!(rt; numbers.eq(0..2));
+    assert!(rt; numbers.eq(0..2) && gathered.left.is_empty());
     Ok(())
 }
 
 #[test]
 fn each_step_says_that_it_was_done(rt: HostRuntime) -> Result<(), Fail> {
     let mut pool = Pool::new(rt.alloc(), 2, 2)?;
-    assert!(rt; pool.post(piece(rt.alloc(), 0)?).is_ok());
-    assert!(rt; pool.post(piece(rt.alloc(), 1)?).is_ok());
-    assert!(rt; pool.post(piece(rt.alloc(), 1)?).is_err());
+    for (number, fits) in [(0_usize, true), (1, true), (1, false)] {
+        assert!(rt; pool.post(piece(rt.alloc(), number)?).is_ok() == fits);
+    }
     for event in SCHEDULE {
         assert!(rt; pool.step(event)?);
     }
     assert!(rt; is_in_order_of_return(pool.into_back().as_slice()));
+    Ok(())
+}
+
+#[test]
+fn two_shares_are_folded_while_a_closure_runs(rt: HostRuntime) -> Result<(), Fail> {
+    let (shards, shares) = two_shares(rt.alloc())?;
+    let (worked, seven) = apply_beside(&rt, rt.alloc(), shards, shares, 2, &Free, || 7);
+    assert_eq!(rt; seven, 7);
+    let worked = worked.or(Err("no room"))?;
+    assert!(rt; worked.left.is_empty());
+    match worked.shards.as_slice() {
+        [first, second] => assert!(rt; has_purchase(first, 0) && has_purchase(second, 1)),
+        _ => assert!(rt; false, "not two shards"),
+    }
     Ok(())
 }

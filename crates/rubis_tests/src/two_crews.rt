@@ -3,15 +3,13 @@
 ghost use Rattle.std.specs.Prelude.{◌≡◌, true, [], IfOk};
 ghost use Rattle.rubis_crew.specs.Both.{IsAt};
 
+use crate::gates::is_set_in_time;
+use crate::rigs::Rig;
 use rubis_crew::{Both, Crew, Found, Helper, Job, Lead};
-use std::alloc::{AllocError, Global};
-use std::process::Abort;
-use std::rt::Clock;
-use std::sync::Wait;
+use std::alloc::AllocError;
 use std::sync::atomic::{AtomicBool, Ordering};
 use std::test::Fail;
 use std::thread;
-use std::thread::Threads;
 use std::time::Duration;
 
 // For how many turns the one who gives jobs waits for what a helper does.
@@ -40,33 +38,31 @@ impl Job for Doubling {
     }
 }
 
+// A crew that doubles numbers, and the permission to give it jobs.
+type Doublers = Crew<Doubling>;
+
+type Giver = Lead<Doubling>;
+
 // The permissions to give jobs to two crews.
 #[derive(Drop)]
 struct Leads {
-    first: Lead<Doubling>,
-    second: Lead<Doubling>,
+    first: Giver,
+    second: Giver,
 }
 
 // Two crews for two helpers, of which the second was made beside the first.
-struct Crews {
-    first: Crew<Doubling>,
-    second: Crew<Doubling>,
-    leads: Leads,
-}
-
-fn two_crews<R: Wait>(rt: &R, alloc: Global) -> Result<Crews, AllocError>
-    ensures { IfOk result (λ made. (made.leads.first.crew ≡ made.first.id) × (made.leads.second.crew ≡ made.second.id)) }
+fn two_crews(rt: &impl Rig) -> Result<(Doublers, Doublers, Leads), AllocError>
+    ensures { IfOk result (λ made. (made.2.first.crew ≡ made.0.id) × (made.2.second.crew ≡ made.1.id)) }
 {
-    let (first, mut lead) = Crew::new(rt, alloc, 2, 2)?;
-    match Crew::beside(rt, alloc, 2, &first) {
-        Ok((second, other)) => Ok(Crews {
-            first,
-            second,
-            leads: Leads {
+    let (first, mut lead) = Crew::new(rt, rt.alloc(), 2, 2)?;
+    match Crew::beside(rt, rt.alloc(), 2, &first) {
+        Ok((second, other)) => {
+            let leads = Leads {
                 first: lead,
                 second: other,
-            },
-        }),
+            };
+            Ok((first, second, leads))
+        }
         Err(fault) => {
             first.end(rt, &mut lead);
             first.close(lead);
@@ -75,24 +71,13 @@ fn two_crews<R: Wait>(rt: &R, alloc: Global) -> Result<Crews, AllocError>
     }
 }
 
-// Gives a job.
-fn give<R: Abort + Wait>(rt: &R, crew: &Crew<Doubling>, lead: &mut Lead<Doubling>, number: u32)
+// Gives a job to helpers that sleep by now, and returns the result, which comes before any helper leaves.
+fn wake(rt: &impl Rig, crew: &Doublers, lead: &mut Giver, left: &AtomicBool, number: u32) -> u64
     requires { lead.old.crew ≡ crew.now.id }
     ensures { lead.new.crew ≡ crew.now.id }
 {
+    thread::sleep(rt, Duration::from_millis(2));
     assert!(rt; crew.give(rt, lead, Doubling { number }).is_ok());
-}
-
-// The result of a job that a helper has to do, before any helper leaves.
-fn take<R: Abort + Wait>(
-    rt: &R,
-    crew: &Crew<Doubling>,
-    lead: &mut Lead<Doubling>,
-    left: &AtomicBool,
-) -> u64
-    requires { lead.old.crew ≡ crew.now.id }
-    ensures { lead.new.crew ≡ crew.now.id }
-{
     for _ in 0..TURNS {
         if let Some(back) = crew.take_back(rt, lead) {
             return back.result;
@@ -103,29 +88,8 @@ fn take<R: Abort + Wait>(
     panic!(rt; "no helper came for a job")
 }
 
-// Gives a job to helpers that sleep by now, and returns the result.
-fn wake<R: Abort + Clock + Wait>(
-    rt: &R,
-    crew: &Crew<Doubling>,
-    lead: &mut Lead<Doubling>,
-    left: &AtomicBool,
-    number: u32,
-) -> u64
-    requires { lead.old.crew ≡ crew.now.id }
-    ensures { lead.new.crew ≡ crew.now.id }
-{
-    thread::sleep(rt, Duration::from_millis(2));
-    give(rt, crew, lead, number);
-    take(rt, crew, lead, left)
-}
-
 // Gives jobs to the crew one by one, and returns the sum of the results.
-fn wake_often<R: Abort + Clock + Wait>(
-    rt: &R,
-    crew: &Crew<Doubling>,
-    lead: &mut Lead<Doubling>,
-    left: &AtomicBool,
-) -> u64
+fn wake_often(rt: &impl Rig, crew: &Doublers, lead: &mut Giver, left: &AtomicBool) -> u64
     requires { lead.old.crew ≡ crew.now.id }
     ensures { lead.new.crew ≡ crew.now.id }
 {
@@ -137,10 +101,10 @@ fn wake_often<R: Abort + Clock + Wait>(
 }
 
 // Gives jobs to both crews in turn, and returns the sum of the results.
-fn wake_in_turn<R: Abort + Clock + Wait>(
-    rt: &R,
-    first: &Crew<Doubling>,
-    second: &Crew<Doubling>,
+fn wake_in_turn(
+    rt: &impl Rig,
+    first: &Doublers,
+    second: &Doublers,
     leads: &mut Leads,
     left: &AtomicBool,
 ) -> u64
@@ -157,7 +121,7 @@ fn wake_in_turn<R: Abort + Clock + Wait>(
 }
 
 // Ends a crew to which all results came back.
-fn end<R: Abort + Wait>(rt: &R, crew: &Crew<Doubling>, lead: &mut Lead<Doubling>)
+fn end(rt: &impl Rig, crew: &Doublers, lead: &mut Giver)
     requires { lead.old.crew ≡ crew.now.id }
     ensures { (lead.new.crew ≡ crew.now.id) × (lead.new.ended ≡ true) × (lead.new.given ≡ []) }
 {
@@ -165,22 +129,11 @@ fn end<R: Abort + Wait>(rt: &R, crew: &Crew<Doubling>, lead: &mut Lead<Doubling>
     crew.end(rt, lead);
 }
 
-// Waits until the helpers have left.
-fn see_them_leave<R: Abort>(rt: &R, left: &AtomicBool) {
-    for _ in 0..TURNS {
-        if left.load(Ordering::SeqCst) {
-            return;
-        }
-        thread::yield_now();
-    }
-    panic!(rt; "a helper was told of no end")
-}
-
 // Gives jobs to both crews in turn, ends the first, gives jobs to the second, and ends it. Returns the sum of the results.
-fn lead_both<R: Abort + Clock + Wait>(
-    rt: &R,
-    first: &Crew<Doubling>,
-    second: &Crew<Doubling>,
+fn lead_both(
+    rt: &impl Rig,
+    first: &Doublers,
+    second: &Doublers,
     mut leads: Leads,
     left: &AtomicBool,
 ) -> (u64, Leads)
@@ -192,31 +145,32 @@ fn lead_both<R: Abort + Clock + Wait>(
     end(rt, first, &mut leads.first);
     let more = wake_often(rt, second, &mut leads.second, left);
     end(rt, second, &mut leads.second);
-    see_them_leave(rt, left);
+    assert!(rt; is_set_in_time(left), "a helper was told of no end");
     (both.wrapping_add(more), leads)
 }
 
-// Has both helpers stay, and says when they left.
-fn stay_all<R: Threads + Wait + Sync>(
-    rt: &R,
-    first: &Crew<Doubling>,
-    second: &Crew<Doubling>,
+// Has the helper stay, alone or with all others, and says when they left.
+fn stay(
+    rt: &impl Rig,
+    first: &Doublers,
+    second: &Doublers,
     mut helper: Both<Doubling, Doubling>,
+    all: bool,
     left: &AtomicBool,
 )
     requires { IsAt first.now.id second.now.id helper }
 {
-    helper.stay_all(rt, first, second);
+    if all {
+        helper.stay_all(rt, first, second);
+    } else {
+        helper.stay(rt, first, second);
+    }
     left.store(true, Ordering::SeqCst);
 }
 
 #[test]
 fn helpers_stay_until_both_crews_are_ended(rt: HostRuntime) -> Result<(), Fail> {
-    let Crews {
-        first,
-        second,
-        mut leads,
-    } = two_crews(&rt, rt.alloc())?;
+    let (first, second, mut leads) = two_crews(&rt)?;
     let helper = Both::new(
         first.helper(&mut leads.first),
         second.helper(&mut leads.second),
@@ -224,7 +178,7 @@ fn helpers_stay_until_both_crews_are_ended(rt: HostRuntime) -> Result<(), Fail> 
     let left = AtomicBool::new(false);
     let ((), (sum, leads)) = thread::join(
         &rt,
-        || stay_all(&rt, &first, &second, helper, &left),
+        || stay(&rt, &first, &second, helper, true, &left),
         || lead_both(&rt, &first, &second, leads, &left),
     );
     let jobs = (first.close(leads.first), second.close(leads.second));
@@ -234,10 +188,10 @@ fn helpers_stay_until_both_crews_are_ended(rt: HostRuntime) -> Result<(), Fail> 
 
 // Ends the first crew, gives jobs to the second, and ends it. Another helper, of the first crew alone, finds its end there, after the
 // helper of both looked for jobs ten times more.
-fn lead_beside<R: Abort + Clock + Wait>(
-    rt: &R,
-    first: &Crew<Doubling>,
-    second: &Crew<Doubling>,
+fn lead_beside(
+    rt: &impl Rig,
+    first: &Doublers,
+    second: &Doublers,
     mut leads: Leads,
     mut own: Helper<Doubling>,
     left: &AtomicBool,
@@ -251,31 +205,13 @@ fn lead_beside<R: Abort + Clock + Wait>(
     wake_often(rt, second, &mut leads.second, left);
     assert_eq!(rt; first.help(rt, &mut own), Found::Over);
     end(rt, second, &mut leads.second);
-    see_them_leave(rt, left);
+    assert!(rt; is_set_in_time(left), "a helper was told of no end");
     leads
-}
-
-// Has one helper stay, and says when it left.
-fn stay<R: Wait>(
-    rt: &R,
-    first: &Crew<Doubling>,
-    second: &Crew<Doubling>,
-    mut helper: Both<Doubling, Doubling>,
-    left: &AtomicBool,
-)
-    requires { IsAt first.now.id second.now.id helper }
-{
-    helper.stay(rt, first, second);
-    left.store(true, Ordering::SeqCst);
 }
 
 #[test]
 fn a_helper_of_two_crews_takes_one_end_of_each(rt: HostRuntime) -> Result<(), Fail> {
-    let Crews {
-        first,
-        second,
-        mut leads,
-    } = two_crews(&rt, rt.alloc())?;
+    let (first, second, mut leads) = two_crews(&rt)?;
     let own = first.helper(&mut leads.first);
     let helper = Both::new(
         first.helper(&mut leads.first),
@@ -284,7 +220,7 @@ fn a_helper_of_two_crews_takes_one_end_of_each(rt: HostRuntime) -> Result<(), Fa
     let left = AtomicBool::new(false);
     let ((), leads) = thread::join(
         &rt,
-        || stay(&rt, &first, &second, helper, &left),
+        || stay(&rt, &first, &second, helper, false, &left),
         || lead_beside(&rt, &first, &second, leads, own, &left),
     );
     let jobs = (first.close(leads.first), second.close(leads.second));

@@ -1,8 +1,8 @@
 //! Tests of the widener: each record as it is read, and streams that fail.
 
-use crate::failing_streams::{FailingReader, FailingWriter};
+use crate::failing_streams::{read_until_each_byte, write_until_each_call};
 use rubis_audit::run_widen;
-use rubis_engine::{Count, RunFault};
+use rubis_engine::Count;
 
 const LOG: &[u8] = b"site,0\nmsg,1,0,1,1,0:0,user,ann\nrow,user,0.1,ann,0,0,0,0\n";
 
@@ -28,22 +28,21 @@ fn a_message_before_any_site_is_a_bad_record(rt: HostRuntime) {
 
 #[test]
 fn a_failing_reader(rt: HostRuntime) {
-    for cut in 0..LOG.len() {
-        let mut out = Vec::new(rt.alloc());
-        let reader = FailingReader::new(&LOG[..cut]);
-        let end = run_widen(rt.alloc(), reader, &mut out, 2, 4);
-        assert!(rt; end == Err(RunFault::Read), "after {cut} bytes");
-        assert!(rt; WIDENED.starts_with(out.as_slice()), "after {cut} bytes");
-    }
+    read_until_each_byte(
+        &rt,
+        LOG,
+        WIDENED,
+        0,
+        b"",
+        |reader, out| run_widen(rt.alloc(), reader, out, 2, 4),
+    );
 }
 
 #[test]
 fn a_failing_writer(rt: HostRuntime) {
-    for bad in 1..60 {
-        let mut writer = FailingWriter::new(rt.alloc(), bad);
-        let end = run_widen(rt.alloc(), LOG, &mut writer, 2, 4);
-        assert!(rt; end.is_ok() || end == Err(RunFault::Write));
-        assert!(rt; WIDENED.starts_with(writer.taken()), "at call {bad}");
-        assert!(rt; end.is_err() || writer.taken() == WIDENED, "at call {bad}");
-    }
+    write_until_each_call(
+        &rt,
+        WIDENED,
+        |writer| run_widen(rt.alloc(), LOG, writer, 2, 4),
+    );
 }

@@ -3,7 +3,7 @@ use Rattle.rubis_shard.specs.States.{ShardState}
 use Rattle.rubis_shard.specs.Holdings.{AreInOrder}
 use Rattle.rubis_pieces.specs.Shares.{AreShares}
 use Rattle.rubis_pieces.proofs.Folded.{belongs}
-use Rattle.rubis_tests.proofs.meeting.empty_batch.Goals as goal
+use Rattle.rubis_tests.proofs.threads.empty_batch.Goals as goal
 
 pub returns-clause-belong : goal.returns-clause-belong
 returns-clause-belong g c =

@@ -6,7 +6,7 @@ use Rattle.rubis_engine.specs.Text.{rows_text}
 use Rattle.rubis_engine.specs.declared.service.Course.TheVariants.{GoesOn}
 use Rattle.rubis_engine.proofs.AnswerFacts.{answers-waiting}
 use Rattle.rubis_engine.proofs.TextFacts.{text-goes}
-use Rattle.rubis_tests.proofs.echoes.EchoService.answer.Goals as goal
+use Rattle.rubis_tests.proofs.services.EchoService.answer.Goals as goal
 
 pub returns-clause-answer : goal.returns-clause-answer
 returns-clause-answer g c =

@@ -1,6 +1,6 @@
 use Rattle.std.proofs.Common.{[], ◌∷◌, sym, subst}
 use Rattle.rubis_pieces.specs.Batches.{Belong}
-use Rattle.rubis_tests.proofs.shares.lists_of.Goals as goal
+use Rattle.rubis_tests.proofs.purchases.lists_of.Goals as goal
 
 pub returns : goal.returns
 returns c =

@@ -1,5 +1,5 @@
 use Rattle.std.proofs.Common.{◌≡◌}
-use Rattle.rubis_tests.proofs.two_crews.take.Given as goal
+use Rattle.rubis_tests.proofs.two_crews.wake.Given as goal
 
 abbrev pub invariant-loop : goal.invariant-loop
 invariant-loop g l = l.lead.crew ≡ l.crew.id
