@@ -22,6 +22,7 @@ number_read : (bits : ℕ) (text : Text) (r : Option ℕ) (m : ℕ) → Reads bi
 number_read bits text (Some n) m read (numeral, fits, is) = ap (λ n. Some n) (read.0.1 ∙ sym is)
 number_read bits text None m read (numeral, fits, is) = absurd (read.1.0 (numeral, fits))
 
+-- what is read of an option is its number, where it may not be given and where it has a default
 pub given_number : (bits : ℕ) (m : ArgMatches) (name : Text) (r : Option ℕ) → (one_text (found_of m) name ≡ None → r ≡ None)
     → ((t : Text) → one_text (found_of m) name ≡ Some t → Reads bits t r) → IsGivenNumber bits (rows_of (found_of m)) name r
 given_number bits m name r none value =

@@ -85,7 +85,7 @@ program_alone = record (new_app (codes "rubis")) { top = record (new_app (codes 
 abbrev pub command_line : App
 command_line = with_commands program_alone commands
 
--- what the code's table says of an argument
+-- an argument of this name and kind
 abbrev pub rule_by : Text → ArgumentKind → Rule
 rule_by name (Number low high default) = number_option name low high default.now
 rule_by name (OptionalNumber low high) = given_option name low high
@@ -93,18 +93,18 @@ rule_by name Flag = flag_option name
 rule_by name (RequiredText shown) = required_text name
 rule_by name (DefaultText shown default) = default_text name default.now
 
+-- what a row of the code's table says of an argument, and of a command
 abbrev pub rule_in : Argument → Rule
 rule_in argument = rule_by argument.name.now argument.kind
 
--- and of a command
 abbrev pub app_in : CommandRow → App
-app_in entry = command_of entry.name.now (map rule_in entry.arguments.now)
+app_in row = command_of row.name.now (map rule_in row.arguments.now)
 
 -- a text writes n in decimal digits, optionally after a plus sign, and n has at most `bits` bits
 abbrev pub Writes : ℕ → Text → ℕ → Type 0
 Writes bits text n = IsNumeral 10 (without_leading_plus text) × (digits_value 10 (without_leading_plus text) < 2 ^ bits) × (n ≡ digits_value 10 (without_leading_plus text))
 
--- n is the number that the rows have at this name
+-- n is the number that the text of this name writes, if it writes one
 abbrev pub IsNumberOf : ℕ → List Row → Text → ℕ → Type 0
 IsNumberOf bits rows name n = (text : Text) (m : ℕ) → one_of name rows ≡ Some text → Writes bits text m → n ≡ m
 
