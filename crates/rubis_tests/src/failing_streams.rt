@@ -2,12 +2,12 @@
 
 ghost use Rattle.std.specs.Prelude.{◌≡◌, Some, Ok, Err, []};
 
-use crate::rigs::Rig;
 use rubis_engine::{Count, RunFault};
 use std::alloc::Global;
 use std::io;
 use std::io::{Read, Write};
 use std::marker::Model;
+use std::process::Abort;
 
 /// The most bytes that a `FailingWriter` takes in one call.
 const BYTES_A_CALL: usize = 3;
@@ -123,7 +123,14 @@ const CALLS_MAX: usize = 1000;
 pub fn read_until_each_byte<
     'a,
     F: FnMut(FailingReader<'a>, &mut Vec<u8>) -> Result<Count, RunFault>,
->(rt: &impl Rig, text: &'a [u8], answers: &[u8], from: usize, sure: &[u8], mut run: F)
+>(
+    rt: &(impl Abort + AllocGlobal),
+    text: &'a [u8],
+    answers: &[u8],
+    from: usize,
+    sure: &[u8],
+    mut run: F,
+)
     requires { F.IsAlwaysCallable run }
 {
     for cut in 0..text.len() + 1 {
@@ -141,7 +148,7 @@ pub fn read_until_each_byte<
 /// Runs with a writer that fails at its first call, at its second, and so on, until a run ends well, with `answers` written. Each
 /// run before ends with Write, and has written a prefix of them. Returns how many those were.
 pub fn write_until_each_call<F: FnMut(&mut FailingWriter) -> Result<Count, RunFault>>(
-    rt: &impl Rig,
+    rt: &(impl Abort + AllocGlobal),
     answers: &[u8],
     mut run: F,
 ) -> usize
