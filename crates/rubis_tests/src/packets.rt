@@ -50,10 +50,9 @@ fn four_messages_arrive_together_where_two_are_kept(rt: HostRuntime) -> Result<(
 // Has the four arrive twice, while fewer than `most` may be pending, and cuts. Returns the number of messages that the cut applied.
 fn take_twice_and_cut(rt: &impl Rig, most: usize) -> Result<u32, Fail> {
     let mut twin = twin_of(rt.alloc(), 1, 64, 2)?;
-    for _ in 0..2 {
-        twin.site
-            .arrive_within(rt, four_users(rt.alloc())?.messages, most);
-    }
+    let (first, second) = (four_users(rt.alloc())?, four_users(rt.alloc())?);
+    twin.site.arrive_within(rt, first.messages, most);
+    twin.site.arrive_within(rt, second.messages, most);
     Ok(twin.site.cut(rt)?)
 }
 

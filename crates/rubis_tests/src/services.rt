@@ -83,7 +83,7 @@ const INPUT: &[u8; 25] = b"ann,1\r\nbob\n\n\"c\"\"d\"\n,\nlast";
 const WANT: &[u8; 44] = b"got,ann,1\ngot,bob\ngot,\"c\"\"d\"\ngot,,\ngot,last\n";
 
 // Runs an echo, which asks the reader for `at_once` bytes at a time.
-fn echo<R: Read + Drop, W: Write>(
+fn run_echo<R: Read + Drop, W: Write>(
     alloc: Global,
     reader: R,
     writer: &mut W,
@@ -98,7 +98,7 @@ fn echo<R: Read + Drop, W: Write>(
 #[test]
 fn answers_in_order(rt: HostRuntime) {
     let mut out = Vec::new(rt.alloc());
-    let end = echo(rt.alloc(), INPUT.as_slice(), &mut out, 4, 5);
+    let end = run_echo(rt.alloc(), INPUT.as_slice(), &mut out, 4, 5);
     assert!(rt; end == Ok(Count { records: 5 }));
     assert!(rt; out.as_slice() == WANT.as_slice());
 }
@@ -106,7 +106,7 @@ fn answers_in_order(rt: HostRuntime) {
 #[test]
 fn stops_at_the_limit(rt: HostRuntime) {
     let mut out = Vec::new(rt.alloc());
-    let end = echo(rt.alloc(), INPUT.as_slice(), &mut out, 4, 1);
+    let end = run_echo(rt.alloc(), INPUT.as_slice(), &mut out, 4, 1);
     assert!(rt; end == Err(RunFault::TooLong));
     assert!(rt; out.as_slice() == b"got,ann,1\n".as_slice());
 }
@@ -114,14 +114,14 @@ fn stops_at_the_limit(rt: HostRuntime) {
 #[test]
 fn a_failing_reader(rt: HostRuntime) {
     read_until_each_byte(&rt, INPUT, WANT, 12, &WANT[..18], |reader, out| {
-        echo(rt.alloc(), reader, out, 4, 9)
+        run_echo(rt.alloc(), reader, out, 4, 9)
     });
 }
 
 #[test]
 fn a_failing_writer(rt: HostRuntime) {
     let failed = write_until_each_call(&rt, WANT, |writer| {
-        echo(rt.alloc(), INPUT.as_slice(), writer, 4, 9)
+        run_echo(rt.alloc(), INPUT.as_slice(), writer, 4, 9)
     });
     assert!(rt; failed > WANT.len().div_ceil(3));
 }
@@ -191,7 +191,7 @@ fn answers_before_it_asks_for_more(rt: HostRuntime) {
             written: 0,
             flushed: &flushed,
         };
-        let end = echo(rt.alloc(), reader, &mut writer, 16, 9);
+        let end = run_echo(rt.alloc(), reader, &mut writer, 16, 9);
         assert!(rt; end == Ok(Count { records: 3 }));
         assert!(rt; !late.get());
     }

@@ -46,7 +46,7 @@ fn list_user(rt: &impl Rig, world: &mut World) -> Result<(), Fail> {
     let came = world.deliver(rt, 1, 1)?;
     assert!(rt; matches!(came, Happened::Came(Arrival::Released(1))));
     let listed = world.at(rt, 1, Request::List(Listing::Users))?;
-    assert!(rt; matches!(listed, Happened::Rows(rows) if rows.len() == 1));
+    assert!(rt; matches!(&listed, Happened::Rows(rows) if rows.len() == 1));
     Ok(())
 }
 
