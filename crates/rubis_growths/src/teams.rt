@@ -1,6 +1,8 @@
 //! Shares that several workers fold, and the machine of every schedule.
 
 ghost use Rattle.std.specs.Prelude.{◌<◌, ◌≤◌, length};
+ghost use Rattle.rubis_pieces.specs.Batches.{Belong};
+ghost use Rattle.rubis_shard.specs.Holdings.{AreInOrder};
 
 use crate::records::shop;
 use crate::telling::{Host, Stop, TRIES, tell_refused, tell_rows};
@@ -71,10 +73,13 @@ pub fn two_shares_beside(rt: &impl Host) -> Result<(), Stop> {
 }
 
 // Has two workers fold what came back.
-fn apply_again(rt: &impl Host, back: Unstarted) -> Result<Worked, Stop> {
+fn apply_again(rt: &impl Host, back: Unstarted) -> Result<Worked, Stop>
+    requires some { 0 < length back.shards }
+    requires order { AreInOrder back.shards }
+    requires belong { Belong back.shards back.shares }
+{
     tell_refused(rt, "apply_all", are_both_back(&back));
-    let tables = Tables::from_shards(back.shards.into()).or(Err(Stop::GaveUp))?;
-    let (shards, shares) = (tables.into_shards(), back.shares.into());
+    let (shards, shares) = (back.shards.into(), back.shares.into());
     apply_all(rt, rt.alloc(), shards, shares, 2, &Free).or(Err(Stop::GaveUp))
 }
 
