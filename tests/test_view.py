@@ -241,7 +241,14 @@ def test_what_is_refused(at: Folder) -> None:
     at.shop("view view.db --once")
     at.shop("view view.db --once --site 1", 2, "view.db is a view of site 0")
     view = at.start("./shop -C auction view view.db")
-    at.wait("its writer", lambda: "another process writes this view" in at.run("./shop -C auction view view.db --once 2>&1; true"))
+
+    def is_refused() -> bool:
+        nonlocal view
+        if view.poll() is not None:  # the one that was to be refused had been first
+            view = at.start("./shop -C auction view view.db")
+        return "another process writes this view" in at.run("./shop -C auction view view.db --once 2>&1; true")
+
+    at.wait("its writer", is_refused)
     view.kill()
 
 
