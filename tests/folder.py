@@ -66,7 +66,7 @@ class Folder:
         return self.run(f"./shop -C {folder} {words}", status, says)
 
     def start_sale(self, sites: int = 1, options: str = "", published: bool = False) -> None:
-        """Starts a shop of so many sites, and sells something at the first."""
+        """Starts a shop with this number of sites, and sells something at the first."""
         self.run(f"./shop start auction --sites {sites} {options}")
         self.shop(f"ask 0 {SALE}{' --published' * published}")
 

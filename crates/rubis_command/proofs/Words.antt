@@ -13,7 +13,7 @@ use Rattle.clap.specs.declared.error.kind.ErrorKind.TheVariants.{OutOfMemory}
 use Rattle.clap.proofs.OnLiterals.{clap_on_literals}
 use Rattle.rubis_command.specs.CommandLine.{IsFaultAmong, IsGivenNumber, IsNumberOf, IsText, Writes, command_line, fault_by}
 
--- what `clap` reads of a text as a number of at most so many bits
+-- what `clap` reads of a text as a number whose width is given in bits
 abbrev Reads : ℕ → Text → Option ℕ → Type 0
 Reads bits = ReadsOne (λ bs x. ParsesUnsigned bits 10 bs x × ExplainsUnsignedError 10 bs x × HasUnsignedDigitsIfOk bs x)
 
