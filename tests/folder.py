@@ -13,6 +13,7 @@ import time
 from collections.abc import Callable, Iterator
 from typing import Any
 
+from shop_tool import client
 from tests.needs import TOP
 
 SECONDS = 180       # for how long anything is waited for
@@ -53,8 +54,9 @@ class Folder:
     def run(self, command: str, status: int = 0, says: str = "") -> str:
         """What a command writes. It has to end with this status, and to say this on standard error."""
         with tempfile.TemporaryFile() as written, tempfile.TemporaryFile() as told:
-            done = subprocess.run(["sh", "-c", command], cwd=self.path, stdin=subprocess.DEVNULL, stdout=written, stderr=told,
-                                  timeout=SECONDS)
+            # By `timeout`, since a wait of Python's that has an end looks only every 50 ms.
+            done = subprocess.run(["timeout", "--foreground", str(SECONDS), "sh", "-c", command], cwd=self.path, stdin=subprocess.DEVNULL,
+                                  stdout=written, stderr=told)
             written.seek(0)
             told.seek(0)
             fault = told.read().decode("utf-8", "surrogateescape").strip()
@@ -88,7 +90,9 @@ class Folder:
             self.shop(f"wait {site}", folder=folder)
 
     def status(self, folder: str = "auction") -> dict[str, Any]:
-        found: dict[str, Any] = json.loads(self.run(f"./shop -C {folder} status --json; true"))
+        """What `shop status --json` prints of a shop that runs."""
+        answer = client.one(str(self.path / folder), {"op": "status"}, SECONDS)
+        found: dict[str, Any] = answer["shop"] | {"well": answer["well"]}
         return found
 
     def site(self, number: int, folder: str = "auction") -> dict[str, Any]:

@@ -64,6 +64,8 @@ def test_statuses(at: Folder) -> None:
     said = json.loads(at.shop("ask 0 user,bob --json"))
     assert said == {"record": "user,bob", "answer": "ok", "id": "0.2", "message": "msg,1,0,2,2,1:0,user,bob"}, f"JSON: {said}"
     assert at.shop("ask 0 --raw list,users").startswith("reply,4,rows,2\nrow,user,0.1,ann"), "the site's own lines"
+    status = json.loads(at.shop("status --json"))
+    assert status["well"] and status.keys() == at.status().keys() and [one["state"] for one in status["site"]] == ["up", "up"], f"status: {status}"
 
 
 def test_refused_settings(at: Folder) -> None:
