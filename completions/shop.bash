@@ -1,52 +1,75 @@
-# Completion of shop for bash. Written by scripts/write_shop_help.py; changes are lost.
+# Completion of shop for bash. Written by scripts/write_help.py; changes are lost.
 _shop() {
-    local word=${COMP_WORDS[COMP_CWORD]} before=${COMP_WORDS[COMP_CWORD - 1]} command= at=0 words= next
+    local word=${COMP_WORDS[COMP_CWORD]} before=${COMP_WORDS[COMP_CWORD - 1]} command= at=0 words= how= next
+    # `--sites=2` is three words to bash.
+    if [[ $word == = ]]; then word=; elif [[ $before == = ]]; then before=${COMP_WORDS[COMP_CWORD - 2]}; fi
     for ((next = 1; next < COMP_CWORD; next++)); do
         case ${COMP_WORDS[next]} in
-        -C) ((next++)) ;;
+        -C | --sites | --here | --standby | --after | --over | --keep | --batch | --shards | --workers | --timeout | -n | --lines | --key | --keys | --save | --with | --site | --listen | --certificate | --private-key | --idle | --view | --keys-file | --allow-origin | --access-log | --requests) [[ ${COMP_WORDS[++next]} != = ]] || ((next++)) ;;
         -*) ;;
         *) if [[ $command ]]; then ((at++)); else command=${COMP_WORDS[next]}; fi ;;
         esac
     done
-    case $command,$before in
-    *,-C | *,--save | *,--with) mapfile -t COMPREPLY < <(compgen -f -- "$word"); return ;;
-    *,--over) words='files redis://' ;;
-    ,*) words='start run stop status log wait ask pass list show tables audit view serve rebuild backup restore shorten carry adopt -C --help' ;;
-    start,*) [[ $word == -* ]] && words='--help --sites --here --standby --after --over --sync --no-sync --alone --upgrade --keep --batch --shards --workers --timeout' ;;&
-    run,*) [[ $word == -* ]] && words='--help --sites --here --standby --after --over --sync --no-sync --alone --upgrade --keep --batch --shards --workers' ;;&
-    stop,*) [[ $word == -* ]] && words='--help' ;;&
-    status,*) [[ $word == -* ]] && words='--help --json --timeout' ;;&
-    log,*) [[ $at -eq 0 && $word != -* ]] && words='0 1 2 3 4 5 6 7 8 9 10 11 12 13 14 15' ;;&
-    log,*) [[ $word == -* ]] && words='--help --follow --lines --raw --json' ;;&
-    wait,*) [[ $at -eq 0 && $word != -* ]] && words='0 1 2 3 4 5 6 7 8 9 10 11 12 13 14 15' ;;&
-    wait,*) [[ $word == -* ]] && words='--help --timeout' ;;&
-    ask,*) [[ $at -eq 0 && $word != -* ]] && words='0 1 2 3 4 5 6 7 8 9 10 11 12 13 14 15' ;;&
-    ask,*) [[ $word == -* ]] && words='--help --json --raw --no-wait --key --keys --published --timeout' ;;&
-    pass,*) [[ $at -eq 0 && $word != -* ]] && words='0 1 2 3 4 5 6 7 8 9 10 11 12 13 14 15' ;;&
-    pass,*) [[ $at -eq 1 && $word != -* ]] && words='0 1 2 3 4 5 6 7 8 9 10 11 12 13 14 15' ;;&
-    pass,*) [[ $word == -* ]] && words='--help --timeout' ;;&
-    list,*) [[ $at -eq 0 && $word != -* ]] && words='0 1 2 3 4 5 6 7 8 9 10 11 12 13 14 15' ;;&
-    list,*) [[ $at -eq 1 && $word != -* ]] && words='users items bids purchases comments categories misfits' ;;&
-    list,*) [[ $word == -* ]] && words='--help --json --timeout' ;;&
-    show,*) [[ $at -eq 0 && $word != -* ]] && words='0 1 2 3 4 5 6 7 8 9 10 11 12 13 14 15' ;;&
-    show,*) [[ $at -eq 1 && $word != -* ]] && words='user item bid purchase comment category' ;;&
-    show,*) [[ $word == -* ]] && words='--help --json --timeout' ;;&
-    tables,*) [[ $at -eq 0 && $word != -* ]] && words='0 1 2 3 4 5 6 7 8 9 10 11 12 13 14 15' ;;&
-    tables,*) [[ $word == -* ]] && words='--help --timeout' ;;&
-    audit,*) [[ $word == -* ]] && words='--help --save --with --json --timeout' ;;&
-    view,*) [[ $word == -* ]] && words='--help --site --once' ;;&
-    serve,*) [[ $word == -* ]] && words='--help --listen --certificate --private-key --idle --view --keys-file --allow-origin --access-log --requests' ;;&
-    rebuild,*) [[ $at -eq 0 && $word != -* ]] && words='0 1 2 3 4 5 6 7 8 9 10 11 12 13 14 15' ;;&
-    rebuild,*) [[ $word == -* ]] && words='--help --anyway' ;;&
-    backup,*) [[ $word == -* ]] && words='--help --timeout' ;;&
-    restore,*) [[ $word == -* ]] && words='--help --site --yes' ;;&
-    shorten,*) [[ $at -eq 0 && $word != -* ]] && words='0 1 2 3 4 5 6 7 8 9 10 11 12 13 14 15' ;;&
-    shorten,*) [[ $word == -* ]] && words='--help' ;;&
-    carry,*) [[ $word == -* ]] && words='--help --site --yes' ;;&
-    adopt,*) [[ $at -eq 0 && $word != -* ]] && words='0 1 2 3 4 5 6 7 8 9 10 11 12 13 14 15' ;;&
-    adopt,*) [[ $word == -* ]] && words='--help' ;;&
-    start,* | run,* | stop,* | carry,*) [[ $word != -* ]] && mapfile -t COMPREPLY < <(compgen -d -- "$word") && return ;;
+    case $command,$before,$at in
+    *,-C,*) how=-d ;;
+    start,--over,*) words='files redis://' ;;
+    start,*,0) how=-d ;;
+    run,--over,*) words='files redis://' ;;
+    run,*,0) how=-d ;;
+    stop,*,0) how=-d ;;
+    log,*,0) words='0 1 2 3 4 5 6 7 8 9 10 11 12 13 14 15' ;;
+    wait,*,0) words='0 1 2 3 4 5 6 7 8 9 10 11 12 13 14 15' ;;
+    ask,*,0) words='0 1 2 3 4 5 6 7 8 9 10 11 12 13 14 15' ;;
+    pass,*,0) words='0 1 2 3 4 5 6 7 8 9 10 11 12 13 14 15' ;;
+    pass,*,1) words='0 1 2 3 4 5 6 7 8 9 10 11 12 13 14 15' ;;
+    list,*,0) words='0 1 2 3 4 5 6 7 8 9 10 11 12 13 14 15' ;;
+    list,*,1) words='users items bids purchases comments categories misfits' ;;
+    show,*,0) words='0 1 2 3 4 5 6 7 8 9 10 11 12 13 14 15' ;;
+    show,*,1) words='user item bid purchase comment category' ;;
+    tables,*,0) words='0 1 2 3 4 5 6 7 8 9 10 11 12 13 14 15' ;;
+    audit,--save,*) how=-f ;;
+    audit,--with,*) how=-f ;;
+    view,--site,*) words='0 1 2 3 4 5 6 7 8 9 10 11 12 13 14 15' ;;
+    view,*,0) how=-f ;;
+    serve,-C,*) how=-d ;;
+    serve,--certificate,*) how=-f ;;
+    serve,--private-key,*) how=-f ;;
+    serve,--view,*) how=-f ;;
+    serve,--keys-file,*) how=-f ;;
+    serve,--access-log,*) how=-f ;;
+    rebuild,*,0) words='0 1 2 3 4 5 6 7 8 9 10 11 12 13 14 15' ;;
+    backup,*,0) how=-f ;;
+    restore,--site,*) words='0 1 2 3 4 5 6 7 8 9 10 11 12 13 14 15' ;;
+    restore,*,0) how=-f ;;
+    shorten,*,0) words='0 1 2 3 4 5 6 7 8 9 10 11 12 13 14 15' ;;
+    carry,--site,*) words='0 1 2 3 4 5 6 7 8 9 10 11 12 13 14 15' ;;
+    carry,*,0) how=-d ;;
+    carry,*,1) how=-d ;;
+    adopt,*,0) words='0 1 2 3 4 5 6 7 8 9 10 11 12 13 14 15' ;;
     esac
-    mapfile -t COMPREPLY < <(compgen -W "$words" -- "$word")
+    [[ $word != -* && $words$how ]] || case $command in
+    '') words='start run stop status log wait ask pass list show tables audit view serve rebuild backup restore shorten carry adopt --help -C --version' ;;
+    start) words='--sites --here --standby --after --over --sync --no-sync --alone --upgrade --keep --batch --shards --workers --timeout --help' ;;
+    run) words='--sites --here --standby --after --over --sync --no-sync --alone --upgrade --keep --batch --shards --workers --help' ;;
+    stop) words='--help' ;;
+    status) words='--json --timeout --help' ;;
+    log) words='--follow --lines --raw --json --help' ;;
+    wait) words='--timeout --help' ;;
+    ask) words='--json --raw --no-wait --key --keys --published --timeout --help' ;;
+    pass) words='--timeout --help' ;;
+    list) words='--json --timeout --help' ;;
+    show) words='--json --timeout --help' ;;
+    tables) words='--timeout --help' ;;
+    audit) words='--save --with --json --timeout --help' ;;
+    view) words='--site --once --help' ;;
+    serve) words='--listen --certificate --private-key --idle --view --keys-file --allow-origin --access-log --requests --help' ;;
+    rebuild) words='--anyway --help' ;;
+    backup) words='--timeout --help' ;;
+    restore) words='--site --yes --help' ;;
+    shorten) words='--help' ;;
+    carry) words='--site --yes --help' ;;
+    adopt) words='--help' ;;
+    esac
+    mapfile -t COMPREPLY < <(compgen $how -W "$words" -- "$word")
 }
 complete -F _shop shop

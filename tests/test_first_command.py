@@ -328,7 +328,7 @@ def test_words_that_no_command_line_has(clone: Clone) -> None:
     for asked in (("site", "--sitse", "3"), ("site", "--sitse=3"), ("sites",), ("keep", "folder", "--snyc"), ("--sitse", "site")):
         clone.runs_nothing(2, *asked, says=("there is no ", "docs/MANUAL.md has the commands"))
     clone.without_toolchain()
-    offered = re.findall(r"^    (\w*),\*\) words='(.*)'", (TOP / "completions/rubis.bash").read_text(), re.M)
+    offered = re.findall(r"^    '*(\w*)(?:,\*,0)?'*\) words='(.*)'", (TOP / "completions/rubis.bash").read_text(), re.M)
     assert len(offered) > 7, "the completions can't be read"
     for command, words in offered:
         for line in [f"{command} {words}"] if command else words.split():

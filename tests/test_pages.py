@@ -8,7 +8,7 @@ from tests.needs import PYTHON, need
 from tests.test_style import expect_none
 
 
-@pytest.mark.parametrize("words", ["check_pages.py", "unused.py", "write_shop_help.py --check"])
+@pytest.mark.parametrize("words", ["check_pages.py", "unused.py", "write_help.py --check"])
 def test_sources(words: str) -> None:
     expect_none(PYTHON, *f"scripts/{words}".split())
 

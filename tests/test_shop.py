@@ -533,4 +533,4 @@ def test_help(at: Folder) -> None:
     for command in at.run("./shop --help").split("COMMAND\n")[1].split("\n\n")[0].split("\n"):
         if command.startswith("    ") and command[4] != " ":
             assert "usage: shop" in at.run(f"./shop {command.split()[0]} --help"), command
-    at.run(f"python3 {TOP}/scripts/write_shop_help.py --check")
+    at.run(f"python3 {TOP}/scripts/write_help.py --check")
