@@ -1,15 +1,11 @@
 #!/usr/bin/env python3
-"""Writes docs/CONTRACTS.md, the contracts of the public calls that the pages cite, from the sources.
+"""Prints every public call of the crates, and each crate's wrong bodies with the function that they change: scripts/write_contracts.py
 
-    write_contracts.py [--check | --all]
+A call stands with the first sentence of its comment and its clauses, word for word. Those that the pages cite are docs/CONTRACTS.md, which
+scripts/check_pages.py compares, and writes with --fix."""
 
-A call stands with the first sentence of its comment and its clauses, word for word. `--check` compares, and fails where the page isn't what
-the sources say; the gate does so. `--all` prints every public call, and each crate's wrong bodies with the function that they change.
-"""
-import argparse
 import pathlib
 import re
-import sys
 from collections.abc import Iterator
 from dataclasses import dataclass, field
 
@@ -21,9 +17,9 @@ PAGE = TOP / "docs/CONTRACTS.md"
 
 OPENING = """# Contracts of the calls that the pages cite
 
-`scripts/write_contracts.py` writes this page from the sources, and the gate compares it. For each crate, in the order of
+`scripts/check_pages.py --fix` writes this page from the sources, and the gate compares it. For each crate, in the order of
 [crates.txt](../crates.txt): the calls that a page cites, with the first sentence of their comments and their clauses.
-`scripts/write_contracts.py --all` prints every public call, and the wrong bodies, each of which the prover has to refuse.
+`scripts/write_contracts.py` prints every public call, and the wrong bodies, each of which the prover has to refuse.
 What the contracts promise together is told in [PROMISES.md](PROMISES.md), and the notation in [MODEL.md](MODEL.md#how-statements-are-written).
 """
 
@@ -154,22 +150,5 @@ def page(among: set[tuple[str, str]] | None) -> str:
     return OPENING + "".join(section_of(crate, among) for crate in listed_crates() if crate not in tests)
 
 
-def main() -> int:
-    parser = argparse.ArgumentParser(description="Writes the index of every call with its clauses.")
-    parser.add_argument("--check", action="store_true", help="compare only")
-    parser.add_argument("--all", action="store_true", help="print every public call, and the wrong bodies")
-    options = parser.parse_args()
-    if options.all:
-        print(page(None), end="")
-        return 0
-    text = page(cited())
-    if options.check:
-        same = PAGE.exists() and PAGE.read_text() == text
-        print("contracts: the page is what the sources say" if same else "docs/CONTRACTS.md isn't what the sources say; write_contracts.py writes it")
-        return 0 if same else 1
-    PAGE.write_text(text)
-    return 0
-
-
 if __name__ == "__main__":
-    sys.exit(main())
+    print(page(None), end="")
