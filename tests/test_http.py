@@ -177,11 +177,11 @@ def test_bad_records_and_audits(web: Web) -> None:
 
 
 def test_a_client_that_goes(at: Folder, web: Web) -> None:
-    """An ask whose client has gone isn't given to the site any more, and one that was given stays."""
+    """An ask that was given to the site stays, though its client has gone."""
     with at.standing_still(at.site(0)["pid"]):
-        said = subprocess.run(["curl", "-sS", "--max-time", "0.5", "--json", '{"record": "user,ann"}', f"{web.url}/sites/0/asks"], capture_output=True)
-        assert said.returncode == 28, "it went"
-        at.wait("the server to see it", lambda: at.site(0)["waiting"] <= 1)
+        asker = at.start(f"""curl -sS --json '{{"record": "user,ann"}}' {web.url}/sites/0/asks""")
+        at.wait("the site to be given it", lambda: at.site(0)["waiting"] == 1)
+        at.kill(asker.pid)
     at.wait("the ask", lambda: "ann" in at.shop("list 0 users"))
     assert web.ask(0, "user,bob").status == 201, "the connection goes on"
 

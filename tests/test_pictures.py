@@ -311,15 +311,19 @@ def test_page_of_many(room: Room, browser: Browser) -> None:
     began = time.monotonic()
     browser.open(room.write("page.html", text), READY)
     opened = time.monotonic() - began
-    times = browser.value("""(() => { const p = page.picture, times = [];
-        for (p.step = p.narrowest(); p.step < 105; p.zoom(1.25, 500)) for (const part of [0, 0.3, 0.7, 1]) {
-          p.move(part * page.run.columns); p.draw(); times.push(p.time);
-        } return times; })()""")
-    stepped = browser.value("""(() => { const times = [];
-        for (let at = 0; at < page.run.count; at += 1999) {
-          const began = performance.now(); page.go(at); page.picture.draw(); times.push(performance.now() - began);
-        } return times; })()""")
-    for name, found_ in (("drawings", sorted(times)), ("steps", sorted(stepped))):
+    scripts = {
+        "drawings": """(() => { const p = page.picture, times = [];
+            for (p.step = p.narrowest(); p.step < 105; p.zoom(1.25, 500)) for (const part of [0, 0.3, 0.7, 1]) {
+              p.move(part * page.run.columns); p.draw(); times.push(p.time);
+            } return times; })()""",
+        "steps": """(() => { const times = [];
+            for (let at = 0; at < page.run.count; at += 1999) {
+              const began = performance.now(); page.go(at); page.picture.draw(); times.push(performance.now() - began);
+            } return times; })()""",
+    }
+    for name, script in scripts.items():
+        # Of each the least of three, since what else runs on the machine makes one take longer.
+        found_ = sorted(map(min, zip(*(browser.value(script) for _ in range(3)))))
         half, most = found_[len(found_) // 2], found_[-1]
         times_ = f"{len(found_)} {name}, half within {half:.1f} ms, all within {most:.1f} ms"
         print(f"pictures: a page of {MANY:,} messages, opened in {opened:.1f} s: {times_}")

@@ -18,7 +18,7 @@ def test_folder(at: Folder) -> None:
     name = "a b/" + "x" * 120
     at.run(f"./shop start '{name}'")
     at.shop("ask 0 user,ann", folder=f"'{name}'")
-    supervisor = at.status(f"'{name}'")["pid"]
+    supervisor = at.status(name)["pid"]
     at.run(f"rm -r '{name}'")
     at.wait("the end of the supervisor", lambda: not os.path.exists(f"/proc/{supervisor}"))
 
