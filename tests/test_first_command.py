@@ -98,6 +98,8 @@ class Clone:
             (self.top / "crates" / name / "src" / root).write_text("//! A crate.\n\nfn a() {}\n\npub fn b() {}\n")
         shutil.copytree(TOP / "crates/rubis_command/src", self.top / "crates/rubis_command/src")
         self.words = {**os.environ, "KIT": str(self.kit), "TMPDIR": str(self.temporary), "HOME": str(self.home)}
+        # The stand-in needs no memory, so crates are proved beside each other on a machine that has little of it left, too.
+        self.change("scripts/prove_program.py", "OF_ONE, OF_MORE, USED = 3_600_000_000, 700_000_000,", "OF_ONE, OF_MORE, USED = 1, 1,")
         self.words.pop("XDG_CACHE_HOME", None)
         self.with_toolchain()
 
@@ -147,7 +149,9 @@ class Clone:
     def change(self, file: str, old: str, new: str) -> None:
         """Changes a text, and makes its file older than all others."""
         path = self.top / file
-        path.write_text(path.read_text().replace(old, new))
+        text = path.read_text()
+        assert old in text, f"{file} has no {old}"
+        path.write_text(text.replace(old, new))
         os.utime(path, (0, 0))
 
     def flip(self, file: str) -> None:
