@@ -1,5 +1,6 @@
 """A folder in which a test runs commands, with the program and the command `shop` in it."""
 
+import concurrent.futures
 import contextlib
 import json
 import os
@@ -63,6 +64,11 @@ class Folder:
             assert done.returncode == status, f"`{command}` ended with status {done.returncode}: {fault}"
             assert says in fault, f"`{command}` said: {fault}"
             return written.read().decode("utf-8", "surrogateescape")
+
+    def run_at_once(self, commands: dict[str, str], status: int) -> None:
+        """Commands beside each other, each of which has to end with this status and to say its text on standard error."""
+        with concurrent.futures.ThreadPoolExecutor() as pool:
+            list(pool.map(lambda command: self.run(command, status, commands[command]), commands))
 
     def shop(self, words: str, status: int = 0, says: str = "", folder: str = "auction") -> str:
         return self.run(f"./shop -C {folder} {words}", status, says)

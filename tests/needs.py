@@ -23,7 +23,8 @@ PACKAGES = {
 def is_there(name: str) -> bool:
     """Whether a program is in the search path, or `python3:NAME` a module of Debian's Python."""
     if name.startswith("python3:"):
-        return subprocess.run([PYTHON, "-c", f"import {name[8:]}"], capture_output=True).returncode == 0
+        looks = f"import importlib.util, sys; sys.exit(importlib.util.find_spec({name[8:]!r}) is None)"     # which takes less than an import
+        return subprocess.run([PYTHON, "-c", looks], capture_output=True).returncode == 0
     return shutil.which(name, path=PATHS) is not None
 
 

@@ -20,6 +20,11 @@ from tests.web import CSV, Web
 
 MANY = 3000
 KEYS = {"read": "r" * 32, "ask": "a" * 32, "operate": "o" * 32}
+# Files of keys that are refused, and why.
+WRONG_KEYS = {
+    "write": ("write 0123456789abcdef\n", "write:1: a key may read, ask or operate"), "short": ("read short\n", "short:1: a key has at least 16 characters"),
+    "open": ("", "others may read it"),
+}
 
 
 def test_where_it_listens(at: Folder) -> None:
@@ -42,9 +47,10 @@ def test_where_it_listens(at: Folder) -> None:
 def test_keys_of_who_may(at: Folder) -> None:
     """A bearer key reads, asks or operates, and no more; without one there is the page alone."""
     at.run("./shop start auction --sites 2")
-    (at.path / "keys").write_text("".join(f"{may} {key} somebody\n" for may, key in KEYS.items()))
-    at.shop("serve --keys-file keys", 2, "others may read it")
-    os.chmod(at.path / "keys", 0o600)
+    at.write_secret("keys", "".join(f"{may} {key} somebody\n" for may, key in KEYS.items()))
+    for name, (text, _) in WRONG_KEYS.items():
+        at.write_secret(name, text)
+    os.chmod(at.path / "open", 0o644)
     web = Web(at, "--keys-file keys")
     tried = {None: (401, 401, 401), "read": (200, 403, 403), "ask": (200, 201, 403), "operate": (200, 409, 200)}
     for may, statuses in tried.items():
@@ -55,10 +61,7 @@ def test_keys_of_who_may(at: Folder) -> None:
     assert web.get("/sites", "-H", f"Authorization: Bearer {'x' * 32}").status == 401, "another key"
     assert web.get("/").status == 200 and web.get("/openapi.json").json["security"], "the page, and the description"
     assert web.post("/sites/0/asks", {"record": "pass,0"}, "-H", f"Authorization: Bearer {KEYS['ask']}").status == 400, "pass is no ask"
-    (at.path / "keys").write_text("write 0123456789abcdef\n")
-    at.shop("serve --keys-file keys", 2, "keys:1: a key may read, ask or operate")
-    (at.path / "keys").write_text("read short\n")
-    at.shop("serve --keys-file keys", 2, "keys:1: a key has at least 16 characters")
+    at.run_at_once({f"./shop -C auction serve --keys-file {name}": why for name, (_, why) in WRONG_KEYS.items()}, 2)
 
 
 def test_tls(at: Folder) -> None:

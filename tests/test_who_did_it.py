@@ -44,9 +44,10 @@ def test_keys_of_users(at: Folder) -> None:
     assert many.status == 403 and "this key asks as 0.2 alone, and not as 0.1; nothing was asked" in many.json["detail"]
     assert at.shop("list 0 users") == before
     assert web.post("/sites/0/pass", {"to": 1}, *header("ask:0.2")).status == 403
-    for wrong in ("read:0.1", "ask:ann", "ask:", "operate:0.1"):
-        (at.path / "keys").write_text(f"{wrong} {'x' * 32}\n")
-        at.shop("serve --keys-file keys", 2, "keys:1: a key may read, ask or operate, or ask as a user (ask:0.7)")
+    wrong = ("read:0.1", "ask:ann", "ask:", "operate:0.1")
+    for may in wrong:
+        at.write_secret(f"keys of {may}", f"{may} {'x' * 32}\n")
+    at.run_at_once({f"./shop -C auction serve --keys-file 'keys of {may}'": ":1: a key may read, ask or operate, or ask as a user (ask:0.7)" for may in wrong}, 2)
 
 
 def test_access_log(at: Folder) -> None:
