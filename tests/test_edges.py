@@ -89,6 +89,7 @@ def lines_of_records() -> list[Expected]:
         (b'user,ann\n\nuser,"bob\nuser,eve\n', b"bad,2,3,2,a quote that opened at line 3 closes at line 4\nchecked,2,1\n"),
         (b'user,"ann', b"checked,1,0\n"),
         (b'"\n",x\n', b"bad,1,1,1,a quote that opened at line 1 closes at line 2\nchecked,1,1\n"),
+        (b'\r\n\r\n"us\r\ner,A\n"\r\nz\n', b"bad,1,3,1,a quote that opened at line 3 closes at line 5\nbad,2,6,1,no record begins with z\nchecked,2,2\n"),
     ]
     return [Expected("check", text, wrote, 1 if b"bad" in wrote else 0) for text, wrote in runs]
 
