@@ -182,8 +182,9 @@ def test_bad_records_and_audits(web: Web) -> None:
 def test_a_client_that_goes(at: Folder, web: Web) -> None:
     """An ask that was given to the site stays, though its client has gone."""
     with at.standing_still(at.site(0)["pid"]):
+        at.wait("the question whether it hangs, for one that has nothing to do", lambda: at.site(0)["waiting"] == 1)
         asker = at.start(f"""curl -sS --json '{{"record": "user,ann"}}' {web.url}/sites/0/asks""")
-        at.wait("the site to be given it", lambda: at.site(0)["waiting"] == 1)
+        at.wait("the ask behind it", lambda: at.site(0)["waiting"] == 2)
         at.kill(asker.pid)
     at.wait("the ask", lambda: "ann" in at.shop("list 0 users"))
     assert web.ask(0, "user,bob").status == 201, "the connection goes on"
