@@ -13,8 +13,7 @@ from typing import Any
 import write_contracts
 from prove_program import listed_crates
 from report import report
-from write_contracts import LINK, calls_of
-from wrong_bodies import Edit
+from write_contracts import LINK, calls_of, changed_texts
 
 TOP = pathlib.Path(__file__).resolve().parent.parent
 sys.path.insert(0, str(TOP))
@@ -129,8 +128,8 @@ def check_old_texts() -> Checked:
         name = path.relative_to(TOP)
         if not re.fullmatch(r"(file: .*\n(old: .*\nnew: .*\n)+)+", path.read_text()):
             yield f"{name}: not a file, each with lines of old and new text"
-        for file, old, _ in Edit.read(str(path)).changes:
-            is_once = (path.parent.parent / file).read_text().count(old) == 1
+        for file, old in changed_texts(path):
+            is_once = file.read_text().count(old) == 1
             yield None if is_once else f"{name}: this doesn't stand once in its file: {old}"
 
 

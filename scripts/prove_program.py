@@ -65,10 +65,10 @@ class Kit:
         self.folder = os.path.dirname(page)
         self.version = subprocess.run(["rt", "version"], stdout=subprocess.PIPE, text=True, check=True).stdout.strip()
 
-    def words(self, verb: str, crate: Crate, kept: str, jobs: int) -> list[str]:
-        """Returns the command that proves a crate over what is kept of it."""
+    def build(self, crate: Crate, to: str, jobs: int) -> list[str]:
+        """Returns the command that proves a crate over what is kept of it, and builds it."""
         at = self.folder
-        words = [f"{at}/bin/rattle", verb, "--crate-name", crate.name, crate.root]
+        words = [f"{at}/bin/rattle", "build", "--crate-name", crate.name, crate.root]
         for name in ("std", *crate.of_kit):
             words += ["--extern", f"{name}={at}/rlibs/{name}.rlib"]
         words += ["-L", f"dependency={at}/rlibs"]
@@ -77,12 +77,8 @@ class Kit:
         for below in crate.below():
             words += ["-L", f"dependency={os.path.dirname(below.library)}"]
         words += ["--antt-project", f"{at}/rattle/logic/antt-project.json", "--logic-built", f"{at}/logic_built"]
-        return [*words, "--incremental", kept, "--jobs", str(jobs)]
-
-    def build(self, crate: Crate, to: str, jobs: int) -> list[str]:
-        """Returns the command that proves a crate and builds it."""
-        words = [*self.words("build", crate, "out/incremental", jobs), "-o", to]
-        return words + (["--toolchain", f"{self.folder}/toolchain", "--backend", "llvm"] if crate.is_program else [])
+        words += ["--incremental", "out/incremental", "--jobs", str(jobs), "-o", to]
+        return words + (["--toolchain", f"{at}/toolchain", "--backend", "llvm"] if crate.is_program else [])
 
     def link(self, program: str, to: str) -> list[str]:
         """Returns the command that makes a program of what was built."""

@@ -10,7 +10,6 @@ from collections.abc import Iterator
 from dataclasses import dataclass, field
 
 from prove_program import listed_crates
-from wrong_bodies import Edit
 
 TOP = pathlib.Path(__file__).resolve().parent.parent
 PAGE = TOP / "docs/CONTRACTS.md"
@@ -107,10 +106,15 @@ def is_exported(root: str, path: pathlib.Path, call: Call) -> bool:
     return re.search(rf"\b{word}\b", "".join(re.findall(r"^pub use [^;]*;", root, re.M))) is not None
 
 
+def changed_texts(edit: pathlib.Path) -> list[tuple[pathlib.Path, str]]:
+    """The texts that a wrong body changes, each with its file."""
+    files = re.findall(r"^file: (.*)\n((?:old: .*\nnew: .*\n)+)", edit.read_text(), re.M)
+    return [(edit.parent.parent / file, old) for file, pairs in files for old in re.findall(r"^old: (.*)", pairs, re.M)]
+
+
 def changed_function(edit: pathlib.Path, calls: list[Call]) -> str:
     """The name of the function that a wrong body changes, or that of its file."""
-    file, old, _ = Edit.read(str(edit)).changes[0]
-    path = edit.parent.parent / file
+    path, old = changed_texts(edit)[0]
     at = next((number for number, line in enumerate(path.read_text().splitlines(), 1) if old in line), 0)
     before = [call for call in calls if call.path == path and call.first <= at]
     return before[-1].name if before else path.name

@@ -323,7 +323,7 @@ def test_page_of_many(room: Room, browser: Browser) -> None:
     }
     for name, script in scripts.items():
         # Of each the least of three, since what else runs on the machine makes one take longer.
-        found_ = sorted(map(min, zip(*(browser.value(script) for _ in range(3)))))
+        found_ = sorted(min(times) for times in zip(*(browser.value(script) for _ in range(3))))
         half, most = found_[len(found_) // 2], found_[-1]
         times_ = f"{len(found_)} {name}, half within {half:.1f} ms, all within {most:.1f} ms"
         print(f"pictures: a page of {MANY:,} messages, opened in {opened:.1f} s: {times_}")

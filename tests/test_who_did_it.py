@@ -47,7 +47,8 @@ def test_keys_of_users(at: Folder) -> None:
     wrong = ("read:0.1", "ask:ann", "ask:", "operate:0.1")
     for may in wrong:
         at.write_secret(f"keys of {may}", f"{may} {'x' * 32}\n")
-    at.run_at_once({f"./shop -C auction serve --keys-file 'keys of {may}'": ":1: a key may read, ask or operate, or ask as a user (ask:0.7)" for may in wrong}, 2)
+    why = ":1: a key may read, ask or operate, or ask as a user (ask:0.7)"
+    at.run_at_once({f"./shop -C auction serve --keys-file 'keys of {may}'": why for may in wrong}, 2)
 
 
 def test_access_log(at: Folder) -> None:
