@@ -53,6 +53,7 @@ def test_installed_shop(prefix: pathlib.Path, folder: pathlib.Path) -> None:
     shop(prefix, "start", auction, "--sites", "2")
     try:
         assert shop(prefix, "-C", auction, "ask", "0", "user,ann") == "ok,0.1\n"
+        assert shop(prefix, "-C", auction, "ask", "0", 'item,0.1,"a  lamp",7,1,100,0') == "ok,0.2\n", "words with blanks come as they are"
         assert shop(prefix, "-C", auction, "audit") == "audit,Agree\n"
     finally:
         shop(prefix, "stop", auction)
