@@ -160,8 +160,10 @@ def test_keys(at: Folder) -> None:
     at.run("./shop start auction --sites 2")
     assert at.shop("ask 0 user,ann --key a") == "ok,0.1\n" == at.shop("ask 0 user,ann --key a"), "asked again"
     assert at.shop("ask 0 user,bob --key a", 1, "another record was asked under that key") == "refused,40,KeyTaken\n", "another record"
-    at.shop("ask 0 user,bob user,cat --key b", 2, "--key is for one record")
-    at.shop(f"ask 0 user,bob --key {'x' * 256}", 2, "a key has 1 to 255 printable ASCII characters")
+    at.run_at_once({
+        "./shop -C auction ask 0 user,bob user,cat --key b": "--key is for one record",
+        f"./shop -C auction ask 0 user,bob --key {'x' * 256}": "a key has 1 to 255 printable ASCII characters",
+    }, 2)
     lamp = "item,0.1,lamp,7,3,100,80"
     assert at.shop(f"ask 0 user,bob {lamp} --keys m") == "ok,0.2\nok,0.3\n", "keys of several"
     assert at.shop("ask 0 user,ann --key b", 1) == at.shop("ask 0 user,ann --key b", 1) == "refused,5,NickTaken\n", "a refusal"
@@ -169,9 +171,9 @@ def test_keys(at: Folder) -> None:
     assert at.shop(f"ask 0 user,bob {lamp} user,cat --keys m") == "ok,0.2\nok,0.3\nok,0.4\n", "the keeper was killed"
     at.kill(at.status()["pid"])
     at.goes_on("./shop start auction", "0 user,ann --key a", "0.1", "the supervisor was killed")
-    assert at.shop("ask 1 user,dan --key a --raw") == at.shop("ask 1 user,dan --key a --raw"), "a key of another site, where the token comes"
-    said = at.said(b'{"op": "ask", "site": 1, "records": ["user,dan"], "keys": ["a"], "timeout": 5, "fetch": true}')
-    assert said[0]["again"] and said[0]["lines"][0].endswith("ok,1.1"), f"it says that this was the answer before: {said}"
+    first = at.shop("ask 1 user,dan --key a --raw")
+    said = at.said(b'{"op": "ask", "site": 1, "records": ["user,dan"], "keys": ["a"], "timeout": 5, "fetch": true}')[0]
+    assert said["again"] and said["lines"] == first.splitlines() and "ok,1.1\n" in first, f"a key of another site, where the token comes: {first}, {said}"
     _keys_of_asks_under_way(at)
     os.unlink(at.path / "auction/0/keys")
     assert at.shop("ask 0 user,ann --key z", 1) == "refused,5,NickTaken\n", "what is written once the file was removed"
