@@ -68,7 +68,8 @@ def pages(at: Folder, browser: Browser) -> Pages:
 
 
 def test_what_users_do(pages: Pages) -> None:
-    """Register, sell, search, bid, buy, close, and one's own bids."""
+    """Register, sell, search, bid, buy, close, and one's own bids; no page waits for a connection that another one keeps for a minute."""
+    began = time.monotonic()
     pages.open("/", "Open items", 1)
     pages.send("register", "ann", nickname="ann")
     pages.send("sell", "lamp", name="blue lamp", category="7", stock="3", start="100", price="80")
@@ -84,6 +85,7 @@ def test_what_users_do(pages: Pages) -> None:
     pages.send("bid", "the amount is below the start price", amount="5")
     pages.open("/my", "the best")
     assert "red vase" in pages.text().partition("My purchases")[2]
+    assert time.monotonic() - began < 50
 
 
 def test_what_others_do(pages: Pages) -> None:

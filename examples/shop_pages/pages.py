@@ -86,7 +86,7 @@ def shop_of(request: web.Request) -> Shop:
 
 
 def page(request: web.Request, title: str, live: str, forms: str = "", status: int = 200) -> web.Response:
-    """A page: what changes while it is looked at, and forms, which stay as they are."""
+    """A page: what changes while it is looked at, and forms. It isn't stored: one that was left would keep one of a browser's six connections."""
     user = user_of(request)
     who = f'<a href="/my">{text(user[1])}</a>' if user else form("/register", "register", field("nickname"))
     said = f'<p role="alert">{text(request.query["said"])}</p>' if "said" in request.query else ""
@@ -95,7 +95,7 @@ def page(request: web.Request, title: str, live: str, forms: str = "", status: i
             f'<script src="/static/pages.js" defer></script><header><a href="/">Auction</a> <form action="/"><input name="q" aria-label="search" '
             f'value="{text(request.query.get("q", ""))}"><button>search</button></form> {who}</header>'
             f'<main><h1>{text(title)}</h1>{said}<div id="live">{live}</div>{forms}</main>')
-    return web.Response(text=body, content_type="text/html", status=status)
+    return web.Response(text=body, content_type="text/html", status=status, headers={"Cache-Control": "no-store"})
 
 
 def form(action: str, button: str, fields: str = "") -> str:
