@@ -6,11 +6,12 @@ use Rattle.rubis_model.proofs.Lists.{has_right, push_cases}
 use Rattle.rubis_carrier.specs.declared.values.Carrier.{Carrier}
 use Rattle.rubis_carrier.specs.declared.values.ShopPacket.TheVariants.{Message}
 use Rattle.rubis_carrier.specs.declared.values.ShopRequest.{ShopRequest}
-use Rattle.rubis_carrier.specs.Events.{AreSteps, Event, IsFirst, May, after, first, opening, run}
-use Rattle.rubis_carrier.specs.Events.Event.{Accepts, Appends, Closes, Gives, IsAsked, IsChanged, IsCopied, IsKilled, IsLost, KeeperStarts, LosesEnd}
-use Rattle.rubis_carrier.specs.Events.Event.{MachineStarts, Opens, OpensAlone, Passes, Reads, Rebuilds, Refuses, ServerLosesAll, Serves, Starts}
-use Rattle.rubis_carrier.specs.Events.Event.{StreamLosesEnd, TakesBack, TakesOver, TellsNothing, TellsOk, TellsPublished, TellsUnknown, WritesAnew}
-use Rattle.rubis_carrier.specs.Events.Event.{Yields}
+use Rattle.rubis_carrier.specs.Events.{AreSteps, IsFirst, May, after, first, opening, run}
+use Rattle.rubis_carrier.specs.declared.values.Event.{Event}
+use Rattle.rubis_carrier.specs.declared.values.Event.TheVariants.{Accepts, Appends, Arrives, Closes, Fills, Finds, Gives, GoesOn, IsAsked, IsCopied, IsKilled}
+use Rattle.rubis_carrier.specs.declared.values.Event.TheVariants.{IsLost, IsRaised, KeeperStarts, LosesEnd, MachineStarts, Opens, OpensAlone, Passes, Reads}
+use Rattle.rubis_carrier.specs.declared.values.Event.TheVariants.{Rebuilds, Refuses, Sends, ServerLosesAll, Serves, Starts, StreamLosesEnd, TakesBack}
+use Rattle.rubis_carrier.specs.declared.values.Event.TheVariants.{TakesOver, TellsNothing, TellsOk, TellsPublished, TellsUnknown, WritesAnew, Yields}
 use Rattle.rubis_carrier.specs.Laws.{AnswersComeInOrder, IsOver, IsUnmade, WhatIsOverStays}
 use Rattle.rubis_carrier.specs.Shops.{Folder, Shop, folder, folder_in, put_folder, request, request_in, start}
 use Rattle.rubis_carrier.proofs.Changes.{AreApart, IsNew, first_in, from_step, has_others, has_without}
@@ -80,7 +81,10 @@ over_step c {s} (Opens k) {r} m q o = over_opened s r o k s.uncompared
 over_step c {s} (TakesOver k) {r} m q o = over_opened s r o k _
 over_step c {s} (OpensAlone k) {r} m q o = over_opened s r o k _
 over_step c {s} (Closes k) {r} m q o = over_put s r o _ k _ refl (with_memory s r o k _ refl refl refl refl) refl
+over_step c {s} (GoesOn k) {r} m q o = over_put s r o _ k _ refl (with_memory s r o k _ refl refl refl refl) refl
 over_step c (KeeperStarts k) m q o = o
+over_step c {s} (Fills k) {r} m q o = over_less s r o _ (as_it_was s r o) refl
+over_step c {s} (IsRaised k) {r} m q o = over_less s r o _ (as_it_was s r o) refl
 over_step c {s} (IsKilled k) {r} m q o = over_stopped s r o _ k _ refl refl refl refl refl
 over_step c {s} (MachineStarts k) {r} m q o = over_stopped s r o _ k _ refl refl refl refl refl
 over_step c {s} (IsAsked p life d) {r} m q o = record {
@@ -127,14 +131,16 @@ over_step c {s} (Yields i) {r} m q o = over_less s r o _ (as_it_was s r o) refl
 over_step c {s} (TakesBack i) {r} m q o = over_less s r o _ (as_it_was s r o) refl
 over_step c {s} (Passes k to) {r} m q o = over_put s r o _ k _ refl (with_memory s r o k _ refl refl refl refl) refl
 over_step c {s} (Appends k x) {r} m q o = over_less s r o _ (as_it_was s r o) refl
+over_step c {s} (Sends k x) {r} m q o = over_less s r o _ (as_it_was s r o) refl
+over_step c {s} (Arrives x) {r} m q o = over_less s r o _ (as_it_was s r o) refl
 over_step c {s} (Reads k x) {r} m q o = over_put s r o _ k _ refl (with_memory s r o k _ refl refl refl refl) refl
 over_step c {s} (LosesEnd k n) {r} m q o = over_stopped s r o _ k _ refl refl refl refl refl
-over_step c {s} (IsChanged k ps) {r} m q o = over_stopped s r o _ k _ refl refl refl refl refl
 over_step c {s} (IsLost k) {r} m q o = over_stopped s r o _ k _ refl refl refl refl refl
 over_step c {s} (IsCopied k j) {r} m q o = over_stopped s r o _ j _ refl refl refl refl refl
 over_step c {s} (StreamLosesEnd i n) {r} m q o = over_less s r o _ (as_it_was s r o) refl
 over_step c {s} ServerLosesAll {r} m q o = over_less s r o _ (as_it_was s r o) refl
-over_step c {s} (Rebuilds k ps) {r} m q o = over_stopped s r o _ k _ refl refl refl refl refl
+over_step c {s} (Finds k x) {r} m q o = over_stopped s r o _ k _ refl refl refl refl refl
+over_step c {s} (Rebuilds k j) {r} m q o = over_stopped s r o _ k _ refl refl refl refl refl
 over_step c {s} (WritesAnew k) {r} m q o = over_less s r o _ (as_it_was s r o) refl
 
 -- an event makes no message of it

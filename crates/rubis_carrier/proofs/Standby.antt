@@ -7,18 +7,18 @@ use Rattle.rubis_carrier.specs.declared.values.Carrier.{Carrier}
 use Rattle.rubis_carrier.specs.declared.values.ShopPacket.{ShopPacket}
 use Rattle.rubis_carrier.specs.declared.values.ShopPacket.TheVariants.{Message, Pass}
 use Rattle.rubis_carrier.specs.declared.values.Notice.TheVariants.{Ok}
-use Rattle.rubis_carrier.specs.Events.{AreSteps, Event, IsAtItsPlace, IsWhole, May, after, first, run}
-use Rattle.rubis_carrier.specs.Events.Event.{Appends, OpensAlone, Refuses, ServerLosesAll, Starts, StreamLosesEnd, TakesBack, TakesOver, TellsNothing}
-use Rattle.rubis_carrier.specs.Events.Event.{TellsOk, TellsPublished, TellsUnknown, WritesAnew, Yields}
+use Rattle.rubis_carrier.specs.Events.{AreSteps, IsAtItsPlace, IsWhole, May, after, run}
+use Rattle.rubis_carrier.specs.declared.values.Event.{Event}
+use Rattle.rubis_carrier.specs.declared.values.Event.TheVariants.{Appends, Arrives, GoesOn, OpensAlone, Refuses, ServerLosesAll, Starts, StreamLosesEnd}
+use Rattle.rubis_carrier.specs.declared.values.Event.TheVariants.{TakesBack, TakesOver, TellsNothing, TellsOk, TellsPublished, TellsUnknown, WritesAnew, Yields}
 use Rattle.rubis_carrier.specs.Packets.{highest, sender}
-use Rattle.rubis_carrier.specs.Shops.{Shop, folder, start, stream, there}
+use Rattle.rubis_carrier.specs.Shops.{Shop, folder, start, stream}
 use Rattle.rubis_carrier.specs.Shops.Place.{InStream}
 use Rattle.rubis_carrier.specs.Standby.{IdsAreToldOnce, StaysYielding, ToldStaysInStream, WhatYieldsIsPublished}
 use Rattle.rubis_carrier.proofs.Changes.{has_or, without_other}
 use Rattle.rubis_carrier.proofs.PacketFacts.{number_within}
 use Rattle.rubis_carrier.proofs.PutFacts.{has_take, stream_cases}
 use Rattle.rubis_carrier.proofs.Sound.{Sound, WasCompared, sound_run, sound_step}
-use Rattle.rubis_carrier.proofs.Telling.{published}
 use Rattle.rubis_carrier.proofs.Whole.{run_append, steps_left, steps_right, whole_after}
 
 -- ---- one message under a number
@@ -59,7 +59,9 @@ placed_append s {i} q (Pass j t k a) place e n r d x y =
 -- of a site of which a folder was opened uncompared, before the event
 placed_step : (c : Carrier) (s : Shop) (e : Event) → May c s e → ArePlaced s → (i : ℕ) → Has i s.uncompared → IsPlaced i (stream (after s e) i)
 placed_step c s (Appends k x) m q = stream_cases (λ i xs. Has i s.uncompared → IsPlaced i xs) (sender x) (stream s (sender x) ++ x ∷ []) s.streams
-    (λ u. placed_append s (q (sender x)) x (m.1.placed u) refl) (λ j d u. q j)
+    (λ u. placed_append s (q (sender x)) x (m.3 u) refl) (λ j d u. q j)
+placed_step c s (Arrives x) m q = stream_cases (λ i xs. Has i s.uncompared → IsPlaced i xs) (sender x) (stream s (sender x) ++ x ∷ []) s.streams
+    (λ u. placed_append s (q (sender x)) x (m.2 u) refl) (λ j d u. q j)
 placed_step c s (StreamLosesEnd j n) m q = stream_cases (λ i xs. Has i s.uncompared → IsPlaced i xs) j (take n (stream s j)) s.streams
     (λ u a r d x y. q j a r d (has_take n (Message j a r) (stream s j) x) (has_take n (Message j a d) (stream s j) y)) (λ i d u. q i)
 placed_step c s ServerLosesAll m q = λ i u n r d x y. absurd x
@@ -73,6 +75,7 @@ uncompared_new : (c : Carrier) (s : Shop) (e : Event) (i : ℕ) → May c s e �
     → Has i s.uncompared ⊎ IsPlaced i (stream (after s e) i)
 uncompared_new c s (TakesOver k) i m q u = inr (q i)
 uncompared_new c s (OpensAlone k) i m q u = inr (q i)
+uncompared_new c s (GoesOn k) i m q u = inr (q i)
 uncompared_new c s (Starts k) i m q u = inl u
 uncompared_new c s e i m q u = inl u
 

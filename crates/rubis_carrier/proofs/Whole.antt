@@ -1,20 +1,21 @@
 -- What stands in a place that is whole, stands there later too.
-use Rattle.std.proofs.Common.{◌≡◌, ◌≢◌, ◌++◌, ◌∷◌, [], ℕ, List, refl, sym, ap, subst}
+use Rattle.std.proofs.Common.{◌≡◌, ◌≢◌, inr, ◌++◌, ◌∷◌, [], ℕ, List, refl, sym, ap, subst}
 use Rattle.rubis_model.specs.Settle.{Has}
 use Rattle.rubis_model.proofs.Lists.{has_left}
 use Rattle.rubis_carrier.specs.Laws.{GivenAgainOnlyWhereLost}
 use Rattle.rubis_carrier.specs.Laws.{GivenAgainOnlyWhereLost}
 use Rattle.rubis_carrier.specs.declared.values.Carrier.{Carrier}
 use Rattle.rubis_carrier.specs.declared.values.ShopPacket.{ShopPacket}
-use Rattle.rubis_carrier.specs.Events.{AreSteps, Event, Harms, IsWhole, May, after, opening, run}
-use Rattle.rubis_carrier.specs.Events.Event.{Accepts, Appends, Closes, Gives, IsAsked, IsChanged, IsCopied, IsKilled, IsLost, KeeperStarts, LosesEnd}
-use Rattle.rubis_carrier.specs.Events.Event.{MachineStarts, Opens, OpensAlone, Passes, Reads, Rebuilds, Refuses, ServerLosesAll, Serves, Starts}
-use Rattle.rubis_carrier.specs.Events.Event.{StreamLosesEnd, TakesBack, TakesOver, TellsNothing, TellsOk, TellsPublished, TellsUnknown, WritesAnew}
-use Rattle.rubis_carrier.specs.Events.Event.{Yields}
+use Rattle.rubis_carrier.specs.Events.{AreSteps, Harms, IsWhole, May, after, opening, run}
+use Rattle.rubis_carrier.specs.declared.values.Event.{Event}
+use Rattle.rubis_carrier.specs.declared.values.Event.TheVariants.{Accepts, Appends, Arrives, Closes, Fills, Finds, Gives, GoesOn, IsAsked, IsCopied, IsKilled}
+use Rattle.rubis_carrier.specs.declared.values.Event.TheVariants.{IsLost, IsRaised, KeeperStarts, LosesEnd, MachineStarts, Opens, OpensAlone, Passes, Reads}
+use Rattle.rubis_carrier.specs.declared.values.Event.TheVariants.{Rebuilds, Refuses, Sends, ServerLosesAll, Serves, Starts, StreamLosesEnd, TakesBack}
+use Rattle.rubis_carrier.specs.declared.values.Event.TheVariants.{TakesOver, TellsNothing, TellsOk, TellsPublished, TellsUnknown, WritesAnew, Yields}
 use Rattle.rubis_carrier.specs.Laws.{GivenAgainOnlyWhereLost}
 use Rattle.rubis_carrier.specs.Packets.{sender}
 use Rattle.rubis_carrier.specs.Shops.{Folder, Place, Shop, folder, folder_in, put_folder, put_stream, start, stream, stream_in, there}
-use Rattle.rubis_carrier.specs.Shops.Place.{InFolder, InStream}
+use Rattle.rubis_carrier.specs.Shops.Place.{InFolder, InStream, UnderWay}
 use Rattle.rubis_carrier.proofs.PutFacts.{folder_cases, opened_cases, stream_cases}
 use Rattle.rubis_carrier.proofs.Sound.{ids_once}
 
@@ -68,9 +69,12 @@ folder_step c s (Opens k) j m n x h = opened_kept s k j x h
 folder_step c s (TakesOver k) j m n x h = opened_kept s k j x h
 folder_step c s (OpensAlone k) j m n x h = opened_kept s k j x h
 folder_step c s (Closes k) j m n x h = same_or_more s k _ (λ z a. a) j x h
+folder_step c s (GoesOn k) j m n x h = same_or_more s k _ (λ z a. a) j x h
 folder_step c s (KeeperStarts k) j m n x h = h
 folder_step c s (IsKilled k) j m n x h = same_or_more s k _ (λ z a. a) j x h
 folder_step c s (MachineStarts k) j m n x h = same_or_more s k _ (λ z a. a) j x h
+folder_step c s (Fills k) j m n x h = h
+folder_step c s (IsRaised k) j m n x h = h
 folder_step c s (IsAsked r life d) j m n x h = h
 folder_step c s (Serves k r) j m n x h = same_or_more s k _ (λ z a. a) j x h
 folder_step c s (Gives k r) j m n x h = same_or_more s k _ (λ z a. a) j x h
@@ -84,28 +88,40 @@ folder_step c s (Yields i) j m n x h = h
 folder_step c s (TakesBack i) j m n x h = h
 folder_step c s (Passes k to) j m n x h = same_or_more s k _ (λ z a. has_left z (folder s k).kept _ a) j x h
 folder_step c s (Appends k y) j m n x h = h
+folder_step c s (Sends k y) j m n x h = h
+folder_step c s (Arrives y) j m n x h = h
 folder_step c s (Reads k y) j m n x h = same_or_more s k _ (λ z a. has_left z (folder s k).kept _ a) j x h
 folder_step c s (LosesEnd k d) j m n x h = another s k _ j (λ e. n (ap InFolder e)) x h
-folder_step c s (IsChanged k d) j m n x h = another s k _ j (λ e. n (ap InFolder e)) x h
 folder_step c s (IsLost k) j m n x h = another s k _ j (λ e. n (ap InFolder e)) x h
 folder_step c s (IsCopied k i) j m n x h = another s i _ j (λ e. n (ap InFolder e)) x h
 folder_step c s (StreamLosesEnd i d) j m n x h = h
 folder_step c s ServerLosesAll j m n x h = h
-folder_step c s (Rebuilds k packets) j m n x h = same_or_more s k _ (λ z a. m.left z a) j x h
+folder_step c s (Finds k y) j m n x h = same_or_more s k _ (λ z a. has_left z (folder s k).kept _ a) j x h
+folder_step c s (Rebuilds k l) j m n x h = same_or_more s k _ (λ z a. m.left z a) j x h
 folder_step c s (WritesAnew k) j m n x h = h
 
 stream_step : (c : Carrier) (s : Shop) (e : Event) (i : ℕ) → May c s e → (Harms e (InStream i) → ⊥) → (x : ShopPacket)
     → Has x (stream s i) → Has x (stream (after s e) i)
 stream_step c s (Appends k y) i m n x h = stream_more s (sender y) _ (λ z a. has_left z (stream s (sender y)) _ a) i x h
+stream_step c s (Arrives y) i m n x h = stream_more s (sender y) _ (λ z a. has_left z (stream s (sender y)) _ a) i x h
 stream_step c s (StreamLosesEnd j d) i m n x h = stream_other s j _ i (λ e. n (ap InStream e)) x h
 stream_step c s ServerLosesAll i m n x h = absurd (n tt)
 stream_step c s (WritesAnew k) i m n x h = stream_more s (folder s k).site _ m.1.has i x h
 stream_step c s (Starts k) i m n x h = h
 stream_step c s e i m n x h = h
 
+way_step : (s : Shop) (e : Event) → (Harms e UnderWay → ⊥) → (x : ShopPacket) → Has x s.under_way → Has x (after s e).under_way
+way_step s (Opens k) n x h = absurd (n refl)
+way_step s (TakesOver k) n x h = absurd (n refl)
+way_step s (OpensAlone k) n x h = absurd (n refl)
+way_step s (Sends k y) n x h = inr h
+way_step s (Starts k) n x h = h
+way_step s e n x h = h
+
 whole_step : (c : Carrier) (s : Shop) (e : Event) (h : Place) → May c s e → (Harms e h → ⊥) → (x : ShopPacket) → Has x (there s h) → Has x (there (after s e) h)
 whole_step c s e (InFolder j) m n x a = folder_step c s e j m n x a
 whole_step c s e (InStream i) m n x a = stream_step c s e i m n x a
+whole_step c s e UnderWay m n x a = way_step s e n x a
 
 pub whole_after : (c : Carrier) (s : Shop) (later : List Event) (h : Place) → AreSteps c s later → IsWhole h later → (x : ShopPacket)
     → Has x (there s h) → Has x (there (run s later) h)

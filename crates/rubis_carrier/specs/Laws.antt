@@ -6,11 +6,12 @@ use Rattle.rubis_carrier.specs.declared.values.Carrier.TheVariants.{Server}
 use Rattle.rubis_carrier.specs.declared.values.ShopPacket.{ShopPacket}
 use Rattle.rubis_carrier.specs.declared.values.ShopPacket.TheVariants.{Message, Pass}
 use Rattle.rubis_carrier.specs.Packets.{Holds, highest, name, sender}
-use Rattle.rubis_carrier.specs.Shops.{Folder, Place, Shop, asks, folder, request, start, stream, there}
-use Rattle.rubis_carrier.specs.Shops.Place.{InFolder, InStream}
+use Rattle.rubis_carrier.specs.Shops.{Folder, IsSeen, Place, Shop, asks, folder, request, start, stream, there}
+use Rattle.rubis_carrier.specs.Shops.Place.{InFolder, InStream, UnderWay}
 use Rattle.rubis_carrier.specs.declared.values.Notice.TheVariants.{No, Ok}
-use Rattle.rubis_carrier.specs.Events.{AllCarry, AreSteps, Event, IsWhole, May, after, run}
-use Rattle.rubis_carrier.specs.Events.Event.{Accepts, Opens, Refuses, TellsOk, TellsPublished}
+use Rattle.rubis_carrier.specs.Events.{AllCarry, AreSteps, IsWhole, May, after, run}
+use Rattle.rubis_carrier.specs.declared.values.Event.{Event}
+use Rattle.rubis_carrier.specs.declared.values.Event.TheVariants.{Accepts, Opens, Refuses, TellsOk, TellsPublished}
 
 -- the claim holds of a shop after any events, over files and over a server
 abbrev pub EveryShop : (Shop → Type 0) → Type 0
@@ -39,19 +40,21 @@ CanHave c s k x = (more : List Event) × AllCarry more × AreSteps c s more × H
 abbrev pub IsOf : Carrier → Shop → ℕ → Place → Type 0
 IsOf c s i (InFolder k) = (folder s k).site ≡ i
 IsOf c s i (InStream j) = (j ≡ i) × (c ≡ Server)
+IsOf c s i UnderWay = ⊥
 
 -- from a folder a server's stream takes messages at their places alone, if a folder of the site was opened uncompared
 abbrev pub IsAppended : Carrier → Shop → ℕ → Place → Type 0
 IsAppended c s i (InFolder k) = c ≡ Server → ¬ (Has i s.uncompared)
 IsAppended c s i (InStream j) = Unit {0}
+IsAppended c s i UnderWay = ⊥
 
 -- a message that stood in a place that is whole since stands there still; and if the place is one of its site's, each folder of another
--- site comes to have it
+-- site comes to have it, unless that is full
 abbrev pub NothingAcceptedIsLost : Type 0
 NothingAcceptedIsLost = (c : Carrier) (before later : List Event) → AreSteps c start (before ++ later) → (r i n : ℕ) (h : Place)
     → Has (Message i n r) (there (run start before) h) → IsWhole h later
     → let s = run start (before ++ later) in
-    Has (Message i n r) (there s h) × (IsOf c s i h → IsAppended c s i h → (k : ℕ) → (folder s k).site ≢ i → CanHave c s k (Message i n r))
+    Has (Message i n r) (there s h) × (IsOf c s i h → IsAppended c s i h → (k : ℕ) → (folder s k).site ≢ i → ¬ (Has k s.full) → CanHave c s k (Message i n r))
 
 -- where it is told, it stands in the folder
 abbrev pub ToldOkIsKept : Type 0
@@ -132,6 +135,6 @@ pub record IsFresh (f : Folder) : Type 0 where
 -- takes asks all the same, allowed steps lead to two messages under one number
 abbrev pub ComparingIsNeeded : Type 0
 ComparingIsNeeded = (c : Carrier) (events : List Event) → AreSteps c start events → let s = run start events in
-    (k : ℕ) → IsFresh (folder s k) → (h : Place) (n r : ℕ) → Has (Message (folder s k).site n r) (there s h)
+    (k : ℕ) → IsFresh (folder s k) → ¬ (Has k s.full) → (h : Place) (n r : ℕ) → IsSeen h → Has (Message (folder s k).site n r) (there s h)
     → highest (folder s k).site (folder s k).kept < n → ¬ (Has (folder s k).site s.uncompared)
     → (more : List Event) × AreSteps c (after s (Opens k)) more × ¬ (AreGivenOnce (run (after s (Opens k)) more))

@@ -6,8 +6,9 @@ use Rattle.rubis_carrier.specs.declared.values.ShopPacket.TheVariants.{Message}
 use Rattle.rubis_carrier.specs.Shops.{folder, start, stream}
 use Rattle.rubis_carrier.specs.Shops.Place.{InStream}
 use Rattle.rubis_carrier.specs.declared.values.Notice.TheVariants.{Ok}
-use Rattle.rubis_carrier.specs.Events.{AreSteps, Event, IsWhole, run}
-use Rattle.rubis_carrier.specs.Events.Event.{TakesBack, TellsPublished, Yields}
+use Rattle.rubis_carrier.specs.Events.{AreSteps, IsWhole, run}
+use Rattle.rubis_carrier.specs.declared.values.Event.{Event}
+use Rattle.rubis_carrier.specs.declared.values.Event.TheVariants.{TakesBack, TellsPublished, Yields}
 
 -- what was told ok with `--published` stands in the stream, as long as that is whole
 abbrev pub ToldStaysInStream : Type 0

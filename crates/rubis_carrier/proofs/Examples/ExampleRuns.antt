@@ -3,8 +3,9 @@ use Rattle.std.proofs.Common.{◌≡◌, ◌++◌, ◌∷◌, [], ℕ, List, ref
 use Rattle.rubis_carrier.specs.declared.values.Carrier.{Carrier}
 use Rattle.rubis_carrier.specs.declared.values.ShopPacket.{ShopPacket}
 use Rattle.rubis_carrier.specs.declared.values.ShopPacket.TheVariants.{Message}
-use Rattle.rubis_carrier.specs.Events.{AreSteps, Event}
-use Rattle.rubis_carrier.specs.Events.Event.{Accepts, Gives, IsAsked, Opens, Serves, Starts}
+use Rattle.rubis_carrier.specs.Events.{AreSteps}
+use Rattle.rubis_carrier.specs.declared.values.Event.{Event}
+use Rattle.rubis_carrier.specs.declared.values.Event.TheVariants.{Accepts, Gives, IsAsked, Opens, Serves, Starts}
 use Rattle.rubis_carrier.specs.Shops.{start}
 use Rattle.rubis_carrier.proofs.Computed.{are_steps_true}
 

@@ -4,8 +4,9 @@ use Rattle.std.proofs.Common.{◌≡◌, inl, inr, ◌++◌, ◌∷◌, [], fals
 use Rattle.rubis_model.specs.Settle.{Has}
 use Rattle.rubis_carrier.specs.declared.values.Carrier.TheVariants.{Server}
 use Rattle.rubis_carrier.specs.declared.values.Notice.TheVariants.{Ok}
-use Rattle.rubis_carrier.specs.Events.{AreSteps, Event, May, after, run}
-use Rattle.rubis_carrier.specs.Events.Event.{Appends, IsCopied, Opens, Starts, TakesOver, TellsOk, TellsPublished, Yields}
+use Rattle.rubis_carrier.specs.Events.{AreSteps, May, after, run}
+use Rattle.rubis_carrier.specs.declared.values.Event.{Event}
+use Rattle.rubis_carrier.specs.declared.values.Event.TheVariants.{Appends, IsCopied, Opens, Starts, TakesOver, TellsOk, TellsPublished, Yields}
 use Rattle.rubis_carrier.specs.Shops.{Shop, start}
 use Rattle.rubis_carrier.specs.Tests.{may}
 use Rattle.rubis_carrier.proofs.Computed.{are_steps_true, may_not}

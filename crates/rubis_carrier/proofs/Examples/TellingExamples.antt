@@ -4,9 +4,10 @@ use Rattle.rubis_model.specs.Settle.{Has}
 use Rattle.rubis_carrier.specs.declared.values.Carrier.TheVariants.{Files, Server}
 use Rattle.rubis_carrier.specs.declared.values.ShopPacket.TheVariants.{Message}
 use Rattle.rubis_carrier.specs.declared.values.Notice.TheVariants.{No, Ok}
-use Rattle.rubis_carrier.specs.Events.{AreSteps, Event, IsWhole, May, MayRebuild, MayServe, after, run}
-use Rattle.rubis_carrier.specs.Events.Event.{Accepts, Appends, Gives, IsAsked, IsCopied, IsKilled, LosesEnd, Rebuilds, Serves, Starts, TellsNothing}
-use Rattle.rubis_carrier.specs.Events.Event.{TellsOk, WritesAnew}
+use Rattle.rubis_carrier.specs.Events.{AreSteps, IsWhole, May, MayRebuild, MayServe, after, run}
+use Rattle.rubis_carrier.specs.declared.values.Event.{Event}
+use Rattle.rubis_carrier.specs.declared.values.Event.TheVariants.{Accepts, Appends, Gives, IsAsked, IsCopied, IsKilled, LosesEnd, Rebuilds, Serves, Starts}
+use Rattle.rubis_carrier.specs.declared.values.Event.TheVariants.{TellsNothing, TellsOk, WritesAnew}
 use Rattle.rubis_carrier.specs.Laws.{IsUnmade}
 use Rattle.rubis_carrier.specs.Shops.{Shop, folder, start, stream}
 use Rattle.rubis_carrier.specs.Shops.Place.{InFolder}
@@ -75,15 +76,16 @@ none_is_refused = may_not Files (run start none_asked) (Serves 0 1) refl
 abbrev told_ok : List Event
 told_ok = asked_once ++ TellsOk 0 1 1 ∷ IsKilled 0 ∷ []
 
-dropping_is_refused : ¬ (MayRebuild (run start told_ok) 0 [])
-dropping_is_refused = may_not Files (run start told_ok) (Rebuilds 0 []) refl
+-- folder 5, that a rebuild begins, has nothing of it
+dropping_is_refused : ¬ (MayRebuild (run start told_ok) 0 5)
+dropping_is_refused = may_not Files (run start told_ok) (Rebuilds 0 5) refl
 
--- a rebuild is no loss: the folder is whole. But it hasn't the message, and has all that is anywhere
-rebuilds_are_whole : IsWhole (InFolder 0) (Rebuilds 0 [] ∷ [])
+-- a rebuild is no loss: the folder is whole. But it hasn't the message
+rebuilds_are_whole : IsWhole (InFolder 0) (Rebuilds 0 5 ∷ [])
 rebuilds_are_whole = ((λ h. h), tt)
 
 abbrev dropped : Shop
-dropped = after (run start told_ok) (Rebuilds 0 [])
+dropped = after (run start told_ok) (Rebuilds 0 5)
 
 was_told_ok : Has (Ok 1 0 1) (run start told_ok).told × Has (Message 0 1 1) (folder (run start told_ok) 0).kept
 was_told_ok = (inl refl, inl refl)

@@ -6,12 +6,14 @@ use Rattle.rubis_model.specs.Settle.{Has}
 use Rattle.rubis_carrier.specs.declared.values.Carrier.TheVariants.{Server}
 use Rattle.rubis_carrier.specs.declared.values.ShopPacket.{ShopPacket}
 use Rattle.rubis_carrier.specs.declared.values.ShopPacket.TheVariants.{Message, Pass}
-use Rattle.rubis_carrier.specs.Events.{AllCarry, AreSteps, Carries, Event, May, after, keeping, run, started}
-use Rattle.rubis_carrier.specs.Events.Event.{Accepts, Appends, Gives, IsAsked, IsKilled, Opens, Passes, Reads, ServerLosesAll, Serves, Starts}
+use Rattle.rubis_carrier.specs.Events.{AllCarry, AreSteps, Carries, May, after, keeping, run, started}
+use Rattle.rubis_carrier.specs.declared.values.Event.{Event}
+use Rattle.rubis_carrier.specs.declared.values.Event.TheVariants.{Accepts, Appends, Gives, IsAsked, IsKilled, Opens, Passes, Reads, ServerLosesAll, Serves}
+use Rattle.rubis_carrier.specs.declared.values.Event.TheVariants.{Starts}
 use Rattle.rubis_carrier.specs.Laws.{CanHold}
 use Rattle.rubis_carrier.specs.Packets.{Holds, highest, taken}
 use Rattle.rubis_carrier.specs.Shops.{Folder, Place, Shop, folder, folder_in, put_folder, start, there}
-use Rattle.rubis_carrier.specs.Shops.Place.{InFolder, InStream}
+use Rattle.rubis_carrier.specs.Shops.Place.{InFolder, InStream, UnderWay}
 use Rattle.rubis_carrier.proofs.Changes.{IsNew, from_step}
 use Rattle.rubis_carrier.proofs.Computed.{are_steps_true}
 use Rattle.rubis_carrier.proofs.Examples.ExampleRuns.{asked_once, first_message}
@@ -149,6 +151,7 @@ all_fine = fine_after start (asked_once ++ passing) passed_on_may refl none_yet
     none_yet : AllFine start
     none_yet (InFolder k) x h = absurd h
     none_yet (InStream i) x h = absurd h
+    none_yet UnderWay x h = absurd h
 
 -- site 1 never holds the token: by whatever folders that are started, and packets that are carried
 lost_for_good : (more : List Event) → AllCarry more → AreStepsByPlace passed_on more
