@@ -8,8 +8,8 @@ use Rattle.rubis_carrier.specs.declared.values.Carrier.TheVariants.{Files, Serve
 use Rattle.rubis_carrier.specs.declared.values.ShopPacket.{ShopPacket}
 use Rattle.rubis_carrier.specs.declared.values.ShopPacket.TheVariants.{Message, Pass}
 use Rattle.rubis_carrier.specs.Events.{AllCarry, AreSteps, HasRoom, IsAtItsPlace, IsOffered, after, keeping, run, started}
-use Rattle.rubis_carrier.specs.declared.values.Event.{Event}
-use Rattle.rubis_carrier.specs.declared.values.Event.TheVariants.{Appends, Reads, Starts}
+use Rattle.rubis_carrier.specs.declared.values.ShopEvent.{ShopEvent}
+use Rattle.rubis_carrier.specs.declared.values.ShopEvent.TheVariants.{Appends, Reads, Starts}
 use Rattle.rubis_carrier.specs.Laws.{CanHave, IsAppended, IsOf, NothingAcceptedIsLost}
 use Rattle.rubis_carrier.specs.Packets.{sender}
 use Rattle.rubis_carrier.specs.Shops.{Folder, Place, Shop, folder, start, stream, stream_in, there}
@@ -21,7 +21,7 @@ use Rattle.rubis_carrier.proofs.Whole.{run_append, steps_append, whole_then}
 
 -- some steps lead to where the folder runs, and all packets stand where they stood
 record IsAwake (c : Carrier) (s : Shop) (k : ℕ) : Type 0 where
-  events : List Event
+  events : List ShopEvent
   carry : AllCarry events
   steps : AreSteps c s events
   runs : 0 < (folder (run s events) k).life
@@ -61,11 +61,11 @@ awake c s k = go (folder s k).life refl
 -- ---- it reads the packet
 
 -- in two parts
-both_carry : (a b : List Event) → AllCarry a → AllCarry b → AllCarry (a ++ b)
+both_carry : (a b : List ShopEvent) → AllCarry a → AllCarry b → AllCarry (a ++ b)
 both_carry [] b m n = n
 both_carry (e ∷ a) b m n = (m.0, both_carry a b m.1 n)
 
-can_then : (c : Carrier) (s : Shop) (k : ℕ) (x : ShopPacket) (a : List Event) → AllCarry a → AreSteps c s a → CanHave c (run s a) k x → CanHave c s k x
+can_then : (c : Carrier) (s : Shop) (k : ℕ) (x : ShopPacket) (a : List ShopEvent) → AllCarry a → AreSteps c s a → CanHave c (run s a) k x → CanHave c s k x
 can_then c s k x a carry m h = (
   a ++ h.0,
   both_carry a h.0 carry h.1,

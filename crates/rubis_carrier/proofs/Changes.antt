@@ -7,11 +7,12 @@ use Rattle.rubis_model.proofs.Lists.{push_cases}
 use Rattle.rubis_carrier.specs.declared.values.Carrier.{Carrier}
 use Rattle.rubis_carrier.specs.declared.values.ShopPacket.{ShopPacket}
 use Rattle.rubis_carrier.specs.Events.{IsFirst, May, after, first, next_message, next_pass, opening, others, without}
-use Rattle.rubis_carrier.specs.declared.values.Event.{Event}
-use Rattle.rubis_carrier.specs.declared.values.Event.TheVariants.{Accepts, Appends, Arrives, Closes, Fills, Finds, Gives, GoesOn, IsAsked, IsCopied, IsKilled}
-use Rattle.rubis_carrier.specs.declared.values.Event.TheVariants.{IsLost, IsRaised, KeeperStarts, LosesEnd, MachineStarts, Opens, OpensAlone, Passes, Reads}
-use Rattle.rubis_carrier.specs.declared.values.Event.TheVariants.{Rebuilds, Refuses, Sends, ServerLosesAll, Serves, Starts, StreamLosesEnd, TakesBack}
-use Rattle.rubis_carrier.specs.declared.values.Event.TheVariants.{TakesOver, TellsNothing, TellsOk, TellsPublished, TellsUnknown, WritesAnew, Yields}
+use Rattle.rubis_carrier.specs.declared.values.ShopEvent.{ShopEvent}
+use Rattle.rubis_carrier.specs.declared.values.ShopEvent.TheVariants.{Accepts, Appends, Arrives, Closes, Fills, Finds, Gives, GoesOn, IsAsked, IsCopied}
+use Rattle.rubis_carrier.specs.declared.values.ShopEvent.TheVariants.{IsKilled, IsLost, IsRaised, KeeperStarts, LosesEnd, MachineStarts, Opens, OpensAlone}
+use Rattle.rubis_carrier.specs.declared.values.ShopEvent.TheVariants.{Passes, Reads, Rebuilds, Refuses, Sends, ServerLosesAll, Serves, Starts, StreamLosesEnd}
+use Rattle.rubis_carrier.specs.declared.values.ShopEvent.TheVariants.{TakesBack, TakesOver, TellsNothing, TellsOk, TellsPublished, TellsUnknown, WritesAnew}
+use Rattle.rubis_carrier.specs.declared.values.ShopEvent.TheVariants.{Yields}
 use Rattle.rubis_carrier.specs.Packets.{sender}
 use Rattle.rubis_carrier.specs.Shops.{Folder, Place, Shop, asks, folder, folder_in, put_folder, put_stream, stream, stream_in, there}
 use Rattle.rubis_carrier.specs.Shops.Place.{InFolder, InStream, UnderWay}
@@ -21,16 +22,16 @@ use Rattle.rubis_carrier.proofs.Sound.{IsSomewhere, offered}
 -- ---- packets
 
 -- what the event makes
-abbrev pub IsNew : Shop → Event → ShopPacket → Type 0
+abbrev pub IsNew : Shop → ShopEvent → ShopPacket → Type 0
 IsNew s (Accepts k r) x = x ≡ next_message (folder s k) r
 IsNew s (Passes k to) x = x ≡ next_pass (folder s k) to
 IsNew s e x = ⊥
 
-in_folder : (s : Shop) (e : Event) (k : ℕ) (f : Folder) (x : ShopPacket) → (Has x f.kept → IsSomewhere s x ⊎ IsNew s e x) → (j : ℕ)
+in_folder : (s : Shop) (e : ShopEvent) (k : ℕ) (f : Folder) (x : ShopPacket) → (Has x f.kept → IsSomewhere s x ⊎ IsNew s e x) → (j : ℕ)
     → Has x (folder_in (put_folder k f s.folders) j).kept → IsSomewhere s x ⊎ IsNew s e x
 in_folder s e k f x here = folder_cases (λ j g. Has x g.kept → IsSomewhere s x ⊎ IsNew s e x) k f s.folders here (λ j n h. inl (InFolder j, h))
 
-in_stream : (s : Shop) (e : Event) (i : ℕ) (xs : List ShopPacket) (x : ShopPacket) → (Has x xs → IsSomewhere s x ⊎ IsNew s e x) → (j : ℕ)
+in_stream : (s : Shop) (e : ShopEvent) (i : ℕ) (xs : List ShopPacket) (x : ShopPacket) → (Has x xs → IsSomewhere s x ⊎ IsNew s e x) → (j : ℕ)
     → Has x (stream_in (put_stream i xs s.streams) j) → IsSomewhere s x ⊎ IsNew s e x
 in_stream s e i xs x here = stream_cases (λ j ys. Has x ys → IsSomewhere s x ⊎ IsNew s e x) i xs s.streams here (λ j n h. inl (InStream j, h))
 
@@ -38,7 +39,7 @@ pub opened_from : (s : Shop) (k : ℕ) (x : ShopPacket) (j : ℕ) → Has x (fol
 opened_from s k x = opened_cases (λ j g. Has x g.kept → IsSomewhere s x) s k (λ h. (InFolder k, h)) (λ j n h. (InFolder j, h))
 
 -- what stands somewhere after the event stood somewhere before, or is new
-pub from_step : (c : Carrier) (s : Shop) (e : Event) (h : Place) (x : ShopPacket) → May c s e → Has x (there (after s e) h) → IsSomewhere s x ⊎ IsNew s e x
+pub from_step : (c : Carrier) (s : Shop) (e : ShopEvent) (h : Place) (x : ShopPacket) → May c s e → Has x (there (after s e) h) → IsSomewhere s x ⊎ IsNew s e x
 from_step c s (Starts k) (InFolder j) x m a = in_folder s (Starts k) k _ x (λ b. inl (InFolder k, b)) j a
 from_step c s (Opens k) (InFolder j) x m a = inl (opened_from s k x j a)
 from_step c s (TakesOver k) (InFolder j) x m a = inl (opened_from s k x j a)

@@ -11,10 +11,10 @@ use Rattle.rubis_carrier.specs.declared.values.Carrier.TheVariants.{Files, Serve
 use Rattle.rubis_carrier.specs.declared.values.ShopPacket.{ShopPacket}
 use Rattle.rubis_carrier.specs.declared.values.ShopPacket.TheVariants.{Message, Pass}
 use Rattle.rubis_carrier.specs.Events.{AreSteps, HasRoom, IsFirst, IsOffered, May, MayRebuild, MayServe, MayStandNext, MayWriteAnew, after}
-use Rattle.rubis_carrier.specs.declared.values.Event.{Event}
-use Rattle.rubis_carrier.specs.declared.values.Event.TheVariants.{Accepts, Appends, Arrives, Finds, Gives, GoesOn, IsAsked, IsRaised, Opens, OpensAlone, Passes}
-use Rattle.rubis_carrier.specs.declared.values.Event.TheVariants.{Reads, Rebuilds, Refuses, Sends, Serves, Starts, TakesOver, TellsNothing, TellsOk}
-use Rattle.rubis_carrier.specs.declared.values.Event.TheVariants.{TellsPublished, WritesAnew}
+use Rattle.rubis_carrier.specs.declared.values.ShopEvent.{ShopEvent}
+use Rattle.rubis_carrier.specs.declared.values.ShopEvent.TheVariants.{Accepts, Appends, Arrives, Finds, Gives, GoesOn, IsAsked, IsRaised, Opens, OpensAlone}
+use Rattle.rubis_carrier.specs.declared.values.ShopEvent.TheVariants.{Passes, Reads, Rebuilds, Refuses, Sends, Serves, Starts, TakesOver, TellsNothing, TellsOk}
+use Rattle.rubis_carrier.specs.declared.values.ShopEvent.TheVariants.{TellsPublished, WritesAnew}
 use Rattle.rubis_carrier.specs.Packets.{Holds, IsReached, highest, last_turn, own, passed, same_packet, sender, taken}
 use Rattle.rubis_carrier.specs.Shops.{Folder, IsAlone, IsCompared, MayOpen, Place, Shop, asks, empty, folder, request, stream, there}
 use Rattle.rubis_carrier.specs.Shops.Place.{InFolder, InStream, UnderWay}
@@ -261,7 +261,7 @@ module _ (s : Shop) (k : ℕ) where
   sends_decides c x = Decides-like _ (λ m. (m.0.0, m.0.1, m.1)) (λ m. ((m.0, m.1), m.2))
       (Decides-and _ _ (Decides-and _ _ (server_decides c) runs_decides) (packet_decides x (folder s k).kept))
 
-pub may_decides : (c : Carrier) (s : Shop) (e : Event) → Decides (may c s e) (May c s e)
+pub may_decides : (c : Carrier) (s : Shop) (e : ShopEvent) → Decides (may c s e) (May c s e)
 may_decides c s (Starts k) = Decides-eqb (folder s k).life 0
 may_decides c s (Opens k) = opens_decides s k
 may_decides c s (TakesOver k) = Decides-and _ _ (runs_decides s k) (number_decides (folder s k).site s.yielding)
@@ -296,11 +296,11 @@ pub may_computed : MayIsComputed
 may_computed c s e = may_decides c s e
 
 -- steps are computed
-pub are_steps_true : (c : Carrier) (s : Shop) (events : List Event) → are_steps c s events ≡ true → AreSteps c s events
+pub are_steps_true : (c : Carrier) (s : Shop) (events : List ShopEvent) → are_steps c s events ≡ true → AreSteps c s events
 are_steps_true c s [] t = tt
 are_steps_true c s (e ∷ rest) t =
     let both = and_parts (may c s e) (are_steps c (after s e) rest) t in
     ((may_decides c s e).0 both.0, are_steps_true c (after s e) rest both.1)
 
-pub may_not : (c : Carrier) (s : Shop) (e : Event) → may c s e ≡ false → ¬ (May c s e)
+pub may_not : (c : Carrier) (s : Shop) (e : ShopEvent) → may c s e ≡ false → ¬ (May c s e)
 may_not c s e t = not_from_Decides (may c s e) (may_decides c s e) t

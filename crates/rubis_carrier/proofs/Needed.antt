@@ -9,8 +9,8 @@ use Rattle.rubis_carrier.specs.declared.values.Carrier.{Carrier}
 use Rattle.rubis_carrier.specs.declared.values.ShopPacket.TheVariants.{Message}
 use Rattle.rubis_carrier.specs.declared.values.ShopRequest.{ShopRequest}
 use Rattle.rubis_carrier.specs.Events.{AreSteps, IsFirst, MayServe, accepting, after, giving, opened, others, run}
-use Rattle.rubis_carrier.specs.declared.values.Event.{Event}
-use Rattle.rubis_carrier.specs.declared.values.Event.TheVariants.{Accepts, Gives, IsAsked, Opens, Serves}
+use Rattle.rubis_carrier.specs.declared.values.ShopEvent.{ShopEvent}
+use Rattle.rubis_carrier.specs.declared.values.ShopEvent.TheVariants.{Accepts, Gives, IsAsked, Opens, Serves}
 use Rattle.rubis_carrier.specs.Laws.{AreGivenOnce, ComparingIsNeeded}
 use Rattle.rubis_carrier.specs.Packets.{highest}
 use Rattle.rubis_carrier.specs.Shops.{Folder, IsSeen, Place, Shop, asks, folder, request, request_in, start, there}
@@ -42,7 +42,7 @@ module _ (c : Carrier) (t : Shop) (k life i high : ℕ) (h : Place) (n r : ℕ) 
   ask : ℕ
   ask = asks t + 1
 
-  round : List Event
+  round : List ShopEvent
   unfolding ask
   round = IsAsked ask life 1 ∷ Serves k ask ∷ Gives k ask ∷ Accepts k ask ∷ []
 
@@ -156,7 +156,7 @@ module _ (c : Carrier) (t : Shop) (k life i high : ℕ) (h : Place) (n r : ℕ) 
 -- ---- as many asks as it takes
 
 abbrev ComesToTwo : Carrier → Shop → Type 0
-ComesToTwo c t = (more : List Event) × AreSteps c t more × ¬ (AreGivenOnce (run t more))
+ComesToTwo c t = (more : List ShopEvent) × AreSteps c t more × ¬ (AreGivenOnce (run t more))
 
 comes_to_two : (c : Carrier) {k life i : ℕ} {h : Place} {n r : ℕ} (d : ℕ) {t : Shop} {high : ℕ} → n ≡ high + suc d → IsTaking t k life i high h n r
     → ComesToTwo c t

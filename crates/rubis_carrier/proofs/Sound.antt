@@ -13,12 +13,13 @@ use Rattle.rubis_carrier.specs.declared.values.ShopPacket.TheVariants.{Message, 
 use Rattle.rubis_carrier.specs.declared.values.ShopRequest.{ShopRequest}
 use Rattle.rubis_carrier.specs.declared.values.Notice.{Notice}
 use Rattle.rubis_carrier.specs.Events.{AreSteps, IsOffered, May, accepting, after, keeping, next_message, next_pass, opening}
-use Rattle.rubis_carrier.specs.declared.values.Event.{Event}
+use Rattle.rubis_carrier.specs.declared.values.ShopEvent.{ShopEvent}
 use Rattle.rubis_carrier.specs.Events.{opening_uncompared, run}
-use Rattle.rubis_carrier.specs.declared.values.Event.TheVariants.{Accepts, Appends, Arrives, Closes, Fills, Finds, Gives, GoesOn, IsAsked, IsCopied, IsKilled}
-use Rattle.rubis_carrier.specs.declared.values.Event.TheVariants.{IsLost, IsRaised, KeeperStarts, LosesEnd, MachineStarts, Opens, OpensAlone, Passes, Reads}
-use Rattle.rubis_carrier.specs.declared.values.Event.TheVariants.{Rebuilds, Refuses, Sends, ServerLosesAll, Serves, Starts, StreamLosesEnd, TakesBack}
-use Rattle.rubis_carrier.specs.declared.values.Event.TheVariants.{TakesOver, TellsNothing, TellsOk, TellsPublished, TellsUnknown, WritesAnew, Yields}
+use Rattle.rubis_carrier.specs.declared.values.ShopEvent.TheVariants.{Accepts, Appends, Arrives, Closes, Fills, Finds, Gives, GoesOn, IsAsked, IsCopied}
+use Rattle.rubis_carrier.specs.declared.values.ShopEvent.TheVariants.{IsKilled, IsLost, IsRaised, KeeperStarts, LosesEnd, MachineStarts, Opens, OpensAlone}
+use Rattle.rubis_carrier.specs.declared.values.ShopEvent.TheVariants.{Passes, Reads, Rebuilds, Refuses, Sends, ServerLosesAll, Serves, Starts, StreamLosesEnd}
+use Rattle.rubis_carrier.specs.declared.values.ShopEvent.TheVariants.{TakesBack, TakesOver, TellsNothing, TellsOk, TellsPublished, TellsUnknown, WritesAnew}
+use Rattle.rubis_carrier.specs.declared.values.ShopEvent.TheVariants.{Yields}
 use Rattle.rubis_carrier.specs.Laws.{AreGivenOnce, IdsAreGivenOnce}
 use Rattle.rubis_carrier.specs.Packets.{IsReached, highest, name, passed, sender, taken}
 use Rattle.rubis_carrier.specs.Shops.{Folder, IsCompared, IsNotAhead, MayOpen, Place, Shop, folder, folder_in, put_folder, put_stream, start, stream, stream_in}
@@ -388,7 +389,7 @@ unknown_less s k f r o from = record {
   opened = λ e c. gone (sym o ∙ e);
 }
 
-pub sound_step : (c : Carrier) {s : Shop} (e : Event) → May c s e → Sound s → Sound (after s e)
+pub sound_step : (c : Carrier) {s : Shop} (e : ShopEvent) → May c s e → Sound s → Sound (after s e)
 sound_step c {s} (Starts k) m q = less_folder q k _ (shut s k _ refl refl refl refl) _ _ _
 sound_step c {s} (Opens k) m q = opens_sound s q k s.uncompared (λ i u. u) (λ n. m)
 sound_step c (TakesOver k) m q = uncompared_sound q k
@@ -466,11 +467,11 @@ sound_start = record {
     nothing (InStream i) x h = h
     nothing UnderWay x h = h
 
-pub sound_after : (c : Carrier) (s : Shop) (events : List Event) → AreSteps c s events → Sound s → Sound (run s events)
+pub sound_after : (c : Carrier) (s : Shop) (events : List ShopEvent) → AreSteps c s events → Sound s → Sound (run s events)
 sound_after c s [] m q = q
 sound_after c s (e ∷ rest) m q = sound_after c (after s e) rest m.1 (sound_step c e m.0 q)
 
-pub sound_run : (c : Carrier) (events : List Event) → AreSteps c start events → Sound (run start events)
+pub sound_run : (c : Carrier) (events : List ShopEvent) → AreSteps c start events → Sound (run start events)
 sound_run c events m = sound_after c start events m sound_start
 
 pub ids_once : IdsAreGivenOnce

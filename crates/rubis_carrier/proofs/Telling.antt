@@ -13,12 +13,13 @@ use Rattle.rubis_carrier.specs.declared.values.ShopRequest.{ShopRequest}
 use Rattle.rubis_carrier.specs.declared.values.Notice.{Notice}
 use Rattle.rubis_carrier.specs.declared.values.Notice.TheVariants.{No, Ok}
 use Rattle.rubis_carrier.specs.Events.{AreSteps, IsFirst, May, MayServe, accepting, after, answering, first, giving, next_message, opening}
-use Rattle.rubis_carrier.specs.declared.values.Event.{Event}
+use Rattle.rubis_carrier.specs.declared.values.ShopEvent.{ShopEvent}
 use Rattle.rubis_carrier.specs.Events.{others, run, started, times, without}
-use Rattle.rubis_carrier.specs.declared.values.Event.TheVariants.{Accepts, Appends, Arrives, Closes, Fills, Finds, Gives, GoesOn, IsAsked, IsCopied, IsKilled}
-use Rattle.rubis_carrier.specs.declared.values.Event.TheVariants.{IsLost, IsRaised, KeeperStarts, LosesEnd, MachineStarts, Opens, OpensAlone, Passes, Reads}
-use Rattle.rubis_carrier.specs.declared.values.Event.TheVariants.{Rebuilds, Refuses, Sends, ServerLosesAll, Serves, Starts, StreamLosesEnd, TakesBack}
-use Rattle.rubis_carrier.specs.declared.values.Event.TheVariants.{TakesOver, TellsNothing, TellsOk, TellsPublished, TellsUnknown, WritesAnew, Yields}
+use Rattle.rubis_carrier.specs.declared.values.ShopEvent.TheVariants.{Accepts, Appends, Arrives, Closes, Fills, Finds, Gives, GoesOn, IsAsked, IsCopied}
+use Rattle.rubis_carrier.specs.declared.values.ShopEvent.TheVariants.{IsKilled, IsLost, IsRaised, KeeperStarts, LosesEnd, MachineStarts, Opens, OpensAlone}
+use Rattle.rubis_carrier.specs.declared.values.ShopEvent.TheVariants.{Passes, Reads, Rebuilds, Refuses, Sends, ServerLosesAll, Serves, Starts, StreamLosesEnd}
+use Rattle.rubis_carrier.specs.declared.values.ShopEvent.TheVariants.{TakesBack, TakesOver, TellsNothing, TellsOk, TellsPublished, TellsUnknown, WritesAnew}
+use Rattle.rubis_carrier.specs.declared.values.ShopEvent.TheVariants.{Yields}
 use Rattle.rubis_carrier.specs.Laws.{AsksAreAcceptedOnce, IsUnmade, NobodyIsToldBoth, PublishedIsInStream, ToldOkIsKept, WhatIsToldIsTrue}
 use Rattle.rubis_carrier.specs.Packets.{highest}
 use Rattle.rubis_carrier.specs.Shops.{Folder, Place, Shop, asks, empty, folder, folder_in, put_folder, request, request_in, start, stream, there}
@@ -198,12 +199,12 @@ all_same s k = inl (same (folder s k) (folder s k) refl refl refl refl refl refl
 
 -- ---- one event: what else is new
 
-nothing_new : (c : Carrier) (s : Shop) (e : Event) → May c s e → ((i n r : ℕ) → IsNew s e (Message i n r) → ⊥) → (h : Place) (i n r : ℕ)
+nothing_new : (c : Carrier) (s : Shop) (e : ShopEvent) → May c s e → ((i n r : ℕ) → IsNew s e (Message i n r) → ⊥) → (h : Place) (i n r : ℕ)
     → Has (Message i n r) (there (after s e) h) → IsSomewhere s (Message i n r)
 nothing_new c s e m none h i n r a = ⊎_elim (λ old. old) (λ new. absurd (none i n r new)) (from_step c s e h (Message i n r) m a)
 
 -- the events in which no ask goes on, but for a folder that starts and an asker that asks
-quiet_put : (c : Carrier) {s : Shop} (e : Event) (k : ℕ) {f : Folder} → Tells s → May c s e → ((i n r : ℕ) → IsNew s e (Message i n r) → ⊥)
+quiet_put : (c : Carrier) {s : Shop} (e : ShopEvent) (k : ℕ) {f : Folder} → Tells s → May c s e → ((i n r : ℕ) → IsNew s e (Message i n r) → ⊥)
     → (after s e).folders ≡ put_folder k f s.folders → (IsSame (folder s k) f ⊎ IsIdle f) → (after s e).requests ≡ s.requests → (after s e).begun ≡ s.begun
     → (after s e).told ≡ s.told → Tells (after s e)
 quiet_put c {s} e k {f} q m none changed here requests begun told = quiet_tells s (after s e) q (record {
@@ -216,7 +217,7 @@ quiet_put c {s} e k {f} q m none changed here requests begun told = quiet_tells 
   ok = λ r i n a. inl (subst (Has (Ok r i n)) told a);
 })
 
-quiet_streams : (c : Carrier) {s : Shop} (e : Event) → Tells s → May c s e → ((i n r : ℕ) → IsNew s e (Message i n r) → ⊥) → (after s e).folders ≡ s.folders
+quiet_streams : (c : Carrier) {s : Shop} (e : ShopEvent) → Tells s → May c s e → ((i n r : ℕ) → IsNew s e (Message i n r) → ⊥) → (after s e).folders ≡ s.folders
     → (after s e).requests ≡ s.requests → (after s e).begun ≡ s.begun → ((r : ℕ) → Has (No r) (after s e).told → Has (No r) s.told)
     → ((r i n : ℕ) → Has (Ok r i n) (after s e).told → Has (Ok r i n) s.told ⊎ IsSomewhere s (Message i n r)) → Tells (after s e)
 quiet_streams c {s} e q m none same requests begun told_no told_ok = quiet_tells s (after s e) q (record {
@@ -611,7 +612,7 @@ opens_tells {s} k uncompared q = quiet_tells s _ q (record {
     from (InStream j) i n r a = (InStream j, a)
     from UnderWay i n r a = (UnderWay, has_filter _ (Message i n r) s.under_way a)
 
-pub tells_step : (c : Carrier) {s : Shop} (e : Event) → May c s e → Tells s → Tells (after s e)
+pub tells_step : (c : Carrier) {s : Shop} (e : ShopEvent) → May c s e → Tells s → Tells (after s e)
 tells_step c (Starts k) m q = starts_tells c k q m
 tells_step c {s} (Opens k) m q = opens_tells k s.uncompared q
 tells_step c (TakesOver k) m q = opens_tells k _ q
@@ -691,15 +692,15 @@ tells_start = record {
     nothing (InStream i) x h = h
     nothing UnderWay x h = h
 
-pub tells_after : (c : Carrier) (s : Shop) (events : List Event) → AreSteps c s events → Tells s → Tells (run s events)
+pub tells_after : (c : Carrier) (s : Shop) (events : List ShopEvent) → AreSteps c s events → Tells s → Tells (run s events)
 tells_after c s [] m q = q
 tells_after c s (e ∷ rest) m q = tells_after c (after s e) rest m.1 (tells_step c e m.0 q)
 
-pub tells_run : (c : Carrier) (events : List Event) → AreSteps c start events → Tells (run start events)
+pub tells_run : (c : Carrier) (events : List ShopEvent) → AreSteps c start events → Tells (run start events)
 tells_run c events m = tells_after c start events m tells_start
 
 -- what was told is told for ever
-told_step : (s : Shop) (e : Event) (w : Notice) → Has w s.told → Has w (after s e).told
+told_step : (s : Shop) (e : ShopEvent) (w : Notice) → Has w s.told → Has w (after s e).told
 told_step s (Refuses k r) w h = inr h
 told_step s (TellsOk k r n) w h = inr h
 told_step s (TellsPublished k r n) w h = inr h
@@ -708,7 +709,7 @@ told_step s (TellsUnknown k r) w h = inr h
 told_step s (Starts k) w h = h
 told_step s e w h = h
 
-pub told_after : (s : Shop) (events : List Event) (w : Notice) → Has w s.told → Has w (run s events).told
+pub told_after : (s : Shop) (events : List ShopEvent) (w : Notice) → Has w s.told → Has w (run s events).told
 told_after s [] w h = h
 told_after s (e ∷ rest) w h = told_after (after s e) rest w (told_step s e w h)
 

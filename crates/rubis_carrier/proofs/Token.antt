@@ -5,8 +5,8 @@ use Rattle.rubis_carrier.specs.declared.values.Carrier.{Carrier}
 use Rattle.rubis_carrier.specs.declared.values.ShopPacket.{ShopPacket}
 use Rattle.rubis_carrier.specs.declared.values.ShopPacket.TheVariants.{Message, Pass}
 use Rattle.rubis_carrier.specs.Events.{AllCarry, Carries, after, keeping, run, started}
-use Rattle.rubis_carrier.specs.declared.values.Event.{Event}
-use Rattle.rubis_carrier.specs.declared.values.Event.TheVariants.{Appends, Opens, Reads, Starts}
+use Rattle.rubis_carrier.specs.declared.values.ShopEvent.{ShopEvent}
+use Rattle.rubis_carrier.specs.declared.values.ShopEvent.TheVariants.{Appends, Opens, Reads, Starts}
 use Rattle.rubis_carrier.specs.Laws.{TheFirstSiteHolds, TheTokenComesBack}
 use Rattle.rubis_carrier.specs.Packets.{Holds, passed, taken}
 use Rattle.rubis_carrier.specs.Shops.{Place, Shop, folder, start}
@@ -39,14 +39,14 @@ holds_last {s} q k one t =
 -- ---- the pass comes to it
 
 -- carrying changes no turn, nor of which site a folder is
-carried : (c : Carrier) (s : Shop) (e : Event) → Carries e → ((after s e).turn ≡ s.turn) × ((k : ℕ) → (folder (after s e) k).site ≡ (folder s k).site)
+carried : (c : Carrier) (s : Shop) (e : ShopEvent) → Carries e → ((after s e).turn ≡ s.turn) × ((k : ℕ) → (folder (after s e) k).site ≡ (folder s k).site)
 carried c s (Starts k) m = (refl, folder_cases (λ j f. f.site ≡ (folder s j).site) k (started (folder s k) (s.begun + 1)) s.folders refl (λ j n. refl))
 carried c s (Appends k x) m = (refl, λ j. refl)
 carried c s (Reads k x) m = (refl, folder_cases (λ j f. f.site ≡ (folder s j).site) k (keeping (folder s k) x) s.folders refl (λ j n. refl))
 carried c s (Opens k) m = absurd m
 carried c s e m = absurd m
 
-all_carried : (c : Carrier) (s : Shop) (events : List Event) → AllCarry events → ((run s events).turn ≡ s.turn) ×
+all_carried : (c : Carrier) (s : Shop) (events : List ShopEvent) → AllCarry events → ((run s events).turn ≡ s.turn) ×
     ((k : ℕ) → (folder (run s events) k).site ≡ (folder s k).site)
 all_carried c s [] m = (refl, λ k. refl)
 all_carried c s (e ∷ rest) m =

@@ -7,11 +7,12 @@ use Rattle.rubis_carrier.specs.Laws.{GivenAgainOnlyWhereLost}
 use Rattle.rubis_carrier.specs.declared.values.Carrier.{Carrier}
 use Rattle.rubis_carrier.specs.declared.values.ShopPacket.{ShopPacket}
 use Rattle.rubis_carrier.specs.Events.{AreSteps, Harms, IsWhole, May, after, opening, run}
-use Rattle.rubis_carrier.specs.declared.values.Event.{Event}
-use Rattle.rubis_carrier.specs.declared.values.Event.TheVariants.{Accepts, Appends, Arrives, Closes, Fills, Finds, Gives, GoesOn, IsAsked, IsCopied, IsKilled}
-use Rattle.rubis_carrier.specs.declared.values.Event.TheVariants.{IsLost, IsRaised, KeeperStarts, LosesEnd, MachineStarts, Opens, OpensAlone, Passes, Reads}
-use Rattle.rubis_carrier.specs.declared.values.Event.TheVariants.{Rebuilds, Refuses, Sends, ServerLosesAll, Serves, Starts, StreamLosesEnd, TakesBack}
-use Rattle.rubis_carrier.specs.declared.values.Event.TheVariants.{TakesOver, TellsNothing, TellsOk, TellsPublished, TellsUnknown, WritesAnew, Yields}
+use Rattle.rubis_carrier.specs.declared.values.ShopEvent.{ShopEvent}
+use Rattle.rubis_carrier.specs.declared.values.ShopEvent.TheVariants.{Accepts, Appends, Arrives, Closes, Fills, Finds, Gives, GoesOn, IsAsked, IsCopied}
+use Rattle.rubis_carrier.specs.declared.values.ShopEvent.TheVariants.{IsKilled, IsLost, IsRaised, KeeperStarts, LosesEnd, MachineStarts, Opens, OpensAlone}
+use Rattle.rubis_carrier.specs.declared.values.ShopEvent.TheVariants.{Passes, Reads, Rebuilds, Refuses, Sends, ServerLosesAll, Serves, Starts, StreamLosesEnd}
+use Rattle.rubis_carrier.specs.declared.values.ShopEvent.TheVariants.{TakesBack, TakesOver, TellsNothing, TellsOk, TellsPublished, TellsUnknown, WritesAnew}
+use Rattle.rubis_carrier.specs.declared.values.ShopEvent.TheVariants.{Yields}
 use Rattle.rubis_carrier.specs.Laws.{GivenAgainOnlyWhereLost}
 use Rattle.rubis_carrier.specs.Packets.{sender}
 use Rattle.rubis_carrier.specs.Shops.{Folder, Place, Shop, folder, folder_in, put_folder, put_stream, start, stream, stream_in, there}
@@ -21,19 +22,19 @@ use Rattle.rubis_carrier.proofs.Sound.{ids_once}
 
 -- ---- lists of events
 
-pub run_append : (s : Shop) (a b : List Event) → run s (a ++ b) ≡ run (run s a) b
+pub run_append : (s : Shop) (a b : List ShopEvent) → run s (a ++ b) ≡ run (run s a) b
 run_append s [] b = refl
 run_append s (e ∷ a) b = run_append (after s e) a b
 
-pub steps_left : (c : Carrier) (s : Shop) (a b : List Event) → AreSteps c s (a ++ b) → AreSteps c s a
+pub steps_left : (c : Carrier) (s : Shop) (a b : List ShopEvent) → AreSteps c s (a ++ b) → AreSteps c s a
 steps_left c s [] b m = tt
 steps_left c s (e ∷ a) b m = (m.0, steps_left c (after s e) a b m.1)
 
-pub steps_right : (c : Carrier) (s : Shop) (a b : List Event) → AreSteps c s (a ++ b) → AreSteps c (run s a) b
+pub steps_right : (c : Carrier) (s : Shop) (a b : List ShopEvent) → AreSteps c s (a ++ b) → AreSteps c (run s a) b
 steps_right c s [] b m = m
 steps_right c s (e ∷ a) b m = steps_right c (after s e) a b m.1
 
-pub steps_append : (c : Carrier) (s : Shop) (a b : List Event) → AreSteps c s a → AreSteps c (run s a) b → AreSteps c s (a ++ b)
+pub steps_append : (c : Carrier) (s : Shop) (a b : List ShopEvent) → AreSteps c s a → AreSteps c (run s a) b → AreSteps c s (a ++ b)
 steps_append c s [] b m n = n
 steps_append c s (e ∷ a) b m n = (m.0, steps_append c (after s e) a b m.1 n)
 
@@ -62,7 +63,7 @@ stream_other : (s : Shop) (i : ℕ) (xs : List ShopPacket) (j : ℕ) → j ≢ i
 stream_other s i xs j n x h =
     stream_cases (λ k ys. k ≢ i → Has x (stream s k) → Has x ys) i xs s.streams (λ d. absurd (d refl)) (λ k d e a. a) j n h
 
-folder_step : (c : Carrier) (s : Shop) (e : Event) (j : ℕ) → May c s e → (Harms e (InFolder j) → ⊥) → (x : ShopPacket)
+folder_step : (c : Carrier) (s : Shop) (e : ShopEvent) (j : ℕ) → May c s e → (Harms e (InFolder j) → ⊥) → (x : ShopPacket)
     → Has x (folder s j).kept → Has x (folder (after s e) j).kept
 folder_step c s (Starts k) j m n x h = same_or_more s k _ (λ z a. a) j x h
 folder_step c s (Opens k) j m n x h = opened_kept s k j x h
@@ -100,7 +101,7 @@ folder_step c s (Finds k y) j m n x h = same_or_more s k _ (λ z a. has_left z (
 folder_step c s (Rebuilds k l) j m n x h = same_or_more s k _ (λ z a. m.left z a) j x h
 folder_step c s (WritesAnew k) j m n x h = h
 
-stream_step : (c : Carrier) (s : Shop) (e : Event) (i : ℕ) → May c s e → (Harms e (InStream i) → ⊥) → (x : ShopPacket)
+stream_step : (c : Carrier) (s : Shop) (e : ShopEvent) (i : ℕ) → May c s e → (Harms e (InStream i) → ⊥) → (x : ShopPacket)
     → Has x (stream s i) → Has x (stream (after s e) i)
 stream_step c s (Appends k y) i m n x h = stream_more s (sender y) _ (λ z a. has_left z (stream s (sender y)) _ a) i x h
 stream_step c s (Arrives y) i m n x h = stream_more s (sender y) _ (λ z a. has_left z (stream s (sender y)) _ a) i x h
@@ -110,7 +111,7 @@ stream_step c s (WritesAnew k) i m n x h = stream_more s (folder s k).site _ m.1
 stream_step c s (Starts k) i m n x h = h
 stream_step c s e i m n x h = h
 
-way_step : (s : Shop) (e : Event) → (Harms e UnderWay → ⊥) → (x : ShopPacket) → Has x s.under_way → Has x (after s e).under_way
+way_step : (s : Shop) (e : ShopEvent) → (Harms e UnderWay → ⊥) → (x : ShopPacket) → Has x s.under_way → Has x (after s e).under_way
 way_step s (Opens k) n x h = absurd (n refl)
 way_step s (TakesOver k) n x h = absurd (n refl)
 way_step s (OpensAlone k) n x h = absurd (n refl)
@@ -118,18 +119,18 @@ way_step s (Sends k y) n x h = inr h
 way_step s (Starts k) n x h = h
 way_step s e n x h = h
 
-whole_step : (c : Carrier) (s : Shop) (e : Event) (h : Place) → May c s e → (Harms e h → ⊥) → (x : ShopPacket) → Has x (there s h) → Has x (there (after s e) h)
+whole_step : (c : Carrier) (s : Shop) (e : ShopEvent) (h : Place) → May c s e → (Harms e h → ⊥) → (x : ShopPacket) → Has x (there s h) → Has x (there (after s e) h)
 whole_step c s e (InFolder j) m n x a = folder_step c s e j m n x a
 whole_step c s e (InStream i) m n x a = stream_step c s e i m n x a
 whole_step c s e UnderWay m n x a = way_step s e n x a
 
-pub whole_after : (c : Carrier) (s : Shop) (later : List Event) (h : Place) → AreSteps c s later → IsWhole h later → (x : ShopPacket)
+pub whole_after : (c : Carrier) (s : Shop) (later : List ShopEvent) (h : Place) → AreSteps c s later → IsWhole h later → (x : ShopPacket)
     → Has x (there s h) → Has x (there (run s later) h)
 whole_after c s [] h m w x a = a
 whole_after c s (e ∷ rest) h m w x a = whole_after c (after s e) rest h m.1 w.1 x (whole_step c s e h m.0 w.0 x a)
 
 -- after these events, and then those
-pub whole_then : (c : Carrier) (before later : List Event) (h : Place) → AreSteps c start (before ++ later) → IsWhole h later → (x : ShopPacket)
+pub whole_then : (c : Carrier) (before later : List ShopEvent) (h : Place) → AreSteps c start (before ++ later) → IsWhole h later → (x : ShopPacket)
     → Has x (there (run start before) h) → Has x (there (run start (before ++ later)) h)
 whole_then c before later h m w x a = subst (λ s. Has x (there s h)) (sym (run_append start before later))
     (whole_after c (run start before) later h (steps_right c start before later m) w x a)

@@ -10,11 +10,12 @@ use Rattle.rubis_carrier.specs.Shops.{Folder, MayOpen, Place, Shop, asks, empty,
 use Rattle.rubis_carrier.specs.Shops.Place.{InFolder, InStream, UnderWay}
 use Rattle.rubis_carrier.specs.declared.values.Notice.{Notice}
 use Rattle.rubis_carrier.specs.declared.values.Notice.TheVariants as told
-use Rattle.rubis_carrier.specs.declared.values.Event.{Event}
-use Rattle.rubis_carrier.specs.declared.values.Event.TheVariants.{Accepts, Appends, Arrives, Closes, Fills, Finds, Gives, GoesOn, IsAsked, IsCopied, IsKilled}
-use Rattle.rubis_carrier.specs.declared.values.Event.TheVariants.{IsLost, IsRaised, KeeperStarts, LosesEnd, MachineStarts, Opens, OpensAlone, Passes, Reads}
-use Rattle.rubis_carrier.specs.declared.values.Event.TheVariants.{Rebuilds, Refuses, Sends, ServerLosesAll, Serves, Starts, StreamLosesEnd, TakesBack}
-use Rattle.rubis_carrier.specs.declared.values.Event.TheVariants.{TakesOver, TellsNothing, TellsOk, TellsPublished, TellsUnknown, WritesAnew, Yields}
+use Rattle.rubis_carrier.specs.declared.values.ShopEvent.{ShopEvent}
+use Rattle.rubis_carrier.specs.declared.values.ShopEvent.TheVariants.{Accepts, Appends, Arrives, Closes, Fills, Finds, Gives, GoesOn, IsAsked, IsCopied}
+use Rattle.rubis_carrier.specs.declared.values.ShopEvent.TheVariants.{IsKilled, IsLost, IsRaised, KeeperStarts, LosesEnd, MachineStarts, Opens, OpensAlone}
+use Rattle.rubis_carrier.specs.declared.values.ShopEvent.TheVariants.{Passes, Reads, Rebuilds, Refuses, Sends, ServerLosesAll, Serves, Starts, StreamLosesEnd}
+use Rattle.rubis_carrier.specs.declared.values.ShopEvent.TheVariants.{TakesBack, TakesOver, TellsNothing, TellsOk, TellsPublished, TellsUnknown, WritesAnew}
+use Rattle.rubis_carrier.specs.declared.values.ShopEvent.TheVariants.{Yields}
 
 -- ---- when it may happen
 
@@ -61,7 +62,7 @@ pub record MayWriteAnew (s : Shop) (k : ℕ) : Type 0 where
   pub compared : ¬ (Has (folder s k).site s.uncompared)
 
 -- when an event may happen
-abbrev pub May : Carrier → Shop → Event → Type 0
+abbrev pub May : Carrier → Shop → ShopEvent → Type 0
 May c s (Starts k) = (folder s k).life ≡ 0
 May c s (Opens k) = MayOpen s k
 May c s (TakesOver k) = (0 < (folder s k).life) × Has (folder s k).site s.yielding
@@ -197,7 +198,7 @@ abbrev pub going_on : ℕ → Shop → Shop
 going_on k s = record (with_folder k (record (folder s k) { is_open = true }) s) { uncompared = (folder s k).site ∷ s.uncompared }
 
 -- what an event leads to
-abbrev pub after : Shop → Event → Shop
+abbrev pub after : Shop → ShopEvent → Shop
 after s (Starts k) = record (with_folder k (started (folder s k) (s.begun + 1)) s) { begun = s.begun + 1 }
 after s (Opens k) = opening k s
 after s (TakesOver k) = opening_uncompared k s
@@ -237,19 +238,19 @@ after s (WritesAnew k) = with_stream (folder s k).site (own (folder s k).site (f
 -- ---- one event after the other
 
 -- what several events lead to, one after the other
-abbrev pub run : Shop → List Event → Shop
+abbrev pub run : Shop → List ShopEvent → Shop
 run s [] = s
 run s (e ∷ rest) = run (after s e) rest
 
 -- each of them may happen where it does
-abbrev pub AreSteps : Carrier → Shop → List Event → Type 0
+abbrev pub AreSteps : Carrier → Shop → List ShopEvent → Type 0
 AreSteps c s [] = Unit {0}
 AreSteps c s (e ∷ rest) = May c s e × AreSteps c (after s e) rest
 
 -- ---- what is lost
 
 -- the event takes packets from this place, or puts others there
-abbrev pub Harms : Event → Place → Type 0
+abbrev pub Harms : ShopEvent → Place → Type 0
 Harms (Opens k) h = h ≡ UnderWay
 Harms (TakesOver k) h = h ≡ UnderWay
 Harms (OpensAlone k) h = h ≡ UnderWay
@@ -261,20 +262,20 @@ Harms ServerLosesAll (InStream i) = Unit {0}
 Harms e h = ⊥
 
 -- none of these events does
-abbrev pub IsWhole : Place → List Event → Type 0
+abbrev pub IsWhole : Place → List ShopEvent → Type 0
 IsWhole h [] = Unit {0}
 IsWhole h (e ∷ rest) = (Harms e h → ⊥) × IsWhole h rest
 
 -- ---- what goes on by itself
 
 -- a folder is started, and packets are carried
-abbrev pub Carries : Event → Type 0
+abbrev pub Carries : ShopEvent → Type 0
 Carries (Starts k) = Unit {0}
 Carries (Appends k x) = Unit {0}
 Carries (Reads k x) = Unit {0}
 Carries e = ⊥
 
 -- each of the events starts a folder or carries a packet
-abbrev pub AllCarry : List Event → Type 0
+abbrev pub AllCarry : List ShopEvent → Type 0
 AllCarry [] = Unit {0}
 AllCarry (e ∷ rest) = Carries e × AllCarry rest

@@ -9,10 +9,10 @@ use Rattle.rubis_carrier.specs.declared.values.ShopPacket.TheVariants.{Message, 
 use Rattle.rubis_carrier.specs.Packets.{highest, last_turn, passed, same_packet, sender, taken}
 use Rattle.rubis_carrier.specs.Shops.{Folder, Shop, asks, folder, request, stream}
 use Rattle.rubis_carrier.specs.Events.{May, after}
-use Rattle.rubis_carrier.specs.declared.values.Event.{Event}
-use Rattle.rubis_carrier.specs.declared.values.Event.TheVariants.{Accepts, Appends, Arrives, Finds, Gives, GoesOn, IsAsked, IsRaised, Opens, OpensAlone, Passes}
-use Rattle.rubis_carrier.specs.declared.values.Event.TheVariants.{Reads, Rebuilds, Refuses, Sends, Serves, Starts, TakesOver, TellsNothing, TellsOk}
-use Rattle.rubis_carrier.specs.declared.values.Event.TheVariants.{TellsPublished, WritesAnew}
+use Rattle.rubis_carrier.specs.declared.values.ShopEvent.{ShopEvent}
+use Rattle.rubis_carrier.specs.declared.values.ShopEvent.TheVariants.{Accepts, Appends, Arrives, Finds, Gives, GoesOn, IsAsked, IsRaised, Opens, OpensAlone}
+use Rattle.rubis_carrier.specs.declared.values.ShopEvent.TheVariants.{Passes, Reads, Rebuilds, Refuses, Sends, Serves, Starts, TakesOver, TellsNothing, TellsOk}
+use Rattle.rubis_carrier.specs.declared.values.ShopEvent.TheVariants.{TellsPublished, WritesAnew}
 
 -- ---- what is in a list
 
@@ -108,7 +108,7 @@ may_send c f x = is_server c && runs f && has_packet x f.kept
 abbrev pub may_write_anew : Shop → Folder → Bool
 may_write_anew s f = runs f && not (has_number f.site s.uncompared) && are_own f.site f.kept (stream s f.site)
 
-abbrev pub may : Carrier → Shop → Event → Bool
+abbrev pub may : Carrier → Shop → ShopEvent → Bool
 may c s (Starts k) = (folder s k).life == 0
 may c s (Opens k) = may_open s k (folder s k)
 may c s (TakesOver k) = runs (folder s k) && has_number (folder s k).site s.yielding
@@ -134,10 +134,10 @@ may c s (WritesAnew k) = is_server c && may_write_anew s (folder s k)
 may c s e = true
 
 -- each of them may happen where it does
-abbrev pub are_steps : Carrier → Shop → List Event → Bool
+abbrev pub are_steps : Carrier → Shop → List ShopEvent → Bool
 are_steps c s [] = true
 are_steps c s (e ∷ rest) = may c s e && are_steps c (after s e) rest
 
 -- the test says when an event may happen
 abbrev pub MayIsComputed : Type 0
-MayIsComputed = (c : Carrier) (s : Shop) (e : Event) → (may c s e ≡ true) ↔ May c s e
+MayIsComputed = (c : Carrier) (s : Shop) (e : ShopEvent) → (may c s e ≡ true) ↔ May c s e

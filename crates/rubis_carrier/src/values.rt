@@ -40,7 +40,7 @@ pub enum Notice {
 
 /// What happens in a shop. The first number is that of a folder, unless something else is said; then come those that each kind names.
 #[derive(Clone, Copy)]
-pub enum Event {
+pub enum ShopEvent {
     /// A supervisor begins to run the folder, in a new life.
     Starts(u64),
     /// Its site may take asks; the same of a standby, which takes over from a folder that may go on; the same with `--alone`.

@@ -1,7 +1,7 @@
 -- A step of a shop as it stands on a line.
 use Rattle.std.specs.Prelude.{◌≡◌, ℕ, ◌++◌, List, [], ◌∷◌, codes, decimal}
-use Rattle.rubis_carrier.specs.declared.values.Event.{Event}
-use Rattle.rubis_carrier.specs.declared.values.Event.TheVariants as on
+use Rattle.rubis_carrier.specs.declared.values.ShopEvent.{ShopEvent}
+use Rattle.rubis_carrier.specs.declared.values.ShopEvent.TheVariants as on
 use Rattle.rubis_carrier.specs.declared.values.ShopPacket.{ShopPacket}
 use Rattle.rubis_carrier.specs.declared.values.ShopPacket.TheVariants as packet
 
@@ -11,7 +11,7 @@ packet_numbers (packet.Message i n r) = i ∷ n ∷ r ∷ []
 packet_numbers (packet.Pass i t j a) = i ∷ t ∷ j ∷ a ∷ []
 
 -- the kind of an event, and its numbers in the order in which it has them
-abbrev pub Says : Event → List ℕ → List ℕ → Type 0
+abbrev pub Says : ShopEvent → List ℕ → List ℕ → Type 0
 Says (on.Starts k) kind numbers = (kind ≡ codes "Starts") × (numbers ≡ k ∷ [])
 Says (on.Opens k) kind numbers = (kind ≡ codes "Opens") × (numbers ≡ k ∷ [])
 Says (on.TakesOver k) kind numbers = (kind ≡ codes "TakesOver") × (numbers ≡ k ∷ [])
@@ -54,5 +54,5 @@ commas [] = []
 commas (n ∷ numbers) = codes "," ++ decimal n ++ commas numbers
 
 -- the line has that kind, and then those numbers
-abbrev pub IsWritten : Event → List ℕ → Type 0
+abbrev pub IsWritten : ShopEvent → List ℕ → Type 0
 IsWritten e line = (kind : List ℕ) × (numbers : List ℕ) × Says e kind numbers × (line ≡ kind ++ commas numbers)

@@ -3,7 +3,7 @@
 ghost use Rattle.std.specs.Prelude.{◌≡◌, ◌++◌, IfOk, IfSome, string_bytes};
 ghost use Rattle.rubis_decider.specs.Written.{IsWritten, Says, commas, packet_numbers};
 
-use rubis_carrier::{Event, ShopPacket};
+use rubis_carrier::{ShopEvent as Event, ShopPacket};
 use std::alloc::{AllocError, Global};
 
 fn packet_of(numbers: &[u64]) -> Option<ShopPacket>

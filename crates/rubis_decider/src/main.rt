@@ -6,7 +6,7 @@ mod lines;
 
 use anyhow::{Result, bail};
 use lines::read_event;
-use rubis_carrier::{Carrier, Event};
+use rubis_carrier::{Carrier, ShopEvent as Event};
 use rubis_steps::decide;
 use std::alloc::Global;
 use std::io::{BufRead, BufReader};

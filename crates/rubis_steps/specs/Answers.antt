@@ -1,7 +1,7 @@
 -- What the answers to an event, and to a list of events, say.
 use Rattle.std.specs.Prelude.{◌≡◌, ◌<◌, ◌+◌, ℕ, List, length, take, Option, Some, None}
 use Rattle.rubis_carrier.specs.declared.values.Carrier.{Carrier}
-use Rattle.rubis_carrier.specs.declared.values.Event.{Event}
+use Rattle.rubis_carrier.specs.declared.values.ShopEvent.{ShopEvent}
 use Rattle.rubis_carrier.specs.declared.values.ShopPacket.{ShopPacket}
 use Rattle.rubis_carrier.specs.Events.{AreSteps}
 use Rattle.rubis_carrier.specs.Shops.{Folder, start, with_folder, with_stream}
@@ -9,7 +9,7 @@ use Rattle.rubis_steps.specs.declared.shops.Shop.{Shop as CodeShop}
 use Rattle.rubis_steps.specs.Views.{folder_at, shop_of, stream_at}
 
 -- all of them may happen, one after the other; or the first n may, and with the next one these are no steps any more
-abbrev pub IsAnswer : Carrier → List Event → Option ℕ → Type 0
+abbrev pub IsAnswer : Carrier → List ShopEvent → Option ℕ → Type 0
 IsAnswer c events None = AreSteps c start events
 IsAnswer c events (Some n) = (n < length events) × AreSteps c start (take n events) × ¬ (AreSteps c start (take (n + 1) events))
 

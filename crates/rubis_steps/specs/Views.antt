@@ -1,9 +1,9 @@
 -- What the code holds, as the model has it.
 use Rattle.std.specs.Prelude.{ℕ, List, [], ◌∷◌, ◌++◌, map, take, true}
 use Rattle.std.specs.Global.{Vec}
-use Rattle.rubis_carrier.specs.declared.values.Event.{Event}
-use Rattle.rubis_carrier.specs.declared.values.Event.TheVariants.{Accepts, Closes, Finds, Gives, GoesOn, IsKilled, IsLost, LosesEnd, MachineStarts, Passes}
-use Rattle.rubis_carrier.specs.declared.values.Event.TheVariants.{Reads, Refuses, Serves, TellsNothing}
+use Rattle.rubis_carrier.specs.declared.values.ShopEvent.{ShopEvent}
+use Rattle.rubis_carrier.specs.declared.values.ShopEvent.TheVariants.{Accepts, Closes, Finds, Gives, GoesOn, IsKilled, IsLost, LosesEnd, MachineStarts, Passes}
+use Rattle.rubis_carrier.specs.declared.values.ShopEvent.TheVariants.{Reads, Refuses, Serves, TellsNothing}
 use Rattle.rubis_carrier.specs.declared.values.ShopPacket.{ShopPacket}
 use Rattle.rubis_carrier.specs.Shops.{Folder, Shop, empty, folder, stream}
 use Rattle.rubis_carrier.specs.Events.{accepting, answering, closed, giving, keeping, next_pass, replaced, stopped, unknown, without}
@@ -55,7 +55,7 @@ abbrev pub stream_at : CodeShop → ℕ → List ShopPacket
 stream_at s i = stream (shop_of s) i
 
 -- what becomes of the folder at which the event happens, if that is all; `records` is how many its ask has
-abbrev pub changed : Event → ℕ → Folder → Folder
+abbrev pub changed : ShopEvent → ℕ → Folder → Folder
 changed (Closes k) records f = closed f
 changed (GoesOn k) records f = record f { is_open = true }
 changed (IsKilled k) records f = stopped f

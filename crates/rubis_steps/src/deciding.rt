@@ -5,7 +5,7 @@ ghost use Rattle.rubis_steps.specs.Answers.{IsAnswer};
 
 use crate::faults::DeciderFault;
 use crate::shops::Shop;
-use rubis_carrier::{Carrier, Event};
+use rubis_carrier::{Carrier, ShopEvent as Event};
 use std::alloc::Global;
 
 /// Whether the events are steps of a shop in which nothing has happened: none if they are, or else the first that may not happen,

@@ -1,6 +1,6 @@
 //! A folder of a site, and what becomes of it alone.
 
-ghost use Rattle.std.specs.Prelude.{◌≡◌, ◌+◌, ◌++◌, ◌∷◌, [], IfOk, OnOk};
+ghost use Rattle.std.specs.Prelude.{◌≡◌, ◌+◌, IfOk, OnOk};
 ghost use Rattle.rubis_carrier.specs.Shops.{empty};
 ghost use Rattle.rubis_carrier.specs.Events.{accepting, answering, forgotten, giving, keeping, next_pass, opened, started, stopped, unknown};
 ghost use Rattle.rubis_carrier.specs.Tests.{holds};
@@ -9,7 +9,7 @@ ghost use Rattle.rubis_steps.specs.Views.{changed, folder_of};
 use crate::faults::DeciderFault;
 use crate::lists::{first, push_times, remove_first, remove_number};
 use crate::packets::{highest, passed, taken};
-use rubis_carrier::{Answer, Event, ShopPacket};
+use rubis_carrier::{Answer, ShopEvent as Event, ShopPacket};
 use std::alloc::Global;
 
 /// A folder of a site, and what is in the memory of those that run it.

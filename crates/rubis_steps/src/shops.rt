@@ -4,7 +4,7 @@ ghost use Rattle.std.specs.Fn.{FnReturnsAt};
 ghost use Rattle.std.specs.Prelude.{◌≡◌, ◌==◌, ◌+◌, IfOk, OnOk, map};
 ghost use Rattle.rubis_carrier.specs.Shops.{empty, request, start, with_folder};
 ghost use Rattle.rubis_carrier.specs.Events.{after, first, forgotten, opening, opening_uncompared, replaced};
-ghost use Rattle.rubis_carrier.specs.declared.values.Event.TheVariants.{Arrives, Passes, Starts, StreamLosesEnd, WritesAnew};
+ghost use Rattle.rubis_carrier.specs.declared.values.ShopEvent.TheVariants.{Arrives, Passes, Starts, StreamLosesEnd, WritesAnew};
 ghost use Rattle.rubis_carrier.specs.Tests.{is_alone, is_compared, is_offered, is_placed, is_somewhere, may, may_open, may_serve};
 ghost use Rattle.rubis_carrier.specs.Tests.{may_tell_published};
 ghost use Rattle.rubis_steps.specs.Views.{changed, folder_at, folder_of, folders_of, shop_of, stream_at};
@@ -16,7 +16,7 @@ use crate::faults::DeciderFault;
 use crate::folders::{Folder, next};
 use crate::lists::{first, remove_number};
 use crate::packets::{are_own, are_reached, has_packets, highest, last_turn, own, sender, taken};
-use rubis_carrier::{Answer, Carrier, Event, Notice, ShopPacket, ShopRequest};
+use rubis_carrier::{Answer, Carrier, Notice, ShopEvent as Event, ShopPacket, ShopRequest};
 use std::alloc::Global;
 
 // Whether the first number is the one behind the second.

@@ -5,9 +5,9 @@ use Rattle.rubis_model.specs.Settle.{Has}
 use Rattle.rubis_carrier.specs.declared.values.Carrier.{Carrier}
 use Rattle.rubis_carrier.specs.declared.values.Carrier.TheVariants.{Files, Server}
 use Rattle.rubis_carrier.specs.Events.{AreSteps, after, opened, opening, replaced, run}
-use Rattle.rubis_carrier.specs.declared.values.Event.{Event}
-use Rattle.rubis_carrier.specs.declared.values.Event.TheVariants.{Accepts, Appends, Arrives, Closes, Fills, Gives, GoesOn, IsAsked, IsCopied, IsKilled}
-use Rattle.rubis_carrier.specs.declared.values.Event.TheVariants.{IsRaised, LosesEnd, Opens, OpensAlone, Reads, Sends, Serves, Starts, StreamLosesEnd}
+use Rattle.rubis_carrier.specs.declared.values.ShopEvent.{ShopEvent}
+use Rattle.rubis_carrier.specs.declared.values.ShopEvent.TheVariants.{Accepts, Appends, Arrives, Closes, Fills, Gives, GoesOn, IsAsked, IsCopied, IsKilled}
+use Rattle.rubis_carrier.specs.declared.values.ShopEvent.TheVariants.{IsRaised, LosesEnd, Opens, OpensAlone, Reads, Sends, Serves, Starts, StreamLosesEnd}
 use Rattle.rubis_carrier.specs.Laws.{AreGivenOnce}
 use Rattle.rubis_carrier.specs.Shops.{IsNotAhead, MayOpen, Place, Shop, folder, start, there, with_folder}
 use Rattle.rubis_carrier.specs.Shops.Place.{InFolder, InStream}
@@ -17,14 +17,14 @@ use Rattle.rubis_carrier.proofs.Examples.ExampleRuns.{asked_once, asking, asking
 
 -- the folder may not open; if it does all the same, as it would if it were alone and remembered, these steps may follow, and then a
 -- message of site 0 that stands at this place has the number of another one that stands at that place
-record IsNeeded (c : Carrier) (s : Shop) (k : ℕ) (later : List Event) (h g : Place) : Type 0 where
+record IsNeeded (c : Carrier) (s : Shop) (k : ℕ) (later : List ShopEvent) (h g : Place) : Type 0 where
   refused : may c s (Opens k) ≡ false
   goes_on : are_steps c (opening k s) later ≡ true
   first : Has first_message (there (run (opening k s) later) h)
   other : Has other_message (there (run (opening k s) later) g)
   compared : (run (opening k s) later).uncompared ≡ []
 
-gives_twice : {c : Carrier} {s : Shop} {k : ℕ} {later : List Event} {h g : Place} → IsNeeded c s k later h g
+gives_twice : {c : Carrier} {s : Shop} {k : ℕ} {later : List ShopEvent} {h g : Place} → IsNeeded c s k later h g
     → ¬ (MayOpen s k) × AreSteps c (opening k s) later × ¬ (AreGivenOnce (run (opening k s) later))
 gives_twice {c} {s} {k} {later} {h} {g} q = (
   may_not c s (Opens k) q.refused,
@@ -35,7 +35,7 @@ gives_twice {c} {s} {k} {later} {h} {g} q = (
 -- ---- a folder that was put back
 
 -- site 1 has read the first message of site 0, whose folder was put back to before it, and is started
-abbrev put_back : List Event
+abbrev put_back : List ShopEvent
 put_back = asked_once ++ Starts 1 ∷ Reads 1 first_message ∷ LosesEnd 0 0 ∷ Starts 0 ∷ []
 
 put_back_may : AreSteps Files start put_back
@@ -49,7 +49,7 @@ put_back_is_needed = record { refused = refl; goes_on = refl; first = inl refl; 
 
 -- the stream of site 0 had the message, and site 1 has read it there; then the folder and the stream lost it. They are equal: whoever
 -- compares the folder with the stream alone sees nothing. But site 1 is ahead
-abbrev losing_both : List Event
+abbrev losing_both : List ShopEvent
 losing_both = Appends 0 first_message ∷ Starts 1 ∷ Reads 1 first_message ∷ StreamLosesEnd 0 0 ∷ LosesEnd 0 0 ∷ Starts 0 ∷ []
 
 lost_both_may : AreSteps Server start (asked_once ++ losing_both)
@@ -161,7 +161,7 @@ late_gives_twice once = not_the_same (once (InStream 0) (InFolder 0) first_messa
 -- ---- a process that doesn't know of the other folder
 
 -- folder 5, a copy, opens while the process of folder 0 goes on: where that takes an ask, the site is noted
-abbrev going_on_there : List Event
+abbrev going_on_there : List ShopEvent
 going_on_there = opening_first ++ IsCopied 0 5 ∷ Starts 5 ∷ Closes 0 ∷ Opens 5 ∷ asking_at 5 1 2 ++ GoesOn 0 ∷ asking 2 1
 
 going_on_may : AreSteps Files start going_on_there

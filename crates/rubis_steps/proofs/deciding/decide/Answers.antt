@@ -1,7 +1,7 @@
 use Rattle.std.proofs.Common.{◌≡◌, ◌∙◌, ◌∷◌, ◌++◌, ◌+◌, [], true, false, sym, ap, subst, arith, take, get_or}
 use Rattle.std.proofs.lemmas.List.{take_all, take_more}
-use Rattle.rubis_carrier.specs.declared.values.Event.{Event}
-use Rattle.rubis_carrier.specs.declared.values.Event.TheVariants.{Starts}
+use Rattle.rubis_carrier.specs.declared.values.ShopEvent.{ShopEvent}
+use Rattle.rubis_carrier.specs.declared.values.ShopEvent.TheVariants.{Starts}
 use Rattle.rubis_carrier.specs.Events.{AreSteps, May, after, run}
 use Rattle.rubis_carrier.specs.Shops.{start}
 use Rattle.rubis_carrier.specs.Tests.{may}
@@ -17,7 +17,7 @@ pub returns-then-not-may : goal.returns-then-not-may
 returns-then-not-may c =
     let xs = c.args.events.now in
     let n = c.loop-at.at in
-    let e : Event = get_or xs n (Starts 0) in
+    let e : ShopEvent = get_or xs n (Starts 0) in
     let before = take n xs in
     let more : take (n + 1) xs ≡ before ++ e ∷ [] = take_more xs n (Starts 0) c.loop-at-test.true in
     let no : may c.args.over (run start before) e ≡ false =
@@ -31,7 +31,7 @@ pub loop-at-preserved : goal.loop-at-preserved
 loop-at-preserved c =
     let xs = c.args.events.now in
     let n = c.loop-at.at in
-    let e : Event = get_or xs n (Starts 0) in
+    let e : ShopEvent = get_or xs n (Starts 0) in
     let before = take n xs in
     let more : take (n + 1) xs ≡ before ++ e ∷ [] = take_more xs n (Starts 0) c.loop-at-test.true in
     let yes : may c.args.over (run start before) e ≡ true =
