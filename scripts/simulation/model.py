@@ -14,18 +14,16 @@ comes. Some things happen otherwise than the model has them, and are written as 
   far as it is in `out`.
 - An ask that is asked again under its key is another one. Its answer, if another one got it, is told of that one; and of an earlier life
   it is no news, and written as unknown.
-- Where a standby takes the place of a site, the folder of that site is lost: what it does from then on counts for nothing. Where a second
-  folder of a site opens, the first one is closed; if its process sends something all the same, it opens again just before.
-- A packet that comes to the server once no folder has it any more is appended by one that is made for it, of no site.
+- Where a second folder of a site opens, the first one is closed; if its process sends something all the same, it opens again just before,
+  or goes on, if something has more of the site by then.
 - A folder that has lost passes, and whose site doesn't have the token, is made again with them before it starts: the start learns of them
   from the others, and takes no token that it had before.
 - A folder that is made again has what was found, without passes that nobody has any more. Where it lacks what the old one had, the old one
   is lost first.
 
-Two things that happen are no steps of the model, since its laws don't hold where they do; the steps that they come to are known as such
-before anybody decides. A site opens, and a folder or a stream has more of it that it doesn't reach: which supervisors run, and what they
-know, says whether it does. And a process goes on after another folder of its site was opened, and sends something though that has more of
-the site; or somebody reads what it sends after a standby has taken the site's place."""
+One thing that happens is no step of the model, since its laws don't hold where it does; the steps that it comes to are known as such before
+anybody decides. A site opens, and a folder or a stream has more of it that it doesn't reach: which supervisors run, and what they know, says
+whether it does. Or somebody reads what a process sends whose supervisor is gone."""
 
 from collections.abc import Callable, Generator, Iterable, Sequence
 from functools import partial
@@ -49,7 +47,7 @@ UNKNOWN = ("may still be accepted", "isn't known", "published", "accepted here")
 
 # What happens and is no step of the model.
 UNREACHED = "a site is opened that doesn't reach what has more of it"
-WENT_ON = "a process goes on after another folder of its site was opened"
+WENT_ON = "somebody reads what a process sends after its life has ended"
 
 
 class Step:
@@ -89,6 +87,7 @@ class Slot:
         self.harms: list[Callable[[], object]] = []       # what happened to its files while it ran
         self.draining: "Keeper | None" = None           # the keeper that outlives its supervisor
         self.is_stored = False                          # a copy that nobody sees unless it is put back
+        self.takes_over = False                         # a standby made it, and it isn't open yet
 
     def last(self, kind: str) -> int:
         """The number of the last message of its site, or the last turn that this passed on."""
@@ -135,7 +134,9 @@ class Steps:
         self.streams: list[list[Packet]] = [[] for _ in range(world.sites)]
         self.begun = self.asks = 0
         self.told: int = 0                              # the ask whose answer is said
-        self.replaced: "set[Folder]" = set()            # those of which a standby took the place
+        self.yielding: set[int] = set()                 # the sites that yield to a standby
+        self.uncompared: set[int] = set()               # those of which a folder was opened that was compared with nothing
+        self.under_way: dict[Packet, tuple[Step | None, Slot]] = {}     # the packets that were sent to the server: behind which step, from where
         self.gone_on: set[Packet] = set()               # what processes sent whose sites had others by then
         self.lives: dict[str, int] = {}                 # the numbers of lives, by their texts
         self.called: dict[bytes, list[int]] = {}        # the asks of a call to another supervisor
@@ -176,7 +177,16 @@ class Steps:
 
     @staticmethod
     def _word(packet: Packet) -> str:
-        return ":".join(map(str, packet))
+        return ",".join(map(str, packet[1:]))
+
+    def _put(self, slot: Slot, packets: Iterable[Packet], before: Step | None = None) -> None:
+        """A folder is made again with these packets, which stand somewhere."""
+        made = len(self.slots)
+        self.slots.append(Slot(made, made))
+        for packet in packets:
+            self._add("Finds", made, self._word(packet), before=before)
+        self._add("Rebuilds", slot.number, made, before=before)
+        self._add("IsLost", made, before=before)
 
     # What runs folders.
 
@@ -200,7 +210,14 @@ class Steps:
         lost = [self._lose(other) for other, _ in stored]       # unless it is put back, it is as good as lost
         self._learn_passes(slot, folder)
         slot.was_remembered = slot.is_remembered
-        step = self._open(slot, None if slot.is_remembered or not self._is_unreached(folder, slot) else UNREACHED)
+        is_unreached = not slot.is_remembered and self._is_unreached(folder, slot)
+        if slot.site in self.yielding and (slot.takes_over or is_unreached):
+            step = self._open(slot, None, "TakesOver")
+            slot.takes_over = False
+            self.yields(slot.site, self.world.server.lives[slot.site] == self.world.server.yields[slot.site])
+        else:
+            step = self._open(slot, UNREACHED if is_unreached else None)
+        slot.takes_over = False
         self.unseen.update((other, (loss, packets, step)) for (other, packets), loss in zip(stored, lost))
 
     def _is_seen_again(self, slot: Slot) -> None:
@@ -209,23 +226,30 @@ class Steps:
             loss, slot.packets, opened = self.unseen.pop(slot)
             loss.is_void, opened.why_none = True, UNREACHED
 
-    def _open(self, slot: Slot, why_none: str | None) -> Step:
+    def _open(self, slot: Slot, why_none: str | None, word: str = "Opens") -> Step:
+        """It opens, and so closes the others of its site; or it takes over, and they go on."""
         for other in self.slots:
             if other.site == slot.site:
-                if other.is_open:
+                if other.is_open and word == "Opens":
                     self._add("Closes", other.number)       # it is fenced, or will be
                     other.is_open, other.was_closed = False, True
                 other.is_remembered = False
         slot.is_open = slot.is_remembered = True
-        step = self._add("Opens", slot.number)
+        step = self._add(word, slot.number)
         step.why_none = why_none
+        if word != "Opens":
+            self.uncompared.add(slot.site)
         return step
 
     def _open_again(self, slot: Slot) -> None:
         """Its process goes on after another folder of its site was opened."""
         if slot.has_opened and not slot.is_open:
-            is_behind = any(map(slot.behind(), [*(other.packets for other in self.slots), *self.streams]))
-            self._open(slot, WENT_ON if is_behind else None)
+            if any(map(slot.behind(), [*(other.packets for other in self.slots), *self.streams])):
+                self._add("GoesOn", slot.number)
+                slot.is_open = True
+                self.uncompared.add(slot.site)
+            else:
+                self._open(slot, None)
 
     def _learn_passes(self, slot: Slot, folder: "Folder") -> None:
         """Where a folder has lost passes, and its site doesn't have the token, the start learns of them from the others."""
@@ -237,7 +261,7 @@ class Steps:
         lost = {packet: None for place in places + self.streams * (not is_cut_off) for packet in beyond(place) if packet in self.passes[:passes]}
         is_without = slot.last("p") > taken or not taken and slot.site or folder.keeper and folder.keeper.site.issued is None
         if lost and is_without:
-            self._add("Rebuilds", slot.number, *map(self._word, [*had, *lost]), before=step)
+            self._put(slot, [*had, *lost], before=step)
             slot.is_remembered = False
             slot.packets[len(had):len(had)] = lost
 
@@ -345,7 +369,7 @@ class Steps:
             if not slot or not (record in slot.waiting if slot.life else record in slot.accepted):
                 continue
             if head[2] == b"ok" and (not is_again or record in slot.accepted):
-                word = "TellsPublished" if site.yields else "TellsOk"
+                word = "TellsPublished" if site.yields or slot.site in self.yielding else "TellsOk"
                 ask, number = slot.accepted.get(record, 0), int(head[3].split(b".")[1])
                 packet = "m", slot.site, number, ask
                 lost = self.last.get(packet) if site.yields and packet not in self.streams[slot.site] else None
@@ -435,7 +459,7 @@ class Steps:
             slot.packets.append(packet)
 
     def _sent_unseen(self, keeper: "Keeper", fields: Sequence[bytes], rest: bytes) -> None:
-        """What a process sends whose folder isn't one of the model any more. It goes on if a standby has taken its site's place."""
+        """What a process sends whose folder isn't one of the model any more."""
         packet: Packet | None = None
         match fields[2]:
             case b"ok":
@@ -443,8 +467,8 @@ class Steps:
             case b"passed":
                 turn, to = (int(field) for field in rest.rstrip(b"\n").split(b",")[3:5])
                 packet = "p", keeper.number, turn, to, 0
-        if packet and self.known.setdefault(rest.rstrip(b"\n")[5:], packet) is packet and keeper.folder in self.replaced:
-            self.gone_on.add(packet)
+        if packet:
+            self.known.setdefault(rest.rstrip(b"\n")[5:], packet)
 
     def _look_at_name(self, step: Step, packet: Packet, next_one: int) -> None:
         """A folder has sent a packet: its name is the next one, if no packet stands there that its process sent as it went on."""
@@ -453,6 +477,22 @@ class Steps:
             step.why_none = WENT_ON
 
     # What a server has.
+
+    def yields(self, site: int, does: bool) -> None:
+        """The server has it that the life of a site that was seen last yields to a standby, or doesn't. A standby that takes over is open first."""
+        if does:
+            self._add("Yields", site)
+            self.yielding.add(site)
+        elif site in self.yielding and not any(slot.site == site and slot.takes_over for slot in self.slots):
+            self._add("TakesBack", site)
+            self.yielding.remove(site)
+
+    def sends(self, machine: "Machine", texts: Iterable[bytes]) -> None:
+        """A supervisor begins to append these packets."""
+        slots = [folder.slot for folder in machine.folders.values() if folder.slot and folder.slot.life]
+        for packet in filter(None, map(self.known.get, texts)):
+            if slot := next((slot for slot in slots if packet in slot.packets), None):
+                self.under_way[packet] = self.list[-1] if self.list else None, slot
 
     def appends(self, machine: "Machine", text: bytes) -> None:
         packet = self.known.get(text)
@@ -474,20 +514,17 @@ class Steps:
             self._add("IsKilled", slot.number)
 
     def _append_late(self, packet: Packet) -> None:
-        """It was on its way as the last folder that had it lost it: another one, of no site, had it alone."""
-        step = self.lost_by.get(packet)
-        if step and packet not in self.gone_on:
-            number = len(self.slots)
-            slot = Slot(number, number)
-            self.slots.append(slot)
-            self._add("Rebuilds", number, self._word(packet), before=step)
-            slot.packets.append(packet)
-            self._append(packet, [])
-            self._lose(slot)
+        """It was on its way as the last folder that had it lost it."""
+        if packet in self.under_way:
+            behind, slot = self.under_way[packet]
+            step = Step(f"Sends,{slot.number},{self._word(packet)}")
+            self.list.insert(self.list.index(behind) + 1 if behind else 0, step)
+            self._add("Arrives", self._word(packet))
+            self.streams[packet[1]].append(packet)
 
     def writes_anew(self, folder: "Folder", site: int, texts: Sequence[bytes]) -> None:
         slot = folder.slot
-        if slot and slot.life:
+        if slot and slot.life and site not in self.uncompared:
             self._add("WritesAnew", slot.number)
             self.streams[site] = [packet for packet in slot.packets if packet[1] == site]
         else:
@@ -599,7 +636,7 @@ class Steps:
             copy = self._copy_of(slot)
             self._note_lost(self._add("LosesEnd", slot.number, left), slot)
             slot.packets[left:] = sent
-            self._add("Rebuilds", slot.number, *map(self._word, slot.packets))
+            self._put(slot, slot.packets)
             self._lose(copy)
 
     def changed(self, folder: "Folder", records: int) -> None:
@@ -612,10 +649,10 @@ class Steps:
     def _change(self, slot: Slot, folder: "Folder", left: list[Packet]) -> None:
         sent = self._sent(slot, folder, left)
         copy = self._copy_of(slot) if sent else None
-        self._note_lost(self._add("IsChanged", slot.number, *map(self._word, left)), slot)
+        self._note_lost(self._add("LosesEnd", slot.number, len(left)), slot)
         slot.packets = left + sent
         if copy:
-            self._add("Rebuilds", slot.number, *map(self._word, slot.packets))
+            self._put(slot, slot.packets)
             self._lose(copy)
 
     @staticmethod
@@ -655,19 +692,11 @@ class Steps:
             self._end_life(slot)
         self._rebuild(slot, made)
 
-    def takes_over(self, made: "Folder", site: int, before: Iterable["Folder"]) -> None:
-        """It takes the place of a site elsewhere, and of these folders."""
+    def takes_over(self, made: "Folder", site: int) -> None:
+        """It takes the place of a site elsewhere, of which other folders go on."""
         made.slot = self._another(site)
         self._rebuild(made.slot, made)
-        for folder in before:
-            if slot := folder.slot:
-                folder.slot = None
-                self.replaced.add(folder)
-                self._end_life(slot)
-                others = [its.packets for its in self.slots if its is not slot and not its.is_stored]
-                elsewhere = {packet for its in [*others, *self.streams] for packet in its}
-                self.gone_on.update(packet for packet in slot.packets if packet[1] == site and packet not in elsewhere)
-                self._lose(slot)
+        made.slot.takes_over = True
 
     def _rebuild(self, slot: Slot, made: "Folder") -> None:
         somewhere = {packet for its in [*(its.packets for its in self.slots), *self.streams] for packet in its}
@@ -676,8 +705,9 @@ class Steps:
         if not set(slot.packets) <= set(packets):
             copy = self._copy_of(slot)
             self._lose(slot)
-            self._add("Rebuilds", slot.number, *map(self._word, packets))
+            self._put(slot, packets)
             self._lose(copy)
         else:
-            self._note_lost(self._add("Rebuilds", slot.number, *map(self._word, packets)), slot)
+            self._put(slot, packets)
+            slot.is_remembered = False
         slot.packets = packets

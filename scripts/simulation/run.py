@@ -157,6 +157,7 @@ class Run:
             supervisor.stop()
             for site in elsewhere:      # its operator starts the machine without it
                 supervisor.machine.here.remove(site.number)
+                self.world.steps.gone(site.folder)
             return
         if sick and not supervisor.is_leaving and (self.world.is_calm or self.world.dice.random() < 0.3):
             supervisor.stop()

@@ -18,8 +18,8 @@ from shop_tool.carrier.records import Purpose, text_of
 from shop_tool.carrier.shop import HAND_OVER_SECONDS, Shop
 from shop_tool.carrier.site import FIRST_WAIT, LAST_WAIT, Disagreement, Pending, Site, State
 from shop_tool.carrier.steps import State as StateOf
-from shop_tool.carrier.steps import (Append, Broken, CallAll, Connect, Flag, Hear, IsRunning, Kept, KeptOf, Owner, Read, Replay, Rewrite, Say,
-                                     SayLeave, SayWant, SeeHere, SeenHere, SentHere, Signal, Statuses, Steps, Swap, TakeOver, Tell, UpElsewhere,
+from shop_tool.carrier.steps import (Adopt, Append, Broken, CallAll, Connect, Flag, Hear, IsRunning, Kept, KeptOf, Owner, Read, Replay, Rewrite, Say,
+                                     SayLeave, SayWant, SayYields, SeeHere, SeeLife, SeenHere, SentHere, Signal, Statuses, Steps, Swap, TakeOver, Tell, UpElsewhere,
                                      Wait)
 from shop_tool.carrier.sums import LINE_BYTES, why_changed
 from shop_tool.carrier.told import unanswered
@@ -397,8 +397,7 @@ class Process:
         # What stood in its stream, and doesn't any more, the server has lost.
         self.world.lost |= {text for (origin, _), text in self.world.made.items() if origin == site} & self.world.published - set(self.made.sent())
         self.world.note("TakesOver")
-        folders = [machine.folders.get(site) for machine in self.world.machines if machine is not self.machine]
-        self.world.steps.takes_over(self.made, site, [folder for folder in folders if folder])
+        self.world.steps.takes_over(self.made, site)
 
     def replay(self, number: int, records: list[Any]) -> None:
         """Has a fresh folder beside a site's folder that is given these records."""
@@ -451,10 +450,14 @@ class Process:
             return task.answer()
         if isinstance(step, WRITES) and not self.world.is_calm and dice.random() < 0.004:
             self.world.note("late")
+            if isinstance(step, Append):
+                self.world.steps.sends(self.machine, [text for _, text in step.packets])
             self.clock.after(dice.choice([1.0, 10.0, 3600.0]) * dice.random(), lambda: self._arrives_late(step))
             return task.answer(fault=Broken("timed out"), seconds=10 * dice.random())
 
         turn = task.turn
+        if isinstance(step, Append):
+            self.world.steps.sends(self.machine, [text for _, text in step.packets])
 
         def arrives() -> None:
             if task.turn != turn and dice.random() < 0.5:
@@ -506,6 +509,12 @@ class Process:
                 for _, text in packets:
                     self.world.note("Appends")
                     self.world.steps.appends(self.machine, text)
+            case SayYields(site, _, life) if said:
+                self.world.steps.yields(site, bool(life))
+            case Adopt(site, _, _) if said:
+                self.world.steps.yields(site, False)
+            case SeeLife(site, _, life, _) if said and self.world.server.yields[site] != life:
+                self.world.steps.yields(site, False)
             case Rewrite(site, packets, _):
                 self.world.published |= {text for _, text in packets}
                 self.world.note("WritesAnew")

@@ -6,31 +6,32 @@ use Rattle.rubis_model.specs.Settle.{Has}
 use Rattle.rubis_model.proofs.Lists.{push_cases}
 use Rattle.rubis_carrier.specs.declared.values.Carrier.{Carrier}
 use Rattle.rubis_carrier.specs.declared.values.ShopPacket.{ShopPacket}
-use Rattle.rubis_carrier.specs.Events.{Event, IsFirst, May, after, first, next_message, next_pass, opening, others, without}
-use Rattle.rubis_carrier.specs.Events.Event.{Accepts, Appends, Closes, Gives, IsAsked, IsChanged, IsCopied, IsKilled, IsLost, KeeperStarts, LosesEnd}
-use Rattle.rubis_carrier.specs.Events.Event.{MachineStarts, Opens, OpensAlone, Passes, Reads, Rebuilds, Refuses, ServerLosesAll, Serves, Starts}
-use Rattle.rubis_carrier.specs.Events.Event.{StreamLosesEnd, TakesBack, TakesOver, TellsNothing, TellsOk, TellsPublished, TellsUnknown, WritesAnew}
-use Rattle.rubis_carrier.specs.Events.Event.{Yields}
+use Rattle.rubis_carrier.specs.Events.{IsFirst, May, after, first, next_message, next_pass, opening, others, without}
+use Rattle.rubis_carrier.specs.declared.values.ShopEvent.{ShopEvent}
+use Rattle.rubis_carrier.specs.declared.values.ShopEvent.TheVariants.{Accepts, Appends, Arrives, Closes, Fills, Finds, Gives, GoesOn, IsAsked, IsCopied}
+use Rattle.rubis_carrier.specs.declared.values.ShopEvent.TheVariants.{IsKilled, IsLost, IsRaised, KeeperStarts, LosesEnd, MachineStarts, Opens, OpensAlone}
+use Rattle.rubis_carrier.specs.declared.values.ShopEvent.TheVariants.{Passes, Reads, Rebuilds, Refuses, Sends, ServerLosesAll, Serves, Starts, StreamLosesEnd}
+use Rattle.rubis_carrier.specs.declared.values.ShopEvent.TheVariants.{TakesBack, TakesOver, TellsNothing, TellsOk, TellsPublished, TellsUnknown, WritesAnew}
+use Rattle.rubis_carrier.specs.declared.values.ShopEvent.TheVariants.{Yields}
 use Rattle.rubis_carrier.specs.Packets.{sender}
 use Rattle.rubis_carrier.specs.Shops.{Folder, Place, Shop, asks, folder, folder_in, put_folder, put_stream, stream, stream_in, there}
-use Rattle.rubis_carrier.specs.Shops.Place.{InFolder, InStream}
-use Rattle.rubis_carrier.proofs.PacketFacts.{has_unchanged}
+use Rattle.rubis_carrier.specs.Shops.Place.{InFolder, InStream, UnderWay}
 use Rattle.rubis_carrier.proofs.PutFacts.{eqb_other, eqb_same, filter_has, folder_cases, has_filter, has_take, opened_cases, stream_cases}
 use Rattle.rubis_carrier.proofs.Sound.{IsSomewhere, offered}
 
 -- ---- packets
 
 -- what the event makes
-abbrev pub IsNew : Shop → Event → ShopPacket → Type 0
+abbrev pub IsNew : Shop → ShopEvent → ShopPacket → Type 0
 IsNew s (Accepts k r) x = x ≡ next_message (folder s k) r
 IsNew s (Passes k to) x = x ≡ next_pass (folder s k) to
 IsNew s e x = ⊥
 
-in_folder : (s : Shop) (e : Event) (k : ℕ) (f : Folder) (x : ShopPacket) → (Has x f.kept → IsSomewhere s x ⊎ IsNew s e x) → (j : ℕ)
+in_folder : (s : Shop) (e : ShopEvent) (k : ℕ) (f : Folder) (x : ShopPacket) → (Has x f.kept → IsSomewhere s x ⊎ IsNew s e x) → (j : ℕ)
     → Has x (folder_in (put_folder k f s.folders) j).kept → IsSomewhere s x ⊎ IsNew s e x
 in_folder s e k f x here = folder_cases (λ j g. Has x g.kept → IsSomewhere s x ⊎ IsNew s e x) k f s.folders here (λ j n h. inl (InFolder j, h))
 
-in_stream : (s : Shop) (e : Event) (i : ℕ) (xs : List ShopPacket) (x : ShopPacket) → (Has x xs → IsSomewhere s x ⊎ IsNew s e x) → (j : ℕ)
+in_stream : (s : Shop) (e : ShopEvent) (i : ℕ) (xs : List ShopPacket) (x : ShopPacket) → (Has x xs → IsSomewhere s x ⊎ IsNew s e x) → (j : ℕ)
     → Has x (stream_in (put_stream i xs s.streams) j) → IsSomewhere s x ⊎ IsNew s e x
 in_stream s e i xs x here = stream_cases (λ j ys. Has x ys → IsSomewhere s x ⊎ IsNew s e x) i xs s.streams here (λ j n h. inl (InStream j, h))
 
@@ -38,15 +39,18 @@ pub opened_from : (s : Shop) (k : ℕ) (x : ShopPacket) (j : ℕ) → Has x (fol
 opened_from s k x = opened_cases (λ j g. Has x g.kept → IsSomewhere s x) s k (λ h. (InFolder k, h)) (λ j n h. (InFolder j, h))
 
 -- what stands somewhere after the event stood somewhere before, or is new
-pub from_step : (c : Carrier) (s : Shop) (e : Event) (h : Place) (x : ShopPacket) → May c s e → Has x (there (after s e) h) → IsSomewhere s x ⊎ IsNew s e x
+pub from_step : (c : Carrier) (s : Shop) (e : ShopEvent) (h : Place) (x : ShopPacket) → May c s e → Has x (there (after s e) h) → IsSomewhere s x ⊎ IsNew s e x
 from_step c s (Starts k) (InFolder j) x m a = in_folder s (Starts k) k _ x (λ b. inl (InFolder k, b)) j a
 from_step c s (Opens k) (InFolder j) x m a = inl (opened_from s k x j a)
 from_step c s (TakesOver k) (InFolder j) x m a = inl (opened_from s k x j a)
 from_step c s (OpensAlone k) (InFolder j) x m a = inl (opened_from s k x j a)
 from_step c s (Closes k) (InFolder j) x m a = in_folder s (Closes k) k _ x (λ b. inl (InFolder k, b)) j a
+from_step c s (GoesOn k) (InFolder j) x m a = in_folder s (GoesOn k) k _ x (λ b. inl (InFolder k, b)) j a
 from_step c s (KeeperStarts k) (InFolder j) x m a = inl (InFolder j, a)
 from_step c s (IsKilled k) (InFolder j) x m a = in_folder s (IsKilled k) k _ x (λ b. inl (InFolder k, b)) j a
 from_step c s (MachineStarts k) (InFolder j) x m a = in_folder s (MachineStarts k) k _ x (λ b. inl (InFolder k, b)) j a
+from_step c s (Fills k) (InFolder j) x m a = inl (InFolder j, a)
+from_step c s (IsRaised k) (InFolder j) x m a = inl (InFolder j, a)
 from_step c s (IsAsked r life n) (InFolder j) x m a = inl (InFolder j, a)
 from_step c s (Serves k r) (InFolder j) x m a = in_folder s (Serves k r) k _ x (λ b. inl (InFolder k, b)) j a
 from_step c s (Gives k r) (InFolder j) x m a = in_folder s (Gives k r) k _ x (λ b. inl (InFolder k, b)) j a
@@ -62,20 +66,26 @@ from_step c s (TakesBack i) (InFolder j) x m a = inl (InFolder j, a)
 from_step c s (Passes k to) (InFolder j) x m a =
     in_folder s (Passes k to) k _ x (λ b. ⊎_elim (λ o. inl (InFolder k, o)) (λ n. inr n) (push_cases x _ (folder s k).kept b)) j a
 from_step c s (Appends k y) (InFolder j) x m a = inl (InFolder j, a)
+from_step c s (Sends k y) (InFolder j) x m a = inl (InFolder j, a)
+from_step c s (Arrives y) (InFolder j) x m a = inl (InFolder j, a)
 from_step c s (Reads k y) (InFolder j) x m a =
     in_folder s (Reads k y) k _ x (λ b. inl (⊎_elim (λ o. (InFolder k, o)) (λ n. subst (IsSomewhere s) (sym n) (offered c s y m.2))
     (push_cases x y (folder s k).kept b))) j a
 from_step c s (LosesEnd k n) (InFolder j) x m a = in_folder s (LosesEnd k n) k _ x (λ b. inl (InFolder k, has_take n x (folder s k).kept b)) j a
-from_step c s (IsChanged k ps) (InFolder j) x m a = in_folder s (IsChanged k ps) k _ x (λ b. inl (InFolder k, has_unchanged x (folder s k).kept ps b)) j a
 from_step c s (IsLost k) (InFolder j) x m a = in_folder s (IsLost k) k _ x (λ b. absurd b) j a
 from_step c s (IsCopied k l) (InFolder j) x m a = in_folder s (IsCopied k l) l _ x (λ b. inl (InFolder k, b)) j a
 from_step c s (StreamLosesEnd i n) (InFolder j) x m a = inl (InFolder j, a)
 from_step c s ServerLosesAll (InFolder j) x m a = inl (InFolder j, a)
-from_step c s (Rebuilds k ps) (InFolder j) x m a = in_folder s (Rebuilds k ps) k _ x (λ b. inl (m.found x b)) j a
+from_step c s (Finds k y) (InFolder j) x m a =
+    in_folder s (Finds k y) k _ x (λ b. inl (⊎_elim (λ o. (InFolder k, o)) (λ n. subst (IsSomewhere s) (sym n) m.1) (push_cases x y (folder s k).kept b))) j a
+from_step c s (Rebuilds k l) (InFolder j) x m a = in_folder s (Rebuilds k l) k _ x (λ b. inl (InFolder l, b)) j a
 from_step c s (WritesAnew k) (InFolder j) x m a = inl (InFolder j, a)
 from_step c s (Appends k y) (InStream i) x m a =
     in_stream s (Appends k y) (sender y) _ x (λ b. inl (⊎_elim (λ o. (InStream (sender y), o))
-    (λ n. (InFolder k, subst (λ z. Has z (folder s k).kept) (sym n) m.1.kept)) (push_cases x y (stream s (sender y)) b))) i a
+    (λ n. (InFolder k, subst (λ z. Has z (folder s k).kept) (sym n) m.2)) (push_cases x y (stream s (sender y)) b))) i a
+from_step c s (Arrives y) (InStream i) x m a =
+    in_stream s (Arrives y) (sender y) _ x (λ b. inl (⊎_elim (λ o. (InStream (sender y), o))
+    (λ n. (UnderWay, subst (λ z. Has z s.under_way) (sym n) m.1)) (push_cases x y (stream s (sender y)) b))) i a
 from_step c s (StreamLosesEnd i n) (InStream j) x m a = in_stream s (StreamLosesEnd i n) i _ x (λ b. inl (InStream i, has_take n x (stream s i) b)) j a
 from_step c s ServerLosesAll (InStream i) x m a = absurd a
 from_step c s (WritesAnew k) (InStream i) x m a =
@@ -83,6 +93,13 @@ from_step c s (WritesAnew k) (InStream i) x m a =
 from_step c s (Starts k) (InStream i) x m a = inl (InStream i, a)
 from_step c s (Opens k) (InStream i) x m a = inl (InStream i, a)
 from_step c s e (InStream i) x m a = inl (InStream i, a)
+from_step c s (Opens k) UnderWay x m a = inl (UnderWay, has_filter _ x s.under_way a)
+from_step c s (TakesOver k) UnderWay x m a = inl (UnderWay, has_filter _ x s.under_way a)
+from_step c s (OpensAlone k) UnderWay x m a = inl (UnderWay, has_filter _ x s.under_way a)
+from_step c s (Sends k y) UnderWay x m a =
+    inl (⊎_elim (λ e. (InFolder k, subst (λ z. Has z (folder s k).kept) (sym e) m.2)) (λ old. (UnderWay, old)) a)
+from_step c s (Starts k) UnderWay x m a = inl (UnderWay, a)
+from_step c s e UnderWay x m a = inl (UnderWay, a)
 
 -- ---- asks
 

@@ -10,14 +10,16 @@ use Rattle.rubis_carrier.specs.declared.values.Carrier.{Carrier}
 use Rattle.rubis_carrier.specs.declared.values.Carrier.TheVariants.{Files, Server}
 use Rattle.rubis_carrier.specs.declared.values.ShopPacket.{ShopPacket}
 use Rattle.rubis_carrier.specs.declared.values.ShopPacket.TheVariants.{Message, Pass}
-use Rattle.rubis_carrier.specs.Events.{AreSteps, Event, IsAtItsPlace, IsFirst, IsOffered, May, MayRebuild, MayServe, MayWriteAnew, after, stopped}
-use Rattle.rubis_carrier.specs.Events.Event.{Accepts, Appends, Gives, IsAsked, Opens, OpensAlone, Passes, Reads, Rebuilds, Refuses, Serves, Starts}
-use Rattle.rubis_carrier.specs.Events.Event.{TakesOver, TellsNothing, TellsOk, TellsPublished, WritesAnew}
+use Rattle.rubis_carrier.specs.Events.{AreSteps, HasRoom, IsFirst, IsOffered, May, MayRebuild, MayServe, MayStandNext, MayWriteAnew, after}
+use Rattle.rubis_carrier.specs.declared.values.ShopEvent.{ShopEvent}
+use Rattle.rubis_carrier.specs.declared.values.ShopEvent.TheVariants.{Accepts, Appends, Arrives, Finds, Gives, GoesOn, IsAsked, IsRaised, Opens, OpensAlone}
+use Rattle.rubis_carrier.specs.declared.values.ShopEvent.TheVariants.{Passes, Reads, Rebuilds, Refuses, Sends, Serves, Starts, TakesOver, TellsNothing, TellsOk}
+use Rattle.rubis_carrier.specs.declared.values.ShopEvent.TheVariants.{TellsPublished, WritesAnew}
 use Rattle.rubis_carrier.specs.Packets.{Holds, IsReached, highest, last_turn, own, passed, same_packet, sender, taken}
 use Rattle.rubis_carrier.specs.Shops.{Folder, IsAlone, IsCompared, MayOpen, Place, Shop, asks, empty, folder, request, stream, there}
-use Rattle.rubis_carrier.specs.Shops.Place.{InFolder, InStream}
-use Rattle.rubis_carrier.specs.Tests.{MayIsComputed, are_reached, are_steps, has_answer, has_number, has_packet, holds, is_alone, is_compared}
-use Rattle.rubis_carrier.specs.Tests.{is_first, is_offered, is_placed, is_reached, is_server, is_somewhere, may, may_open, may_rebuild, may_serve}
+use Rattle.rubis_carrier.specs.Shops.Place.{InFolder, InStream, UnderWay}
+use Rattle.rubis_carrier.specs.Tests.{MayIsComputed, are_reached, are_steps, has_answer, has_number, has_packet, has_room, holds, is_alone, is_compared}
+use Rattle.rubis_carrier.specs.Tests.{is_first, is_offered, is_placed, is_reached, is_server, is_somewhere, may, may_open, may_rebuild, may_send, may_serve}
 use Rattle.rubis_carrier.specs.Tests.{may_write_anew, runs}
 use Rattle.rubis_carrier.proofs.PutFacts.{filter_has, has_filter}
 use Rattle.rubis_carrier.proofs.Sound.{IsSomewhere}
@@ -74,7 +76,7 @@ in_decides q y each (x ∷ xs) = Decides-or (q x) (list_any q xs) (each x) (in_d
 -- ---- asks and answers
 
 pub number_decides : (r : ℕ) (numbers : List ℕ) → Decides (has_number r numbers) (Has r numbers)
-number_decides r numbers = in_decides (λ q. r == q) r (λ q. Decides-eqb r q) numbers
+number_decides r numbers = in_decides (λ q. q == r) r (λ q. Decides-like _ (λ e. sym e) (λ e. sym e) (Decides-eqb q r)) numbers
 
 first_decides : (r : ℕ) (numbers : List ℕ) → Decides (is_first r numbers) (IsFirst r numbers)
 first_decides r [] = (λ t. absurd (false≢true t), λ f. absurd (cc f.1))
@@ -120,7 +122,7 @@ same_itself (Pass i t j a) =
     (and_from ((i == i) && (t == t)) (j == j) (and_from (i == i) (t == t) (eq-eqb i i refl) (eq-eqb t t refl)) (eq-eqb j j refl)) (eq-eqb a a refl)
 
 packet_decides : (x : ShopPacket) (packets : List ShopPacket) → Decides (has_packet x packets) (Has x packets)
-packet_decides x packets = in_decides (λ y. same_packet x y) x (λ y. (same_is x y, λ e. subst (λ z. same_packet x z ≡ true) e (same_itself x))) packets
+packet_decides x packets = in_decides (λ y. same_packet y x) x (λ y. ((λ t. sym (same_is y x t)), λ e. subst (λ z. same_packet z x ≡ true) e (same_itself x))) packets
 
 reached_decides : (i : ℕ) (kept : List ShopPacket) (x : ShopPacket) → Decides (is_reached i (highest i kept) (last_turn i kept) x) (sender x ≡ i → IsReached i kept x)
 reached_decides i kept (Message j n r) = unless (j == i) (nat_le n (highest i kept)) (Decides-eqb j i) (leb_decides n (highest i kept))
@@ -154,7 +156,8 @@ compared_decides s k =
     let i = (folder s k).site in
     let kept = (folder s k).kept in
     let behind : List ShopPacket → Type 0 = λ xs. (x : ShopPacket) → Has x xs → sender x ≡ i → IsReached i kept x in
-    Decides-like _ (λ b. elim [ InFolder j ↦ b.0 j | InStream j ↦ b.1 j ]) (λ a. ((λ j. a (InFolder j)), (λ j. a (InStream j))))
+    Decides-like _ (λ b. elim [ InFolder j ↦ λ u. b.0 j | InStream j ↦ λ u. b.1 j | UnderWay ↦ λ u. absurd u ])
+    (λ a. ((λ j. a (InFolder j) tt), (λ j. a (InStream j) tt)))
     (Decides-and _ _
     (each_decides (λ f. are_reached i (highest i kept) (last_turn i kept) f.kept) (λ (f : Folder). behind f.kept)
     (λ f. are_reached_decides i kept f.kept) s.folders empty (λ j x h. absurd h))
@@ -195,14 +198,15 @@ alone_decides s k = Decides-like _ (λ a j o at. to j (a j o at)) (λ a j o at. 
 
 somewhere_decides : (s : Shop) (x : ShopPacket) → Decides (is_somewhere s x) (IsSomewhere s x)
 somewhere_decides s x = Decides-like _
-    (⊎_elim (λ a. (InFolder a.0, a.1)) (λ a. (InStream a.0, a.1))) (λ a. at a.0 a.1)
-    (Decides-or _ _
+    (⊎_elim (⊎_elim (λ a. (InFolder a.0, a.1)) (λ a. (InStream a.0, a.1))) (λ a. (UnderWay, a))) (λ a. at a.0 a.1)
+    (Decides-or _ _ (Decides-or _ _
     (some_decides (λ f. has_packet x f.kept) (λ (f : Folder). Has x f.kept) (λ f. packet_decides x f.kept) s.folders empty (λ j h. h))
-    (some_decides (λ xs. has_packet x xs) (Has x) (packet_decides x) s.streams (λ j. []) (λ j h. h)))
+    (some_decides (λ xs. has_packet x xs) (Has x) (packet_decides x) s.streams (λ j. []) (λ j h. h))) (packet_decides x s.under_way))
   where
-    at : (h : Place) → Has x (there s h) → ((j : ℕ) × Has x (folder s j).kept) ⊎ ((i : ℕ) × Has x (stream s i))
-    at (InFolder j) h = inl (j, h)
-    at (InStream i) h = inr (i, h)
+    at : (h : Place) → Has x (there s h) → (((j : ℕ) × Has x (folder s j).kept) ⊎ ((i : ℕ) × Has x (stream s i))) ⊎ Has x s.under_way
+    at (InFolder j) h = inl (inl (j, h))
+    at (InStream i) h = inl (inr (i, h))
+    at UnderWay h = inr h
 
 offered_decides : (c : Carrier) (s : Shop) (x : ShopPacket) → Decides (is_offered c s x) (IsOffered c s x)
 offered_decides Files s x = Decides-like _ (λ a. (a.0, a.1.0, a.1.1)) (λ a. (a.0, (a.1, a.2)))
@@ -210,9 +214,13 @@ offered_decides Files s x = Decides-like _ (λ a. (a.0, a.1.0, a.1.1)) (λ a. (a
     (λ f. Decides-and _ _ (Decides-eqb f.site (sender x)) (packet_decides x f.kept)) s.folders empty (λ j h. h.1))
 offered_decides Server s x = packet_decides x (stream s (sender x))
 
-placed_decides : (s : Shop) (x : ShopPacket) → Decides (is_placed s x) (Has (sender x) s.uncompared → IsAtItsPlace s x)
+placed_decides : (s : Shop) (x : ShopPacket) → Decides (is_placed s x) (MayStandNext s x)
 placed_decides s (Message i n r) = unless _ _ (number_decides i s.uncompared) (Decides-eqb n (highest i (stream s i) + 1))
 placed_decides s (Pass i t j a) = (λ e u. tt, λ h. refl)
+
+room_decides : (s : Shop) (k : ℕ) (x : ShopPacket) → Decides (has_room s k x) (HasRoom s k x)
+room_decides s k (Message i n r) = Decides-not _ (number_decides k s.full)
+room_decides s k (Pass i t j a) = (λ e. tt, λ h. refl)
 
 server_decides : (c : Carrier) → Decides (is_server c) (c ≡ Server)
 server_decides Files = (λ t. absurd (false≢true t), λ e. absurd (cc e))
@@ -236,11 +244,10 @@ module _ (s : Shop) (k : ℕ) where
       (Decides-eqb (request s r).life (folder s k).life)) (Decides-eqb (request s r).records 1))
       (Decides-not _ (number_decides r (folder s k).served)))
 
-  rebuilds_decides : (packets : List ShopPacket) → Decides (may_rebuild s (folder s k) packets) (MayRebuild s k packets)
-  rebuilds_decides packets = Decides-like _ (λ m. record { stopped = m.0.0; left = m.0.1; found = m.1 }) (λ m. ((m.stopped, m.left), m.found))
-      (Decides-and _ _ (Decides-and _ _ (Decides-eqb (folder s k).life 0)
-      (all_decides (λ x. has_packet x packets) (λ x. Has x packets) (λ x. packet_decides x packets) (folder s k).kept))
-      (all_decides (λ x. is_somewhere s x) (IsSomewhere s) (somewhere_decides s) packets))
+  rebuilds_decides : (j : ℕ) → Decides (may_rebuild (folder s k) (folder s j)) (MayRebuild s k j)
+  rebuilds_decides j = Decides-like _ (λ m. record { stopped = m.0; left = m.1 }) (λ m. (m.stopped, m.left))
+      (Decides-and _ _ (Decides-eqb (folder s k).life 0)
+      (all_decides (λ x. has_packet x (folder s j).kept) (λ x. Has x (folder s j).kept) (λ x. packet_decides x (folder s j).kept) (folder s k).kept))
 
   writes_decides : Decides (may_write_anew s (folder s k)) (MayWriteAnew s k)
   writes_decides =
@@ -250,19 +257,22 @@ module _ (s : Shop) (k : ℕ) where
       (all_decides (λ x. (sender x == i) && has_packet x (folder s k).kept) (λ x. Has x (own i (folder s k).kept))
       (λ x. own_decides i x (folder s k).kept) (stream s i)))
 
-  appends_decides : (c : Carrier) (x : ShopPacket) → Decides (may c s (Appends k x)) (May c s (Appends k x))
-  appends_decides c x = Decides-like _ (λ m. (m.0.0.0, record { runs = m.0.0.1; kept = m.0.1; placed = m.1 })) (λ m. (((m.0, m.1.runs), m.1.kept), m.1.placed))
-      (Decides-and _ _ (Decides-and _ _ (Decides-and _ _ (server_decides c) runs_decides) (packet_decides x (folder s k).kept)) (placed_decides s x))
+  sends_decides : (c : Carrier) (x : ShopPacket) → Decides (may_send c (folder s k) x) (May c s (Sends k x))
+  sends_decides c x = Decides-like _ (λ m. (m.0.0, m.0.1, m.1)) (λ m. ((m.0, m.1), m.2))
+      (Decides-and _ _ (Decides-and _ _ (server_decides c) runs_decides) (packet_decides x (folder s k).kept))
 
-pub may_decides : (c : Carrier) (s : Shop) (e : Event) → Decides (may c s e) (May c s e)
+pub may_decides : (c : Carrier) (s : Shop) (e : ShopEvent) → Decides (may c s e) (May c s e)
 may_decides c s (Starts k) = Decides-eqb (folder s k).life 0
 may_decides c s (Opens k) = opens_decides s k
 may_decides c s (TakesOver k) = Decides-and _ _ (runs_decides s k) (number_decides (folder s k).site s.yielding)
 may_decides c s (OpensAlone k) = runs_decides s k
+may_decides c s (GoesOn k) = runs_decides s k
+may_decides c s (IsRaised k) = Decides-eqb (folder s k).life 0
 may_decides c s (IsAsked r life n) = Decides-and _ _ (Decides-eqb r (asks s + 1)) (leb_decides life s.begun)
 may_decides c s (Serves k r) = serves_decides s k r
 may_decides c s (Gives k r) = Decides-and _ _ (λ t. t, λ t. t) (number_decides r (folder s k).waiting)
-may_decides c s (Accepts k r) = Decides-and _ _ (λ t. t, λ t. t) (first_decides r (folder s k).lines)
+may_decides c s (Accepts k r) = Decides-like _ (λ m. (m.0.0, m.0.1, m.1)) (λ m. ((m.0, m.1), m.2))
+    (Decides-and _ _ (Decides-and _ _ (λ t. t, λ t. t) (first_decides r (folder s k).lines)) (Decides-not _ (number_decides k s.full)))
 may_decides c s (Refuses k r) = first_decides r (folder s k).lines
 may_decides c s (TellsOk k r n) = Decides-and _ _ (answered_decides r n (folder s k).answered) (Decides-not _ (number_decides (folder s k).site s.yielding))
 may_decides c s (TellsPublished k r n) = Decides-like _ (λ m. (m.0, m.1.0, m.1.1)) (λ m. (m.0, (m.1, m.2))) (Decides-and _ _ (server_decides c)
@@ -270,10 +280,15 @@ may_decides c s (TellsPublished k r n) = Decides-like _ (λ m. (m.0, m.1.0, m.1.
 may_decides c s (TellsNothing k r) = number_decides r (folder s k).waiting
 may_decides c s (Passes k to) = Decides-like _ (λ m. (m.0.0, m.0.1, m.1)) (λ m. ((m.0, m.1), m.2))
     (Decides-and _ _ (Decides-and _ _ (λ t. t, λ t. t) (holds_decides (folder s k))) (Decides-not _ (Decides-eqb to (folder s k).site)))
-may_decides c s (Appends k x) = appends_decides s k c x
-may_decides c s (Reads k x) = Decides-like _ (λ m. (m.0.0, m.0.1, m.1)) (λ m. ((m.0, m.1), m.2))
-    (Decides-and _ _ (Decides-and _ _ (runs_decides s k) (Decides-not _ (Decides-eqb (sender x) (folder s k).site))) (offered_decides c s x))
-may_decides c s (Rebuilds k packets) = rebuilds_decides s k packets
+may_decides c s (Appends k x) = Decides-like _ (λ m. (m.0.0, m.0.1, m.0.2, m.1)) (λ m. ((m.0, m.1, m.2), m.3))
+    (Decides-and _ _ (sends_decides s k c x) (placed_decides s x))
+may_decides c s (Sends k x) = sends_decides s k c x
+may_decides c s (Arrives x) = Decides-like _ (λ m. (m.0.0, m.0.1, m.1)) (λ m. ((m.0, m.1), m.2))
+    (Decides-and _ _ (Decides-and _ _ (server_decides c) (packet_decides x s.under_way)) (placed_decides s x))
+may_decides c s (Reads k x) = Decides-like _ (λ m. (m.0.0.0, m.0.0.1, m.0.1, m.1)) (λ m. (((m.0, m.1), m.2), m.3)) (Decides-and _ _ (Decides-and _ _
+    (Decides-and _ _ (runs_decides s k) (Decides-not _ (Decides-eqb (sender x) (folder s k).site))) (offered_decides c s x)) (room_decides s k x))
+may_decides c s (Finds k x) = Decides-and _ _ (Decides-eqb (folder s k).life 0) (somewhere_decides s x)
+may_decides c s (Rebuilds k j) = rebuilds_decides s k j
 may_decides c s (WritesAnew k) = Decides-and _ _ (server_decides c) (writes_decides s k)
 may_decides c s e = (λ t. tt, λ m. refl)
 
@@ -281,11 +296,11 @@ pub may_computed : MayIsComputed
 may_computed c s e = may_decides c s e
 
 -- steps are computed
-pub are_steps_true : (c : Carrier) (s : Shop) (events : List Event) → are_steps c s events ≡ true → AreSteps c s events
+pub are_steps_true : (c : Carrier) (s : Shop) (events : List ShopEvent) → are_steps c s events ≡ true → AreSteps c s events
 are_steps_true c s [] t = tt
 are_steps_true c s (e ∷ rest) t =
     let both = and_parts (may c s e) (are_steps c (after s e) rest) t in
     ((may_decides c s e).0 both.0, are_steps_true c (after s e) rest both.1)
 
-pub may_not : (c : Carrier) (s : Shop) (e : Event) → may c s e ≡ false → ¬ (May c s e)
+pub may_not : (c : Carrier) (s : Shop) (e : ShopEvent) → may c s e ≡ false → ¬ (May c s e)
 may_not c s e t = not_from_Decides (may c s e) (may_decides c s e) t

@@ -8,12 +8,13 @@ use Rattle.rubis_carrier.specs.Laws.{AreGivenOnce, ComparingIsNeeded}
 use Rattle.rubis_carrier.specs.declared.values.Carrier.{Carrier}
 use Rattle.rubis_carrier.specs.declared.values.ShopPacket.TheVariants.{Message}
 use Rattle.rubis_carrier.specs.declared.values.ShopRequest.{ShopRequest}
-use Rattle.rubis_carrier.specs.Events.{AreSteps, Event, IsFirst, MayServe, accepting, after, giving, opened, others, run}
-use Rattle.rubis_carrier.specs.Events.Event.{Accepts, Gives, IsAsked, Opens, Serves}
+use Rattle.rubis_carrier.specs.Events.{AreSteps, IsFirst, MayServe, accepting, after, giving, opened, others, run}
+use Rattle.rubis_carrier.specs.declared.values.ShopEvent.{ShopEvent}
+use Rattle.rubis_carrier.specs.declared.values.ShopEvent.TheVariants.{Accepts, Gives, IsAsked, Opens, Serves}
 use Rattle.rubis_carrier.specs.Laws.{AreGivenOnce, ComparingIsNeeded}
 use Rattle.rubis_carrier.specs.Packets.{highest}
-use Rattle.rubis_carrier.specs.Shops.{Folder, Place, Shop, asks, folder, request, request_in, start, there}
-use Rattle.rubis_carrier.specs.Shops.Place.{InFolder, InStream}
+use Rattle.rubis_carrier.specs.Shops.{Folder, IsSeen, Place, Shop, asks, folder, request, request_in, start, there}
+use Rattle.rubis_carrier.specs.Shops.Place.{InFolder, InStream, UnderWay}
 use Rattle.rubis_carrier.proofs.PacketFacts.{highest_next}
 use Rattle.rubis_carrier.proofs.PutFacts.{folder_here, opened_cases, request_new}
 use Rattle.rubis_carrier.proofs.Telling.{tells_run}
@@ -35,12 +36,13 @@ record IsTaking (t : Shop) (k life i high : ℕ) (h : Place) (n r : ℕ) : Type 
   stands : Has (Message i n r) (there t h)
   asked : r ≤ asks t
   compared : ¬ (Has i t.uncompared)
+  room : ¬ (Has k t.full)
 
 module _ (c : Carrier) (t : Shop) (k life i high : ℕ) (h : Place) (n r : ℕ) (q : IsTaking t k life i high h n r) where
   ask : ℕ
   ask = asks t + 1
 
-  round : List Event
+  round : List ShopEvent
   unfolding ask
   round = IsAsked ask life 1 ∷ Serves k ask ∷ Gives k ask ∷ Accepts k ask ∷ []
 
@@ -109,7 +111,7 @@ module _ (c : Carrier) (t : Shop) (k life i high : ℕ) (h : Place) (n r : ℕ) 
       may_serve,
       (
         (subst (λ (f : Folder). f.is_open ≡ true) (sym is_serving) q.is_open, subst (λ (f : Folder). Has ask f.waiting) (sym is_serving) (inl refl)),
-        ((subst (λ (f : Folder). f.is_open ≡ true) (sym is_giving) q.is_open, is_first), tt),
+        ((subst (λ (f : Folder). f.is_open ≡ true) (sym is_giving) q.is_open, is_first, q.room), tt),
       ),
     ),
   )
@@ -145,6 +147,7 @@ module _ (c : Carrier) (t : Shop) (k life i high : ℕ) (h : Place) (n r : ℕ) 
         stands = whole_after c t round h round_may ((λ z. z), ((λ z. z), ((λ z. z), ((λ z. z), tt)))) (Message i n r) q.stands;
         asked = omega (arith, q.asked, one_more);
         compared = q.compared;
+        room = q.room;
       }
     where
       none : {xs : List ℕ} → xs ≡ [] → others (xs ++ (asks t + 1) ∷ []) ≡ []
@@ -153,7 +156,7 @@ module _ (c : Carrier) (t : Shop) (k life i high : ℕ) (h : Place) (n r : ℕ) 
 -- ---- as many asks as it takes
 
 abbrev ComesToTwo : Carrier → Shop → Type 0
-ComesToTwo c t = (more : List Event) × AreSteps c t more × ¬ (AreGivenOnce (run t more))
+ComesToTwo c t = (more : List ShopEvent) × AreSteps c t more × ¬ (AreGivenOnce (run t more))
 
 comes_to_two : (c : Carrier) {k life i : ℕ} {h : Place} {n r : ℕ} (d : ℕ) {t : Shop} {high : ℕ} → n ≡ high + suc d → IsTaking t k life i high h n r
     → ComesToTwo c t
@@ -180,7 +183,7 @@ comes_to_two c {k} {life} {i} {h} {n} {r} (suc d) {t} {high} e q =
 -- ---- a folder that opens all the same
 
 pub comparing_needed : ComparingIsNeeded
-comparing_needed c events m k f h n r stands ahead compared =
+comparing_needed c events m k f room h n r seen stands ahead compared =
     let s = run start events in
     let told = tells_run c events m in
     let t = after s (Opens k) in
@@ -188,8 +191,8 @@ comparing_needed c events m k f h n r stands ahead compared =
     let here : folder t k ≡ opened (folder s k) =
     opened_cases (λ j g. j ≡ k → g ≡ opened (folder s k)) s k (λ e. refl) (λ j d e. absurd (d e)) k refl in
     let kept : (j : ℕ) → (folder t j).kept ≡ (folder s j).kept = opened_cases (λ j g. g.kept ≡ (folder s j).kept) s k refl (λ j d. refl) in
-    let there_too : (g : Place) → Has (Message i n r) (there s g) → Has (Message i n r) (there t g) =
-    elim [ InFolder j ↦ λ a. subst (Has (Message i n r)) (sym (kept j)) a | InStream j ↦ λ a. a ] in
+    let there_too : (g : Place) → IsSeen g → Has (Message i n r) (there s g) → Has (Message i n r) (there t g) =
+    elim [ InFolder j ↦ λ u a. subst (Has (Message i n r)) (sym (kept j)) a | InStream j ↦ λ u a. a | UnderWay ↦ λ u. absurd u ] in
     let taking : IsTaking t k (folder s k).life i (highest i (folder s k).kept) h n r = record {
       is_open = subst (λ (g : Folder). g.is_open ≡ true) (sym here) refl;
       life_is = subst (λ (g : Folder). g.life ≡ (folder s k).life) (sym here) refl;
@@ -200,8 +203,9 @@ comparing_needed c events m k f h n r stands ahead compared =
       given = subst (λ (g : Folder). g.given ≡ []) (sym here) f.given;
       site = subst (λ (g : Folder). g.site ≡ i) (sym here) refl;
       greatest = ap (highest i) (kept k);
-      stands = there_too h stands;
+      stands = there_too h seen stands;
       asked = (told.made h i n r stands).asked;
       compared = compared;
+      room = room;
     } in
     comes_to_two c (n - suc (highest i (folder s k).kept)) (omega (arith, ahead)) taking

@@ -6,11 +6,13 @@ use Rattle.rubis_model.proofs.Lists.{has_right, push_cases}
 use Rattle.rubis_carrier.specs.declared.values.Carrier.{Carrier}
 use Rattle.rubis_carrier.specs.declared.values.ShopPacket.TheVariants.{Message}
 use Rattle.rubis_carrier.specs.declared.values.ShopRequest.{ShopRequest}
-use Rattle.rubis_carrier.specs.Events.{AreSteps, Event, IsFirst, May, after, first, opening, run}
-use Rattle.rubis_carrier.specs.Events.Event.{Accepts, Appends, Closes, Gives, IsAsked, IsChanged, IsCopied, IsKilled, IsLost, KeeperStarts, LosesEnd}
-use Rattle.rubis_carrier.specs.Events.Event.{MachineStarts, Opens, OpensAlone, Passes, Reads, Rebuilds, Refuses, ServerLosesAll, Serves, Starts}
-use Rattle.rubis_carrier.specs.Events.Event.{StreamLosesEnd, TakesBack, TakesOver, TellsNothing, TellsOk, TellsPublished, TellsUnknown, WritesAnew}
-use Rattle.rubis_carrier.specs.Events.Event.{Yields}
+use Rattle.rubis_carrier.specs.Events.{AreSteps, IsFirst, May, after, first, opening, run}
+use Rattle.rubis_carrier.specs.declared.values.ShopEvent.{ShopEvent}
+use Rattle.rubis_carrier.specs.declared.values.ShopEvent.TheVariants.{Accepts, Appends, Arrives, Closes, Fills, Finds, Gives, GoesOn, IsAsked, IsCopied}
+use Rattle.rubis_carrier.specs.declared.values.ShopEvent.TheVariants.{IsKilled, IsLost, IsRaised, KeeperStarts, LosesEnd, MachineStarts, Opens, OpensAlone}
+use Rattle.rubis_carrier.specs.declared.values.ShopEvent.TheVariants.{Passes, Reads, Rebuilds, Refuses, Sends, ServerLosesAll, Serves, Starts, StreamLosesEnd}
+use Rattle.rubis_carrier.specs.declared.values.ShopEvent.TheVariants.{TakesBack, TakesOver, TellsNothing, TellsOk, TellsPublished, TellsUnknown, WritesAnew}
+use Rattle.rubis_carrier.specs.declared.values.ShopEvent.TheVariants.{Yields}
 use Rattle.rubis_carrier.specs.Laws.{AnswersComeInOrder, IsOver, IsUnmade, WhatIsOverStays}
 use Rattle.rubis_carrier.specs.Shops.{Folder, Shop, folder, folder_in, put_folder, request, request_in, start}
 use Rattle.rubis_carrier.proofs.Changes.{AreApart, IsNew, first_in, from_step, has_others, has_without}
@@ -68,7 +70,7 @@ module _ (s : Shop) (r : ℕ) (o : IsOver s r) where
     given = λ h. subst (Has r) d h;
   })
 
-over_step : (c : Carrier) {s : Shop} (e : Event) {r : ℕ} → May c s e → Tells s → IsOver s r → IsOver (after s e) r
+over_step : (c : Carrier) {s : Shop} (e : ShopEvent) {r : ℕ} → May c s e → Tells s → IsOver s r → IsOver (after s e) r
 over_step c {s} (Starts k) {r} m q o = record {
   asked = o.asked;
   served = folder_cases (λ j g. 0 < g.life → (request s r).life ≡ g.life → Has r g.served) k _ s.folders
@@ -80,7 +82,10 @@ over_step c {s} (Opens k) {r} m q o = over_opened s r o k s.uncompared
 over_step c {s} (TakesOver k) {r} m q o = over_opened s r o k _
 over_step c {s} (OpensAlone k) {r} m q o = over_opened s r o k _
 over_step c {s} (Closes k) {r} m q o = over_put s r o _ k _ refl (with_memory s r o k _ refl refl refl refl) refl
+over_step c {s} (GoesOn k) {r} m q o = over_put s r o _ k _ refl (with_memory s r o k _ refl refl refl refl) refl
 over_step c (KeeperStarts k) m q o = o
+over_step c {s} (Fills k) {r} m q o = over_less s r o _ (as_it_was s r o) refl
+over_step c {s} (IsRaised k) {r} m q o = over_less s r o _ (as_it_was s r o) refl
 over_step c {s} (IsKilled k) {r} m q o = over_stopped s r o _ k _ refl refl refl refl refl
 over_step c {s} (MachineStarts k) {r} m q o = over_stopped s r o _ k _ refl refl refl refl refl
 over_step c {s} (IsAsked p life d) {r} m q o = record {
@@ -127,18 +132,20 @@ over_step c {s} (Yields i) {r} m q o = over_less s r o _ (as_it_was s r o) refl
 over_step c {s} (TakesBack i) {r} m q o = over_less s r o _ (as_it_was s r o) refl
 over_step c {s} (Passes k to) {r} m q o = over_put s r o _ k _ refl (with_memory s r o k _ refl refl refl refl) refl
 over_step c {s} (Appends k x) {r} m q o = over_less s r o _ (as_it_was s r o) refl
+over_step c {s} (Sends k x) {r} m q o = over_less s r o _ (as_it_was s r o) refl
+over_step c {s} (Arrives x) {r} m q o = over_less s r o _ (as_it_was s r o) refl
 over_step c {s} (Reads k x) {r} m q o = over_put s r o _ k _ refl (with_memory s r o k _ refl refl refl refl) refl
 over_step c {s} (LosesEnd k n) {r} m q o = over_stopped s r o _ k _ refl refl refl refl refl
-over_step c {s} (IsChanged k ps) {r} m q o = over_stopped s r o _ k _ refl refl refl refl refl
 over_step c {s} (IsLost k) {r} m q o = over_stopped s r o _ k _ refl refl refl refl refl
 over_step c {s} (IsCopied k j) {r} m q o = over_stopped s r o _ j _ refl refl refl refl refl
 over_step c {s} (StreamLosesEnd i n) {r} m q o = over_less s r o _ (as_it_was s r o) refl
 over_step c {s} ServerLosesAll {r} m q o = over_less s r o _ (as_it_was s r o) refl
-over_step c {s} (Rebuilds k ps) {r} m q o = over_stopped s r o _ k _ refl refl refl refl refl
+over_step c {s} (Finds k x) {r} m q o = over_stopped s r o _ k _ refl refl refl refl refl
+over_step c {s} (Rebuilds k j) {r} m q o = over_stopped s r o _ k _ refl refl refl refl refl
 over_step c {s} (WritesAnew k) {r} m q o = over_less s r o _ (as_it_was s r o) refl
 
 -- an event makes no message of it
-not_made : (c : Carrier) {s : Shop} (e : Event) {r : ℕ} (i n : ℕ) → May c s e → Tells s → IsOver s r → IsNew s e (Message i n r) → ⊥
+not_made : (c : Carrier) {s : Shop} (e : ShopEvent) {r : ℕ} (i n : ℕ) → May c s e → Tells s → IsOver s r → IsNew s e (Message i n r) → ⊥
 not_made c {s} (Accepts k p) {r} i n m q o new =
     let it = first_in (folder s k).given (m.1.0, sym (q.lined k).lines ∙ m.1.1) in
     let same : r ≡ p = cc new in
@@ -147,10 +154,10 @@ not_made c (Passes k to) i n m q o new = cc new
 not_made c (Starts k) i n m q o new = new
 not_made c e i n m q o new = new
 
-unmade_step : (c : Carrier) {s : Shop} (e : Event) {r : ℕ} → May c s e → Tells s → IsOver s r → IsUnmade s r → IsUnmade (after s e) r
+unmade_step : (c : Carrier) {s : Shop} (e : ShopEvent) {r : ℕ} → May c s e → Tells s → IsOver s r → IsUnmade s r → IsUnmade (after s e) r
 unmade_step c {s} e {r} m q o u h i n a = ⊎_elim (λ old. u old.0 i n old.1) (not_made c e i n m q o) (from_step c s e h (Message i n r) m a)
 
-unmade_after : (c : Carrier) (s : Shop) (later : List Event) {r : ℕ} → AreSteps c s later → Tells s → IsOver s r → IsUnmade s r → IsUnmade (run s later) r
+unmade_after : (c : Carrier) (s : Shop) (later : List ShopEvent) {r : ℕ} → AreSteps c s later → Tells s → IsOver s r → IsUnmade s r → IsUnmade (run s later) r
 unmade_after c s [] m q o u = u
 unmade_after c s (e ∷ rest) m q o u = unmade_after c (after s e) rest m.1 (tells_step c e m.0 q) (over_step c e m.0 q o) (unmade_step c e m.0 q o u)
 

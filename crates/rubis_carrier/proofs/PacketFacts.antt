@@ -2,7 +2,7 @@
 use Rattle.std.proofs.Common.{◌≡◌, ◌≤◌, ◌<◌, ◌∷◌, ◌++◌, inl, inr, [], ℕ, Bool, true, false, cond, eqb, List, refl, sym, ap, subst, arith, max}
 use Rattle.rubis_model.specs.Settle.{Has}
 use Rattle.rubis_carrier.specs.declared.values.ShopPacket.{ShopPacket}
-use Rattle.rubis_carrier.specs.Packets.{IsReached, highest, passed, same_packet, sender, taken, unchanged}
+use Rattle.rubis_carrier.specs.Packets.{IsReached, highest, passed, sender, taken}
 use Rattle.rubis_carrier.specs.declared.values.ShopPacket.TheVariants.{Message, Pass}
 use Rattle.rubis_carrier.proofs.PutFacts.{eqb_same}
 
@@ -67,14 +67,6 @@ reached_within (Pass i t j a) kept h = either_more t (passed i kept) (taken i ke
   where
     either_more : (t a b : ℕ) → t ≤ a → t ≤ max a b
     either_more t a b h = omega (arith, h)
-
-pub has_unchanged : (x : ShopPacket) (xs ys : List ShopPacket) → Has x (unchanged xs ys) → Has x xs
-has_unchanged x [] ys h = h
-has_unchanged x (z ∷ xs) [] h = absurd h
-has_unchanged x (z ∷ xs) (y ∷ ys) h = elim (same_packet z y) as (λ b. Has x (cond b (z ∷ unchanged xs ys) []) → Has x (z ∷ xs)) [
-  | true ↦ λ g. elim g [ inl e ↦ inl e | inr r ↦ inr (has_unchanged x xs ys r) ]
-  | false ↦ λ g. absurd g
-] h
 
 -- ---- with one packet more
 

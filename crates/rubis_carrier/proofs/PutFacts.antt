@@ -90,6 +90,14 @@ has_filter p x (y ∷ ys) h = elim (p y) as (λ b. Has x (cond b (y ∷ filter p
   | false ↦ λ g. inr (has_filter p x ys g)
 ] h
 
+-- it passes the test then
+pub filter_holds : {A : Type 0} (p : A → Bool) (x : A) (xs : List A) → Has x (filter p xs) → p x ≡ true
+filter_holds p x [] h = absurd h
+filter_holds p x (y ∷ ys) h = elim (p y) as (λ b. p y ≡ b → Has x (cond b (y ∷ filter p ys) (filter p ys)) → p x ≡ true) [
+  | true ↦ λ e g. elim g [ inl same ↦ subst (λ z. p z ≡ true) (sym same) e | inr r ↦ filter_holds p x ys r ]
+  | false ↦ λ e g. filter_holds p x ys g
+] refl h
+
 pub filter_has : {A : Type 0} (p : A → Bool) (x : A) (xs : List A) → Has x xs → p x ≡ true → Has x (filter p xs)
 filter_has p x [] h t = absurd h
 filter_has p x (y ∷ ys) (inl e) t =

@@ -1,6 +1,6 @@
 -- What every event keeps of a shop, and that so a name is given once.
 use Rattle.std.proofs.Common.{◌≡◌, ◌∙◌, ◌≢◌, ◌⊎◌, inl, inr, ⊎_elim, ◌≤◌, ◌+◌, ◌++◌, ◌∷◌, [], ℕ, Bool, true, false, cond, eqb, List, refl, sym, ap, subst, arith, max}
-use Rattle.std.specs.Prelude.{take, ◌==◌}
+use Rattle.std.specs.Prelude.{take, not, ◌==◌}
 use Rattle.std.proofs.lemmas.Bool.{eqb-false, eqb-true}
 use Rattle.rubis_model.specs.Settle.{Has}
 use Rattle.rubis_model.proofs.Lists.{has_last, push_cases}
@@ -12,19 +12,21 @@ use Rattle.rubis_carrier.specs.declared.values.ShopPacket.{ShopPacket}
 use Rattle.rubis_carrier.specs.declared.values.ShopPacket.TheVariants.{Message, Pass}
 use Rattle.rubis_carrier.specs.declared.values.ShopRequest.{ShopRequest}
 use Rattle.rubis_carrier.specs.declared.values.Notice.{Notice}
-use Rattle.rubis_carrier.specs.Events.{AreSteps, Event, IsOffered, May, accepting, after, keeping, next_message, next_pass, opening}
+use Rattle.rubis_carrier.specs.Events.{AreSteps, IsOffered, May, accepting, after, keeping, next_message, next_pass, opening}
+use Rattle.rubis_carrier.specs.declared.values.ShopEvent.{ShopEvent}
 use Rattle.rubis_carrier.specs.Events.{opening_uncompared, run}
-use Rattle.rubis_carrier.specs.Events.Event.{Accepts, Appends, Closes, Gives, IsAsked, IsChanged, IsCopied, IsKilled, IsLost, KeeperStarts, LosesEnd}
-use Rattle.rubis_carrier.specs.Events.Event.{MachineStarts, Opens, OpensAlone, Passes, Reads, Rebuilds, Refuses, ServerLosesAll, Serves, Starts}
-use Rattle.rubis_carrier.specs.Events.Event.{StreamLosesEnd, TakesBack, TakesOver, TellsNothing, TellsOk, TellsPublished, TellsUnknown, WritesAnew}
-use Rattle.rubis_carrier.specs.Events.Event.{Yields}
+use Rattle.rubis_carrier.specs.declared.values.ShopEvent.TheVariants.{Accepts, Appends, Arrives, Closes, Fills, Finds, Gives, GoesOn, IsAsked, IsCopied}
+use Rattle.rubis_carrier.specs.declared.values.ShopEvent.TheVariants.{IsKilled, IsLost, IsRaised, KeeperStarts, LosesEnd, MachineStarts, Opens, OpensAlone}
+use Rattle.rubis_carrier.specs.declared.values.ShopEvent.TheVariants.{Passes, Reads, Rebuilds, Refuses, Sends, ServerLosesAll, Serves, Starts, StreamLosesEnd}
+use Rattle.rubis_carrier.specs.declared.values.ShopEvent.TheVariants.{TakesBack, TakesOver, TellsNothing, TellsOk, TellsPublished, TellsUnknown, WritesAnew}
+use Rattle.rubis_carrier.specs.declared.values.ShopEvent.TheVariants.{Yields}
 use Rattle.rubis_carrier.specs.Laws.{AreGivenOnce, IdsAreGivenOnce}
 use Rattle.rubis_carrier.specs.Packets.{IsReached, highest, name, passed, sender, taken}
-use Rattle.rubis_carrier.specs.Shops.{Folder, IsCompared, MayOpen, Place, Shop, folder, folder_in, put_folder, put_stream, start, stream, stream_in}
+use Rattle.rubis_carrier.specs.Shops.{Folder, IsCompared, IsNotAhead, MayOpen, Place, Shop, folder, folder_in, put_folder, put_stream, start, stream, stream_in}
 use Rattle.rubis_carrier.specs.Shops.{there, with_folder}
-use Rattle.rubis_carrier.specs.Shops.Place.{InFolder, InStream}
-use Rattle.rubis_carrier.proofs.PacketFacts.{has_unchanged, reached_more, reached_within}
-use Rattle.rubis_carrier.proofs.PutFacts.{folder_cases, has_filter, has_take, opened_cases, stream_cases}
+use Rattle.rubis_carrier.specs.Shops.Place.{InFolder, InStream, UnderWay}
+use Rattle.rubis_carrier.proofs.PacketFacts.{reached_more, reached_within}
+use Rattle.rubis_carrier.proofs.PutFacts.{eqb_same, filter_holds, folder_cases, has_filter, has_take, opened_cases, stream_cases}
 
 -- the packet stands somewhere
 abbrev pub IsSomewhere : Shop → ShopPacket → Type 0
@@ -48,32 +50,42 @@ WasCompared s i = ¬ (Has i s.uncompared)
 pub record Sound (s : Shop) : Type 0 where
   pub once : AreGivenOnce s
   pub known : (h : Place) (x : ShopPacket) → Has x (there s h) → IsKnown s.turn x
-  pub whole : (k : ℕ) → (folder s k).remembered ≡ true → WasCompared s (folder s k).site → IsCompared s k
+  pub whole : (k : ℕ) → (folder s k).remembered ≡ true → WasCompared s (folder s k).site → (h : Place) → IsNotAhead s k h
   pub opened : (k : ℕ) → (folder s k).is_open ≡ true → WasCompared s (folder s k).site → (folder s k).remembered ≡ true
   pub one : (k j : ℕ) → (folder s k).remembered ≡ true → (folder s j).remembered ≡ true → (folder s k).site ≡ (folder s j).site → k ≡ j
 
 -- ---- events that make nothing
 
--- a folder in the place of folder k: it has nothing that isn't somewhere; if it is remembered, so was the other one, and it has all of that
-pub record FolderIsLess (s : Shop) (k : ℕ) (f : Folder) : Type 0 where
+-- a folder in the place of folder k: it has nothing that isn't somewhere; if it is remembered, so was the other one, and it has all of that;
+-- and if it is open, it is remembered, or its site isn't compared any more
+pub record FolderIsLess (s : Shop) (uncompared : List ℕ) (k : ℕ) (f : Folder) : Type 0 where
   pub from : (x : ShopPacket) → Has x f.kept → IsSomewhere s x
   pub was : f.remembered ≡ true → (folder s k).remembered ≡ true
   pub site : f.remembered ≡ true → (folder s k).site ≡ f.site
   pub kept : f.remembered ≡ true → (x : ShopPacket) → IsReached (folder s k).site (folder s k).kept x → IsReached f.site f.kept x
-  pub opened : f.is_open ≡ true → WasCompared s f.site → f.remembered ≡ true
+  pub opened : f.is_open ≡ true → ¬ (Has f.site uncompared) → f.remembered ≡ true
 
-same_folder : {s : Shop} → Sound s → (k : ℕ) → FolderIsLess s k (folder s k)
-same_folder q k = record { from = λ x h. (InFolder k, h); was = λ r. r; site = λ r. refl; kept = λ r x h. h; opened = q.opened k }
+same_folder : {s : Shop} → Sound s → (uncompared : List ℕ) → ((i : ℕ) → Has i s.uncompared → Has i uncompared) → (k : ℕ)
+    → FolderIsLess s uncompared k (folder s k)
+same_folder {s} q uncompared more k = record {
+  from = λ x h. (InFolder k, h);
+  was = λ r. r;
+  site = λ r. refl;
+  kept = λ r x h. h;
+  opened = λ o n. q.opened k o (λ u. n (more (folder s k).site u));
+}
 
 record IsLess (s t : Shop) : Type 0 where
-  folders : (k : ℕ) → FolderIsLess s k (folder t k)
+  folders : (k : ℕ) → FolderIsLess s t.uncompared k (folder t k)
   streams : (i : ℕ) (x : ShopPacket) → Has x (stream t i) → IsSomewhere s x
+  under_way : (x : ShopPacket) → Has x t.under_way → IsSomewhere s x
   turn : s.turn ≤ t.turn
   uncompared : (i : ℕ) → Has i s.uncompared → Has i t.uncompared
 
 less_from : {s t : Shop} → IsLess s t → (h : Place) (x : ShopPacket) → Has x (there t h) → IsSomewhere s x
 less_from l (InFolder k) x h = (l.folders k).from x h
 less_from l (InStream i) x h = l.streams i x h
+less_from l UnderWay x h = l.under_way x h
 
 less_sound : {s t : Shop} → Sound s → IsLess s t → Sound t
 less_sound {s} {t} q l = record {
@@ -89,7 +101,7 @@ less_sound {s} {t} q l = record {
       let site = (l.folders k).site r in
       let all = q.whole k ((l.folders k).was r) (λ u. n (subst (λ i. Has i t.uncompared) site (l.uncompared (folder s k).site u))) in
       (l.folders k).kept r x (all from.0 x from.1 (e ∙ sym site));
-  opened = λ k o n. (l.folders k).opened o (λ u. n (l.uncompared (folder t k).site u));
+  opened = λ k. (l.folders k).opened;
   one = λ k j a b e. q.one k j ((l.folders k).was a) ((l.folders j).was b) ((l.folders k).site a ∙ e ∙ sym ((l.folders j).site b));
 }
 
@@ -192,7 +204,7 @@ module _ (s : Shop) (q : Sound s) (k : ℕ) (f : Folder) (y : ShopPacket) (l : K
     is_open = o;
     own = own;
     new = new;
-    from = elim [ InFolder j ↦ put_from j | InStream i ↦ λ x h. inl (InStream i, h) ];
+    from = elim [ InFolder j ↦ put_from j | InStream i ↦ λ x h. inl (InStream i, h) | UnderWay ↦ λ x h. inl (UnderWay, h) ];
     kept = put_kept;
     sent = put_sent own;
     site = put_site;
@@ -243,7 +255,7 @@ module _ (s : Shop) (q : Sound s) (k : ℕ) (uncompared : List ℕ) (more : (i :
       ] refl
 
   is_compared : ¬ (Has (folder s k).site uncompared) → IsCompared s k
-  is_compared c = ⊎_elim (λ r. q.whole k r (compared_still (folder s k).site c)) (λ a. a) (allowed c).knows
+  is_compared c = ⊎_elim (λ r h seen. q.whole k r (compared_still (folder s k).site c) h) (λ a. a) (allowed c).knows
 
   -- which folders are remembered then
   which : (j : ℕ) → (folder (opening k s) j).remembered ≡ true → (j ≡ k) ⊎ (((folder s j).site ≢ (folder s k).site) × ((folder s j).remembered ≡ true))
@@ -260,7 +272,15 @@ module _ (s : Shop) (q : Sound s) (k : ℕ) (uncompared : List ℕ) (more : (i :
       let site : (j : ℕ) → (folder (opening k s) j).site ≡ (folder s j).site =
       opened_cases (λ j g. g.site ≡ (folder s j).site) s k refl (λ j n. refl) in
       let from : (h : Place) (x : ShopPacket) → Has x (there (opening k s) h) → Has x (there s h) =
-      elim [ InFolder j ↦ λ x. subst (Has x) (kept j) | InStream i ↦ λ x a. a ] in
+      elim [ InFolder j ↦ λ x. subst (Has x) (kept j) | InStream i ↦ λ x a. a | UnderWay ↦ λ x. has_filter _ x s.under_way ] in
+      -- what is under way of the site arrives no more
+      let behind : ¬ (Has (folder s k).site uncompared) → (h : Place) (x : ShopPacket) → Has x (there (opening k s) h) → sender x ≡ (folder s k).site
+      → IsReached (folder s k).site (folder s k).kept x =
+      λ c. elim [
+        | InFolder j ↦ λ x a. is_compared c (InFolder j) tt x (from (InFolder j) x a)
+        | InStream i ↦ λ x a. is_compared c (InStream i) tt x a
+        | UnderWay ↦ λ x a e. absurd (arrives_no_more x (filter_holds (λ y. not (sender y == (folder s k).site)) x s.under_way a) e)
+      ] in
       record {
         once = λ h g x y a b e n. q.once h g x y (from h x a) (from g y b) e (compared_still (sender x) n);
         known = λ h x a. q.known h x (from h x a);
@@ -269,7 +289,7 @@ module _ (s : Shop) (q : Sound s) (k : ℕ) (uncompared : List ℕ) (more : (i :
             subst (λ i. IsReached i (folder (opening k s) j).kept x) (sym (site j))
             (subst (λ xs. IsReached (folder s j).site xs x) (sym (kept j)) (⊎_elim
             (λ here. subst (λ n. IsReached (folder s n).site (folder s n).kept x) (sym here)
-            (is_compared (subst (λ n. ¬ (Has (folder s n).site uncompared)) here c) h x (from h x a) (e ∙ site j ∙ ap (λ n. (folder s n).site) here)))
+            (behind (subst (λ n. ¬ (Has (folder s n).site uncompared)) here c) h x a (e ∙ site j ∙ ap (λ n. (folder s n).site) here)))
             (λ other. q.whole j other.1 (compared_still (folder s j).site c) h x (from h x a) (e ∙ site j)) (which j r)));
         opened = opened_cases (λ j g. g.is_open ≡ true → ¬ (Has g.site uncompared) → g.remembered ≡ true) s k (λ o c. refl) others_not;
         one = λ i j a b e.
@@ -281,6 +301,11 @@ module _ (s : Shop) (q : Sound s) (k : ℕ) (uncompared : List ℕ) (more : (i :
             (λ far. q.one i j away.1 far.1 same) (which j b))
             (which i a);
       }
+    where
+      arrives_no_more : (x : ShopPacket) → not (sender x == (folder s k).site) ≡ true → sender x ≡ (folder s k).site → ⊥
+      arrives_no_more x t e =
+          let same : eqb (sender x) (folder s k).site ≡ true = subst (λ i. eqb i (folder s k).site ≡ true) (sym e) (eqb_same (folder s k).site) in
+          cc (t, same)
 
 uncompared_sound : {s : Shop} → Sound s → (k : ℕ) → Sound (opening_uncompared k s)
 uncompared_sound {s} q k = opens_sound s q k ((folder s k).site ∷ s.uncompared) (λ i u. inr u) (λ n. absurd (n (inl refl)))
@@ -288,11 +313,12 @@ uncompared_sound {s} q k = opens_sound s q k ((folder s k).site ∷ s.uncompared
 -- ---- one event
 
 -- an event that only replaces folder k, and what is in the memory of others
-less_folder : {s : Shop} → Sound s → (k : ℕ) (f : Folder) → FolderIsLess s k f → (requests : List ShopRequest) (told : List Notice) (begun : ℕ)
+less_folder : {s : Shop} → Sound s → (k : ℕ) (f : Folder) → FolderIsLess s s.uncompared k f → (requests : List ShopRequest) (told : List Notice) (begun : ℕ)
     → Sound (record (with_folder k f s) { requests = requests; told = told; begun = begun })
 less_folder {s} q k f l requests told begun = less_sound q (record {
-  folders = folder_cases (FolderIsLess s) k f s.folders l (λ j n. same_folder q j);
+  folders = folder_cases (FolderIsLess s s.uncompared) k f s.folders l (λ j n. same_folder q s.uncompared (λ i u. u) j);
   streams = λ i x h. (InStream i, h);
+  under_way = λ x h. (UnderWay, h);
   turn = omega arith;
   uncompared = λ i u. u;
 })
@@ -300,17 +326,29 @@ less_folder {s} q k f l requests told begun = less_sound q (record {
 -- an event that only replaces streams, by packets that are somewhere
 less_streams : {s : Shop} → Sound s → (streams : List (List ShopPacket)) → ((i : ℕ) (x : ShopPacket) → Has x (stream_in streams i) → IsSomewhere s x)
     → Sound (record s { streams = streams })
-less_streams q streams from = less_sound q (record { folders = same_folder q; streams = from; turn = omega arith; uncompared = λ i u. u })
+less_streams {s} q streams from = less_sound q (record {
+  folders = same_folder q s.uncompared (λ i u. u);
+  streams = from;
+  under_way = λ x h. (UnderWay, h);
+  turn = omega arith;
+  uncompared = λ i u. u;
+})
 
 stream_from : (s : Shop) (i : ℕ) (xs : List ShopPacket) → ((x : ShopPacket) → Has x xs → IsSomewhere s x) → (j : ℕ) (x : ShopPacket)
     → Has x (stream_in (put_stream i xs s.streams) j) → IsSomewhere s x
 stream_from s i xs from = stream_cases (λ j ys. (x : ShopPacket) → Has x ys → IsSomewhere s x) i xs s.streams from (λ j n x h. (InStream j, h))
 
 -- one that replaces neither
-less_else : {s : Shop} → Sound s → (requests : List ShopRequest) (told : List Notice) (yielding : List ℕ)
-    → Sound (record s { requests = requests; told = told; yielding = yielding })
-less_else q requests told yielding =
-    less_sound q (record { folders = same_folder q; streams = λ i x h. (InStream i, h); turn = omega arith; uncompared = λ i u. u })
+less_else : {s : Shop} → Sound s → (requests : List ShopRequest) (told : List Notice) (yielding full : List ℕ) (under_way : List ShopPacket)
+    → ((x : ShopPacket) → Has x under_way → IsSomewhere s x)
+    → Sound (record s { requests = requests; told = told; yielding = yielding; full = full; under_way = under_way })
+less_else {s} q requests told yielding full under_way from = less_sound q (record {
+  folders = same_folder q s.uncompared (λ i u. u);
+  streams = λ i x h. (InStream i, h);
+  under_way = from;
+  turn = omega arith;
+  uncompared = λ i u. u;
+})
 
 -- what a site finds of a packet is somewhere
 pub offered : (c : Carrier) (s : Shop) (x : ShopPacket) → IsOffered c s x → IsSomewhere s x
@@ -322,7 +360,7 @@ gone e = absurd (cc e)
 
 -- a folder of which only what is in memory is another; or its site takes no asks; or its machine knows nothing of it
 same_as : {s : Shop} → Sound s → (k : ℕ) (f : Folder) → f.kept ≡ (folder s k).kept → f.site ≡ (folder s k).site → f.remembered ≡ (folder s k).remembered
-    → f.is_open ≡ (folder s k).is_open → FolderIsLess s k f
+    → f.is_open ≡ (folder s k).is_open → FolderIsLess s s.uncompared k f
 same_as {s} q k f a b r o = record {
   from = λ x h. (InFolder k, subst (Has x) a h);
   was = λ e. sym r ∙ e;
@@ -332,7 +370,7 @@ same_as {s} q k f a b r o = record {
 }
 
 shut : (s : Shop) (k : ℕ) (f : Folder) → f.kept ≡ (folder s k).kept → f.site ≡ (folder s k).site → f.remembered ≡ (folder s k).remembered → f.is_open ≡ false
-    → FolderIsLess s k f
+    → FolderIsLess s s.uncompared k f
 shut s k f a b r o = record {
   from = λ x h. (InFolder k, subst (Has x) a h);
   was = λ e. sym r ∙ e;
@@ -342,7 +380,7 @@ shut s k f a b r o = record {
 }
 
 unknown_less : (s : Shop) (k : ℕ) (f : Folder) → f.remembered ≡ false → f.is_open ≡ false → ((x : ShopPacket) → Has x f.kept → IsSomewhere s x)
-    → FolderIsLess s k f
+    → FolderIsLess s s.uncompared k f
 unknown_less s k f r o from = record {
   from = from;
   was = λ e. gone (sym r ∙ e);
@@ -351,16 +389,27 @@ unknown_less s k f r o from = record {
   opened = λ e c. gone (sym o ∙ e);
 }
 
-pub sound_step : (c : Carrier) {s : Shop} (e : Event) → May c s e → Sound s → Sound (after s e)
+pub sound_step : (c : Carrier) {s : Shop} (e : ShopEvent) → May c s e → Sound s → Sound (after s e)
 sound_step c {s} (Starts k) m q = less_folder q k _ (shut s k _ refl refl refl refl) _ _ _
 sound_step c {s} (Opens k) m q = opens_sound s q k s.uncompared (λ i u. u) (λ n. m)
 sound_step c (TakesOver k) m q = uncompared_sound q k
 sound_step c (OpensAlone k) m q = uncompared_sound q k
 sound_step c {s} (Closes k) m q = less_folder q k _ (shut s k _ refl refl refl refl) _ _ _
+sound_step c {s} (GoesOn k) m q = less_sound q (record {
+  folders = folder_cases (FolderIsLess s _) k _ s.folders
+      (record { from = λ x h. (InFolder k, h); was = λ r. r; site = λ r. refl; kept = λ r x h. h; opened = λ o n. absurd (n (inl refl)) })
+      (λ j n. same_folder q _ (λ i u. inr u) j);
+  streams = λ i x h. (InStream i, h);
+  under_way = λ x h. (UnderWay, h);
+  turn = omega arith;
+  uncompared = λ i u. inr u;
+})
 sound_step c (KeeperStarts k) m q = q
+sound_step c (Fills k) m q = less_else q _ _ _ _ _ (λ x h. (UnderWay, h))
+sound_step c (IsRaised k) m q = less_else q _ _ _ _ _ (λ x h. (UnderWay, h))
 sound_step c {s} (IsKilled k) m q = less_folder q k _ (shut s k _ refl refl refl refl) _ _ _
 sound_step c {s} (MachineStarts k) m q = less_folder q k _ (unknown_less s k _ refl refl (λ x h. (InFolder k, h))) _ _ _
-sound_step c (IsAsked r life n) m q = less_else q _ _ _
+sound_step c (IsAsked r life n) m q = less_else q _ _ _ _ _ (λ x h. (UnderWay, h))
 sound_step c (Serves k r) m q = less_folder q k _ (same_as q k _ refl refl refl refl) _ _ _
 sound_step c (Gives k r) m q = less_folder q k _ (same_as q k _ refl refl refl refl) _ _ _
 sound_step c {s} (Accepts k r) m q =
@@ -368,18 +417,23 @@ sound_step c {s} (Accepts k r) m q =
     let l : Keeps (folder s k) (accepting (folder s k) r) y = record { kept = refl; site = refl; remembered = refl; opened = refl } in
     sent_sound q (sends s q k _ y l s.turn m.0 refl (new_message (folder s k) r) tt (omega arith))
 sound_step c (Refuses k r) m q = less_folder q k _ (same_as q k _ refl refl refl refl) _ _ _
-sound_step c (TellsOk k r n) m q = less_else q _ _ _
-sound_step c (TellsPublished k r n) m q = less_else q _ _ _
+sound_step c (TellsOk k r n) m q = less_else q _ _ _ _ _ (λ x h. (UnderWay, h))
+sound_step c (TellsPublished k r n) m q = less_else q _ _ _ _ _ (λ x h. (UnderWay, h))
 sound_step c (TellsNothing k r) m q = less_folder q k _ (same_as q k _ refl refl refl refl) _ _ _
-sound_step c (TellsUnknown k r) m q = less_else q _ _ _
-sound_step c (Yields i) m q = less_else q _ _ _
-sound_step c (TakesBack i) m q = less_else q _ _ _
+sound_step c (TellsUnknown k r) m q = less_else q _ _ _ _ _ (λ x h. (UnderWay, h))
+sound_step c (Yields i) m q = less_else q _ _ _ _ _ (λ x h. (UnderWay, h))
+sound_step c (TakesBack i) m q = less_else q _ _ _ _ _ (λ x h. (UnderWay, h))
 sound_step c {s} (Passes k to) m q =
     let y = next_pass (folder s k) to in
     let l : Keeps (folder s k) (keeping (folder s k) y) y = record { kept = refl; site = refl; remembered = refl; opened = refl } in
     sent_sound q (sends s q k _ y l _ m.0 refl (new_pass (folder s k) to m.1.0) (omega arith, omega arith, m.2) (omega arith))
 sound_step c {s} (Appends k x) m q = less_streams q _ (stream_from s (sender x) (stream s (sender x) ++ x ∷ [])
-    (λ z h. ⊎_elim (λ a. (InStream (sender x), a)) (λ e. (InFolder k, subst (λ v. Has v (folder s k).kept) (sym e) m.1.kept))
+    (λ z h. ⊎_elim (λ a. (InStream (sender x), a)) (λ e. (InFolder k, subst (λ v. Has v (folder s k).kept) (sym e) m.2))
+    (push_cases z x (stream s (sender x)) h)))
+sound_step c {s} (Sends k x) m q = less_else q _ _ _ _ _
+    (λ z h. ⊎_elim (λ e. (InFolder k, subst (λ v. Has v (folder s k).kept) (sym e) m.2)) (λ old. (UnderWay, old)) h)
+sound_step c {s} (Arrives x) m q = less_streams q _ (stream_from s (sender x) (stream s (sender x) ++ x ∷ [])
+    (λ z h. ⊎_elim (λ a. (InStream (sender x), a)) (λ e. (UnderWay, subst (λ v. Has v s.under_way) (sym e) m.1))
     (push_cases z x (stream s (sender x)) h)))
 sound_step c {s} (Reads k x) m q = less_folder q k _ (record {
   from = λ z h. ⊎_elim (λ a. (InFolder k, a)) (λ e. subst (IsSomewhere s) (sym e) (offered c s x m.2)) (push_cases z x (folder s k).kept h);
@@ -389,13 +443,13 @@ sound_step c {s} (Reads k x) m q = less_folder q k _ (record {
   opened = q.opened k;
 }) _ _ _
 sound_step c {s} (LosesEnd k n) m q = less_folder q k _ (unknown_less s k _ refl refl (λ x h. (InFolder k, has_take n x (folder s k).kept h))) _ _ _
-sound_step c {s} (IsChanged k packets) m q =
-    less_folder q k _ (unknown_less s k _ refl refl (λ x h. (InFolder k, has_unchanged x (folder s k).kept packets h))) _ _ _
 sound_step c {s} (IsLost k) m q = less_folder q k _ (unknown_less s k _ refl refl (λ x h. absurd h)) _ _ _
 sound_step c {s} (IsCopied k j) m q = less_folder q j _ (unknown_less s j _ refl refl (λ x h. (InFolder k, h))) _ _ _
 sound_step c {s} (StreamLosesEnd i n) m q = less_streams q _ (stream_from s i (take n (stream s i)) (λ x h. (InStream i, has_take n x (stream s i) h)))
 sound_step c ServerLosesAll m q = less_streams q _ (λ i x h. absurd h)
-sound_step c {s} (Rebuilds k packets) m q = less_folder q k _ (unknown_less s k _ refl refl m.found) _ _ _
+sound_step c {s} (Finds k x) m q = less_folder q k _ (unknown_less s k _ refl refl
+    (λ z h. ⊎_elim (λ a. (InFolder k, a)) (λ e. subst (IsSomewhere s) (sym e) m.1) (push_cases z x (folder s k).kept h))) _ _ _
+sound_step c {s} (Rebuilds k j) m q = less_folder q k _ (unknown_less s k _ refl refl (λ x h. (InFolder j, h))) _ _ _
 sound_step c {s} (WritesAnew k) m q = less_streams q _ (stream_from s (folder s k).site _
     (λ x h. (InFolder k, has_filter (λ z. sender z == (folder s k).site) x (folder s k).kept h)))
 
@@ -411,12 +465,13 @@ sound_start = record {
     nothing : (h : Place) (x : ShopPacket) → Has x (there start h) → ⊥
     nothing (InFolder k) x h = h
     nothing (InStream i) x h = h
+    nothing UnderWay x h = h
 
-pub sound_after : (c : Carrier) (s : Shop) (events : List Event) → AreSteps c s events → Sound s → Sound (run s events)
+pub sound_after : (c : Carrier) (s : Shop) (events : List ShopEvent) → AreSteps c s events → Sound s → Sound (run s events)
 sound_after c s [] m q = q
 sound_after c s (e ∷ rest) m q = sound_after c (after s e) rest m.1 (sound_step c e m.0 q)
 
-pub sound_run : (c : Carrier) (events : List Event) → AreSteps c start events → Sound (run start events)
+pub sound_run : (c : Carrier) (events : List ShopEvent) → AreSteps c start events → Sound (run start events)
 sound_run c events m = sound_after c start events m sound_start
 
 pub ids_once : IdsAreGivenOnce

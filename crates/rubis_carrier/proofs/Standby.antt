@@ -7,18 +7,19 @@ use Rattle.rubis_carrier.specs.declared.values.Carrier.{Carrier}
 use Rattle.rubis_carrier.specs.declared.values.ShopPacket.{ShopPacket}
 use Rattle.rubis_carrier.specs.declared.values.ShopPacket.TheVariants.{Message, Pass}
 use Rattle.rubis_carrier.specs.declared.values.Notice.TheVariants.{Ok}
-use Rattle.rubis_carrier.specs.Events.{AreSteps, Event, IsAtItsPlace, IsWhole, May, after, first, run}
-use Rattle.rubis_carrier.specs.Events.Event.{Appends, OpensAlone, Refuses, ServerLosesAll, Starts, StreamLosesEnd, TakesBack, TakesOver, TellsNothing}
-use Rattle.rubis_carrier.specs.Events.Event.{TellsOk, TellsPublished, TellsUnknown, WritesAnew, Yields}
+use Rattle.rubis_carrier.specs.Events.{AreSteps, IsAtItsPlace, IsWhole, May, after, run}
+use Rattle.rubis_carrier.specs.declared.values.ShopEvent.{ShopEvent}
+use Rattle.rubis_carrier.specs.declared.values.ShopEvent.TheVariants.{Appends, Arrives, GoesOn, OpensAlone, Refuses, ServerLosesAll, Starts, StreamLosesEnd}
+use Rattle.rubis_carrier.specs.declared.values.ShopEvent.TheVariants.{TakesBack, TakesOver, TellsNothing, TellsOk, TellsPublished, TellsUnknown, WritesAnew}
+use Rattle.rubis_carrier.specs.declared.values.ShopEvent.TheVariants.{Yields}
 use Rattle.rubis_carrier.specs.Packets.{highest, sender}
-use Rattle.rubis_carrier.specs.Shops.{Shop, folder, start, stream, there}
+use Rattle.rubis_carrier.specs.Shops.{Shop, folder, start, stream}
 use Rattle.rubis_carrier.specs.Shops.Place.{InStream}
 use Rattle.rubis_carrier.specs.Standby.{IdsAreToldOnce, StaysYielding, ToldStaysInStream, WhatYieldsIsPublished}
 use Rattle.rubis_carrier.proofs.Changes.{has_or, without_other}
 use Rattle.rubis_carrier.proofs.PacketFacts.{number_within}
 use Rattle.rubis_carrier.proofs.PutFacts.{has_take, stream_cases}
 use Rattle.rubis_carrier.proofs.Sound.{Sound, WasCompared, sound_run, sound_step}
-use Rattle.rubis_carrier.proofs.Telling.{published}
 use Rattle.rubis_carrier.proofs.Whole.{run_append, steps_left, steps_right, whole_after}
 
 -- ---- one message under a number
@@ -57,9 +58,11 @@ placed_append s {i} q (Pass j t k a) place e n r d x y =
     (λ (new : Message i n r ≡ Pass j t k a). absurd (cc new)) (push_cases (Message i n r) (Pass j t k a) (stream s i) x)
 
 -- of a site of which a folder was opened uncompared, before the event
-placed_step : (c : Carrier) (s : Shop) (e : Event) → May c s e → ArePlaced s → (i : ℕ) → Has i s.uncompared → IsPlaced i (stream (after s e) i)
+placed_step : (c : Carrier) (s : Shop) (e : ShopEvent) → May c s e → ArePlaced s → (i : ℕ) → Has i s.uncompared → IsPlaced i (stream (after s e) i)
 placed_step c s (Appends k x) m q = stream_cases (λ i xs. Has i s.uncompared → IsPlaced i xs) (sender x) (stream s (sender x) ++ x ∷ []) s.streams
-    (λ u. placed_append s (q (sender x)) x (m.1.placed u) refl) (λ j d u. q j)
+    (λ u. placed_append s (q (sender x)) x (m.3 u) refl) (λ j d u. q j)
+placed_step c s (Arrives x) m q = stream_cases (λ i xs. Has i s.uncompared → IsPlaced i xs) (sender x) (stream s (sender x) ++ x ∷ []) s.streams
+    (λ u. placed_append s (q (sender x)) x (m.2 u) refl) (λ j d u. q j)
 placed_step c s (StreamLosesEnd j n) m q = stream_cases (λ i xs. Has i s.uncompared → IsPlaced i xs) j (take n (stream s j)) s.streams
     (λ u a r d x y. q j a r d (has_take n (Message j a r) (stream s j) x) (has_take n (Message j a d) (stream s j) y)) (λ i d u. q i)
 placed_step c s ServerLosesAll m q = λ i u n r d x y. absurd x
@@ -69,21 +72,22 @@ placed_step c s (Starts k) m q = λ i u. q i
 placed_step c s e m q = λ i u. q i
 
 -- an event in which a folder of the site is opened uncompared changes no stream
-uncompared_new : (c : Carrier) (s : Shop) (e : Event) (i : ℕ) → May c s e → ArePlaced s → Has i (after s e).uncompared
+uncompared_new : (c : Carrier) (s : Shop) (e : ShopEvent) (i : ℕ) → May c s e → ArePlaced s → Has i (after s e).uncompared
     → Has i s.uncompared ⊎ IsPlaced i (stream (after s e) i)
 uncompared_new c s (TakesOver k) i m q u = inr (q i)
 uncompared_new c s (OpensAlone k) i m q u = inr (q i)
+uncompared_new c s (GoesOn k) i m q u = inr (q i)
 uncompared_new c s (Starts k) i m q u = inl u
 uncompared_new c s e i m q u = inl u
 
-pub placed_after : (c : Carrier) (s : Shop) (events : List Event) → AreSteps c s events → Sound s → ArePlaced s → ArePlaced (run s events)
+pub placed_after : (c : Carrier) (s : Shop) (events : List ShopEvent) → AreSteps c s events → Sound s → ArePlaced s → ArePlaced (run s events)
 placed_after c s [] m q p = p
 placed_after c s (e ∷ rest) m q p =
     let sound = sound_step c e m.0 q in
     placed_after c (after s e) rest m.1 sound (λ i. ⊎_elim (λ u. ⊎_elim (placed_step c s e m.0 p i) (λ placed. placed) (uncompared_new c s e i m.0 p u))
     (placed_compared sound i) (has_or i (after s e).uncompared))
 
-placed_run : (c : Carrier) (events : List Event) → AreSteps c start events → ArePlaced (run start events)
+placed_run : (c : Carrier) (events : List ShopEvent) → AreSteps c start events → ArePlaced (run start events)
 placed_run c events m = placed_after c start events m (sound_run c [] tt) (λ i a b e x y. absurd x)
 
 -- ---- the laws
@@ -115,7 +119,7 @@ told_once c before between k j r q n m site whole =
     placed_after c s (TellsPublished k r n ∷ between) until (sound_run c before sofar) (placed_run c before sofar) i n r q mine theirs
 
 -- while the site yields, ok is told of it only where the message stands in the stream
-told_new : (c : Carrier) (s : Shop) (e : Event) (i r n : ℕ) → May c s e → Has i s.yielding → Has (Ok r i n) (after s e).told
+told_new : (c : Carrier) (s : Shop) (e : ShopEvent) (i r n : ℕ) → May c s e → Has i s.yielding → Has (Ok r i n) (after s e).told
     → Has (Ok r i n) s.told ⊎ Has (Message i n r) (stream (after s e) i)
 told_new c s (Refuses k q) i r n m y h = ⊎_elim (λ e. absurd (cc e)) (λ old. inl old) h
 told_new c s (TellsNothing k q) i r n m y h = ⊎_elim (λ e. absurd (cc e)) (λ old. inl old) h
@@ -130,13 +134,13 @@ told_new c s (TellsPublished k q d) i r n m y h = ⊎_elim (λ (e : Ok r i n ≡
 told_new c s (Starts k) i r n m y h = inl h
 told_new c s e i r n m y h = inl h
 
-yields_still : (s : Shop) (e : Event) (i : ℕ) → e ≢ TakesBack i → Has i s.yielding → Has i (after s e).yielding
+yields_still : (s : Shop) (e : ShopEvent) (i : ℕ) → e ≢ TakesBack i → Has i s.yielding → Has i (after s e).yielding
 yields_still s (Yields j) i n y = inr y
 yields_still s (TakesBack j) i n y = without_other j i s.yielding (λ e. n (ap TakesBack (sym e))) y
 yields_still s (Starts k) i n y = y
 yields_still s e i n y = y
 
-told_since : (c : Carrier) (s : Shop) (later : List Event) (i : ℕ) → AreSteps c s later → Has i s.yielding → StaysYielding i later → IsWhole (InStream i) later
+told_since : (c : Carrier) (s : Shop) (later : List ShopEvent) (i : ℕ) → AreSteps c s later → Has i s.yielding → StaysYielding i later → IsWhole (InStream i) later
     → (r n : ℕ) → Has (Ok r i n) (run s later).told → Has (Ok r i n) s.told ⊎ Has (Message i n r) (stream (run s later) i)
 told_since c s [] i m y stays w r n h = inl h
 told_since c s (e ∷ rest) i m y stays w r n h = ⊎_elim

@@ -12,18 +12,20 @@ use Rattle.rubis_carrier.specs.declared.values.ShopPacket.TheVariants.{Message}
 use Rattle.rubis_carrier.specs.declared.values.ShopRequest.{ShopRequest}
 use Rattle.rubis_carrier.specs.declared.values.Notice.{Notice}
 use Rattle.rubis_carrier.specs.declared.values.Notice.TheVariants.{No, Ok}
-use Rattle.rubis_carrier.specs.Events.{AreSteps, Event, IsFirst, May, MayServe, accepting, after, answering, first, giving, next_message, opening}
+use Rattle.rubis_carrier.specs.Events.{AreSteps, IsFirst, May, MayServe, accepting, after, answering, first, giving, next_message, opening}
+use Rattle.rubis_carrier.specs.declared.values.ShopEvent.{ShopEvent}
 use Rattle.rubis_carrier.specs.Events.{others, run, started, times, without}
-use Rattle.rubis_carrier.specs.Events.Event.{Accepts, Appends, Closes, Gives, IsAsked, IsChanged, IsCopied, IsKilled, IsLost, KeeperStarts, LosesEnd}
-use Rattle.rubis_carrier.specs.Events.Event.{MachineStarts, Opens, OpensAlone, Passes, Reads, Rebuilds, Refuses, ServerLosesAll, Serves, Starts}
-use Rattle.rubis_carrier.specs.Events.Event.{StreamLosesEnd, TakesBack, TakesOver, TellsNothing, TellsOk, TellsPublished, TellsUnknown, WritesAnew}
-use Rattle.rubis_carrier.specs.Events.Event.{Yields}
+use Rattle.rubis_carrier.specs.declared.values.ShopEvent.TheVariants.{Accepts, Appends, Arrives, Closes, Fills, Finds, Gives, GoesOn, IsAsked, IsCopied}
+use Rattle.rubis_carrier.specs.declared.values.ShopEvent.TheVariants.{IsKilled, IsLost, IsRaised, KeeperStarts, LosesEnd, MachineStarts, Opens, OpensAlone}
+use Rattle.rubis_carrier.specs.declared.values.ShopEvent.TheVariants.{Passes, Reads, Rebuilds, Refuses, Sends, ServerLosesAll, Serves, Starts, StreamLosesEnd}
+use Rattle.rubis_carrier.specs.declared.values.ShopEvent.TheVariants.{TakesBack, TakesOver, TellsNothing, TellsOk, TellsPublished, TellsUnknown, WritesAnew}
+use Rattle.rubis_carrier.specs.declared.values.ShopEvent.TheVariants.{Yields}
 use Rattle.rubis_carrier.specs.Laws.{AsksAreAcceptedOnce, IsUnmade, NobodyIsToldBoth, PublishedIsInStream, ToldOkIsKept, WhatIsToldIsTrue}
-use Rattle.rubis_carrier.specs.Packets.{highest, taken}
+use Rattle.rubis_carrier.specs.Packets.{highest}
 use Rattle.rubis_carrier.specs.Shops.{Folder, Place, Shop, asks, empty, folder, folder_in, put_folder, request, request_in, start, stream, there}
-use Rattle.rubis_carrier.specs.Shops.Place.{InFolder, InStream}
+use Rattle.rubis_carrier.specs.Shops.Place.{InFolder, InStream, UnderWay}
 use Rattle.rubis_carrier.proofs.Changes.{AreApart, IsNew, apart_more, apart_others, first_in, from_step, has_others, has_without, opened_from}
-use Rattle.rubis_carrier.proofs.PutFacts.{folder_cases, opened_cases, request_new, request_old}
+use Rattle.rubis_carrier.proofs.PutFacts.{folder_cases, has_filter, opened_cases, request_new, request_old}
 use Rattle.rubis_carrier.proofs.Sound.{IsSomewhere}
 use Rattle.rubis_carrier.proofs.Whole.{run_append, steps_left, steps_right}
 
@@ -197,12 +199,12 @@ all_same s k = inl (same (folder s k) (folder s k) refl refl refl refl refl refl
 
 -- ---- one event: what else is new
 
-nothing_new : (c : Carrier) (s : Shop) (e : Event) → May c s e → ((i n r : ℕ) → IsNew s e (Message i n r) → ⊥) → (h : Place) (i n r : ℕ)
+nothing_new : (c : Carrier) (s : Shop) (e : ShopEvent) → May c s e → ((i n r : ℕ) → IsNew s e (Message i n r) → ⊥) → (h : Place) (i n r : ℕ)
     → Has (Message i n r) (there (after s e) h) → IsSomewhere s (Message i n r)
 nothing_new c s e m none h i n r a = ⊎_elim (λ old. old) (λ new. absurd (none i n r new)) (from_step c s e h (Message i n r) m a)
 
 -- the events in which no ask goes on, but for a folder that starts and an asker that asks
-quiet_put : (c : Carrier) {s : Shop} (e : Event) (k : ℕ) {f : Folder} → Tells s → May c s e → ((i n r : ℕ) → IsNew s e (Message i n r) → ⊥)
+quiet_put : (c : Carrier) {s : Shop} (e : ShopEvent) (k : ℕ) {f : Folder} → Tells s → May c s e → ((i n r : ℕ) → IsNew s e (Message i n r) → ⊥)
     → (after s e).folders ≡ put_folder k f s.folders → (IsSame (folder s k) f ⊎ IsIdle f) → (after s e).requests ≡ s.requests → (after s e).begun ≡ s.begun
     → (after s e).told ≡ s.told → Tells (after s e)
 quiet_put c {s} e k {f} q m none changed here requests begun told = quiet_tells s (after s e) q (record {
@@ -215,7 +217,7 @@ quiet_put c {s} e k {f} q m none changed here requests begun told = quiet_tells 
   ok = λ r i n a. inl (subst (Has (Ok r i n)) told a);
 })
 
-quiet_streams : (c : Carrier) {s : Shop} (e : Event) → Tells s → May c s e → ((i n r : ℕ) → IsNew s e (Message i n r) → ⊥) → (after s e).folders ≡ s.folders
+quiet_streams : (c : Carrier) {s : Shop} (e : ShopEvent) → Tells s → May c s e → ((i n r : ℕ) → IsNew s e (Message i n r) → ⊥) → (after s e).folders ≡ s.folders
     → (after s e).requests ≡ s.requests → (after s e).begun ≡ s.begun → ((r : ℕ) → Has (No r) (after s e).told → Has (No r) s.told)
     → ((r i n : ℕ) → Has (Ok r i n) (after s e).told → Has (Ok r i n) s.told ⊎ IsSomewhere s (Message i n r)) → Tells (after s e)
 quiet_streams c {s} e q m none same requests begun told_no told_ok = quiet_tells s (after s e) q (record {
@@ -608,15 +610,20 @@ opens_tells {s} k uncompared q = quiet_tells s _ q (record {
     from : (h : Place) (i n r : ℕ) → Has (Message i n r) (there (opening k s) h) → IsSomewhere s (Message i n r)
     from (InFolder j) i n r a = opened_from s k (Message i n r) j a
     from (InStream j) i n r a = (InStream j, a)
+    from UnderWay i n r a = (UnderWay, has_filter _ (Message i n r) s.under_way a)
 
-pub tells_step : (c : Carrier) {s : Shop} (e : Event) → May c s e → Tells s → Tells (after s e)
+pub tells_step : (c : Carrier) {s : Shop} (e : ShopEvent) → May c s e → Tells s → Tells (after s e)
 tells_step c (Starts k) m q = starts_tells c k q m
 tells_step c {s} (Opens k) m q = opens_tells k s.uncompared q
 tells_step c (TakesOver k) m q = opens_tells k _ q
 tells_step c (OpensAlone k) m q = opens_tells k _ q
 tells_step c {s} (Closes k) m q = quiet_put c (Closes k) k q m (λ i n p e. e) refl
     (inl (same (folder s k) _ refl refl refl refl refl refl refl (λ x h. h))) refl refl refl
+tells_step c {s} (GoesOn k) m q = quiet_put c (GoesOn k) k q m (λ i n p e. e) refl
+    (inl (same (folder s k) _ refl refl refl refl refl refl refl (λ x h. h))) refl refl refl
 tells_step c (KeeperStarts k) m q = q
+tells_step c (Fills k) m q = quiet_streams c (Fills k) q m (λ i d p e. e) refl refl refl (λ p a. a) (λ p i d a. inl a)
+tells_step c (IsRaised k) m q = quiet_streams c (IsRaised k) q m (λ i d p e. e) refl refl refl (λ p a. a) (λ p i d a. inl a)
 tells_step c (IsKilled k) m q = quiet_put c (IsKilled k) k q m (λ i n p e. e) refl (inr (idle _ refl refl refl refl refl)) refl refl refl
 tells_step c (MachineStarts k) m q = quiet_put c (MachineStarts k) k q m (λ i n p e. e) refl (inr (idle _ refl refl refl refl refl)) refl refl refl
 tells_step c (IsAsked r life d) m q = asked_tells c r life d q m
@@ -651,15 +658,17 @@ tells_step c (TakesBack i) m q = quiet_streams c (TakesBack i) q m (λ i d p e. 
 tells_step c {s} (Passes k to) m q = quiet_put c (Passes k to) k q m (no_message s k to) refl
     (inl (same (folder s k) _ refl refl refl refl refl refl refl (λ x h. has_left x (folder s k).kept _ h))) refl refl refl
 tells_step c (Appends k x) m q = quiet_streams c (Appends k x) q m (λ i d p e. e) refl refl refl (λ p a. a) (λ p i d a. inl a)
+tells_step c (Sends k x) m q = quiet_streams c (Sends k x) q m (λ i d p e. e) refl refl refl (λ p a. a) (λ p i d a. inl a)
+tells_step c (Arrives x) m q = quiet_streams c (Arrives x) q m (λ i d p e. e) refl refl refl (λ p a. a) (λ p i d a. inl a)
 tells_step c {s} (Reads k x) m q = quiet_put c (Reads k x) k q m (λ i n p e. e) refl
     (inl (same (folder s k) _ refl refl refl refl refl refl refl (λ z h. has_left z (folder s k).kept _ h))) refl refl refl
 tells_step c (LosesEnd k n) m q = quiet_put c (LosesEnd k n) k q m (λ i d p e. e) refl (inr (idle _ refl refl refl refl refl)) refl refl refl
-tells_step c (IsChanged k ps) m q = quiet_put c (IsChanged k ps) k q m (λ i d p e. e) refl (inr (idle _ refl refl refl refl refl)) refl refl refl
 tells_step c (IsLost k) m q = quiet_put c (IsLost k) k q m (λ i d p e. e) refl (inr (idle _ refl refl refl refl refl)) refl refl refl
 tells_step c (IsCopied k j) m q = quiet_put c (IsCopied k j) j q m (λ i d p e. e) refl (inr (idle _ refl refl refl refl refl)) refl refl refl
 tells_step c (StreamLosesEnd i n) m q = quiet_streams c (StreamLosesEnd i n) q m (λ i d p e. e) refl refl refl (λ p a. a) (λ p i d a. inl a)
 tells_step c ServerLosesAll m q = quiet_streams c ServerLosesAll q m (λ i d p e. e) refl refl refl (λ p a. a) (λ p i d a. inl a)
-tells_step c (Rebuilds k ps) m q = quiet_put c (Rebuilds k ps) k q m (λ i d p e. e) refl (inr (idle _ refl refl refl refl refl)) refl refl refl
+tells_step c (Finds k x) m q = quiet_put c (Finds k x) k q m (λ i d p e. e) refl (inr (idle _ refl refl refl refl refl)) refl refl refl
+tells_step c (Rebuilds k j) m q = quiet_put c (Rebuilds k j) k q m (λ i d p e. e) refl (inr (idle _ refl refl refl refl refl)) refl refl refl
 tells_step c (WritesAnew k) m q = quiet_streams c (WritesAnew k) q m (λ i d p e. e) refl refl refl (λ p a. a) (λ p i d a. inl a)
 
 -- ---- the laws
@@ -681,16 +690,17 @@ tells_start = record {
     nothing : (h : Place) (x : ShopPacket) → Has x (there start h) → ⊥
     nothing (InFolder k) x h = h
     nothing (InStream i) x h = h
+    nothing UnderWay x h = h
 
-pub tells_after : (c : Carrier) (s : Shop) (events : List Event) → AreSteps c s events → Tells s → Tells (run s events)
+pub tells_after : (c : Carrier) (s : Shop) (events : List ShopEvent) → AreSteps c s events → Tells s → Tells (run s events)
 tells_after c s [] m q = q
 tells_after c s (e ∷ rest) m q = tells_after c (after s e) rest m.1 (tells_step c e m.0 q)
 
-pub tells_run : (c : Carrier) (events : List Event) → AreSteps c start events → Tells (run start events)
+pub tells_run : (c : Carrier) (events : List ShopEvent) → AreSteps c start events → Tells (run start events)
 tells_run c events m = tells_after c start events m tells_start
 
 -- what was told is told for ever
-told_step : (s : Shop) (e : Event) (w : Notice) → Has w s.told → Has w (after s e).told
+told_step : (s : Shop) (e : ShopEvent) (w : Notice) → Has w s.told → Has w (after s e).told
 told_step s (Refuses k r) w h = inr h
 told_step s (TellsOk k r n) w h = inr h
 told_step s (TellsPublished k r n) w h = inr h
@@ -699,7 +709,7 @@ told_step s (TellsUnknown k r) w h = inr h
 told_step s (Starts k) w h = h
 told_step s e w h = h
 
-pub told_after : (s : Shop) (events : List Event) (w : Notice) → Has w s.told → Has w (run s events).told
+pub told_after : (s : Shop) (events : List ShopEvent) (w : Notice) → Has w s.told → Has w (run s events).told
 told_after s [] w h = h
 told_after s (e ∷ rest) w h = told_after (after s e) rest w (told_step s e w h)
 

@@ -4,12 +4,13 @@ use Rattle.rubis_model.specs.Settle.{Has}
 use Rattle.rubis_carrier.specs.declared.values.Carrier.{Carrier}
 use Rattle.rubis_carrier.specs.declared.values.ShopPacket.{ShopPacket}
 use Rattle.rubis_carrier.specs.declared.values.ShopPacket.TheVariants.{Message, Pass}
-use Rattle.rubis_carrier.specs.Events.{AllCarry, Carries, Event, after, keeping, run, started}
-use Rattle.rubis_carrier.specs.Events.Event.{Appends, Opens, Reads, Starts}
+use Rattle.rubis_carrier.specs.Events.{AllCarry, Carries, after, keeping, run, started}
+use Rattle.rubis_carrier.specs.declared.values.ShopEvent.{ShopEvent}
+use Rattle.rubis_carrier.specs.declared.values.ShopEvent.TheVariants.{Appends, Opens, Reads, Starts}
 use Rattle.rubis_carrier.specs.Laws.{TheFirstSiteHolds, TheTokenComesBack}
 use Rattle.rubis_carrier.specs.Packets.{Holds, passed, taken}
 use Rattle.rubis_carrier.specs.Shops.{Place, Shop, folder, start}
-use Rattle.rubis_carrier.specs.Shops.Place.{InFolder, InStream}
+use Rattle.rubis_carrier.specs.Shops.Place.{InFolder, InStream, UnderWay}
 use Rattle.rubis_carrier.proofs.Carrying.{IsFree, can_have}
 use Rattle.rubis_carrier.proofs.PacketFacts.{taken_within}
 use Rattle.rubis_carrier.proofs.PutFacts.{folder_cases}
@@ -38,14 +39,14 @@ holds_last {s} q k one t =
 -- ---- the pass comes to it
 
 -- carrying changes no turn, nor of which site a folder is
-carried : (c : Carrier) (s : Shop) (e : Event) → Carries e → ((after s e).turn ≡ s.turn) × ((k : ℕ) → (folder (after s e) k).site ≡ (folder s k).site)
+carried : (c : Carrier) (s : Shop) (e : ShopEvent) → Carries e → ((after s e).turn ≡ s.turn) × ((k : ℕ) → (folder (after s e) k).site ≡ (folder s k).site)
 carried c s (Starts k) m = (refl, folder_cases (λ j f. f.site ≡ (folder s j).site) k (started (folder s k) (s.begun + 1)) s.folders refl (λ j n. refl))
 carried c s (Appends k x) m = (refl, λ j. refl)
 carried c s (Reads k x) m = (refl, folder_cases (λ j f. f.site ≡ (folder s j).site) k (keeping (folder s k) x) s.folders refl (λ j n. refl))
 carried c s (Opens k) m = absurd m
 carried c s e m = absurd m
 
-all_carried : (c : Carrier) (s : Shop) (events : List Event) → AllCarry events → ((run s events).turn ≡ s.turn) ×
+all_carried : (c : Carrier) (s : Shop) (events : List ShopEvent) → AllCarry events → ((run s events).turn ≡ s.turn) ×
     ((k : ℕ) → (folder (run s events) k).site ≡ (folder s k).site)
 all_carried c s [] m = (refl, λ k. refl)
 all_carried c s (e ∷ rest) m =
@@ -56,6 +57,7 @@ all_carried c s (e ∷ rest) m =
 pass_free : (c : Carrier) (s : Shop) (i t j a : ℕ) (h : Place) → IsFree c s (Pass i t j a) h
 pass_free c s i t j a (InFolder g) = λ e u same d. tt
 pass_free c s i t j a (InStream k) = tt
+pass_free c s i t j a UnderWay = tt
 
 pub comes_back : TheTokenComesBack
 comes_back c before later m i t j a h has whole e of k site =
@@ -64,7 +66,7 @@ comes_back c before later m i t j a h has whole e of k site =
     let x = Pass i t j a in
     let still = whole_then c before later h m whole x has in
     let known = q.known h x still in
-    let can = can_have c s k x h (λ d. known.2 (sym site ∙ sym d)) of still (pass_free c s i t j a h) in
+    let can = can_have c s k x h (λ d. known.2 (sym site ∙ sym d)) of still (pass_free c s i t j a h) tt in
     let u = run s can.0 in
     let all = all_carried c s can.0 can.1 in
     let last : t ≤ taken (folder u k).site (folder u k).kept =

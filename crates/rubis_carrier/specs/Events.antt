@@ -5,58 +5,17 @@ use Rattle.rubis_carrier.specs.declared.values.Carrier.{Carrier}
 use Rattle.rubis_carrier.specs.declared.values.Carrier.TheVariants.{Files, Server}
 use Rattle.rubis_carrier.specs.declared.values.ShopPacket.{ShopPacket}
 use Rattle.rubis_carrier.specs.declared.values.ShopPacket.TheVariants.{Message, Pass}
-use Rattle.rubis_carrier.specs.Packets.{Holds, highest, own, sender, taken, unchanged}
+use Rattle.rubis_carrier.specs.Packets.{Holds, highest, own, sender, taken}
 use Rattle.rubis_carrier.specs.Shops.{Folder, MayOpen, Place, Shop, asks, empty, folder, put_folder, request, stream, there, with_folder, with_stream}
-use Rattle.rubis_carrier.specs.Shops.Place.{InFolder, InStream}
+use Rattle.rubis_carrier.specs.Shops.Place.{InFolder, InStream, UnderWay}
 use Rattle.rubis_carrier.specs.declared.values.Notice.{Notice}
 use Rattle.rubis_carrier.specs.declared.values.Notice.TheVariants as told
-
--- what happens in a shop
-pub data Event : Type 0 where
-  -- a supervisor begins to run a folder, in a new life; its site may take asks; the same of a standby, which takes over from a folder
-  -- that may go on; the same with `--alone`; it may not any more, but runs on, as one does that doesn't know that another folder of its
-  -- site was opened; the keeper that it has for it ends, and is started again, and is given again what it hadn't kept; the supervisor
-  -- ends; the machine is started, and remembers nothing
-  Starts : (folder : ℕ) → Event
-  Opens : (folder : ℕ) → Event
-  TakesOver : (folder : ℕ) → Event
-  OpensAlone : (folder : ℕ) → Event
-  Closes : (folder : ℕ) → Event
-  KeeperStarts : (folder : ℕ) → Event
-  IsKilled : (folder : ℕ) → Event
-  MachineStarts : (folder : ℕ) → Event
-  -- an asker asks, names the life that is to serve the ask, and sends a text of that many records; its supervisor takes it, and gives it
-  -- to the site, which accepts or refuses the record of that ask
-  IsAsked : (ask life records : ℕ) → Event
-  Serves : (folder ask : ℕ) → Event
-  Gives : (folder ask : ℕ) → Event
-  Accepts : (folder ask : ℕ) → Event
-  Refuses : (folder ask : ℕ) → Event
-  -- the asker is told ok; the same, once the message stands in the stream of its site; that nothing was given to the site; that it
-  -- isn't known
-  TellsOk : (folder ask number : ℕ) → Event
-  TellsPublished : (folder ask number : ℕ) → Event
-  TellsNothing : (folder ask : ℕ) → Event
-  TellsUnknown : (folder ask : ℕ) → Event
-  -- a standby was told off for the site, which yields to it; it takes that back
-  Yields : (site : ℕ) → Event
-  TakesBack : (site : ℕ) → Event
-  -- the site passes the token on; a packet that stands in a folder is appended to the stream of its sender; a site reads a packet
-  Passes : (folder to : ℕ) → Event
-  Appends : (folder : ℕ) (packet : ShopPacket) → Event
-  Reads : (folder : ℕ) (packet : ShopPacket) → Event
-  -- only the first n packets of a folder are left; other packets stand there, of which a start takes those in front of the first that
-  -- isn't as it was, by its sum; nothing is left; another folder becomes a copy of it, or is put back to that
-  LosesEnd : (folder n : ℕ) → Event
-  IsChanged : (folder : ℕ) (packets : List ShopPacket) → Event
-  IsLost : (folder : ℕ) → Event
-  IsCopied : (folder other : ℕ) → Event
-  -- the server has only the first n packets of a stream; it has nothing
-  StreamLosesEnd : (site n : ℕ) → Event
-  ServerLosesAll : Event
-  -- a folder that doesn't run is made again; the stream of its site is written anew from a folder
-  Rebuilds : (folder : ℕ) (packets : List ShopPacket) → Event
-  WritesAnew : (folder : ℕ) → Event
+use Rattle.rubis_carrier.specs.declared.values.ShopEvent.{ShopEvent}
+use Rattle.rubis_carrier.specs.declared.values.ShopEvent.TheVariants.{Accepts, Appends, Arrives, Closes, Fills, Finds, Gives, GoesOn, IsAsked, IsCopied}
+use Rattle.rubis_carrier.specs.declared.values.ShopEvent.TheVariants.{IsKilled, IsLost, IsRaised, KeeperStarts, LosesEnd, MachineStarts, Opens, OpensAlone}
+use Rattle.rubis_carrier.specs.declared.values.ShopEvent.TheVariants.{Passes, Reads, Rebuilds, Refuses, Sends, ServerLosesAll, Serves, Starts, StreamLosesEnd}
+use Rattle.rubis_carrier.specs.declared.values.ShopEvent.TheVariants.{TakesBack, TakesOver, TellsNothing, TellsOk, TellsPublished, TellsUnknown, WritesAnew}
+use Rattle.rubis_carrier.specs.declared.values.ShopEvent.TheVariants.{Yields}
 
 -- ---- when it may happen
 
@@ -77,22 +36,24 @@ pub record MayServe (s : Shop) (k r : ℕ) : Type 0 where
 abbrev pub IsFirst : ℕ → List ℕ → Type 0
 IsFirst r asks = (rest : List ℕ) × (asks ≡ r ∷ rest)
 
--- it has what was left of the folder, and nothing that isn't somewhere
-pub record MayRebuild (s : Shop) (k : ℕ) (packets : List ShopPacket) : Type 0 where
+-- the folder in whose place folder j is put doesn't run, and nothing is lost that was left of it
+pub record MayRebuild (s : Shop) (k j : ℕ) : Type 0 where
   pub stopped : (folder s k).life ≡ 0
-  pub left : (x : ShopPacket) → Has x (folder s k).kept → Has x packets
-  pub found : (x : ShopPacket) → Has x packets → (h : Place) × Has x (there s h)
+  pub left : (x : ShopPacket) → Has x (folder s k).kept → Has x (folder s j).kept
+
+-- a full site takes no message
+abbrev pub HasRoom : Shop → ℕ → ShopPacket → Type 0
+HasRoom s k (Message i n r) = ¬ (Has k s.full)
+HasRoom s k (Pass i t j a) = Unit {0}
 
 -- a message is the next of its stream
 abbrev pub IsAtItsPlace : Shop → ShopPacket → Type 0
 IsAtItsPlace s (Message i n r) = n ≡ highest i (stream s i) + 1
 IsAtItsPlace s (Pass i t j a) = Unit {0}
 
--- a folder that runs appends a packet that it has; of a site of which a folder was opened uncompared, a message only at its place
-pub record MayAppend (s : Shop) (k : ℕ) (x : ShopPacket) : Type 0 where
-  pub runs : 0 < (folder s k).life
-  pub kept : Has x (folder s k).kept
-  pub placed : Has (sender x) s.uncompared → IsAtItsPlace s x
+-- of a site of which a folder was opened uncompared a message is appended only at its place
+abbrev pub MayStandNext : Shop → ShopPacket → Type 0
+MayStandNext s x = Has (sender x) s.uncompared → IsAtItsPlace s x
 
 -- a folder that runs has all that stands in its site's stream, and none of that site was opened uncompared
 pub record MayWriteAnew (s : Shop) (k : ℕ) : Type 0 where
@@ -101,19 +62,22 @@ pub record MayWriteAnew (s : Shop) (k : ℕ) : Type 0 where
   pub compared : ¬ (Has (folder s k).site s.uncompared)
 
 -- when an event may happen
-abbrev pub May : Carrier → Shop → Event → Type 0
+abbrev pub May : Carrier → Shop → ShopEvent → Type 0
 May c s (Starts k) = (folder s k).life ≡ 0
 May c s (Opens k) = MayOpen s k
 May c s (TakesOver k) = (0 < (folder s k).life) × Has (folder s k).site s.yielding
 May c s (OpensAlone k) = 0 < (folder s k).life
 May c s (Closes k) = Unit {0}
+May c s (GoesOn k) = 0 < (folder s k).life
 May c s (KeeperStarts k) = Unit {0}
 May c s (IsKilled k) = Unit {0}
 May c s (MachineStarts k) = Unit {0}
+May c s (Fills k) = Unit {0}
+May c s (IsRaised k) = (folder s k).life ≡ 0
 May c s (IsAsked r life n) = (r ≡ asks s + 1) × (life ≤ s.begun)
 May c s (Serves k r) = MayServe s k r
 May c s (Gives k r) = ((folder s k).is_open ≡ true) × Has r (folder s k).waiting
-May c s (Accepts k r) = ((folder s k).is_open ≡ true) × IsFirst r (folder s k).lines
+May c s (Accepts k r) = ((folder s k).is_open ≡ true) × IsFirst r (folder s k).lines × ¬ (Has k s.full)
 May c s (Refuses k r) = IsFirst r (folder s k).lines
 May c s (TellsOk k r n) = Has (record { ask = r; number = n }) (folder s k).answered × ¬ (Has (folder s k).site s.yielding)
 May c s (TellsPublished k r n) = (c ≡ Server) × Has (record { ask = r; number = n }) (folder s k).answered × Has (Message (folder s k).site n r) (stream s (folder s k).site)
@@ -122,15 +86,17 @@ May c s (TellsUnknown k r) = Unit {0}
 May c s (Yields i) = Unit {0}
 May c s (TakesBack i) = Unit {0}
 May c s (Passes k to) = ((folder s k).is_open ≡ true) × Holds (folder s k).site (folder s k).kept × (to ≢ (folder s k).site)
-May c s (Appends k x) = (c ≡ Server) × MayAppend s k x
-May c s (Reads k x) = (0 < (folder s k).life) × (sender x ≢ (folder s k).site) × IsOffered c s x
+May c s (Appends k x) = (c ≡ Server) × (0 < (folder s k).life) × Has x (folder s k).kept × MayStandNext s x
+May c s (Sends k x) = (c ≡ Server) × (0 < (folder s k).life) × Has x (folder s k).kept
+May c s (Arrives x) = (c ≡ Server) × Has x s.under_way × MayStandNext s x
+May c s (Reads k x) = (0 < (folder s k).life) × (sender x ≢ (folder s k).site) × IsOffered c s x × HasRoom s k x
 May c s (LosesEnd k n) = Unit {0}
-May c s (IsChanged k packets) = Unit {0}
 May c s (IsLost k) = Unit {0}
 May c s (IsCopied k j) = Unit {0}
+May c s (Finds k x) = ((folder s k).life ≡ 0) × ((h : Place) × Has x (there s h))
+May c s (Rebuilds k j) = MayRebuild s k j
 May c s (StreamLosesEnd i n) = Unit {0}
 May c s ServerLosesAll = Unit {0}
-May c s (Rebuilds k packets) = MayRebuild s k packets
 May c s (WritesAnew k) = (c ≡ Server) × MayWriteAnew s k
 
 -- ---- what it leads to
@@ -212,24 +178,38 @@ started f life = record (stopped f) { life = life }
 abbrev pub opened : Folder → Folder
 opened f = record f { is_open = true; remembered = true }
 
--- the shop where that folder opens
+-- packets of other sites
+abbrev pub of_others : ℕ → List ShopPacket → List ShopPacket
+of_others i packets = filter (λ x. not (sender x == i)) packets
+
+-- the shop where that folder opens: what others of its site sent, and hasn't arrived, arrives no more
 abbrev pub opening : ℕ → Shop → Shop
-opening k s = record s { folders = put_folder k (opened (folder s k)) (map (forgotten (folder s k).site) s.folders) }
+opening k s = record s {
+  folders = put_folder k (opened (folder s k)) (map (forgotten (folder s k).site) s.folders);
+  under_way = of_others (folder s k).site s.under_way;
+}
 
 -- the same, where it was compared with nothing
 abbrev pub opening_uncompared : ℕ → Shop → Shop
 opening_uncompared k s = record (opening k s) { uncompared = (folder s k).site ∷ s.uncompared }
 
+-- the shop where that folder takes asks though another one of its site may do that
+abbrev pub going_on : ℕ → Shop → Shop
+going_on k s = record (with_folder k (record (folder s k) { is_open = true }) s) { uncompared = (folder s k).site ∷ s.uncompared }
+
 -- what an event leads to
-abbrev pub after : Shop → Event → Shop
+abbrev pub after : Shop → ShopEvent → Shop
 after s (Starts k) = record (with_folder k (started (folder s k) (s.begun + 1)) s) { begun = s.begun + 1 }
 after s (Opens k) = opening k s
 after s (TakesOver k) = opening_uncompared k s
 after s (OpensAlone k) = opening_uncompared k s
 after s (Closes k) = with_folder k (closed (folder s k)) s
+after s (GoesOn k) = going_on k s
 after s (KeeperStarts k) = s
 after s (IsKilled k) = with_folder k (stopped (folder s k)) s
 after s (MachineStarts k) = with_folder k (unknown (folder s k)) s
+after s (Fills k) = record s { full = k ∷ s.full }
+after s (IsRaised k) = record s { full = without k s.full }
 after s (IsAsked r life n) = record s { requests = s.requests ++ record { life = life; records = n } ∷ [] }
 after s (Serves k r) = with_folder k (record (folder s k) { served = r ∷ (folder s k).served; waiting = r ∷ (folder s k).waiting }) s
 after s (Gives k r) = with_folder k (giving (folder s k) r (request s r).records) s
@@ -243,34 +223,38 @@ after s (Yields i) = record s { yielding = i ∷ s.yielding }
 after s (TakesBack i) = record s { yielding = without i s.yielding }
 after s (Passes k to) = record (with_folder k (keeping (folder s k) (next_pass (folder s k) to)) s) { turn = max (taken (folder s k).site (folder s k).kept + 1) s.turn }
 after s (Appends k x) = with_stream (sender x) (stream s (sender x) ++ x ∷ []) s
+after s (Sends k x) = record s { under_way = x ∷ s.under_way }
+after s (Arrives x) = with_stream (sender x) (stream s (sender x) ++ x ∷ []) s
 after s (Reads k x) = with_folder k (keeping (folder s k) x) s
 after s (LosesEnd k n) = with_folder k (replaced (folder s k) (take n (folder s k).kept)) s
-after s (IsChanged k packets) = with_folder k (replaced (folder s k) (unchanged (folder s k).kept packets)) s
 after s (IsLost k) = with_folder k (empty (folder s k).site) s
 after s (IsCopied k j) = with_folder j (unknown (folder s k)) s
+after s (Finds k x) = with_folder k (replaced (folder s k) ((folder s k).kept ++ x ∷ [])) s
+after s (Rebuilds k j) = with_folder k (replaced (folder s k) (folder s j).kept) s
 after s (StreamLosesEnd i n) = with_stream i (take n (stream s i)) s
 after s ServerLosesAll = record s { streams = [] }
-after s (Rebuilds k packets) = with_folder k (replaced (folder s k) packets) s
 after s (WritesAnew k) = with_stream (folder s k).site (own (folder s k).site (folder s k).kept) s
 
 -- ---- one event after the other
 
 -- what several events lead to, one after the other
-abbrev pub run : Shop → List Event → Shop
+abbrev pub run : Shop → List ShopEvent → Shop
 run s [] = s
 run s (e ∷ rest) = run (after s e) rest
 
 -- each of them may happen where it does
-abbrev pub AreSteps : Carrier → Shop → List Event → Type 0
+abbrev pub AreSteps : Carrier → Shop → List ShopEvent → Type 0
 AreSteps c s [] = Unit {0}
 AreSteps c s (e ∷ rest) = May c s e × AreSteps c (after s e) rest
 
 -- ---- what is lost
 
 -- the event takes packets from this place, or puts others there
-abbrev pub Harms : Event → Place → Type 0
+abbrev pub Harms : ShopEvent → Place → Type 0
+Harms (Opens k) h = h ≡ UnderWay
+Harms (TakesOver k) h = h ≡ UnderWay
+Harms (OpensAlone k) h = h ≡ UnderWay
 Harms (LosesEnd k n) h = h ≡ InFolder k
-Harms (IsChanged k packets) h = h ≡ InFolder k
 Harms (IsLost k) h = h ≡ InFolder k
 Harms (IsCopied k j) h = h ≡ InFolder j
 Harms (StreamLosesEnd i n) h = h ≡ InStream i
@@ -278,20 +262,20 @@ Harms ServerLosesAll (InStream i) = Unit {0}
 Harms e h = ⊥
 
 -- none of these events does
-abbrev pub IsWhole : Place → List Event → Type 0
+abbrev pub IsWhole : Place → List ShopEvent → Type 0
 IsWhole h [] = Unit {0}
 IsWhole h (e ∷ rest) = (Harms e h → ⊥) × IsWhole h rest
 
 -- ---- what goes on by itself
 
 -- a folder is started, and packets are carried
-abbrev pub Carries : Event → Type 0
+abbrev pub Carries : ShopEvent → Type 0
 Carries (Starts k) = Unit {0}
 Carries (Appends k x) = Unit {0}
 Carries (Reads k x) = Unit {0}
 Carries e = ⊥
 
 -- each of the events starts a folder or carries a packet
-abbrev pub AllCarry : List Event → Type 0
+abbrev pub AllCarry : List ShopEvent → Type 0
 AllCarry [] = Unit {0}
 AllCarry (e ∷ rest) = Carries e × AllCarry rest

@@ -6,15 +6,16 @@ use Rattle.rubis_carrier.specs.declared.values.Carrier.TheVariants.{Server}
 use Rattle.rubis_carrier.specs.declared.values.ShopPacket.{ShopPacket}
 use Rattle.rubis_carrier.specs.declared.values.ShopPacket.TheVariants.{Message, Pass}
 use Rattle.rubis_carrier.specs.Packets.{Holds, highest, name, sender}
-use Rattle.rubis_carrier.specs.Shops.{Folder, Place, Shop, asks, folder, request, start, stream, there}
-use Rattle.rubis_carrier.specs.Shops.Place.{InFolder, InStream}
+use Rattle.rubis_carrier.specs.Shops.{Folder, IsSeen, Place, Shop, asks, folder, request, start, stream, there}
+use Rattle.rubis_carrier.specs.Shops.Place.{InFolder, InStream, UnderWay}
 use Rattle.rubis_carrier.specs.declared.values.Notice.TheVariants.{No, Ok}
-use Rattle.rubis_carrier.specs.Events.{AllCarry, AreSteps, Event, IsWhole, May, after, run}
-use Rattle.rubis_carrier.specs.Events.Event.{Accepts, Opens, Refuses, TellsOk, TellsPublished}
+use Rattle.rubis_carrier.specs.Events.{AllCarry, AreSteps, IsWhole, May, after, run}
+use Rattle.rubis_carrier.specs.declared.values.ShopEvent.{ShopEvent}
+use Rattle.rubis_carrier.specs.declared.values.ShopEvent.TheVariants.{Accepts, Opens, Refuses, TellsOk, TellsPublished}
 
 -- the claim holds of a shop after any events, over files and over a server
 abbrev pub EveryShop : (Shop → Type 0) → Type 0
-EveryShop claim = (c : Carrier) (events : List Event) → AreSteps c start events → claim (run start events)
+EveryShop claim = (c : Carrier) (events : List ShopEvent) → AreSteps c start events → claim (run start events)
 
 -- two packets of one name, wherever they are at that moment, are the same one, but of a site of which a folder was opened uncompared
 abbrev pub AreGivenOnce : Shop → Type 0
@@ -25,7 +26,7 @@ IdsAreGivenOnce = EveryShop AreGivenOnce
 
 -- so a name was given to another packet only where nothing is left that had the first
 abbrev pub GivenAgainOnlyWhereLost : Type 0
-GivenAgainOnlyWhereLost = (c : Carrier) (before later : List Event) → AreSteps c start (before ++ later) → (h g : Place) (x y : ShopPacket)
+GivenAgainOnlyWhereLost = (c : Carrier) (before later : List ShopEvent) → AreSteps c start (before ++ later) → (h g : Place) (x y : ShopPacket)
     → Has x (there (run start before) h) → Has y (there (run start (before ++ later)) g) → name x ≡ name y → x ≢ y
     → ¬ (Has (sender x) (run start (before ++ later)).uncompared) → (f : Place) → ¬ (Has x (there (run start (before ++ later)) f))
 
@@ -33,35 +34,37 @@ GivenAgainOnlyWhereLost = (c : Carrier) (before later : List Event) → AreSteps
 
 -- the folder comes to have the packet, by folders that are started and packets that are carried alone
 abbrev pub CanHave : Carrier → Shop → ℕ → ShopPacket → Type 0
-CanHave c s k x = (more : List Event) × AllCarry more × AreSteps c s more × Has x (folder (run s more) k).kept
+CanHave c s k x = (more : List ShopEvent) × AllCarry more × AreSteps c s more × Has x (folder (run s more) k).kept
 
 -- a folder of site i; or, over a server, its stream
 abbrev pub IsOf : Carrier → Shop → ℕ → Place → Type 0
 IsOf c s i (InFolder k) = (folder s k).site ≡ i
 IsOf c s i (InStream j) = (j ≡ i) × (c ≡ Server)
+IsOf c s i UnderWay = ⊥
 
 -- from a folder a server's stream takes messages at their places alone, if a folder of the site was opened uncompared
 abbrev pub IsAppended : Carrier → Shop → ℕ → Place → Type 0
 IsAppended c s i (InFolder k) = c ≡ Server → ¬ (Has i s.uncompared)
 IsAppended c s i (InStream j) = Unit {0}
+IsAppended c s i UnderWay = ⊥
 
 -- a message that stood in a place that is whole since stands there still; and if the place is one of its site's, each folder of another
--- site comes to have it
+-- site comes to have it, unless that is full
 abbrev pub NothingAcceptedIsLost : Type 0
-NothingAcceptedIsLost = (c : Carrier) (before later : List Event) → AreSteps c start (before ++ later) → (r i n : ℕ) (h : Place)
+NothingAcceptedIsLost = (c : Carrier) (before later : List ShopEvent) → AreSteps c start (before ++ later) → (r i n : ℕ) (h : Place)
     → Has (Message i n r) (there (run start before) h) → IsWhole h later
     → let s = run start (before ++ later) in
-    Has (Message i n r) (there s h) × (IsOf c s i h → IsAppended c s i h → (k : ℕ) → (folder s k).site ≢ i → CanHave c s k (Message i n r))
+    Has (Message i n r) (there s h) × (IsOf c s i h → IsAppended c s i h → (k : ℕ) → (folder s k).site ≢ i → ¬ (Has k s.full) → CanHave c s k (Message i n r))
 
 -- where it is told, it stands in the folder
 abbrev pub ToldOkIsKept : Type 0
-ToldOkIsKept = (c : Carrier) (before : List Event) (k r n : ℕ) → AreSteps c start (before ++ TellsOk k r n ∷ [])
+ToldOkIsKept = (c : Carrier) (before : List ShopEvent) (k r n : ℕ) → AreSteps c start (before ++ TellsOk k r n ∷ [])
     → let s = run start (before ++ TellsOk k r n ∷ []) in
     Has (Ok r (folder s k).site n) s.told × Has (Message (folder s k).site n r) (folder s k).kept
 
 -- with `--published`, it stands in the stream
 abbrev pub PublishedIsInStream : Type 0
-PublishedIsInStream = (c : Carrier) (before : List Event) (k r n : ℕ) → AreSteps c start (before ++ TellsPublished k r n ∷ [])
+PublishedIsInStream = (c : Carrier) (before : List ShopEvent) (k r n : ℕ) → AreSteps c start (before ++ TellsPublished k r n ∷ [])
     → let s = run start (before ++ TellsPublished k r n ∷ []) in
     Has (Ok r (folder s k).site n) s.told × Has (Message (folder s k).site n r) (stream s (folder s k).site)
 
@@ -69,12 +72,12 @@ PublishedIsInStream = (c : Carrier) (before : List Event) (k r n : ℕ) → AreS
 
 -- the site of that folder comes to hold the token, by folders that are started and packets that are carried alone
 abbrev pub CanHold : Carrier → Shop → ℕ → Type 0
-CanHold c s k = (more : List Event) × AllCarry more × AreSteps c s more × Holds (folder (run s more) k).site (folder (run s more) k).kept
+CanHold c s k = (more : List ShopEvent) × AllCarry more × AreSteps c s more × Holds (folder (run s more) k).site (folder (run s more) k).kept
 
 -- the pass of the greatest turn that there ever was, of site i to site j, stands where it did: in a folder of site i that is whole, or
 -- in its stream. Then site j holds the token, or reads that pass and holds it
 abbrev pub TheTokenComesBack : Type 0
-TheTokenComesBack = (c : Carrier) (before later : List Event) → AreSteps c start (before ++ later) → (i t j a : ℕ) (h : Place)
+TheTokenComesBack = (c : Carrier) (before later : List ShopEvent) → AreSteps c start (before ++ later) → (i t j a : ℕ) (h : Place)
     → Has (Pass i t j a) (there (run start before) h) → IsWhole h later
     → let s = run start (before ++ later) in
     t ≡ s.turn → IsOf c s i h → (k : ℕ) → (folder s k).site ≡ j → CanHold c s k
@@ -91,7 +94,7 @@ IsUnmade s r = (h : Place) (i n : ℕ) → ¬ (Has (Message i n r) (there s h))
 
 -- an ask that was refused, or of which nothing was given to a site, is never made a message of
 abbrev pub WhatIsToldIsTrue : Type 0
-WhatIsToldIsTrue = (c : Carrier) (before later : List Event) → AreSteps c start (before ++ later) → (r : ℕ) → Has (No r) (run start before).told
+WhatIsToldIsTrue = (c : Carrier) (before later : List ShopEvent) → AreSteps c start (before ++ later) → (r : ℕ) → Has (No r) (run start before).told
     → IsUnmade (run start (before ++ later)) r
 
 -- nobody is told of one ask both that it was accepted and that it wasn't
@@ -111,12 +114,12 @@ pub record IsOver (s : Shop) (r : ℕ) : Type 0 where
 
 -- then, if there is no message of it, there never is
 abbrev pub WhatIsOverStays : Type 0
-WhatIsOverStays = (c : Carrier) (before later : List Event) → AreSteps c start (before ++ later) → (r : ℕ) → IsOver (run start before) r
+WhatIsOverStays = (c : Carrier) (before later : List ShopEvent) → AreSteps c start (before ++ later) → (r : ℕ) → IsOver (run start before) r
     → IsUnmade (run start before) r → IsUnmade (run start (before ++ later)) r
 
 -- as long as an ask that was given to a site has no answer, none that was given after it gets one
 abbrev pub AnswersComeInOrder : Type 0
-AnswersComeInOrder = (c : Carrier) (events : List Event) → AreSteps c start events → let s = run start events in
+AnswersComeInOrder = (c : Carrier) (events : List ShopEvent) → AreSteps c start events → let s = run start events in
     (k r q : ℕ) (a b d : List ℕ) → (folder s k).given ≡ a ++ r ∷ (b ++ q ∷ d) → ¬ (May c s (Accepts k q)) × ¬ (May c s (Refuses k q))
 
 -- ---- how weak the rule is
@@ -131,7 +134,7 @@ pub record IsFresh (f : Folder) : Type 0 where
 -- the rule asks for no more than it has to: where any place has a message of the folder's site under a greater number, and the site
 -- takes asks all the same, allowed steps lead to two messages under one number
 abbrev pub ComparingIsNeeded : Type 0
-ComparingIsNeeded = (c : Carrier) (events : List Event) → AreSteps c start events → let s = run start events in
-    (k : ℕ) → IsFresh (folder s k) → (h : Place) (n r : ℕ) → Has (Message (folder s k).site n r) (there s h)
+ComparingIsNeeded = (c : Carrier) (events : List ShopEvent) → AreSteps c start events → let s = run start events in
+    (k : ℕ) → IsFresh (folder s k) → ¬ (Has k s.full) → (h : Place) (n r : ℕ) → IsSeen h → Has (Message (folder s k).site n r) (there s h)
     → highest (folder s k).site (folder s k).kept < n → ¬ (Has (folder s k).site s.uncompared)
-    → (more : List Event) × AreSteps c (after s (Opens k)) more × ¬ (AreGivenOnce (run (after s (Opens k)) more))
+    → (more : List ShopEvent) × AreSteps c (after s (Opens k)) more × ¬ (AreGivenOnce (run (after s (Opens k)) more))

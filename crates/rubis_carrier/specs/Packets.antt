@@ -25,12 +25,6 @@ same_packet (Pass i t j a) (Pass k u l b) = (i == k) && (t == u) && (j == l) && 
 same_packet (Message i n r) (Pass k u l b) = false
 same_packet (Pass i t j a) (Message k m q) = false
 
--- the packets in front of the first that is another one
-abbrev pub unchanged : List ShopPacket → List ShopPacket → List ShopPacket
-unchanged [] ys = []
-unchanged (x ∷ xs) [] = []
-unchanged (x ∷ xs) (y ∷ ys) = cond (same_packet x y) (x ∷ unchanged xs ys) []
-
 -- ---- what a list of packets says of a site
 
 -- what the site sent

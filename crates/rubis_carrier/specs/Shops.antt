@@ -29,8 +29,9 @@ abbrev pub empty : ℕ → Folder
 empty i = record { site = i; kept = []; life = 0; is_open = false; remembered = false; served = []; waiting = []; given = []; lines = []; answered = [] }
 
 -- The folders, by number, and the streams, by site: those that aren't listed have nothing. How many lives were begun; the asks that were
--- asked, from number 1 on; the sites that yield to a standby; those of which a folder was ever opened that was compared with nothing;
--- all that askers were told; and the greatest turn of the token that was passed
+-- asked, from number 1 on; the sites that yield to a standby; those of which a folder was ever opened that was compared with nothing, or
+-- took asks on though another one was opened; the folders whose sites are full; the packets whose appends are under way; all that askers
+-- were told; and the greatest turn of the token that was passed
 pub record Shop : Type 0 where
   pub folders : List Folder
   pub streams : List (List ShopPacket)
@@ -38,12 +39,25 @@ pub record Shop : Type 0 where
   pub requests : List ShopRequest
   pub yielding : List ℕ
   pub uncompared : List ℕ
+  pub full : List ℕ
+  pub under_way : List ShopPacket
   pub told : List Notice
   pub turn : ℕ
 
 -- nothing has happened
 abbrev pub start : Shop
-start = record { folders = []; streams = []; begun = 0; requests = []; yielding = []; uncompared = []; told = []; turn = 0 }
+start = record {
+  folders = [];
+  streams = [];
+  begun = 0;
+  requests = [];
+  yielding = [];
+  uncompared = [];
+  full = [];
+  under_way = [];
+  told = [];
+  turn = 0;
+}
 
 -- ---- by number
 
@@ -96,11 +110,19 @@ with_stream i xs s = record s { streams = put_stream i xs s.streams }
 pub data Place : Type 0 where
   InFolder : (folder : ℕ) → Place
   InStream : (site : ℕ) → Place
+  UnderWay : Place
 
 -- the packets that stand at a place
 abbrev pub there : Shop → Place → List ShopPacket
 there s (InFolder k) = (folder s k).kept
 there s (InStream i) = stream s i
+there s UnderWay = s.under_way
+
+-- what is under way nobody can see
+abbrev pub IsSeen : Place → Type 0
+IsSeen (InFolder k) = Unit {0}
+IsSeen (InStream i) = Unit {0}
+IsSeen UnderWay = ⊥
 
 -- ---- may a site take asks?
 
@@ -110,7 +132,7 @@ IsNotAhead s k h = (x : ShopPacket) → Has x (there s h) → sender x ≡ (fold
 
 -- it was compared with everything that there is: all streams, all folders of other sites, and all copies
 abbrev pub IsCompared : Shop → ℕ → Type 0
-IsCompared s k = (h : Place) → IsNotAhead s k h
+IsCompared s k = (h : Place) → IsSeen h → IsNotAhead s k h
 
 -- no other folder of its site takes asks
 abbrev pub IsAlone : Shop → ℕ → Type 0

@@ -1,62 +1,58 @@
 -- A step of a shop as it stands on a line.
-use Rattle.std.specs.Prelude.{ℕ, ◌++◌, List, [], ◌∷◌, codes, decimal}
+use Rattle.std.specs.Prelude.{◌≡◌, ℕ, ◌++◌, List, [], ◌∷◌, codes, decimal}
+use Rattle.rubis_carrier.specs.declared.values.ShopEvent.{ShopEvent}
+use Rattle.rubis_carrier.specs.declared.values.ShopEvent.TheVariants as on
 use Rattle.rubis_carrier.specs.declared.values.ShopPacket.{ShopPacket}
 use Rattle.rubis_carrier.specs.declared.values.ShopPacket.TheVariants as packet
-use Rattle.rubis_steps.specs.declared.events.FolderEvent.{FolderEvent}
-use Rattle.rubis_steps.specs.declared.events.FolderEvent.TheVariants as at
-use Rattle.rubis_steps.specs.declared.events.ShopEvent.{ShopEvent}
-use Rattle.rubis_steps.specs.declared.events.ShopEvent.TheVariants as event
 
--- a number behind a mark
-abbrev pub colon : ℕ → List ℕ
-colon n = codes ":" ++ decimal n
+-- the numbers of a packet
+abbrev pub packet_numbers : ShopPacket → List ℕ
+packet_numbers (packet.Message i n r) = i ∷ n ∷ r ∷ []
+packet_numbers (packet.Pass i t j a) = i ∷ t ∷ j ∷ a ∷ []
 
--- a number after a comma
-abbrev pub comma : ℕ → List ℕ
-comma n = codes "," ++ decimal n
+-- the kind of an event, and its numbers in the order in which it has them
+abbrev pub Says : ShopEvent → List ℕ → List ℕ → Type 0
+Says (on.Starts k) kind numbers = (kind ≡ codes "Starts") × (numbers ≡ k ∷ [])
+Says (on.Opens k) kind numbers = (kind ≡ codes "Opens") × (numbers ≡ k ∷ [])
+Says (on.TakesOver k) kind numbers = (kind ≡ codes "TakesOver") × (numbers ≡ k ∷ [])
+Says (on.OpensAlone k) kind numbers = (kind ≡ codes "OpensAlone") × (numbers ≡ k ∷ [])
+Says (on.Closes k) kind numbers = (kind ≡ codes "Closes") × (numbers ≡ k ∷ [])
+Says (on.GoesOn k) kind numbers = (kind ≡ codes "GoesOn") × (numbers ≡ k ∷ [])
+Says (on.KeeperStarts k) kind numbers = (kind ≡ codes "KeeperStarts") × (numbers ≡ k ∷ [])
+Says (on.IsKilled k) kind numbers = (kind ≡ codes "IsKilled") × (numbers ≡ k ∷ [])
+Says (on.MachineStarts k) kind numbers = (kind ≡ codes "MachineStarts") × (numbers ≡ k ∷ [])
+Says (on.Fills k) kind numbers = (kind ≡ codes "Fills") × (numbers ≡ k ∷ [])
+Says (on.IsRaised k) kind numbers = (kind ≡ codes "IsRaised") × (numbers ≡ k ∷ [])
+Says (on.IsAsked r l n) kind numbers = (kind ≡ codes "IsAsked") × (numbers ≡ r ∷ l ∷ n ∷ [])
+Says (on.Serves k r) kind numbers = (kind ≡ codes "Serves") × (numbers ≡ k ∷ r ∷ [])
+Says (on.Gives k r) kind numbers = (kind ≡ codes "Gives") × (numbers ≡ k ∷ r ∷ [])
+Says (on.Accepts k r) kind numbers = (kind ≡ codes "Accepts") × (numbers ≡ k ∷ r ∷ [])
+Says (on.Refuses k r) kind numbers = (kind ≡ codes "Refuses") × (numbers ≡ k ∷ r ∷ [])
+Says (on.TellsOk k r n) kind numbers = (kind ≡ codes "TellsOk") × (numbers ≡ k ∷ r ∷ n ∷ [])
+Says (on.TellsPublished k r n) kind numbers = (kind ≡ codes "TellsPublished") × (numbers ≡ k ∷ r ∷ n ∷ [])
+Says (on.TellsNothing k r) kind numbers = (kind ≡ codes "TellsNothing") × (numbers ≡ k ∷ r ∷ [])
+Says (on.TellsUnknown k r) kind numbers = (kind ≡ codes "TellsUnknown") × (numbers ≡ k ∷ r ∷ [])
+Says (on.Yields i) kind numbers = (kind ≡ codes "Yields") × (numbers ≡ i ∷ [])
+Says (on.TakesBack i) kind numbers = (kind ≡ codes "TakesBack") × (numbers ≡ i ∷ [])
+Says (on.Passes k j) kind numbers = (kind ≡ codes "Passes") × (numbers ≡ k ∷ j ∷ [])
+Says (on.Appends k x) kind numbers = (kind ≡ codes "Appends") × (numbers ≡ k ∷ packet_numbers x)
+Says (on.Sends k x) kind numbers = (kind ≡ codes "Sends") × (numbers ≡ k ∷ packet_numbers x)
+Says (on.Arrives x) kind numbers = (kind ≡ codes "Arrives") × (numbers ≡ packet_numbers x)
+Says (on.Reads k x) kind numbers = (kind ≡ codes "Reads") × (numbers ≡ k ∷ packet_numbers x)
+Says (on.LosesEnd k n) kind numbers = (kind ≡ codes "LosesEnd") × (numbers ≡ k ∷ n ∷ [])
+Says (on.IsLost k) kind numbers = (kind ≡ codes "IsLost") × (numbers ≡ k ∷ [])
+Says (on.IsCopied k j) kind numbers = (kind ≡ codes "IsCopied") × (numbers ≡ k ∷ j ∷ [])
+Says (on.Finds k x) kind numbers = (kind ≡ codes "Finds") × (numbers ≡ k ∷ packet_numbers x)
+Says (on.Rebuilds k j) kind numbers = (kind ≡ codes "Rebuilds") × (numbers ≡ k ∷ j ∷ [])
+Says (on.StreamLosesEnd i n) kind numbers = (kind ≡ codes "StreamLosesEnd") × (numbers ≡ i ∷ n ∷ [])
+Says on.ServerLosesAll kind numbers = (kind ≡ codes "ServerLosesAll") × (numbers ≡ [])
+Says (on.WritesAnew k) kind numbers = (kind ≡ codes "WritesAnew") × (numbers ≡ k ∷ [])
 
--- a packet behind a comma
-abbrev pub packet_text : ShopPacket → List ℕ
-packet_text (packet.Message site number ask) = codes ",m" ++ colon site ++ colon number ++ colon ask
-packet_text (packet.Pass site turn to after) = codes ",p" ++ colon site ++ colon turn ++ colon to ++ colon after
+-- each behind a comma
+abbrev pub commas : List ℕ → List ℕ
+commas [] = []
+commas (n ∷ numbers) = codes "," ++ decimal n ++ commas numbers
 
--- several packets, each after a comma
-abbrev pub packets_text : List ShopPacket → List ℕ
-packets_text [] = []
-packets_text (x ∷ xs) = packet_text x ++ packets_text xs
-
--- the kind, and then the numbers and packets in the order of the model's event
-abbrev pub at_text : ℕ → FolderEvent → List ℕ
-at_text k at.Starts = codes "Starts" ++ comma k
-at_text k at.Opens = codes "Opens" ++ comma k
-at_text k at.TakesOver = codes "TakesOver" ++ comma k
-at_text k at.OpensAlone = codes "OpensAlone" ++ comma k
-at_text k at.Closes = codes "Closes" ++ comma k
-at_text k at.KeeperStarts = codes "KeeperStarts" ++ comma k
-at_text k at.IsKilled = codes "IsKilled" ++ comma k
-at_text k at.MachineStarts = codes "MachineStarts" ++ comma k
-at_text k (at.Serves r) = codes "Serves" ++ comma k ++ comma r
-at_text k (at.Gives r) = codes "Gives" ++ comma k ++ comma r
-at_text k (at.Accepts r) = codes "Accepts" ++ comma k ++ comma r
-at_text k (at.Refuses r) = codes "Refuses" ++ comma k ++ comma r
-at_text k (at.TellsOk r n) = codes "TellsOk" ++ comma k ++ comma r ++ comma n
-at_text k (at.TellsPublished r n) = codes "TellsPublished" ++ comma k ++ comma r ++ comma n
-at_text k (at.TellsNothing r) = codes "TellsNothing" ++ comma k ++ comma r
-at_text k (at.TellsUnknown r) = codes "TellsUnknown" ++ comma k ++ comma r
-at_text k (at.Passes to) = codes "Passes" ++ comma k ++ comma to
-at_text k (at.Appends x) = codes "Appends" ++ comma k ++ packet_text x
-at_text k (at.Reads x) = codes "Reads" ++ comma k ++ packet_text x
-at_text k (at.LosesEnd n) = codes "LosesEnd" ++ comma k ++ comma n
-at_text k (at.IsChanged packets) = codes "IsChanged" ++ comma k ++ packets_text packets.items
-at_text k at.IsLost = codes "IsLost" ++ comma k
-at_text k (at.IsCopied j) = codes "IsCopied" ++ comma k ++ comma j
-at_text k (at.Rebuilds packets) = codes "Rebuilds" ++ comma k ++ packets_text packets.items
-at_text k at.WritesAnew = codes "WritesAnew" ++ comma k
-
-abbrev pub step_text : ShopEvent → List ℕ
-step_text (event.At k what) = at_text k what
-step_text (event.IsAsked r life n) = codes "IsAsked" ++ comma r ++ comma life ++ comma n
-step_text (event.Yields i) = codes "Yields" ++ comma i
-step_text (event.TakesBack i) = codes "TakesBack" ++ comma i
-step_text (event.StreamLosesEnd i n) = codes "StreamLosesEnd" ++ comma i ++ comma n
-step_text event.ServerLosesAll = codes "ServerLosesAll"
+-- the line has that kind, and then those numbers
+abbrev pub IsWritten : ShopEvent → List ℕ → Type 0
+IsWritten e line = (kind : List ℕ) × (numbers : List ℕ) × Says e kind numbers × (line ≡ kind ++ commas numbers)

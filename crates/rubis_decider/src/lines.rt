@@ -1,143 +1,97 @@
-//! Steps of shops, read from lines.
+//! Steps of shops, read from lines: the kind, then numbers, each behind a comma. A packet is its numbers: three are a message, four a pass.
 
-ghost use Rattle.std.specs.Prelude.{◌≡◌, IfOk, IfSome};
-ghost use Rattle.rubis_decider.specs.Written.{step_text};
+ghost use Rattle.std.specs.Prelude.{◌≡◌, ◌++◌, IfOk, IfSome, string_bytes};
+ghost use Rattle.rubis_decider.specs.Written.{IsWritten, Says, commas, packet_numbers};
 
-use crate::written::is_text_of;
-use rubis_carrier::ShopPacket;
-use rubis_steps::{FolderEvent, ShopEvent};
+use rubis_carrier::{ShopEvent as Event, ShopPacket};
 use std::alloc::{AllocError, Global};
 
-fn packet_of(kind: &str, numbers: &[u64]) -> Option<ShopPacket> {
-    match (kind, numbers) {
-        ("m", [site, number, ask]) => Some(ShopPacket::Message {
-            site: *site,
-            number: *number,
-            ask: *ask,
-        }),
-        ("p", [site, turn, to, after]) => Some(ShopPacket::Pass {
-            site: *site,
-            turn: *turn,
-            to: *to,
-            after: *after,
-        }),
+fn packet_of(numbers: &[u64]) -> Option<ShopPacket>
+    ensures { IfSome result (λ x. packet_numbers x ≡ numbers.now) }
+{
+    match *numbers {
+        [site, number, ask] => Some(ShopPacket::Message(site, number, ask)),
+        [site, turn, to, after] => Some(ShopPacket::Pass(site, turn, to, after)),
         _ => None,
     }
 }
 
-// The packet that a word is.
-fn read_packet(alloc: Global, word: &str) -> Result<Option<ShopPacket>, AllocError> {
-    let mut numbers = Vec::new(alloc);
-    let mut kind = "";
-    for part in word.split(':') {
-        match part.parse::<u64>() {
-            Ok(number) => numbers.push(number)?,
-            Err(_) => kind = part,
-        }
-    }
-    Ok(packet_of(kind, &numbers))
+fn event_of(kind: &str, numbers: &[u64]) -> Option<Event>
+    ensures { IfSome result (λ e. Says e kind.now numbers.now) }
+{
+    let event = match (kind, numbers) {
+        ("Starts", [k]) => Event::Starts(*k),
+        ("Opens", [k]) => Event::Opens(*k),
+        ("TakesOver", [k]) => Event::TakesOver(*k),
+        ("OpensAlone", [k]) => Event::OpensAlone(*k),
+        ("Closes", [k]) => Event::Closes(*k),
+        ("GoesOn", [k]) => Event::GoesOn(*k),
+        ("KeeperStarts", [k]) => Event::KeeperStarts(*k),
+        ("IsKilled", [k]) => Event::IsKilled(*k),
+        ("MachineStarts", [k]) => Event::MachineStarts(*k),
+        ("Fills", [k]) => Event::Fills(*k),
+        ("IsRaised", [k]) => Event::IsRaised(*k),
+        ("IsAsked", [ask, life, records]) => Event::IsAsked(*ask, *life, *records),
+        ("Serves", [k, ask]) => Event::Serves(*k, *ask),
+        ("Gives", [k, ask]) => Event::Gives(*k, *ask),
+        ("Accepts", [k, ask]) => Event::Accepts(*k, *ask),
+        ("Refuses", [k, ask]) => Event::Refuses(*k, *ask),
+        ("TellsOk", [k, ask, number]) => Event::TellsOk(*k, *ask, *number),
+        ("TellsPublished", [k, ask, number]) => Event::TellsPublished(*k, *ask, *number),
+        _ => return other_event_of(kind, numbers),
+    };
+    Some(event)
 }
 
-// What happens at a folder, and has no number of its own.
-fn plain_event(kind: &str) -> Option<FolderEvent> {
-    match kind {
-        "Starts" => Some(FolderEvent::Starts),
-        "Opens" => Some(FolderEvent::Opens),
-        "TakesOver" => Some(FolderEvent::TakesOver),
-        "OpensAlone" => Some(FolderEvent::OpensAlone),
-        "Closes" => Some(FolderEvent::Closes),
-        "KeeperStarts" => Some(FolderEvent::KeeperStarts),
-        "IsKilled" => Some(FolderEvent::IsKilled),
-        "MachineStarts" => Some(FolderEvent::MachineStarts),
-        "IsLost" => Some(FolderEvent::IsLost),
-        "WritesAnew" => Some(FolderEvent::WritesAnew),
-        _ => None,
-    }
+fn other_event_of(kind: &str, numbers: &[u64]) -> Option<Event>
+    ensures { IfSome result (λ e. Says e kind.now numbers.now) }
+{
+    let event = match (kind, numbers) {
+        ("TellsNothing", [k, ask]) => Event::TellsNothing(*k, *ask),
+        ("TellsUnknown", [k, ask]) => Event::TellsUnknown(*k, *ask),
+        ("Yields", [site]) => Event::Yields(*site),
+        ("TakesBack", [site]) => Event::TakesBack(*site),
+        ("Passes", [k, to]) => Event::Passes(*k, *to),
+        ("Appends", [k, packet @ ..]) => Event::Appends(*k, packet_of(packet)?),
+        ("Sends", [k, packet @ ..]) => Event::Sends(*k, packet_of(packet)?),
+        ("Arrives", numbers) => Event::Arrives(packet_of(numbers)?),
+        ("Reads", [k, packet @ ..]) => Event::Reads(*k, packet_of(packet)?),
+        ("LosesEnd", [k, count]) => Event::LosesEnd(*k, *count),
+        ("IsLost", [k]) => Event::IsLost(*k),
+        ("IsCopied", [k, other]) => Event::IsCopied(*k, *other),
+        ("Finds", [k, packet @ ..]) => Event::Finds(*k, packet_of(packet)?),
+        ("Rebuilds", [k, made]) => Event::Rebuilds(*k, *made),
+        ("StreamLosesEnd", [site, count]) => Event::StreamLosesEnd(*site, *count),
+        ("ServerLosesAll", []) => Event::ServerLosesAll,
+        ("WritesAnew", [k]) => Event::WritesAnew(*k),
+        _ => return None,
+    };
+    Some(event)
 }
 
-// What has a number.
-fn event_with(kind: &str, number: u64) -> Option<FolderEvent> {
-    match kind {
-        "Serves" => Some(FolderEvent::Serves(number)),
-        "Gives" => Some(FolderEvent::Gives(number)),
-        "Accepts" => Some(FolderEvent::Accepts(number)),
-        "Refuses" => Some(FolderEvent::Refuses(number)),
-        "TellsNothing" => Some(FolderEvent::TellsNothing(number)),
-        "TellsUnknown" => Some(FolderEvent::TellsUnknown(number)),
-        "Passes" => Some(FolderEvent::Passes(number)),
-        "LosesEnd" => Some(FolderEvent::LosesEnd(number)),
-        "IsCopied" => Some(FolderEvent::IsCopied(number)),
-        _ => None,
+fn text_of(alloc: Global, kind: &str, numbers: &[u64]) -> Result<String, AllocError>
+    ensures { IfOk result (λ text. string_bytes text ≡ kind.now ++ commas numbers.now) }
+{
+    let mut text = String::from_str(alloc, kind)?;
+    for number in numbers {
+        write!(text, ",{number}")?;
     }
-}
-
-// What has packets.
-fn event_of_packets(kind: &str, packets: Vec<ShopPacket>) -> Option<FolderEvent> {
-    match (kind, packets.as_slice()) {
-        ("Appends", [packet]) => Some(FolderEvent::Appends(*packet)),
-        ("Reads", [packet]) => Some(FolderEvent::Reads(*packet)),
-        ("IsChanged", _) => Some(FolderEvent::IsChanged(packets)),
-        ("Rebuilds", _) => Some(FolderEvent::Rebuilds(packets)),
-        _ => None,
-    }
-}
-
-fn event_at(kind: &str, numbers: &[u64], packets: Vec<ShopPacket>) -> Option<FolderEvent> {
-    match (kind, numbers) {
-        ("Appends" | "Reads" | "IsChanged" | "Rebuilds", []) => event_of_packets(kind, packets),
-        ("TellsOk", [ask, number]) => Some(FolderEvent::TellsOk(*ask, *number)),
-        ("TellsPublished", [ask, number]) => Some(FolderEvent::TellsPublished(*ask, *number)),
-        (_, [number]) => event_with(kind, *number),
-        (_, []) => plain_event(kind),
-        _ => None,
-    }
-}
-
-fn event_of(kind: &str, numbers: &[u64], packets: Vec<ShopPacket>) -> Option<ShopEvent> {
-    match (kind, numbers) {
-        ("ServerLosesAll", []) => Some(ShopEvent::ServerLosesAll),
-        ("Yields", [site]) => Some(ShopEvent::Yields(*site)),
-        ("TakesBack", [site]) => Some(ShopEvent::TakesBack(*site)),
-        ("StreamLosesEnd", [site, count]) => Some(ShopEvent::StreamLosesEnd(*site, *count)),
-        ("IsAsked", [ask, life, records]) => Some(ShopEvent::IsAsked(*ask, *life, *records)),
-        (_, [folder, rest @ ..]) => match event_at(kind, rest, packets) {
-            Some(what) => Some(ShopEvent::At(*folder, what)),
-            None => None,
-        },
-        _ => None,
-    }
-}
-
-// The event that the words of a line name, if they name one.
-fn event_in(alloc: Global, line: &str) -> Result<Option<ShopEvent>, AllocError> {
-    let mut numbers = Vec::new(alloc);
-    let mut packets = Vec::new(alloc);
-    let mut kind = "";
-    for word in line.split(',') {
-        if let Ok(number) = word.parse::<u64>() {
-            numbers.push(number)?;
-        } else if let Some(packet) = read_packet(alloc, word)? {
-            packets.push(packet)?;
-        } else {
-            kind = word;
-        }
-    }
-    Ok(event_of(kind, &numbers, packets))
+    Ok(text)
 }
 
 /// The event that a line is: it is written so, and not otherwise. None where the line isn't one of those that this reads.
-pub(crate) fn read_event(alloc: Global, line: &str) -> Result<Option<ShopEvent>, AllocError>
-    ensures { IfOk result (λ found. IfSome found (λ event. step_text event ≡ line.now)) }
+pub(crate) fn read_event(alloc: Global, line: &str) -> Result<Option<Event>, AllocError>
+    ensures { IfOk result (λ found. IfSome found (λ event. IsWritten event line.now)) }
 {
-    let found = event_in(alloc, line)?;
-    match found {
-        Some(event) => {
-            if is_text_of(alloc, line, &event)? {
-                Ok(Some(event))
-            } else {
-                Ok(None)
-            }
-        }
-        None => Ok(None),
+    let mut words = line.split(',');
+    let kind = words.next().unwrap_or("");
+    let mut numbers = Vec::new(alloc);
+    for word in words {
+        numbers.push(word.parse::<u64>().unwrap_or(0))?;
     }
+    let text = text_of(alloc, kind, &numbers)?;
+    if text.as_bytes() != line.as_bytes() {
+        return Ok(None);
+    }
+    Ok(event_of(kind, &numbers))
 }

@@ -3,17 +3,19 @@
 #![tactic(auto)]
 
 mod lines;
-mod written;
 
 use anyhow::{Result, bail};
 use lines::read_event;
-use rubis_carrier::Carrier;
-use rubis_steps::{ShopEvent, decide};
+use rubis_carrier::{Carrier, ShopEvent as Event};
+use rubis_steps::decide;
 use std::alloc::Global;
 use std::io::{BufRead, BufReader};
 
-// Says what a list is.
-fn tell(rt: &impl Print, alloc: Global, carrier: Carrier, events: &[ShopEvent]) -> Result<()> {
+// Says what a list is, if it is one.
+fn tell(rt: &impl Print, alloc: Global, carrier: Option<Carrier>, events: &[Event]) -> Result<()> {
+    let Some(carrier) = carrier else {
+        return Ok(());
+    };
     match decide(alloc, carrier, events)? {
         None => println!(rt; "run")?,
         Some(at) => println!(rt; "{}", at as u64 + 1)?,
@@ -29,44 +31,21 @@ fn carrier_of(line: &str) -> Option<Carrier> {
     }
 }
 
-// A list that is being read.
-#[derive(Drop)]
-struct Run {
-    carrier: Carrier,
-    events: Vec<ShopEvent>,
-}
-
-impl Run {
-    fn read(&mut self, alloc: Global, line: &str) -> Result<()> {
-        match read_event(alloc, line)? {
-            Some(event) => self.events.push(event)?,
-            None => bail!("{line} is no step"),
-        }
-        Ok(())
-    }
-}
-
 fn main(rt: HostRuntime) -> Result<()> {
     let alloc = rt.alloc();
-    let mut run: Option<Run> = None;
+    let (mut carrier, mut events) = (None, Vec::new(alloc));
     for line in BufReader::new(alloc, rt.reader())?.lines(alloc) {
         let line = line?;
-        if let Some(carrier) = carrier_of(&line) {
-            if let Some(before) = run {
-                tell(&rt, alloc, before.carrier, &before.events)?;
-            }
-            run = Some(Run {
-                carrier,
-                events: Vec::new(alloc),
-            });
-        } else if let Some(now) = &mut run {
-            now.read(alloc, &line)?;
-        } else {
-            bail!("{line} stands before `Files` or `Server`");
+        if let Some(next) = carrier_of(&line) {
+            tell(&rt, alloc, carrier, &events)?;
+            carrier = Some(next);
+            events.clear();
+            continue;
+        }
+        match read_event(alloc, &line)? {
+            Some(event) if carrier.is_some() => events.push(event)?,
+            _ => bail!("{line} is no step, or stands before `Files` or `Server`"),
         }
     }
-    if let Some(last) = run {
-        tell(&rt, alloc, last.carrier, &last.events)?;
-    }
-    Ok(())
+    tell(&rt, alloc, carrier, &events)
 }

@@ -1,13 +1,11 @@
--- Lists of asks, packets and events.
-use Rattle.std.proofs.Common.{◌≡◌, ◌∙◌, ◌++◌, ◌∷◌, ◌+◌, ◌≤◌, ◌<◌, [], ℕ, Bool, true, false, cond, eqb, List, refl, sym, ap, subst, append_assoc, arith, max, drop, get_or, length, take, ap₂}
+-- Lists of asks and packets.
+use Rattle.std.proofs.Common.{◌≡◌, ◌∙◌, ◌++◌, ◌∷◌, ◌+◌, ◌<◌, [], ℕ, Bool, true, false, cond, eqb, List, refl, sym, ap, subst, append_assoc, arith, max, drop, get_or, length}
 use Rattle.std.specs.Prelude.{zero, suc, Result, Ok, Err, OnOk}
-use Rattle.std.proofs.lemmas.List.{at_drop_more, drop_all, map_more, take-map}
+use Rattle.std.proofs.lemmas.List.{at_drop_more}
 use Rattle.rubis_carrier.specs.declared.values.ShopPacket.{ShopPacket}
 use Rattle.rubis_carrier.specs.declared.values.ShopPacket.TheVariants.{Message, Pass}
-use Rattle.rubis_carrier.specs.Packets.{highest, passed, taken, unchanged}
+use Rattle.rubis_carrier.specs.Packets.{highest, passed, taken}
 use Rattle.rubis_carrier.specs.Events.{times}
-use Rattle.rubis_steps.specs.declared.events.ShopEvent.{ShopEvent}
-use Rattle.rubis_steps.specs.Views.{event_of, events_of}
 use Rattle.rubis_steps.specs.Parts.{number_in, passed_in, taken_in}
 
 -- what holds where a result is Ok
@@ -54,17 +52,3 @@ taken_more i xs k {x} e h = at_drop_more (taken i) xs k x h ∙ ap (λ y. taken 
 pub passed_more : (i : ℕ) (xs : List ShopPacket) (k : ℕ) {x : ShopPacket} → x ≡ get_or xs k x → k < length xs
     → passed i (drop k xs) ≡ max (passed_in i x) (passed i (drop (k + 1) xs))
 passed_more i xs k {x} e h = at_drop_more (passed i) xs k x h ∙ ap (λ y. passed i (y ∷ drop (k + 1) xs)) (sym e) ∙ passed_first i x (drop (k + 1) xs)
-
-unchanged_nil : (xs : List ShopPacket) → unchanged xs [] ≡ []
-unchanged_nil [] = refl
-unchanged_nil (x ∷ xs) = refl
-
-pub unchanged_past : (xs ys : List ShopPacket) (k : ℕ) → length ys ≤ k → unchanged xs (drop k ys) ≡ []
-unchanged_past xs ys k out = ap (λ zs. unchanged xs zs) (drop_all k ys out) ∙ unchanged_nil xs
-
--- ---- events
-
-pub events_more : (xs : List ShopEvent) (i : ℕ) {x : ShopEvent} → i < length xs → x ≡ get_or xs i x
-    → take (i + 1) (events_of xs) ≡ take i (events_of xs) ++ event_of x ∷ []
-events_more xs i {x} l read =
-    take-map event_of (i + 1) xs ∙ map_more event_of xs i x l ∙ ap₂ (λ es e. es ++ e ∷ []) (sym (take-map event_of i xs)) (ap event_of (sym read))

@@ -6,22 +6,19 @@ use Rattle.std.specs.Vec.{with_item}
 use Rattle.std.specs.List.{list_all, list_any}
 use Rattle.std.proofs.lemmas.List.{drop-set-lt, drop_more, get_or-map, get_or_past, length-map, map-set, map_push, take_more, take_more_set}
 use Rattle.std.proofs.lemmas.Grind.{drop_more_same}
-use Rattle.rubis_carrier.specs.declared.values.Carrier.{Carrier}
 use Rattle.rubis_carrier.specs.declared.values.ShopPacket.{ShopPacket}
 use Rattle.rubis_carrier.specs.declared.values.ShopRequest.{ShopRequest}
-use Rattle.rubis_carrier.specs.Shops.{Folder, Shop, empty, folder, folder_in, put, put_folder, put_stream, request_in, stream_in, with_folder, with_stream}
-use Rattle.rubis_carrier.specs.Events.{forgotten, opened, opening}
+use Rattle.rubis_carrier.specs.Shops.{Folder, empty, folder, folder_in, put, put_folder, put_stream, request_in, stream_in, with_folder, with_stream}
+use Rattle.rubis_carrier.specs.Events.{forgotten, of_others, opened, opening}
 use Rattle.rubis_carrier.specs.declared.values.Carrier.TheVariants.{Files}
 use Rattle.rubis_carrier.specs.Packets.{sender}
-use Rattle.rubis_carrier.specs.Tests.{are_reached, has_packet, is_offered, is_somewhere, may, reaches_all}
-use Rattle.rubis_steps.specs.Parts.{are_found, folders_reached, in_own_folder, streams_reached}
+use Rattle.rubis_carrier.specs.Tests.{are_reached, has_packet, is_offered, reaches_all}
+use Rattle.rubis_steps.specs.Parts.{folders_reached, in_own_folder, is_found, streams_reached}
 use Rattle.rubis_carrier.proofs.PutFacts.{forget_in}
-use Rattle.rubis_steps.specs.declared.events.FolderEvent.{FolderEvent}
-use Rattle.rubis_steps.specs.declared.events.FolderEvent.TheVariants as at
 use Rattle.rubis_steps.specs.declared.folders.Folder.{Folder as CodeFolder}
 use Rattle.rubis_steps.specs.declared.shops.Shop.{Shop as CodeShop}
-use Rattle.rubis_steps.specs.Answers.{IsListed, IsStreamListed, may_at}
-use Rattle.rubis_steps.specs.Views.{at_folder, folder_at, folder_of, folders_of, packets_of, shop_of, stream_at, streams_of}
+use Rattle.rubis_steps.specs.Answers.{IsListed, IsStreamListed}
+use Rattle.rubis_steps.specs.Views.{folder_at, folder_of, folders_of, packets_of, shop_of, stream_at, streams_of}
 
 -- ---- any list by number
 
@@ -60,6 +57,12 @@ second {b} e f = f ∙ ap (λ t. t && b) (sym e)
 pub first_false : {a : Bool} (b : Bool) {r : Bool} → a ≡ false → r ≡ a → r ≡ (a && b)
 first_false b e f = f ∙ e ∙ ap (λ t. t && b) (sym e)
 
+pub some_first : {a : Bool} (b : Bool) {r : Bool} → a ≡ true → r ≡ a → r ≡ (a || b)
+some_first b e f = f ∙ e ∙ ap (λ t. t || b) (sym e)
+
+pub none_first : {a b r : Bool} → a ≡ false → r ≡ b → r ≡ (a || b)
+none_first {b} e f = f ∙ ap (λ t. t || b) (sym e)
+
 -- ---- what stands somewhere
 
 pub compared_is : (s : CodeShop) (i number turn : ℕ) → (folders_reached i number turn s.folders.items && streams_reached i number turn s.streams.items) ≡
@@ -70,12 +73,10 @@ compared_is s i number turn = sym (ap₂ (λ a b. a && b) (all_map folder_of (λ
 pub offered_is : (s : CodeShop) (x : ShopPacket) → in_own_folder x s.folders.items ≡ is_offered Files (shop_of s) x
 offered_is s x = sym (any_map folder_of (λ f. (f.site == sender x) && has_packet x f.kept) s.folders.items)
 
-pub found_is : (s : CodeShop) (packets : List ShopPacket) → are_found s.folders.items s.streams.items packets ≡ list_all
-    (λ x. is_somewhere (shop_of s) x) packets
-found_is s [] = refl
-found_is s (x ∷ packets) = ap₂ (λ a b. a && b)
-    (sym (ap₂ (λ a b. a || b) (any_map folder_of (λ f. has_packet x f.kept) s.folders.items) (any_map packets_of (λ xs. has_packet x xs) s.streams.items)))
-    (found_is s packets)
+pub found_is : (s : CodeShop) (x : ShopPacket) → is_found x s.folders.items s.streams.items ≡
+    (list_any (λ f. has_packet x f.kept) (shop_of s).folders || list_any (λ xs. has_packet x xs) (shop_of s).streams)
+found_is s x = sym (ap₂ (λ a b. a || b) (any_map folder_of (λ f. has_packet x f.kept) s.folders.items)
+    (any_map packets_of (λ xs. has_packet x xs) s.streams.items))
 
 -- ---- folders and streams
 
@@ -146,44 +147,19 @@ stream_replaced {old} {mid} {i} {v} w F l read e =
 
 -- ---- a folder opens
 
--- all folders of the site were forgotten, that one was listed, and opens
-pub opens_is : (old : CodeShop) {first mid : CodeShop} {k : ℕ} {f : CodeFolder} (g : CodeFolder)
-    → shop_of first ≡ record (shop_of old) { folders = map (forgotten (folder_at old k).site) (folders_of old.folders) } → IsListed k first mid
+-- all folders of the site were forgotten, and what was under way of it; that one was listed, and opens
+pub opens_is : (old : CodeShop) {first mid : CodeShop} {k : ℕ} {f : CodeFolder} (g : CodeFolder) → shop_of first ≡ record (shop_of old) {
+  folders = map (forgotten (folder_at old k).site) (folders_of old.folders);
+  under_way = of_others (folder_at old k).site old.under_way.items;
+} → IsListed k first mid
     → f ≡ get_or mid.folders.items k f → folder_of g ≡ opened (folder_of f) → shop_of (record mid { folders = with_item mid.folders k g }) ≡ opening k
     (shop_of old)
 opens_is old {k} g e l read is =
     replaced_is g opened l read is ∙ ap (λ s. with_folder k (opened (folder s k)) s) e
-    ∙ ap (λ h. record (shop_of old) { folders = put_folder k (opened h) (map (forgotten (folder_at old k).site) (folders_of old.folders)) })
-    (forget_in (folder_at old k).site (folders_of old.folders) k)
-
--- ---- an event at a folder
-
-pub may_at_is : (c : Carrier) (s : Shop) (k : ℕ) (what : FolderEvent) → may_at c s k (folder s k) what ≡ may c s (at_folder k what)
-may_at_is c s k at.Starts = refl
-may_at_is c s k at.Opens = refl
-may_at_is c s k at.TakesOver = refl
-may_at_is c s k at.OpensAlone = refl
-may_at_is c s k at.Closes = refl
-may_at_is c s k at.KeeperStarts = refl
-may_at_is c s k at.IsKilled = refl
-may_at_is c s k at.MachineStarts = refl
-may_at_is c s k (at.Serves r) = refl
-may_at_is c s k (at.Gives r) = refl
-may_at_is c s k (at.Accepts r) = refl
-may_at_is c s k (at.Refuses r) = refl
-may_at_is c s k (at.TellsOk r n) = refl
-may_at_is c s k (at.TellsPublished r n) = refl
-may_at_is c s k (at.TellsNothing r) = refl
-may_at_is c s k (at.TellsUnknown r) = refl
-may_at_is c s k (at.Passes to) = refl
-may_at_is c s k (at.Appends x) = refl
-may_at_is c s k (at.Reads x) = refl
-may_at_is c s k (at.LosesEnd n) = refl
-may_at_is c s k (at.IsChanged packets) = refl
-may_at_is c s k at.IsLost = refl
-may_at_is c s k (at.IsCopied j) = refl
-may_at_is c s k (at.Rebuilds packets) = refl
-may_at_is c s k at.WritesAnew = refl
+    ∙ ap (λ h. record (shop_of old) {
+      folders = put_folder k (opened h) (map (forgotten (folder_at old k).site) (folders_of old.folders));
+      under_way = of_others (folder_at old k).site old.under_way.items;
+    }) (forget_in (folder_at old k).site (folders_of old.folders) k)
 
 -- ---- asks
 

@@ -35,11 +35,8 @@ in_folders x fs = list_any (λ f. has_packet x f.kept.items) fs
 abbrev pub in_streams : ShopPacket → List (Vec ShopPacket) → Bool
 in_streams x xs = list_any (λ v. has_packet x v.items) xs
 
-abbrev pub is_found : List CodeFolder → List (Vec ShopPacket) → ShopPacket → Bool
-is_found fs xs x = in_folders x fs || in_streams x xs
-
-abbrev pub are_found : List CodeFolder → List (Vec ShopPacket) → List ShopPacket → Bool
-are_found fs xs packets = list_all (λ x. is_found fs xs x) packets
+abbrev pub is_found : ShopPacket → List CodeFolder → List (Vec ShopPacket) → Bool
+is_found x fs xs = in_folders x fs || in_streams x xs
 
 -- in some folder of its sender
 abbrev pub in_own_folder : ShopPacket → List CodeFolder → Bool

@@ -1,17 +1,15 @@
 //! A folder of a site, and what becomes of it alone.
 
-ghost use Rattle.std.specs.Prelude.{◌≡◌, ◌+◌, IfOk, OnOk, take};
-ghost use Rattle.rubis_carrier.specs.Packets.{unchanged};
+ghost use Rattle.std.specs.Prelude.{◌≡◌, ◌+◌, IfOk, OnOk};
 ghost use Rattle.rubis_carrier.specs.Shops.{empty};
-ghost use Rattle.rubis_carrier.specs.Events.{accepting, answering, forgotten, giving, keeping, next_pass, opened, replaced, started, stopped, unknown};
-ghost use Rattle.rubis_carrier.specs.Tests.{holds, runs};
+ghost use Rattle.rubis_carrier.specs.Events.{accepting, answering, forgotten, giving, keeping, next_pass, opened, started, stopped, unknown};
+ghost use Rattle.rubis_carrier.specs.Tests.{holds};
 ghost use Rattle.rubis_steps.specs.Views.{changed, folder_of};
 
-use crate::events::FolderEvent;
 use crate::faults::DeciderFault;
 use crate::lists::{first, push_times, remove_first, remove_number};
-use crate::packets::{highest, passed, taken, unchanged};
-use rubis_carrier::{Answer, ShopPacket};
+use crate::packets::{highest, passed, taken};
+use rubis_carrier::{Answer, ShopEvent as Event, ShopPacket};
 use std::alloc::Global;
 
 /// A folder of a site, and what is in the memory of those that run it.
@@ -55,21 +53,6 @@ impl Folder {
         }
     }
 
-    /// Another folder with what it has, of which nothing is known.
-    pub fn copied(&self, alloc: Global) -> Result<Folder, DeciderFault>
-        ensures { IfOk result (λ f. folder_of f ≡ unknown (folder_of self.now)) }
-    {
-        let mut copy = Folder::new(alloc, self.site);
-        copy.kept.extend_from_slice(&self.kept)?;
-        Ok(copy)
-    }
-
-    pub fn runs(&self) -> bool
-        ensures { result ≡ runs (folder_of self.now) }
-    {
-        0 < self.life
-    }
-
     /// Whether its site has the token.
     pub fn holds(&self) -> bool
         ensures { result ≡ holds (folder_of self.now) }
@@ -91,38 +74,12 @@ impl Folder {
         self.answered.clear();
     }
 
-    // Nor does its machine know anything of it.
-    fn lose_memory(&mut self)
+    /// Nor does its machine know anything of it.
+    pub fn lose_memory(&mut self)
         ensures { folder_of self.new ≡ unknown (folder_of self.old) }
     {
         self.stop();
         self.remembered = false;
-    }
-
-    // Only the first packets are left.
-    fn lose_end(&mut self, count: usize)
-        ensures { folder_of self.new ≡ replaced (folder_of self.old) (take count (folder_of self.old).kept) }
-    {
-        self.lose_memory();
-        self.kept.truncate(count);
-    }
-
-    // Other packets stand there; it has those in front of the first that is another one.
-    fn change_to(&mut self, found: &[ShopPacket])
-        ensures { folder_of self.new ≡ replaced (folder_of self.old) (unchanged (folder_of self.old).kept found.now) }
-    {
-        let count = unchanged(&self.kept, found);
-        self.lose_end(count);
-    }
-
-    // It has these packets.
-    fn rebuild(&mut self, packets: &[ShopPacket]) -> Result<(), DeciderFault>
-        ensures { OnOk result (folder_of self.new ≡ replaced (folder_of self.old) packets.now) }
-    {
-        self.lose_memory();
-        self.kept.clear();
-        self.kept.extend_from_slice(packets)?;
-        Ok(())
     }
 
     /// A supervisor begins to run it, in that life.
@@ -168,24 +125,15 @@ impl Folder {
     }
 
     // Its site accepts a record that came with that ask.
-    fn accept(&mut self, ask: u64) -> Result<(), DeciderFault>
-        ensures { OnOk result (folder_of self.new ≡ accepting (folder_of self.old) ask) }
+    fn accept(&mut self, made_of: u64) -> Result<(), DeciderFault>
+        ensures { OnOk result (folder_of self.new ≡ accepting (folder_of self.old) made_of) }
     {
-        let number = next(highest(&self.kept, self.site))?;
-        let taken_for = first(&self.given);
+        let site = self.site;
+        let number = next(highest(&self.kept, site))?;
+        let ask = first(&self.given);
         self.answer();
-        self.answered.insert(
-            0,
-            Answer {
-                ask: taken_for,
-                number,
-            },
-        )?;
-        self.kept.push(ShopPacket::Message {
-            site: self.site,
-            number,
-            ask,
-        })?;
+        self.answered.insert(0, Answer { ask, number })?;
+        self.kept.push(ShopPacket::Message(site, number, made_of))?;
         Ok(())
     }
 
@@ -193,42 +141,44 @@ impl Folder {
     fn pass(&mut self, to: u64) -> Result<(), DeciderFault>
         ensures { OnOk result (folder_of self.new ≡ keeping (folder_of self.old) (next_pass (folder_of self.old) to)) }
     {
-        let turn = next(taken(&self.kept, self.site))?;
-        let after = highest(&self.kept, self.site);
-        self.kept.push(ShopPacket::Pass {
-            site: self.site,
-            turn,
-            to,
-            after,
-        })?;
+        let site = self.site;
+        let turn = next(taken(&self.kept, site))?;
+        let after = highest(&self.kept, site);
+        self.kept.push(ShopPacket::Pass(site, turn, to, after))?;
         Ok(())
     }
 
     /// What becomes of it alone; `records` is how many the ask has, if one is given.
-    pub fn change(&mut self, what: &FolderEvent, records: u64) -> Result<(), DeciderFault>
-        ensures { OnOk result (folder_of self.new ≡ changed what.now records (folder_of self.old)) }
+    pub fn change(&mut self, event: Event, records: u64) -> Result<(), DeciderFault>
+        ensures { OnOk result (folder_of self.new ≡ changed event records (folder_of self.old)) }
     {
-        match what {
-            FolderEvent::Closes => self.is_open = false,
-            FolderEvent::IsKilled => self.stop(),
-            FolderEvent::MachineStarts => self.lose_memory(),
-            FolderEvent::Serves(ask) => {
-                self.served.insert(0, *ask)?;
-                self.waiting.insert(0, *ask)?;
+        match event {
+            Event::Closes(_) => self.is_open = false,
+            Event::GoesOn(_) => self.is_open = true,
+            Event::IsKilled(_) => self.stop(),
+            Event::MachineStarts(_) => self.lose_memory(),
+            Event::Serves(_, ask) => {
+                self.served.insert(0, ask)?;
+                self.waiting.insert(0, ask)?;
             }
-            FolderEvent::Gives(ask) => self.give(*ask, records)?,
-            FolderEvent::Accepts(ask) => self.accept(*ask)?,
-            FolderEvent::Refuses(_) => self.answer(),
-            FolderEvent::TellsNothing(ask) => remove_number(&mut self.waiting, *ask),
-            FolderEvent::Passes(to) => self.pass(*to)?,
-            FolderEvent::Reads(packet) => self.kept.push(*packet)?,
-            FolderEvent::LosesEnd(count) => self.lose_end(*count as usize),
-            FolderEvent::IsChanged(found) => self.change_to(found),
-            FolderEvent::IsLost => {
+            Event::Gives(_, ask) => self.give(ask, records)?,
+            Event::Accepts(_, ask) => self.accept(ask)?,
+            Event::Refuses(_, _) => self.answer(),
+            Event::TellsNothing(_, ask) => remove_number(&mut self.waiting, ask),
+            Event::Passes(_, to) => self.pass(to)?,
+            Event::Reads(_, packet) => self.kept.push(packet)?,
+            Event::LosesEnd(_, count) => {
+                self.lose_memory();
+                self.kept.truncate(count as usize);
+            }
+            Event::IsLost(_) => {
                 self.lose_memory();
                 self.kept.clear();
             }
-            FolderEvent::Rebuilds(packets) => self.rebuild(packets)?,
+            Event::Finds(_, packet) => {
+                self.lose_memory();
+                self.kept.push(packet)?;
+            }
             _ => (),
         }
         Ok(())

@@ -1,34 +1,23 @@
 //! A shop: whether an event may happen there, and what it leads to.
 
+ghost use Rattle.std.specs.Fn.{FnReturnsAt};
 ghost use Rattle.std.specs.Prelude.{◌≡◌, ◌==◌, ◌+◌, IfOk, OnOk, map};
-ghost use Rattle.rubis_carrier.specs.Packets.{own};
-ghost use Rattle.rubis_carrier.specs.Shops.{request, start, with_folder};
-ghost use Rattle.rubis_carrier.specs.Events.{after, forgotten, opening, opening_uncompared, telling, unknown};
-ghost use Rattle.rubis_carrier.specs.Events.Event.{Appends, IsCopied, Passes, Refuses, Starts, StreamLosesEnd, TellsOk, WritesAnew};
-ghost use Rattle.rubis_carrier.specs.Tests.{is_alone, is_compared, is_offered, is_placed, is_server, may, may_open, may_rebuild};
-ghost use Rattle.rubis_carrier.specs.Tests.{may_serve, may_tell_published, may_write_anew};
-ghost use Rattle.rubis_steps.specs.Views.{at_folder, changed, event_of, folder_at, folder_of, folders_of, shop_of, stream_at};
-ghost use Rattle.rubis_steps.specs.Answers.{IsListed, IsStreamListed, may_at};
+ghost use Rattle.rubis_carrier.specs.Shops.{empty, request, start, with_folder};
+ghost use Rattle.rubis_carrier.specs.Events.{after, first, forgotten, opening, opening_uncompared, replaced};
+ghost use Rattle.rubis_carrier.specs.declared.values.ShopEvent.TheVariants.{Arrives, Passes, Starts, StreamLosesEnd, WritesAnew};
+ghost use Rattle.rubis_carrier.specs.Tests.{is_alone, is_compared, is_offered, is_placed, is_somewhere, may, may_open, may_serve};
+ghost use Rattle.rubis_carrier.specs.Tests.{may_tell_published};
+ghost use Rattle.rubis_steps.specs.Views.{changed, folder_at, folder_of, folders_of, shop_of, stream_at};
+ghost use Rattle.rubis_steps.specs.Answers.{IsListed, IsStreamListed};
+ghost use Rattle.rubis_steps.specs.Parts.{folders_reached, in_folders, in_own_folder, in_streams, is_found, streams_reached};
+ghost use Rattle.rubis_steps.specs.declared.folders.Folder.{Folder as CodeFolder};
 
-use crate::events::{FolderEvent, ShopEvent};
 use crate::faults::DeciderFault;
 use crate::folders::{Folder, next};
-use crate::lists::{first, has_answer, has_number, is_first, remove_number};
-use crate::packets::{
-    are_own, has_packet, has_packets, highest, larger, last_turn, own, sender, taken,
-};
-use crate::places::{are_found, folders_reached, in_own_folder, streams_reached};
-use rubis_carrier::{Carrier, Notice, ShopPacket, ShopRequest};
+use crate::lists::{first, remove_number};
+use crate::packets::{are_own, are_reached, has_packets, highest, last_turn, own, sender, taken};
+use rubis_carrier::{Answer, Carrier, Notice, ShopEvent as Event, ShopPacket, ShopRequest};
 use std::alloc::Global;
-
-fn is_server(carrier: Carrier) -> bool
-    ensures { result ≡ is_server carrier }
-{
-    match carrier {
-        Carrier::Files => false,
-        Carrier::Server => true,
-    }
-}
 
 // Whether the first number is the one behind the second.
 fn is_next(number: u64, last: u64) -> bool
@@ -46,6 +35,49 @@ fn is_alone(folders: &[Folder], folder: u64, site: u64) -> bool
         }
     }
     true
+}
+
+fn folders_reached(folders: &[Folder], site: u64, number: u64, turn: u64) -> bool
+    ensures { result ≡ folders_reached site number turn folders.now }
+{
+    folders
+        .iter()
+        .all(|f| are_reached(&f.kept, site, number, turn))
+}
+
+fn streams_reached(streams: &[Vec<ShopPacket>], site: u64, number: u64, turn: u64) -> bool
+    ensures { result ≡ streams_reached site number turn streams.now }
+{
+    streams
+        .iter()
+        .all(|kept| are_reached(kept, site, number, turn))
+}
+
+fn in_folders(folders: &[Folder], packet: ShopPacket) -> bool
+    ensures { result ≡ in_folders packet folders.now }
+{
+    folders.iter().any(|f| f.kept.contains(&packet))
+}
+
+fn in_streams(streams: &[Vec<ShopPacket>], packet: ShopPacket) -> bool
+    ensures { result ≡ in_streams packet streams.now }
+{
+    streams.iter().any(|stream| stream.contains(&packet))
+}
+
+fn is_found(folders: &[Folder], streams: &[Vec<ShopPacket>], packet: ShopPacket) -> bool
+    ensures { result ≡ is_found packet folders.now streams.now }
+{
+    in_folders(folders, packet) || in_streams(streams, packet)
+}
+
+fn in_own_folder(folders: &[Folder], packet: ShopPacket) -> bool
+    ensures { result ≡ in_own_folder packet folders.now }
+{
+    let sender = sender(packet);
+    folders
+        .iter()
+        .any(|f| f.site == sender && f.kept.contains(&packet))
 }
 
 fn forget_all(folders: &mut Vec<Folder>, site: u64)
@@ -66,6 +98,8 @@ pub struct Shop {
     requests: Vec<ShopRequest>,
     yielding: Vec<u64>,
     uncompared: Vec<u64>,
+    full: Vec<u64>,
+    under_way: Vec<ShopPacket>,
     told: Vec<Notice>,
     turn: u64,
 }
@@ -83,6 +117,8 @@ impl Shop {
             requests: Vec::new(alloc),
             yielding: Vec::new(alloc),
             uncompared: Vec::new(alloc),
+            full: Vec::new(alloc),
+            under_way: Vec::new(alloc),
             told: Vec::new(alloc),
             turn: 0,
         }
@@ -118,31 +154,24 @@ impl Shop {
         }
     }
 
-    // Another folder with what it has, of which nothing is known.
-    fn copy(&self, folder: u64) -> Result<Folder, DeciderFault>
-        ensures { IfOk result (λ f. folder_of f ≡ unknown (folder_at self.now folder)) }
+    // Whether that holds of the folder.
+    fn look<F: Fn(&Folder) -> bool>(&self, folder: u64, test: F) -> bool
+        requires { F.IsAlwaysCallable test }
+        ensures { (f : CodeFolder) × (folder_of f ≡ folder_at self.now folder) × FnReturnsAt F.Fn test f result }
     {
         match self.folders.get(folder as usize) {
-            Some(it) => it.copied(self.alloc),
-            None => Ok(Folder::new(self.alloc, folder)),
+            Some(it) => test(it),
+            None => test(&Folder::new(self.alloc, folder)),
         }
     }
 
-    // What its site sent.
-    fn own(&self, folder: u64) -> Result<Vec<ShopPacket>, DeciderFault>
-        ensures { IfOk result (λ v. v.items ≡ own (folder_at self.now folder).site (folder_at self.now folder).kept) }
+    fn kept(&self, folder: u64) -> &[ShopPacket]
+        ensures { result.now ≡ (folder_at self.now folder).kept }
     {
         match self.folders.get(folder as usize) {
-            Some(it) => own(self.alloc, &it.kept, it.site),
-            None => Ok(Vec::new(self.alloc)),
+            Some(it) => it.kept.as_slice(),
+            None => &[],
         }
-    }
-
-    fn tells_ok(&mut self, folder: u64, ask: u64, number: u64) -> Result<(), DeciderFault>
-        ensures { OnOk result (shop_of self.new ≡ after (shop_of self.old) (TellsOk folder ask number)) }
-    {
-        let site = self.site(folder);
-        self.tell(Notice::Ok { ask, site, number })
     }
 
     fn stream(&self, site: u64) -> &[ShopPacket]
@@ -154,37 +183,14 @@ impl Shop {
         }
     }
 
-    fn request(&self, ask: u64) -> ShopRequest
-        ensures { result ≡ request (shop_of self.now) ask }
-    {
-        let none = ShopRequest {
-            life: 0,
-            records: 0,
-        };
-        if ask == 0 {
-            return none;
-        }
-        match self.requests.get((ask - 1) as usize) {
-            Some(request) => *request,
-            None => none,
-        }
-    }
-
     // What an event leads to.
 
-    fn tell(&mut self, what: Notice) -> Result<(), DeciderFault>
-        ensures { OnOk result (shop_of self.new ≡ telling what (shop_of self.old)) }
-    {
-        self.told.insert(0, what)?;
-        Ok(())
-    }
-
     // Only that folder becomes another.
-    fn change(&mut self, folder: u64, what: &FolderEvent, records: u64) -> Result<(), DeciderFault>
-        ensures { OnOk result (shop_of self.new ≡ with_folder folder (changed what.now records (folder_at self.old folder)) (shop_of self.old)) }
+    fn change(&mut self, folder: u64, event: Event, records: u64) -> Result<(), DeciderFault>
+        ensures { OnOk result (shop_of self.new ≡ with_folder folder (changed event records (folder_at self.old folder)) (shop_of self.old)) }
     {
         self.list(folder)?;
-        self.folders[folder as usize].change(what, records)
+        self.folders[folder as usize].change(event, records)
     }
 
     fn starts(&mut self, folder: u64) -> Result<(), DeciderFault>
@@ -202,6 +208,7 @@ impl Shop {
     {
         let site = self.site(folder);
         forget_all(&mut self.folders, site);
+        self.under_way.retain(|x| sender(*x) != site);
         self.list(folder)?;
         self.folders[folder as usize].open();
         Ok(())
@@ -216,28 +223,19 @@ impl Shop {
         Ok(())
     }
 
-    fn refuses(&mut self, folder: u64, ask: u64) -> Result<(), DeciderFault>
-        ensures { OnOk result (shop_of self.new ≡ after (shop_of self.old) (Refuses folder ask)) }
-    {
-        self.list(folder)?;
-        let taken_for = first(&self.folders[folder as usize].given);
-        self.change(folder, &FolderEvent::Refuses(ask), 0)?;
-        self.tell(Notice::No { ask: taken_for })
-    }
-
     fn passes(&mut self, folder: u64, to: u64) -> Result<(), DeciderFault>
         ensures { OnOk result (shop_of self.new ≡ after (shop_of self.old) (Passes folder to)) }
     {
         self.list(folder)?;
         let it = &self.folders[folder as usize];
         let turn = next(taken(&it.kept, it.site))?;
-        self.change(folder, &FolderEvent::Passes(to), 0)?;
-        self.turn = larger(turn, self.turn);
+        self.change(folder, Event::Passes(folder, to), 0)?;
+        self.turn = self.turn.max(turn);
         Ok(())
     }
 
-    fn appends(&mut self, folder: u64, packet: ShopPacket) -> Result<(), DeciderFault>
-        ensures { OnOk result (shop_of self.new ≡ after (shop_of self.old) (Appends folder packet)) }
+    fn appends(&mut self, packet: ShopPacket) -> Result<(), DeciderFault>
+        ensures { OnOk result (shop_of self.new ≡ after (shop_of self.old) (Arrives packet)) }
     {
         let site = sender(packet);
         self.list_stream(site)?;
@@ -245,10 +243,20 @@ impl Shop {
         Ok(())
     }
 
-    fn is_copied(&mut self, folder: u64, other: u64) -> Result<(), DeciderFault>
-        ensures { OnOk result (shop_of self.new ≡ after (shop_of self.old) (IsCopied folder other)) }
+    // A folder of that site with what this one has, of which nothing is known.
+    fn copy(&self, folder: u64, site: u64) -> Result<Folder, DeciderFault>
+        ensures { IfOk result (λ f. folder_of f ≡ replaced (empty site) (folder_at self.now folder).kept) }
     {
-        let copy = self.copy(folder)?;
+        let mut copy = Folder::new(self.alloc, site);
+        copy.kept.extend_from_slice(self.kept(folder))?;
+        Ok(copy)
+    }
+
+    // Another folder, of that site, has what this one has.
+    fn replaces(&mut self, folder: u64, other: u64, site: u64) -> Result<(), DeciderFault>
+        ensures { OnOk result (shop_of self.new ≡ with_folder other (replaced (empty site) (folder_at self.old folder).kept) (shop_of self.old)) }
+    {
+        let copy = self.copy(folder, site)?;
         self.list(other)?;
         self.folders[other as usize] = copy;
         Ok(())
@@ -266,60 +274,86 @@ impl Shop {
         ensures { OnOk result (shop_of self.new ≡ after (shop_of self.old) (WritesAnew folder)) }
     {
         let site = self.site(folder);
-        let stream = self.own(folder)?;
+        let stream = own(self.alloc, self.kept(folder), site)?;
         self.list_stream(site)?;
         self.streams[site as usize] = stream;
         Ok(())
     }
 
-    fn happens_at(&mut self, folder: u64, what: &FolderEvent) -> Result<(), DeciderFault>
-        ensures { OnOk result (shop_of self.new ≡ after (shop_of self.old) (at_folder folder what.now)) }
+    // The first ask that was given there, as an answer is taken to be of that.
+    fn first_given(&self, folder: u64) -> u64
+        ensures { result ≡ first (folder_at self.now folder).given }
     {
-        match what {
-            FolderEvent::Starts => self.starts(folder),
-            FolderEvent::Opens => self.opens(folder),
-            FolderEvent::TakesOver => self.opens_uncompared(folder),
-            FolderEvent::OpensAlone => self.opens_uncompared(folder),
-            FolderEvent::KeeperStarts => Ok(()),
-            FolderEvent::Gives(ask) => {
-                let records = self.request(*ask).records;
-                self.change(folder, what, records)
-            }
-            FolderEvent::Refuses(ask) => self.refuses(folder, *ask),
-            FolderEvent::TellsOk(ask, number) => self.tells_ok(folder, *ask, *number),
-            FolderEvent::TellsPublished(ask, number) => self.tells_ok(folder, *ask, *number),
-            FolderEvent::TellsNothing(ask) => {
-                self.change(folder, what, 0)?;
-                self.tell(Notice::No { ask: *ask })
-            }
-            FolderEvent::TellsUnknown(ask) => self.tell(Notice::Unknown { ask: *ask }),
-            FolderEvent::Passes(to) => self.passes(folder, *to),
-            FolderEvent::Appends(packet) => self.appends(folder, *packet),
-            FolderEvent::IsCopied(other) => self.is_copied(folder, *other),
-            FolderEvent::WritesAnew => self.writes_anew(folder),
-            _ => self.change(folder, what, 0),
+        match self.folders.get(folder as usize) {
+            Some(it) => first(&it.given),
+            None => 0,
         }
     }
 
     /// The event happens.
-    pub fn happens(&mut self, event: &ShopEvent) -> Result<(), DeciderFault>
-        ensures { OnOk result (shop_of self.new ≡ after (shop_of self.old) (event_of event.now)) }
+    pub fn happens(&mut self, event: Event) -> Result<(), DeciderFault>
+        ensures { OnOk result (shop_of self.new ≡ after (shop_of self.old) event) }
     {
         match event {
-            ShopEvent::At(folder, what) => self.happens_at(*folder, what)?,
-            ShopEvent::IsAsked(_, life, records) => self.requests.push(ShopRequest {
-                life: *life,
-                records: *records,
-            })?,
-            ShopEvent::Yields(site) => self.yielding.insert(0, *site)?,
-            ShopEvent::TakesBack(site) => remove_number(&mut self.yielding, *site),
-            ShopEvent::StreamLosesEnd(site, count) => self.stream_loses_end(*site, *count)?,
-            ShopEvent::ServerLosesAll => self.streams.clear(),
+            Event::Starts(k) => self.starts(k)?,
+            Event::Opens(k) => self.opens(k)?,
+            Event::TakesOver(k) | Event::OpensAlone(k) => self.opens_uncompared(k)?,
+            Event::GoesOn(k) => {
+                let site = self.site(k);
+                self.change(k, event, 0)?;
+                self.uncompared.insert(0, site)?;
+            }
+            Event::Fills(k) => self.full.insert(0, k)?,
+            Event::IsRaised(k) => remove_number(&mut self.full, k),
+            Event::IsAsked(_, life, records) => self.requests.push(ShopRequest { life, records })?,
+            Event::Gives(k, ask) => {
+                let records = self.request(ask).records;
+                self.change(k, event, records)?;
+            }
+            Event::Refuses(k, _) => {
+                let ask = self.first_given(k);
+                self.change(k, event, 0)?;
+                self.told.insert(0, Notice::No { ask })?;
+            }
+            Event::TellsOk(k, ask, number) | Event::TellsPublished(k, ask, number) => {
+                let site = self.site(k);
+                self.told.insert(0, Notice::Ok { ask, site, number })?;
+            }
+            Event::TellsNothing(k, ask) => {
+                self.change(k, event, 0)?;
+                self.told.insert(0, Notice::No { ask })?;
+            }
+            Event::TellsUnknown(_, ask) => self.told.insert(0, Notice::Unknown { ask })?,
+            Event::Yields(site) => self.yielding.insert(0, site)?,
+            Event::TakesBack(site) => remove_number(&mut self.yielding, site),
+            Event::Passes(k, to) => self.passes(k, to)?,
+            Event::Appends(_, packet) | Event::Arrives(packet) => self.appends(packet)?,
+            Event::Sends(_, packet) => self.under_way.insert(0, packet)?,
+            Event::IsCopied(k, other) => self.replaces(k, other, self.site(k))?,
+            Event::Rebuilds(k, made) => self.replaces(made, k, self.site(k))?,
+            Event::StreamLosesEnd(site, count) => self.stream_loses_end(site, count)?,
+            Event::ServerLosesAll => self.streams.clear(),
+            Event::WritesAnew(k) => self.writes_anew(k)?,
+            Event::KeeperStarts(_) => (),
+            Event::Closes(k) | Event::IsKilled(k) | Event::MachineStarts(k) | Event::IsLost(k) => {
+                self.change(k, event, 0)?
+            }
+            Event::Serves(k, _) | Event::Accepts(k, _) | Event::LosesEnd(k, _) => {
+                self.change(k, event, 0)?
+            }
+            Event::Reads(k, _) | Event::Finds(k, _) => self.change(k, event, 0)?,
         }
         Ok(())
     }
 
-    // Whether it may happen.
+    // Whether an event may happen.
+
+    fn request(&self, ask: u64) -> ShopRequest
+        ensures { result ≡ request (shop_of self.now) ask }
+    {
+        let at = ask.wrapping_sub(1) as usize;
+        self.requests.get(at).copied().unwrap_or_default()
+    }
 
     fn is_compared(&self, it: &Folder) -> bool
         ensures { result ≡ is_compared (shop_of self.now) (folder_of it.now) }
@@ -330,12 +364,18 @@ impl Shop {
             && streams_reached(&self.streams, it.site, number, turn)
     }
 
+    fn is_somewhere(&self, packet: ShopPacket) -> bool
+        ensures { result ≡ is_somewhere (shop_of self.now) packet }
+    {
+        is_found(&self.folders, &self.streams, packet) || self.under_way.contains(&packet)
+    }
+
     fn is_offered(&self, carrier: Carrier, packet: ShopPacket) -> bool
         ensures { result ≡ is_offered carrier (shop_of self.now) packet }
     {
         match carrier {
             Carrier::Files => in_own_folder(&self.folders, packet),
-            Carrier::Server => has_packet(self.stream(sender(packet)), packet),
+            Carrier::Server => self.stream(sender(packet)).contains(&packet),
         }
     }
 
@@ -343,16 +383,16 @@ impl Shop {
         ensures { result ≡ is_placed (shop_of self.now) packet }
     {
         match packet {
-            ShopPacket::Message { site, number, .. } => !has_number(&self.uncompared, site)
+            ShopPacket::Message(site, number, _) => !self.uncompared.contains(&site)
                 || is_next(number, highest(self.stream(site), site)),
-            ShopPacket::Pass { .. } => true,
+            ShopPacket::Pass(_, _, _, _) => true,
         }
     }
 
     fn may_open(&self, folder: u64, it: &Folder) -> bool
         ensures { result ≡ may_open (shop_of self.now) folder (folder_of it.now) }
     {
-        it.runs()
+        0 < it.life
             && (it.remembered || self.is_compared(it))
             && is_alone(&self.folders, folder, it.site)
     }
@@ -361,82 +401,83 @@ impl Shop {
         ensures { result ≡ may_serve (shop_of self.now) (folder_of it.now) ask }
     {
         let request = self.request(ask);
-        it.runs()
+        0 < it.life
             && ask <= self.requests.len() as u64
             && request.life == it.life
             && request.records == 1
-            && !has_number(&it.served, ask)
+            && !it.served.contains(&ask)
     }
 
     fn may_tell_published(&self, it: &Folder, ask: u64, number: u64) -> bool
         ensures { result ≡ may_tell_published (shop_of self.now) (folder_of it.now) ask number }
     {
-        let message = ShopPacket::Message {
-            site: it.site,
-            number,
-            ask,
-        };
-        has_answer(&it.answered, ask, number) && has_packet(self.stream(it.site), message)
-    }
-
-    fn may_rebuild(&self, it: &Folder, packets: &[ShopPacket]) -> bool
-        ensures { result ≡ may_rebuild (shop_of self.now) (folder_of it.now) packets.now }
-    {
-        it.life == 0
-            && has_packets(packets, &it.kept)
-            && are_found(&self.folders, &self.streams, packets)
-    }
-
-    fn may_write_anew(&self, it: &Folder) -> bool
-        ensures { result ≡ may_write_anew (shop_of self.now) (folder_of it.now) }
-    {
-        it.runs()
-            && !has_number(&self.uncompared, it.site)
-            && are_own(self.stream(it.site), &it.kept, it.site)
-    }
-
-    fn may_at(&self, carrier: Carrier, folder: u64, it: &Folder, what: &FolderEvent) -> bool
-        ensures { result ≡ may_at carrier (shop_of self.now) folder (folder_of it.now) what.now }
-    {
-        match what {
-            FolderEvent::Starts => it.life == 0,
-            FolderEvent::Opens => self.may_open(folder, it),
-            FolderEvent::TakesOver => it.runs() && has_number(&self.yielding, it.site),
-            FolderEvent::OpensAlone => it.runs(),
-            FolderEvent::Serves(ask) => self.may_serve(it, *ask),
-            FolderEvent::Gives(ask) => it.is_open && has_number(&it.waiting, *ask),
-            FolderEvent::Accepts(ask) => it.is_open && is_first(&it.lines, *ask),
-            FolderEvent::Refuses(ask) => is_first(&it.lines, *ask),
-            FolderEvent::TellsOk(ask, number) => has_answer(&it.answered, *ask, *number)
-                && !has_number(&self.yielding, it.site),
-            FolderEvent::TellsPublished(ask, number) => is_server(carrier)
-                && self.may_tell_published(it, *ask, *number),
-            FolderEvent::TellsNothing(ask) => has_number(&it.waiting, *ask),
-            FolderEvent::Passes(to) => it.is_open && it.holds() && *to != it.site,
-            FolderEvent::Appends(packet) => is_server(carrier)
-                && it.runs()
-                && has_packet(&it.kept, *packet)
-                && self.is_placed(*packet),
-            FolderEvent::Reads(packet) => it.runs()
-                && sender(*packet) != it.site
-                && self.is_offered(carrier, *packet),
-            FolderEvent::Rebuilds(packets) => self.may_rebuild(it, packets),
-            FolderEvent::WritesAnew => is_server(carrier) && self.may_write_anew(it),
-            _ => true,
-        }
+        let site = it.site;
+        it.answered.contains(&Answer { ask, number })
+            && self
+                .stream(site)
+                .contains(&ShopPacket::Message(site, number, ask))
     }
 
     /// Whether the event may happen.
-    pub fn may(&self, carrier: Carrier, event: &ShopEvent) -> bool
-        ensures { result ≡ may carrier (shop_of self.now) (event_of event.now) }
+    pub fn may(&self, carrier: Carrier, event: Event) -> bool
+        ensures { result ≡ may carrier (shop_of self.now) event }
     {
+        let server = carrier == Carrier::Server;
         match event {
-            ShopEvent::At(folder, what) => match self.folders.get(*folder as usize) {
-                Some(it) => self.may_at(carrier, *folder, it, what),
-                None => self.may_at(carrier, *folder, &Folder::new(self.alloc, *folder), what),
-            },
-            ShopEvent::IsAsked(ask, life, _) => is_next(*ask, self.requests.len() as u64)
-                && *life <= self.begun,
+            Event::Starts(k) | Event::IsRaised(k) => self.look(k, |it| it.life == 0),
+            Event::Opens(k) => self.look(k, |it| self.may_open(k, it)),
+            Event::TakesOver(k) => {
+                self.look(k, |it| 0 < it.life && self.yielding.contains(&it.site))
+            }
+            Event::OpensAlone(k) | Event::GoesOn(k) => self.look(k, |it| 0 < it.life),
+            Event::IsAsked(ask, life, _) => {
+                is_next(ask, self.requests.len() as u64) && life <= self.begun
+            }
+            Event::Serves(k, ask) => self.look(k, |it| self.may_serve(it, ask)),
+            Event::Gives(k, ask) => self.look(k, |it| it.is_open && it.waiting.contains(&ask)),
+            Event::Accepts(k, ask) => self.look(k, |it| {
+                it.is_open && it.lines.first() == Some(&ask) && !self.full.contains(&k)
+            }),
+            Event::Refuses(k, ask) => self.look(k, |it| it.lines.first() == Some(&ask)),
+            Event::TellsOk(k, ask, number) => {
+                self.look(k, |it| it.answered.contains(&Answer { ask, number }))
+                    && !self.yielding.contains(&self.site(k))
+            }
+            Event::TellsPublished(k, ask, number) => {
+                server && self.look(k, |it| self.may_tell_published(it, ask, number))
+            }
+            Event::TellsNothing(k, ask) => self.look(k, |it| it.waiting.contains(&ask)),
+            Event::Passes(k, to) => self.look(k, |it| it.is_open && it.holds() && to != it.site),
+            Event::Appends(k, packet) => {
+                self.look(k, |it| server && 0 < it.life && it.kept.contains(&packet))
+                    && self.is_placed(packet)
+            }
+            Event::Sends(k, packet) => {
+                self.look(k, |it| server && 0 < it.life && it.kept.contains(&packet))
+            }
+            Event::Arrives(packet) => {
+                server && self.under_way.contains(&packet) && self.is_placed(packet)
+            }
+            Event::Reads(k, packet) => {
+                self.look(k, |it| 0 < it.life && sender(packet) != it.site)
+                    && self.is_offered(carrier, packet)
+                    && !(matches!(packet, ShopPacket::Message(_, _, _)) && self.full.contains(&k))
+            }
+            Event::Finds(k, packet) => {
+                self.look(k, |it| it.life == 0) && self.is_somewhere(packet)
+            }
+            Event::Rebuilds(k, made) => {
+                self.look(
+                    k,
+                    |it| it.life == 0 && has_packets(self.kept(made), &it.kept),
+                )
+            }
+            Event::WritesAnew(k) => self.look(k, |it| {
+                server
+                    && 0 < it.life
+                    && !self.uncompared.contains(&it.site)
+                    && are_own(self.stream(it.site), &it.kept, it.site)
+            }),
             _ => true,
         }
     }

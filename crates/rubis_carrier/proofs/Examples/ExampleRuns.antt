@@ -3,8 +3,9 @@ use Rattle.std.proofs.Common.{◌≡◌, ◌++◌, ◌∷◌, [], ℕ, List, ref
 use Rattle.rubis_carrier.specs.declared.values.Carrier.{Carrier}
 use Rattle.rubis_carrier.specs.declared.values.ShopPacket.{ShopPacket}
 use Rattle.rubis_carrier.specs.declared.values.ShopPacket.TheVariants.{Message}
-use Rattle.rubis_carrier.specs.Events.{AreSteps, Event}
-use Rattle.rubis_carrier.specs.Events.Event.{Accepts, Gives, IsAsked, Opens, Serves, Starts}
+use Rattle.rubis_carrier.specs.Events.{AreSteps}
+use Rattle.rubis_carrier.specs.declared.values.ShopEvent.{ShopEvent}
+use Rattle.rubis_carrier.specs.declared.values.ShopEvent.TheVariants.{Accepts, Gives, IsAsked, Opens, Serves, Starts}
 use Rattle.rubis_carrier.specs.Shops.{start}
 use Rattle.rubis_carrier.proofs.Computed.{are_steps_true}
 
@@ -19,17 +20,17 @@ pub not_the_same : first_message ≡ other_message → ⊥
 not_the_same e = absurd (cc e)
 
 -- site 0 is started and opened
-abbrev pub opening_first : List Event
+abbrev pub opening_first : List ShopEvent
 opening_first = Starts 0 ∷ Opens 0 ∷ []
 
 -- an ask, of one record, goes to a folder in that life, and is accepted
-abbrev pub asking_at : ℕ → ℕ → ℕ → List Event
+abbrev pub asking_at : ℕ → ℕ → ℕ → List ShopEvent
 asking_at k r life = IsAsked r life 1 ∷ Serves k r ∷ Gives k r ∷ Accepts k r ∷ []
 
-abbrev pub asking : ℕ → ℕ → List Event
+abbrev pub asking : ℕ → ℕ → List ShopEvent
 asking r life = asking_at 0 r life
 
-abbrev pub asked_once : List Event
+abbrev pub asked_once : List ShopEvent
 asked_once = opening_first ++ asking 1 1
 
 pub asked_once_may : (c : Carrier) → AreSteps c start asked_once

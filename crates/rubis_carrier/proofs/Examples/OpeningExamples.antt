@@ -4,25 +4,27 @@ use Rattle.std.proofs.Common.{◌≡◌, inl, ◌++◌, ◌∷◌, [], ℕ, true
 use Rattle.rubis_model.specs.Settle.{Has}
 use Rattle.rubis_carrier.specs.declared.values.Carrier.{Carrier}
 use Rattle.rubis_carrier.specs.declared.values.Carrier.TheVariants.{Files, Server}
-use Rattle.rubis_carrier.specs.Events.{AreSteps, Event, after, opened, opening, replaced, run}
-use Rattle.rubis_carrier.specs.Events.Event.{Appends, IsChanged, IsCopied, IsKilled, LosesEnd, Opens, OpensAlone, Reads, Starts, StreamLosesEnd}
+use Rattle.rubis_carrier.specs.Events.{AreSteps, after, opened, opening, replaced, run}
+use Rattle.rubis_carrier.specs.declared.values.ShopEvent.{ShopEvent}
+use Rattle.rubis_carrier.specs.declared.values.ShopEvent.TheVariants.{Accepts, Appends, Arrives, Closes, Fills, Gives, GoesOn, IsAsked, IsCopied, IsKilled}
+use Rattle.rubis_carrier.specs.declared.values.ShopEvent.TheVariants.{IsRaised, LosesEnd, Opens, OpensAlone, Reads, Sends, Serves, Starts, StreamLosesEnd}
 use Rattle.rubis_carrier.specs.Laws.{AreGivenOnce}
 use Rattle.rubis_carrier.specs.Shops.{IsNotAhead, MayOpen, Place, Shop, folder, start, there, with_folder}
 use Rattle.rubis_carrier.specs.Shops.Place.{InFolder, InStream}
 use Rattle.rubis_carrier.specs.Tests.{are_steps, may}
 use Rattle.rubis_carrier.proofs.Computed.{are_steps_true, may_not}
-use Rattle.rubis_carrier.proofs.Examples.ExampleRuns.{asked_once, asking, asking_at, first_message, not_the_same, other_message}
+use Rattle.rubis_carrier.proofs.Examples.ExampleRuns.{asked_once, asking, asking_at, first_message, not_the_same, opening_first, other_message}
 
 -- the folder may not open; if it does all the same, as it would if it were alone and remembered, these steps may follow, and then a
 -- message of site 0 that stands at this place has the number of another one that stands at that place
-record IsNeeded (c : Carrier) (s : Shop) (k : ℕ) (later : List Event) (h g : Place) : Type 0 where
+record IsNeeded (c : Carrier) (s : Shop) (k : ℕ) (later : List ShopEvent) (h g : Place) : Type 0 where
   refused : may c s (Opens k) ≡ false
   goes_on : are_steps c (opening k s) later ≡ true
   first : Has first_message (there (run (opening k s) later) h)
   other : Has other_message (there (run (opening k s) later) g)
   compared : (run (opening k s) later).uncompared ≡ []
 
-gives_twice : {c : Carrier} {s : Shop} {k : ℕ} {later : List Event} {h g : Place} → IsNeeded c s k later h g
+gives_twice : {c : Carrier} {s : Shop} {k : ℕ} {later : List ShopEvent} {h g : Place} → IsNeeded c s k later h g
     → ¬ (MayOpen s k) × AreSteps c (opening k s) later × ¬ (AreGivenOnce (run (opening k s) later))
 gives_twice {c} {s} {k} {later} {h} {g} q = (
   may_not c s (Opens k) q.refused,
@@ -33,7 +35,7 @@ gives_twice {c} {s} {k} {later} {h} {g} q = (
 -- ---- a folder that was put back
 
 -- site 1 has read the first message of site 0, whose folder was put back to before it, and is started
-abbrev put_back : List Event
+abbrev put_back : List ShopEvent
 put_back = asked_once ++ Starts 1 ∷ Reads 1 first_message ∷ LosesEnd 0 0 ∷ Starts 0 ∷ []
 
 put_back_may : AreSteps Files start put_back
@@ -47,7 +49,7 @@ put_back_is_needed = record { refused = refl; goes_on = refl; first = inl refl; 
 
 -- the stream of site 0 had the message, and site 1 has read it there; then the folder and the stream lost it. They are equal: whoever
 -- compares the folder with the stream alone sees nothing. But site 1 is ahead
-abbrev losing_both : List Event
+abbrev losing_both : List ShopEvent
 losing_both = Appends 0 first_message ∷ Starts 1 ∷ Reads 1 first_message ∷ StreamLosesEnd 0 0 ∷ LosesEnd 0 0 ∷ Starts 0 ∷ []
 
 lost_both_may : AreSteps Server start (asked_once ++ losing_both)
@@ -109,7 +111,7 @@ abbrev changing : Shop
 changing = run start (asked_once ++ Starts 1 ∷ Reads 1 first_message ∷ [])
 
 -- where sums are looked at, the packets in front of it are left
-changed_is_found : (folder (after changing (IsChanged 0 (other_message ∷ []))) 0).kept ≡ []
+changed_is_found : (folder (after changing (LosesEnd 0 0)) 0).kept ≡ []
 changed_is_found = refl
 
 -- where they aren't, a folder has whatever stands there
@@ -135,3 +137,53 @@ alone_may = are_steps_true Files start (put_back ++ OpensAlone 0 ∷ asking 2 3)
 
 alone_is_noted : (run start (put_back ++ OpensAlone 0 ∷ asking 2 3)).uncompared ≡ 0 ∷ []
 alone_is_noted = refl
+
+-- ---- an append that comes late
+
+-- the append of the first message is under way as the folder loses that, and opens, compared with all that can be seen
+abbrev late : Shop
+late = run start (asked_once ++ Sends 0 first_message ∷ LosesEnd 0 0 ∷ Starts 0 ∷ [])
+
+late_may_open : may Server late (Opens 0) ≡ true
+late_may_open = refl
+
+-- then it arrives no more
+late_is_refused : may Server (run (after late (Opens 0)) (asking 2 2)) (Arrives first_message) ≡ false
+late_is_refused = refl
+
+-- a server that takes it all the same has one message of that number, and the folder another one
+abbrev late_taken : Shop
+late_taken = run (record (after late (Opens 0)) { under_way = first_message ∷ [] }) (asking 2 2 ++ Arrives first_message ∷ [])
+
+late_gives_twice : AreGivenOnce late_taken → ⊥
+late_gives_twice once = not_the_same (once (InStream 0) (InFolder 0) first_message other_message (inl refl) (inl refl) refl (λ u. u))
+
+-- ---- a process that doesn't know of the other folder
+
+-- folder 5, a copy, opens while the process of folder 0 goes on: where that takes an ask, the site is noted
+abbrev going_on_there : List ShopEvent
+going_on_there = opening_first ++ IsCopied 0 5 ∷ Starts 5 ∷ Closes 0 ∷ Opens 5 ∷ asking_at 5 1 2 ++ GoesOn 0 ∷ asking 2 1
+
+going_on_may : AreSteps Files start going_on_there
+going_on_may = are_steps_true Files start going_on_there refl
+
+closed_is_refused : may Files (run start (opening_first ++ IsAsked 1 1 1 ∷ Serves 0 1 ∷ Gives 0 1 ∷ Closes 0 ∷ [])) (Accepts 0 1) ≡ false
+closed_is_refused = refl
+
+going_on_is_noted : (run start going_on_there).uncompared ≡ 0 ∷ []
+going_on_is_noted = refl
+
+gone_on_twice : Has first_message (folder (run start going_on_there) 5).kept × Has other_message (folder (run start going_on_there) 0).kept
+gone_on_twice = (inl refl, inl refl)
+
+-- ---- a full site
+
+-- it takes no ask, and no message of another site, until it is stopped and may keep more
+full_is_refused : may Files (run start (opening_first ++ IsAsked 1 1 1 ∷ Serves 0 1 ∷ Gives 0 1 ∷ Fills 0 ∷ [])) (Accepts 0 1) ≡ false
+full_is_refused = refl
+
+full_reads_nothing : may Files (run start (asked_once ++ Starts 1 ∷ Fills 1 ∷ [])) (Reads 1 first_message) ≡ false
+full_reads_nothing = refl
+
+raised_reads : AreSteps Files start (asked_once ++ Starts 1 ∷ Fills 1 ∷ IsKilled 1 ∷ IsRaised 1 ∷ Starts 1 ∷ Reads 1 first_message ∷ [])
+raised_reads = are_steps_true Files start (asked_once ++ Starts 1 ∷ Fills 1 ∷ IsKilled 1 ∷ IsRaised 1 ∷ Starts 1 ∷ Reads 1 first_message ∷ []) refl

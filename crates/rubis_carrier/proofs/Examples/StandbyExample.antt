@@ -4,8 +4,9 @@ use Rattle.std.proofs.Common.{◌≡◌, inl, inr, ◌++◌, ◌∷◌, [], fals
 use Rattle.rubis_model.specs.Settle.{Has}
 use Rattle.rubis_carrier.specs.declared.values.Carrier.TheVariants.{Server}
 use Rattle.rubis_carrier.specs.declared.values.Notice.TheVariants.{Ok}
-use Rattle.rubis_carrier.specs.Events.{AreSteps, Event, May, after, run}
-use Rattle.rubis_carrier.specs.Events.Event.{Appends, IsCopied, Opens, Starts, TakesOver, TellsOk, TellsPublished, Yields}
+use Rattle.rubis_carrier.specs.Events.{AreSteps, May, after, run}
+use Rattle.rubis_carrier.specs.declared.values.ShopEvent.{ShopEvent}
+use Rattle.rubis_carrier.specs.declared.values.ShopEvent.TheVariants.{Appends, IsCopied, Opens, Starts, TakesOver, TellsOk, TellsPublished, Yields}
 use Rattle.rubis_carrier.specs.Shops.{Shop, start}
 use Rattle.rubis_carrier.specs.Tests.{may}
 use Rattle.rubis_carrier.proofs.Computed.{are_steps_true, may_not}
@@ -13,7 +14,7 @@ use Rattle.rubis_carrier.proofs.Examples.ExampleRuns.{asking, asking_at, first_m
 
 -- folder 5 takes over from folder 0, which goes on. Each accepts an ask, under the same number, and folder 0 is the first to append its
 -- message, and to tell its asker
-abbrev both_go_on : List Event
+abbrev both_go_on : List ShopEvent
 both_go_on =
     Starts 0 ∷ Opens 0 ∷ Yields 0 ∷ IsCopied 0 5 ∷ Starts 5 ∷ TakesOver 5 ∷ asking 1 1 ++ asking_at 5 2 2 ++ Appends 0 first_message
     ∷ TellsPublished 0 1 1 ∷ []

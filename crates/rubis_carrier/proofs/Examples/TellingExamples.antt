@@ -4,9 +4,10 @@ use Rattle.rubis_model.specs.Settle.{Has}
 use Rattle.rubis_carrier.specs.declared.values.Carrier.TheVariants.{Files, Server}
 use Rattle.rubis_carrier.specs.declared.values.ShopPacket.TheVariants.{Message}
 use Rattle.rubis_carrier.specs.declared.values.Notice.TheVariants.{No, Ok}
-use Rattle.rubis_carrier.specs.Events.{AreSteps, Event, IsWhole, May, MayRebuild, MayServe, after, run}
-use Rattle.rubis_carrier.specs.Events.Event.{Accepts, Appends, Gives, IsAsked, IsCopied, IsKilled, LosesEnd, Rebuilds, Serves, Starts, TellsNothing}
-use Rattle.rubis_carrier.specs.Events.Event.{TellsOk, WritesAnew}
+use Rattle.rubis_carrier.specs.Events.{AreSteps, IsWhole, May, MayRebuild, MayServe, after, run}
+use Rattle.rubis_carrier.specs.declared.values.ShopEvent.{ShopEvent}
+use Rattle.rubis_carrier.specs.declared.values.ShopEvent.TheVariants.{Accepts, Appends, Gives, IsAsked, IsCopied, IsKilled, LosesEnd, Rebuilds, Serves, Starts}
+use Rattle.rubis_carrier.specs.declared.values.ShopEvent.TheVariants.{TellsNothing, TellsOk, WritesAnew}
 use Rattle.rubis_carrier.specs.Laws.{IsUnmade}
 use Rattle.rubis_carrier.specs.Shops.{Shop, folder, start, stream}
 use Rattle.rubis_carrier.specs.Shops.Place.{InFolder}
@@ -16,7 +17,7 @@ use Rattle.rubis_carrier.proofs.Examples.ExampleRuns.{asked_once, first_message,
 -- ---- a copy that answers
 
 -- folder 5 is a copy of folder 0, and runs, but isn't open. An ask names the life of folder 0
-abbrev copy_runs : List Event
+abbrev copy_runs : List ShopEvent
 copy_runs = opening_first ++ IsCopied 0 5 ∷ Starts 5 ∷ IsAsked 1 1 1 ∷ []
 
 copy_may_not_serve : ¬ (MayServe (run start copy_runs) 5 1)
@@ -38,7 +39,7 @@ copy_is_wrong none = none (InFolder 0) 0 1 (inl refl)
 -- ---- an ask of two records, and of none
 
 -- the first ask is two records, the second is one
-abbrev two_asked : List Event
+abbrev two_asked : List ShopEvent
 two_asked = opening_first ++ IsAsked 1 1 2 ∷ IsAsked 2 1 1 ∷ []
 
 two_are_refused : ¬ (MayServe (run start two_asked) 0 1)
@@ -46,7 +47,7 @@ two_are_refused = may_not Files (run start two_asked) (Serves 0 1) refl
 
 -- if it is served all the same, its second record is taken to be the second ask: that is told ok, with the id of another message, and
 -- isn't there
-abbrev two_lines : List Event
+abbrev two_lines : List ShopEvent
 two_lines = Gives 0 1 ∷ Serves 0 2 ∷ Gives 0 2 ∷ Accepts 0 1 ∷ Accepts 0 1 ∷ TellsOk 0 2 2 ∷ []
 
 abbrev two_served : Shop
@@ -63,7 +64,7 @@ two_is_wrong h = ⊎_elim (λ (e : Message 0 2 2 ≡ Message 0 1 1). absurd (cc 
     (λ (g : Has (Message 0 2 2) (Message 0 2 1 ∷ [])). ⊎_elim (λ (e : Message 0 2 2 ≡ Message 0 2 1). absurd (cc e)) (λ z. z) g) h
 
 -- an ask of no record is refused as well; if it is served, the refusal of the next ask is told to its asker, and so on
-abbrev none_asked : List Event
+abbrev none_asked : List ShopEvent
 none_asked = opening_first ++ IsAsked 1 1 0 ∷ IsAsked 2 1 1 ∷ []
 
 none_is_refused : ¬ (MayServe (run start none_asked) 0 1)
@@ -72,18 +73,19 @@ none_is_refused = may_not Files (run start none_asked) (Serves 0 1) refl
 -- ---- a folder that is made again without what was left of it
 
 -- site 0 has told ok, and is stopped; nobody has read its message
-abbrev told_ok : List Event
+abbrev told_ok : List ShopEvent
 told_ok = asked_once ++ TellsOk 0 1 1 ∷ IsKilled 0 ∷ []
 
-dropping_is_refused : ¬ (MayRebuild (run start told_ok) 0 [])
-dropping_is_refused = may_not Files (run start told_ok) (Rebuilds 0 []) refl
+-- folder 5, that a rebuild begins, has nothing of it
+dropping_is_refused : ¬ (MayRebuild (run start told_ok) 0 5)
+dropping_is_refused = may_not Files (run start told_ok) (Rebuilds 0 5) refl
 
--- a rebuild is no loss: the folder is whole. But it hasn't the message, and has all that is anywhere
-rebuilds_are_whole : IsWhole (InFolder 0) (Rebuilds 0 [] ∷ [])
+-- a rebuild is no loss: the folder is whole. But it hasn't the message
+rebuilds_are_whole : IsWhole (InFolder 0) (Rebuilds 0 5 ∷ [])
 rebuilds_are_whole = ((λ h. h), tt)
 
 abbrev dropped : Shop
-dropped = after (run start told_ok) (Rebuilds 0 [])
+dropped = after (run start told_ok) (Rebuilds 0 5)
 
 was_told_ok : Has (Ok 1 0 1) (run start told_ok).told × Has (Message 0 1 1) (folder (run start told_ok) 0).kept
 was_told_ok = (inl refl, inl refl)
@@ -94,7 +96,7 @@ dropped_is_lost h = h
 -- ---- a stream that is written anew from a folder that has less
 
 -- only the stream has the message of an ask that was told ok
-abbrev in_stream : List Event
+abbrev in_stream : List ShopEvent
 in_stream = asked_once ++ TellsOk 0 1 1 ∷ Appends 0 first_message ∷ LosesEnd 0 0 ∷ Starts 0 ∷ []
 
 rewriting_is_refused : ¬ (May Server (run start in_stream) (WritesAnew 0))

@@ -6,12 +6,14 @@ use Rattle.rubis_model.specs.Settle.{Has}
 use Rattle.rubis_carrier.specs.declared.values.Carrier.TheVariants.{Server}
 use Rattle.rubis_carrier.specs.declared.values.ShopPacket.{ShopPacket}
 use Rattle.rubis_carrier.specs.declared.values.ShopPacket.TheVariants.{Message, Pass}
-use Rattle.rubis_carrier.specs.Events.{AllCarry, AreSteps, Carries, Event, May, after, keeping, run, started}
-use Rattle.rubis_carrier.specs.Events.Event.{Accepts, Appends, Gives, IsAsked, IsKilled, Opens, Passes, Reads, ServerLosesAll, Serves, Starts}
+use Rattle.rubis_carrier.specs.Events.{AllCarry, AreSteps, Carries, May, after, keeping, run, started}
+use Rattle.rubis_carrier.specs.declared.values.ShopEvent.{ShopEvent}
+use Rattle.rubis_carrier.specs.declared.values.ShopEvent.TheVariants.{Accepts, Appends, Gives, IsAsked, IsKilled, Opens, Passes, Reads, ServerLosesAll, Serves}
+use Rattle.rubis_carrier.specs.declared.values.ShopEvent.TheVariants.{Starts}
 use Rattle.rubis_carrier.specs.Laws.{CanHold}
 use Rattle.rubis_carrier.specs.Packets.{Holds, highest, taken}
 use Rattle.rubis_carrier.specs.Shops.{Folder, Place, Shop, folder, folder_in, put_folder, start, there}
-use Rattle.rubis_carrier.specs.Shops.Place.{InFolder, InStream}
+use Rattle.rubis_carrier.specs.Shops.Place.{InFolder, InStream, UnderWay}
 use Rattle.rubis_carrier.proofs.Changes.{IsNew, from_step}
 use Rattle.rubis_carrier.proofs.Computed.{are_steps_true}
 use Rattle.rubis_carrier.proofs.Examples.ExampleRuns.{asked_once, first_message}
@@ -29,7 +31,7 @@ the_pass = Pass 0 1 1 1
 
 -- a second message follows, and site 2 reads both; the server loses all while site 0 is stopped, and site 2 puts back what it has. Site
 -- 1 reads that. Then site 0 comes back, and puts its pass into the stream again
-abbrev passing : List Event
+abbrev passing : List ShopEvent
 passing =
     Passes 0 1 ∷ IsAsked 2 1 1 ∷ Serves 0 2 ∷ Gives 0 2 ∷ Accepts 0 2 ∷ Appends 0 first_message ∷ Appends 0 the_pass ∷ Appends 0 second_message
     ∷ Starts 2 ∷ Reads 2 first_message ∷ Reads 2 second_message ∷ IsKilled 0 ∷ ServerLosesAll ∷ Appends 2 first_message ∷ Appends 2 second_message
@@ -48,11 +50,11 @@ comes_back = (Reads 1 the_pass ∷ [], (tt, tt), are_steps_true Server passed_on
 -- ---- by its place
 
 -- a site reads a pass only where it has no later message of the sender
-abbrev IsAtPlace : Shop → Event → Type 0
+abbrev IsAtPlace : Shop → ShopEvent → Type 0
 IsAtPlace s (Reads k (Pass i t j a)) = highest i (folder s k).kept ≤ a
 IsAtPlace s e = Unit {0}
 
-abbrev AreStepsByPlace : Shop → List Event → Type 0
+abbrev AreStepsByPlace : Shop → List ShopEvent → Type 0
 AreStepsByPlace s [] = Unit {0}
 AreStepsByPlace s (e ∷ rest) = May Server s e × IsAtPlace s e × AreStepsByPlace (after s e) rest
 
@@ -64,7 +66,7 @@ IsFine (Pass i t j a) = (i ≡ 0) × (a ≡ 1)
 abbrev AllFine : Shop → Type 0
 AllFine s = (h : Place) (x : ShopPacket) → Has x (there s h) → IsFine x
 
-fine_step : (s : Shop) (e : Event) → May Server s e → AllFine s → ((x : ShopPacket) → IsNew s e x → IsFine x) → AllFine (after s e)
+fine_step : (s : Shop) (e : ShopEvent) → May Server s e → AllFine s → ((x : ShopPacket) → IsNew s e x → IsFine x) → AllFine (after s e)
 fine_step s e m f new h x a = ⊎_elim (λ old. f old.0 x old.1) (new x) (from_step Server s e h x m a)
 
 -- site 1 has two messages of site 0, and no token
@@ -103,7 +105,7 @@ stuck_reads {s} k (Pass i t j a) m p q = stuck (after s (Reads k (Pass i t j a))
         let place : highest 0 (folder s 1).kept ≤ a = subst (λ d. highest d (folder s 1).kept ≤ a) is.0 (subst (λ n. highest i (folder s n).kept ≤ a) e p) in
         omega (arith, place, is.1, q.ahead)
 
-stuck_step : {s : Shop} (e : Event) → Carries e → May Server s e → IsAtPlace s e → IsStuck s → IsStuck (after s e)
+stuck_step : {s : Shop} (e : ShopEvent) → Carries e → May Server s e → IsAtPlace s e → IsStuck s → IsStuck (after s e)
 stuck_step {s} (Starts k) c m p q = stuck (after s (Starts k)) (fine_step s (Starts k) m q.fine (λ x z. absurd z))
     (at_one q k (started (folder s k) (s.begun + 1)) (λ e. subst (λ j. IsBehind (started (folder s j) (s.begun + 1))) (sym e)
     (record { ahead = q.ahead; site = q.site; none = q.none })))
@@ -113,18 +115,18 @@ stuck_step (Reads k x) c m p q = stuck_reads k x m p q
 stuck_step (Opens k) c m p q = absurd c
 stuck_step e c m p q = absurd c
 
-stuck_after : (s : Shop) (more : List Event) → AllCarry more → AreStepsByPlace s more → IsStuck s → IsStuck (run s more)
+stuck_after : (s : Shop) (more : List ShopEvent) → AllCarry more → AreStepsByPlace s more → IsStuck s → IsStuck (run s more)
 stuck_after s [] c m q = q
 stuck_after s (e ∷ rest) c m q = stuck_after (after s e) rest c.1 m.2 (stuck_step e c.0 m.0 m.1 q)
 
 -- ---- so it is lost for good
 
 -- what an event makes is fine, by a test
-abbrev makes_fine : Shop → Event → Bool
+abbrev makes_fine : Shop → ShopEvent → Bool
 makes_fine s (Passes k to) = ((folder s k).site == 0) && (highest (folder s k).site (folder s k).kept == 1)
 makes_fine s e = true
 
-new_fine : (s : Shop) (e : Event) → makes_fine s e ≡ true → (x : ShopPacket) → IsNew s e x → IsFine x
+new_fine : (s : Shop) (e : ShopEvent) → makes_fine s e ≡ true → (x : ShopPacket) → IsNew s e x → IsFine x
 new_fine s (Passes k to) t x e =
     let both = and_parts ((folder s k).site == 0) (highest (folder s k).site (folder s k).kept == 1) t in
     subst IsFine (sym e) (eqb-true (folder s k).site 0 both.0, eqb-true (highest (folder s k).site (folder s k).kept) 1 both.1)
@@ -133,11 +135,11 @@ new_fine s (Starts k) t x z = absurd z
 new_fine s e t x z = absurd z
 
 -- and what all of them make
-abbrev make_fine : Shop → List Event → Bool
+abbrev make_fine : Shop → List ShopEvent → Bool
 make_fine s [] = true
 make_fine s (e ∷ rest) = makes_fine s e && make_fine (after s e) rest
 
-fine_after : (s : Shop) (events : List Event) → AreSteps Server s events → make_fine s events ≡ true → AllFine s → AllFine (run s events)
+fine_after : (s : Shop) (events : List ShopEvent) → AreSteps Server s events → make_fine s events ≡ true → AllFine s → AllFine (run s events)
 fine_after s [] m t f = f
 fine_after s (e ∷ rest) m t f =
     let both = and_parts (makes_fine s e) (make_fine (after s e) rest) t in
@@ -149,9 +151,10 @@ all_fine = fine_after start (asked_once ++ passing) passed_on_may refl none_yet
     none_yet : AllFine start
     none_yet (InFolder k) x h = absurd h
     none_yet (InStream i) x h = absurd h
+    none_yet UnderWay x h = absurd h
 
 -- site 1 never holds the token: by whatever folders that are started, and packets that are carried
-lost_for_good : (more : List Event) → AllCarry more → AreStepsByPlace passed_on more
+lost_for_good : (more : List ShopEvent) → AllCarry more → AreStepsByPlace passed_on more
     → Holds (folder (run passed_on more) 1).site (folder (run passed_on more) 1).kept → ⊥
 lost_for_good more c m h =
     let q = stuck_after passed_on more c m (stuck passed_on all_fine (record { ahead = omega arith; site = refl; none = refl })) in

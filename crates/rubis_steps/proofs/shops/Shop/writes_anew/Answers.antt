@@ -8,7 +8,8 @@ use Rattle.rubis_steps.proofs.shops.Shop.writes_anew.Goals as goal
 pub returns : goal.returns
 returns c =
     let old = c.args.self.now in
-    let k = c.args.folder in
-    let all = own (folder_at old k).site (folder_at old k).kept in
-    stream_replaced c.in_ok-stream.stream (λ xs. all) c.in_ok-list_stream.ensures c.index_mut.ensures.value c.in_ok-stream.ensures
-    ∙ ap (λ i. with_stream i all (shop_of old)) c.site-site.ensures
+    let kept = (folder_at old c.args.folder).kept in
+    let i = c.site-site.result in
+    stream_replaced c.in_ok-stream.stream (λ xs. own i kept) c.in_ok-list_stream.ensures c.index_mut.ensures.value
+    (c.in_ok-stream.ensures ∙ ap (λ xs. own i xs) c.kept.ensures)
+    ∙ ap (λ i. with_stream i (own i kept) (shop_of old)) c.site-site.ensures
