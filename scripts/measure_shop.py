@@ -29,10 +29,9 @@ import time
 from collections.abc import Callable, Iterator, Sequence
 from typing import Any
 
-TOP = pathlib.Path(__file__).resolve().parent.parent
-sys.path.insert(0, str(TOP))
+from top import TOP
 
-from shop_tool import client        # noqa: E402
+from shop_tool import client
 
 SITES = 4
 
