@@ -1,10 +1,9 @@
 #!/usr/bin/env python3
 """Measures rubis beside the plain program: scripts/costs.py [TABLE..] [--program FILE] [--small]
 
-Without a name, all tables. Each is written as README, the guide and docs/COSTS.md have it, under the machine and the date; docs/COSTS.md says what
-each counts. `clock` is the least of five runs. valgrind runs one thread at a time, each in its turn, as if each had a processor of its own;
-threads of the same number that ran one after the other count as one. Both programs get the same inputs, one run after the other, and their
-answers have to be the same bytes.
+Without a name, all tables. Each is written as docs/COSTS.md has it, which says what it counts. `clock` is the least of five runs. valgrind
+runs one thread at a time, each in its turn, as if each had a processor of its own; threads of the same number that ran one after the other
+count as one. Both programs get the same inputs, one run after the other, and their answers have to be the same bytes.
 
 --small takes a tenth of each size. Needs `cargo`, `valgrind` and /usr/bin/time. The whole takes some forty minutes."""
 
@@ -19,7 +18,7 @@ import subprocess
 import sys
 import tempfile
 import time
-from collections.abc import Callable, Iterator
+from collections.abc import Callable
 from typing import Any, NamedTuple
 
 from top import TOP
@@ -146,42 +145,30 @@ class Programs:
         return workloads.audit_of(measured(self.plain, workloads.world_with_logs(many), []).output)
 
 
-def usual(programs: Programs) -> Iterator[tuple[str, Work, str]]:
-    """The usual runs: what each is, and its settings."""
-    one = "--workers 1"
-    size = programs.size
-    yield "{:,}: users, and two listings of all so far", workloads.users(size(200_000)), one
-    yield "{:,} requests of all kinds", workloads.requests(size(100_000)), one
-    yield "the same with 1,000 small listings among them: {:,}", workloads.requests(size(100_000), size(1_000)), one
-    yield "{:,} records of a world of four sites, and what they send", workloads.world(size(100_000)), one
-    in_order = workloads.in_order(size(1_000_000))
-    yield "{:,} messages of another site, in order", in_order, one
-    yield "the same with `--batch 8192 --shards 16` and 4 workers: {:,}", in_order, "--batch 8192 --shards 16 --workers 4"
-    yield "the same with the defaults, 2 workers and batches of 64: {:,}", in_order, ""
-    yield "an audit of {:,} records", programs.audit(size(100_000)), one
-    yield "an audit of {:,} records", programs.audit(size(1_000_000)), one
-
-
-def clock(programs: Programs) -> None:
-    head("records", "processor time", "by the clock", "memory", "plain: time", "memory", "times as much")
-    for name, work, settings in usual(programs):
-        pairs = [(measured(programs.rubis, work, workers(work, settings)), measured(programs.plain, work, [])) for _ in range(RUNS)]
-        rubis, plain = (functools.reduce(Cost.least, costs) for costs in zip(*pairs))
-        row(name.format(work.records()) + programs.same(rubis.output, plain.output), f"{rubis.processor:.2f} s", f"{rubis.clock:.2f} s",
-            f"{rubis.memory:.0f} MiB", f"{plain.processor:.2f} s", f"{plain.memory:.0f} MiB", f"{rubis.processor / max(plain.processor, 0.01):.1f}")
-
-
-def count(programs: Programs) -> None:
+def usual(programs: Programs) -> dict[str, Work]:
+    """The usual runs."""
     many = programs.size(100_000)
     audit = programs.audit(many)
-    works = {
+    return {
         "messages in order": workloads.in_order(many), "messages shuffled": workloads.shuffled(many),
         "messages in reverse order": workloads.reversed_order(many), "requests": workloads.requests(many),
         "requests with small listings": workloads.requests(many, programs.size(1_000)), "users with two listings": workloads.users(many),
         "a world of four sites": workloads.world(many), "an audit": audit, "a widening": Work(["widen", "--sites", "4"], audit.text),
     }
+
+
+def clock(programs: Programs) -> None:
+    head("records", "processor time", "by the clock", "memory", "plain: time", "memory", "times as much")
+    for name, work in usual(programs).items():
+        pairs = [(measured(programs.rubis, work, workers(work, "--workers 1")), measured(programs.plain, work, [])) for _ in range(RUNS)]
+        rubis, plain = (functools.reduce(Cost.least, costs) for costs in zip(*pairs))
+        row(f"{work.records():,}: {name}{programs.same(rubis.output, plain.output)}", f"{rubis.processor:.2f} s", f"{rubis.clock:.2f} s",
+            f"{rubis.memory:.0f} MiB", f"{plain.processor:.2f} s", f"{plain.memory:.0f} MiB", f"{rubis.processor / max(plain.processor, 0.01):.1f}")
+
+
+def count(programs: Programs) -> None:
     head("records", "a record: rubis", "plain", "times as much")
-    for name, work in works.items():
+    for name, work in usual(programs).items():
         rubis, ours = counted(programs.rubis, work, workers(work, "--workers 1"))
         plain, theirs = counted(programs.plain, work, [])
         records = work.records()

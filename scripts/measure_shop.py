@@ -14,6 +14,7 @@ import json
 import os
 import pathlib
 import selectors
+import shlex
 import shutil
 import socket
 import sqlite3
@@ -49,8 +50,8 @@ def selling(program: str, folder: str, sync: bool) -> Iterator[None]:
         shop("stop", folder)
 
 
-def bid(number: int, turn: int) -> str:
-    return f"bid,0.3,0.2,{1000 + 1000 * number + turn}"
+def bid(number: int) -> str:
+    return f"bid,0.3,0.2,{1000 + number}"
 
 
 ASKERS = 16
@@ -122,9 +123,10 @@ def to_port(port: int) -> Callable[[], socket.socket]:
     return lambda: socket.create_connection(("127.0.0.1", port))
 
 
-def http(path: str, body: str) -> bytes:
-    head = f"POST {path} HTTP/1.1\r\nHost: 127.0.0.1\r\nContent-Type: application/json\r\nContent-Length: {len(body)}\r\n\r\n"
-    return (head + body).encode()
+def http(path: str, body: Any) -> bytes:
+    text = json.dumps(body)
+    head = f"POST {path} HTTP/1.1\r\nHost: 127.0.0.1\r\nContent-Type: application/json\r\nContent-Length: {len(text)}\r\n\r\n"
+    return (head + text).encode()
 
 
 def is_whole_http(text: bytes) -> bool:
@@ -146,19 +148,14 @@ def is_whole_line(text: bytes) -> bool:
 
 
 def ask_by_socket(count: int) -> bytes:
-    ask = {"op": "ask", "site": 0, "records": [bid(1, count)], "timeout": 60, "fetch": True, "call": 1}
+    ask = {"op": "ask", "site": 0, "records": [bid(count)], "timeout": 60, "fetch": True, "call": 1}
     return json.dumps(ask).encode() + b"\n"
 
 
-def ask_by_http(count: int) -> bytes:
-    return http("/sites/0/asks", json.dumps({"record": bid(1, count)}))
-
-
-def hundred_by_http(count: int) -> bytes:
-    return http("/sites/0/asks", json.dumps([{"record": bid(1, count + each)} for each in range(100)]))
-
-
-BY_HTTP = [("one ask a request", ask_by_http, 1), ("a hundred a request", hundred_by_http, 100)]
+BY_HTTP: list[tuple[str, Callable[[int], bytes], int]] = [
+    ("one ask a request", lambda count: http("/sites/0/asks", {"record": bid(count)}), 1),
+    ("a hundred a request", lambda count: http("/sites/0/asks", [{"record": bid(count + each)} for each in range(100)]), 100),
+]
 
 
 @contextlib.contextmanager
@@ -195,18 +192,13 @@ def as_command(*command: str, **environment: str) -> dict[str, float]:
     return {"least": round(taken[0], 1), "half": round(taken[15], 1)}
 
 
-def redis(folder: str, port: int, *options: str) -> contextlib.AbstractContextManager[int]:
-    words = ["--port", str(port), "--bind", "127.0.0.1", "--dir", folder, "--save", "", "--appendonly", "yes", *options]
-    return running("redis-server", *words, port=port)
-
-
 def measured(folder: str, seconds: float) -> dict[str, Any]:
     """What asks of the shop in that folder cost."""
     found, command, port = dict[str, Any](), str(TOP / "shop"), free_port()
     status = client.one(folder, {"op": "status"}, 10)["shop"]
     own = {"supervisor": status["pid"], "keeper": status["site"][0]["pid"]}
     found["`python3 -I -S -c pass`, ms"] = as_command("/usr/bin/python3", "-I", "-S", "-c", "pass")
-    found["`shop ask`, ms"] = as_command(command, "-C", folder, "ask", "0", bid(0, 0))
+    found["`shop ask`, ms"] = as_command(command, "-C", folder, "ask", "0", bid(0))
     found["by the socket"] = driven(to_socket(folder), ask_by_socket, is_whole_line, seconds, 1, own)
     with running(command, "-C", folder, "serve", "--listen", f"127.0.0.1:{port}", port=port) as server:
         own["shop serve"] = server
@@ -223,7 +215,8 @@ def beside(folder: str, sync: bool, seconds: float) -> dict[str, Any]:
             found[f"a bare server of aiohttp, {name}"] = driven(to_port(port), request, is_whole_http, seconds, asks, {"server": server})
     port = free_port()
     if shutil.which("redis-server"):
-        with redis(folder, port, "--appendfsync", "always" if sync else "everysec") as server:
+        options = f"--port {port} --bind 127.0.0.1 --dir {folder} --save '' --appendonly yes --appendfsync {'always' if sync else 'everysec'}"
+        with running("redis-server", *shlex.split(options), port=port) as server:
             found["`redis-cli incr`, ms"] = as_command("redis-cli", "-p", str(port), "incr", "n")
             found["redis, INCR"] = driven(to_port(port), lambda count: b"INCR n\r\n", lambda text: text.endswith(b"\r\n"), seconds, 1, {"server": server})
     port = free_port()
@@ -235,7 +228,7 @@ def beside(folder: str, sync: bool, seconds: float) -> dict[str, Any]:
             time.sleep(2.0)     # until it has elected itself
             found["`etcdctl put`, ms"] = as_command("etcdctl", "--endpoints", urls[0], "put", "a", "b", ETCDCTL_API="3")
             name = base64.b64encode(b"a").decode()
-            found["etcd, put"] = driven(to_port(port), lambda count: http("/v3/kv/put", json.dumps({"key": name, "value": name})), is_whole_http, seconds,
+            found["etcd, put"] = driven(to_port(port), lambda count: http("/v3/kv/put", {"key": name, "value": name}), is_whole_http, seconds,
                                         1, {"server": server})
     found["SQLite, a transaction for each insert"] = inserted(f"{folder}/rows.db", sync, seconds)
     return found

@@ -1,15 +1,10 @@
 #!/usr/bin/env python3
 """Simulates whole shops: scripts/simulate_shop.py SEED [COUNT] [--without RULE] [--skip N,..] [--steps FOLDER]
 
-Each run is a shop of 2 to 5 sites, over files or a server, where one of them may have a standby, in one process and on a clock of its own:
-what is decided is decided by the carrier of `shop`, and its sites, folders, server and askers are simulated. Things go wrong for half a
-minute; then nothing goes wrong any more, and it is looked whether ids were given once, nothing that was accepted is lost, what askers were
-told is true, and all goes on.
-
-`pytest -k simulation --seed SEED --count COUNT` plays many; this plays a few, and one again. Run number N of a seed is SEED.N, and is the same
-each time: `simulate_shop.py SEED.N`. One that breaks a promise is printed, and made smaller: --skip plays it without some of its events. With
---without one rule of the carrier is taken out, to see that this is found. With --steps each run is written to a file as a list of the model's
-steps. The status is 1 if a promise was broken."""
+docs/SHOP.md says what is simulated. `pytest -k simulation --seed SEED --count COUNT` plays many; this plays a few, and one again: run number N
+of a seed is SEED.N, and is the same each time. One that breaks a promise is printed, and made smaller: --skip plays it without some of its
+events. With --without one rule of the carrier is taken out, to see that this is found. With --steps each run is written to a file as a list
+of the model's steps. The status is 1 if a promise was broken."""
 
 import argparse
 import pathlib

@@ -1,20 +1,13 @@
 #!/usr/bin/env python3
-"""The list of what is trusted, in docs/PROMISES.md.
+"""The list of what is trusted, in docs/PROMISES.md: scripts/trusted.py [--write] PROGRAM
 
-    scripts/trusted.py PROGRAM            compares it
-    scripts/trusted.py --write PROGRAM    writes it
+PROGRAM is the built rubis. The list has the libraries of the toolchain that the program's crates stand on, and those below them; the C
+functions whose contracts the proof assumes, by `rt check --list-axioms`; those that the program calls, by its symbols; and the seams: the
+types of files that a trait says of what happens to them, which no contract can.
 
-PROGRAM is the built rubis. The list has four parts:
-
-- the libraries of the toolchain that the program's crates stand on, by crates.txt, with those that these stand on;
-- the C functions whose contracts the proof assumes: those that `rt check --list-axioms` marks `reached`, and those that its
-  last line names for threads;
-- the C functions that the program calls, by its symbols;
-- the seams: the types of files that a trait says of what happens to them, which no contract can.
-
-The second part is only read with --write, in crates/rubis_app, where the crates below are proved: on a new machine that
-check would take as long as the gate. Compared are the first part and the last, and that the program calls no C function beyond the list.
-The last line says how many names were looked at; the status is 1 where something differed.
+With --write it is written, in crates/rubis_app, where the crates below are proved: on a new machine that check would take as long as the
+gate. Else the libraries and the seams are compared, and that the program calls no C function beyond the list. The last line says how many
+names were looked at; the status is 1 where something differed.
 """
 
 import pathlib

@@ -1,12 +1,9 @@
 #!/usr/bin/env python3
 """Looks through the names of the sources: lemmas, definitions and sets of rules that nothing names, names that are imported for clauses
-and proofs and that their file doesn't use, and types that share a name.
-
-    scripts/unused.py
+and proofs and that their file doesn't use, and types that share a name: scripts/unused.py
 
 A definition that only unused ones name is found too. An import is no use of a name, unless it hands the name on (`pub use`). Of
-definitions, answers to goals, examples, the files `Lib` and operators are left out.
-"""
+definitions, answers to goals, examples, the files `Lib` and operators are left out."""
 
 import collections
 import pathlib

@@ -46,13 +46,9 @@ class Call:
 
 def owner_of(line: str) -> str:
     """The type that an `impl` is of, and the trait, if it is one's."""
-    body = re.sub(r"^impl", "", line)
-    depth, text = 0, ""
-    for char in body.rstrip(" {\n"):
-        depth += char == "<"
-        if depth == 0:
-            text += char
-        depth -= char == ">"
+    text = re.sub(r"^impl", "", line).rstrip(" {\n")
+    while (less := re.sub(r"<[^<>]*>", "", text)) != text:
+        text = less
     words = text.split(" where ")[0].split(" for ")
     return "" if len(words) > 1 else words[0].strip()
 

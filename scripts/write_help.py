@@ -4,7 +4,7 @@
     scripts/write_help.py [--check] [PROGRAM]
 
 Of `shop` where no program is named: by its parser. Else of that built `rubis`, which is asked: its `--help` has the commands, their options
-and defaults, and what it answers to a number that is too large has an option's range; its records and refusals are those of docs/MANUAL.md.
+and defaults, and what it answers to a number that is too large has an option's range; its records, refusals and statuses are those of docs/MANUAL.md.
 Written are docs/NAME.1, completions/NAME.bash, completions/_NAME (for zsh) and completions/NAME.fish. With --check nothing is: each file
 that differs from what would be written is told, and the status is then 1."""
 
@@ -127,13 +127,6 @@ OF_RUBIS = [
     "files: sites are connected by carrying lines between them.",
     "No answer depends on --batch, --shards or --workers. An option that is given twice is an error.",
 ]
-STATUSES = {
-    "0": "The run is done, whatever was refused or found, but for what the next line says; or the help or the version was asked for.",
-    "1": "Logs don't agree (rubis audit --status, rubis lack) or one has lost messages (rubis lack), or a record is outside the grammar (rubis "
-         "check); then standard error has nothing. Or the run ended early. Standard error has one line: run fault: read, run fault: write, run "
-         "fault: memory, or run fault: too long (more than 4,000,000 records); or, of rubis keep, what else failed and why.",
-    "2": "The command line isn't one, or asks for another site than the folder has. Standard error says why.",
-}
 EXAMPLE = r"""
 One site, and two records to it:
 .PP
@@ -156,11 +149,14 @@ def table_of(heading: str) -> list[list[str]]:
 
 
 def rest_of_rubis() -> list[str]:
-    """What the manual says of requests, packets and refusals; and the statuses, and an example."""
+    """What the manual says of requests, packets, refusals and statuses; and an example."""
     out = [".SH RECORDS", roff("Records are CSV, one a line; the manual has the form of each field, and the answers.")]
     out += tagged({record: f"{meaning}." for heading in ("### Requests", "### Packets") for record, meaning in table_of(heading)})
     out += [".SH REFUSALS", *tagged({f"{code} {name}": f"{meaning}." for code, name, meaning in table_of("## Refusals")})]
-    out += [".SH EXIT STATUS", *tagged(STATUSES), ".SH EXAMPLES", EXAMPLE]
+    out += [".SH EXIT STATUS"]
+    for status, when, told in table_of("## Statuses and standard error"):
+        out += tagged({status: f"{when[0].upper()}{when[1:]}. On standard error: {told}."})
+    out += [".SH EXAMPLES", EXAMPLE]
     return [*out, ".SH SEE ALSO", roff("docs/MANUAL.md has every record, answer and refusal; docs/GUIDE.md says how to run a shop of several sites.")]
 
 

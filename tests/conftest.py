@@ -7,7 +7,7 @@ it needs by name:
 - `at`, a folder in which `./rubis` is the program and `./shop` the command (tests/folder.py): at.run("./shop start auction --sites 2"),
   at.start_sale(2), at.shop("ask 0 user,ann"), at.status(), at.wait(what, holds), at.kill(process), at.start(command), and
   at.goes_on("./shop start auction", "0 user,eve", "0.4", "why"); its end stops what runs there;
-- `server`, a Redis server for `at` (tests/server.py), with server.start_shop() or start_sale(), server.say(..), server.kill(), server.start();
+- `server`, a Redis server for `at` (tests/server.py), with server.start_shop(), start_sale() or start_apart(), server.say(..), server.kill(), server.start();
 - `web`, `shop serve` over the shop in at's folder `auction`, which is started first: web.get(path), web.post(path, body), web.ask(0, record);
   Web(at, words) of tests/web.py where it takes options or the shop is started otherwise;
 - `browser`, one page of Chromium (picture_tool/tests/browser.py); `strace`: with strace(process, "write,fsync") as calls;

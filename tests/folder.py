@@ -127,10 +127,10 @@ class Folder:
             with asked.makefile("rb") as answers:
                 return [json.loads(answer) for answer in answers]
 
-    def said_at_once(self, requests: list[dict[str, Any]], folder: str = "auction") -> list[dict[str, Any]]:
+    def said_at_once(self, requests: list[dict[str, Any]]) -> list[dict[str, Any]]:
         """The last answers to requests that are made over one connection, some hundred at once."""
         last: dict[int, dict[str, Any]] = {}
-        with self.line(folder) as asked:
+        with self.line() as asked:
             asked.sendall(b'{"op": "several"}\n')
             with asked.makefile("rb") as answers:
                 for begin in range(0, len(requests), 200):

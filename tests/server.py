@@ -32,6 +32,13 @@ class Server:
         self.at.run(f"./shop start b --sites 3 --here 2 --over {self.over}")
         return self
 
+    def start_apart(self) -> "Server":
+        """A shop of three machines, with a site each, and something sold at site 0."""
+        for site, folder in enumerate("abc"):
+            self.at.run(f"./shop start {folder} --sites 3 --here {site} --over {self.over}")
+        self.at.shop(f"ask 0 {SALE}", folder="a")
+        return self
+
     def start_sale(self) -> "Server":
         """The same, with something sold at site 0."""
         self.start_shop().at.shop(f"ask 0 {SALE} --published", folder="a")

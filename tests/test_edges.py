@@ -204,7 +204,7 @@ def difference(expected: Expected, status: int, wrote: bytes, said: bytes) -> st
 
 def expect(program: pathlib.Path, expected: Expected, **streams: int | IO[bytes]) -> None:
     """Runs the program with that input, or with these streams."""
-    given: dict[str, Any] = {"stdout": subprocess.PIPE, **streams} | ({} if "stdin" in streams else {"input": expected.text})
+    given = dict[str, Any](stdout=subprocess.PIPE) | streams | ({} if "stdin" in streams else {"input": expected.text})
     done = subprocess.run([program, *shlex.split(expected.words)], stderr=subprocess.PIPE, timeout=SECONDS, **given)
     wrong = difference(expected, done.returncode, done.stdout or b"", done.stderr)
     assert not wrong, f"rubis {expected.words} < {expected.text[-60:]!r}: {wrong}"

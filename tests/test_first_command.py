@@ -120,16 +120,19 @@ class Clone:
         return subprocess.Popen(asked, env=self.words, cwd=self.top, text=True, stdin=subprocess.PIPE, stdout=subprocess.PIPE,
                                 stderr=subprocess.PIPE, start_new_session=True)
 
-    def run(self, *asked: str) -> tuple[int, str, str]:
-        run = self.start("./rubis", *(asked or ASKED))
-        out, said = run.communicate("user,ann\n")
+    def ended(self, *asked: str, given: str = "") -> tuple[int, str, str]:
+        """How a command ends: its status, and what it writes and says."""
+        run = self.start(*asked)
+        out, said = run.communicate(given)
         return run.returncode, out, said
+
+    def run(self, *asked: str) -> tuple[int, str, str]:
+        return self.ended("./rubis", *(asked or ASKED), given="user,ann\n")
 
     def script(self, *words: str) -> tuple[int, str]:
         """Runs one of its scripts: the status, and what it says."""
-        run = self.start("python3", *words)
-        out, said = run.communicate()
-        return run.returncode, out + said
+        status, out, said = self.ended("python3", *words)
+        return status, out + said
 
     def says(self, status: int, text: str, *words: str) -> None:
         """Expects that a script ends so, and says that."""
@@ -367,12 +370,9 @@ def test_release_is_installed(clone: Clone) -> None:
         shutil.copytree(TOP / name, clone.top / name)
     for name in ("install", "shop", "CHANGELOG.md", "scripts/picture.py"):
         shutil.copy(TOP / name, clone.top / name)
-    run = clone.start("./install", str(clone.home / "usr"))
-    out, said = run.communicate()
-    assert (run.returncode, out, said) == (0, "", CAME), said
+    assert clone.ended("./install", str(clone.home / "usr")) == (0, "", CAME)
     assert (clone.home / "usr/bin/rubis").read_bytes() == gzip.decompress((clone.top / PACKED).read_bytes())
-    shop = clone.start("./shop", "--version")
-    out, said = shop.communicate()
+    _, out, said = clone.ended("./shop", "--version")
     assert (re.sub("^shop [0-9a-f]{12} of ", "", out), said) == ("rubis 0.2.0\n", "")
     assert clone.made() == []
 

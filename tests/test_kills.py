@@ -1,13 +1,11 @@
 """Kills each part of a shop at random moments while it is asked, and then looks whether anything was lost or doubled.
 
-Askers ask at random sites, red and blue asks, and write down what they were told. Meanwhile `kill -9` hits a site, a
-supervisor or the server. Over `everysec` and `always` there are two supervisors and a redis-server with that
-appendfsync; with `everysec` the server also loses the end of its file at times, as after a power failure. Where disks are lost, a site's folder
-goes and is made again by `shop rebuild`; where power fails, `kept` and `out` lose their ends; and a site's folder may be put back to an older
-copy, which was made while it ran. Where no folder loses anything, half of the asks have keys: one that isn't answered is asked again under its
-key until it is, and some that were answered are asked once more, and have to get the same answer. Where something is lost, what was told
-before it was published may be gone; so may a message that stood nowhere but in a folder that loses it, since the server had just lost its
-end.
+Askers ask at random sites, red and blue asks, and write down what they were told. Meanwhile `kill -9` hits a site, a supervisor or the
+server. Over `everysec` and `always` there are two supervisors and a redis-server with that appendfsync; with `everysec` the server also
+loses the end of its file at times, as after a power failure. `Course` has what else goes wrong. Where no folder loses anything, half of the
+asks have keys: one that isn't answered is asked again until it is, and some that were answered are asked once more, and have to get the
+same answer. Where something is lost, what was told before it was published may be gone; so may a message that stood nowhere but in a
+folder that loses it, since the server had just lost its end.
 
 At the end a red ask at each site is accepted, all sites have equal logs as sets and equal tables, the audit says Agree, each accepted ask
 is in the logs once, as it was asked, none that was told *not accepted* is, and where no folder loses anything, one that was told which
@@ -350,26 +348,21 @@ class Trial:
             self.start(folder)
         return self.compare() | {"seconds": round(seconds, 1)}
 
-    def log(self, site: int) -> list[str]:
-        text: str = client.one(self.folder_of(site), {"op": "log", "site": site, "timeout": 60})["text"]
-        return text.splitlines()
-
     def compare(self) -> dict[str, Any]:
-        asked = self.asked
-        began = time.monotonic()
-        for site in range(self.course.sites):
+        asked, sites, began = self.asked, range(self.course.sites), time.monotonic()
+        for site in sites:
             try:
                 Asker(self, self.course.askers + site).ask(site, f"user,end{site}")
             except Fault as fault:
                 asked.bad.append(f"red asks don't go on: {fault.text}")
-        for site in range(self.course.sites):
+        for site in sites:
             if said := self.shop(f"wait {site} --timeout 60", self.folder_of(site)):
                 asked.bad.append(said.strip())
         caught_up = time.monotonic() - began
-        logs = [self.log(site) for site in range(self.course.sites)]
+        logs: list[list[str]] = [client.one(self.folder_of(site), {"op": "log", "site": site, "timeout": 60})["text"].splitlines() for site in sites]
         messages = [[line for line in log if line.startswith("msg,")] for log in logs]
         rows = [sorted(line for line in log if line.startswith("row,")) for log in logs]
-        for site in range(1, self.course.sites):
+        for site in sites[1:]:
             if set(messages[site]) != set(messages[0]):
                 asked.bad.append(f"sites 0 and {site} differ in {len(set(messages[site]) ^ set(messages[0]))} messages")
             if rows[site] != rows[0]:
@@ -378,7 +371,7 @@ class Trial:
         if audit != "audit,Agree":
             asked.bad.append(f"the audit: {audit}")
         self.compare_asks(messages[0])
-        passes = sum(line.startswith("token") for site in range(self.course.sites) for line in sends(self.at, f"{self.folder_of(site)}/{site}"))
+        passes = sum(line.startswith("token") for site in sites for line in sends(self.at, f"{self.folder_of(site)}/{site}"))
         spans = sorted(asked.seconds)
         within = [spans[len(spans) // 2], spans[len(spans) * 99 // 100], spans[-1]]
         return {

@@ -17,7 +17,7 @@ import pathlib
 import re
 import subprocess
 import tempfile
-from collections.abc import Callable, Iterable
+from collections.abc import Callable, Iterable, Sequence
 
 import pytest
 
@@ -156,21 +156,14 @@ class Tried:
     """A program with its arguments and its input, and what it has to write if nothing is refused."""
 
     def __init__(self, name: str, words: list[str], text: str, want: str | None):
-        self.name, self.words, self.text = name, words, text.encode()
-        self.want = want
-        self.whole = b""
-        # Its status if nothing is refused.
-        self.status = 0
+        self.name, self.words, self.text, self.want = name, words, text.encode(), want
+        self.status, self.whole = 0, b""        # how it ends, and what it writes, if nothing is refused
         self.is_shown = name not in SHOWN
 
-    def run(self, number: int, made: pathlib.Path, what: str = "REFUSED_CALL") -> tuple[int, bytes, bytes]:
-        """Runs it with that call for memory refused, or that start of a thread: its status and what it wrote."""
-        return self.run_words(self.words, number, made, what)
-
-    def run_words(self, words: list[str], number: int, made: pathlib.Path, what: str) -> tuple[int, bytes, bytes]:
-        """Runs that command line so."""
+    def run(self, number: int, made: pathlib.Path, what: str = "REFUSED_CALL", words: Sequence[str] = ()) -> tuple[int, bytes, bytes]:
+        """Runs it, or that command line, with that call for memory refused, or that start of a thread: its status and what it wrote."""
         setting = {**os.environ, "LD_PRELOAD": str(made), what: str(number)}
-        ran = subprocess.run(words, input=self.text, capture_output=True, env=setting, timeout=SECONDS)
+        ran = subprocess.run(words or self.words, input=self.text, capture_output=True, env=setting, timeout=SECONDS)
         return ran.returncode, ran.stdout, ran.stderr
 
     def begin(self, made: pathlib.Path) -> None:
@@ -243,20 +236,17 @@ class Keeping(Command):
 
     fault = re.compile(rb"run fault: (memory|[a-z ]+: out of memory)\n")
 
-    def run(self, number: int, made: pathlib.Path, what: str = "REFUSED_CALL") -> tuple[int, bytes, bytes]:
+    def run(self, number: int, made: pathlib.Path, what: str = "REFUSED_CALL", words: Sequence[str] = ()) -> tuple[int, bytes, bytes]:
+        """What was kept is the first of the records, and the next start answers it."""
         with tempfile.TemporaryDirectory() as folder:
             site = pathlib.Path(folder, "site")
             words = [self.words[0], "keep", str(site), *self.words[2:]]
-            ran = self.run_words(words, number, made, what)
-            self.check_start(site, words)
+            ran = super().run(number, made, what, words)
+            again = subprocess.run(words, input=b"", capture_output=True, timeout=SECONDS)
+            assert not again.returncode, f"the next start: status {again.returncode}, {again.stderr!r}"
+            assert self.text.startswith((site / "kept").read_bytes()), "the next start leaves another `kept`"
+            assert self.answers(self.whole).startswith((site / "out").read_bytes()), "the next start leaves another `out`"
         return ran
-
-    def check_start(self, site: pathlib.Path, words: list[str]) -> None:
-        """What was kept is the first of the records, and the next start answers it."""
-        again = subprocess.run(words, input=b"", capture_output=True, timeout=SECONDS)
-        assert not again.returncode, f"the next start: status {again.returncode}, {again.stderr!r}"
-        assert self.text.startswith((site / "kept").read_bytes()), "the next start leaves another `kept`"
-        assert self.answers(self.whole).startswith((site / "out").read_bytes()), "the next start leaves another `out`"
 
     def begin(self, made: pathlib.Path) -> None:
         self.whole = b"kept\n" + (self.want or "").encode()

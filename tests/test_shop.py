@@ -24,10 +24,9 @@ def test_shop(at: Folder) -> None:
     assert at.shop(f"ask 0 {SALE}") == "ok,0.1\nok,0.2\nok,0.3\n", "the answers"
     assert at.shop("ask 2 bid,0.3,0.2,500") == "ok,2.1\n", "a bid at another site"
     assert at.shop("ask 1 comment,0.3,0.2,0.1,5,good buy,0.3,0.2,1") == "ok,1.1\nok,1.2\n", "asks at the third"
-    at.shop("wait 0")
+    at.read_all(0, 1, 2)
     rows = at.shop("ask 0 list,tables")
     for site in (1, 2):
-        at.shop(f"wait {site}")
         assert at.shop(f"ask {site} list,tables") == rows, f"the tables of site {site}"
     assert at.shop("audit") == "audit,Agree\n", "the audit"
     status = at.status()
@@ -312,10 +311,7 @@ def test_held(at: Folder) -> None:
 
 def test_stop_hands_the_token_over(at: Folder) -> None:
     """A stop passes the token to a site elsewhere that runs, so red asks go on; if none does, it stays, and the stop says so."""
-    server = Server(at)
-    for site, folder in enumerate("abc"):
-        at.run(f"./shop start {folder} --sites 3 --here {site} --over {server.over}")
-    at.shop(f"ask 0 {SALE}", folder="a")
+    server = Server(at).start_apart()
     other = at.status("b")["pid"]
     with at.standing_still(other):
         at.run("./shop stop a")

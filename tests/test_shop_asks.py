@@ -119,8 +119,7 @@ def test_kept_connections_while_keepers_are_killed(at: Folder) -> None:
                 at.kill(keeper)
         for each in asking:
             each.result()
-    at.shop("wait 0")
-    at.shop("wait 1")
+    at.read_all(0, 1)
     assert at.shop("audit") == "audit,Agree\n", "the audit"
     accepted = {row["id"]: row["amount"] for row in json.loads(at.shop("list 0 bids 0.3 --json"))}
     assert accepted == told and len(told) > 50, f"{len(told)} were told, and {len(accepted)} are there"

@@ -237,9 +237,8 @@ def test_kept_by_hand(at: Folder) -> None:
     accepts_while_it_is_killed(at)
 
 
-def test_forged_packets(at: Folder) -> None:
+def test_forged_packets(at: Folder, server: Server) -> None:
     """What stands in a stream and isn't one packet isn't given to a site, which goes on with what comes behind it."""
-    server = Server(at)
     at.run(f"./shop start a --sites 3 --here 0,1 --over {server.over}")
     packets = ("token,1,5,0,0\\nuser,eve", "token,1,6,0,0\\n", "msg,1,2,1,1,0:0:0,user,ann\\nuser,eve", "\\357msg,1,2,2,1,0:0:1,user,ann")
     for number, packet in enumerate(packets):

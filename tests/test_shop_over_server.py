@@ -34,10 +34,9 @@ def test_streams(at: Folder) -> None:
     at.run("./shop stop b")
 
 
-def test_another_number_of_sites(at: Folder) -> None:
+def test_another_number_of_sites(at: Folder, server: Server) -> None:
     """A machine that joins with another number of sites is refused, and leaves nothing behind, also where the server comes later, or lost
     all meanwhile."""
-    server = Server(at)
     at.run(f"./shop start a --sites 3 --here 0,1 --over {server.over}")
     said = f"redis://127.0.0.1:{server.port}/auction is a shop with --sites 3, and "
     for command in ("start", "run"):
@@ -84,10 +83,7 @@ def test_token_to_a_stopped_site(at: Folder, left: int, loses_again: bool) -> No
     """The token was passed to a stopped site, and a message followed. The server has lost all but the first entries of the sender's
     stream, and a third site has put the messages back; the recipient has read them before the sender comes back, with its pass. Once more
     where the server then loses all again, and the sender begins its stream behind the recipient's place."""
-    server = Server(at)
-    for site, folder in enumerate("abc"):
-        at.run(f"./shop start {folder} --sites 3 --here {site} --over {server.over}")
-    at.shop(f"ask 0 {SALE}", folder="a")
+    server = Server(at).start_apart()
     at.read_all(1, folder="b")
     at.read_all(2, folder="c")
     at.run("./shop stop c")
@@ -111,10 +107,7 @@ def test_token_to_a_stopped_site(at: Folder, left: int, loses_again: bool) -> No
 
 def test_token_of_a_lost_folder(at: Folder) -> None:
     """The sender's stream is whole, its folder is lost, and the recipient has later messages: the token comes from the stream alone."""
-    server = Server(at)
-    for site, folder in enumerate("abc"):
-        at.run(f"./shop start {folder} --sites 3 --here {site} --over {server.over}")
-    at.shop(f"ask 0 {SALE}", folder="a")
+    server = Server(at).start_apart()
     at.shop("wait 2", folder="c")
     at.run("./shop stop c")
     at.shop("pass 0 2", folder="a")
@@ -141,9 +134,8 @@ def test_full_server(at: Folder) -> None:
     at.wait("what was asked meanwhile", lambda: "dan" in at.shop("list 2 users", folder="b"))
 
 
-def test_access(at: Folder) -> None:
+def test_access(at: Folder, server: Server) -> None:
     """A server with a user and a password, as the guide sets it up: what the shop needs is allowed, and no command shows the password."""
-    server = Server(at)
     assert server.say("acl setuser shop on '>secret' '~auction:*' '+@all' '-@dangerous'") == "OK\n", "the user"
     server.say("acl setuser default off")
     server.over = server.over.replace("//", "//shop:secret@")
@@ -209,9 +201,8 @@ connection.Connection.read_response = read_response
 """
 
 
-def test_stop_without_its_server(at: Folder) -> None:
+def test_stop_without_its_server(at: Folder, server: Server) -> None:
     """A stop ends though the server hangs, and though its client swallows cancels, as redis-py 4.3.4 does where one meets a time-out."""
-    server = Server(at)
     (at.path / "sitecustomize.py").write_text(SWALLOWS)
     at.run(f"PYTHONPATH={at.path} ./shop start a --sites 2 --here 0 --over {server.over}")
     at.shop("ask 0 user,ann", folder="a")

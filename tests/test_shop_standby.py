@@ -76,10 +76,9 @@ def is_fenced_and_equal(at: Folder, server: Server, status: str = "") -> None:
     assert at.shop("audit", folder="c") == "audit,Agree\n", "the audit"
 
 
-def test_standby_of_one_that_stood_still(at: Folder) -> None:
+def test_standby_of_one_that_stood_still(at: Folder, server: Server) -> None:
     """A supervisor stands still for longer than --after, with an ask under way: the standby takes its site over, and what was told ok is
     there. When it goes on, its ask isn't told ok, and it is fenced."""
-    server = Server(at)
     start_with_standby(at, server.over, server)
     supervisor, status = at.status("b")["pid"], server.say("get auction:status:2").strip()
     with at.standing_still(supervisor):
@@ -105,10 +104,9 @@ def test_standby_of_one_that_stood_still(at: Folder) -> None:
     at.run("./shop start c", 3, "b/2 has it")
 
 
-def test_standby_of_one_that_was_cut_off(at: Folder) -> None:
+def test_standby_of_one_that_was_cut_off(at: Folder, server: Server) -> None:
     """A machine is cut off from the server, and not dead: what is accepted there isn't told ok, and doesn't count; when it is reached
     again it is fenced."""
-    server = Server(at)
     line = Line(at, server)
     start_with_standby(at, line.over, server)
     line.cut()
@@ -127,9 +125,8 @@ def test_standby_of_one_that_was_cut_off(at: Folder) -> None:
     at.shop("ask 2 comment,0.3,0.2,0.1,1,bad --timeout 1", 3, "nothing was given to it", folder="b")
 
 
-def test_standby_and_a_rebuild(at: Folder) -> None:
+def test_standby_and_a_rebuild(at: Folder, server: Server) -> None:
     """A site is made again while its standby waits: that doesn't take its place before the new folder was started, or two would have it."""
-    server = Server(at)
     start_with_standby(at, server.over, server, after=3)
     at.kill(at.status("b")["pid"])
     at.shop("rebuild 2", folder="b")
@@ -142,10 +139,9 @@ def test_standby_and_a_rebuild(at: Folder) -> None:
     at.shop("audit", folder="c")
 
 
-def test_standby_that_comes_and_goes(at: Folder) -> None:
+def test_standby_that_comes_and_goes(at: Folder, server: Server) -> None:
     """Without a standby a site goes on while the server is away; with one it waits, also once it was killed and started again; and where
     the standby is gone it goes on as before. A standby takes nothing over that runs, nor what never said that it yields."""
-    server = Server(at)
     at.run(f"./shop start b --sites 3 --here 2 --over {server.over}")
     at.run(f"./shop start a --sites 3 --here 0,1 --over {server.over}; ./shop stop b")
     at.run(f"./shop start c --sites 3 --standby 2 --after 1 --over {server.over}")

@@ -1,7 +1,6 @@
 """A view of a site: its tables are those that the site lists, wherever it stands and however often its writer was killed."""
 
 import contextlib
-import dataclasses
 import json
 import os
 import pathlib
@@ -9,7 +8,7 @@ import resource
 import sqlite3
 import subprocess
 import time
-from collections.abc import Callable, Iterator
+from collections.abc import Iterator
 from typing import Any
 
 import pytest
@@ -20,13 +19,12 @@ from shop_tool.carrier.records import COLUMNS, LISTINGS, Purpose, row_of, why_no
 from shop_tool.view.writing import View
 from tests import cases
 from tests.conftest import Extent
-from tests.folder import SALE, SECONDS, Folder
+from tests.folder import SALE, SECONDS, Counted, Folder
 
 TABLES = {kind: table for table, kind in LISTINGS.items()}
 QUESTIONS = b"?list,tables\n?list,misfits\n?list,log\n"
 Rows = list[dict[str, Any]]
 Entries = dict[str, int]
-Counted = Callable[[str, int], None]
 
 
 def of_view(line: str) -> dict[str, Any]:
@@ -67,15 +65,6 @@ def entered(path: pathlib.Path) -> Entries:
         return {name: entry for table in ("users", "items", "bids", "purchases", "comments") for name, entry in db.execute(f"SELECT id, entry FROM {table}")}
 
 
-@dataclasses.dataclass
-class Shop:
-    """A site of a random shop, and the records that it is given."""
-
-    site: int
-    sites: int
-    records: list[str]
-
-
 def made_up(dice: traffic.Dice, many: int) -> list[str]:
     """Messages of sites 1 and 2, in an order in which some wait, with stamps as sites make them and shadows as no site would: rows that aren't
     there, closed items, nicknames of others."""
@@ -106,21 +95,20 @@ def made_up(dice: traffic.Dice, many: int) -> list[str]:
     return sent
 
 
-def drawn(dice: traffic.Dice) -> Shop:
-    """A site that asks, and gets what others sent and some that nobody did; or one that gets what is made up."""
+def drawn(dice: traffic.Dice) -> tuple[int, list[str]]:
+    """How many sites a shop has, and what its first one is given: it asks, and gets what others sent and some that nobody did; or what is made up."""
     if dice.often(0.5):
-        return Shop(0, 3, made_up(dice, 250))
+        return 3, made_up(dice, 250)
     net = cases.OddNetwork(dice, int(dice.one("2237")), 0, 0.01, 0.3 if dice.often(0.7) else 0.0)
-    return Shop(0, len(net.sites), net.run(250))
+    return len(net.sites), net.run(250)
 
 
-def steps_of(program: pathlib.Path, folder: pathlib.Path, shop: Shop) -> Iterator[tuple[bytes, bytes, Rows, Entries]]:
+def steps_of(program: pathlib.Path, folder: pathlib.Path, sites: int, given: list[str]) -> Iterator[tuple[bytes, bytes, Rows, Entries]]:
     """Each record that a site is given, what it answers, and what it lists then."""
-    records = [record for record in (text.encode("latin-1") for text in shop.records)
+    records = [record for record in (text.encode("latin-1") for text in given)
                if not (why_not_one_record(record) and why_not_one_record(record, Purpose.PACKET))]
     asked = b"".join(record + b"\n" + QUESTIONS for record in records)
-    command = [str(program), "keep", str(folder), "--site", str(shop.site), "--sites", str(shop.sites)]
-    said = subprocess.run(command, input=asked, stdout=subprocess.PIPE, check=True).stdout.partition(b"\n")[2]
+    said = subprocess.run([program, "keep", folder, "--sites", str(sites)], input=asked, stdout=subprocess.PIPE, check=True).stdout.partition(b"\n")[2]
     answers = iter(AnswerReader().feed(said))
     for record, answer, tables, misfits, log in zip(records, answers, answers, answers, answers):
         yield record + b"\n", b"\n".join(answer.lines) + b"\n", listed(tables) + listed(misfits), entries_of(log)
@@ -143,17 +131,17 @@ def test_tables_after_each_record(folder: pathlib.Path, program: pathlib.Path, e
     kinds: set[str] = set()
     for seed in range(extent.seed, extent.seed + extent.count(16)):
         dice = traffic.Dice(seed)
-        shop, path, at_once = drawn(dice), folder / f"{seed}.db", 0.0 if seed % 4 else 0.8
-        site = folder / f"{seed}/{shop.site}"
+        (sites, given), path, at_once = drawn(dice), folder / f"{seed}.db", 0.0 if seed % 4 else 0.8
+        site = folder / f"{seed}/0"
         os.makedirs(site)
-        view = View(str(path), str(site.parent), shop.site, shop.sites)
-        for record, answer, rows, entries in steps_of(program, folder / f"{seed}.site", shop):
+        view = View(str(path), str(site.parent), 0, sites)
+        for record, answer, rows, entries in steps_of(program, folder / f"{seed}.site", sites, given):
             grow(site, record, answer)
             if dice.often(at_once):
                 continue        # it comes with the next one
             if dice.often(0.2):
                 view.close()
-                view = View(str(path), str(site.parent), shop.site, shop.sites)
+                view = View(str(path), str(site.parent), 0, sites)
             caught_up(view)
             assert viewed(path) == rows, f"--seed {seed}: {record!r}"
             assert entered(path).items() <= entries.items(), f"--seed {seed}: {record!r}"

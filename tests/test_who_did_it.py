@@ -109,10 +109,8 @@ def test_pages_of_other_origins(at: Folder) -> None:
     assert "access-control-allow-origin" not in web.get("/sites").headers
 
 
-def test_members_are_named(at: Folder) -> None:
+def test_members_are_named(web: Web) -> None:
     """What is wrong with an ask in JSON is told by the name of its member, with a record by its field."""
-    at.run("./shop start auction")
-    web = Web(at)
     item = {"ask": "item", "seller": "0.1", "name": "lamp", "category": 1000, "stock": 1, "start": 5, "price": 0}
     assert "the record isn't in the grammar: `category`: " in web.post("/sites/0/asks", item).json["detail"]
     assert "`nickname`: a nickname has 1 to 20" in web.post("/sites/0/asks", {"ask": "user", "nickname": "Ann"}).json["detail"]

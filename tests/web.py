@@ -26,10 +26,10 @@ class Said(NamedTuple):
 class Web:
     """A server of the shop in a test's folder."""
 
-    def __init__(self, at: Folder, words: str = "", folder: str = "auction") -> None:
+    def __init__(self, at: Folder, words: str = "") -> None:
         need("curl", "python3:aiohttp", "python3:prometheus_client")
         self.at = at
-        self.process = at.start(f"./shop -C {folder} serve --listen 127.0.0.1:0 {words}", stdout=subprocess.PIPE)
+        self.process = at.start(f"./shop -C auction serve --listen 127.0.0.1:0 {words}", stdout=subprocess.PIPE)
         assert self.process.stdout
         self.url = self.process.stdout.readline().decode().strip().rstrip("/")
         assert self.url.startswith("http"), "it says where it listens"

@@ -51,7 +51,7 @@ class Task:
 
     __slots__ = ("owner", "steps", "_on_end", "is_over", "turn", "step", "connection", "hear", "_waits")
 
-    def __init__(self, owner: Owner, steps: Steps[Any], on_end: Callable[[Any, Exception | None], None] | None = None) -> None:
+    def __init__(self, owner: Owner, steps: Steps[Any], on_end: Callable[[Any, Exception | None], None]) -> None:
         self.owner, self.steps, self._on_end = owner, steps, on_end
         self.is_over = False
         self.turn = 0           # how often it was resumed: what comes for an earlier turn comes too late
@@ -116,5 +116,4 @@ class Task:
 
     def _end(self, said: Any, fault: Exception | None) -> None:
         self.is_over = True
-        if self._on_end:
-            self._on_end(said, fault)
+        self._on_end(said, fault)

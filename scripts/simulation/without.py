@@ -34,7 +34,7 @@ RULES: dict[str, list[Any]] = {
     "4": [mock.patch.object(Shop, "begin_site", lambda shop, site, answered: shop._opened(site, answered or 0))],
     "5": [mock.patch(f"{name}.why_not_one_record", lambda *_: None) for name in LOOKS],
     "6": [mock.patch(f"{name}.why_not_one_record", lambda record, purpose=Purpose.ASK: None if record.startswith(b"\xef")
-                  else why_not_one_record(record, purpose)) for name in LOOKS],
+                     else why_not_one_record(record, purpose)) for name in LOOKS],
     "7": [mock.patch.object(Site, "sent", lambda site, begin, end: [text for _, text in site.ledger.sends.read(begin, end)]),
           mock.patch.object(Files, "why_lost", lambda *_: None)],
     "9": [mock.patch("shop_tool.carrier.sums.compared", lambda lines, sums: (compared(lines, sums)[0], None))],
