@@ -15,7 +15,7 @@ import threading
 import time
 import tty
 from collections.abc import Callable
-from typing import IO, Any
+from typing import Any
 
 import pytest
 
@@ -202,9 +202,9 @@ def difference(expected: Expected, status: int, wrote: bytes, said: bytes) -> st
     return None
 
 
-def expect(program: pathlib.Path, expected: Expected, **streams: int | IO[bytes]) -> None:
+def expect(program: pathlib.Path, expected: Expected, **streams: Any) -> None:
     """Runs the program with that input, or with these streams."""
-    given = dict[str, Any](stdout=subprocess.PIPE) | streams | ({} if "stdin" in streams else {"input": expected.text})
+    given: dict[str, Any] = {"stdout": subprocess.PIPE, **streams} if "stdin" in streams else {"stdout": subprocess.PIPE, "input": expected.text, **streams}
     done = subprocess.run([program, *shlex.split(expected.words)], stderr=subprocess.PIPE, timeout=SECONDS, **given)
     wrong = difference(expected, done.returncode, done.stdout or b"", done.stderr)
     assert not wrong, f"rubis {expected.words} < {expected.text[-60:]!r}: {wrong}"
