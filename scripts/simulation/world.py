@@ -13,6 +13,7 @@ from shop_tool.carrier.lives import life_text, placed
 from shop_tool.carrier.opening import HEARD_SECONDS
 from shop_tool.carrier.over_files import FileLink
 from shop_tool.carrier.over_server import ServerLink
+from shop_tool.carrier.publisher import greatest_said
 from shop_tool.carrier.rebuilding import UNCHANGED
 from shop_tool.carrier.records import Purpose, text_of
 from shop_tool.carrier.shop import HAND_OVER_SECONDS, Shop
@@ -702,7 +703,7 @@ class Supervisor(Process, Shop):
             if place[0] > messages or place in own and own[place] != text:
                 raise Violation(f"site {site.number} is opened with {messages} messages, and its stream has {text!r} at {place}")
         for number, (until, said) in self.world.server.said.items():
-            if number not in self.sites and until > self.clock.now and said["has"][str(site.number)] > messages:
+            if number not in self.sites and until > self.clock.now and greatest_said(said, site.number) > messages:
                 raise Violation(f"site {site.number} is opened with {messages} messages, and site {number} says that it has {said['has']}")
 
     def _look_at_those_that_ran_on(self, site: Site, opens: StandIn) -> None:
@@ -716,9 +717,9 @@ class Supervisor(Process, Shop):
         for other in (its for supervisor in world.supervisors() if supervisor.ran_on() for its in supervisor.sites.values()):
             if other.number not in self.sites and other.compared.is_set and not other.fenced_by:
                 ledger = other.ledger
-                if ledger.have[site.number].upto > messages or held is not None and ledger.turn > held:
+                if ledger.have[site.number].greatest > messages or held is not None and ledger.turn > held:
                     raise Violation(f"site {site.number} is opened with {messages} messages and the token of turn {held}, and site {other.number}, "
-                                    f"which ran on, has {ledger.have[site.number].upto} and that of turn {ledger.turn}")
+                                    f"which ran on, has {ledger.have[site.number].greatest} and that of turn {ledger.turn}")
 
     def ran_on(self) -> bool:
         """Whether it has run, and nothing stood in its way, since the server went away last."""
