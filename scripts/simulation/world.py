@@ -135,15 +135,15 @@ class World:
                        and site in supervisor.sites and supervisor.sites[site].compared.is_set and not supervisor.sites[site].fenced_by
                        for supervisor in self.supervisors())
 
-    def note_unreached(self, number: int, opened: Folder, opens: StandIn, known: int) -> None:
+    def note_unreached(self, number: int, seen: list[Folder], opens: StandIn, known: int) -> None:
         """A site is opened whose supervisor knows of this turn of the token: notes whether a folder has more of it that can't be reached, or
-        has had the token since."""
+        has had the token since. Those that it had to see, its own and those beside it, were looked at before, and excuse nothing."""
         own, held = opens.release.counts[number], opens.turn if opens.issued is not None else None
         for machine in self.machines:
             for site, folder in machine.folders.items():
                 if folder.yields and site == number:
                     continue        # it told ok only of what stands in the stream
-                if folder is not opened and not self.is_unreached:
+                if folder not in seen and not self.is_unreached:
                     sent = sum(text.startswith(b"msg,") for text in folder.sent()) if site == number else 0
                     turns = turns_of(folder)
                     self.is_unreached = max(sent, greatest_of(folder, number)) > own or held is not None and max(turns, default=0) > held
@@ -687,15 +687,16 @@ class Supervisor(Process, Shop):
         assert keeper
         messages, held = keeper.site.release.counts[site.number], keeper.site.turn if keeper.site.issued is not None else None
         self._look_at_those_that_ran_on(site, keeper.site)
-        slot = keeper.folder.slot
+        slot, seen = keeper.folder.slot, [keeper.folder]
         for other in self.sites.values():
-            if other is site or not other.known.is_set and slot and slot.was_remembered:
+            if other is site or not other.known.is_set and not self.world.is_over_server and slot and slot.was_remembered:
                 continue
+            seen.append(other.folder)
             if (has := greatest_of(other.folder, site.number)) > messages:
                 raise Violation(f"site {site.number} is opened with {messages} messages, and site {other.number} beside it has {has}")
             if held is not None and (turn := max(turns_of(other.folder), default=0)) > held:
                 raise Violation(f"site {site.number} is opened with the token of turn {held}, and site {other.number} beside it has had that of {turn}")
-        self.world.note_unreached(site.number, keeper.folder, keeper.site, self.wants.turn)
+        self.world.note_unreached(site.number, seen, keeper.site, self.wants.turn)
         own = dict(sends_of(keeper.folder.lines("out")))
         if not isinstance(self.link, SimulatedServerLink) or not self.reaches() or f"publish {site.number}" in self.link.down:
             return
