@@ -214,7 +214,8 @@ class Steps:
         if slot.site in self.yielding and (slot.takes_over or is_unreached):
             step = self._open(slot, None, "TakesOver")
             slot.takes_over = False
-            self.yields(slot.site, self.world.server.lives[slot.site] == self.world.server.yields[slot.site])
+            if self.world.server.lives[slot.site] != self.world.server.yields[slot.site]:
+                self.yields(slot.site, False)
         else:
             step = self._open(slot, UNREACHED if is_unreached else None)
         slot.takes_over = False
