@@ -491,7 +491,7 @@ class Steps:
     def sends(self, machine: "Machine", texts: Iterable[bytes]) -> None:
         """A supervisor begins to append these packets."""
         slots = [folder.slot for folder in machine.folders.values() if folder.slot and folder.slot.life]
-        for packet in filter(None, map(self.known.get, texts)):
+        for packet in (self.known[text] for text in texts if text in self.known):
             if slot := next((slot for slot in slots if packet in slot.packets), None):
                 self.under_way[packet] = self.list[-1] if self.list else None, slot
 
