@@ -20,8 +20,8 @@ from shop_tool.carrier.shop import HAND_OVER_SECONDS, Shop
 from shop_tool.carrier.site import FIRST_WAIT, LAST_WAIT, Disagreement, Pending, Site, State
 from shop_tool.carrier.steps import State as StateOf
 from shop_tool.carrier.steps import (Adopt, Append, Broken, CallAll, Connect, Flag, Hear, IsRunning, Kept, KeptOf, Owner, Read, Replay, Rewrite, Say,
-                                     SayLeave, SayWant, SayYields, SeeHere, SeeLife, SeenHere, SentHere, Signal, Statuses, Steps, Swap, TakeOver, Tell,
-                                     UpElsewhere, Wait)
+                                     SayLeave, SayWant, SayYields, SeeHere, SeeLife, SeenHere, SentHere, Signal, Statuses, Steps, Swap, TakeOver,
+                                     Tell, UpElsewhere, Wait)
 from shop_tool.carrier.sums import LINE_BYTES, why_changed
 from shop_tool.carrier.told import unanswered
 from shop_tool.ends import Fault, Status
