@@ -13,13 +13,11 @@ from typing import Any
 import write_contracts
 from prove_program import listed_crates
 from report import report
+from top import TOP
 from write_contracts import LINK, calls_of, changed_texts
 
-TOP = pathlib.Path(__file__).resolve().parent.parent
-sys.path.insert(0, str(TOP))
-
-from picture_tool.cli import drawn  # noqa: E402
-from shop_tool.carrier.records import REFUSALS  # noqa: E402
+from picture_tool.cli import drawn
+from shop_tool.carrier.records import REFUSALS
 
 CRATES = TOP / "crates"
 Checked = Iterator[str | None]      # of each thing that is looked at, what is wrong with it, if anything is

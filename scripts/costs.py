@@ -22,11 +22,10 @@ import time
 from collections.abc import Callable, Iterator
 from typing import Any, NamedTuple
 
-TOP = pathlib.Path(__file__).resolve().parent.parent
-sys.path.insert(0, str(TOP))
+from top import TOP
 
-import workloads                # noqa: E402
-from workloads import Work      # noqa: E402
+import workloads
+from workloads import Work
 
 PLAIN = TOP / "plain/target/release/plain"
 RUBIS = TOP / "crates/rubis_app/out/rubis_app"

@@ -1,20 +1,15 @@
 #!/usr/bin/env python3
-"""Measures what asks of a shop cost: scripts/measure_shop.py PROGRAM [--over files|everysec] [--sync] [--kept SECONDS]
+"""Measures what asks of a shop cost: scripts/measure_shop.py PROGRAM [--sync] [--seconds N]
 
-Four sites; over a server, two supervisors. Beside them, where redis-server is installed, what INCR costs on the same machine at the
-same time. Figures go to standard output as JSON.
-
-With --kept one site is asked over connections that are kept, by 16 askers with one request at a time each, for SECONDS: by the socket,
+One site is asked over connections that are kept, by 16 askers with one request at a time each, for so many seconds: by the socket,
 and over HTTP with one ask a request and with a hundred. Beside that, where they are installed: a server of aiohttp that reads such a
 request and answers, Redis and etcd by 16 clients, SQLite with a transaction for each insert; and each as a command. Each has the
 processor time of an ask too, of the supervisor (or the other server), the keeper, the server over HTTP, and the client, since rates are
-those of a machine that has nothing else to do only where that is so."""
+those of a machine that has nothing else to do only where that is so. Figures go to standard output as JSON."""
 
 import argparse
 import base64
-import concurrent.futures
 import contextlib
-import itertools
 import json
 import os
 import pathlib
@@ -29,18 +24,9 @@ import time
 from collections.abc import Callable, Iterator, Sequence
 from typing import Any
 
-TOP = pathlib.Path(__file__).resolve().parent.parent
-sys.path.insert(0, str(TOP))
+from top import TOP
 
-from shop_tool import client        # noqa: E402
-
-SITES = 4
-
-
-def timed(work: Callable[[], object]) -> float:
-    began = time.monotonic()
-    work()
-    return time.monotonic() - began
+from shop_tool import client
 
 
 def parts_of(seconds: list[float]) -> dict[str, float]:
@@ -50,90 +36,22 @@ def parts_of(seconds: list[float]) -> dict[str, float]:
     return {name: round(1000 * span, 1) for name, span in within.items()}
 
 
-class Shop:
-    """A shop that sells something: in one folder, or in two over a server."""
-
-    def __init__(self, program: str, folder: str, sites: int, over: str, sync: bool) -> None:
-        self.environment = os.environ | {"RUBIS": program}
-        groups = [range(sites)] if over == "files" else [range(sites // 2), range(sites // 2, sites)]
-        self.folders = {f"{folder}/{name}": list(group) for name, group in zip("ab", groups)}
-        for path, here in self.folders.items():
-            self.run("start", path, "--here", ",".join(map(str, here)), "--sites", str(sites), "--over", over, *["--sync"] * sync)
-        self.run("-C", self.folder_of(0), "ask", "0", "user,ann", "user,bob", "item,0.1,lamp,7,1,100,0")
-
-    def __enter__(self) -> "Shop":
-        return self
-
-    def __exit__(self, *_: object) -> None:
-        self.stop()
-
-    def run(self, *words: str, given: str = "") -> str:
-        command = [str(TOP / "shop"), *words]
-        return subprocess.run(command, input=given, text=True, check=True, stdout=subprocess.PIPE, env=self.environment).stdout
-
-    def folder_of(self, site: int) -> str:
-        return next(folder for folder, sites in self.folders.items() if site in sites)
-
-    def ask(self, site: int, record: str, published: bool = False) -> None:
-        request = {"op": "ask", "site": site, "records": [record], "timeout": 60, "fetch": True, "published": published}
-        answers = list(client.call(self.folder_of(site), request))
-        client.raise_fault(answers[-1])
-        assert answers[0]["lines"][0].split(",")[2] == "ok", answers
-
-    def several(self, askers: int, each: int, site_of: Callable[[int], int], record_of: Callable[[int, int], str],
-                published: bool = False) -> dict[str, Any]:
-        def one(number: int) -> list[float]:
-            return [timed(lambda: self.ask(site_of(number), record_of(number, turn), published)) for turn in range(each)]
-        began = time.monotonic()
-        with concurrent.futures.ThreadPoolExecutor(askers) as pool:
-            spans = list(itertools.chain.from_iterable(pool.map(one, range(askers))))
-        return {"a second": round(len(spans) / (time.monotonic() - began)), "ms": parts_of(spans)}
-
-    def stop(self) -> None:
-        for path in self.folders:
-            self.run("stop", path)
+@contextlib.contextmanager
+def selling(program: str, folder: str, sync: bool) -> Iterator[None]:
+    """A shop in that folder, whose site sells something while the block runs."""
+    def shop(*words: str) -> None:
+        subprocess.run([TOP / "shop", *words], check=True, stdout=subprocess.DEVNULL, env=os.environ | {"RUBIS": program})
+    shop("start", folder, *["--sync"] * sync)
+    try:
+        shop("-C", folder, "ask", "0", "user,ann", "user,bob", "item,0.1,lamp,7,1,100,0")
+        yield
+    finally:
+        shop("stop", folder)
 
 
 def bid(number: int, turn: int) -> str:
     return f"bid,0.3,0.2,{1000 + 1000 * number + turn}"
 
-
-def restock(number: int, turn: int) -> str:
-    return f"restock,0.3,0.1,{turn + 1}"
-
-
-def measured(shop: Shop) -> dict[str, Any]:
-    found: dict[str, Any] = {}
-    ask = ("-C", shop.folder_of(0), "ask", "0")
-    found["`shop ask` as a command, ms"] = parts_of([timed(lambda: shop.run(*ask, bid(0, turn))) for turn in range(20)])
-    lines = "".join(f"{bid(1, turn)}\n" for turn in range(20000))
-    found["20,000 bids by one command, a second"] = round(20000 / timed(lambda: shop.run(*ask, "-", given=lines)))
-    found["1 asker at the holder"] = shop.several(1, 1000, lambda number: 0, bid)
-    found["16 askers at the holder"] = shop.several(16, 200, lambda number: 0, bid)
-    if len(shop.folders) > 1:
-        found["16 askers at the holder, published"] = shop.several(16, 100, lambda number: 0, bid, published=True)
-    turns = iter(range(200))
-    found["1 asker, each red ask at another site"] = parts_of([timed(lambda: shop.ask(turn % SITES, bid(2, turn))) for turn in turns])
-    found["16 askers of red asks, 4 at each site"] = shop.several(16, 100, lambda number: number % SITES, bid)
-    found["16 askers of blue asks, 4 at each site"] = shop.several(16, 200, lambda number: number % SITES, restock)
-    for site in range(SITES):
-        shop.run("-C", shop.folder_of(site), "wait", str(site))
-    found["an audit, s"] = round(timed(lambda: shop.run("-C", shop.folder_of(0), "audit")), 2)
-    shop.stop()
-    found["a start of all, s"] = round(timed(lambda: [shop.run("start", path) for path in shop.folders]), 2)
-    return found
-
-
-def incr(port: int) -> dict[str, Any]:
-    """The same of Redis: INCR as a command, and by 16 clients."""
-    command, benchmark = ["redis-cli", "-p", str(port), "incr", "n"], ["redis-benchmark", "-p", str(port), "-c", "16", "-n", "20000"]
-    spans = [timed(lambda: subprocess.run(command, stdout=subprocess.DEVNULL)) for _ in range(20)]
-    said = subprocess.run([*benchmark, "-t", "incr", "--csv"], text=True, stdout=subprocess.PIPE).stdout
-    a_second = round(float(said.splitlines()[-1].split(",")[1].strip('"')))
-    return {"`redis-cli incr` as a command, ms": parts_of(spans), "16 clients, a second": a_second}
-
-
-# Over connections that are kept.
 
 ASKERS = 16
 BARE = """
@@ -218,7 +136,7 @@ def is_whole_http(text: bytes) -> bool:
         raise AssertionError(text)
     lower = head.lower()
     if b"chunked" in lower:
-        return text.endswith(b"0\r\n\r\n")
+        return body.endswith(b"0\r\n\r\n")
     return len(body) >= int(lower.partition(b"content-length: ")[2].split(b"\r\n")[0])
 
 
@@ -282,9 +200,9 @@ def redis(folder: str, port: int, *options: str) -> contextlib.AbstractContextMa
     return running("redis-server", *words, port=port)
 
 
-def measured_kept(shop: Shop, seconds: float) -> dict[str, Any]:
-    """What asks over connections that are kept cost."""
-    folder, found, command, port = shop.folder_of(0), dict[str, Any](), str(TOP / "shop"), free_port()
+def measured(folder: str, seconds: float) -> dict[str, Any]:
+    """What asks of the shop in that folder cost."""
+    found, command, port = dict[str, Any](), str(TOP / "shop"), free_port()
     status = client.one(folder, {"op": "status"}, 10)["shop"]
     own = {"supervisor": status["pid"], "keeper": status["site"][0]["pid"]}
     found["`python3 -I -S -c pass`, ms"] = as_command("/usr/bin/python3", "-I", "-S", "-c", "pass")
@@ -297,7 +215,7 @@ def measured_kept(shop: Shop, seconds: float) -> dict[str, Any]:
     return found
 
 
-def beside_kept(folder: str, sync: bool, seconds: float) -> dict[str, Any]:
+def beside(folder: str, sync: bool, seconds: float) -> dict[str, Any]:
     """The same of other servers, as far as they are installed."""
     found, port, peer = dict[str, Any](), free_port(), free_port()
     with running("/usr/bin/python3", "-c", BARE, str(port), port=port) as server:
@@ -339,23 +257,14 @@ def inserted(path: str, sync: bool, seconds: float) -> dict[str, Any]:
 def main() -> int:
     words = argparse.ArgumentParser(description=__doc__, formatter_class=argparse.RawDescriptionHelpFormatter)
     words.add_argument("program")
-    words.add_argument("--over", choices=["files", "everysec"], default="files")
     words.add_argument("--sync", action="store_true")
-    words.add_argument("--kept", metavar="SECONDS", type=float, help="ask over connections that are kept, each way so long")
+    words.add_argument("--seconds", metavar="N", type=float, default=10.0)
     args = words.parse_args()
-    program, load, port = os.path.abspath(args.program), os.getloadavg()[0], free_port()
-    found: dict[str, Any] = {"over": args.over, "sync": args.sync}
-    with tempfile.TemporaryDirectory() as folder, contextlib.ExitStack() as stack:
-        if args.kept:
-            with Shop(program, folder, 1, "files", args.sync) as shop:
-                found |= measured_kept(shop, args.kept)
-            found |= beside_kept(folder, args.sync, args.kept)
-        else:
-            if is_there := shutil.which("redis-server"):
-                stack.enter_context(redis(folder, port))
-            over = "files" if args.over == "files" else f"redis://127.0.0.1:{port}/measured"
-            found |= measured(stack.enter_context(Shop(program, folder, SITES, over, args.sync)))
-            found |= {"beside it": incr(port)} if is_there else {}
+    load = os.getloadavg()[0]
+    with tempfile.TemporaryDirectory() as folder:
+        with selling(os.path.abspath(args.program), f"{folder}/shop", args.sync):
+            found = {"sync": args.sync} | measured(f"{folder}/shop", args.seconds)
+        found |= beside(folder, args.sync, args.seconds)
     print(json.dumps(found | {"load": [load, os.getloadavg()[0]]}, indent=1, ensure_ascii=False))
     return 0
 

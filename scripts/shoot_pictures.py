@@ -12,12 +12,11 @@ import sys
 import tempfile
 from collections.abc import Callable
 
-TOP = pathlib.Path(__file__).resolve().parent.parent
-sys.path.insert(0, str(TOP))
+from top import TOP
 
-from picture_tool.cli import drawn  # noqa: E402
-from picture_tool.tests.browser import Browser, found  # noqa: E402
-from picture_tool.tests.shops import MadeShop, Network  # noqa: E402
+from picture_tool.cli import drawn
+from picture_tool.tests.browser import Browser, found
+from picture_tool.tests.shops import MadeShop, Network
 
 READY = "document.documentElement?.dataset.ready === 'yes'"
 NOON = 1_795_780_800        # when the sites of these shops wrote their last answers

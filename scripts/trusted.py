@@ -24,8 +24,8 @@ import sys
 
 from prove_program import Kit, listed_crates
 from report import report
+from top import TOP
 
-TOP = pathlib.Path(__file__).resolve().parent.parent
 PAGE = TOP / "docs/PROMISES.md"
 PROGRAM_CRATE = "rubis_app"
 BLOCK = re.compile(r"(?<=```text\n)libraries: .*?(?=```)", re.S)

@@ -16,8 +16,8 @@ from collections.abc import Iterator
 from dataclasses import dataclass
 
 from report import report
+from top import TOP
 
-TOP = pathlib.Path(__file__).resolve().parent.parent
 TOKEN = re.compile(r"[^\s()\[\]{},;:.=λ→]+")
 COMMENT = re.compile(r"--(?=[ -]).*")
 IMPORT = re.compile(r"\s*(?:unfoldable )?(?:pub )?use ")

@@ -7,13 +7,12 @@ With --check nothing is written: the status is 1 if the file isn't what would be
 made, and says so where that is missing."""
 
 import importlib.util
-import pathlib
 import re
 import sys
 from typing import Any
 
-TOP = pathlib.Path(__file__).resolve().parent.parent
-sys.path.insert(0, str(TOP))
+from top import TOP
+
 CLIENT = TOP / "clients/shop.ts"
 
 Schema = dict[str, Any]

@@ -10,8 +10,8 @@ from collections.abc import Iterator
 from dataclasses import dataclass, field
 
 from prove_program import listed_crates
+from top import TOP
 
-TOP = pathlib.Path(__file__).resolve().parent.parent
 PAGE = TOP / "docs/CONTRACTS.md"
 
 OPENING = """# Contracts of the calls that the pages cite

@@ -17,12 +17,12 @@ import sys
 from collections.abc import Iterator
 from typing import NamedTuple
 
-TOP = pathlib.Path(__file__).resolve().parent.parent
-sys.path.insert(0, str(TOP))
-os.environ.pop("SHOP", None)
+from report import report
+from top import TOP
 
-from report import report                                           # noqa: E402
-from shop_tool.cli import ABOUT, EXAMPLES, NOTES, CommandLine       # noqa: E402
+from shop_tool.cli import ABOUT, EXAMPLES, NOTES, CommandLine
+
+os.environ.pop("SHOP", None)
 
 TOO_LARGE = "4294967295"    # for any option
 OFFERED = 16                # up to this number, a range is offered number by number

@@ -225,10 +225,13 @@ class OddNetwork(Network):
     def command(self) -> list[str]:
         return [*(["world"] if self.only is None else ["site", "--site", str(self.only)]), "--sites", str(len(self.sites))]
 
-    def end(self, listings: Sequence[str]) -> None:
+    def end(self, *listings: str) -> None:
         for place in range(len(self.sites)):
             for listing in listings:
-                self.at(place, listing)
+                self.at(place, f"list,{listing}")
+
+    def text(self) -> bytes:
+        return "".join(record + "\n" for record in self.records).encode("latin-1")
 
 
 @dataclasses.dataclass
@@ -256,7 +259,7 @@ def how_many(dice: Dice) -> int:
     return 10_000 + dice.below(90_000)
 
 
-def settings(dice: Dice, many: int) -> list[str]:
+def settings(dice: Dice) -> list[str]:
     """Options that change no answer."""
     words = []
     if dice.often(0.6):
@@ -335,41 +338,29 @@ def network_case(dice: Dice, only_one: bool) -> Case:
     """A run of a world, or of one site."""
     many = how_many(dice)
     net = network(dice, many, only_one)
-    net.end(["list,tables", "list,log", "list,misfits"] if only_one else ["list,tables", "list,log"])
+    net.end("tables", "log", *["misfits"] * only_one)
     net.records += [] if only_one else ["audit"]
-    command = net.command() + settings(dice, many)
+    command = net.command() + settings(dice)
     if dice.often(0.1):
         command += ["--keep", str(1 + dice.below(many))]
     return finished(dice, command, net.records)
 
 
-@dataclasses.dataclass
-class Source:
-    """A run that ends with the logs and tables of its sites, of which audits are made."""
-
-    command: list[str]
-    text: bytes
-    sites: int
-    # The only site, of a run of one.
-    only: int | None
-
-
-def source(dice: Dice) -> Source:
-    """A world, or a site that was given forged messages too."""
+def source(dice: Dice) -> OddNetwork:
+    """A world, or a site that was given forged messages too; it ends with the logs and tables, of which audits are made."""
     net = network(dice, how_many(dice), dice.often(0.5))
     if net.only is not None and len(net.sites) > 1:
         net.forging = 0.5
         net.run(len(net.records) + 20)
-    net.end(["list,log", "list,tables"])
-    text = "".join(record + "\n" for record in net.records).encode("latin-1")
-    return Source(net.command(), text, len(net.sites), net.only)
+    net.end("log", "tables")
+    return net
 
 
-def logs_of(dice: Dice, made: Source, output: bytes) -> list[list[bytes]]:
+def logs_of(dice: Dice, made: OddNetwork, output: bytes) -> list[list[bytes]]:
     """The records of an audit of some of the sites whose last listings stand in the output."""
     first = b"at,0,reply," if made.only is None else b"reply,"
     last = output.rfind(first, 0, max(0, output.rfind(first)))
-    logs: list[list[bytes]] = [[b"site,%d\n" % site] for site in range(made.sites)]
+    logs: list[list[bytes]] = [[b"site,%d\n" % site] for site in range(len(made.sites))]
     for site, line in listed(output[max(last, 0):], made.only):
         logs[site].append(line)
     if made.only is not None:
@@ -425,11 +416,11 @@ def change_lines(dice: Dice, lines: list[bytes]) -> None:
             lines[at] = changed_line(dice, lines[at])
 
 
-def logs_case(dice: Dice, made: Source, output: bytes) -> Case:
+def logs_case(dice: Dice, made: OddNetwork, output: bytes) -> Case:
     """An audit or a widening of logs."""
     lines = [line for log in logs_of(dice, made, output) for line in log]
     change_lines(dice, lines)
-    given = made.sites if dice.often(0.97) else 1 + dice.below(16)
+    given = len(made.sites) if dice.often(0.97) else 1 + dice.below(16)
     command = ["audit", "--sites", str(given)]
     if dice.often(0.25):
         command = ["widen", "--sites", str(given), "--to", str(given + dice.below(17 - given))]

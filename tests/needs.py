@@ -2,13 +2,13 @@
 
 import functools
 import os
-import pathlib
 import shutil
 import subprocess
 
 import pytest
 
-TOP = pathlib.Path(__file__).resolve().parent.parent
+from top import TOP
+
 PYTHON = "/usr/bin/python3"
 PATHS = os.pathsep.join([os.environ.get("PATH", os.defpath), "/usr/sbin"])
 

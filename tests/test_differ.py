@@ -40,14 +40,11 @@ def plain() -> pathlib.Path:
 def group_of(seed: int, number: int, plain: pathlib.Path) -> list[cases.Case]:
     """The cases of a group, some of which are of the logs of one run of the plain program."""
     made = cases.source(Dice(f"{seed}:logs:{number}"))
-    output = run(plain, cases.Case(made.command, [made.text])).output
+    output = run(plain, cases.Case(made.command(), [made.text()])).output
     group = []
     for place in range(GROUP):
         dice = Dice(f"{seed}:{GROUP * number + place}")
-        if place < OF_ONE_SOURCE:
-            group.append(cases.logs_case(dice, made, output))
-        else:
-            group.append(cases.network_case(dice, place < 14))
+        group.append(cases.logs_case(dice, made, output) if place < OF_ONE_SOURCE else cases.network_case(dice, place < 14))
     return group
 
 

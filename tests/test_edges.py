@@ -6,6 +6,7 @@ import dataclasses
 import os
 import pathlib
 import pty
+import shlex
 import signal
 import socket
 import struct
@@ -203,8 +204,8 @@ def difference(expected: Expected, status: int, wrote: bytes, said: bytes) -> st
 
 def expect(program: pathlib.Path, expected: Expected, **streams: int | IO[bytes]) -> None:
     """Runs the program with that input, or with these streams."""
-    given: dict[str, Any] = {"stdin": streams["stdin"]} if "stdin" in streams else {"input": expected.text}
-    done = subprocess.run([program, *expected.words.split()], stdout=streams.get("stdout", subprocess.PIPE), stderr=subprocess.PIPE, timeout=SECONDS, **given)
+    given: dict[str, Any] = {"stdout": subprocess.PIPE, **streams} | ({} if "stdin" in streams else {"input": expected.text})
+    done = subprocess.run([program, *shlex.split(expected.words)], stderr=subprocess.PIPE, timeout=SECONDS, **given)
     wrong = difference(expected, done.returncode, done.stdout or b"", done.stderr)
     assert not wrong, f"rubis {expected.words} < {expected.text[-60:]!r}: {wrong}"
 
@@ -229,10 +230,7 @@ def test_most_records(more: int, program: pathlib.Path, counted: Counted) -> Non
 
 def test_nameless_folder(program: pathlib.Path, counted: Counted) -> None:
     """A site in a folder without a name: nothing is written, where the root of the file system would be taken."""
-    done = subprocess.run([program, "keep", ""], stdin=subprocess.DEVNULL, capture_output=True, timeout=SECONDS)
-    wrong = difference(Expected("keep ''", b"", b"", 2, b"fault: the folder has no name\n"), done.returncode, done.stdout, done.stderr)
-    assert not wrong, f"rubis keep '': {wrong}"
-    counted("edge runs", 1)
+    expect_each(program, counted, [Expected("keep ''", b"", b"", 2, b"fault: the folder has no name\n")])
 
 
 def test_failed_reads(program: pathlib.Path, counted: Counted) -> None:

@@ -3,11 +3,9 @@ whole lines of `kept`, and after the next start all of it; where what is there c
 change nothing."""
 
 import contextlib
-import functools
 import itertools
 import pathlib
 import re
-import resource
 import shutil
 import signal
 import subprocess
@@ -43,11 +41,8 @@ class Shop:
 
     def audit(self, sites: list["Site"]) -> bytes:
         """The verdict on the logs and tables of these sites."""
-        entries = []
-        for site in sites:
-            rows = [*site.listed(b"log"), *site.listed(b"tables")]
-            entries += [b"site,%d" % site.number, *(row.split(b",", 3)[3] if row.startswith(b"row,log,") else row for row in rows)]
-        records = b"".join(entry + b"\n" for entry in entries)
+        logs = [line for number, site in enumerate(sites) for line in (b"site,%d" % number, *site.listed(b"log"), *site.listed(b"tables"))]
+        records = re.sub(rb"^row,log,\d+,", b"", b"".join(line + b"\n" for line in logs), flags=re.M)
         done = subprocess.run([self.program, "audit", "--sites", str(len(sites))], input=records, capture_output=True, timeout=WAIT, check=True)
         return done.stdout
 
@@ -56,10 +51,7 @@ class Site:
     """A site in a folder."""
 
     def __init__(self, shop: Shop, folder: pathlib.Path, options: tuple[str, ...]) -> None:
-        self.shop = shop
-        self.folder = folder
-        self.options = options
-        self.number = int(options[options.index("--site") + 1]) if "--site" in options else 0
+        self.shop, self.folder, self.options = shop, folder, options
 
     def command(self, *more: str) -> list[str]:
         return [self.shop.program, "keep", str(self.folder), *self.options, *more]
@@ -94,14 +86,9 @@ class Site:
         return done.stdout
 
     def run(self, records: bytes = b"", full: int | None = None, more: tuple[str, ...] = ()) -> "subprocess.CompletedProcess[bytes]":
-        """One life from its start to the end of its input, on a disk that takes at most `full` bytes a file."""
-
-        def limit(size: int) -> None:
-            signal.signal(signal.SIGXFSZ, signal.SIG_IGN)
-            resource.setrlimit(resource.RLIMIT_FSIZE, (size, size))
-
-        before = None if full is None else functools.partial(limit, full)
-        return subprocess.run(self.command(*more), input=records, capture_output=True, timeout=WAIT, preexec_fn=before)
+        """One life from its start to the end of its input, on a disk that takes at most `full` bytes a file. SIGXFSZ stays ignored then."""
+        limit = [] if full is None else ["prlimit", f"--fsize={full}"]
+        return subprocess.run([*limit, *self.command(*more)], input=records, capture_output=True, timeout=WAIT, restore_signals=not limit)
 
     def goes_on(self, when: str, records: bytes = b"", more: tuple[str, ...] = ()) -> bytes:
         """A life that has to end well, and to complete the answers: what it writes."""
@@ -241,15 +228,14 @@ def test_what_a_state_counts(shop: Shop) -> None:
 
 def test_questions_leave_nothing(shop: Shop, fields: Blind, counted: Counted) -> None:
     """Two sites, one of which is asked questions: their files are the same, and so are the answers to their records."""
-    dice = fields.dice
     asked, plain = (shop.site(name, "--site", "0", "--sites", "2") for name in ("asked", "plain"))
     count = 0
     for _ in range(12):
         lines = [line for line in (fields.record() for _ in range(40)) if not line.startswith(b"?")]
         mixed = []
         for line in lines:
-            while dice.random() < 0.4:
-                mixed.append(dice.choice(QUESTIONS))
+            while fields.dice.random() < 0.4:
+                mixed.append(fields.dice.choice(QUESTIONS))
                 count += 1
             mixed.append(line)
         answers = asked.run(b"".join(mixed)).stdout
@@ -367,7 +353,6 @@ def test_torn_files(shop: Shop, counted: Counted) -> None:
 
 def test_changed_files(shop: Shop, fields: Blind, counted: Counted) -> None:
     """`out` with another byte or too many, and `kept` with a line that no run keeps."""
-    dice = fields.dice
     site = shop.site("changed")
     site.run(SMALL)
     kept, out = site.files()
@@ -379,7 +364,7 @@ def test_changed_files(shop: Shop, fields: Blind, counted: Counted) -> None:
     site.put(out=out)
     for line in (b'user,"bob\n', b"x" * 5000 + b"\n", b"\xefuser,bob\n"):
         lines = kept.splitlines(keepends=True)
-        lines.insert(dice.randrange(len(lines) + 1), line)
+        lines.insert(fields.dice.randrange(len(lines) + 1), line)
         site.put(kept=b"".join(lines))
         site.refuses(f"kept with {line[:10]!r}")
     counted("places at which files are changed", len(out) + 4)
@@ -387,6 +372,7 @@ def test_changed_files(shop: Shop, fields: Blind, counted: Counted) -> None:
 
 def test_full_disk(shop: Shop, counted: Counted) -> None:
     """A disk that is full after each number of bytes."""
+    need("prlimit")
     whole = shop.site("whole")
     whole.run(SMALL)
     largest = max(map(len, whole.files()))
@@ -404,7 +390,6 @@ def test_full_disk(shop: Shop, counted: Counted) -> None:
 @pytest.mark.kill
 def test_shorten(shop: Shop, fields: Blind, extent: Extent, counted: Counted) -> None:
     """What was kept is shortened, and the shortening killed."""
-    dice = fields.dice
     lives = max(10, extent.count(SHOP_LIVES) // 3)
     site = shop.site("short")
     site.goes_on("a site to be shortened", b"".join(fields.record() for _ in range(2000)))
@@ -418,7 +403,7 @@ def test_shorten(shop: Shop, fields: Blind, extent: Extent, counted: Counted) ->
     for _ in range(lives):
         site.put(kept=kept, out=out)
         process = subprocess.Popen(site.command("--shorten"), stdin=subprocess.DEVNULL, stdout=subprocess.DEVNULL, stderr=subprocess.PIPE)
-        time.sleep(dice.random() * took * 1.2)
+        time.sleep(fields.dice.random() * took * 1.2)
         process.kill()
         _, said = process.communicate(timeout=WAIT)
         killed += process.returncode != 0
@@ -480,15 +465,11 @@ def test_killed_at_each_call(shop: Shop, counted: Counted) -> None:
 def test_power_failures(shop: Shop, fields: Blind, extent: Extent, counted: Counted) -> None:
     """Lives with --sync, many of them killed at a flush of `kept`, and a power failure after every other one: `kept` is cut to what was
     flushed or a little more, and `out`, which is never flushed, anywhere. All that `out` had has to be answered again."""
-    dice = fields.dice
-    need("strace")
+    dice, site, trace, flushed = fields.dice, shop.site("synced"), shop.folder / "trace", 0
     lives = extent.count(SYNCED_LIVES)
-    site = shop.site("synced")
-    flushed = 0
     for number in range(lives):
         when = f"power failure {number}"
         before = len(site.read("kept"))
-        trace = shop.folder / "trace"
         synced_life(site, fields, trace)
         kept, out = site.files()
         flushed = flushed_by(trace.read_text(), before, flushed)
@@ -502,15 +483,18 @@ def test_power_failures(shop: Shop, fields: Blind, extent: Extent, counted: Coun
     counted("lives with --sync", lives)
 
 
+def traced(site: Site, trace: pathlib.Path, calls: str, *words: str) -> list[str]:
+    """The command of a life with --sync whose calls of these names are written to a file."""
+    need("strace")
+    return ["strace", "-f", "-qq", "-y", "-o", str(trace), "-e", f"trace={calls}", *words, *site.command("--workers", "1", "--sync")]
+
+
 def test_names_are_flushed(shop: Shop) -> None:
     """A start with --sync, after a shortening that was killed and may have left a rename that isn't on the disk: the names in the folder
     are flushed before anything is written."""
-    need("strace")
-    site = shop.site("named")
+    site, trace = shop.site("named"), shop.folder / "names"
     site.run(b"user,ann\nlist,users\n")
-    trace = shop.folder / "names"
-    command = ["strace", "-f", "-qq", "-y", "-o", str(trace), "-e", "trace=write,fsync", *site.command("--workers", "1", "--sync")]
-    done = subprocess.run(command, input=b"user,bob\n", stdout=subprocess.PIPE, stderr=subprocess.PIPE, timeout=WAIT)
+    done = subprocess.run(traced(site, trace, "write,fsync"), input=b"user,bob\n", capture_output=True, timeout=WAIT)
     assert done.returncode == 0, f"a start that is watched: {done.stderr!r}"
     first = next((line for line in trace.read_text().splitlines() if re.search(r"\b(write|fsync)\(", line)), "")
     assert re.search(rf"\bfsync\(\d+<[^>]*/{site.folder.name}>\) += 0$", first) is not None, f"a start with --sync begins with {first!r}"
@@ -518,14 +502,11 @@ def test_names_are_flushed(shop: Shop) -> None:
 
 def synced_life(site: Site, fields: Blind, trace: pathlib.Path) -> None:
     """A life with --sync that is given its records one by one, and is killed at its n-th flush. Two flushes belong to its start."""
-    dice = fields.dice
-    inject = f"inject=fdatasync:signal=SIGKILL:when={dice.randrange(1, 10)}"
-    calls = "trace=write,fdatasync,ftruncate"
-    command = ["strace", "-f", "-qq", "-y", "-o", str(trace), "-e", calls, "-e", inject, *site.command("--workers", "1", "--sync")]
+    command = traced(site, trace, "write,fdatasync,ftruncate", "-e", f"inject=fdatasync:signal=SIGKILL:when={fields.dice.randrange(1, 10)}")
     process = subprocess.Popen(command, stdin=subprocess.PIPE, stdout=subprocess.PIPE, stderr=subprocess.PIPE)
     assert process.stdin
     with contextlib.suppress(BrokenPipeError):
-        for _ in range(dice.randrange(1, 10)):
+        for _ in range(fields.dice.randrange(1, 10)):
             process.stdin.write(fields.record())
             process.stdin.flush()
             time.sleep(0.001)

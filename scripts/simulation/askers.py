@@ -30,6 +30,12 @@ class Told:
     def __init__(self, site: int, record: bytes, what: str, id: tuple[int, int] | None = None, number: int | None = None) -> None:
         self.site, self.record, self.what, self.id, self.number = site, record, what, id, number
 
+    @classmethod
+    def of_answer(cls, site: int, record: bytes, line: str) -> "Told":
+        """What an answer says. One that a request ends with, since the token didn't come, is no acceptance either."""
+        head = line.split(",")
+        return cls(site, record, "ok", id_of(head[3])) if head[2] == "ok" else cls(site, record, "refused")
+
 
 class Asker:
     """One request of a client, and what came of it."""
@@ -83,7 +89,7 @@ class Asker:
                 record = next(records, None)
                 if record != bytes_of(answer["record"]):
                     raise Violation(f"the answer to {answer['record']!r} came where {record!r} was asked")
-                self._told(record, answer["lines"][0].split(","))
+                self.told.append(Told.of_answer(self.site, record, answer["lines"][0]))
             else:
                 last = answer.get("fault", "")
         found = NUMBER.search(last)
@@ -108,13 +114,6 @@ class Asker:
             found = {line[:-1] for site in here.shop.sites.values() if site is not here for line in site.folder.lines("kept")}
         if not texts <= found and here.folder.is_whole and len(here.shop.sites) > 1 - world.is_over_server:
             raise Violation(f"{sorted(texts - found)} were told published, and nobody else has them")
-
-    def _told(self, record: bytes, head: list[str]) -> None:
-        """An answer. One that a request ends with, since the token didn't come, is no acceptance either."""
-        if head[2] == "ok":
-            self.told.append(Told(self.site, record, "ok", id_of(head[3])))
-        else:
-            self.told.append(Told(self.site, record, "refused"))
 
     @staticmethod
     def _what(fault: str, at: int) -> str:
@@ -191,8 +190,7 @@ class KeyedAsker:
             return self.asker.told[0]
         if not self.first or not self.world.knows_keys(self.site):
             return Told(self.site, self.record, "unknown")
-        head = self.first[0].split(",")
-        return Told(self.site, self.record, "ok", id_of(head[3])) if head[2] == "ok" else Told(self.site, self.record, "refused")
+        return Told.of_answer(self.site, self.record, self.first[0])
 
 
 class Unique(Fields):

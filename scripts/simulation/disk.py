@@ -16,11 +16,6 @@ if TYPE_CHECKING:
     from .world import World
 
 
-def text_lines(lines: list[bytes]) -> list[bytes]:
-    """The lines that a keeper keeps of those that it is given."""
-    return [next(records_of(line), line) for line in lines]
-
-
 def is_question(line: bytes) -> bool:
     return line.startswith(b"?")
 
@@ -275,8 +270,7 @@ class Keeper:
             return
         lines = data.split(b"\n")[:-1]
         records = [record for line in lines for record in ([line] if is_question(line) else records_of(line))]
-        lines = [line for line in lines if not is_question(line)]
-        text = b"".join(line + b"\n" for line in text_lines(lines))
+        text = b"".join(next(records_of(line), line) + b"\n" for line in lines if not is_question(line))
         if text and self.dice.random() < 0.3:
             # A kill may come in the middle of this write.
             cut = self.dice.randrange(len(text))

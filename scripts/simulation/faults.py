@@ -231,7 +231,7 @@ class Faults:
     def server_loses_all(self, dice: random.Random) -> None:
         def forget() -> None:
             self.world.note("ServerLosesAll")
-            self.world.server.lose_all()
+            self.world.server.lose_end()
             self.world.steps.server_lost_all()
         self.server_goes(dice, forget)
 

@@ -1,6 +1,7 @@
 """The server of a run: streams, and what supervisors say to each other. It can lose the end of what it was told, or everything."""
 
 import functools
+import math
 import operator
 import random
 from bisect import bisect_right
@@ -62,17 +63,13 @@ class Server:
         change()
         self.news.tell()
 
-    def lose_end(self, seconds: float) -> None:
-        """It comes back as it was that long ago."""
+    def lose_end(self, seconds: float = math.inf) -> None:
+        """It comes back as it was that long ago, or as a new one."""
         log = [entry for entry in self.log if entry[0] <= self.clock.now - seconds]
         self._empty()
         for _, change in log:
             change()
         self.log = log
-
-    def lose_all(self) -> None:
-        self.log = []
-        self._empty()
 
     def go(self) -> None:
         """It goes away, and all connections break."""

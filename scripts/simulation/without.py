@@ -26,49 +26,39 @@ def answered_only(keys: Keys, name: bytes, now: float) -> Key | None:
     return key if key and key.is_answered else None
 
 
-def patches_of(rule: str) -> list[Any]:
-    """What is replaced of the carrier where a rule is taken out."""
-    def instead(name: str, what: Any) -> Any:
-        return mock.patch(name, what)
-    changes: dict[str, list[Any]] = {
-        "1": [instead("shop_tool.carrier.over_server.is_called", lambda *_: True)],
-        "2": [mock.patch.object(ServerLink, "goes_on", lambda _: True)],
-        "3": [instead("shop_tool.carrier.reader.to_search", lambda *_: [])],
-        "4": [mock.patch.object(Shop, "begin_site", lambda shop, site, answered: shop._opened(site, answered or 0))],
-        "5": [instead(f"{name}.why_not_one_record", lambda *_: None) for name in LOOKS],
-        "6": [instead(f"{name}.why_not_one_record", lambda record, purpose=Purpose.ASK: None if record.startswith(b"\xef")
-                      else why_not_one_record(record, purpose)) for name in LOOKS],
-        "7": [mock.patch.object(Site, "sent", lambda site, begin, end: [text for _, text in site.ledger.sends.read(begin, end)]),
-              mock.patch.object(Files, "why_lost", lambda *_: None)],
-        "9": [instead("shop_tool.carrier.sums.compared", lambda lines, sums: (compared(lines, sums)[0], None))],
-        "9-lives": [instead(f"shop_tool.carrier.{name}.standing", lambda *_: Standing.NEXT) for name in ("publisher", "over_files")],
-        "11": [],
-        "hear": [instead("shop_tool.carrier.publisher.must_hear_all", lambda is_forgotten, *more: is_forgotten and must_hear_all(is_forgotten, *more))],
-        "keys-read": [mock.patch.object(Keys, "read", lambda *_: None)],
-        "keys-given": [mock.patch.object(Keys, "find", answered_only)],
-        "told-number": [mock.patch.object(Site, "numbered", lambda site: ((pending, site.ledger.records + 1) for pending in site.line))],
-        "standby-told": [mock.patch.object(Ask, "_stands", lambda *_: iter(()))],
-        "turns": [instead("shop_tool.carrier.shop.why_passed_on", lambda *_: None)],
-    }
-    return changes[rule]
-
-
-RULES = ("1", "2", "3", "4", "5", "6", "7", "9", "9-lives", "11", "hear", "keys-read", "keys-given", "told-number", "standby-told", "turns")
+# What is replaced of the carrier where a rule is taken out.
+RULES: dict[str, list[Any]] = {
+    "1": [mock.patch("shop_tool.carrier.over_server.is_called", lambda *_: True)],
+    "2": [mock.patch.object(ServerLink, "goes_on", lambda _: True)],
+    "3": [mock.patch("shop_tool.carrier.reader.to_search", lambda *_: [])],
+    "4": [mock.patch.object(Shop, "begin_site", lambda shop, site, answered: shop._opened(site, answered or 0))],
+    "5": [mock.patch(f"{name}.why_not_one_record", lambda *_: None) for name in LOOKS],
+    "6": [mock.patch(f"{name}.why_not_one_record", lambda record, purpose=Purpose.ASK: None if record.startswith(b"\xef")
+                  else why_not_one_record(record, purpose)) for name in LOOKS],
+    "7": [mock.patch.object(Site, "sent", lambda site, begin, end: [text for _, text in site.ledger.sends.read(begin, end)]),
+          mock.patch.object(Files, "why_lost", lambda *_: None)],
+    "9": [mock.patch("shop_tool.carrier.sums.compared", lambda lines, sums: (compared(lines, sums)[0], None))],
+    "9-lives": [mock.patch(f"shop_tool.carrier.{name}.standing", lambda *_: Standing.NEXT) for name in ("publisher", "over_files")],
+    "11": [],
+    "hear": [mock.patch("shop_tool.carrier.publisher.must_hear_all", lambda is_forgotten, *more: is_forgotten and must_hear_all(is_forgotten, *more))],
+    "keys-read": [mock.patch.object(Keys, "read", lambda *_: None)],
+    "keys-given": [mock.patch.object(Keys, "find", answered_only)],
+    "told-number": [mock.patch.object(Site, "numbered", lambda site: ((pending, site.ledger.records + 1) for pending in site.line))],
+    "standby-told": [mock.patch.object(Ask, "_stands", lambda *_: iter(()))],
+    "turns": [mock.patch("shop_tool.carrier.shop.why_passed_on", lambda *_: None)],
+}
 
 
 def rules_without(rule: str | None) -> Rules:
     """What the harness does where a rule is taken out."""
     rules = Rules()
-    if rule == "2":
-        rules.swallowed_cancel_ends = False
-    if rule == "11":
-        rules.hands_over = False
+    rules.swallowed_cancel_ends, rules.hands_over = rule != "2", rule != "11"
     return rules
 
 
 def taken_out(rule: str | None) -> ExitStack:
     """While this is open the rule is out."""
     stack = ExitStack()
-    for patch in patches_of(rule) if rule else []:
+    for patch in RULES[rule] if rule else []:
         stack.enter_context(patch)
     return stack
