@@ -353,8 +353,8 @@ def status_in(key: str, text: bytes) -> dict[str, Any]:
         said = json.loads(text)
     except (ValueError, RecursionError):
         said = None
-    if isinstance(said, dict) and isinstance(said.get("state"), str) and isinstance(said.get("turn"), int) and isinstance(has := said.get("has"), dict):
-        if all(isinstance(count, int) for count in has.values()):
+    if isinstance(said, dict) and isinstance(said.get("state"), str) and isinstance(said.get("turn"), int):
+        if all(isinstance(its, dict) and all(isinstance(count, int) for count in its.values()) for its in (said.get("has"), said.get("greatest", {}))):
             return said
     raise OSError(f"the key {key} has something else than the status of a site (redis-cli del {key})")
 

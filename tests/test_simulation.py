@@ -1,8 +1,7 @@
 """Whole shops on a clock of their own, while things go wrong: scripts/simulate_shop.py says how, and plays one of them again.
 
 Each run keeps every promise. Of one seed's runs each is a run of the proved model too, as its program decides, up to a step of which the run
-itself says that the model doesn't have it: a site is opened of which something has more that it doesn't reach, or a process goes on after
-another folder of its site was opened."""
+itself says that the model doesn't have it: a site is opened of which something has more that it doesn't reach."""
 
 import collections
 import gc
@@ -11,7 +10,8 @@ from collections.abc import Callable
 
 import pytest
 
-from simulation.plays import Played, compared, decided, play, told
+from simulation.plays import Played, answers_of, compared, decided, play, told
+from simulation.rules import RULES, drawn
 from tests.conftest import Extent
 from tests.folder import Counted
 
@@ -63,6 +63,16 @@ def test_opens_beside_a_site_that_cannot_say_what_it_has(seed: str) -> None:
     """Lines were changed there, or the site was made again with a token that was lost."""
     played = play(seed)
     assert not played.broken, told(played, None)
+
+
+@pytest.mark.parametrize("rule", RULES)
+def test_rules_are_as_defined(rule: str, built: Callable[[str], pathlib.Path], extent: Extent) -> None:
+    """What a rule of `shop` lets happen is a step of the model, and else it is none, but for the differences that PROMISES names."""
+    states = drawn(rule, str(extent.seed), 400)
+    answers = answers_of(str(built("rubis_decider")), [state.lines for state in states])
+    for state, answer in zip(states, answers):
+        assert answer in (None, len(state.lines) - 1), f"an earlier step may not happen: {state.lines} at {answer}"
+        assert state.takes == (answer is None) or state.may_differ and state.takes, f"{state.lines}: shop takes it: {state.takes}"
 
 
 def test_answers(program: pathlib.Path, extent: Extent, counted: Counted) -> None:

@@ -214,7 +214,8 @@ class Steps:
         if slot.site in self.yielding and (slot.takes_over or is_unreached):
             step = self._open(slot, None, "TakesOver")
             slot.takes_over = False
-            self.yields(slot.site, self.world.server.lives[slot.site] == self.world.server.yields[slot.site])
+            if self.world.server.lives[slot.site] != self.world.server.yields[slot.site]:
+                self.yields(slot.site, False)
         else:
             step = self._open(slot, UNREACHED if is_unreached else None)
         slot.takes_over = False
@@ -490,7 +491,7 @@ class Steps:
     def sends(self, machine: "Machine", texts: Iterable[bytes]) -> None:
         """A supervisor begins to append these packets."""
         slots = [folder.slot for folder in machine.folders.values() if folder.slot and folder.slot.life]
-        for packet in filter(None, map(self.known.get, texts)):
+        for packet in (self.known[text] for text in texts if text in self.known):
             if slot := next((slot for slot in slots if packet in slot.packets), None):
                 self.under_way[packet] = self.list[-1] if self.list else None, slot
 

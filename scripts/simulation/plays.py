@@ -78,10 +78,9 @@ def not_given(lines: list[str]) -> tuple[list[str], int] | None:
 def not_compared(lines: list[str]) -> tuple[list[str], int] | None:
     """The list, in which a folder whose message another one has just read is lost, and opens all the same; and the number of that step."""
     for at in range(len(lines) - 1, 0, -1):
-        if lines[at].startswith("Reads,") and ":" in lines[at] and lines[at].split(",")[2].startswith("m:"):
-            ask = lines[at].split(":")[3]
-            folder = next((line.split(",")[1] for line in lines[:at] if line.startswith("Accepts,") and line.split(",")[2] == ask), None)
-            if folder and folder != lines[at].split(",")[1]:
+        if lines[at].startswith("Reads,") and len(fields := lines[at].split(",")) == 5:      # a message
+            folder = next((line.split(",")[1] for line in lines[:at] if line.startswith("Accepts,") and line.split(",")[2] == fields[4]), None)
+            if folder and folder != fields[1]:
                 events = [f"{word},{folder}" for word in ("IsKilled", "IsLost", "Starts", "Opens")]
                 return lines[:at + 1] + events + lines[at + 1:], at + len(events)
     return None

@@ -13,14 +13,15 @@ from shop_tool.carrier.lives import life_text, placed
 from shop_tool.carrier.opening import HEARD_SECONDS
 from shop_tool.carrier.over_files import FileLink
 from shop_tool.carrier.over_server import ServerLink
+from shop_tool.carrier.publisher import greatest_said
 from shop_tool.carrier.rebuilding import UNCHANGED
 from shop_tool.carrier.records import Purpose, text_of
 from shop_tool.carrier.shop import HAND_OVER_SECONDS, Shop
 from shop_tool.carrier.site import FIRST_WAIT, LAST_WAIT, Disagreement, Pending, Site, State
 from shop_tool.carrier.steps import State as StateOf
 from shop_tool.carrier.steps import (Adopt, Append, Broken, CallAll, Connect, Flag, Hear, IsRunning, Kept, KeptOf, Owner, Read, Replay, Rewrite, Say,
-                                     SayLeave, SayWant, SayYields, SeeHere, SeeLife, SeenHere, SentHere, Signal, Statuses, Steps, Swap, TakeOver, Tell, UpElsewhere,
-                                     Wait)
+                                     SayLeave, SayWant, SayYields, SeeHere, SeeLife, SeenHere, SentHere, Signal, Statuses, Steps, Swap, TakeOver,
+                                     Tell, UpElsewhere, Wait)
 from shop_tool.carrier.sums import LINE_BYTES, why_changed
 from shop_tool.carrier.told import unanswered
 from shop_tool.ends import Fault, Status
@@ -134,15 +135,15 @@ class World:
                        and site in supervisor.sites and supervisor.sites[site].compared.is_set and not supervisor.sites[site].fenced_by
                        for supervisor in self.supervisors())
 
-    def note_unreached(self, number: int, opened: Folder, opens: StandIn, known: int) -> None:
+    def note_unreached(self, number: int, seen: list[Folder], opens: StandIn, known: int) -> None:
         """A site is opened whose supervisor knows of this turn of the token: notes whether a folder has more of it that can't be reached, or
-        has had the token since."""
+        has had the token since. Those that it had to see, its own and those beside it, were looked at before, and excuse nothing."""
         own, held = opens.release.counts[number], opens.turn if opens.issued is not None else None
         for machine in self.machines:
             for site, folder in machine.folders.items():
                 if folder.yields and site == number:
                     continue        # it told ok only of what stands in the stream
-                if folder is not opened and not self.is_unreached:
+                if folder not in seen and not self.is_unreached:
                     sent = sum(text.startswith(b"msg,") for text in folder.sent()) if site == number else 0
                     turns = turns_of(folder)
                     self.is_unreached = max(sent, greatest_of(folder, number)) > own or held is not None and max(turns, default=0) > held
@@ -686,15 +687,16 @@ class Supervisor(Process, Shop):
         assert keeper
         messages, held = keeper.site.release.counts[site.number], keeper.site.turn if keeper.site.issued is not None else None
         self._look_at_those_that_ran_on(site, keeper.site)
-        slot = keeper.folder.slot
+        slot, seen = keeper.folder.slot, [keeper.folder]
         for other in self.sites.values():
-            if other is site or not other.known.is_set and slot and slot.was_remembered:
+            if other is site or not other.known.is_set and not self.world.is_over_server and slot and slot.was_remembered:
                 continue
+            seen.append(other.folder)
             if (has := greatest_of(other.folder, site.number)) > messages:
                 raise Violation(f"site {site.number} is opened with {messages} messages, and site {other.number} beside it has {has}")
             if held is not None and (turn := max(turns_of(other.folder), default=0)) > held:
                 raise Violation(f"site {site.number} is opened with the token of turn {held}, and site {other.number} beside it has had that of {turn}")
-        self.world.note_unreached(site.number, keeper.folder, keeper.site, self.wants.turn)
+        self.world.note_unreached(site.number, seen, keeper.site, self.wants.turn)
         own = dict(sends_of(keeper.folder.lines("out")))
         if not isinstance(self.link, SimulatedServerLink) or not self.reaches() or f"publish {site.number}" in self.link.down:
             return
@@ -702,7 +704,7 @@ class Supervisor(Process, Shop):
             if place[0] > messages or place in own and own[place] != text:
                 raise Violation(f"site {site.number} is opened with {messages} messages, and its stream has {text!r} at {place}")
         for number, (until, said) in self.world.server.said.items():
-            if number not in self.sites and until > self.clock.now and said["has"][str(site.number)] > messages:
+            if number not in self.sites and until > self.clock.now and greatest_said(said, site.number) > messages:
                 raise Violation(f"site {site.number} is opened with {messages} messages, and site {number} says that it has {said['has']}")
 
     def _look_at_those_that_ran_on(self, site: Site, opens: StandIn) -> None:
@@ -716,9 +718,9 @@ class Supervisor(Process, Shop):
         for other in (its for supervisor in world.supervisors() if supervisor.ran_on() for its in supervisor.sites.values()):
             if other.number not in self.sites and other.compared.is_set and not other.fenced_by:
                 ledger = other.ledger
-                if ledger.have[site.number].upto > messages or held is not None and ledger.turn > held:
+                if ledger.have[site.number].greatest > messages or held is not None and ledger.turn > held:
                     raise Violation(f"site {site.number} is opened with {messages} messages and the token of turn {held}, and site {other.number}, "
-                                    f"which ran on, has {ledger.have[site.number].upto} and that of turn {ledger.turn}")
+                                    f"which ran on, has {ledger.have[site.number].greatest} and that of turn {ledger.turn}")
 
     def ran_on(self) -> bool:
         """Whether it has run, and nothing stood in its way, since the server went away last."""

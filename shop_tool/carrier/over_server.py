@@ -33,7 +33,7 @@ class ServerLink(Link):
         self.tops = [0] * shop.count                # how many messages the stream of each site has
         self.marks: list[Mark] = []                 # of the streams, as they were seen last
         self.counts: dict[int, int] = {}            # how many packets of each site here are in its stream
-        self.calls = Once(WANTS)
+        self.calls = Once()
 
     @abc.abstractmethod
     def named(self, site: Site) -> str:
@@ -130,7 +130,7 @@ class ServerLink(Link):
         for number, text in ((yield KeptOf(site.number, origin, state.last[0])) or ([], []))[0]:
             if number == state.last[0] + len(packets) + 1 and len(packets) < BATCH:
                 packets.append(((number, 0), text))
-        if packets and (yield Append(origin, state.last, packets, "")):
+        if packets and (yield Append(origin, state.last, packets, state.life)):
             self.shop.event(f"link: {len(packets)} messages of site {origin} that the server had lost are appended by site {site.number}")
 
     # Wants and requests of other supervisors.
@@ -162,7 +162,7 @@ class ServerLink(Link):
 
     @staticmethod
     def _is_called(site: Site, life: bytes | None) -> bool:
-        return is_called(None if life is None else life.decode("utf-8", "replace"), life_text(site.lives), bool(site.fenced_by))
+        return life is not None and is_called(life.decode("utf-8", "replace"), life_text(site.lives))
 
     def is_unseen(self, site: Site) -> bool:
         return Publisher(self, site).name in self.down

@@ -1,7 +1,8 @@
 """Publishes what one site sends: brings its stream on the server up to date, and compares the site with it."""
 
 import hashlib
-from typing import TYPE_CHECKING
+from collections.abc import Mapping
+from typing import TYPE_CHECKING, Any
 
 from .ledger import NOWHERE, Place
 from .lives import Standing, life_text, standing, takes_place, why_other
@@ -184,7 +185,7 @@ class Publisher:
         was_here, seconds = bool((yield SeenHere(site.number))), shop.now() - self.began
         must_hear = must_hear_all(is_forgotten, was_here, site.answered is not None, shop.is_alone, seconds)
         site.silent = [other for other in range(shop.count) if other not in shop.sites and other not in statuses] if must_hear else []
-        has = {other: status["has"].get(str(site.number), 0) for other, status in statuses.items()}
+        has = {other: greatest_said(status, site.number) for other, status in statuses.items()}
         turns = {other: status["turn"] for other, status in statuses.items()}
         return (yield from shop.why_behind(site, has, turns))
 
@@ -226,6 +227,12 @@ class Publisher:
                 if place := strange_packet(entries, sends.at):
                     return place
             after = page.last
+
+
+def greatest_said(status: Mapping[str, Any], site: int) -> int:
+    """The greatest number of a site's messages that another site says it has. A version of before says only how many it has without a gap."""
+    number: int = status.get("greatest", status["has"]).get(str(site), 0)
+    return number
 
 
 def shown(place: Place) -> str:

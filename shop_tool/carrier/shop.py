@@ -202,6 +202,7 @@ class Shop(abc.ABC):
         state = State.WAITING if site.state is State.UP and site.silent and not site.opened.is_set else site.state
         return {"site": site.number, "state": state, "life": life_text(site.lives), "own": ledger.sends.messages, "turn": ledger.turn,
                 "has": {str(origin): have.upto for origin, have in enumerate(ledger.have) if origin != site.number},
+                "greatest": {str(origin): have.greatest for origin, have in enumerate(ledger.have) if origin != site.number},
                 "holds_token": ledger.holds_token and site.known.is_set}
 
     # The token.

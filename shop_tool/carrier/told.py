@@ -4,7 +4,6 @@
 accepted, just that is said, with how it is found out.
 """
 
-import collections
 from typing import Any
 
 
@@ -40,22 +39,18 @@ FORM = 1        # of requests between machines and of statuses, which have it as
 
 
 class Once:
-    """Names, the last of them: a call that was sent again after a connection broke isn't answered twice."""
+    """Names, all of them: a call that comes again, as it was sent again after a connection broke, isn't answered twice."""
 
-    def __init__(self, most: int) -> None:
-        self._names: collections.OrderedDict[bytes, None] = collections.OrderedDict()
-        self._most = most
+    def __init__(self) -> None:
+        self._names: set[bytes] = set()
 
     def is_new(self, name: bytes) -> bool:
-        if name in self._names:
-            return False
-        self._names[name] = None
-        if len(self._names) > self._most:
-            self._names.popitem(last=False)
-        return True
+        is_new = name not in self._names
+        self._names.add(name)
+        return is_new
 
 
-def is_called(life: str | None, own: str, is_fenced: bool) -> bool:
+def is_called(life: str, own: str) -> bool:
     """Whether a call to a site is for this life of its folder. It is for the life that the others saw last, since any other one would
-    answer what it can't know: that nothing was given. Callers of before don't say which that is; then a fenced one keeps silent."""
-    return not is_fenced if life is None else life == own
+    answer what it can't know: that nothing was given. One that names none, as versions of before sent it, is for none."""
+    return life == own

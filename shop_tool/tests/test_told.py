@@ -22,14 +22,9 @@ class Told(unittest.TestCase):
 
 class Calls(unittest.TestCase):
     def test_the_folder_that_has_the_site_answers(self) -> None:
-        self.assertTrue(is_called("here:5", "here:5", is_fenced=False))
-        self.assertTrue(is_called("here:5", "here:5", is_fenced=True))      # it knows that nobody else is asked
-        self.assertFalse(is_called("here:5", "here:6", is_fenced=False))
+        self.assertTrue(is_called("here:5", "here:5"))
+        self.assertFalse(is_called("here:5", "here:6"))
 
     def test_a_call_is_answered_once(self) -> None:
-        calls = Once(3)
-        self.assertEqual([calls.is_new(name) for name in (b"a", b"b", b"a", b"c", b"b", b"d", b"a")], [True, True, False, True, False, True, True])
-
-    def test_callers_of_before_name_no_folder(self) -> None:
-        self.assertTrue(is_called(None, "here:5", is_fenced=False))
-        self.assertFalse(is_called(None, "here:5", is_fenced=True))
+        calls = Once()
+        self.assertEqual([calls.is_new(name) for name in (b"a", b"b", b"a", b"c", b"b", b"d", b"a")], [True, True, False, True, False, True, False])

@@ -7,9 +7,10 @@ ghost use Rattle.rubis_carrier.specs.Sites.{SitesGiveTheseNames};
 ghost use Rattle.rubis_carrier.specs.Laws.{NobodyIsToldBoth, PublishedIsInStream, ToldOkIsKept, WhatIsOverStays, WhatIsToldIsTrue};
 
 /// Two messages of one site under one number, and two passes of one site under one turn, are the same one, in whatever folders and streams
-/// they stand at that moment. So a number is given again only where nothing is left that had the first. Not so of a site of which a folder
-/// was ever opened that was compared with nothing: by a standby, or with `--alone`. A site is asked to compare no more than it has to: if
-/// any place has a greater number of it, and it takes asks all the same, a number comes to be given twice.
+/// they stand at that moment, or are under way. So a number is given again only where nothing is left that had the first. Not so of a site
+/// of which a folder was ever opened that was compared with nothing, by a standby or with `--alone`, or took asks on after another one was
+/// opened. A site is asked to compare no more than it has to: if any place has a greater number of it, and it takes asks all the same, a
+/// number comes to be given twice.
 pub fn ids_are_given_once()
     ensures once { IdsAreGivenOnce }
     ensures again { GivenAgainOnlyWhereLost }
@@ -18,8 +19,8 @@ pub fn ids_are_given_once()
 
 /// Where an ask is told ok, its message stands in the folder under the id that is told; with `--published`, in the stream. As long as a
 /// place where a message stood is whole, it stands there; and from a folder of its site, or that site's stream, each folder of another
-/// site comes to have it by starting folders and carrying packets alone. Over a server, of a site of which a folder was opened uncompared,
-/// from the stream alone.
+/// site that isn't full comes to have it by starting folders and carrying packets alone. Over a server, of a site of which a folder was
+/// opened uncompared, from the stream alone.
 pub fn nothing_accepted_is_lost()
     ensures kept { ToldOkIsKept }
     ensures published { PublishedIsInStream }

@@ -8,9 +8,7 @@ use Rattle.std.proofs.lemmas.Bool.{cond-true, eq-eqb, ne_eqb}
 use Rattle.std.proofs.lemmas.List.{get_or_append_left, length-drop, length-take-le}
 use Rattle.std.proofs.lemmas.List.Elements.{All-get_or}
 use Rattle.std.proofs.lemmas.List.Sums.{common_prefix_len-le, position_or_len_is, suffix_len_is}
-use Rattle.rubis_engine.specs.Accounts.{Account, Keeps as TextStays}
 use Rattle.rubis_keep.specs.Differences.{HasDifference, HasMore, IsDifference, MayDiffer, ends_in, last_line, same_in, shown_line}
-use Rattle.rubis_keep.specs.Faults.{FinishedUnlike}
 use Rattle.rubis_keep.specs.Files.{DiffersFrom, IsFailure}
 use Rattle.rubis_keep.specs.Kept.{IsFrontOf}
 use Rattle.rubis_keep.specs.declared.fault.Difference.{Difference}
@@ -115,19 +113,3 @@ may-fail e P h = h
 pub only-fails : {T : Type 0} (r : Result T KeepFault) (P : Difference → Type 0) → IfErr r IsFailure → IfErr r (λ e. MayDiffer e P)
 only-fails (Ok x) P h = tt
 only-fails (Err e) P h = may-fail e P h
-
-pub may-there : {T : Type 0} (r : Result T KeepFault) (o : Option (List ℕ)) (text : List ℕ) (lines : ℕ)
-    → IfErr r (λ e. MayDiffer e (λ d. IfSome o (λ old. HasDifference old text lines d)))
-    → IfErr r (λ e. MayDiffer e (λ _. IfSome o (λ old. DiffersFrom old text)))
-may-there (Ok x) o text lines h = tt
-may-there (Err e) o text lines h =
-    may-differ-more e (λ d. IfSome o (λ old. HasDifference old text lines d)) (λ _. IfSome o (λ old. DiffersFrom old text))
-    (λ d. differs-there o text lines d) h
-
--- the same of what was held
-pub may-held : {T : Type 0} (r : Result T KeepFault) (o : Option (List ℕ)) (old new : Account) (sink held : List ℕ) (lines : ℕ) → TextStays old new sink held
-    → IfErr r (λ e. MayDiffer e (λ d. IfSome o (λ left. HasDifference left held lines d))) → IfErr r (λ e. MayDiffer e (λ _. FinishedUnlike old new sink o))
-may-held (Ok x) o old new sink held lines stays h = tt
-may-held (Err e) o old new sink held lines stays h =
-    may-differ-more e (λ d. IfSome o (λ left. HasDifference left held lines d)) (λ _. FinishedUnlike old new sink o)
-    (λ d there. (held, stays, differs-there o held lines d there)) h

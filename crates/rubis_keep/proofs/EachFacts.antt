@@ -1,14 +1,12 @@
 -- What follows for a result of what holds of it.
-use Rattle.std.specs.Prelude.{OnErr, OnOk, Result, Ok, Err}
+use Rattle.std.specs.Prelude.{◌≡◌, IsErr, IsErrAnd, MatchResult, OnOk, Result, Ok, Err}
+use Rattle.std.proofs.Common.{subst, sym}
 
-pub on_err : {T E P : Type 0} (r : Result T E) → P → OnErr r P
-on_err (Ok x) p = tt
-on_err (Err e) p = p
+-- what holds of the fault that was met holds of the one that is handed on
+pub err-is : {T E : Type 0} (P : T → Type 0) (Q : E → Type 0) (r : Result T E) (e : E) → IsErrAnd r (λ x. x ≡ e) → Q e → MatchResult r P Q
+err-is P Q (Ok x) e bad q = absurd bad
+err-is P Q (Err x) e bad q = subst Q (sym bad) q
 
-pub on_ok_both : {T E P Q R : Type 0} (r : Result T E) → (P → Q → R) → OnOk r P → OnOk r Q → OnOk r R
-on_ok_both (Ok x) f p q = f p q
-on_ok_both (Err e) f p q = tt
-
-pub on_err_weaker : {T E P Q : Type 0} (r : Result T E) → (P → Q) → OnErr r P → OnErr r Q
-on_err_weaker (Ok x) f p = tt
-on_err_weaker (Err e) f p = f p
+pub ok-of-err : {T E : Type 0} (P : Type 0) (r : Result T E) → IsErr r → OnOk r P
+ok-of-err P (Ok x) e = absurd (cc e)
+ok-of-err P (Err x) e = tt

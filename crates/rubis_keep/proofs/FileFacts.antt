@@ -3,7 +3,7 @@ use Rattle.std.proofs.Common.{◌≡◌, ◌∙◌, ◌≤◌, ◌+◌, ◌-◌,
 use Rattle.std.proofs.Common.{take, refl, sym, ap, subst, arith, append_assoc, length-append}
 use lib.Pointwise.{pointwise}
 use Rattle.std.proofs.lemmas.Bool.{eqb-false}
-use Rattle.std.proofs.lemmas.List.{get_or-append-add, get_or-drop, get_or-take, length-drop, length-take, length-take-le}
+use Rattle.std.proofs.lemmas.List.{get_or-append-add, get_or_append_left, get_or-drop, get_or-take, length-drop, length-take, length-take-le}
 use Rattle.std.proofs.lemmas.List.{take_rest}
 use Rattle.rubis_keep.specs.Files.{DiffersFrom}
 use Rattle.rubis_keep.specs.Kept.{IsFrontOf}
@@ -20,7 +20,19 @@ consumes-more (Some x) None c xs ys f g = absurd f
 consumes-more (Some x) (Some y) None xs ys f g = absurd g
 consumes-more (Some x) (Some y) (Some z) xs ys f g = f ∙ ap (λ t. xs ++ t) g ∙ sym (append_assoc xs ys z)
 
+pub some-is : {x y : List ℕ} → Some x ≡ Some y → x ≡ y
+some-is e = cc e
+
+pub none-right : (xs ys : List ℕ) → xs ++ ys ≡ [] → ys ≡ []
+none-right [] ys e = e
+none-right (x ∷ xs) ys e = absurd (cc e)
+
 -- ---- where texts differ
+
+-- texts that differ don't go on to be one
+pub apart : (xs ys more later : List ℕ) → DiffersFrom xs ys → xs ++ more ≡ ys ++ later → ⊥
+apart xs ys more later (k, inside, there, differ) e =
+    differ (sym (get_or_append_left xs more 0 k there) ∙ ap (λ t. get_or t k 0) e ∙ get_or_append_left ys later 0 k inside)
 
 pub differ-at : (xs ys : List ℕ) → length xs ≡ length ys → pointwise eqb xs ys ≡ false → DiffersFrom xs ys
 differ-at [] [] l e = absurd (cc e)

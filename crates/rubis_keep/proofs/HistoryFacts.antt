@@ -1,14 +1,13 @@
 -- What events do to the files of a site, and that these stay safe.
 use Rattle.std.proofs.Common.{◌≡◌, ◌∙◌, ◌++◌, ◌∷◌, [], ℕ, Bool, true, false, List, Option, Some, None, cond, drop, length, map, take, refl, sym, ap, subst}
-use Rattle.std.proofs.Common.{Result, Ok, Err, append_assoc, take-append-drop, ◌⊎◌, inl, inr, ◌≤◌, ◌+◌, ◌-◌}
+use Rattle.std.proofs.Common.{Result, Ok, Err, append_assoc, take-append-drop, inl, inr, ◌≤◌, ◌+◌, ◌-◌}
 use Rattle.std.proofs.lemmas.List.{append-nil, take_all}
 use Rattle.std.specs.Prelude.{IsErr, MatchBool, MatchResult}
 use Rattle.std.specs.Io.KnownBytes.{Appends, Keeps}
 use Rattle.rubis_keep.specs.History.{Answers, AreSafe, Event, FileState, Grows, History, IsSafe, StaysSafe, Tells, after, after_all, kept_in}
-use Rattle.rubis_keep.specs.Files.{AppendsFront}
 use Rattle.rubis_keep.specs.History.{HasDone, HasKept, HasTold, IsShown, TellsFront, KeepsLines, Says, log_of, now, out_in, records_in, told_of}
-use Rattle.rubis_keep.specs.History.Event.{Began, CutTo, Flushed, Kept, Replied, Settled, Shown, Told}
-use Rattle.rubis_keep.specs.Kept.{CutsTo, IsFrontOf}
+use Rattle.rubis_keep.specs.History.Event.{Flushed, Kept, Shown, Told}
+use Rattle.rubis_keep.specs.Kept.{IsFrontOf}
 use Rattle.rubis_keep.specs.Lines.{AreSound}
 use Rattle.rubis_engine.proofs.FrontFacts.{more-bound, take-more}
 use Rattle.rubis_keep.proofs.SoundFacts.{sound-front}
@@ -52,35 +51,19 @@ only-tells live (Told b ∷ es) due due2 s a =
 only-tells live (Shown b ∷ es) due due2 s a =
     let r = only-tells live es a.0 due2 (after s (Shown b)) a.2 in
     record { kept = r.kept; flushed = r.flushed; cut = r.cut; begun = r.begun; out = r.out }
-only-tells live (Kept b ∷ es) due due2 s a = absurd a
-only-tells live (Flushed ∷ es) due due2 s a = absurd a
-only-tells live (CutTo n ∷ es) due due2 s a = absurd a
-only-tells live (Settled ∷ es) due due2 s a = absurd a
-only-tells live (Began n counts ∷ es) due due2 s a = absurd a
-only-tells live (Replied question reply ∷ es) due due2 s a = absurd a
+only-tells live (e ∷ es) due due2 s a = absurd a
 
 pub answers-append : (live : Bool) (xs ys : List Event) (due mid due2 : List ℕ) → Answers live xs due mid → Answers live ys mid due2
     → Answers live (xs ++ ys) due due2
 answers-append live [] ys due mid due2 a b = subst (λ d. Answers live ys d due2) a b
 answers-append live (Told c ∷ xs) ys due mid due2 a b = answers-append live xs ys (cond live (due ++ c ∷ []) due) mid due2 a b
 answers-append live (Shown c ∷ xs) ys due mid due2 a b = (a.0, a.1, answers-append live xs ys a.0 mid due2 a.2 b)
-answers-append live (Kept c ∷ xs) ys due mid due2 a b = absurd a
-answers-append live (Flushed ∷ xs) ys due mid due2 a b = absurd a
-answers-append live (CutTo n ∷ xs) ys due mid due2 a b = absurd a
-answers-append live (Settled ∷ xs) ys due mid due2 a b = absurd a
-answers-append live (Began n counts ∷ xs) ys due mid due2 a b = absurd a
-answers-append live (Replied question reply ∷ xs) ys due mid due2 a b = absurd a
+answers-append live (e ∷ xs) ys due mid due2 a b = absurd a
 
 told-append : (xs ys : List Event) → told_of (xs ++ ys) ≡ told_of xs ++ told_of ys
 told-append [] ys = refl
 told-append (Told b ∷ xs) ys = ap (λ t. b ∷ t) (told-append xs ys)
-told-append (Shown b ∷ xs) ys = told-append xs ys
-told-append (Kept b ∷ xs) ys = told-append xs ys
-told-append (Flushed ∷ xs) ys = told-append xs ys
-told-append (CutTo n ∷ xs) ys = told-append xs ys
-told-append (Settled ∷ xs) ys = told-append xs ys
-told-append (Began n counts ∷ xs) ys = told-append xs ys
-told-append (Replied question reply ∷ xs) ys = told-append xs ys
+told-append (e ∷ xs) ys = told-append xs ys
 
 told-all : (text : List ℕ) → told_of (map (λ b. Told b) text) ≡ text
 told-all [] = refl
@@ -151,12 +134,7 @@ pub due-after : (live : Bool) (es : List Event) (due due2 : List ℕ) (s : FileS
 due-after live [] due due2 s a d = subst (IsDue live s) (sym a) d
 due-after live (Told b ∷ es) due due2 s a d = due-after live es (cond live (due ++ b ∷ []) due) due2 (after s (Told b)) a (due-told live s due b d)
 due-after live (Shown b ∷ es) due due2 s a d = due-after live es a.0 due2 (after s (Shown b)) a.2 (due-more live s a.1 d)
-due-after live (Kept b ∷ es) due due2 s a d = absurd a
-due-after live (Flushed ∷ es) due due2 s a d = absurd a
-due-after live (CutTo n ∷ es) due due2 s a d = absurd a
-due-after live (Settled ∷ es) due due2 s a d = absurd a
-due-after live (Began n counts ∷ es) due due2 s a d = absurd a
-due-after live (Replied question reply ∷ es) due due2 s a d = absurd a
+due-after live (e ∷ es) due due2 s a d = absurd a
 
 safe-here : (text : List (List (List ℕ)) → List ℕ) (live : Bool) (due rest : List ℕ) (s : FileState) → AreSound [] (s.kept ++ s.cut)
     → IsFrontOf s.flushed s.kept → IsDue live s due → IsFrontOf (s.out ++ rest) (text (records_in s.flushed)) → IsSafe text s
@@ -178,12 +156,7 @@ safe-answers says live (Shown b ∷ es) due due2 s a sound flushed d f = (
   tt,
   safe-answers says live es a.0 due2 (after s (Shown b)) a.2 sound flushed (due-more live s a.1 d) f,
 )
-safe-answers says live (Kept b ∷ es) due due2 s a sound flushed d f = absurd a
-safe-answers says live (Flushed ∷ es) due due2 s a sound flushed d f = absurd a
-safe-answers says live (CutTo n ∷ es) due due2 s a sound flushed d f = absurd a
-safe-answers says live (Settled ∷ es) due due2 s a sound flushed d f = absurd a
-safe-answers says live (Began n counts ∷ es) due due2 s a sound flushed d f = absurd a
-safe-answers says live (Replied question reply ∷ es) due due2 s a sound flushed d f = absurd a
+safe-answers says live (e ∷ es) due due2 s a sound flushed d f = absurd a
 
 -- ---- lines that are kept
 
@@ -272,16 +245,11 @@ front-out None b bytes g = tt
 front-out (Some h) None bytes g = absurd g
 front-out (Some h) (Some h2) bytes g = ap (λ (s : FileState). s.out) (now-more h _ g) ∙ (only-keeps bytes (now h)).out
 
-tells-log : (keeps live : Bool) (a b : Option History) {text due : List ℕ} → Tells live a b text due → Keeps (log_of keeps a) (log_of keeps b)
+pub tells-log : (keeps live : Bool) (a b : Option History) {text due : List ℕ} → Tells live a b text due → Keeps (log_of keeps a) (log_of keeps b)
 tells-log false live a b t = tt
 tells-log true live None b t = tt
 tells-log true live (Some h) None t = absurd t.1
 tells-log true live (Some h) (Some h2) {due} t = ap (λ (s : FileState). s.kept) (now-more h t.0 t.1) ∙ (only-tells live t.0 [] due (now h) t.2).kept
-
-pub told-log : {T E : Type 0} (keeps live live2 : Bool) (a b : Option History) (r : Result T E) → HasTold live live2 a b r
-    → Keeps (log_of keeps a) (log_of keeps b)
-told-log keeps live live2 a b (Ok x) t = tells-log keeps live a b t.1.1
-told-log keeps live live2 a b (Err e) t = tells-log keeps live a b t.1.2
 
 -- ---- one write and the next
 
@@ -309,37 +277,15 @@ once-torn a b c text n f g = (
       ∙ append-nil (told_of (map (λ d. Told d) text)) ∙ told-all text,
 )
 
-pub tells-after : (live : Bool) (a b c : Option History) {text due : List ℕ} → Grows a b [] → Tells live b c text due → Tells live a c text due
-tells-after live a b c g t = tells-more live a b c ([], g, refl, refl) t
-
-pub told-after : {T E : Type 0} (live live2 : Bool) (a b c : Option History) (r : Result T E) → Grows a b [] → HasTold live live2 b c r
-    → HasTold live live2 a c r
-told-after live live2 a b c (Ok x) g t = (t.0, (t.1.0, tells-after live a b c g t.1.1))
-told-after live live2 a b c (Err e) g t = (t.0, (t.1.0, t.1.1, tells-after live a b c g t.1.2))
-
 -- more is told after what was told
 pub told-more : {T E : Type 0} {live live2 : Bool} (live3 : Bool) (a b c : Option History) (r : Result T E) → live2 ≡ live → (text : List ℕ)
     → Tells live a b text [] → HasTold live2 live3 b c r → HasTold live live3 a c r
 told-more {live} live3 a b c (Ok x) e text f t = (t.0 ∙ e, (text ++ t.1.0, tells-more live a b c f (subst (λ l. Tells l b c t.1.0 []) e t.1.1)))
 told-more {live} live3 a b c (Err x) e text f t = (t.0 ∙ e, (text ++ t.1.0, t.1.1, tells-more live a b c f (subst (λ l. Tells l b c t.1.0 t.1.1) e t.1.2)))
 
-pub told_none : {T E : Type 0} (live : Bool) (a : Option History) (r : Result T E) → HasTold live live a a r
-told_none live a (Ok x) = (refl, ([], tells-none live a))
-told_none live a (Err e) = (refl, ([], [], tells-none live a))
-
 pub match-err : {T E Q : Type 0} (P : Type 0) (r : Result T E) → IsErr r → Q → MatchResult r (λ _. P) (λ _. Q)
 match-err P (Ok x) e q = absurd (cc e)
 match-err P (Err x) e q = q
-
-pub told-failed : {T E : Type 0} {live live2 : Bool} (a b : Option History) (r : Result T E) → IsErr r
-    → (live2 ≡ live) × ((text : List ℕ) × (due : List ℕ) × Tells live a b text due) → HasTold live live2 a b r
-told-failed a b (Ok x) e t = absurd (cc e)
-told-failed a b (Err x) e t = t
-
--- all that was told was shown, and then more
-pub tells-later : {live live2 live3 : Bool} (a b c : Option History) → live2 ≡ live → (text : List ℕ) → Tells live a b text []
-    → (live3 ≡ live2) × ((text2 : List ℕ) × Tells live2 b c text2 []) → (live3 ≡ live) × ((text2 : List ℕ) × Tells live a c text2 [])
-tells-later {live} a b c e text f (g, (text2, t)) = (g ∙ e, (text ++ text2, tells-more live a b c f (subst (λ l. Tells l b c text2 []) e t)))
 
 -- ---- bytes that are written one part after the other
 
@@ -373,25 +319,11 @@ pub tells-front : (live : Bool) (a b c : Option History) (at : ℕ) (text : List
     → TellsFront live b c (take (length text - at) (drop at text)) → TellsFront live a c text
 tells-front live a b c at text l f (n, m, due, t) = (at + n, more-bound at n text l m, due, tells-grown live a b c at n text due f t)
 
-pub front-front : (live : Bool) (a b : Option History) (text : List ℕ) → TellsFront live a b text → AppendsFront (out_in a) (out_in b) text
-front-front live a b text (n, l, due, t) = (n, l, tells-out live a b t)
-
-pub has-told : {T E : Type 0} (live : Bool) (a b : Option History) (r : Result T E) (text : List ℕ)
-    → MatchResult r (λ _. Tells live a b text []) (λ _. TellsFront live a b text) → HasTold live live a b r
-has-told live a b (Ok x) text t = (refl, (text, t))
-has-told live a b (Err e) text (n, l, due, t) = (refl, (take n text, due, t))
-
 -- ---- what a run does between its pieces
 
 -- what was kept and told is as it was
 abbrev pub IsStill : Option History → Option History → Type 0
 IsStill a b = Keeps (kept_in a) (kept_in b) × Keeps (out_in a) (out_in b)
-
-still-more : (a b c : Option (List ℕ)) → Keeps a b → Keeps b c → Keeps a c
-still-more None b c f g = tt
-still-more (Some x) None c f g = absurd f
-still-more (Some x) (Some y) None f g = absurd g
-still-more (Some x) (Some y) (Some z) f g = g ∙ f
 
 pub still-by : (a b : Option History) (es : List Event) → Grows a b es → ((s : FileState) → ((after_all s es).kept ≡ s.kept) × ((after_all s es).out ≡ s.out))
     → IsStill a b
@@ -406,57 +338,3 @@ still-none a b g = still-by a b [] g (λ s. (refl, refl))
 
 pub still-flushed : (a b : Option History) → Grows a b (Flushed ∷ []) → IsStill a b
 still-flushed a b g = still-by a b (Flushed ∷ []) g (λ s. (refl, refl))
-
-pub still-settled : (a b : Option History) → Grows a b (Settled ∷ []) → IsStill a b
-still-settled a b g = still-by a b (Settled ∷ []) g (λ s. (refl, refl))
-
-pub still-begun : (a b : Option History) (n : ℕ) (counts : List ℕ) → Grows a b (Settled ∷ Began n counts ∷ []) → IsStill a b
-still-begun a b n counts g = still-by a b (Settled ∷ Began n counts ∷ []) g (λ s. (refl, refl))
-
-pub still-unbegun : (a b : Option History) → Grows a b [] ⊎ Grows a b (Settled ∷ []) → IsStill a b
-still-unbegun a b (inl g) = still-none a b g
-still-unbegun a b (inr g) = still-settled a b g
-
--- what was kept is cut off
-abbrev pub IsCut : Option History → Option History → ℕ → Type 0
-IsCut a b len = CutsTo (kept_in a) (kept_in b) len × Keeps (out_in a) (out_in b)
-
-pub cut-by : (a b : Option History) (len : ℕ) → Grows a b (CutTo len ∷ []) → IsCut a b len
-cut-by None b len g = (tt, tt)
-cut-by (Some x) None len g = absurd g
-cut-by (Some x) (Some y) len g =
-    let e = now-more x (CutTo len ∷ []) g in
-    (ap (λ (s : FileState). Some s.kept) e, ap (λ (s : FileState). s.out) e)
-
-pub cut-flushed : (a b : Option History) (len : ℕ) → Grows a b (CutTo len ∷ Flushed ∷ []) → IsCut a b len
-cut-flushed None b len g = (tt, tt)
-cut-flushed (Some x) None len g = absurd g
-cut-flushed (Some x) (Some y) len g =
-    let e = now-more x (CutTo len ∷ Flushed ∷ []) g in
-    (ap (λ (s : FileState). Some s.kept) e, ap (λ (s : FileState). s.out) e)
-
-cuts-still : (a b c : Option (List ℕ)) (len : ℕ) → CutsTo a b len → Keeps b c → CutsTo a c len
-cuts-still None b c len f g = tt
-cuts-still (Some x) None c len f g = absurd (cc f)
-cuts-still (Some x) (Some y) None len f g = absurd g
-cuts-still (Some x) (Some y) (Some z) len f g = ap (λ t. Some t) g ∙ f
-
-pub cut-still : (a b c : Option History) (len : ℕ) → IsCut a b len → IsStill b c → IsCut a c len
-cut-still a b c len f g = (cuts-still (kept_in a) (kept_in b) (kept_in c) len f.0 g.0, still-more (out_in a) (out_in b) (out_in c) f.1 g.1)
-
--- whatever was told and not shown yet, all that was told was
-pub told-either : {T E : Type 0} {live live2 : Bool} (a b : Option History) (r : Result T E) → (live2 ≡ live) × ((text : List ℕ) × Tells live a b text [])
-    → HasTold live live2 a b r
-told-either a b (Ok x) t = t
-told-either a b (Err e) (same, (text, t)) = (same, (text, [], t))
-
-pub told-kept : {T E : Type 0} (live live2 : Bool) (a b : Option History) (r : Result T E) → HasTold live live2 a b r → Keeps (kept_in a) (kept_in b)
-told-kept live live2 a b r t = told-log true live live2 a b r t
-
--- only the first bytes of lines were kept
-pub torn-log : {keeps : Bool} (a b : Option History) (lines : List ℕ) → keeps ≡ true → (n : ℕ) → n ≤ length lines → Grows a b (map (λ c. Kept c) (take n lines))
-    → AppendsFront (log_of keeps a) (log_of keeps b) lines
-torn-log a b lines is n l g = rw is (n, l, front-log a b (take n lines) g)
-
-pub torn-out : (a b : Option History) (lines : List ℕ) (n : ℕ) → Grows a b (map (λ c. Kept c) (take n lines)) → Keeps (out_in a) (out_in b)
-torn-out a b lines n g = front-out a b (take n lines) g

@@ -2,7 +2,7 @@
 use Rattle.std.proofs.Common.{◌≡◌, ◌≢◌, ◌<◌, ◌≤◌, ◌+◌, ◌∷◌, Bool, true, false, ◌-◌, zero, suc, ◌∙◌, ◌++◌, [], ℕ, List, arith, length, Option, Some, None, drop, take, refl, sym, ap, append_assoc}
 use Rattle.std.proofs.lemmas.List.{drop-drop, drop-take, length-take, take-append-drop}
 use Rattle.std.specs.Io.KnownBytes.{Consumes, IsAtEnd}
-use Rattle.rubis_keep.specs.Kept.{CameOrEnded, left_of}
+use Rattle.rubis_keep.specs.Turns.{CameOrEnded, left_of}
 
 -- more was read
 pub left-filled : (unread : List ℕ) (input input2 : Option (List ℕ)) → Consumes input input2 unread → Consumes (left_of [] input) (left_of unread input2) []

@@ -1,60 +1,91 @@
--- A run that goes on where an earlier one was cut off.
-use Rattle.std.proofs.Common.{Bool, true, false, ◌≡◌, ◌∙◌, ◌+◌, ◌⊎◌, inl, inr, ◌++◌, ◌∷◌, [], ℕ, List, Option, Some, None, IfSome, false, length, take, refl, sym, ap, subst}
-use Rattle.std.proofs.Common.{arith, append_assoc}
+-- What a run has answered, from its start to its end.
+use Rattle.std.proofs.Common.{◌≡◌, ◌∙◌, ◌<◌, ◌+◌, ◌⊎◌, inl, inr, ◌++◌, ◌∷◌, [], ℕ, true, false, List, Option, Some, None, IfSome, length}
+use Rattle.std.proofs.Common.{refl, sym, ap, subst, arith, append_assoc, length-append}
 use Rattle.std.proofs.lemmas.List.{append-nil}
-use Rattle.std.proofs.Math.Seq.{take-append_seam}
-use Rattle.csv.specs.Machine.{next_record}
-use Rattle.csv.specs.Reading.{records_from, strip_bom}
 use Rattle.std.specs.Io.KnownBytes.{Appends, Consumes, IsAtEnd, Keeps}
-use Rattle.csv.proofs.WriteFacts.{appends-none}
-use Rattle.rubis_engine.specs.Accounts.{Account}
+use Rattle.rubis_message.specs.Message.{Message}
+use Rattle.rubis_model.specs.Runs.{answers}
+use Rattle.rubis_model.specs.Site.{Place, Replica}
+use Rattle.rubis_replica.specs.Arrivals.{after_all}
+use Rattle.rubis_engine.specs.Accounts.{Account, Ending}
 use Rattle.rubis_engine.specs.Accounts.Ending.{AtEnd, Cut}
 use Rattle.rubis_engine.specs.Text.{input_records}
-use Rattle.rubis_keep.specs.Kept.{Begins, CutsTo, Ended, Fails, HasAnswered, IsFrontOf, Lived, Opens, OutEnds, Replayed, Stands, left_of}
+use Rattle.rubis_script.specs.SiteRuns.{site_account}
+use Rattle.rubis_keep.specs.Answering.{Answering, Fed, IsCause, IsIdle, IsOver, PutsFront, PutsOver, coming}
+use Rattle.rubis_keep.specs.Differences.{HasMore}
+use Rattle.rubis_keep.specs.Faults.{IsTrueFault}
+use Rattle.rubis_keep.specs.Files.{of_kept}
+use Rattle.rubis_keep.specs.History.{History, log_of, out_in}
+use Rattle.rubis_keep.specs.Kept.{Ended, IsFrontOf, Lived}
 use Rattle.rubis_keep.specs.Lines.{AreSound, begun_after, is_marked, kept_after, kept_of, read_back, whole_after, whole_lines}
+use Rattle.rubis_keep.specs.Lives.{HasAnswered, HasReplayed}
+use Rattle.rubis_keep.specs.Shortened.{state_after}
+use Rattle.rubis_keep.specs.Turns.{Standing, left_of}
 use Rattle.rubis_keep.specs.Whole.{IsWhole}
-use Rattle.rubis_keep.proofs.FileFacts.{consumes-none}
+use Rattle.rubis_keep.specs.declared.fault.Difference.{Difference}
+use Rattle.rubis_keep.specs.declared.fault.KeepFault.{KeepFault}
+use Rattle.rubis_keep.specs.declared.fault.KeepFault.TheVariants as fault
+use Rattle.rubis_keep.proofs.DifferenceFacts.{more-left}
+use Rattle.rubis_keep.proofs.FileFacts.{consumes-none, none-right}
 use Rattle.rubis_keep.proofs.LineFacts.{begun-append, kept-append}
-use Rattle.rubis_keep.proofs.RecordFacts.{records-append, none-whole}
-use Rattle.rubis_keep.proofs.StandFacts.{HaveFailed, HaveGone, each-stops, gone-failed}
+use Rattle.rubis_keep.proofs.RecordFacts.{none-read, none-whole, records-append}
+use Rattle.rubis_keep.proofs.ShortenFacts.{after-append}
 use Rattle.rubis_keep.proofs.SoundFacts.{kept-ends, kept-sound, sound-append, sound-back, sound-front, sound-kept, whole-append-after, whole-ends, whole-rest}
 use Rattle.rubis_keep.proofs.SoundFacts.{whole-sound}
+use Rattle.rubis_keep.proofs.TurnFacts.{Fell, Went}
 use Rattle.rubis_keep.proofs.WholeFacts.{kept-whole, whole-append}
 
--- a run over an input begins
-pub stands-start : (asks : Bool) {all more : Account} {told : List ℕ} (old : List ℕ) {base : List ℕ} (input log out : Option (List ℕ)) {begun : List ℕ}
-    {number : ℕ} (len : ℕ) → HasAnswered all more told number base → begun ≡ [] → Stands asks all more told old base [] input input log log
-    (Some old) out out begun number len len
-stands-start asks {all} {more} {told} old {base} input log out {number} len h e = record {
-  bytes = [];
-  taken = consumes-none input;
-  logged = appends-none log;
-  begins = e;
-  counted = omega arith;
-  rests = record {
-    since = [];
-    answered = subst (λ k. HasAnswered all more (told ++ []) number k) (sym (append-nil base))
-        (subst (λ t. HasAnswered all more t number base) (sym (append-nil told)) h);
-    wrote = record { added = []; left = old; unread = refl; appended = appends-none out; same = append-nil old; one = inl refl };
-  };
-}
+-- ---- what is answered
 
-pub none-read : input_records [] ≡ []
-unfolding input_records records_from strip_bom next_record
-none-read = refl
+-- a site that holds nothing answers no records with nothing
+pub coming-none : (a : Answering) (e : Ending) → IsIdle a → coming a e [] ≡ []
+unfolding answers
+coming-none a e idle = rw (idle.window, idle.empty) refl
 
 -- nothing is answered yet
-pub answered-none : (all : Account) → all.text Cut [] ≡ [] → HasAnswered all all [] 1 []
-answered-none all none = record {
-  count = ap (λ t. length t + 1) none-read;
-  text = λ e m. ap (λ t. all.text e (t ++ m)) none-read;
-  counted = λ m. ap (λ t. all.read (t ++ m)) none-read ∙ zero-more (all.read m) ∙ ap (λ t. length t + all.read m) (sym none-read);
-  none = none;
+pub answered-none : (a : Answering) → IsIdle a → a.answered ≡ 0 → HasAnswered (site_account a.place a.state 1) a.place a.state a [] []
+answered-none a idle none = record {
+  text = λ e m. ap (λ t. (site_account a.place a.state 1).text e (t ++ m)) none-read ∙ rw (idle.window, idle.empty, none) refl;
+  place = refl;
+  state = sym (ap (state_after a.place a.state) none-read);
+  count = none ∙ sym (ap (λ (r : List (List (List ℕ))). length r) none-read);
   whole = none-whole;
+  idle = idle;
 }
+
+pub answered-more : {all : Account} {p : Place} {s : Replica} {a b : Answering} {told kept chunk text added : List ℕ} → HasAnswered all p s a told kept
+    → Fed (input_records chunk) a b text added → IsWhole chunk → IsIdle b → HasAnswered all p s b (told ++ text) (kept ++ chunk)
+answered-more {all} {p} {s} {a} {b} {told} {kept} {chunk} {text} h f whole idle =
+    let records = records-append chunk h.whole whole.unmarked in
+    let size = length-append (input_records kept) (input_records chunk) in
+    let many = ap (λ (r : List (List (List ℕ))). length r) records in
+    record {
+      text = λ e m. ap (λ r. all.text e (r ++ m)) records ∙ ap (all.text e) (append_assoc (input_records kept) (input_records chunk) m)
+          ∙ h.text e (input_records chunk ++ m) ∙ ap (λ t. told ++ t) (f.says e m) ∙ sym (append_assoc told text (coming b e m));
+      place = f.place ∙ h.place;
+      state = sym (ap (state_at b) idle.window) ∙ f.state ∙ ap (λ t. state_after a.place t (input_records chunk)) (ap (state_at a) h.idle.window)
+          ∙ (λ i. state_after (h.place i) (h.state i) (input_records chunk)) ∙ sym (after-append p s (input_records kept) (input_records chunk))
+          ∙ ap (state_after p s) (sym records);
+      count = omega (arith, h.count, f.count, size, many);
+      whole = whole-append h.whole whole;
+      idle = idle;
+    }
   where
-    zero-more : (n : ℕ) → n ≡ 0 + n
-    zero-more n = omega arith
+    state_at : (x : Answering) → List Message → Replica
+    state_at x held = after_all x.place x.state held
+
+-- what was told begins the text of what is kept, whatever follows
+pub answered-front : {all : Account} {p : Place} {s : Replica} {a : Answering} {told kept : List ℕ} → HasAnswered all p s a told kept
+    → (more : List (List (List ℕ))) → IsFrontOf told (all.text AtEnd (input_records kept ++ more))
+answered-front {a} h more = (coming a AtEnd more, sym (h.text AtEnd more))
+
+-- all that is kept is answered so, and nothing more
+pub answered-text : {all : Account} {p : Place} {s : Replica} {a : Answering} {told kept : List ℕ} (e : Ending) → HasAnswered all p s a told kept
+    → all.text e (input_records kept) ≡ told
+answered-text {all} {a} {told} {kept} e h =
+    ap (all.text e) (sym (append-nil (input_records kept))) ∙ h.text e [] ∙ ap (λ t. told ++ t) (coming-none a e h.idle) ∙ append-nil told
+
+-- ---- what was kept is answered again
 
 pub at-end : (input : List ℕ) (later : Option (List ℕ)) (bytes : List ℕ) → Consumes (Some input) later bytes → IsAtEnd later → bytes ≡ input
 at-end input None bytes c e = absurd c
@@ -64,362 +95,222 @@ known : (xs : List ℕ) (out : Option (List ℕ)) (added : List ℕ) → Appends
 known xs None added a = absurd a
 known xs (Some ys) added a = ap (λ t. Some t) a
 
--- what was kept is answered, and all answers of before were found
-pub replayed : (all more : Account) (kept old : List ℕ) (later before out log : Option (List ℕ)) (begun : List ℕ) (number len : ℕ) → AreSound [] kept
-    → Stands false all more [] old [] [] (Some kept) later log log before (Some old) out begun number 0 len → IsAtEnd later → (ended : Option (List ℕ))
-    → IsAtEnd ended → Keeps before ended → Replayed all more kept old ended out number len
-replayed all more kept old later before out log begun number len sound s e ended at same =
-    let r = s.rests in
-    let w = r.wrote in
-    let whole : kept_after false [] s.bytes ≡ whole_lines kept = ap (kept_after false []) (at-end kept later s.bytes s.taken e) ∙ sound-kept [] kept sound in
-    let ends : ended ≡ Some w.left = still w.left ended (rw w.unread at same) in
-    let none : w.left ≡ [] = rw ends at at in
-    let all_found : old ++ w.added ≡ r.since = w.same ∙ ap (λ t. r.since ++ t) none ∙ append-nil r.since in
-    let answered = subst (λ k. HasAnswered all more r.since number k) whole r.answered in
+pub same-known : {xs : List ℕ} (a b : Option (List ℕ)) → a ≡ Some xs → Keeps a b → b ≡ Some xs
+same-known None b e k = absurd (cc e)
+same-known (Some xs) None e k = absurd k
+same-known (Some xs) (Some ys) e k = ap (λ t. Some t) k ∙ e
+
+-- a run that began so: what is kept is what is read, the answers of before are what stands there, and no record is answered
+pub record IsFresh (kept old : List ℕ) (x : Standing) : Type 0 where
+  pub input : x.input ≡ Some kept
+  pub before : x.at.before ≡ Some old
+  pub out : out_in x.history ≡ Some old
+  pub begun : x.begun ≡ []
+  pub len : x.kept ≡ 0
+  pub answered : x.at.answered ≡ 0
+  pub idle : IsIdle x.at
+  pub sound : AreSound [] kept
+
+abbrev pub account_of : Standing → Account
+account_of x = site_account x.at.place x.at.state 1
+
+-- some first lines of it are answered, and then all of them
+record Front (kept : List ℕ) (bytes chunk rest : List ℕ) : Type 0 where
+  lines : whole_lines kept ≡ chunk ++ kept_after false (begun_after [] bytes) rest
+  records : input_records (whole_lines kept) ≡ input_records chunk ++ input_records (kept_after false (begun_after [] bytes) rest)
+
+front-lines : (kept bytes rest : List ℕ) {chunk : List ℕ} → AreSound [] kept → kept ≡ bytes ++ rest → chunk ≡ kept_after false [] bytes
+    → Front kept bytes chunk rest
+front-lines kept bytes rest {chunk} sound parts holds =
+    let later = kept_after false (begun_after [] bytes) rest in
+    let lines : whole_lines kept ≡ chunk ++ later =
+    sym (sound-kept [] kept sound) ∙ ap read_back parts ∙ kept-append false [] bytes rest ∙ ap (λ t. t ++ later) (sym holds) in
     record {
-      found = (
-        w.added ++ more.text AtEnd [],
-        sym (append_assoc old w.added (more.text AtEnd [])) ∙ ap (λ t. t ++ more.text AtEnd []) all_found
-            ∙ sym (answered.text AtEnd []) ∙ ap (all.text AtEnd) (append-nil (input_records (whole_lines kept))),
-      );
-      told = r.since;
-      answered = subst (HasAnswered all more r.since number) whole r.answered;
-      before_is = ends ∙ ap (λ t. Some t) none;
-      out_is = known old out w.added w.appended ∙ ap (λ t. Some t) all_found;
-      length_is = s.counted ∙ plain (length (kept_after false [] s.bytes)) ∙ ap length whole;
+      lines = lines;
+      records = ap input_records lines
+          ∙ records-append later (subst IsWhole (sym holds) (kept-whole false [] bytes)) (kept-whole false (begun_after [] bytes) rest).unmarked;
     }
-  where
-    plain : (n : ℕ) → 0 + n ≡ n
-    plain n = omega arith
 
-    still : (left : List ℕ) (known : Option (List ℕ)) → Keeps (Some left) known → known ≡ Some left
-    still left None k = absurd k
-    still left (Some xs) k = ap (λ t. Some t) k
+-- what was put of it over what stood there
+put-of : {x y : Standing} {kept old : List ℕ} → IsFresh kept old x → (w : Went false x y)
+    → (left : List ℕ) × (y.at.before ≡ Some left) × IsOver old left w.added w.text
+put-of {x} {y} {kept} {old} fresh w = rw fresh.before at w.fed.put
 
--- the log is cut back to its whole lines
-pub cut-back : {kept : List ℕ} {log : Option (List ℕ)} (log2 : Option (List ℕ)) {len : ℕ} → log ≡ Some kept → len ≡ length (whole_lines kept)
-    → CutsTo log log2 len → log2 ≡ Some (whole_lines kept)
-cut-back {kept} log2 {len} e f c =
-    let cut : log2 ≡ Some (take len kept) = rw e at c in
-    cut ∙ ap (λ n. Some (take n kept)) f ∙ ap (λ t. Some (take (length (whole_lines kept)) t)) (sym (whole-rest [] kept))
-    ∙ ap (λ t. Some t) (take-append_seam (whole_lines kept) (begun_after [] kept))
-
-none-right : (xs ys : List ℕ) → xs ++ ys ≡ [] → ys ≡ []
-none-right [] ys h = h
-none-right (x ∷ xs) ys h = absurd (cc h)
-
--- the input ends
-pub lived : {all more : Account} {kept : List ℕ} (old : List ℕ) {told : List ℕ} {input later log log2 before out : Option (List ℕ)} {begun : List ℕ}
-    {number len0 len : ℕ} → AreSound [] kept → log ≡ Some (whole_lines kept) → Stands true all more told [] (whole_lines kept) [] input later log log2 before
-    (Some told) out begun number len0 len → IsAtEnd later → IsFrontOf old (all.text AtEnd (input_records (whole_lines kept)))
-    → Lived all kept old input later log2 out
-lived {all} {more} {kept} old {told} {log2} {out} sound e s end found =
-    let r = s.rests in
-    let w = r.wrote in
-    let none : w.left ≡ [] = none-left w.added r.since w.left w.one w.same in
-    let answered = r.answered in
-    let text : all.text Cut (input_records (whole_lines kept ++ kept_of s.bytes)) ≡ told ++ r.since =
-    ap (all.text Cut) (sym (append-nil (input_records (whole_lines kept ++ kept_of s.bytes)))) ∙ answered.text Cut []
-    ∙ ap (λ t. (told ++ r.since) ++ t) answered.none ∙ append-nil (told ++ r.since) in
+-- all of it is answered, and its answers were found
+pub replayed : {x y : Standing} {kept old : List ℕ} (before : Option (List ℕ)) → IsFresh kept old x → (w : Went false x y) → IsIdle y.at → IsAtEnd y.input
+    → Keeps y.at.before before → IsAtEnd before
+    → HasReplayed (account_of x) x.at.place x.at.state (record y.at { before = before }) kept old (out_in y.history) y.kept
+replayed {x} {y} {kept} {old} before fresh w idle end same none =
+    let all = account_of x in
+    let bytes_are : w.bytes ≡ kept = at-end kept y.input w.bytes (rw fresh.input at w.taken) end in
+    let chunk_is : w.chunk ≡ whole_lines kept = (w.cuts [] fresh.begun).1 ∙ ap (kept_after false []) bytes_are ∙ sound-kept [] kept fresh.sound in
+    let answered = answered-more (answered-none x.at fresh.idle fresh.answered) w.fed w.whole idle in
+    let h : HasAnswered all x.at.place x.at.state y.at w.text (whole_lines kept) = subst (HasAnswered all x.at.place x.at.state y.at w.text) chunk_is answered in
+    let put = put-of fresh w in
+    let left_is : before ≡ Some put.0 = same-known y.at.before before put.1 same in
+    let left : put.0 ≡ [] = rw left_is at none in
+    let all_found : old ++ w.added ≡ w.text = put.2.0 ∙ ap (λ t. w.text ++ t) left ∙ append-nil w.text in
+    let size = ap (λ (t : List ℕ). length t) chunk_is in
     record {
-      sound = sound;
-      found = found;
-      bytes = s.bytes;
-      taken = s.taken;
-      end = end;
-      log_is = known (whole_lines kept) log2 (kept_of s.bytes) (subst (λ l. Appends l log2 (kept_of s.bytes)) e s.logged);
-      out_is = known told out w.added w.appended ∙ ap (λ t. Some (told ++ t)) (w.same ∙ ap (λ t. r.since ++ t) none ∙ append-nil r.since)
-          ∙ ap (λ t. Some t) (sym text);
-      begins = λ m. (more.text AtEnd m, ap (λ t. t ++ more.text AtEnd m) text ∙ sym (answered.text AtEnd m));
+      found = (w.added, all_found ∙ sym (answered-text AtEnd h));
+      told = w.text;
+      answered = record { text = h.text; place = h.place; state = h.state; count = h.count; whole = h.whole; idle = record { window = h.idle.window; empty = h.idle.empty } };
+      before_is = left_is ∙ ap (λ t. Some t) left;
+      out_is = known old (out_in y.history) w.added (rw fresh.out at w.out) ∙ ap (λ t. Some t) all_found;
+      length_is = omega (arith, w.length_is, fresh.len, size);
     }
-  where
-    none-left : (added since left : List ℕ) → (added ≡ []) ⊎ (left ≡ []) → added ≡ since ++ left → left ≡ []
-    none-left added since left (inl e) same = none-right since left (sym same ∙ e)
-    none-left added since left (inr e) same = e
 
--- ---- it ends with a fault
+-- ---- a fault came before
 
 abbrev Beginning : Account → List ℕ → List ℕ → Type 0
 Beginning all kept told = (more : List (List (List ℕ))) → IsFrontOf told (all.text AtEnd (input_records (whole_lines kept) ++ more))
 
--- nothing was kept
-still : (all : Account) (kept old told : List ℕ) (input out : Option (List ℕ)) → out ≡ Some told
-    → ((kept ≡ kept) × (told ≡ old)) ⊎ (AreSound [] kept × IsFrontOf old (all.text AtEnd (input_records (whole_lines kept))) × Beginning all kept told)
+-- the files are as they were, but for what was told
+pub ended-same : (all : Account) (kept old told : List ℕ) (input : Option (List ℕ)) {out : Option (List ℕ)} → out ≡ Some told
+    → (told ≡ old) ⊎ (AreSound [] kept × IsFrontOf old (all.text AtEnd (input_records (whole_lines kept))) × Beginning all kept told)
     → Ended all kept old input input (Some kept) out
-still all kept old told input out e answers =
-    record { kept = kept; told = told; bytes = []; log_is = refl; out_is = e; taken = consumes-none input; sound = λ s. s; grows = inl refl; answers = answers }
+ended-same all kept old told input e answers = record {
+  kept = kept;
+  told = told;
+  bytes = [];
+  log_is = refl;
+  out_is = e;
+  taken = consumes-none input;
+  sound = λ s. s;
+  grows = inl refl;
+  answers = elim answers [ inl same ↦ inl (refl, same) | inr found ↦ inr found ];
+}
 
--- what was kept is no text of lines that are kept as they are, or it couldn't be read through
-pub unread : (all : Account) (kept old : List ℕ) (input : Option (List ℕ)) → Ended all kept old input input (Some kept) (Some old)
-unread all kept old input = still all kept old old input (Some old) refl (inl (refl, refl))
+pub ended-unread : (all : Account) (kept old : List ℕ) (input : Option (List ℕ)) → Ended all kept old input input (Some kept) (Some old)
+ended-unread all kept old input = ended-same all kept old old input refl (inl refl)
 
--- the text of what was replayed begins that of all that was kept
-pub replay-fails : {all : Account} {kept old : List ℕ} (input : Option (List ℕ)) {past log log2 out : Option (List ℕ)} → AreSound [] kept
-    → Fails false all [] old [] [] (Some kept) past log log2 (Some old) out → Ended all kept old input input (Some kept) out
-replay-fails {all} {kept} {old} input {past} {out} sound f = go past f.taken f.out_ends
-  where
-    with_found : (added : List ℕ) → Beginning all kept (old ++ added) → AreSound [] kept × IsFrontOf old (all.text AtEnd (input_records (whole_lines kept)))
-        × Beginning all kept (old ++ added)
-    with_found added h = (
+-- what was added over the answers of before begins the text of all that was kept
+ended-front : (all : Account) (kept old added : List ℕ) (input : Option (List ℕ)) {out : Option (List ℕ)} → AreSound [] kept → out ≡ Some (old ++ added)
+    → (added ≡ []) ⊎ Beginning all kept (old ++ added) → Ended all kept old input input (Some kept) out
+ended-front all kept old added input sound e (inl none) =
+    ended-same all kept old (old ++ added) input e (inl (ap (λ t. old ++ t) none ∙ append-nil old))
+ended-front all kept old added input sound e (inr begins) =
+    let b = begins [] in
+    ended-same all kept old (old ++ added) input e (inr (
       sound,
-      (added ++ (h []).0, sym (append_assoc old added (h []).0) ∙ (h []).1 ∙ ap (all.text AtEnd) (append-nil (input_records (whole_lines kept)))),
-      h,
-    )
+      (added ++ b.0, sym (append_assoc old added b.0) ∙ b.1 ∙ ap (all.text AtEnd) (append-nil (input_records (whole_lines kept)))),
+      begins,
+    ))
 
-    go : (later : Option (List ℕ)) → Consumes (Some kept) later (f.bytes ++ f.next) → OutEnds all [] old (Some old) out (kept_after false [] f.bytes) →
-        Ended all kept old input input (Some kept) out
-    go None c o = absurd c
-    go (Some rest) c (added, a, inl unread) = still all kept old (old ++ added) input out (known old out added a)
-        (inl (refl, ap (λ t. old ++ t) unread.0 ∙ append-nil old))
-    go (Some rest) c (added, a, inr begins) = still all kept old (old ++ added) input out (known old out added a) (inr (with_found added (λ more.
-        let left = f.next ++ rest in
-        let lines : whole_lines kept ≡ kept_after false [] f.bytes ++ kept_after false (begun_after [] f.bytes) left =
-        sym (sound-kept [] kept sound) ∙ ap read_back (c ∙ append_assoc f.bytes f.next rest) ∙ kept-append false [] f.bytes left in
-        let later_lines = kept_after false (begun_after [] f.bytes) left in
-        let records = ap input_records lines
-        ∙ records-append later_lines (kept-whole false [] f.bytes) (kept-whole false (begun_after [] f.bytes) left).unmarked in
-        let b = begins (input_records later_lines ++ more) in (
-          b.0,
-          b.1 ∙ ap (all.text AtEnd)
-              (sym (append_assoc (input_records (kept_after false [] f.bytes)) (input_records later_lines) more) ∙ ap (λ t. t ++ more) (sym records)),
-        ))))
+-- a site on which nothing is answered is to say all
+fresh-text : {kept old : List ℕ} {x : Standing} → IsFresh kept old x → (e : Ending) (more : List (List (List ℕ))) → coming x.at e more ≡ (account_of x).text e more
+fresh-text fresh e more = rw (fresh.idle.window, fresh.idle.empty, fresh.answered) refl
 
--- the log could not be cut back
-pub uncut : {all more : Account} {kept old : List ℕ} (input : Option (List ℕ)) {before out : Option (List ℕ)} {number len : ℕ} → AreSound [] kept
-    → Replayed all more kept old before out number len → Ended all kept old input input (Some kept) out
-uncut {all} {more} {kept} {old} input {out} sound r =
-    still all kept old r.told input out r.out_is (inr (sound, r.found, λ m. (more.text AtEnd m, sym (r.answered.text AtEnd m))))
-
--- a line could not be kept or answered
-pub live-fails : {all : Account} {kept : List ℕ} (old : List ℕ) {told : List ℕ} {input later log log2 out : Option (List ℕ)} → AreSound [] kept
-    → log ≡ Some (whole_lines kept) → Fails true all told [] (whole_lines kept) [] input later log log2 (Some told) out
-    → IsFrontOf old (all.text AtEnd (input_records (whole_lines kept))) → Ended all kept old input later log2 out
-live-fails {all} {kept} old {told} {input} {later} {log2} {out} sound e f found = go f.out_ends
+-- nothing was added, or this holds of each text that may follow
+uniform : (old added : List ℕ) (text : List (List (List ℕ)) → List ℕ)
+    → ((more : List (List (List ℕ))) → (added ≡ []) ⊎ IsFrontOf (old ++ added) (text more))
+    → (added ≡ []) ⊎ ((more : List (List (List ℕ))) → IsFrontOf (old ++ added) (text more))
+uniform old [] text h = inl refl
+uniform old (b ∷ added) text h = inr (λ more. only more (h more))
   where
-    log_is : log2 ≡ Some (whole_lines kept ++ (kept_of f.bytes ++ f.torn))
-    log_is = known (whole_lines kept) log2 (kept_of f.bytes ++ f.torn) (subst (λ l. Appends l log2 (kept_of f.bytes ++ f.torn)) e f.logged)
+    only : (more : List (List (List ℕ))) → (b ∷ added ≡ []) ⊎ IsFrontOf (old ++ (b ∷ added)) (text more) → IsFrontOf (old ++ (b ∷ added)) (text more)
+    only more (inl none) = absurd (cc none)
+    only more (inr front) = front
 
-    whole_text : kept_of (f.bytes ++ f.next) ≡ (kept_of f.bytes ++ f.torn) ++ f.lost
-    whole_text = kept-append true [] f.bytes f.next ∙ ap (λ t. kept_of f.bytes ++ t) f.parts ∙ sym (append_assoc (kept_of f.bytes) f.torn f.lost)
+-- what was read of what was kept is its beginning
+read-of : {x : Standing} {kept old : List ℕ} (later : Option (List ℕ)) (bytes next : List ℕ) → IsFresh kept old x → Consumes x.input later (bytes ++ next)
+    → (rest : List ℕ) × (kept ≡ bytes ++ rest)
+read-of {x} {kept} later bytes next fresh taken = go later (rw fresh.input at taken)
+  where
+    go : (later : Option (List ℕ)) → Consumes (Some kept) later (bytes ++ next) → (rest : List ℕ) × (kept ≡ bytes ++ rest)
+    go None c = absurd c
+    go (Some rest) c = (next ++ rest, c ∙ append_assoc bytes next rest)
 
-    tail_sound : AreSound [] (kept_of f.bytes ++ f.torn)
-    tail_sound = sound-front [] (kept_of f.bytes ++ f.torn) f.lost (subst (AreSound []) whole_text (kept-sound (f.bytes ++ f.next)))
+front-of : {x : Standing} {kept old : List ℕ} {past2 : Option (List ℕ)} {history2 : Option History} {e : KeepFault} → IsFresh kept old x
+    → (f : Fell false x past2 history2 e) → (rest : List ℕ) × Front kept f.bytes f.chunk rest
+front-of {x} {kept} {old} {past2} fresh f =
+    let r = read-of past2 f.bytes f.next fresh f.taken in
+    (r.0, front-lines kept f.bytes r.0 fresh.sound r.1 (f.cuts [] fresh.begun).0)
 
-    torn_sound : AreSound [] f.torn
-    torn_sound = subst (λ l. AreSound l f.torn) (kept-ends f.bytes) (sound-back [] (kept_of f.bytes) f.torn tail_sound)
+-- what was added begins the text of all that was kept, whatever follows
+pub replay-begins : {x : Standing} {kept old : List ℕ} {past2 : Option (List ℕ)} {history2 : Option History} {e : KeepFault} → IsFresh kept old x
+    → (f : Fell false x past2 history2 e) (more : List (List (List ℕ)))
+    → (f.added ≡ []) ⊎ IsFrontOf (old ++ f.added) ((account_of x).text AtEnd (input_records (whole_lines kept) ++ more))
+replay-begins {x} {kept} {old} fresh f more =
+    let front = front-of fresh f in
+    let later = input_records (kept_after false (begun_after [] f.bytes) front.0) in
+    subst (PutsFront (Some old) f.added) (fresh-text fresh AtEnd (input_records f.chunk ++ (later ++ more))
+    ∙ ap ((account_of x).text AtEnd) (sym (append_assoc (input_records f.chunk) later more) ∙ ap (λ r. r ++ more) (sym front.1.records)))
+    (subst (λ o. PutsFront o f.added (coming x.at AtEnd (input_records f.chunk ++ (later ++ more)))) fresh.before (f.stopped.begins (later ++ more)))
 
-    sound_now : AreSound [] (whole_lines kept ++ (kept_of f.bytes ++ f.torn))
-    sound_now = sound-append [] (whole_lines kept) (kept_of f.bytes ++ f.torn) (whole-sound kept sound)
-        (subst (λ l. AreSound l (kept_of f.bytes ++ f.torn)) (sym (whole-ends kept sound)) tail_sound)
+pub ended-replay : {x : Standing} {kept old : List ℕ} {past2 : Option (List ℕ)} (history2 : Option History) (input : Option (List ℕ)) {e : KeepFault}
+    → IsFresh kept old x → Fell false x past2 history2 e → Ended (account_of x) kept old input input (Some kept) (out_in history2)
+ended-replay {x} {kept} {old} history2 input fresh f =
+    ended-front (account_of x) kept old f.added input fresh.sound (known old (out_in history2) f.added (rw fresh.out at f.out))
+    (uniform old f.added (λ more. (account_of x).text AtEnd (input_records (whole_lines kept) ++ more)) (replay-begins fresh f))
 
-    front_whole : IsWhole (whole_lines kept ++ kept_of f.bytes)
-    front_whole = whole-append (subst IsWhole (sound-kept [] kept sound) (kept-whole false [] kept)) (kept-whole true [] f.bytes)
+-- it has its cause in what was kept
+pub true-replay : {x : Standing} {kept old : List ℕ} (past2 : Option (List ℕ)) (history2 : Option History) (e : KeepFault) → IsFresh kept old x
+    → Fell false x past2 history2 e → IsTrueFault x.at.limit (account_of x) kept old [] (of_kept e)
+true-replay {x} {kept} {old} past2 history2 e fresh f = go e f.stopped.cause
+  where
+    front : (rest : List ℕ) × Front kept f.bytes f.chunk rest
+    front = front-of fresh f
 
-    front_ends : begun_after [] (whole_lines kept ++ kept_of f.bytes) ≡ []
-    front_ends = begun-append [] (whole_lines kept) (kept_of f.bytes) ∙ ap (λ s. begun_after s (kept_of f.bytes)) (whole-ends kept sound) ∙ kept-ends f.bytes
+    later : List (List (List ℕ))
+    later = input_records (kept_after false (begun_after [] f.bytes) front.0)
 
-    front_lines : whole_lines (whole_lines kept ++ kept_of f.bytes) ≡ whole_lines kept ++ kept_of f.bytes
-    front_lines = sym (append-nil (whole_lines (whole_lines kept ++ kept_of f.bytes)))
-        ∙ ap (λ t. whole_lines (whole_lines kept ++ kept_of f.bytes) ++ t) (sym front_ends)
-        ∙ whole-rest [] (whole_lines kept ++ kept_of f.bytes)
+    unlike : (o : Option (List ℕ)) → o ≡ Some old
+        → IfSome o (λ old. (more : List (List (List ℕ))) → IsFrontOf old (coming x.at AtEnd (input_records f.chunk ++ more)) → ⊥)
+        → IsFrontOf old ((account_of x).text AtEnd (input_records (whole_lines kept))) → ⊥
+    unlike None is h = absurd (cc is)
+    unlike (Some known_old) is h = λ begins. h later (subst (λ o. IsFrontOf o (coming x.at AtEnd (input_records f.chunk ++ later))) (sym (same is))
+        (subst (IsFrontOf old) (ap ((account_of x).text AtEnd) front.1.records ∙ sym (fresh-text fresh AtEnd (input_records f.chunk ++ later))) begins))
+      where
+        same : Some known_old ≡ Some old → known_old ≡ old
+        same e = cc e
 
-    lines : whole_lines (whole_lines kept ++ (kept_of f.bytes ++ f.torn)) ≡ (whole_lines kept ++ kept_of f.bytes) ++ whole_lines f.torn
-    lines = ap whole_lines (sym (append_assoc (whole_lines kept) (kept_of f.bytes) f.torn))
-        ∙ whole-append-after [] (whole_lines kept ++ kept_of f.bytes) f.torn
-        ∙ ap (λ t. t ++ whole_after (begun_after [] (whole_lines kept ++ kept_of f.bytes)) f.torn) front_lines
-        ∙ ap (λ s. (whole_lines kept ++ kept_of f.bytes) ++ whole_after s f.torn) front_ends
+    many : x.at.limit < x.at.answered + length (input_records f.chunk) → x.at.limit < length (input_records (whole_lines kept ++ []))
+    many l =
+        let none = ap (λ (t : List ℕ). length (input_records t)) (append-nil (whole_lines kept)) in
+        let size = ap (λ (r : List (List (List ℕ))). length r) front.1.records in
+        let size2 = length-append (input_records f.chunk) later in
+        omega (arith, l, fresh.answered, none, size, size2)
 
-    torn_unmarked : is_marked (whole_lines f.torn) ≡ false
-    torn_unmarked = subst (λ t. is_marked t ≡ false) (sound-kept [] f.torn torn_sound) (kept-whole false [] f.torn).unmarked
+    go : (e : KeepFault) → IsCause (input_records f.chunk) x.at e → IsTrueFault x.at.limit (account_of x) kept old [] (of_kept e)
+    go (fault.Differs d) h = unlike x.at.before fresh.before h
+    go fault.TooLong h = many h
+    go (fault.Edited n) h = absurd h
+    go e h = tt
 
-    records : input_records (whole_lines (whole_lines kept ++ (kept_of f.bytes ++ f.torn))) ≡ input_records (whole_lines kept ++ kept_of f.bytes)
-        ++ input_records (whole_lines f.torn)
-    records = ap input_records lines ∙ records-append (whole_lines f.torn) front_whole torn_unmarked
+-- more stands there of before than the answers
+pub true-left : {x y : Standing} {kept old : List ℕ} (lines : ℕ) (d : Difference) → IsFresh kept old x → (w : Went false x y) → IsIdle y.at → IsAtEnd y.input
+    → IfSome y.at.before (λ left. HasMore left lines d) → IsFrontOf old ((account_of x).text AtEnd (input_records (whole_lines kept))) → ⊥
+true-left {x} {y} {kept} {old} lines d fresh w idle end there (rest, e) =
+    let put = put-of fresh w in
+    let some = more-left (subst (λ o. IfSome o (λ left. HasMore left lines d)) put.1 there) in
+    let bytes_are : w.bytes ≡ kept = at-end kept y.input w.bytes (rw fresh.input at w.taken) end in
+    let chunk_is : w.chunk ≡ whole_lines kept = (w.cuts [] fresh.begun).1 ∙ ap (kept_after false []) bytes_are ∙ sound-kept [] kept fresh.sound in
+    let h = answered-more (answered-none x.at fresh.idle fresh.answered) w.fed w.whole idle in
+    let text : (account_of x).text AtEnd (input_records (whole_lines kept)) ≡ w.text = ap (λ k. (account_of x).text AtEnd (input_records k)) (sym chunk_is)
+    ∙ answered-text AtEnd h in
+    behind w.text put.0 rest some (ap (λ t. t ++ rest) (sym (only put.2.0 put.2.1 some)) ∙ e ∙ text)
+  where
+    only : {added left : List ℕ} → old ++ added ≡ w.text ++ left → (added ≡ []) ⊎ (left ≡ []) → (left ≡ [] → ⊥) → old ≡ w.text ++ left
+    only e (inl none) some = sym (append-nil old) ∙ ap (λ t. old ++ t) (sym none) ∙ e
+    only e (inr none) some = absurd (some none)
 
-    go : OutEnds all told [] (Some told) out (whole_lines kept ++ kept_of f.bytes) → Ended all kept old input later log2 out
-    go (added, a, inl unread) = absurd (unread.4 (none-right unread.1 unread.2 (sym unread.3)))
-    go (added, a, inr begins) = record {
-      kept = whole_lines kept ++ (kept_of f.bytes ++ f.torn);
-      told = told ++ added;
-      bytes = f.bytes ++ f.next;
-      log_is = log_is;
-      out_is = known told out added a;
-      taken = f.taken;
-      sound = λ s. sound_now;
-      grows = inr (
-        (kept_of f.bytes ++ f.torn, refl),
-        (f.lost, append_assoc (whole_lines kept) (kept_of f.bytes ++ f.torn) f.lost ∙ ap (λ t. whole_lines kept ++ t) (sym whole_text)),
-      );
-      answers = inr (
-        sound,
-        found,
-        λ more.
-            let b = begins (input_records (whole_lines f.torn) ++ more) in (
-              b.0,
-              b.1 ∙ ap (all.text AtEnd)
-                  (sym (append_assoc (input_records (whole_lines kept ++ kept_of f.bytes)) (input_records (whole_lines f.torn)) more)
-                  ∙ ap (λ t. t ++ more) (sym records)),
-            ),
-      );
-    }
+    behind : (xs ys zs : List ℕ) → (ys ≡ [] → ⊥) → (xs ++ ys) ++ zs ≡ xs → ⊥
+    behind [] [] zs some e = some refl
+    behind [] (y ∷ ys) zs some e = cc e
+    behind (x ∷ xs) ys zs some e = behind xs ys zs some (cc e)
 
--- ---- the same of a run as the code has it
+-- ---- new records come
 
-pub replay-starts : (account : ℕ → Account) {kept old : List ℕ} {past before out : Option (List ℕ)} (log : Option (List ℕ)) {begun : List ℕ} {answered len : ℕ}
-    → (account 1).text Cut [] ≡ [] → begun ≡ [] → answered ≡ 0 → len ≡ 0 → Begins kept old past (Some kept) before out
-    → Stands false (account 1) (account (answered + 1)) [] old [] [] (Some kept) past log log before (Some old) out begun (answered + 1) 0 len
-replay-starts account {kept} {old} log none e f k b =
-    rw (f, k, b.past_is, b.before_is, b.out_is) (stands-start false old (Some kept) log (Some old) 0 (answered-none (account 1) none) e)
-
-pub replay-err : (account : ℕ → Account) {past : Option (List ℕ)} (past2 log log2 : Option (List ℕ)) {before out : Option (List ℕ)} (out2 : Option (List ℕ))
-    {begun : List ℕ} {answered len : ℕ} → (account 1).text Cut [] ≡ [] → begun ≡ [] → answered ≡ 0 → len ≡ 0
-    → HaveFailed false (account (answered + 1)) past log before out begun (answered + 1) len past2 log2 out2 → (kept old : List ℕ) (input : Option (List ℕ))
-    → Begins kept old past (Some kept) before out → Ended (account 1) kept old input input (Some kept) out2
-replay-err account past2 log log2 out2 none e f k h kept old input b =
-    replay-fails input b.sound (h (account 1) [] old [] [] (Some kept) log (Some old) 0 (replay-starts account log none e f k b))
-
-pub replay-ok : (account account2 : ℕ → Account) (past past2 before before2 ended out out2 : Option (List ℕ)) (begun begun2 : List ℕ)
-    (answered answered2 len len2 : ℕ) → (account 1).text Cut [] ≡ [] → begun ≡ [] → answered ≡ 0 → len ≡ 0
-    → HaveGone false (account (answered + 1)) past None before out begun (answered + 1) len (account2 (answered2 + 1)) past2 None before2 out2 begun2
-    (answered2 + 1) len2 → IsAtEnd past2 → IsAtEnd ended → Keeps before2 ended → (kept old : List ℕ) → Begins kept old past (Some kept) before out
-    → Replayed (account 1) (account2 (answered2 + 1)) kept old ended out2 (answered2 + 1) len2
-replay-ok account account2 past past2 before before2 ended out out2 begun begun2 answered answered2 len len2 none e f k h end at same kept old b =
-    replayed (account 1) (account2 (answered2 + 1)) kept old past2 before2 out2 None begun2 (answered2 + 1) len2 b.sound
-    (h (account 1) [] old [] [] (Some kept) None (Some old) 0 (replay-starts account None none e f k b)) end ended at same
-
--- some answer of before was not found
-pub replay-unfound : (account account2 : ℕ → Account) {past : Option (List ℕ)} (past2 : Option (List ℕ)) {before : Option (List ℕ)} (before2 : Option (List ℕ))
-    {out out2 out3 : Option (List ℕ)} {begun : List ℕ} (begun2 : List ℕ) {answered : ℕ} (answered2 : ℕ) {len : ℕ} (len2 : ℕ) → (account 1).text Cut [] ≡ []
-    → begun ≡ [] → answered ≡ 0 → len ≡ 0 → out3 ≡ out2 → HaveGone false (account (answered + 1)) past None before out begun (answered + 1) len
-    (account2 (answered2 + 1)) past2 None before2 out2 begun2 (answered2 + 1) len2 → (kept old : List ℕ) (input : Option (List ℕ))
-    → Begins kept old past (Some kept) before out → Ended (account 1) kept old input input (Some kept) out3
-replay-unfound account account2 {past} past2 {before} before2 {out} {out2} {begun} begun2 {answered} answered2 {len} len2 none e f k same h kept old input b =
-    subst (Ended (account 1) kept old input input (Some kept)) (sym same) (replay-err account past2 None None out2 none e f k
-    (gone-failed false (account (answered + 1)) (account2 (answered2 + 1)) past past2 past2 None None None before before2 out out2 out2 begun begun2
-    (answered + 1)
-    (answered2 + 1) len len2 h (each-stops false (account2 (answered2 + 1)) past2 None before2 out2 begun2 (answered2 + 1) len2)) kept old input b)
-
--- ---- a whole run
-
--- the log that was read through is one of lines that are kept as they are
-pub begins : (kept old : List ℕ) (first past log before out : Option (List ℕ)) → Opens kept old first past log before out
-    → IfSome first (λ text. AreSound [] text) → Begins kept old past (Some kept) before out
-begins kept old first past log before out o sound =
-    record { past_is = o.past_is; log_is = refl; before_is = o.before_is; out_is = o.out_is; sound = rw o.first_is at sound }
-
--- it ended before anything was answered
-pub run-unread : (all : Account) {first past log before : Option (List ℕ)} (input : Option (List ℕ)) {out : Option (List ℕ)} (kept old : List ℕ)
-    → Opens kept old first past log before out → Ended all kept old input input log out
-run-unread all input kept old o = rw (o.log_is, o.out_is) (unread all kept old input)
-
-kept-known : {kept : List ℕ} (log log2 : Option (List ℕ)) → log ≡ Some kept → Keeps log log2 → log2 ≡ Some kept
-kept-known None log2 e k = absurd (cc e)
-kept-known (Some xs) None e k = absurd k
-kept-known (Some xs) (Some ys) e k = ap (λ t. Some t) k ∙ e
-
--- files that have not changed meanwhile
-opens-kept : {kept old : List ℕ} {first past log log2 before out out2 : Option (List ℕ)} → Keeps log log2 → Keeps out out2
-    → Opens kept old first past log before out → Opens kept old first past log2 before out2
-opens-kept {log} {log2} {out} {out2} same same2 o = record {
-  first_is = o.first_is;
-  past_is = o.past_is;
-  log_is = kept-known log log2 o.log_is same;
-  before_is = o.before_is;
-  out_is = kept-known out out2 o.out_is same2;
-}
-
-pub run-unflushed : (all : Account) {first past log log2 before : Option (List ℕ)} (input : Option (List ℕ)) {out out2 : Option (List ℕ)} → Keeps log log2
-    → Keeps out out2 → (kept old : List ℕ) → Opens kept old first past log before out → Ended all kept old input input log2 out2
-run-unflushed all input same same2 kept old o = run-unread all input kept old (opens-kept same same2 o)
-
-pub run-begins : {first past log : Option (List ℕ)} (log1 : Option (List ℕ)) {before out out1 : Option (List ℕ)} → IfSome first (λ text. AreSound [] text)
-    → Keeps log log1 → Keeps out out1 → (kept old : List ℕ) → Opens kept old first past log before out → Begins kept old past (Some kept) before out1
-run-begins {first} {past} log1 {before} {out1} sound same same1 kept old o = begins kept old first past log1 before out1 (opens-kept same same1 o) sound
-
-pub run-unreplayed : (all : Account) {first past log : Option (List ℕ)} (log1 : Option (List ℕ)) {log2 before : Option (List ℕ)} (input : Option (List ℕ))
-    {out out1 : Option (List ℕ)} (out2 : Option (List ℕ)) → IfSome first (λ text. AreSound [] text) → Keeps log log1 → Keeps out out1 → Keeps log1 log2
-    → ((kept old : List ℕ) (input : Option (List ℕ)) → Begins kept old past (Some kept) before out1 → Ended all kept old input input (Some kept) out2)
-    → (kept old : List ℕ) → Opens kept old first past log before out → Ended all kept old input input log2 out2
-run-unreplayed all {first} {past} log1 {log2} {before} input {out1} out2 sound same same1 same2 h kept old o =
-    let o1 = opens-kept same same1 o in
-    rw (kept-known log1 log2 o1.log_is same2) (h kept old input (begins kept old first past log1 before out1 o1 sound))
-
-pub run-lived : (all more : Account) {first past log : Option (List ℕ)} (log1 : Option (List ℕ)) {log2 : Option (List ℕ)} (log3 : Option (List ℕ))
-    {before : Option (List ℕ)} (before2 input input2 : Option (List ℕ)) {out out1 : Option (List ℕ)} (out2 out3 : Option (List ℕ)) (number len : ℕ)
-    → IfSome first (λ text. AreSound [] text) → Keeps log log1 → Keeps out out1 → Keeps log1 log2
-    → ((kept old : List ℕ) → Begins kept old past (Some kept) before out1 → Replayed all more kept old before2 out2 number len)
-    → ((all : Account) (kept old : List ℕ) → AreSound [] kept → log2 ≡ Some kept → Replayed all more kept old before2 out2 number len
-    → Lived all kept old input input2 log3 out3) → (kept old : List ℕ) → Opens kept old first past log before out → Lived all kept old input input2 log3 out3
-run-lived all more {first} {past} log1 {log2} log3 {before} before2 input input2 {out1} out2 out3 number len sound same same1 same2 r h kept old o =
-    let o1 = opens-kept same same1 o in
-    let b = begins kept old first past log1 before out1 o1 sound in
-    h all kept old b.sound (kept-known log1 log2 o1.log_is same2) (r kept old b)
-
-pub run-ended : (all more : Account) {first past log : Option (List ℕ)} (log1 : Option (List ℕ)) {log2 : Option (List ℕ)} (log3 : Option (List ℕ))
-    {before : Option (List ℕ)} (before2 input input2 : Option (List ℕ)) {out out1 : Option (List ℕ)} (out2 out3 : Option (List ℕ)) (number len : ℕ)
-    → IfSome first (λ text. AreSound [] text) → Keeps log log1 → Keeps out out1 → Keeps log1 log2
-    → ((kept old : List ℕ) → Begins kept old past (Some kept) before out1 → Replayed all more kept old before2 out2 number len)
-    → ((all : Account) (kept old : List ℕ) → AreSound [] kept → log2 ≡ Some kept → Replayed all more kept old before2 out2 number len
-    → Ended all kept old input input2 log3 out3) → (kept old : List ℕ) → Opens kept old first past log before out → Ended all kept old input input2 log3 out3
-run-ended all more {first} {past} log1 {log2} log3 {before} before2 input input2 {out1} out2 out3 number len sound same same1 same2 r h kept old o =
-    let o1 = opens-kept same same1 o in
-    let b = begins kept old first past log1 before out1 o1 sound in
-    h all kept old b.sound (kept-known log1 log2 o1.log_is same2) (r kept old b)
-
--- ---- after the replay
-
-pub live-starts : {all more : Account} {kept old : List ℕ} (input log : Option (List ℕ)) {before out : Option (List ℕ)} {begun : List ℕ} {number len : ℕ}
-    → (r : Replayed all more kept old before out number len) → begun ≡ [] → Stands true all more r.told [] (whole_lines kept) [] input input log log before
-    (Some r.told) out begun number len len
-live-starts {all} {more} {kept} input log {out} {begun} {number} {len} r e =
-    subst (λ b. Stands true all more r.told [] (whole_lines kept) [] input input log log b (Some r.told) out begun number len len) (sym r.before_is)
-    (subst (λ o. Stands true all more r.told [] (whole_lines kept) [] input input log log (Some []) (Some r.told) o begun number len len) (sym r.out_is)
-    (stands-start true [] input log (Some r.told) len r.answered e))
-
--- the same where `out` has not changed meanwhile
-pub told-of : {all more : Account} {kept old : List ℕ} {before out out1 : Option (List ℕ)} {number len : ℕ} → Keeps out out1
-    → Replayed all more kept old before out number len → Replayed all more kept old before out1 number len
-told-of {out} {out1} same r = record {
-  found = r.found;
-  told = r.told;
-  answered = r.answered;
-  before_is = r.before_is;
-  out_is = kept-known out out1 r.out_is same;
-  length_is = r.length_is;
-}
-
-pub go-uncut : {more : Account} (input : Option (List ℕ)) {log log2 before out out2 : Option (List ℕ)} {number len : ℕ} → Keeps log log2 → Keeps out out2
-    → (all : Account) (kept old : List ℕ) → AreSound [] kept → log ≡ Some kept → Replayed all more kept old before out number len
-    → Ended all kept old input input log2 out2
-go-uncut input {log} {log2} keeps same all kept old sound e r = rw (kept-known log log2 e keeps) (uncut input sound (told-of same r))
-
-pub go-err : {more : Account} (input input2 : Option (List ℕ)) {log : Option (List ℕ)} (log2 log3 : Option (List ℕ)) {before out out1 : Option (List ℕ)}
-    (out2 : Option (List ℕ)) {begun : List ℕ} {number len : ℕ} → CutsTo log log2 len → begun ≡ [] → Keeps out out1
-    → HaveFailed true more input log2 before out1 begun number len input2 log3 out2 → (all : Account) (kept old : List ℕ) → AreSound [] kept → log ≡ Some kept
-    → Replayed all more kept old before out number len → Ended all kept old input input2 log3 out2
-go-err input input2 log2 log3 out2 {len} cuts e same f all kept old sound known replayed =
-    let r = told-of same replayed in
-    live-fails old sound (cut-back log2 known r.length_is cuts)
-    (f all r.told [] (whole_lines kept) [] input log2 (Some r.told) len (live-starts input log2 r e)) r.found
-
--- it ended before the first new record
-pub go-untold : {more : Account} (input : Option (List ℕ)) {log : Option (List ℕ)} (log2 : Option (List ℕ)) {before out out1 : Option (List ℕ)} {number len : ℕ}
-    → CutsTo log log2 len → Keeps out out1 → (all : Account) (kept old : List ℕ) → AreSound [] kept → log ≡ Some kept
-    → Replayed all more kept old before out number len → Ended all kept old input input log2 out1
-go-untold {more} input log2 {before} {out1} {number} {len} cuts same =
-    go-err input input log2 log2 out1 cuts refl same (each-stops true more input log2 before out1 [] number len)
-
-pub go-ok : {more : Account} (more2 : Account) (input : Option (List ℕ)) {input2 log : Option (List ℕ)} (log2 log3 : Option (List ℕ)) {before : Option (List ℕ)}
-    (before2 : Option (List ℕ)) {out out1 : Option (List ℕ)} (out2 : Option (List ℕ)) {begun : List ℕ} (begun2 : List ℕ) {number : ℕ} (number2 : ℕ) {len : ℕ}
-    (len2 : ℕ) → CutsTo log log2 len → begun ≡ [] → Keeps out out1 → HaveGone true more input log2 before out1 begun number len more2 input2 log3 before2 out2
-    begun2 number2 len2 → IsAtEnd input2 → (all : Account) (kept old : List ℕ) → AreSound [] kept → log ≡ Some kept
-    → Replayed all more kept old before out number len → Lived all kept old input input2 log3 out2
-go-ok more2 input log2 log3 before2 out2 begun2 number2 {len} len2 cuts e same g end all kept old sound known replayed =
-    let r = told-of same replayed in
-    lived old sound (cut-back log2 known r.length_is cuts)
-    (g all r.told [] (whole_lines kept) [] input log2 (Some r.told) len (live-starts input log2 r e)) end r.found
-
--- ---- what was read and not looked at
+-- a run that begins so: the lines of `kept` are answered, and their answers are told
+pub record IsReady (all : Account) (p : Place) (s : Replica) (kept told : List ℕ) (input : Option (List ℕ)) (z : Standing) : Type 0 where
+  pub answered : HasAnswered all p s z.at told (whole_lines kept)
+  pub before : z.at.before ≡ Some []
+  pub input_is : z.input ≡ input
+  pub log : log_of true z.history ≡ Some (whole_lines kept)
+  pub out : out_in z.history ≡ Some told
+  pub begun : z.begun ≡ []
+  pub sound : AreSound [] kept
 
 -- what is read of an input and not looked at was read of it
 pub read-too : (input input2 : Option (List ℕ)) (bytes unread : List ℕ) → Consumes input (left_of unread input2) bytes → Consumes input input2 (bytes ++ unread)
@@ -437,67 +328,163 @@ read-all None input2 bytes unread e c = tt
 read-all (Some xs) None bytes unread e c = absurd c
 read-all (Some xs) (Some ys) bytes unread e c = c ∙ ap (λ t. bytes ++ t) (e ∙ sym (none-right unread ys e))
 
-pub lived-read : {all : Account} {kept old : List ℕ} {input : Option (List ℕ)} (input2 : Option (List ℕ)) {log out : Option (List ℕ)} (unread : List ℕ)
-    → Lived all kept old input (left_of unread input2) log out → Lived all kept old input input2 log out
-lived-read {input} input2 unread l = record {
-  sound = l.sound;
-  found = l.found;
-  bytes = l.bytes;
-  taken = read-all input input2 l.bytes unread l.end l.taken;
-  end = at-end-too input2 unread l.end;
-  log_is = l.log_is;
-  out_is = l.out_is;
-  begins = l.begins;
-}
+-- nothing is left of before, so all that was put was added
+pub all-added : (x y : Option (List ℕ)) (added text : List ℕ) → x ≡ Some [] → PutsOver x y added text → (added ≡ text) × (y ≡ Some [])
+all-added x y added text none put = go (rw none at put)
+  where
+    left-none : (left : List ℕ) → added ≡ text ++ left → (added ≡ []) ⊎ (left ≡ []) → left ≡ []
+    left-none left e (inl empty) = none-right text left (sym e ∙ empty)
+    left-none left e (inr empty) = empty
 
-pub ended-read : {all : Account} {kept old : List ℕ} {input : Option (List ℕ)} (input2 : Option (List ℕ)) {log out : Option (List ℕ)} (unread : List ℕ)
-    → Ended all kept old input (left_of unread input2) log out → Ended all kept old input input2 log out
-ended-read {kept} {input} input2 unread e = record {
-  kept = e.kept;
-  told = e.told;
-  bytes = e.bytes ++ unread;
-  log_is = e.log_is;
-  out_is = e.out_is;
-  taken = read-too input input2 e.bytes unread e.taken;
-  sound = e.sound;
-  grows = wider e.grows;
-  answers = e.answers;
+    go : (left : List ℕ) × (y ≡ Some left) × IsOver [] left added text → (added ≡ text) × (y ≡ Some [])
+    go (left, is, (e, one)) =
+        let empty = left-none left e one in
+        (e ∙ ap (λ t. text ++ t) empty ∙ append-nil text, is ∙ ap (λ t. Some t) empty)
+
+pub lived : {all : Account} {p : Place} {s : Replica} {kept told : List ℕ} (old : List ℕ) {input : Option (List ℕ)} (input2 : Option (List ℕ)) (unread : List ℕ)
+    {z y : Standing} → IsReady all p s kept told input z → Went true z y → IsIdle y.at → y.input ≡ left_of unread input2 → IsAtEnd y.input
+    → IsFrontOf old (all.text AtEnd (input_records (whole_lines kept))) → Lived all kept old input input2 (log_of true y.history) (out_in y.history)
+lived {all} {p} {s} {kept} {told} old {input} input2 unread {z} {y} ready w idle is end found =
+    let chunk_is : w.chunk ≡ kept_of w.bytes = (w.cuts [] ready.begun).1 in
+    let h0 = answered-more ready.answered w.fed w.whole idle in
+    let h : HasAnswered all p s y.at (told ++ w.text) (whole_lines kept ++ kept_of w.bytes) = subst (λ c. HasAnswered all p s y.at (told ++ w.text) (whole_lines kept ++ c)) chunk_is h0 in
+    let added = all-added z.at.before y.at.before w.added w.text ready.before w.fed.put in
+    let text = answered-text Cut h in
+    record {
+      sound = ready.sound;
+      found = found;
+      bytes = w.bytes;
+      taken = read-all input input2 w.bytes unread (subst IsAtEnd is end)
+          (subst (λ i. Consumes i (left_of unread input2) w.bytes) ready.input_is (subst (λ i. Consumes z.input i w.bytes) is w.taken));
+      end = at-end-too input2 unread (subst IsAtEnd is end);
+      log_is = known (whole_lines kept) (log_of true y.history) w.chunk (rw ready.log at w.log) ∙ ap (λ c. Some (whole_lines kept ++ c)) chunk_is;
+      out_is = known told (out_in y.history) w.added (rw ready.out at w.out) ∙ ap (λ t. Some (told ++ t)) added.0 ∙ ap (λ t. Some t) (sym text);
+      begins = λ m. let f = answered-front h m in (f.0, ap (λ t. t ++ f.0) text ∙ f.1);
+    }
+
+-- a fault came
+pub ended-live : {all : Account} {p : Place} {s : Replica} {kept told : List ℕ} (old : List ℕ) {input : Option (List ℕ)} (input2 : Option (List ℕ))
+    (unread : List ℕ) (history2 : Option History) {z : Standing} {e : KeepFault} → IsReady all p s kept told input z
+    → Fell true z (left_of unread input2) history2 e → IsFrontOf old (all.text AtEnd (input_records (whole_lines kept)))
+    → Ended all kept old input input2 (log_of true history2) (out_in history2)
+ended-live {all} {p} {s} {kept} {told} old {input} input2 unread history2 {z} {e} ready f found = record {
+  kept = whole_lines kept ++ tail;
+  told = told ++ f.added;
+  bytes = bytes ++ unread;
+  log_is = known (whole_lines kept) (log_of true history2) tail (rw ready.log at f.log);
+  out_is = known told (out_in history2) f.added (rw ready.out at f.out);
+  taken = read-too input input2 bytes unread (subst (λ i. Consumes i (left_of unread input2) bytes) ready.input_is f.taken);
+  sound = λ s. sound_now;
+  grows = inr (
+    (tail, refl),
+    (
+      lost ++ kept_after true (begun_after [] bytes) unread,
+      append_assoc (whole_lines kept) tail (lost ++ kept_after true (begun_after [] bytes) unread)
+          ∙ ap (λ t. whole_lines kept ++ t) (sym (append_assoc tail lost (kept_after true (begun_after [] bytes) unread))
+          ∙ ap (λ t. t ++ kept_after true (begun_after [] bytes) unread) parts ∙ sym (kept-append true [] bytes unread)),
+    ),
+  );
+  answers = inr (ready.sound, found, begins);
 }
   where
-    wider : (e.kept ≡ kept) ⊎ (IsFrontOf (whole_lines kept) e.kept × IsFrontOf e.kept (whole_lines kept ++ kept_of e.bytes))
-        → (e.kept ≡ kept) ⊎ (IsFrontOf (whole_lines kept) e.kept × IsFrontOf e.kept (whole_lines kept ++ kept_of (e.bytes ++ unread)))
-    wider (inl same) = inl same
-    wider (inr (first, (rest, f))) =
-        let more = kept_after true (begun_after [] e.bytes) unread in
-        inr (
-          first,
-          (
-            rest ++ more,
-            sym (append_assoc e.kept rest more) ∙ ap (λ t. t ++ more) f ∙ append_assoc (whole_lines kept) (kept_of e.bytes) more
-                ∙ ap (λ t. whole_lines kept ++ t) (sym (kept-append true [] e.bytes unread)),
-          ),
+    bytes : List ℕ
+    bytes = f.bytes ++ f.next
+
+    tail : List ℕ
+    tail = f.chunk ++ f.torn
+
+    cut : (f.chunk ≡ kept_after true [] f.bytes) × IsFrontOf f.torn (kept_after true (begun_after [] f.bytes) f.next)
+    cut = f.cuts [] ready.begun
+
+    lost : List ℕ
+    lost = cut.1.0
+
+    parts : tail ++ lost ≡ kept_of bytes
+    parts = append_assoc f.chunk f.torn lost ∙ (λ i. cut.0 i ++ cut.1.1 i) ∙ sym (kept-append true [] f.bytes f.next)
+
+    tail_sound : AreSound [] tail
+    tail_sound = sound-front [] tail lost (subst (AreSound []) (sym parts) (kept-sound bytes))
+
+    sound_now : AreSound [] (whole_lines kept ++ tail)
+    sound_now = sound-append [] (whole_lines kept) tail (whole-sound kept ready.sound)
+        (subst (λ l. AreSound l tail) (sym (whole-ends kept ready.sound)) tail_sound)
+
+    chunk_ends : begun_after [] f.chunk ≡ []
+    chunk_ends = ap (begun_after []) cut.0 ∙ kept-ends f.bytes
+
+    torn_sound : AreSound [] f.torn
+    torn_sound = subst (λ l. AreSound l f.torn) chunk_ends (sound-back [] f.chunk f.torn tail_sound)
+
+    front_ends : begun_after [] (whole_lines kept ++ f.chunk) ≡ []
+    front_ends = begun-append [] (whole_lines kept) f.chunk ∙ ap (λ s. begun_after s f.chunk) (whole-ends kept ready.sound) ∙ chunk_ends
+
+    front_lines : whole_lines (whole_lines kept ++ f.chunk) ≡ whole_lines kept ++ f.chunk
+    front_lines = sym (append-nil (whole_lines (whole_lines kept ++ f.chunk))) ∙ ap (λ t. whole_lines (whole_lines kept ++ f.chunk) ++ t) (sym front_ends)
+        ∙ whole-rest [] (whole_lines kept ++ f.chunk)
+
+    lines : whole_lines (whole_lines kept ++ tail) ≡ (whole_lines kept ++ f.chunk) ++ whole_lines f.torn
+    lines = ap whole_lines (sym (append_assoc (whole_lines kept) f.chunk f.torn)) ∙ whole-append-after [] (whole_lines kept ++ f.chunk) f.torn
+        ∙ (λ i. front_lines i ++ whole_after (front_ends i) f.torn)
+
+    records : input_records (whole_lines (whole_lines kept ++ tail)) ≡ input_records (whole_lines kept) ++ (input_records f.chunk ++ input_records (whole_lines f.torn))
+    records = ap input_records lines
+        ∙ records-append (whole_lines f.torn) (whole-append ready.answered.whole f.whole)
+        (subst (λ t. is_marked t ≡ false) (sound-kept [] f.torn torn_sound) (kept-whole false [] f.torn).unmarked)
+        ∙ ap (λ r. r ++ input_records (whole_lines f.torn)) (records-append f.chunk ready.answered.whole f.whole.unmarked)
+        ∙ append_assoc (input_records (whole_lines kept)) (input_records f.chunk) (input_records (whole_lines f.torn))
+
+    added-front : (more : List (List (List ℕ))) → IsFrontOf f.added (coming z.at AtEnd (input_records f.chunk ++ more))
+    added-front more = go (rw ready.before at (f.stopped.begins more))
+      where
+        go : (f.added ≡ []) ⊎ IsFrontOf ([] ++ f.added) (coming z.at AtEnd (input_records f.chunk ++ more))
+            → IsFrontOf f.added (coming z.at AtEnd (input_records f.chunk ++ more))
+        go (inl none) = (coming z.at AtEnd (input_records f.chunk ++ more), ap (λ t. t ++ coming z.at AtEnd (input_records f.chunk ++ more)) none)
+        go (inr front) = front
+
+    begins : (more : List (List (List ℕ))) → IsFrontOf (told ++ f.added) (all.text AtEnd (input_records (whole_lines (whole_lines kept ++ tail)) ++ more))
+    begins more =
+        let later = input_records (whole_lines f.torn) ++ more in
+        let b = added-front later in (
+          b.0,
+          append_assoc told f.added b.0 ∙ ap (λ t. told ++ t) b.1 ∙ sym (ready.answered.text AtEnd (input_records f.chunk ++ later))
+              ∙ ap (all.text AtEnd) (ap (λ t. input_records (whole_lines kept) ++ t)
+              (sym (append_assoc (input_records f.chunk) (input_records (whole_lines f.torn)) more))
+              ∙ sym (append_assoc (input_records (whole_lines kept)) (input_records f.chunk ++ input_records (whole_lines f.torn)) more)
+              ∙ ap (λ r. r ++ more) (sym records)),
         )
 
-pub none-unread : {unread : List ℕ} (input : Option (List ℕ)) → unread ≡ [] → left_of unread input ≡ input
-none-unread None e = refl
-none-unread (Some xs) e = ap (λ t. Some (t ++ xs)) e
+-- it has its cause in what was kept and came
+pub true-live : {all : Account} {p : Place} {s : Replica} {kept told : List ℕ} (old : List ℕ) {input : Option (List ℕ)} (input2 : Option (List ℕ))
+    (unread : List ℕ) (history2 : Option History) {z : Standing} (e : KeepFault) → IsReady all p s kept told input z
+    → (f : Fell true z (left_of unread input2) history2 e) → IsTrueFault z.at.limit all kept old ((f.bytes ++ f.next) ++ unread) e
+true-live {all} {p} {s} {kept} {told} old {input} input2 unread history2 {z} e ready f = go e f.stopped.cause
+  where
+    unlike : (o : Option (List ℕ)) → o ≡ Some []
+        → IfSome o (λ old. (more : List (List (List ℕ))) → IsFrontOf old (coming z.at AtEnd (input_records f.chunk ++ more)) → ⊥) → ⊥
+    unlike None is h = absurd (cc is)
+    unlike (Some left) is h = h [] (coming z.at AtEnd (input_records f.chunk ++ []), ap (λ t. t ++ coming z.at AtEnd (input_records f.chunk ++ [])) (same is))
+      where
+        same : Some left ≡ Some [] → left ≡ []
+        same e = cc e
 
--- the same of a run as the code has it, which looks at what it read
-pub go-ok-read : {more : Account} (more2 : Account) (start : Option (List ℕ)) {input : Option (List ℕ)} (input2 : Option (List ℕ)) {log : Option (List ℕ)}
-    (log2 log3 : Option (List ℕ)) {before : Option (List ℕ)} (before2 : Option (List ℕ)) {out out1 : Option (List ℕ)} (out2 : Option (List ℕ)) (unread : List ℕ)
-    {begun : List ℕ} (begun2 : List ℕ) {number : ℕ} (number2 : ℕ) {len : ℕ} (len2 : ℕ) → start ≡ input → CutsTo log log2 len → begun ≡ [] → Keeps out out1
-    → HaveGone true more start log2 before out1 begun number len more2 (left_of unread input2) log3 before2 out2 begun2 number2 len2
-    → IsAtEnd (left_of unread input2) → (all : Account) (kept old : List ℕ) → AreSound [] kept → log ≡ Some kept
-    → Replayed all more kept old before out number len → Lived all kept old input input2 log3 out2
-go-ok-read more2 start input2 log2 log3 before2 out2 unread begun2 number2 len2 is cuts e same g end all kept old sound known r =
-    subst (λ i. Lived all kept old i input2 log3 out2) is (lived-read input2 unread
-    (go-ok more2 start log2 log3 before2 out2 begun2 number2 len2 cuts e same g end all kept old sound known r))
+    many : z.at.limit < z.at.answered + length (input_records f.chunk)
+        → z.at.limit < length (input_records (whole_lines kept ++ kept_of ((f.bytes ++ f.next) ++ unread)))
+    many l =
+        let cut = f.cuts [] ready.begun in
+        let later = kept_after true (begun_after [] f.bytes) (f.next ++ unread) in
+        let lines : kept_of ((f.bytes ++ f.next) ++ unread) ≡ f.chunk ++ later =
+        ap kept_of (append_assoc f.bytes f.next unread) ∙ kept-append true [] f.bytes (f.next ++ unread) ∙ ap (λ t. t ++ later) (sym cut.0) in
+        let records = ap (λ (t : List ℕ). length (input_records (whole_lines kept ++ t))) lines in
+        let first = ap (λ (r : List (List (List ℕ))). length r)
+        (ap input_records (sym (append_assoc (whole_lines kept) f.chunk later))
+        ∙ records-append later (whole-append ready.answered.whole f.whole) (kept-whole true (begun_after [] f.bytes) (f.next ++ unread)).unmarked
+        ∙ ap (λ r. r ++ input_records later) (records-append f.chunk ready.answered.whole f.whole.unmarked)) in
+        let size = length-append (input_records (whole_lines kept) ++ input_records f.chunk) (input_records later) in
+        let size2 = length-append (input_records (whole_lines kept)) (input_records f.chunk) in
+        omega (arith, l, ready.answered.count, records, first, size, size2)
 
-pub go-err-read : {more : Account} (start : Option (List ℕ)) {input : Option (List ℕ)} (input2 : Option (List ℕ)) {log : Option (List ℕ)}
-    (log2 log3 : Option (List ℕ)) {before out out1 : Option (List ℕ)} (out2 : Option (List ℕ)) (unread : List ℕ) {begun : List ℕ} {number len : ℕ}
-    → start ≡ input → CutsTo log log2 len → begun ≡ [] → Keeps out out1 → HaveFailed true more start log2 before out1 begun number len
-    (left_of unread input2) log3 out2 → (all : Account) (kept old : List ℕ) → AreSound [] kept → log ≡ Some kept
-    → Replayed all more kept old before out number len → Ended all kept old input input2 log3 out2
-go-err-read start input2 log2 log3 out2 unread is cuts e same f all kept old sound known r =
-    subst (λ i. Ended all kept old i input2 log3 out2) is (ended-read input2 unread
-    (go-err start (left_of unread input2) log2 log3 out2 cuts e same f all kept old sound known r))
+    go : (e : KeepFault) → IsCause (input_records f.chunk) z.at e → IsTrueFault z.at.limit all kept old ((f.bytes ++ f.next) ++ unread) e
+    go (fault.Differs d) h = absurd (unlike z.at.before ready.before h)
+    go fault.TooLong h = many h
+    go (fault.Edited n) h = absurd h
+    go e h = tt

@@ -6,7 +6,7 @@ use Rattle.rubis_model.specs.Site.{Place, Replica}
 use Rattle.rubis_keep.specs.Pages.{AreListed}
 use Rattle.rubis_keep.specs.Shortened.{state_after}
 use Rattle.rubis_keep.specs.declared.pages.Listed.{Listed}
-use Rattle.rubis_keep.proofs.LifeFacts.{none-read}
+use Rattle.rubis_keep.proofs.RecordFacts.{none-read}
 
 -- what is held of a listing is let go where records are answered, and stays right where none are
 pub listed-after : (p : Place) (s : Replica) {s2 : Replica} {records : List ℕ} {old new : Option Listed} → AreListed s old

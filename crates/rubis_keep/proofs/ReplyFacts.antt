@@ -1,185 +1,228 @@
--- A question that is answered between two pieces of an input.
-use Rattle.std.proofs.Common.{◌≡◌, ◌∙◌, ◌+◌, ◌⊎◌, inl, inr, ◌++◌, ◌∷◌, [], ℕ, Bool, true, false, List, Option, Some, None, Result, Ok, Err, cond, map, take, refl, sym, ap, subst}
-use Rattle.std.proofs.Common.{append-nil, arith, drop, length, take-append-drop}
-use Rattle.std.specs.Io.KnownBytes.{Keeps}
+-- The questions that a run answers, turn by turn, are those of its input.
+use Rattle.std.proofs.Common.{◌≡◌, ◌∙◌, ◌⊎◌, inl, inr, ◌++◌, ◌∷◌, [], ℕ, Bool, true, false, List, Option, cond, map, take}
+use Rattle.std.proofs.Common.{refl, sym, ap, subst, append_assoc}
+use Rattle.std.proofs.lemmas.List.{append-nil}
+use Rattle.std.specs.Io.KnownBytes.{Consumes}
 use Rattle.rubis_model.specs.Site.{Place, Replica}
-use Rattle.rubis_script.specs.Replica.{SiteState}
-use Rattle.rubis_script.specs.SiteRuns.{told_by}
 use Rattle.rubis_engine.specs.Accounts.{Account}
-use Rattle.rubis_engine.specs.Accounts.Ending.{AtEnd}
-use Rattle.rubis_engine.specs.Text.{input_records}
-use Rattle.rubis_keep.specs.Asking.{Asks, AsksFirst, LedBy, OfEachAsking, RepliesIf, owed, replied_in, reply_to}
-use Rattle.rubis_keep.specs.History.{FileState, Grows, History, IsAnswered, StaysSafe, Tells, log_of, now}
+use Rattle.rubis_keep.specs.Answering.{Answering}
+use Rattle.rubis_keep.specs.Asking.{AreFirst, Reply, replied_in, reply_to}
+use Rattle.rubis_keep.specs.Cuts.{asked_by}
+use Rattle.rubis_keep.specs.History.{Event, Grows, History}
 use Rattle.rubis_keep.specs.History.Event.{Replied}
-use Rattle.rubis_keep.specs.Kept.{HasAnswered, IsFrontOf}
-use Rattle.rubis_keep.specs.Lines.{asked_after}
-use Rattle.rubis_keep.specs.Lives.{Lives, LivesSafe, Rested}
+use Rattle.rubis_keep.specs.Lines.{Asked, asked_after, begun_after, kept_after}
+use Rattle.rubis_keep.specs.Lives.{HasAnswered}
+use Rattle.rubis_keep.specs.Places.{begun_bytes}
 use Rattle.rubis_keep.specs.Questions.{reply_rows, reply_text}
-use Rattle.rubis_keep.specs.Saying.{says_by}
-use Rattle.rubis_keep.proofs.AskFacts.{asks-cut, asks-fails, asks-replied}
-use Rattle.rubis_keep.proofs.FileFacts.{consumes-none}
-use Rattle.rubis_keep.proofs.HistoryFacts.{IsStill, grows-more, now-more, stays-more, still-by, still-none, tells-later}
-use Rattle.rubis_keep.proofs.SafeFacts.{all-whole, rested-safe, some-same, stays-known}
-use Rattle.rubis_keep.proofs.TellingFacts.{none-told-at-end}
+use Rattle.rubis_keep.specs.Turns.{Answered, Broke, IsAtRest, Standing, Turn, Turns, last, replied_to}
+use Rattle.rubis_keep.specs.declared.fault.KeepFault.{KeepFault}
+use Rattle.rubis_keep.proofs.AskFacts.{IsSilent, front-silent, kept-silent, replied-append, silent-more, tells-silent}
+use Rattle.rubis_keep.proofs.CutFacts.{asked-append}
+use Rattle.rubis_keep.proofs.FileFacts.{consumes-more, consumes-none}
+use Rattle.rubis_keep.proofs.HistoryFacts.{grows-more, grows-none}
+use Rattle.rubis_keep.proofs.LifeFacts.{answered-more}
+use Rattle.rubis_keep.proofs.LineFacts.{begun-append, kept-append}
+use Rattle.rubis_keep.proofs.TurnFacts.{reads-whole, turn-rests}
 
--- ---- what it does to the files
+map-append : (f : Asked → Reply) (xs ys : List Asked) → map f (xs ++ ys) ≡ map f xs ++ map f ys
+map-append f [] ys = refl
+map-append f (x ∷ xs) ys = ap (λ r. f x ∷ r) (map-append f xs ys)
 
--- nothing has happened, or the question was replied to by some first bytes of this text
-abbrev IsReply : Option History → Option History → List ℕ → List ℕ → Type 0
-IsReply a b question text = Grows a b [] ⊎ ((reply : List ℕ) × Grows a b (Replied question reply ∷ []) × IsFrontOf reply text)
+-- a run that stands there, with `kept` kept and answered, and `line` begun
+pub record Stood (all : Account) (p : Place) (s : Replica) (x : Standing) (told kept line : List ℕ) : Type 0 where
+  pub answered : HasAnswered all p s x.at told kept
+  pub begun : x.begun ≡ begun_bytes line
+  pub rests : IsAtRest x
 
-reply-of : {T E : Type 0} (asked : Bool) (a b : Option History) (r : Result T E) (question text : List ℕ) → RepliesIf asked a b r question text
-    → IsReply a b question text
-reply-of true a b (Ok x) question text g = inr (text, g, ([], append-nil text))
-reply-of false a b (Ok x) question text g = inl g
-reply-of asked a b (Err e) question text (is, inl g) = inl g
-reply-of asked a b (Err e) question text (is, inr (n, g)) = inr (take n text, g, (drop n text, take-append-drop n text))
+-- it read these bytes, and answered the questions of them, with what has happened since; and it stands here
+pub record Asks (all : Account) (p : Place) (s : Replica) (x y : Standing) (kept line : List ℕ) : Type 0 where
+  pub bytes : List ℕ
+  pub taken : Consumes x.input y.input bytes
+  pub told2 : List ℕ
+  pub stood : Stood all p s y told2 (kept ++ kept_after true line bytes) (begun_after line bytes)
+  pub events : List Event
+  pub grows : Grows x.history y.history events
+  pub replied : replied_in events ≡ map (reply_to p s) (asked_after true kept line bytes)
 
-still-of : (a b : Option History) (question text : List ℕ) → IsReply a b question text → IsStill a b
-still-of a b question text (inl g) = still-none a b g
-still-of a b question text (inr (reply, g, front)) = still-by a b (Replied question reply ∷ []) g (λ s. (refl, refl))
-
-pub replied-still : {T E : Type 0} (asked : Bool) (a b : Option History) (r : Result T E) (question text : List ℕ) → RepliesIf asked a b r question text
-    → IsStill a b
-replied-still asked a b r question text h = still-of a b question text (reply-of asked a b r question text h)
-
-pub still-log : (keeps : Bool) (a b : Option History) → IsStill a b → Keeps (log_of keeps a) (log_of keeps b)
-still-log true a b s = s.0
-still-log false a b s = tt
-
--- ---- a run that keeps nothing asks nothing
-
-pub not-asked : (asked : Bool) {keeps : Bool} → (asked ≡ true → keeps ≡ true) → keeps ≡ false → asked ≡ false
-not-asked true h off = absurd (cc (h refl, off))
-not-asked false h off = refl
-
-pub told-on : {live live2 live3 : Bool} (a b c : Option History) {asked : Bool} (question text : List ℕ) → asked ≡ false
-    → (live2 ≡ live) × ((told : List ℕ) × Tells live a b told []) → live3 ≡ live2 → Grows b c (cond asked (Replied question text ∷ []) [])
-    → (live3 ≡ live) × ((told : List ℕ) × Tells live a c told [])
-told-on a b c question text none t same g = tells-later a b c t.0 t.1.0 t.1.1 (same, ([], ([], rw none at g, refl, refl)))
-
--- ---- the files stay safe
-
-pub told-same : (s s2 : SiteState) {n n2 : ℕ} → s2.place ≡ s.place → s2.state ≡ s.state → n2 ≡ n → told_by s2 (n2 + 1) ≡ told_by s (n + 1)
-told-same s s2 place state count = rw (place, state, count) refl
-
-pub lives-any : {T E : Type 0} (site site2 : SiteState) (before before2 : Option (List ℕ)) (many many2 : ℕ) (old new : Option History) (r : Result T E)
-    → Lives site before many old site2 before2 many2 new → LivesSafe site before many old site2 before2 many2 new r
-lives-any site site2 before before2 many many2 old new (Ok x) f all p s0 h is rested = f all p s0 h is rested
-lives-any site site2 before before2 many many2 old new (Err e) f all p s0 h is rested = ((f all p s0 h is rested).0, tt)
-
--- a run goes on, and goes on
-pub lives-join : (site site2 site3 : SiteState) (before before2 before3 : Option (List ℕ)) (many many2 many3 : ℕ) (a b c : Option History)
-    → Lives site before many a site2 before2 many2 b → Lives site2 before2 many2 b site3 before3 many3 c → Lives site before many a site3 before3 many3 c
-lives-join site site2 site3 before before2 before3 many many2 many3 a b c f g all p s0 h is rested =
-    let first = f all p s0 h is rested in
-    let mid = stays-known (says_by all p s0) h b first.0 in
-    let last = g all p s0 mid.0 mid.1 (first.1 mid.0 mid.1) in
-    (stays-more (says_by all p s0) (Some h) b c first.0 (rw mid.1 last.0), last.1)
-
-answered-all : {all : Account} {p : Place} {s0 : Replica} {site : SiteState} {many : ℕ} {before : Option (List ℕ)} {s : FileState}
-    → Rested all p s0 site many before s → IsAnswered (all.text AtEnd) s
-answered-all {all} {site} {many} {s} r =
-    sym (append-nil s.out) ∙ ap (λ t. s.out ++ t) (sym (none-told-at-end site (many + 1))) ∙ sym (r.answered.text AtEnd [])
-    ∙ ap (all.text AtEnd) (append-nil (input_records s.kept) ∙ ap input_records (sym (all-whole s.kept r.ends)))
-
--- what the site says behind what was kept, from where it is
-reply-is : (all : Account) {p : Place} {s0 : Replica} {site : SiteState} {many : ℕ} {records : List (List (List ℕ))} (question : List ℕ)
-    → LedBy p s0 0 site many records → reply_text (reply_rows site.place site.state many question) ≡ (says_by all p s0).reply records question
-reply-is all {many} {records} question led =
-    let count : many ≡ length records = omega (arith, led.count) in
-    λ i. reply_text (reply_rows (led.place i) (led.state i) (count i) question)
-
--- the site is as it was, in what it answers
-rested-on : {all : Account} {p : Place} {s0 : Replica} {site : SiteState} (site2 : SiteState) {many many2 : ℕ} {before before2 : Option (List ℕ)}
-    {s : FileState} → site2.place ≡ site.place → site2.state ≡ site.state → before2 ≡ before → many2 ≡ many → Rested all p s0 site many before s
-    → Rested all p s0 site2 many2 before2 s
-rested-on {all} {site} site2 {many} {many2} {s} place state same count r = record {
-  answered = subst (λ m. HasAnswered all m s.out (many2 + 1) s.kept) (sym (told-same site site2 place state count))
-      (subst (λ n. HasAnswered all (told_by site (many + 1)) s.out (n + 1) s.kept) (sym count) r.answered);
-  led = record { place = place ∙ r.led.place; state = state ∙ r.led.state; count = count ∙ r.led.count };
-  found = same ∙ r.found;
-  sound = r.sound;
-  ends = r.ends;
-  flushed = r.flushed;
-  cut = r.cut;
-  begun = r.begun;
-  shown = r.shown;
+asks-none : {all : Account} {p : Place} {s : Replica} {x : Standing} {told kept line : List ℕ} → Stood all p s x told kept line → Asks all p s x x kept line
+asks-none {all} {p} {s} {x} {told} {kept} {line} h = record {
+  bytes = [];
+  taken = consumes-none x.input;
+  told2 = told;
+  stood = subst (λ k. Stood all p s x told k line) (sym (append-nil kept)) h;
+  events = [];
+  grows = grows-none x.history;
+  replied = refl;
 }
 
-reply-stays : {all : Account} {p : Place} {s0 : Replica} {site : SiteState} {many : ℕ} {before : Option (List ℕ)} (h : History) (new : Option History)
-    (question : List ℕ) → Rested all p s0 site many before (now h) → IsReply (Some h) new question (reply_text (reply_rows site.place site.state many question))
-    → StaysSafe (says_by all p s0) (Some h) new × ((h2 : History) → new ≡ Some h2 → Rested all p s0 site many before (now h2))
-reply-stays h None question r (inl g) = absurd g
-reply-stays h None question r (inr (reply, g, front)) = absurd g
-reply-stays {all} {p} {s0} {site} {many} {before} h (Some h1) question r (inl g) = (
-  ([], g, rested-safe r),
-  λ h2 e. subst (λ t. Rested all p s0 site many before (now t)) (some-same e) (subst (Rested all p s0 site many before) (sym (now-more h [] g)) r),
-)
-reply-stays {all} {p} {s0} {site} {many} {before} h (Some h1) question r (inr (reply, g, front)) = (
-  (
-    Replied question reply ∷ [],
-    g,
-    (
-      rested-safe r,
-      (
-        answered-all r,
-        (r.begun, r.shown),
-        subst (IsFrontOf reply) (reply-is all question r.led) front,
-      ),
-      rested-safe r,
-    ),
-  ),
-  λ h2 e. subst (λ t. Rested all p s0 site many before (now t)) (some-same e)
-      (subst (Rested all p s0 site many before) (sym (now-more h (Replied question reply ∷ []) g)) r),
-)
+-- the questions of two texts
+pub asks-both : (p : Place) (s : Replica) (kept line xs ys : List ℕ) → map (reply_to p s) (asked_after true kept line (xs ++ ys))
+    ≡ map (reply_to p s) (asked_after true kept line xs) ++ map (reply_to p s) (asked_after true (kept ++ kept_after true line xs) (begun_after line xs) ys)
+asks-both p s kept line xs ys = ap (map (reply_to p s)) (asked-append true kept line xs ys)
+    ∙ map-append (reply_to p s) (asked_after true kept line xs) (asked_after true (kept ++ kept_after true line xs) (begun_after line xs) ys)
 
-pub reply-lives : {U F : Type 0} (site site2 : SiteState) {before before2 : Option (List ℕ)} {many many2 : ℕ} (a b : Option History) (asked : Bool)
-    (r : Result U F) (question : List ℕ) → RepliesIf asked a b r question (reply_text (reply_rows site.place site.state many question))
-    → site2.place ≡ site.place → site2.state ≡ site.state → before2 ≡ before → many2 ≡ many → Lives site before many a site2 before2 many2 b
-reply-lives site site2 {many} a b asked r question replied place state same count all p s0 h is rested =
-    let text = reply_text (reply_rows site.place site.state many question) in
-    let done = reply-stays h b question rested (rw is at (reply-of asked a b r question text replied)) in
-    (done.0, λ h2 e. rested-on site2 place state same count (done.1 h2 e))
-
--- ---- it is what was owed
-
-asks-if : {asks : Bool} {p : Place} {s0 : Replica} {kept line : List ℕ} {input0 input : Option (List ℕ)} {h0 h : Option History} (h2 : Option History)
-    {begun : List ℕ} (question : List ℕ) {s : SiteState} (s2 : SiteState) {n n2 : ℕ} (asked : Bool)
-    → Asks asks p s0 kept line input0 input h0 h begun s n (owed asked s n question)
-    → Grows h h2 (cond asked (Replied question (reply_text (reply_rows s.place s.state n question)) ∷ []) []) → s2.place ≡ s.place → s2.state ≡ s.state → n2 ≡ n
-    → Asks asks p s0 kept line input0 input h0 h2 begun s2 n2 []
-asks-if h2 question {s} s2 {n} true a g place state count =
-    asks-replied h2 question (reply_text (reply_rows s.place s.state n question)) s2 a g place state count
-asks-if {asks} {p} {s0} {kept} {line} {h0} {h} h2 question s2 false a g place state count = record {
-  bytes = a.bytes;
-  taken = a.taken;
-  begins = a.begins;
-  whole = a.whole;
-  place = place ∙ a.place;
-  state = state ∙ a.state;
-  count = count ∙ a.count;
-  events = a.events ++ [];
-  grows = grows-more h0 h h2 a.events [] a.grows g;
-  replied = subst (λ es. replied_in es ++ [] ≡ map (reply_to p s0) (asked_after asks kept line a.bytes)) (sym (append-nil a.events)) a.replied;
+asks-more : {all : Account} {p : Place} {s : Replica} {x y z : Standing} {kept line : List ℕ} → (a : Asks all p s x y kept line)
+    → Asks all p s y z (kept ++ kept_after true line a.bytes) (begun_after line a.bytes) → Asks all p s x z kept line
+asks-more {all} {p} {s} {x} {y} {z} {kept} {line} a b = record {
+  bytes = a.bytes ++ b.bytes;
+  taken = consumes-more x.input y.input z.input a.bytes b.bytes a.taken b.taken;
+  told2 = b.told2;
+  stood = subst (λ k. Stood all p s z b.told2 k (begun_after line (a.bytes ++ b.bytes)))
+      (append_assoc kept (kept_after true line a.bytes) (kept_after true (begun_after line a.bytes) b.bytes)
+      ∙ ap (λ k. kept ++ k) (sym (kept-append true line a.bytes b.bytes)))
+      (subst (Stood all p s z b.told2 ((kept ++ kept_after true line a.bytes) ++ kept_after true (begun_after line a.bytes) b.bytes))
+      (sym (begun-append line a.bytes b.bytes)) b.stood);
+  events = a.events ++ b.events;
+  grows = grows-more x.history y.history z.history a.events b.events a.grows b.grows;
+  replied = replied-append a.events b.events ∙ (λ i. a.replied i ++ b.replied i) ∙ sym (asks-both p s kept line a.bytes b.bytes);
 }
 
-pub each-replied : (asks : Bool) (input input2 : Option (List ℕ)) (h h2 h3 : Option History) (begun begun2 question : List ℕ) (s s2 s3 : SiteState) (n : ℕ)
-    {n2 n3 : ℕ} (asked : Bool) → OfEachAsking asks input h begun s n
-    (λ p s0 kept line input0 h0. Asks asks p s0 kept line input0 input2 h0 h2 begun2 s2 n2 (owed asked s2 n2 question))
-    → Grows h2 h3 (cond asked (Replied question (reply_text (reply_rows s2.place s2.state n2 question)) ∷ []) []) → s3.place ≡ s2.place → s3.state ≡ s2.state
-    → n3 ≡ n2 → OfEachAsking asks input h begun s n (λ p s0 kept line input0 h0. Asks asks p s0 kept line input0 input2 h0 h3 begun2 s3 n3 [])
-each-replied asks input input2 h h2 h3 begun begun2 question s s2 s3 n asked goes g place state count p s0 kept line input0 h0 a =
-    asks-if h3 question s3 asked (goes p s0 kept line input0 h0 a) g place state count
+-- ---- a turn
 
--- or it wasn't replied
-pub each-unreplied : (asks : Bool) (input input2 : Option (List ℕ)) (h h2 h3 : Option History) (begun begun2 question : List ℕ) (s s2 : SiteState) (n n2 : ℕ)
-    {asked : Bool} → OfEachAsking asks input h begun s n
-    (λ p s0 kept line input0 h0. Asks asks p s0 kept line input0 input2 h0 h2 begun2 s2 n2 (owed asked s2 n2 question))
-    → (asked ≡ true) × (Grows h2 h3 [] ⊎ ((k : ℕ) × Grows h2 h3 (Replied question (take k (reply_text (reply_rows s2.place s2.state n2 question))) ∷ [])))
-    → OfEachAsking asks input h begun s n (λ p s0 kept line input0 h0. AsksFirst asks p s0 kept line input0 input2 h0 h3)
-each-unreplied asks input input2 h h2 h3 begun begun2 question s s2 n n2 goes (is, inl g) p s0 kept line input0 h0 a =
-    asks-fails input2 h3 [] (goes p s0 kept line input0 h0 a) (consumes-none input2) ([], g, refl)
-each-unreplied asks input input2 h h2 h3 begun begun2 question s s2 n n2 goes (is, inr (k, g)) p s0 kept line input0 h0 a =
-    asks-cut h3 question (reply_text (reply_rows s2.place s2.state n2 question)) k
-    (subst (λ v. Asks asks p s0 kept line input0 input2 h0 h2 begun2 s2 n2 (owed v s2 n2 question)) is (goes p s0 kept line input0 h0 a)) g
+-- its lines are kept and answered, but for the question
+record AsksLines (all : Account) (p : Place) (s : Replica) (x y : Standing) (kept line : List ℕ) (asked : Bool) (question : List ℕ) : Type 0 where
+  bytes : List ℕ
+  taken : Consumes x.input y.input bytes
+  told2 : List ℕ
+  answered : HasAnswered all p s y.at told2 (kept ++ kept_after true line bytes)
+  begun : y.begun ≡ begun_bytes (begun_after line bytes)
+  silent : IsSilent x.history y.history
+  asks_it : map (reply_to p s) (asked_after true kept line bytes) ≡ map (reply_to p s) (asked_by asked (kept ++ kept_after true line bytes) question)
+
+asks-lines : {all : Account} {p : Place} {s : Replica} {x y : Standing} {told kept line question : List ℕ} {asked : Bool} → Stood all p s x told kept line
+    → Answered true x y asked question → AsksLines all p s x y kept line asked question
+asks-lines {all} {p} {s} {x} {y} {told} {kept} {line} {question} {asked} h a =
+    let cut = a.reads.cuts line h.begun in
+    let answered = answered-more h.answered a.fed (reads-whole h.rests.begun a.reads) a.rests.idle in
+    record {
+      bytes = a.reads.bytes;
+      taken = a.reads.taken;
+      told2 = told ++ a.text;
+      answered = subst (λ c. HasAnswered all p s y.at (told ++ a.text) (kept ++ c)) cut.keeps answered;
+      begun = cut.begins;
+      silent = silent-more x.history a.mid y.history (kept-silent true x.history a.mid a.chunk a.kept) (tells-silent x.at.is_live a.mid y.history a.told);
+      asks_it = ap (map (reply_to p s)) (cut.questions kept);
+    }
+
+-- the text that answers the question is what the site says there
+reply-is : {all : Account} {p : Place} {s : Replica} {a : Answering} {told kept : List ℕ} (question : List ℕ) → HasAnswered all p s a told kept
+    → replied_to a question ≡ (reply_to p s (record { kept = kept; question = question })).text
+reply-is question h = λ i. reply_text (reply_rows (h.place i) (h.state i) (h.count i) question)
+
+-- what is replied to the question, if one was asked, is owed
+replied-owed : {all : Account} {p : Place} {s : Replica} {a : Answering} {told kept : List ℕ} (asked : Bool) (question : List ℕ)
+    → HasAnswered all p s a told kept → replied_in (cond asked (Replied question (replied_to a question) ∷ []) []) ≡ map (reply_to p s) (asked_by asked kept question)
+replied-owed true question h = ap (λ text. record { question = question; text = text } ∷ []) (reply-is question h)
+replied-owed false question h = refl
+
+asks-turn : {all : Account} {p : Place} {s : Replica} {x : Standing} (y : Standing) {told kept line : List ℕ} → Stood all p s x told kept line → Turn true x y
+    → Asks all p s x y kept line
+asks-turn {all} {p} {s} {x} y {kept} {line} h t =
+    let l = asks-lines h t.answered in
+    let z = t.mid in
+    let now : List ℕ = kept ++ kept_after true line l.bytes in
+    let events = cond t.asked (Replied t.question (replied_to z.at t.question) ∷ []) [] in
+    record {
+      bytes = l.bytes;
+      taken = subst (λ (w : Standing). Consumes x.input w.input l.bytes) (sym t.same) l.taken;
+      told2 = l.told2;
+      stood = record {
+        answered = subst (λ (w : Standing). HasAnswered all p s w.at l.told2 now) (sym t.same) l.answered;
+        begun = ap (λ (w : Standing). w.begun) t.same ∙ l.begun;
+        rests = turn-rests t;
+      };
+      events = l.silent.0 ++ events;
+      grows = grows-more x.history z.history y.history l.silent.0 events l.silent.1 t.replied;
+      replied = replied-append l.silent.0 events ∙ ap (λ r. r ++ replied_in events) l.silent.2 ∙ replied-owed t.asked t.question l.answered ∙ sym l.asks_it;
+    }
+
+pub turns-ask : {all : Account} {p : Place} {s : Replica} (x : Standing) (ys : List Standing) {told kept line : List ℕ} → Stood all p s x told kept line
+    → Turns true x ys → Asks all p s x (last x ys) kept line
+turns-ask x [] h none = asks-none h
+turns-ask x (y ∷ ys) h (t, later) =
+    let a = asks-turn y h t in
+    asks-more a (turns-ask y ys a.stood later)
+
+-- ---- a fault
+
+-- it read these bytes, and answered the first questions of them, the last of which maybe in part
+pub record AsksFirst (p : Place) (s : Replica) (x : Standing) (input2 : Option (List ℕ)) (history2 : Option History) (kept line : List ℕ) : Type 0 where
+  pub bytes : List ℕ
+  pub taken : Consumes x.input input2 bytes
+  pub events : List Event
+  pub grows : Grows x.history history2 events
+  pub replied : AreFirst (replied_in events) (map (reply_to p s) (asked_after true kept line bytes))
+
+first-later : (front xs all : List Reply) → AreFirst xs all → AreFirst (front ++ xs) (front ++ all)
+first-later front xs all (inl (rest, e)) = inl (rest, append_assoc front xs rest ∙ ap (λ t. front ++ t) e)
+first-later front xs all (inr (first, rest, r, n, e, f)) = inr (
+  front ++ first,
+  rest,
+  r,
+  n,
+  ap (λ t. front ++ t) e ∙ sym (append_assoc front first (record r { text = take n r.text } ∷ [])),
+  append_assoc front first (r ∷ rest) ∙ ap (λ t. front ++ t) f,
+)
+
+pub first-more : (xs all more : List Reply) → AreFirst xs all → AreFirst xs (all ++ more)
+first-more xs all more (inl (rest, e)) = inl (rest ++ more, sym (append_assoc xs rest more) ∙ ap (λ t. t ++ more) e)
+first-more xs all more (inr (first, rest, r, n, e, f)) = inr (first, rest ++ more, r, n, e, sym (append_assoc first (r ∷ rest) more) ∙ ap (λ t. t ++ more) f)
+
+silent-first : (p : Place) (s : Replica) {x : Standing} (input2 : Option (List ℕ)) (history2 : Option History) (kept line bytes : List ℕ)
+    → Consumes x.input input2 bytes → IsSilent x.history history2 → AsksFirst p s x input2 history2 kept line
+silent-first p s input2 history2 kept line bytes taken (events, g, none) = record {
+  bytes = bytes;
+  taken = taken;
+  events = events;
+  grows = g;
+  replied = inl (map (reply_to p s) (asked_after true kept line bytes), ap (λ r. r ++ map (reply_to p s) (asked_after true kept line bytes)) none);
+}
+
+broke-first : {all : Account} {p : Place} {s : Replica} {x : Standing} (input2 : Option (List ℕ)) (history2 : Option History) {e : KeepFault}
+    {told kept line : List ℕ} → Stood all p s x told kept line → Broke true x input2 history2 e → AsksFirst p s x input2 history2 kept line
+broke-first {p} {s} {x} input2 history2 {kept = kept} {line = line} h (inl t) =
+    silent-first p s input2 history2 kept line t.bytes t.taken (front-silent x.history history2 t.torn t.kept)
+broke-first {p} {s} {x} input2 history2 {kept = kept} {line = line} h (inr (inl u)) =
+    silent-first p s input2 history2 kept line u.reads.bytes u.reads.taken
+    (silent-more x.history u.mid history2 (kept-silent true x.history u.mid u.chunk u.kept) (tells-silent x.at.is_live u.mid history2 u.told))
+broke-first {all} {p} {s} {x} input2 history2 {kept = kept} {line = line} h (inr (inr u)) = go (asks-lines h u.answered) u.replied
+  where
+    go : AsksLines all p s x u.mid kept line true u.question
+        → Grows u.mid.history history2 [] ⊎ ((n : ℕ) × Grows u.mid.history history2 (Replied u.question (take n (replied_to u.mid.at u.question)) ∷ []))
+        → AsksFirst p s x input2 history2 kept line
+    go l (inl g) = silent-first p s input2 history2 kept line l.bytes (subst (λ i. Consumes x.input i l.bytes) (sym u.input_is) l.taken)
+        (silent-more x.history u.mid.history history2 l.silent ([], g, refl))
+    go l (inr (n, g)) =
+        let reply = Replied u.question (take n (replied_to u.mid.at u.question)) ∷ [] in
+        record {
+          bytes = l.bytes;
+          taken = subst (λ i. Consumes x.input i l.bytes) (sym u.input_is) l.taken;
+          events = l.silent.0 ++ reply;
+          grows = grows-more x.history u.mid.history history2 l.silent.0 reply l.silent.1 g;
+          replied = inr (
+            [],
+            [],
+            record { question = u.question; text = replied_to u.mid.at u.question },
+            n,
+            replied-append l.silent.0 reply ∙ ap (λ r. r ++ replied_in reply) l.silent.2,
+            ap (λ text. record { question = u.question; text = text } ∷ []) (reply-is u.question l.answered) ∙ sym l.asks_it,
+          );
+        }
+
+pub turns-ask-first : {all : Account} {p : Place} {s : Replica} (x : Standing) (ys : List Standing) (input2 : Option (List ℕ)) (history2 : Option History)
+    {e : KeepFault} {told kept line : List ℕ} → Stood all p s x told kept line → Turns true x ys → Broke true (last x ys) input2 history2 e
+    → AsksFirst p s x input2 history2 kept line
+turns-ask-first {p} {s} x ys input2 history2 {kept = kept} {line = line} h are broke =
+    let a = turns-ask x ys h are in
+    let b = broke-first input2 history2 a.stood broke in
+    let front = map (reply_to p s) (asked_after true kept line a.bytes) in
+    record {
+      bytes = a.bytes ++ b.bytes;
+      taken = consumes-more x.input (last x ys).input input2 a.bytes b.bytes a.taken b.taken;
+      events = a.events ++ b.events;
+      grows = grows-more x.history (last x ys).history history2 a.events b.events a.grows b.grows;
+      replied = subst (AreFirst (replied_in (a.events ++ b.events))) (sym (asks-both p s kept line a.bytes b.bytes))
+          (subst (λ r. AreFirst r (front ++ map (reply_to p s) (asked_after true (kept ++ kept_after true line a.bytes) (begun_after line a.bytes) b.bytes)))
+          (sym (replied-append a.events b.events ∙ ap (λ r. r ++ replied_in b.events) a.replied))
+          (first-later front (replied_in b.events) _ b.replied));
+    }

@@ -1,64 +1,63 @@
--- The files of a run stay safe.
-use Rattle.std.proofs.Common.{◌≡◌, ◌∙◌, ◌⊎◌, inl, inr, ◌++◌, ◌∷◌, [], ℕ, Bool, true, false, List, Option, Some, None, Result, Ok, Err, drop, map, take}
-use Rattle.std.proofs.Common.{arith, refl, sym, ap, subst, append_assoc, length-append, take-append-drop, ◌+◌}
+-- The files of a run stay safe, turn by turn.
+use Rattle.std.proofs.Common.{◌≡◌, ◌∙◌, ◌⊎◌, inl, inr, ◌++◌, ◌∷◌, [], ℕ, Bool, true, false, List, Option, Some, None, cond, map, take, drop}
+use Rattle.std.proofs.Common.{refl, sym, ap, subst, append_assoc, take-append-drop, ◌+◌}
 use Rattle.std.proofs.lemmas.List.{append-nil}
-use Rattle.std.specs.Prelude.{IsErr, OnErr, OnOk}
 use Rattle.rubis_model.specs.Site.{Place, Replica}
-use Rattle.rubis_replica.specs.State.{SiteState}
 use Rattle.rubis_engine.specs.Accounts.{Account}
 use Rattle.rubis_engine.specs.Accounts.Ending.{AtEnd}
 use Rattle.rubis_engine.specs.Text.{input_records}
-use Rattle.rubis_script.specs.SiteRuns.{told_by}
-use Rattle.rubis_keep.specs.Asking.{LedBy}
-use Rattle.rubis_keep.specs.History.{Answers, AreSafe, Event, FileState, Grows, HasTold, History, IsSafe, KeepsLines, Says, StaysSafe, Tells, after_all}
-use Rattle.rubis_keep.specs.History.{now, out_in, records_in, told_of}
-use Rattle.rubis_keep.specs.History.Event.{Flushed, Kept}
-use Rattle.rubis_keep.specs.Kept.{HasAnswered, InEachRest, IsFrontOf, OutEnds, Rests}
-use Rattle.rubis_keep.specs.Lines.{AreSound, HasNoEnd, begun_after, is_marked, kept_after, whole_lines}
-use Rattle.rubis_keep.specs.Lives.{Lives, LivesSafe, Rested}
+use Rattle.rubis_keep.specs.Answering.{Answering, coming}
+use Rattle.rubis_keep.specs.History.{Answers, AreSafe, Event, FileState, Grows, History, IsSafe, KeepsLines, StaysSafe, Tells, after_all, now, records_in, told_of}
+use Rattle.rubis_keep.specs.History.Event.{Flushed, Kept, Replied}
+use Rattle.rubis_keep.specs.Kept.{IsFrontOf}
+use Rattle.rubis_keep.specs.Lines.{AreSound, begun_after, is_marked, kept_after, whole_lines}
+use Rattle.rubis_keep.specs.Lives.{HasAnswered, Rested}
+use Rattle.rubis_keep.specs.Questions.{reply_rows, reply_text}
 use Rattle.rubis_keep.specs.Saying.{says_by}
-use Rattle.rubis_keep.specs.Shortened.{state_after}
+use Rattle.rubis_keep.specs.Turns.{Answered, Broke, IsAtRest, IsBegun, Reads, Standing, Torn, Turn, Turns, Unanswered, Unreplied, last, replied_to}
 use Rattle.rubis_keep.specs.Whole.{IsWhole}
+use Rattle.rubis_keep.specs.declared.fault.KeepFault.{KeepFault}
 use Rattle.rubis_keep.proofs.HistoryFacts.{after-append, due-after, now-more, only-keeps, only-tells, safe-answers, safe-append, safe-keeps, safe-last, stays-more, stays-none}
+use Rattle.rubis_keep.proofs.LifeFacts.{all-added, answered-front, answered-more, answered-text}
 use Rattle.rubis_keep.proofs.LineFacts.{begun-append}
 use Rattle.rubis_keep.proofs.RecordFacts.{records-append}
-use Rattle.rubis_keep.proofs.RestFacts.{keeps-same, rests-ends}
-use Rattle.rubis_keep.proofs.ShortenFacts.{after-append as state-append}
 use Rattle.rubis_keep.proofs.SoundFacts.{kept-begun-after, kept-sound-after, sound-append, sound-front, whole-rest}
+use Rattle.rubis_keep.proofs.TurnFacts.{turn-rests}
 use Rattle.rubis_keep.proofs.WholeFacts.{kept-whole}
 
 -- a text that ends with a line end is its whole lines
 pub all-whole : (t : List ℕ) → begun_after [] t ≡ [] → whole_lines t ≡ t
 all-whole t e = sym (append-nil (whole_lines t)) ∙ ap (λ b. whole_lines t ++ b) (sym e) ∙ whole-rest [] t
 
--- the text of these records begins with what was told, whatever follows
-answered-front : {all more : Account} {told : List ℕ} {number : ℕ} {kept : List ℕ} (chunk : List ℕ) → HasAnswered all more told number kept
+-- the records of what was kept, and of lines that came after it
+lines-after : {all : Account} {p : Place} {s : Replica} {a : Answering} {told kept : List ℕ} (chunk : List ℕ) → HasAnswered all p s a told kept
+    → begun_after [] (kept ++ chunk) ≡ [] → is_marked chunk ≡ false → records_in (kept ++ chunk) ≡ input_records kept ++ input_records chunk
+lines-after {kept} chunk h ends unmarked = ap input_records (all-whole (kept ++ chunk) ends) ∙ records-append chunk h.whole unmarked
+
+told-before : {all : Account} {p : Place} {s : Replica} {a : Answering} {told kept : List ℕ} (chunk : List ℕ) → HasAnswered all p s a told kept
     → begun_after [] (kept ++ chunk) ≡ [] → is_marked chunk ≡ false → IsFrontOf told (all.text AtEnd (records_in (kept ++ chunk)))
-answered-front {all} {more} {kept} chunk a ends unmarked = (
-  more.text AtEnd (input_records chunk),
-  sym (a.text AtEnd (input_records chunk)) ∙ ap (all.text AtEnd)
-      (sym (ap input_records (all-whole (kept ++ chunk) ends) ∙ records-append chunk a.whole unmarked)),
-)
+told-before {all} {told} chunk h ends unmarked =
+    subst (λ r. IsFrontOf told (all.text AtEnd r)) (sym (lines-after chunk h ends unmarked)) (answered-front h (input_records chunk))
 
-answered-now : {all more : Account} {told : List ℕ} {number : ℕ} {kept : List ℕ} → HasAnswered all more told number kept → begun_after [] kept ≡ []
-    → IsFrontOf told (all.text AtEnd (records_in kept))
-answered-now {all} {told} {kept} a ends =
-    subst (λ k. IsFrontOf told (all.text AtEnd (records_in k))) (append-nil kept) (answered-front [] a (ap (begun_after []) (append-nil kept) ∙ ends) refl)
-
-pub rested-safe : {all : Account} {p : Place} {s0 : Replica} {site : SiteState} {many : ℕ} {before : Option (List ℕ)} {s : FileState}
-    → Rested all p s0 site many before s → IsSafe (all.text AtEnd) s
+pub rested-safe : {all : Account} {p : Place} {s0 : Replica} {a : Answering} {s : FileState} → Rested all p s0 a s → IsSafe (all.text AtEnd) s
 rested-safe {all} {s} r = record {
   sound = subst (λ c. AreSound [] (s.kept ++ c)) (sym r.cut) (subst (AreSound []) (sym (append-nil s.kept)) r.sound);
   flushed = ([], append-nil s.flushed ∙ r.flushed);
-  told = subst (λ f. IsFrontOf s.out (all.text AtEnd (records_in f))) (sym r.flushed) (answered-now r.answered r.ends);
+  told = (
+    [],
+    append-nil s.out ∙ sym (answered-text AtEnd r.answered) ∙ ap (λ k. all.text AtEnd (input_records k)) (sym (all-whole s.kept r.ends))
+        ∙ ap (λ k. all.text AtEnd (records_in k)) (sym r.flushed),
+  );
   shown = rw (r.begun, r.shown) ([], append-nil s.out);
 }
 
+-- ---- lines are kept
+
 -- lines that end are kept after others, and flushed
-pub record Lines (chunk : List ℕ) : Type 0 where
-  pub whole : IsWhole chunk
-  pub sound : AreSound [] chunk
-  pub ends : begun_after [] chunk ≡ []
+record Lines (chunk : List ℕ) : Type 0 where
+  whole : IsWhole chunk
+  sound : AreSound [] chunk
+  ends : begun_after [] chunk ≡ []
 
 -- a run that rested has kept and flushed `chunk`, and answered nothing of it
 record Holds (s s1 : FileState) (chunk : List ℕ) : Type 0 where
@@ -75,11 +74,8 @@ ends-more kept chunk e f = begun-append [] kept chunk ∙ ap (λ b. begun_after 
 sound-more : (kept chunk : List ℕ) → AreSound [] kept → begun_after [] kept ≡ [] → AreSound [] chunk → AreSound [] (kept ++ chunk)
 sound-more kept chunk s e t = sound-append [] kept chunk s (subst (λ b. AreSound b chunk) (sym e) t)
 
-keeps : List ℕ → List Event
-keeps lines = map (λ b. Kept b) lines
-
-kept-safe : {all : Account} {p : Place} {s0 : Replica} {site : SiteState} {many : ℕ} {before : Option (List ℕ)} {s : FileState} {chunk : List ℕ}
-    → Rested all p s0 site many before s → Lines chunk → AreSafe (says_by all p s0) s (map (λ b. Kept b) chunk ++ Flushed ∷ [])
+kept-safe : {all : Account} {p : Place} {s0 : Replica} {a : Answering} {s : FileState} {chunk : List ℕ}
+    → Rested all p s0 a s → Lines chunk → AreSafe (says_by all p s0) s (map (λ b. Kept b) chunk ++ Flushed ∷ [])
 kept-safe {all} {p} {s0} {s} {chunk} r l =
     let o = only-keeps chunk s in
     let first = safe-keeps (says_by all p s0) chunk (rested-safe r) (r.begun, r.shown) r.cut (sound-more s.kept chunk r.sound r.ends l.sound) in
@@ -93,55 +89,50 @@ kept-safe {all} {p} {s0} {s} {chunk} r l =
         flushed = ([], append-nil s1.kept);
         told = subst (λ k. IsFrontOf s1.out (all.text AtEnd (records_in k))) (sym o.kept)
             (subst (λ t. IsFrontOf t (all.text AtEnd (records_in (s.kept ++ chunk)))) (sym o.out)
-            (answered-front chunk r.answered (ends-more s.kept chunk r.ends l.ends) l.whole.unmarked));
+            (told-before chunk r.answered (ends-more s.kept chunk r.ends l.ends) l.whole.unmarked));
         shown = last.shown;
       },
     )
 
 -- what a run that rested has after its lines were kept
-kept-holds : {all : Account} {p : Place} {s0 : Replica} {site : SiteState} {many : ℕ} {before : Option (List ℕ)} (h : History) (new : Option History)
-    {chunk : List ℕ} → Rested all p s0 site many before (now h) → Lines chunk → KeepsLines true (Some h) new chunk
-    → (events : List Event) × Grows (Some h) new events × AreSafe (says_by all p s0) (now h) events × Holds (now h) (after_all (now h) events) chunk
-kept-holds h new {chunk} r l (inl g) =
+kept-holds : {all : Account} {p : Place} {s0 : Replica} {a : Answering} (h : History) (new : Option History) {chunk : List ℕ}
+    → Rested all p s0 a (now h) → Lines chunk → KeepsLines true (Some h) new chunk
+    → (h1 : History) × (new ≡ Some h1) × StaysSafe (says_by all p s0) (Some h) (Some h1) × Holds (now h) (now h1) chunk
+kept-holds h None r l (inl g) = absurd g
+kept-holds h None r l (inr g) = absurd g.0
+kept-holds h (Some h1) {chunk} r l (inl g) =
     let s = now h in
     let o = only-keeps chunk s in
-    let end = after-append s (map (λ b. Kept b) chunk) (Flushed ∷ []) in (
-      map (λ b. Kept b) chunk ++ Flushed ∷ [],
-      g,
-      kept-safe r l,
+    let end = now-more h (map (λ b. Kept b) chunk ++ Flushed ∷ []) g ∙ after-append s (map (λ b. Kept b) chunk) (Flushed ∷ []) in (
+      h1,
+      refl,
+      (map (λ b. Kept b) chunk ++ Flushed ∷ [], g, kept-safe r l),
       rw end (record { kept = o.kept; flushed = o.kept; cut = refl; begun = o.begun ∙ r.begun; shown = o.shown ∙ r.shown ∙ sym o.out; out = o.out }),
     )
-kept-holds h new {chunk} r l (inr (g, none)) =
+kept-holds h (Some h1) {chunk} r l (inr (g, none)) =
     let s = now h in
     let same : s.kept ≡ s.kept ++ chunk = sym (append-nil s.kept) ∙ ap (λ t. s.kept ++ t) (sym none) in (
-      [],
-      g,
-      rested-safe r,
-      record { kept = same; flushed = r.flushed ∙ same; cut = r.cut; begun = r.begun; shown = r.shown; out = refl },
+      h1,
+      refl,
+      ([], g, rested-safe r),
+      rw (now-more h [] g) (record { kept = same; flushed = r.flushed ∙ same; cut = r.cut; begun = r.begun; shown = r.shown; out = refl }),
     )
 
--- ---- a piece
+-- the lines of a turn end, and are kept as they are
+lines-of : (asks : Bool) {begun : List ℕ} (bytes : List ℕ) {chunk : List ℕ} → (b : IsBegun begun) → chunk ≡ kept_after asks b.0 bytes → Lines chunk
+lines-of asks bytes b e = record {
+  whole = subst IsWhole (sym e) (kept-whole asks b.0 bytes);
+  sound = subst (AreSound []) (sym e) (kept-sound-after asks b.0 bytes b.1);
+  ends = ap (begun_after []) e ∙ kept-begun-after asks b.0 bytes b.1;
+}
 
--- the lines of a piece could not be kept
-pub piece-unkept : {all : Account} {p : Place} {s0 : Replica} {site : SiteState} {many : ℕ} {before : Option (List ℕ)} (h : History) (new : Option History)
-    {chunk : List ℕ} (n : ℕ) → Rested all p s0 site many before (now h) → Lines chunk → Grows (Some h) new (map (λ b. Kept b) (take n chunk))
-    → StaysSafe (says_by all p s0) (Some h) new
-piece-unkept {all} {p} {s0} h new {chunk} n r l g = (
-  map (λ b. Kept b) (take n chunk),
-  g,
-  safe-keeps (says_by all p s0) (take n chunk) (rested-safe r) (r.begun, r.shown) r.cut (sound-front [] ((now h).kept ++ take n chunk) (drop n chunk)
-      (subst (AreSound []) (sym (append_assoc (now h).kept (take n chunk) (drop n chunk)) ∙ ap (λ t. t) refl)
-      (subst (λ t. AreSound [] ((now h).kept ++ t)) (sym (take-append-drop n chunk)) (sound-more (now h).kept chunk r.sound r.ends l.sound)))),
-)
+lines-read : {asks asked : Bool} {input input2 : Option (List ℕ)} {begun begun2 chunk question : List ℕ} → IsBegun begun
+    → Reads asks asked input input2 begun begun2 chunk question → Lines chunk
+lines-read {asks} b r = lines-of asks r.bytes b (r.cuts b.0 b.2).keeps
 
--- they were kept, and nothing was told
-pub piece-unanswered : {all : Account} {p : Place} {s0 : Replica} {site : SiteState} {many : ℕ} {before : Option (List ℕ)} (h : History) (new : Option History)
-    {chunk : List ℕ} → Rested all p s0 site many before (now h) → Lines chunk → KeepsLines true (Some h) new chunk → StaysSafe (says_by all p s0) (Some h) new
-piece-unanswered h new r l k =
-    let t = kept-holds h new r l k in
-    (t.0, t.1, t.2)
+-- ---- they are answered
 
--- the answers to a piece are told, and stay within the text of its records
+-- what is told of their answers is safe, and where it ends
 told-safe : (all : Account) (p : Place) (s0 : Replica) {s s1 : FileState} {chunk : List ℕ} (events : List Event) (due : List ℕ) → AreSound [] (s.kept ++ chunk)
     → Holds s s1 chunk → Answers true events [] due → IsFrontOf (s.out ++ told_of events) (all.text AtEnd (records_in (s.kept ++ chunk)))
     → AreSafe (says_by all p s0) s1 events
@@ -152,196 +143,172 @@ told-safe all p s0 {s} {s1} {chunk} events due sound k a f =
     (subst (λ t. IsFrontOf (s1.out ++ told_of events) (all.text AtEnd (records_in t))) (sym k.flushed)
     (subst (λ t. IsFrontOf (t ++ told_of events) (all.text AtEnd (records_in (s.kept ++ chunk)))) (sym k.out) f))
 
-none-right : (xs ys : List ℕ) → xs ++ ys ≡ [] → ys ≡ []
-none-right [] ys h = h
-none-right (x ∷ xs) ys h = absurd (cc h)
-
-starts : {all : Account} {p : Place} {s0 : Replica} {site : SiteState} {many : ℕ} {before : Option (List ℕ)} {s : FileState}
-    → Rested all p s0 site many before s → Rests all (told_by site (many + 1)) s.out [] before (Some s.out) (Some s.out) (many + 1) s.kept
-starts {all} {site} {many} {s} r = record {
-  since = [];
-  answered = subst (λ t. HasAnswered all (told_by site (many + 1)) t (many + 1) s.kept) (sym (append-nil s.out)) r.answered;
-  wrote = record { added = []; left = []; unread = r.found; appended = sym (append-nil s.out); same = refl; one = inl refl };
-}
-
--- the answers to a piece were told, as far as a fault let them
-answered-safe : (all : Account) (p : Place) (s0 : Replica) {s : FileState} (h1 h2 : History) {chunk : List ℕ} (events : List Event) (due : List ℕ)
-    → AreSound [] (s.kept ++ chunk) → begun_after [] (s.kept ++ chunk) ≡ [] → Holds s (now h1) chunk → now h2 ≡ after_all (now h1) events
-    → Answers true events [] due → OutEnds all s.out [] (Some s.out) (Some (now h2).out) (s.kept ++ chunk) → AreSafe (says_by all p s0) (now h1) events
-answered-safe all p s0 h1 h2 events due sound ends k e a (added, app, inl (none, since, left, same, some)) = absurd (some (none-right since left (sym same)))
-answered-safe all p s0 {s} h1 h2 {chunk} events due sound ends k e a (added, app, inr begins) =
-    let o = only-tells true events [] due (now h1) a in
-    let b = begins [] in
-    let same : s.out ++ told_of events ≡ s.out ++ added =
-    ap (λ t. t ++ told_of events) (sym k.out) ∙ sym o.out ∙ ap (λ (t : FileState). t.out) (sym e) ∙ app in
-    told-safe all p s0 events due sound k a (
-      b.0,
-      ap (λ t. t ++ b.0) same ∙ b.1 ∙ ap (all.text AtEnd)
-          (append-nil (input_records (s.kept ++ chunk)) ∙ ap input_records (sym (all-whole (s.kept ++ chunk) ends))),
+tells-safe : {all : Account} {p : Place} {s0 : Replica} {a : Answering} (h h1 : History) (new : Option History) {chunk added due : List ℕ} {live : Bool}
+    → Rested all p s0 a (now h) → Lines chunk → Holds (now h) (now h1) chunk → live ≡ true → Tells live (Some h1) new added due
+    → IsFrontOf ((now h).out ++ added) (all.text AtEnd (records_in ((now h).kept ++ chunk)))
+    → (h2 : History) × (new ≡ Some h2) × StaysSafe (says_by all p s0) (Some h1) (Some h2) × ((es : List Event) × (now h2 ≡ after_all (now h1) es)
+    × Answers true es [] due × (told_of es ≡ added))
+tells-safe h h1 None r l k on t front = absurd t.1
+tells-safe {all} {p} {s0} h h1 (Some h2) {chunk} {added} {due} r l k on (es, g, t, e) front =
+    let a = subst (λ b. Answers b es [] due) on t in (
+      h2,
+      refl,
+      (
+        es,
+        g,
+        told-safe all p s0 es due (sound-more (now h).kept chunk r.sound r.ends l.sound) k a
+            (subst (λ t. IsFrontOf ((now h).out ++ t) (all.text AtEnd (records_in ((now h).kept ++ chunk)))) (sym e) front),
+      ),
+      (es, now-more h1 es g, a, e),
     )
 
--- the lines of the next piece end, and are kept as they are
-pub piece-lines : (asks : Bool) (line bytes : List ℕ) {chunk : List ℕ} → HasNoEnd line → chunk ≡ kept_after asks line bytes → Lines chunk
-piece-lines asks line bytes h e = record {
-  whole = subst IsWhole (sym e) (kept-whole asks line bytes);
-  sound = subst (AreSound []) (sym e) (kept-sound-after asks line bytes h);
-  ends = ap (begun_after []) e ∙ kept-begun-after asks line bytes h;
-}
+-- where a run is after a turn, but for its question: it rests again
+abbrev RestsSafe : Account → Place → Replica → History → Answering → Option History → Type 0
+RestsSafe all p s0 h a new = (h2 : History) × (new ≡ Some h2) × StaysSafe (says_by all p s0) (Some h) (Some h2) × Rested all p s0 a (now h2)
 
--- records led a site on from where others had led it
-pub led-more : {p : Place} {s0 : Replica} {s s2 : SiteState} {n n2 : ℕ} {done more : List (List (List ℕ))} → LedBy p s0 0 s n done
-    → LedBy s.place s.state n s2 n2 more → LedBy p s0 0 s2 n2 (done ++ more)
-led-more {p} {s0} {done} {more} a b = record {
-  place = b.place ∙ a.place;
-  state = b.state ∙ (λ i. state_after (a.place i) (a.state i) more) ∙ sym (state-append p s0 done more);
-  count = omega (arith, a.count, b.count, length-append done more);
-}
+answered-safe : {all : Account} {p : Place} {s0 : Replica} {x y : Standing} {asked : Bool} {question : List ℕ} (h : History) → x.history ≡ Some h → IsAtRest x
+    → Rested all p s0 x.at (now h) → Answered true x y asked question → RestsSafe all p s0 h y.at y.history
+answered-safe {all} {p} {s0} {x} {y} h is rests r a =
+    let s = now h in
+    let chunk = a.chunk in
+    let l = lines-read rests.begun a.reads in
+    let k = kept-holds h a.mid r l (rw is at a.kept) in
+    let ends = ends-more s.kept chunk r.ends l.ends in
+    let put = all-added x.at.before y.at.before a.added a.text r.found a.fed.put in
+    let answered = answered-more r.answered a.fed l.whole a.rests.idle in
+    let told : s.out ++ a.added ≡ s.out ++ a.text = ap (λ t. s.out ++ t) put.0 in
+    let text : all.text AtEnd (records_in (s.kept ++ chunk)) ≡ s.out ++ a.text =
+    ap (λ k. all.text AtEnd (input_records k)) (all-whole (s.kept ++ chunk) ends) ∙ answered-text AtEnd answered in
+    let t = tells-safe h k.0 y.history r l k.3 r.live (subst (λ m. Tells x.at.is_live m y.history a.added []) k.1 a.told)
+    ([], append-nil (s.out ++ a.added) ∙ told ∙ sym text) in
+    let o = only-tells true t.3.0 [] [] (now k.0) t.3.2 in
+    let e = t.3.1 in
+    let kept : (now t.0).kept ≡ s.kept ++ chunk = ap (λ (f : FileState). f.kept) e ∙ o.kept ∙ k.3.kept in
+    let out : (now t.0).out ≡ s.out ++ a.text = ap (λ (f : FileState). f.out) e ∙ o.out ∙ (λ i. k.3.out i ++ t.3.3 i) ∙ told in
+    let due = due-after true t.3.0 [] [] (now k.0) t.3.2 (k.3.begun, append-nil (now k.0).shown ∙ k.3.shown) in (
+      t.0,
+      t.1,
+      stays-more (says_by all p s0) (Some h) (Some k.0) (Some t.0) k.2 t.2,
+      record {
+        answered = subst (λ o. HasAnswered all p s0 y.at o (now t.0).kept) (sym out) (subst (HasAnswered all p s0 y.at (s.out ++ a.text)) (sym kept) answered);
+        found = put.1;
+        live = a.fed.live ∙ r.live;
+        sound = subst (AreSound []) (sym kept) (sound-more s.kept chunk r.sound r.ends l.sound);
+        ends = ap (begun_after []) kept ∙ ends;
+        flushed = ap (λ (f : FileState). f.flushed) e ∙ o.flushed ∙ k.3.flushed ∙ sym kept;
+        cut = ap (λ (f : FileState). f.cut) e ∙ o.cut ∙ k.3.cut;
+        begun = ap (λ (f : FileState). f.begun) e ∙ o.begun ∙ k.3.begun;
+        shown = ap (λ (f : FileState). f.shown) e ∙ sym (append-nil (after_all (now k.0) t.3.0).shown) ∙ due.1 ∙ ap (λ (f : FileState). f.out) (sym e);
+      },
+    )
 
--- the records of a piece do
-led-piece : {all : Account} {p : Place} {s0 : Replica} {site site2 : SiteState} {many many2 : ℕ} {before : Option (List ℕ)} {s : FileState} {chunk : List ℕ}
-    → Rested all p s0 site many before s → Lines chunk → LedBy site.place site.state many site2 many2 (input_records chunk)
-    → LedBy p s0 0 site2 many2 (records_in (s.kept ++ chunk))
-led-piece {p} {s0} {site2} {many2} {s} {chunk} r l led =
-    let parts : records_in (s.kept ++ chunk) ≡ records_in s.kept ++ input_records chunk =
-    ap input_records (all-whole (s.kept ++ chunk) (ends-more s.kept chunk r.ends l.ends)) ∙ records-append chunk r.answered.whole l.whole.unmarked
-    ∙ ap (λ k. input_records k ++ input_records chunk) (sym (all-whole s.kept r.ends)) in
-    subst (LedBy p s0 0 site2 many2) (sym parts) (led-more r.led led)
+-- ---- a question is answered
 
--- where a run rests after a piece, if what it told is all of the text
-rested-again : {all : Account} {p : Place} {s0 : Replica} {site2 : SiteState} {many2 : ℕ} {before2 : Option (List ℕ)} {s : FileState} (h1 h2 : History)
-    {chunk : List ℕ} (events : List Event) → LedBy p s0 0 site2 many2 (records_in (s.kept ++ chunk)) → AreSound [] (s.kept ++ chunk)
-    → begun_after [] (s.kept ++ chunk) ≡ [] → Holds s (now h1) chunk → now h2 ≡ after_all (now h1) events → Answers true events [] []
-    → Rests all (told_by site2 (many2 + 1)) s.out [] before2 (Some s.out) (Some (now h2).out) (many2 + 1) (s.kept ++ chunk)
-    → Rested all p s0 site2 many2 before2 (now h2)
-rested-again {all} {p} {s0} {site2} {many2} {s} h1 h2 {chunk} events led sound ends k e a r =
-    let o = only-tells true events [] [] (now h1) a in
-    let w = r.wrote in
-    let left : w.left ≡ [] = none-left w.added r.since w.left w.one w.same in
-    let same : w.added ≡ r.since = w.same ∙ ap (λ t. r.since ++ t) left ∙ append-nil r.since in
-    let kept : (now h2).kept ≡ s.kept ++ chunk = ap (λ (t : FileState). t.kept) e ∙ o.kept ∙ k.kept in
-    let due = due-after true events [] [] (now h1) a (k.begun, append-nil (now h1).shown ∙ k.shown) in
-    record {
-      answered = subst (λ t. HasAnswered all (told_by site2 (many2 + 1)) t (many2 + 1) (now h2).kept) (ap (λ t. s.out ++ t) (sym same) ∙ sym w.appended)
-          (subst (HasAnswered all (told_by site2 (many2 + 1)) (s.out ++ r.since) (many2 + 1)) (sym kept) r.answered);
-      led = subst (λ k. LedBy p s0 0 site2 many2 (records_in k)) (sym kept) led;
-      found = w.unread ∙ ap (λ t. Some t) left;
-      sound = subst (AreSound []) (sym kept) sound;
-      ends = ap (begun_after []) kept ∙ ends;
-      flushed = ap (λ (t : FileState). t.flushed) e ∙ o.flushed ∙ k.flushed ∙ sym kept;
-      cut = ap (λ (t : FileState). t.cut) e ∙ o.cut ∙ k.cut;
-      begun = ap (λ (t : FileState). t.begun) e ∙ o.begun ∙ k.begun;
-      shown = ap (λ (t : FileState). t.shown) e ∙ sym (append-nil (after_all (now h1) events).shown) ∙ due.1 ∙ ap (λ (t : FileState). t.out) (sym e);
-    }
+-- some first bytes of the answer are shown, or all
+reply-safe : {all : Account} {p : Place} {s0 : Replica} {a : Answering} (h h2 : History) (question reply : List ℕ) → Rested all p s0 a (now h)
+    → IsFrontOf reply (replied_to a question) → Grows (Some h) (Some h2) (Replied question reply ∷ []) → RestsSafe all p s0 h a (Some h2)
+reply-safe {all} {p} {s0} {a} h h2 question reply r front g =
+    let s = now h in
+    let whole = all-whole s.kept r.ends in
+    let text : s.out ≡ all.text AtEnd (records_in s.kept) = sym (answered-text AtEnd r.answered) ∙ ap (λ k. all.text AtEnd (input_records k)) (sym whole) in
+    let records : input_records s.kept ≡ records_in s.kept = ap input_records (sym whole) in
+    let same : replied_to a question ≡ (says_by all p s0).reply (records_in s.kept) question =
+    (λ i. reply_text (reply_rows (r.answered.place i) (r.answered.state i) (r.answered.count i) question))
+    ∙ ap (λ rs. (says_by all p s0).reply rs question) records in (
+      h2,
+      refl,
+      (Replied question reply ∷ [], g, (rested-safe r, (text, (r.begun, r.shown), subst (IsFrontOf reply) same front), rested-safe r)),
+      subst (Rested all p s0 a) (sym (now-more h (Replied question reply ∷ []) g)) r,
+    )
+
+maybe-reply-safe : {all : Account} {p : Place} {s0 : Replica} {a : Answering} (h : History) (new : Option History) (asked : Bool) (question : List ℕ)
+    → Rested all p s0 a (now h) → Grows (Some h) new (cond asked (Replied question (replied_to a question) ∷ []) []) → RestsSafe all p s0 h a new
+maybe-reply-safe h None asked question r g = absurd g
+maybe-reply-safe {a = a} h (Some h2) true question r g = reply-safe h h2 question (replied_to a question) r ([], append-nil (replied_to a question)) g
+maybe-reply-safe {all} {p} {s0} {a} h (Some h2) false question r g =
+    (h2, refl, ([], g, rested-safe r), subst (Rested all p s0 a) (sym (now-more h [] g)) r)
+
+rests-on : {all : Account} {p : Place} {s0 : Replica} {a : Answering} (h : History) (mid : Option History) (b : Answering) (new : Option History)
+    → RestsSafe all p s0 h a mid → ((h2 : History) → mid ≡ Some h2 → Rested all p s0 a (now h2) → RestsSafe all p s0 h2 b new) → RestsSafe all p s0 h b new
+rests-on {all} {p} {s0} h mid b new (h2, is, safe, r) next =
+    let n = next h2 is r in
+    (n.0, n.1, stays-more (says_by all p s0) (Some h) (Some h2) (Some n.0) safe n.2, n.3)
+
+-- ---- turns
+
+turn-safe : {all : Account} {p : Place} {s0 : Replica} {x y : Standing} (h : History) → x.history ≡ Some h → IsAtRest x
+    → Rested all p s0 x.at (now h) → Turn true x y → RestsSafe all p s0 h y.at y.history
+turn-safe {all} {p} {s0} {y} h is rests r t =
+    subst (λ (a : Answering). RestsSafe all p s0 h a y.history) (sym (ap (λ (s : Standing). s.at) t.same))
+    (rests-on h t.mid.history t.mid.at y.history (answered-safe h is rests r t.answered)
+    (λ h2 is2 r2. maybe-reply-safe h2 y.history t.asked t.question r2 (rw is2 at t.replied)))
+
+pub turns-safe : {all : Account} {p : Place} {s0 : Replica} (x : Standing) (ys : List Standing) (h : History) → x.history ≡ Some h → IsAtRest x
+    → Rested all p s0 x.at (now h) → Turns true x ys → RestsSafe all p s0 h (last x ys).at (last x ys).history
+turns-safe {all} {p} {s0} x [] h is rests r none = (h, is, stays-none (says_by all p s0) h (rested-safe r), r)
+turns-safe x (y ∷ ys) h is rests r (t, later) =
+    rests-on h y.history (last y ys).at (last y ys).history (turn-safe h is rests r t) (λ h2 is2 r2. turns-safe y ys h2 is2 (turn-rests t) r2 later)
+
+-- ---- a turn that a fault ended
+
+torn-safe : {all : Account} {p : Place} {s0 : Replica} {x : Standing} {input2 : Option (List ℕ)} (h : History) (new : Option History) {e : KeepFault}
+    → x.history ≡ Some h → IsAtRest x → Rested all p s0 x.at (now h) → Torn true x input2 new e → StaysSafe (says_by all p s0) (Some h) new
+torn-safe {all} {p} {s0} {x} h new is rests r t =
+    let b = rests.begun in
+    let front = t.front b.0 b.2 in
+    let l = lines-of true t.bytes b refl in
+    let sound = sound-more (now h).kept (kept_after true b.0 t.bytes) r.sound r.ends l.sound in (
+      map (λ b. Kept b) t.torn,
+      rw is at t.kept,
+      safe-keeps (says_by all p s0) t.torn (rested-safe r) (r.begun, r.shown) r.cut (sound-front [] ((now h).kept ++ t.torn) front.0
+          (subst (AreSound []) (sym (append_assoc (now h).kept t.torn front.0)) (subst (λ k. AreSound [] ((now h).kept ++ k)) (sym front.1) sound))),
+    )
+
+unanswered-safe : {all : Account} {p : Place} {s0 : Replica} {x : Standing} {input2 : Option (List ℕ)} (h : History) (new : Option History) {e : KeepFault}
+    → x.history ≡ Some h → IsAtRest x → Rested all p s0 x.at (now h) → Unanswered true x input2 new e → StaysSafe (says_by all p s0) (Some h) new
+unanswered-safe {all} {p} {s0} {x} h new is rests r u =
+    let s = now h in
+    let l = lines-read rests.begun u.reads in
+    let k = kept-holds h u.mid r l (rw is at u.kept) in
+    let coming_is = coming x.at AtEnd (input_records u.chunk ++ []) in
+    let front : IsFrontOf u.added coming_is = only (rw r.found at (u.stopped.begins [])) in
+    let text : all.text AtEnd (records_in (s.kept ++ u.chunk)) ≡ s.out ++ coming_is =
+    ap (all.text AtEnd) (lines-after u.chunk r.answered (ends-more s.kept u.chunk r.ends l.ends) l.whole.unmarked
+    ∙ ap (λ t. input_records s.kept ++ t) (sym (append-nil (input_records u.chunk)))) ∙ r.answered.text AtEnd (input_records u.chunk ++ []) in
+    let t = tells-safe h k.0 new r l k.3 r.live (subst (λ m. Tells x.at.is_live m new u.added u.due) k.1 u.told)
+    (front.0, append_assoc s.out u.added front.0 ∙ ap (λ t. s.out ++ t) front.1 ∙ sym text) in
+    rw t.1 (stays-more (says_by all p s0) (Some h) (Some k.0) (Some t.0) k.2 t.2)
   where
-    none-left : (added since left : List ℕ) → (added ≡ []) ⊎ (left ≡ []) → added ≡ since ++ left → left ≡ []
-    none-left added since left (inl e) same = none-right since left (sym same ∙ e)
-    none-left added since left (inr e) same = e
+    only : (u.added ≡ []) ⊎ IsFrontOf u.added (coming x.at AtEnd (input_records u.chunk ++ []))
+        → IsFrontOf u.added (coming x.at AtEnd (input_records u.chunk ++ []))
+    only (inl none) = (coming x.at AtEnd (input_records u.chunk ++ []), ap (λ t. t ++ coming x.at AtEnd (input_records u.chunk ++ [])) none)
+    only (inr front) = front
 
-rests-end : {all more2 : Account} {told : List ℕ} {before2 out2 : Option (List ℕ)} {number2 : ℕ} {kept : List ℕ}
-    → Rests all more2 told [] before2 (Some told) out2 number2 kept → OutEnds all told [] (Some told) out2 kept
-rests-end {all} {told} {out2} {kept} r =
-    subst (OutEnds all told [] (Some told) out2) (append-nil kept) (rests-ends out2 r (record { closed = refl; unmarked = refl }) (keeps-same out2))
-
-pub some-same : {x y : History} → Some x ≡ Some y → x ≡ y
-some-same e = cc e
-
--- a piece was kept, and was answered as far as a fault let it
-pub piece-safe : {T E : Type 0} (site site2 : SiteState) (many many2 : ℕ) (before before2 : Option (List ℕ)) (old new1 new2 : Option History) {chunk : List ℕ}
-    {live : Bool} (live2 : Bool) (r : Result T E) → live ≡ true → Lines chunk → KeepsLines true old new1 chunk → HasTold live live2 new1 new2 r
-    → OnOk r (InEachRest (told_by site (many + 1)) before (out_in new1) (many + 1)
-    (λ all told old out0 kept. Rests all (told_by site2 (many2 + 1)) told old before2 out0 (out_in new2) (many2 + 1) (kept ++ chunk)))
-    → OnErr r (InEachRest (told_by site (many + 1)) before (out_in new1) (many + 1)
-    (λ all told old out0 kept. OutEnds all told old out0 (out_in new2) (kept ++ chunk)))
-    → OnOk r (LedBy site.place site.state many site2 many2 (input_records chunk)) → LivesSafe site before many old site2 before2 many2 new2 r
-piece-safe {T} {E} site site2 many many2 before before2 old new1 new2 {chunk} {live} live2 r shows l k t ok err led all p s0 h is rested =
-    go new1 new2 r (rw is at k) t ok err led
+unreplied-safe : {all : Account} {p : Place} {s0 : Replica} {x : Standing} {input2 : Option (List ℕ)} (h : History) (new : Option History) {e : KeepFault}
+    → x.history ≡ Some h → IsAtRest x → Rested all p s0 x.at (now h) → Unreplied true x input2 new e → StaysSafe (says_by all p s0) (Some h) new
+unreplied-safe {all} {p} {s0} h new is rests r u =
+    let a = answered-safe h is rests r u.answered in
+    stays-more (says_by all p s0) (Some h) (Some a.0) new a.2 (cut a.0 new a.3 (rw a.1 at u.replied))
   where
-    go : (new1 new2 : Option History) (r : Result T E) → KeepsLines true (Some h) new1 chunk → HasTold live live2 new1 new2 r
-        → OnOk r (InEachRest (told_by site (many + 1)) before (out_in new1) (many + 1)
-        (λ all told old out0 kept. Rests all (told_by site2 (many2 + 1)) told old before2 out0 (out_in new2) (many2 + 1) (kept ++ chunk)))
-        → OnErr r (InEachRest (told_by site (many + 1)) before (out_in new1) (many + 1)
-        (λ all told old out0 kept. OutEnds all told old out0 (out_in new2) (kept ++ chunk)))
-        → OnOk r (LedBy site.place site.state many site2 many2 (input_records chunk))
-        → StaysSafe (says_by all p s0) (Some h) new2 × OnOk r ((h2 : History) → new2 ≡ Some h2 → Rested all p s0 site2 many2 before2 (now h2))
-    go None new2 r (inl g) t ok err led = absurd g
-    go None new2 r (inr g) t ok err led = absurd g.0
-    go (Some h1) None (Ok x) k t ok err led = absurd t.1.1.1
-    go (Some h1) None (Err e) k t ok err led = absurd t.1.2.1
-    go (Some h1) (Some h2) (Ok x) k t ok err led =
-        let kept = kept-holds h (Some h1) rested l k in
-        let is1 : now h1 ≡ after_all (now h) kept.0 = now-more h kept.0 kept.1 in
-        let holds : Holds (now h) (now h1) chunk = subst (λ s. Holds (now h) s chunk) (sym is1) kept.3 in
-        let sound = sound-more (now h).kept chunk rested.sound rested.ends l.sound in
-        let ends = ends-more (now h).kept chunk rested.ends l.ends in
-        let rests = ok all (now h).out [] (Some (now h).out) (now h).kept
-        (subst (λ o. Rests all (told_by site (many + 1)) (now h).out [] before (Some (now h).out) (Some o) (many + 1) (now h).kept) (sym holds.out)
-        (starts rested)) in
-        let tells = subst (λ b. Tells b (Some h1) (Some h2) t.1.0 []) shows t.1.1 in
-        let is2 = now-more h1 tells.0 tells.1 in
-        let safe = answered-safe all p s0 h1 h2 tells.0 [] sound ends holds is2 tells.2
-        (rests-end rests) in
-        let leads = led-piece rested l led in (
-          stays-more (says_by all p s0) (Some h) (Some h1) (Some h2) (kept.0, kept.1, kept.2) (tells.0, tells.1, safe),
-          λ h3 e. subst (λ t. Rested all p s0 site2 many2 before2 (now t)) (some-same e)
-              (rested-again h1 h2 tells.0 leads sound ends holds is2 tells.2 rests),
-        )
-    go (Some h1) (Some h2) (Err e) k t ok err led =
-        let kept = kept-holds h (Some h1) rested l k in
-        let is1 : now h1 ≡ after_all (now h) kept.0 = now-more h kept.0 kept.1 in
-        let holds : Holds (now h) (now h1) chunk = subst (λ s. Holds (now h) s chunk) (sym is1) kept.3 in
-        let sound = sound-more (now h).kept chunk rested.sound rested.ends l.sound in
-        let ends = ends-more (now h).kept chunk rested.ends l.ends in
-        let outs = err all (now h).out [] (Some (now h).out) (now h).kept
-        (subst (λ o. Rests all (told_by site (many + 1)) (now h).out [] before (Some (now h).out) (Some o) (many + 1) (now h).kept) (sym holds.out)
-        (starts rested)) in
-        let tells = subst (λ b. Tells b (Some h1) (Some h2) t.1.0 t.1.1) shows t.1.2 in
-        let is2 = now-more h1 tells.0 tells.1 in
-        let safe = answered-safe all p s0 h1 h2 tells.0 t.1.1 sound ends holds is2 tells.2 outs in
-        (stays-more (says_by all p s0) (Some h) (Some h1) (Some h2) (kept.0, kept.1, kept.2) (tells.0, tells.1, safe), tt)
+    cut : (h2 : History) (new : Option History) → Rested all p s0 u.mid.at (now h2)
+        → Grows (Some h2) new [] ⊎ ((n : ℕ) × Grows (Some h2) new (Replied u.question (take n (replied_to u.mid.at u.question)) ∷ []))
+        → StaysSafe (says_by all p s0) (Some h2) new
+    cut h2 new r (inl g) = ([], g, rested-safe r)
+    cut h2 None r (inr (n, g)) = absurd g
+    cut h2 (Some h3) r (inr (n, g)) =
+        let text = replied_to u.mid.at u.question in
+        let t = reply-safe h2 h3 u.question (take n text) r (drop n text, take-append-drop n text) g in
+        subst (StaysSafe (says_by all p s0) (Some h2)) (sym t.1) t.2
 
--- ---- a run goes on, or ends with a fault
-
-pub ok-of-err : {T E : Type 0} (P : Type 0) (r : Result T E) → IsErr r → OnOk r P
-ok-of-err P (Ok x) e = absurd (cc e)
-ok-of-err P (Err x) e = tt
-
-pub lives-err : {T E U F : Type 0} (site site2 : SiteState) (before before2 : Option (List ℕ)) (many many2 : ℕ) (old new : Option History) (s : Result U F)
-    (r : Result T E) → IsErr r → LivesSafe site before many old site2 before2 many2 new s → LivesSafe site before many old site2 before2 many2 new r
-lives-err site site2 before before2 many many2 old new s r bad h all p s0 past is rested = ((h all p s0 past is rested).0, ok-of-err _ r bad)
-
--- nothing has happened
-pub lives-none : {T E : Type 0} (site site2 : SiteState) (before before2 : Option (List ℕ)) (many many2 : ℕ) (old : Option History) (r : Result T E) → IsErr r
-    → LivesSafe site before many old site2 before2 many2 old r
-lives-none site site2 before before2 many many2 old r bad all p s0 h is rested =
-    (rw is (stays-none (says_by all p s0) h (rested-safe rested)), ok-of-err _ r bad)
-
--- the lines of a piece could not be kept
-pub lives-torn : {T E : Type 0} (site site2 : SiteState) (before before2 : Option (List ℕ)) (many many2 : ℕ) (old new : Option History) {chunk : List ℕ} (n : ℕ)
-    (r : Result T E) → IsErr r → Lines chunk → Grows old new (map (λ b. Kept b) (take n chunk)) → LivesSafe site before many old site2 before2 many2 new r
-lives-torn site site2 before before2 many many2 old new n r bad l g all p s0 h is rested = (piece-unkept h new n rested l (rw is at g), ok-of-err _ r bad)
-
-pub stays-known : (says : Says) (h : History) (b : Option History) → StaysSafe says (Some h) b → (h2 : History) × (b ≡ Some h2)
-stays-known says h None f = absurd f.1
-stays-known says h (Some h2) f = (h2, refl)
-
-pub lives-more : {T E : Type 0} (site site2 site3 : SiteState) (before before2 before3 : Option (List ℕ)) (many many2 many3 : ℕ) (a b c : Option History)
-    (r : Result T E) → Lives site before many a site2 before2 many2 b → LivesSafe site2 before2 many2 b site3 before3 many3 c r
-    → LivesSafe site before many a site3 before3 many3 c r
-lives-more site site2 site3 before before2 before3 many many2 many3 a b c r f g all p s0 h is rested =
-    let first = f all p s0 h is rested in
-    let mid = stays-known (says_by all p s0) h b first.0 in
-    let last = g all p s0 mid.0 mid.1 (first.1 mid.0 mid.1) in
-    (stays-more (says_by all p s0) (Some h) b c first.0 (rw mid.1 last.0), last.1)
-
-pub lives-start : (site : SiteState) (before : Option (List ℕ)) (many : ℕ) (a : Option History) → Lives site before many a site before many a
-lives-start site before many a all p s0 h is rested = (
-  rw is (stays-none (says_by all p s0) h (rested-safe rested)),
-  λ h2 e. subst (λ t. Rested all p s0 site many before (now t)) (some-same (sym is ∙ e)) rested,
-)
-
--- the same where there was no fault
-pub lives-known : {T E : Type 0} (site site2 : SiteState) (before before2 : Option (List ℕ)) (many many2 : ℕ) (old new : Option History) {r : Result T E}
-    {x : T} → r ≡ Ok x → LivesSafe site before many old site2 before2 many2 new r → Lives site before many old site2 before2 many2 new
-lives-known site site2 before before2 many many2 old new e h all p s0 past is rested =
-    let done = h all p s0 past is rested in
-    (done.0, subst (λ t. OnOk t ((h2 : History) → new ≡ Some h2 → Rested all p s0 site2 many2 before2 (now h2))) e done.1)
+pub broke-safe : {all : Account} {p : Place} {s0 : Replica} (x : Standing) (ys : List Standing) (input2 : Option (List ℕ)) (h : History) (new : Option History)
+    {e : KeepFault} → x.history ≡ Some h → IsAtRest x → Rested all p s0 x.at (now h) → Turns true x ys → IsAtRest (last x ys)
+    → Broke true (last x ys) input2 new e → StaysSafe (says_by all p s0) (Some h) new
+broke-safe {all} {p} {s0} x ys input2 h new {e} is rests r are rests2 broke =
+    let on = turns-safe x ys h is rests r are in
+    stays-more (says_by all p s0) (Some h) (Some on.0) new on.2 (ends broke on.0 on.1 on.3)
+  where
+    ends : Broke true (last x ys) input2 new e → (h2 : History) → (last x ys).history ≡ Some h2 → Rested all p s0 (last x ys).at (now h2)
+        → StaysSafe (says_by all p s0) (Some h2) new
+    ends (inl t) h2 is2 r2 = torn-safe h2 new is2 rests2 r2 t
+    ends (inr (inl u)) h2 is2 r2 = unanswered-safe h2 new is2 rests2 r2 u
+    ends (inr (inr u)) h2 is2 r2 = unreplied-safe h2 new is2 rests2 r2 u

@@ -145,24 +145,13 @@ abbrev pub Answers : Bool → List Event → List ℕ → List ℕ → Type 0
 Answers live [] due due2 = due2 ≡ due
 Answers live (Told b ∷ later) due due2 = Answers live later (cond live (due ++ b ∷ []) due) due2
 Answers live (Shown b ∷ later) due due2 = (rest : List ℕ) × (due ≡ b ∷ rest) × Answers live later rest due2
-Answers live (Kept b ∷ later) due due2 = ⊥
-Answers live (Flushed ∷ later) due due2 = ⊥
-Answers live (CutTo n ∷ later) due due2 = ⊥
-Answers live (Settled ∷ later) due due2 = ⊥
-Answers live (Began n counts ∷ later) due due2 = ⊥
-Answers live (Replied question text ∷ later) due due2 = ⊥
+Answers live (e ∷ later) due due2 = ⊥
 
 -- what is told by these events
 abbrev pub told_of : List Event → List ℕ
 told_of [] = []
 told_of (Told b ∷ later) = b ∷ told_of later
-told_of (Kept b ∷ later) = told_of later
-told_of (Flushed ∷ later) = told_of later
-told_of (CutTo n ∷ later) = told_of later
-told_of (Settled ∷ later) = told_of later
-told_of (Began n counts ∷ later) = told_of later
-told_of (Shown b ∷ later) = told_of later
-told_of (Replied question text ∷ later) = told_of later
+told_of (e ∷ later) = told_of later
 
 -- this text was told, and shown if answers are shown; or `due` of it is still to be shown
 abbrev pub Tells : Bool → Option History → Option History → List ℕ → List ℕ → Type 0

@@ -10,12 +10,12 @@ pub mod Cuts
 pub mod Shortened
 pub mod Setups
 pub mod History
-pub mod Lives
 pub mod Showing
 pub mod Pages
 pub mod Questions
 pub mod Saying
 pub mod Asking
-pub mod Fed
-pub mod Standing
-pub mod Steps
+pub mod Answering
+pub mod Lives
+pub mod Turns
+pub mod Runs

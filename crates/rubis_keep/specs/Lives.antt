@@ -1,43 +1,47 @@
--- A run that keeps lines and answers them, between two pieces of its input.
-use Rattle.std.specs.Prelude.{◌≡◌, ◌+◌, [], ℕ, List, Option, OnOk, Result, Some, false, true}
+-- What a site that keeps lines has answered, and what its files are between two turns of a run.
+use Rattle.std.specs.Prelude.{◌≡◌, ◌+◌, ◌++◌, [], ℕ, List, Option, Some, false, length, true}
 use Rattle.rubis_model.specs.Site.{Place, Replica}
-use Rattle.rubis_replica.specs.State.{SiteState}
-use Rattle.rubis_engine.specs.Accounts.{Account}
-use Rattle.rubis_script.specs.SiteRuns.{told_by}
-use Rattle.rubis_keep.specs.Asking.{LedBy}
-use Rattle.rubis_keep.specs.History.{FileState, History, IsSafe, StaysSafe, now, records_in}
-use Rattle.rubis_keep.specs.Kept.{HasAnswered}
+use Rattle.rubis_engine.specs.Accounts.{Account, Ending}
+use Rattle.rubis_engine.specs.Accounts.Ending.{AtEnd}
+use Rattle.rubis_engine.specs.Text.{input_records}
+use Rattle.rubis_keep.specs.Answering.{Answering, IsIdle, coming}
+use Rattle.rubis_keep.specs.History.{FileState, IsSafe, records_in}
+use Rattle.rubis_keep.specs.Kept.{IsFrontOf}
 use Rattle.rubis_keep.specs.Left.{IsLeft}
-use Rattle.rubis_keep.specs.Lines.{AreSound, begun_after}
-use Rattle.rubis_keep.specs.Saying.{says_by}
+use Rattle.rubis_keep.specs.Lines.{AreSound, begun_after, whole_lines}
+use Rattle.rubis_keep.specs.Shortened.{state_after}
+use Rattle.rubis_keep.specs.Whole.{IsWhole}
 
--- all that was kept is flushed, answered and shown: `all` is the account of all records of a site that had begun in state s0 at place p, and
--- they led it to where it is
-pub record Rested (all : Account) (p : Place) (s0 : Replica) (site : SiteState) (many : ℕ) (before : Option (List ℕ)) (s : FileState) : Type 0 where
-  pub answered : HasAnswered all (told_by site (many + 1)) s.out (many + 1) s.kept
-  pub led : LedBy p s0 0 site many (records_in s.kept)
-  pub found : before ≡ Some []
-  pub sound : AreSound [] s.kept
-  pub ends : begun_after [] s.kept ≡ []
-  pub flushed : s.flushed ≡ s.kept
-  pub cut : s.cut ≡ []
-  pub begun : s.begun ≡ true
-  pub shown : s.shown ≡ s.out
+-- the records of `kept` are answered by `told`, and led the site, which had begun in state s at place p, to where it is: `all` is the account of
+-- all its records
+pub record HasAnswered (all : Account) (p : Place) (s : Replica) (a : Answering) (told kept : List ℕ) : Type 0 where
+  pub text : (ending : Ending) (more : List (List (List ℕ))) → all.text ending (input_records kept ++ more) ≡ told ++ coming a ending more
+  pub place : a.place ≡ p
+  pub state : a.state ≡ state_after p s (input_records kept)
+  pub count : a.answered ≡ length (input_records kept)
+  pub whole : IsWhole kept
+  pub idle : IsIdle a
 
--- a run that rested so has kept its files safe since, and rests so now if it met no fault
-abbrev pub LivesSafe : {T E : Type 0} → SiteState → Option (List ℕ) → ℕ → Option History → SiteState → Option (List ℕ) → ℕ → Option History → Result T E
-    → Type 0
-LivesSafe site before many old site2 before2 many2 new r = (all : Account) (p : Place) (s0 : Replica) (h : History) → old ≡ Some h
-    → Rested all p s0 site many before (now h)
-    → StaysSafe (says_by all p s0) (Some h) new × OnOk r ((h2 : History) → new ≡ Some h2 → Rested all p s0 site2 many2 before2 (now h2))
+-- all that was kept is answered again, `out` has the answers, which begin as those of before, and none of these are left
+pub record HasReplayed (all : Account) (p : Place) (s : Replica) (a : Answering) (kept old : List ℕ) (out : Option (List ℕ)) (len : ℕ) : Type 0 where
+  pub found : IsFrontOf old (all.text AtEnd (records_in kept))
+  pub told : List ℕ
+  pub answered : HasAnswered all p s a told (whole_lines kept)
+  pub before_is : a.before ≡ Some []
+  pub out_is : out ≡ Some told
+  pub length_is : len ≡ length (whole_lines kept)
 
--- it has met no fault
-abbrev pub Lives : SiteState → Option (List ℕ) → ℕ → Option History → SiteState → Option (List ℕ) → ℕ → Option History → Type 0
-Lives site before many old site2 before2 many2 new = (all : Account) (p : Place) (s0 : Replica) (h : History) → old ≡ Some h
-    → Rested all p s0 site many before (now h)
-    → StaysSafe (says_by all p s0) (Some h) new × ((h2 : History) → new ≡ Some h2 → Rested all p s0 site2 many2 before2 (now h2))
-
--- ---- from its start to its end
+-- all that was kept is flushed, answered and shown
+pub record Rested (all : Account) (p : Place) (s : Replica) (a : Answering) (f : FileState) : Type 0 where
+  pub answered : HasAnswered all p s a f.out f.kept
+  pub found : a.before ≡ Some []
+  pub live : a.is_live ≡ true
+  pub sound : AreSound [] f.kept
+  pub ends : begun_after [] f.kept ≡ []
+  pub flushed : f.flushed ≡ f.kept
+  pub cut : f.cut ≡ []
+  pub begun : f.begun ≡ true
+  pub shown : f.shown ≡ f.out
 
 -- what was kept is flushed, and nothing is shown: the files as a run finds them that answers `kept` again
 pub record Found (kept : List ℕ) (s : FileState) : Type 0 where

@@ -1,11 +1,11 @@
 //! Answers on their way to where those of before stand.
 
-ghost use Rattle.std.specs.Prelude.{◌≡◌, ◌≤◌, [], IfErr, IfOk, IfSome, MatchResult, OnErr, OnOk, false, length, take};
+ghost use Rattle.std.specs.Prelude.{◌≡◌, ◌≤◌, [], IfErr, IfOk, IfSome, MatchResult, OnOk, false, length, take};
 ghost use Rattle.std.specs.Io.KnownBytes.{IsAtEnd, Keeps};
+ghost use Rattle.rubis_keep.specs.Answering.{Puts};
 ghost use Rattle.rubis_keep.specs.Differences.{HasDifference, HasMore, MayDiffer};
 ghost use Rattle.rubis_keep.specs.Files.{IsFailure};
-ghost use Rattle.rubis_keep.specs.History.{HasTold, Tells, TellsFront, out_in};
-ghost use Rattle.rubis_keep.specs.Kept.{Puts, PutsFront};
+ghost use Rattle.rubis_keep.specs.History.{Tells, TellsFront};
 
 use crate::comparing::{compare, differ, ends_in};
 use crate::fault::KeepFault;
@@ -108,10 +108,7 @@ fn put<T: Wait, O: Read, F: SiteFiles>(
     text: &[u8],
     lines: &mut u64,
 ) -> Result<(), KeepFault>
-    ensures ok { OnOk result (Puts (O.remaining before.old) (O.remaining before.new) (out_in (F.history files.old)) (out_in (F.history files.new)) text.now) }
-    ensures err { OnErr result (PutsFront (O.remaining before.old) (O.remaining before.new) (out_in (F.history files.old))
-        (out_in (F.history files.new)) text.now) }
-    ensures told { HasTold is_live is_live (F.history files.old) (F.history files.new) result }
+    ensures put { Puts is_live (O.remaining before.old) (O.remaining before.new) (F.history files.old) (F.history files.new) text.now result }
     ensures differs { IfErr result (λ e. MayDiffer e (λ d. IfSome (O.remaining before.old) (λ old. HasDifference old text.now lines.old d))) }
 {
     let found = compare(alloc, before, text, *lines)?;
@@ -124,12 +121,10 @@ fn put<T: Wait, O: Read, F: SiteFiles>(
 impl<O: Read, F: SiteFiles> Answers<O, F> {
     /// Puts the text of a sink, which is empty then.
     pub(crate) fn put_sink<T: Wait>(&mut self, rt: &T, sink: &mut Sink) -> Result<(), KeepFault>
-        ensures ok { OnOk result (Puts (O.remaining self.old.before) (O.remaining self.new.before) (out_in (F.history self.old.files))
-            (out_in (F.history self.new.files)) sink.old) }
+        ensures put { Puts self.old.is_live (O.remaining self.old.before) (O.remaining self.new.before) (F.history self.old.files) (F.history self.new.files)
+            sink.old result }
         ensures sink { sink.new ≡ [] }
-        ensures err { OnErr result (PutsFront (O.remaining self.old.before) (O.remaining self.new.before) (out_in (F.history self.old.files))
-            (out_in (F.history self.new.files)) sink.old) }
-        ensures told { HasTold self.old.is_live self.new.is_live (F.history self.old.files) (F.history self.new.files) result }
+        ensures live { self.new.is_live ≡ self.old.is_live }
         ensures differs { IfErr result (λ e. MayDiffer e (λ d. IfSome (O.remaining self.old.before) (λ old. HasDifference old sink.old self.old.lines d))) }
     {
         let Answers {

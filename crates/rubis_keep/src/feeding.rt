@@ -1,12 +1,10 @@
 //! The answers of a site to records.
 
-ghost use Rattle.std.specs.Prelude.{◌∷◌, [], ℕ, List};
+ghost use Rattle.std.specs.Prelude.{◌∷◌, [], ℕ, List, OnOk};
 ghost use Rattle.rubis_engine.specs.Reading.{Gives};
 ghost use Rattle.rubis_engine.specs.Text.{input_records};
 ghost use Rattle.rubis_message.specs.Inputs.{FitsIn};
-ghost use Rattle.rubis_keep.specs.Fed.{FeedsInputs, FeedsRows};
-ghost use Rattle.rubis_keep.specs.Steps.{FeedsChunk, Finishes, IsIdle};
-ghost use Rattle.rubis_keep.specs.Whole.{IsWhole};
+ghost use Rattle.rubis_keep.specs.Answering.{Feeds, FeedsInputs, IsIdle, answering};
 
 use crate::answers::Answers;
 use crate::fault::KeepFault;
@@ -24,7 +22,9 @@ pub(crate) fn finish<T: Threads + Wait + Sync, O: Read, F: SiteFiles>(
     clerk: &mut Clerk<'_, T>,
     answers: &mut Answers<O, F>,
 ) -> Result<(), KeepFault>
-    ensures { Finishes O.remaining F.history clerk.old clerk.new answers.old answers.new result }
+    ensures fed { Feeds [] (answering O.remaining clerk.old answers.old) (answering O.remaining clerk.new answers.new)
+        (F.history answers.old.files) (F.history answers.new.files) result }
+    ensures idle { OnOk result (IsIdle (answering O.remaining clerk.new answers.new)) }
 {
     clerk.desk.flush(&mut clerk.reply)?;
     answers.put_sink(rt, &mut clerk.reply.sink)
@@ -40,7 +40,8 @@ fn feed_input<T: Threads + Wait + Sync, O: Read, F: SiteFiles>(
     answers: &mut Answers<O, F>,
 ) -> Result<(), KeepFault>
     requires fits { FitsIn clerk.old.desk.site.place.sites read }
-    ensures { FeedsInputs O.remaining F.history (read ∷ []) clerk.old clerk.new answers.old answers.new result }
+    ensures { FeedsInputs (read ∷ []) (answering O.remaining clerk.old answers.old) (answering O.remaining clerk.new answers.new)
+        (F.history answers.old.files) (F.history answers.new.files) result }
 {
     if clerk.answered >= clerk.limit {
         finish(rt, clerk, answers)?;
@@ -62,8 +63,8 @@ fn feed_records<T: Threads + Wait + Sync, R: Read, O: Read, F: SiteFiles>(
     clerk: &mut Clerk<'_, T>,
     answers: &mut Answers<O, F>,
 ) -> Result<(), KeepFault>
-    ensures { (rows : List (List (List ℕ))) → Gives R.remaining records.old rows
-        → FeedsRows O.remaining F.history rows clerk.old clerk.new answers.old answers.new result }
+    ensures { (rows : List (List (List ℕ))) → Gives R.remaining records.old rows → Feeds rows (answering O.remaining clerk.old answers.old)
+        (answering O.remaining clerk.new answers.new) (F.history answers.old.files) (F.history answers.new.files) result }
 {
     for _turn in rt.forever() {
         if !records.advance()? {
@@ -82,7 +83,8 @@ fn feed_text<T: Threads + Wait + Sync, O: Read, F: SiteFiles>(
     clerk: &mut Clerk<'_, T>,
     answers: &mut Answers<O, F>,
 ) -> Result<(), KeepFault>
-    ensures { FeedsRows O.remaining F.history (input_records text.now) clerk.old clerk.new answers.old answers.new result }
+    ensures { Feeds (input_records text.now) (answering O.remaining clerk.old answers.old) (answering O.remaining clerk.new answers.new)
+        (F.history answers.old.files) (F.history answers.new.files) result }
 {
     let mut records = Records::new(clerk.alloc, text);
     feed_records(rt, &mut records, clerk, answers)
@@ -95,8 +97,10 @@ pub(crate) fn feed_chunk<T: Threads + Wait + Sync, O: Read, F: SiteFiles>(
     clerk: &mut Clerk<'_, T>,
     answers: &mut Answers<O, F>,
 ) -> Result<(), KeepFault>
-    requires { IsWhole chunk.now × IsIdle clerk.old.desk.window.items clerk.old.reply.sink }
-    ensures { FeedsChunk O.remaining F.history chunk.now clerk.old clerk.new answers.old answers.new result }
+    requires { IsIdle (answering O.remaining clerk.old answers.old) }
+    ensures fed { Feeds (input_records chunk.now) (answering O.remaining clerk.old answers.old) (answering O.remaining clerk.new answers.new)
+        (F.history answers.old.files) (F.history answers.new.files) result }
+    ensures idle { OnOk result (IsIdle (answering O.remaining clerk.new answers.new)) }
 {
     // Between two questions no record stands, and a reader takes longer to make than most questions to answer.
     if chunk.is_empty() {

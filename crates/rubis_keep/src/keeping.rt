@@ -1,11 +1,10 @@
 //! The lines of an input, kept as they come.
 
-ghost use Rattle.std.specs.Prelude.{◌≡◌, [], ℕ, List, IfErr, IfOk, None, true};
+ghost use Rattle.std.specs.Prelude.{◌≡◌, [], IfErr, IfOk, None, true};
+ghost use Rattle.std.specs.Io.KnownBytes.{Consumes};
 ghost use Rattle.rubis_keep.specs.Files.{IsFailure};
 ghost use Rattle.rubis_keep.specs.History.{HasKept};
-ghost use Rattle.rubis_keep.specs.Kept.{KeptFront, TookQuestion, left_of};
-ghost use Rattle.rubis_keep.specs.Places.{begun_bytes};
-ghost use Rattle.rubis_keep.specs.Standing.{HasCome};
+ghost use Rattle.rubis_keep.specs.Turns.{CameOrEnded, Reads, left_of};
 
 use crate::fault::KeepFault;
 use crate::lines::LineCutter;
@@ -36,7 +35,7 @@ pub struct KeptLines {
 impl KeptLines {
     /// Before the first line of all.
     pub(crate) fn new(alloc: Global, unread: Unread) -> KeptLines
-        ensures none { (result.cutter ≡ []) × (result.kept ≡ 0) }
+        ensures none { (result.cutter ≡ []) × (result.kept ≡ 0) × (result.listed ≡ None) }
         ensures unread { result.unread ≡ unread }
     {
         KeptLines {
@@ -105,12 +104,10 @@ pub(crate) fn read_next<R: Read>(
     lines: &mut KeptLines,
     asks: bool,
 ) -> Result<Came, KeepFault>
-    ensures ok { IfOk result (λ came. (line : List ℕ) → lines.old.cutter ≡ begun_bytes line
-        → TookQuestion asks line (left_of lines.old.unread (R.remaining live.old)) (left_of lines.new.unread (R.remaining live.new)) lines.new.chunk.items
-        lines.new.cutter came.more came.is_asked lines.new.question.items) }
-    ensures came { IfOk result (λ came. HasCome asks came (left_of lines.old.unread (R.remaining live.old)) (left_of lines.new.unread (R.remaining live.new))) }
-    ensures err { IfErr result (λ e. IsFailure e × ((line : List ℕ) → lines.old.cutter ≡ begun_bytes line
-        → KeptFront asks line (left_of lines.old.unread (R.remaining live.old)) (left_of lines.new.unread (R.remaining live.new)) None None)) }
+    ensures reads { IfOk result (λ came. Reads asks came.is_asked (left_of lines.old.unread (R.remaining live.old)) (left_of lines.new.unread (R.remaining live.new))
+        lines.old.cutter lines.new.cutter lines.new.chunk.items lines.new.question.items) }
+    ensures end { IfOk result (λ came. CameOrEnded came.more (left_of lines.old.unread (R.remaining live.old)) (left_of lines.new.unread (R.remaining live.new))) }
+    ensures err { IfErr result (λ e. IsFailure e × Consumes (left_of lines.old.unread (R.remaining live.old)) (left_of lines.new.unread (R.remaining live.new)) []) }
     ensures others { (lines.new.kept ≡ lines.old.kept) × (lines.new.listed ≡ lines.old.listed) }
 {
     let KeptLines {

@@ -34,7 +34,7 @@ pub use limits::limits_of_questions_are_these_numbers;
 pub use lines::{Cut, LINE_MAX, LineCutter};
 pub use pages::{Listed, PAGE_MAX, Page};
 pub use questions::Question;
-pub use run::{Recording, run_kept};
+pub use run::Recording;
 pub use setup::Setup;
 pub use shortening::shorten;
 pub use site::{Clerk, keep_site};

@@ -1,11 +1,7 @@
-//! An input that a site keeps and answers piece by piece.
+//! An input that a site keeps and answers, turn by turn.
 
-ghost use Rattle.std.specs.Prelude.{◌≡◌, [], IfOk, OnOk, true};
-ghost use Rattle.std.specs.Io.KnownBytes.{IsAtEnd};
-ghost use Rattle.rubis_keep.specs.Asking.{owed};
-ghost use Rattle.rubis_keep.specs.Kept.{CameOrEnded, IsBegun, left_of};
-ghost use Rattle.rubis_keep.specs.Standing.{GoesOn, IsAtRest, standing};
-ghost use Rattle.rubis_keep.specs.Steps.{IsIdle};
+ghost use Rattle.std.specs.Prelude.{IfOk, MatchResult};
+ghost use Rattle.rubis_keep.specs.Turns.{Answered, Breaks, Broke, CameOrEnded, Ends, IsAtRest, Turn, left_of, standing};
 
 use crate::answers::Answers;
 use crate::fault::KeepFault;
@@ -29,11 +25,10 @@ fn next_lines<T: Threads + Wait + Sync, R: Read, O: Read, F: SiteFiles>(
     answers: &mut Answers<O, F>,
 ) -> Result<Came, KeepFault>
     requires { IsAtRest (standing R.remaining O.remaining F.history live.old lines.old clerk.old answers.old) }
-    ensures goes { GoesOn keeps (standing R.remaining O.remaining F.history live.old lines.old clerk.old answers.old)
-        (standing R.remaining O.remaining F.history live.new lines.new clerk.new answers.new)
-        (λ came. owed came.is_asked clerk.new.desk.site clerk.new.answered lines.new.question.items) result }
+    ensures answered { MatchResult result (λ came. Answered keeps (standing R.remaining O.remaining F.history live.old lines.old clerk.old answers.old) (standing R.remaining O.remaining F.history live.new lines.new clerk.new answers.new)
+        came.is_asked lines.new.question.items) (Broke keeps (standing R.remaining O.remaining F.history live.old lines.old clerk.old answers.old)
+        (left_of lines.new.unread (R.remaining live.new)) (F.history answers.new.files)) }
     ensures end { IfOk result (λ came. CameOrEnded came.more (left_of lines.old.unread (R.remaining live.old)) (left_of lines.new.unread (R.remaining live.new))) }
-    ensures question { IfOk result (λ came. came.is_asked ≡ true → keeps ≡ true) }
 {
     let came = read_next(live, lines, keeps)?;
     keep_chunk(rt, &mut answers.files, keeps, &lines.chunk)?;
@@ -58,9 +53,8 @@ fn next_piece<T: Threads + Wait + Sync, R: Read, O: Read, F: SiteFiles>(
     answers: &mut Answers<O, F>,
 ) -> Result<bool, KeepFault>
     requires { IsAtRest (standing R.remaining O.remaining F.history live.old lines.old clerk.old answers.old) }
-    ensures goes { GoesOn keeps (standing R.remaining O.remaining F.history live.old lines.old clerk.old answers.old)
-        (standing R.remaining O.remaining F.history live.new lines.new clerk.new answers.new)
-        (λ more. []) result }
+    ensures turn { MatchResult result (λ more. Turn keeps (standing R.remaining O.remaining F.history live.old lines.old clerk.old answers.old) (standing R.remaining O.remaining F.history live.new lines.new clerk.new answers.new))
+        (Broke keeps (standing R.remaining O.remaining F.history live.old lines.old clerk.old answers.old) (left_of lines.new.unread (R.remaining live.new)) (F.history answers.new.files)) }
     ensures end { IfOk result (λ more. CameOrEnded more (left_of lines.old.unread (R.remaining live.old)) (left_of lines.new.unread (R.remaining live.new))) }
 {
     let came = next_lines(rt, live, keeps, lines, clerk, answers)?;
@@ -84,14 +78,10 @@ pub(crate) fn answer_pieces<T: Threads + Wait + Sync, R: Read, O: Read, F: SiteF
     clerk: &mut Clerk<'_, T>,
     answers: &mut Answers<O, F>,
 ) -> Result<(), KeepFault>
-    requires idle { IsIdle clerk.old.desk.window.items clerk.old.reply.sink }
-    requires begun { IsBegun lines.old.cutter }
-    ensures goes { GoesOn keeps (standing R.remaining O.remaining F.history live.old lines.old clerk.old answers.old)
-        (standing R.remaining O.remaining F.history live.new lines.new clerk.new answers.new)
-        (λ over. []) result }
-    ensures end { OnOk result (IsAtEnd (left_of lines.new.unread (R.remaining live.new))) }
+    requires { IsAtRest (standing R.remaining O.remaining F.history live.old lines.old clerk.old answers.old) }
+    ensures { MatchResult result (λ over. Ends keeps (standing R.remaining O.remaining F.history live.old lines.old clerk.old answers.old) (standing R.remaining O.remaining F.history live.new lines.new clerk.new answers.new))
+        (Breaks keeps (standing R.remaining O.remaining F.history live.old lines.old clerk.old answers.old) (left_of lines.new.unread (R.remaining live.new)) (F.history answers.new.files)) }
 {
-    lines.listed = None;
     for _turn in rt.forever() {
         if !next_piece(rt, live, keeps, lines, clerk, answers)? {
             return Ok(());

@@ -1,11 +1,10 @@
 //! A question is answered on standard output.
 
 ghost use Rattle.std.specs.Prelude.{◌≡◌, ◌∷◌, [], IfErr, IfOk};
-ghost use Rattle.rubis_keep.specs.Asking.{RepliesIf};
+ghost use Rattle.rubis_keep.specs.Asking.{IsUnmoved, RepliesIf};
 ghost use Rattle.rubis_keep.specs.Files.{IsFailure};
 ghost use Rattle.rubis_keep.specs.Pages.{AreListed};
 ghost use Rattle.rubis_keep.specs.Questions.{reply_rows, reply_text};
-ghost use Rattle.rubis_keep.specs.Steps.{IsStill};
 
 use crate::answers::Answers;
 use crate::fault::KeepFault;
@@ -51,7 +50,9 @@ pub(crate) fn reply_if<T: Threads + Wait + Sync, O: Read, F: SiteFiles>(
     answers: &mut Answers<O, F>,
 ) -> Result<(), KeepFault>
     requires listed { AreListed clerk.old.desk.site.state listed.old }
-    ensures still { IsStill clerk.old clerk.new answers.old answers.new listed.new }
+    ensures same { IsUnmoved clerk.old clerk.new }
+    ensures before { (answers.new.before ≡ answers.old.before) × (answers.new.is_live ≡ answers.old.is_live) }
+    ensures listed { AreListed clerk.old.desk.site.state listed.new }
     ensures replied { RepliesIf is_asked (F.history answers.old.files) (F.history answers.new.files) result question.now
         (reply_text (reply_rows clerk.old.desk.site.place clerk.old.desk.site.state clerk.old.answered question.now)) }
     ensures fault { IfErr result IsFailure }

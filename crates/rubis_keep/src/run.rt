@@ -1,20 +1,14 @@
 //! A site that keeps its records, and goes on where an earlier run was cut off.
 
-ghost use Rattle.std.specs.Prelude.{◌≡◌, ◌∷◌, ◌⊎◌, [], ℕ, IfErr, IfSome, List, OnErr, OnOk, Some, false, map};
+ghost use Rattle.std.specs.Prelude.{◌≡◌, ◌∷◌, ◌⊎◌, [], IfErr, MatchResult, OnErr, OnOk, None, map};
 ghost use Rattle.std.specs.List.{range_with_len};
-ghost use Rattle.rubis_engine.specs.Accounts.Ending.{AtEnd};
-ghost use Rattle.rubis_script.specs.SiteRuns.{told_by};
 ghost use Rattle.rubis_model.specs.Settle.{counted};
-ghost use Rattle.rubis_keep.specs.Asking.{RepliesTo};
-ghost use Rattle.rubis_keep.specs.Faults.{EndsTruly};
+ghost use Rattle.rubis_keep.specs.Answering.{IsIdle, answering};
 ghost use Rattle.rubis_keep.specs.Files.{IsFailure, of_kept};
-ghost use Rattle.rubis_keep.specs.History.{Grows, HasDone, History, IsShown, StaysSafe, kept_in, now, out_in};
+ghost use Rattle.rubis_keep.specs.History.{Grows, HasDone};
 ghost use Rattle.rubis_keep.specs.History.Event.{Began, CutTo, Flushed, Settled};
-ghost use Rattle.rubis_keep.specs.Kept.{Ended, Lived, Opens};
-ghost use Rattle.rubis_keep.specs.Lives.{IsOpened};
-ghost use Rattle.rubis_keep.specs.Saying.{says_of};
-ghost use Rattle.rubis_keep.specs.Standing.{standing};
-ghost use Rattle.rubis_keep.specs.Steps.{HasReadNone, IsIdle, LivesOn, Replays, Runs};
+ghost use Rattle.rubis_keep.specs.Runs.{Fails, GoesOn, Replays, Runs, Unreplayed};
+ghost use Rattle.rubis_keep.specs.Turns.{IsAtRest, standing};
 
 use crate::answers::Answers;
 use crate::checking::check_kept;
@@ -55,10 +49,10 @@ fn replay<T: Threads + Wait + Sync, P: Read, O: Read, F: SiteFiles>(
     clerk: &mut Clerk<'_, T>,
     answers: &mut Answers<O, F>,
 ) -> Result<(), KeepFault>
-    requires idle { IsIdle clerk.old.desk.window.items clerk.old.reply.sink }
-    requires fresh { HasReadNone lines.old × (clerk.old.answered ≡ 0) }
-    ensures { Replays (P.remaining past.old) (standing P.remaining O.remaining F.history past.old lines.old clerk.old answers.old)
-        (standing P.remaining O.remaining F.history past.new lines.new clerk.new answers.new) result }
+    requires { IsAtRest (standing P.remaining O.remaining F.history past.old lines.old clerk.old answers.old) }
+    ensures { MatchResult result (λ done. Replays (standing P.remaining O.remaining F.history past.old lines.old clerk.old answers.old)
+        (standing P.remaining O.remaining F.history past.new lines.new clerk.new answers.new))
+        (Unreplayed (standing P.remaining O.remaining F.history past.old lines.old clerk.old answers.old) (F.history answers.new.files)) }
 {
     match answer_pieces(rt, past, false, lines, clerk, answers) {
         Ok(()) => answers.check_end(),
@@ -115,9 +109,11 @@ fn go_on<T: Threads + Wait + Sync, O: Read, F: SiteFiles, R: Read>(
     clerk: &mut Clerk<'_, T>,
     answers: &mut Answers<O, F>,
 ) -> Result<(), KeepFault>
-    requires { IsIdle clerk.old.desk.window.items clerk.old.reply.sink }
-    ensures { LivesOn (R.remaining live.old) (R.remaining live.new) (standing R.remaining O.remaining F.history live.old lines.old clerk.old answers.old)
-        (F.history answers.new.files) result }
+    requires { IsAtRest (standing R.remaining O.remaining F.history live.old lines.old clerk.old answers.old) }
+    ensures { MatchResult result (λ done. GoesOn (standing R.remaining O.remaining F.history live.old lines.old clerk.old answers.old) (R.remaining live.old)
+        (R.remaining live.new) (F.history answers.new.files))
+        (Fails (standing R.remaining O.remaining F.history live.old lines.old clerk.old answers.old) (R.remaining live.old)
+        (R.remaining live.new) (F.history answers.new.files)) }
 {
     cut_and_flush(&mut answers.files, lines.kept)?;
     lines.cutter = LineCutter::new(clerk.alloc);
@@ -136,8 +132,9 @@ fn run_lines<T: Threads + Wait + Sync, C: Read, P: Read, O: Read, F: SiteFiles, 
     clerk: &mut Clerk<'_, T>,
     answers: &mut Answers<O, F>,
 ) -> Result<(), KeepFault>
-    requires { IsIdle clerk.old.desk.window.items clerk.old.reply.sink × HasReadNone lines.old × (clerk.old.answered ≡ 0) }
-    ensures { Runs clerk.old.desk.site clerk.old.limit (C.remaining recording.old.first) (P.remaining recording.old.past) (O.remaining answers.old.before) answers.old.is_live
+    requires none { (lines.old.cutter ≡ []) × (lines.old.unread ≡ []) × (lines.old.kept ≡ 0) × (lines.old.listed ≡ None) }
+    requires idle { IsIdle (answering O.remaining clerk.old answers.old) }
+    ensures { Runs (C.remaining recording.old.first) (P.remaining recording.old.past) (answering O.remaining clerk.old answers.old)
         (R.remaining live.old) (R.remaining live.new) (F.history answers.old.files) (F.history answers.new.files) result }
 {
     check_kept(rt, clerk.alloc, &mut recording.first)?;
@@ -146,67 +143,21 @@ fn run_lines<T: Threads + Wait + Sync, C: Read, P: Read, O: Read, F: SiteFiles, 
     go_on(rt, live, lines, clerk, answers)
 }
 
-// The run, from its first line on.
-fn run_alone<T: Threads + Wait + Sync, C: Read, P: Read, O: Read, F: SiteFiles, R: Read>(
+/// Answers what was kept before, as far as it isn't answered yet, and then keeps and answers an input to its end: each line is
+/// kept before it is answered. A line of the input that begins with '?' is a question: it isn't kept and changes nothing, and its
+/// answer stands on standard output alone, behind those to all records before.
+pub(crate) fn run_kept<T: Threads + Wait + Sync, C: Read, P: Read, O: Read, F: SiteFiles, R: Read>(
     rt: &T,
     recording: &mut Recording<C, P>,
     live: &mut R,
     clerk: &mut Clerk<'_, T>,
     answers: &mut Answers<O, F>,
 ) -> Result<(), KeepFault>
-    requires idle { IsIdle clerk.old.desk.window.items clerk.old.reply.sink }
-    requires answered { clerk.old.answered ≡ 0 }
-    ensures { Runs clerk.old.desk.site clerk.old.limit (C.remaining recording.old.first) (P.remaining recording.old.past) (O.remaining answers.old.before) answers.old.is_live
+    requires { IsIdle (answering O.remaining clerk.old answers.old) }
+    ensures { Runs (C.remaining recording.old.first) (P.remaining recording.old.past) (answering O.remaining clerk.old answers.old)
         (R.remaining live.old) (R.remaining live.new) (F.history answers.old.files) (F.history answers.new.files) result }
 {
     let unread = Unread::new(clerk.alloc, PIECE)?;
     let mut lines = KeptLines::new(clerk.alloc, unread);
     run_lines(rt, recording, live, &mut lines, clerk, answers)
-}
-
-/// Answers what was kept before, as far as it isn't answered yet, and then keeps and answers an input to its end: each line is
-/// kept before it is answered. A line of the input that begins with '?' is a question: it isn't kept and changes nothing, and its
-/// answer stands on standard output alone, behind those to all records before.
-///
-/// # Errors
-///
-/// `Edited` if what was kept has a line that isn't kept as it is, and `Differs` if the answers of before aren't those to what was
-/// kept, or are more: nothing was changed then. `ReadKept`, `ReadOut`, `ReadInput`, `WriteKept` or `WriteOut` if a file failed,
-/// `Memory` if memory ran out, and `TooLong` if there are more records than the clerk answers. Whatever the fault, the log is
-/// lines that are kept as they are, the last maybe torn, and `out` is the beginning of the answers to them; or both are as they
-/// were. So the next run goes on from there.
-pub fn run_kept<T: Threads + Wait + Sync, C: Read, P: Read, O: Read, F: SiteFiles, R: Read>(
-    rt: &T,
-    recording: &mut Recording<C, P>,
-    live: &mut R,
-    clerk: &mut Clerk<'_, T>,
-    answers: &mut Answers<O, F>,
-) -> Result<(), KeepFault>
-    requires window { clerk.old.desk.window.items ≡ [] }
-    requires empty { clerk.old.reply.sink ≡ [] }
-    requires answered { clerk.old.answered ≡ 0 }
-    ensures ok { OnOk result ((kept old : List ℕ) → Opens kept old (C.remaining recording.old.first) (P.remaining recording.old.past)
-        (kept_in (F.history answers.old.files)) (O.remaining answers.old.before) (out_in (F.history answers.old.files))
-        → Lived (told_by clerk.old.desk.site 1) kept old (R.remaining live.old) (R.remaining live.new)
-        (kept_in (F.history answers.new.files)) (out_in (F.history answers.new.files))) }
-    ensures err { OnErr result ((kept old : List ℕ) → Opens kept old (C.remaining recording.old.first) (P.remaining recording.old.past)
-        (kept_in (F.history answers.old.files)) (O.remaining answers.old.before) (out_in (F.history answers.old.files))
-        → Ended (told_by clerk.old.desk.site 1) kept old (R.remaining live.old) (R.remaining live.new)
-        (kept_in (F.history answers.new.files)) (out_in (F.history answers.new.files))) }
-    ensures safe { answers.old.is_live ≡ false → (h : History) (kept old : List ℕ) → F.history answers.old.files ≡ Some h
-        → Opens kept old (C.remaining recording.old.first) (P.remaining recording.old.past) (kept_in (Some h)) (O.remaining answers.old.before) (out_in (Some h))
-        → IsOpened ((told_by clerk.old.desk.site 1).text AtEnd) (now h)
-        → StaysSafe (says_of clerk.old.desk.site.place clerk.old.desk.site.state) (Some h) (F.history answers.new.files) }
-    ensures shown { answers.old.is_live ≡ false → (h : History) (kept old : List ℕ) → F.history answers.old.files ≡ Some h
-        → Opens kept old (C.remaining recording.old.first) (P.remaining recording.old.past) (kept_in (Some h)) (O.remaining answers.old.before) (out_in (Some h))
-        → IsOpened ((told_by clerk.old.desk.site 1).text AtEnd) (now h) → OnOk result (IfSome (F.history answers.new.files) (λ h2. IsShown (now h2))) }
-    ensures asked { (kept old : List ℕ) → Opens kept old (C.remaining recording.old.first) (P.remaining recording.old.past)
-        (kept_in (F.history answers.old.files)) (O.remaining answers.old.before) (out_in (F.history answers.old.files))
-        → RepliesTo clerk.old.desk.site.place clerk.old.desk.site.state kept (R.remaining live.old) (R.remaining live.new) (F.history answers.old.files)
-        (F.history answers.new.files) result }
-    ensures fault { (kept old : List ℕ) → Opens kept old (C.remaining recording.old.first) (P.remaining recording.old.past)
-        (kept_in (F.history answers.old.files)) (O.remaining answers.old.before) (out_in (F.history answers.old.files))
-        → EndsTruly clerk.old.limit (told_by clerk.old.desk.site 1) kept old (R.remaining live.old) (R.remaining live.new) result }
-{
-    run_alone(rt, recording, live, clerk, answers)
 }

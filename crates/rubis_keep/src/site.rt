@@ -56,12 +56,18 @@ impl<'a, T> Clerk<'a, T> {
     }
 }
 
-/// Runs a site that keeps its records, as `run_kept`, up to `limit` of them, for a program that ends with it: the site isn't
-/// taken apart, since the process gives its memory back at once.
+/// Runs a site that keeps its records. Answers what was kept before, as far as it isn't answered yet, and then keeps and answers an input to
+/// its end, up to `limit` records in all: each line is kept before it is answered. A line of the input that begins with '?' is a question: it
+/// isn't kept and changes nothing, and its answer stands on standard output alone, behind those to all records before. It is for a program
+/// that ends with it: the site isn't taken apart, since the process gives its memory back at once.
 ///
 /// # Errors
 ///
-/// Those of `run_kept`.
+/// `Edited` if what was kept has a line that isn't kept as it is, and `Differs` if the answers of before aren't those to what was
+/// kept, or are more: nothing was changed then. `ReadKept`, `ReadOut`, `ReadInput`, `WriteKept` or `WriteOut` if a file failed,
+/// `Show` if standard output did, `Memory` if memory ran out, and `TooLong` if there are more than `limit` records. Whatever the fault, the
+/// log is lines that are kept as they are, the last maybe torn, and `out` is the beginning of the answers to them; or both are as they
+/// were. So the next run goes on from there.
 pub fn keep_site<T: Threads + Wait + Sync, C: Read, P: Read, O: Read, F: SiteFiles, R: Read>(
     rt: &T,
     recording: &mut Recording<C, P>,

@@ -3,7 +3,7 @@
 ghost use Rattle.std.specs.Prelude.{◌≡◌, ◌<◌, ◌≤◌, [], IfErr, IfOk, drop, false, length, true};
 ghost use Rattle.std.specs.Io.KnownBytes.{Consumes, IsAtEnd};
 ghost use Rattle.rubis_keep.specs.Files.{IsFailure};
-ghost use Rattle.rubis_keep.specs.Kept.{left_of};
+ghost use Rattle.rubis_keep.specs.Turns.{left_of};
 
 use crate::fault::KeepFault;
 use rubis_engine::read_through_signals;

@@ -5,7 +5,7 @@ import re
 import unittest
 
 from simulation import model
-from simulation.model import UNREACHED, WENT_ON, Slot
+from simulation.model import UNREACHED, Slot
 from simulation.world import Rules, World
 
 READ = pathlib.Path(__file__).resolve().parents[3] / "crates/rubis_decider/stdin"      # what the program that decides reads in its stored run
@@ -28,13 +28,13 @@ class Written(unittest.TestCase):
         self.slot.packets.append(MESSAGE)
         self.steps.list.clear()
 
-    def test_a_late_packet_is_appended_by_a_folder_of_its_own(self) -> None:
+    def test_a_packet_that_comes_late_was_under_way(self) -> None:
+        text = SAID.split(b"\n")[1][5:]
+        self.steps.sends(self.folder.machine, [text])
         self.steps.supervisor_ended(self.folder, None)
         self.steps.gone(self.folder)
-        self.steps.appends(self.folder.machine, SAID.split(b"\n")[1][5:])
-        made = self.steps.slots[-1].number
-        self.assertEqual(self.steps.lines()[1:], ["IsKilled,0", f"Rebuilds,{made},m:0:1:1", "IsLost,0", f"Starts,{made}", f"Appends,{made},m:0:1:1",
-                                                  f"IsKilled,{made}", f"IsLost,{made}"])
+        self.steps.appends(self.folder.machine, text)
+        self.assertEqual(self.steps.lines()[1:], ["Sends,0,0,1,1", "IsKilled,0", "IsLost,0", "Arrives,0,1,1"])
 
     def test_a_site_that_opens_behind_a_stopped_folder_is_known(self) -> None:
         made = self.folder.copied(self.folder.machine)
@@ -61,13 +61,16 @@ class Written(unittest.TestCase):
         self.assertEqual(self.steps.lines()[1:], ["IsKilled,0", "LosesEnd,0,0", "Starts,0"])
         self.assertEqual(self.slot.packets, [])
 
-    def test_what_only_a_stored_copy_has_goes_on_with_the_process(self) -> None:
-        """A standby takes the place of a site, of whose last message there is a copy that is put back later, if ever."""
-        stored, made = self.folder.copied(self.folder.machine), self.folder.copied(self.folder.machine)
-        self.steps.copied(self.folder, stored, is_stored=True)
+    def test_a_standby_takes_over_from_a_folder_that_goes_on(self) -> None:
+        made = self.folder.copied(self.folder.machine)
         made.packets = []
-        self.steps.takes_over(made, 0, [self.folder])
-        self.assertEqual(self.steps.gone_on, {MESSAGE})
+        self.steps.yields(0, True)
+        self.steps.takes_over(made, 0)
+        self.steps.starts(made, "2 b")
+        self.steps.opens(made)
+        number = made.slot.number if made.slot else 0
+        self.assertEqual(self.steps.lines()[-2:], [f"Starts,{number}", f"TakesOver,{number}"])
+        self.assertTrue(self.slot.is_open)
 
     def test_what_was_passed_before_the_token_came_is_no_news(self) -> None:
         slot = Slot(0, 0)
@@ -92,10 +95,10 @@ class WentOn(unittest.TestCase):
         self.steps._open_again(self.slot)
         self.assertEqual((self.steps.lines()[1:], self.steps.none()), (["Closes,5", "Opens,0"], {}))
 
-    def test_where_both_send_it_is_known(self) -> None:
+    def test_where_both_send_it_goes_on(self) -> None:
         self.other.packets.append(MESSAGE)
         self.steps._open_again(self.slot)
-        self.assertEqual((self.steps.lines()[1:], self.steps.none()), (["Closes,5", "Opens,0"], {2: WENT_ON}))
+        self.assertEqual((self.steps.lines()[1:], self.steps.none()), (["GoesOn,0"], {}))
 
     def test_one_that_is_open_opens_once(self) -> None:
         self.steps._open_again(self.other)

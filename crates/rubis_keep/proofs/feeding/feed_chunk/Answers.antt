@@ -1,24 +1,17 @@
-use Rattle.std.proofs.Common.{◌∙◌, [], refl, sym}
-use Rattle.rubis_keep.proofs.EmptyFacts.{led-nowhere, no-bytes, rest-stays}
-use Rattle.rubis_keep.proofs.FedFacts.{chunk-done, chunk-failed}
-use Rattle.rubis_keep.proofs.HistoryFacts.{tells-none}
+use Rattle.std.proofs.Common.{[], sym, ◌∙◌}
+use Rattle.rubis_engine.specs.Text.{input_records}
+use Rattle.rubis_keep.proofs.EachFacts.{ok-of-err}
+use Rattle.rubis_keep.proofs.FedFacts.{feeds-empty, feeds-failed, feeds-on, no-more}
 use Rattle.rubis_keep.proofs.feeding.feed_chunk.Goals as goal
 
-pub returns-then-is_empty : goal.returns-then-is_empty
-returns-then-is_empty g c =
-    let none = no-bytes c.args.chunk.now (sym c.is_empty.ensures ∙ c.if-is_empty.true) in
-    record {
-      ok = rest-stays _ _ _ _ none;
-      idle = c.requires.1;
-      err = tt;
-      told = (refl, ([], tells-none _ _));
-      leads = led-nowhere c.args.clerk.now.desk.site _ none;
-      fault = record { same = refl; within = λ l. l };
-    }
+pub returns-then-is_empty-clause-fed : goal.returns-then-is_empty-clause-fed
+returns-then-is_empty-clause-fed g c = feeds-empty c.args.chunk.now _ _ (sym c.is_empty.ensures ∙ c.if-is_empty.true)
 
-pub returns-in_err-feed_text : goal.returns-in_err-feed_text
-returns-in_err-feed_text g c =
-    chunk-failed _ c.from_residual.result c.from_residual.ensures.0 c.from_residual.ensures.1 c.requires.1 c.requires.0 c.in_err-feed_text.ensures
+pub returns-in_err-feed_text-clause-fed : goal.returns-in_err-feed_text-clause-fed
+returns-in_err-feed_text-clause-fed g c = feeds-failed _ _ _ c.from_residual.result c.from_residual.ensures.1 c.in_err-feed_text.ensures
 
-pub returns : goal.returns
-returns g c = chunk-done c.requires.1 c.requires.0 c.in_ok-feed_text.ensures c.finish.ensures
+pub returns-in_err-feed_text-clause-idle : goal.returns-in_err-feed_text-clause-idle
+returns-in_err-feed_text-clause-idle g c = ok-of-err _ c.from_residual.result c.from_residual.ensures.0
+
+pub returns-clause-fed : goal.returns-clause-fed
+returns-clause-fed g c = no-more (input_records c.args.chunk.now) _ _ _ _ c.finish.result (feeds-on [] _ _ _ _ c.finish.result c.in_ok-feed_text.ensures c.finish.ensures.fed)

@@ -1,0 +1,584 @@
+-- What follows of a run, from its start to its end, for whoever calls it.
+use Rattle.std.proofs.Common.{◌≡◌, ◌∙◌, ◌≤◌, map, ◌+◌, ◌⊎◌, inl, inr, ◌++◌, ◌∷◌, [], ℕ, Bool, true, false, List, Option, Some, None, IfSome, Result, Ok, Err, length, suc, take, zero}
+use Rattle.std.proofs.Common.{refl, sym, ap, subst, arith}
+use Rattle.std.proofs.lemmas.List.{append-nil}
+use lib.Seq.{take-nil}
+use Rattle.std.specs.Prelude.{MatchResult, OnErr, OnOk}
+use Rattle.std.specs.Io.KnownBytes.{Consumes, IsAtEnd}
+use Rattle.rubis_model.specs.Site.{Place, Replica}
+use Rattle.rubis_engine.specs.Accounts.{Account}
+use Rattle.rubis_engine.specs.Accounts.Ending.{AtEnd}
+use Rattle.rubis_engine.specs.Text.{input_records}
+use Rattle.rubis_script.specs.SiteRuns.{site_account}
+use Rattle.rubis_keep.specs.Answering.{Answering, IsIdle, answering}
+use Rattle.rubis_keep.specs.Asking.{AreFirst, RepliesTo, replied_in, replies, reply_to}
+use Rattle.rubis_keep.specs.Differences.{HasMore, MayDiffer}
+use Rattle.rubis_keep.specs.Faults.{EndsTruly, IsTrueFault}
+use Rattle.rubis_keep.specs.Files.{IsFailure, MayBeEdited}
+use Rattle.rubis_keep.specs.History.{Event, FileState, Grows, History, IsShown, StaysSafe, Tells, after_all, kept_in, now, out_in, records_in}
+use Rattle.rubis_keep.specs.History.Event.{Flushed}
+use Rattle.rubis_keep.specs.Kept.{Ended, IsFrontOf, Lived, Opens}
+use Rattle.rubis_keep.specs.Lines.{AreSound, are_sound, asked_after, begun_after, kept_after, kept_of, whole_lines}
+use Rattle.rubis_keep.specs.Lives.{Found, HasReplayed, IsOpened, Rested}
+use Rattle.rubis_keep.specs.Runs.{Begun, Fails, GoesOn, Replays, Runs, Starts, Unreplayed, beginning, starting}
+use Rattle.rubis_keep.specs.Saying.{says_by, says_of}
+use Rattle.rubis_keep.specs.Turns.{IsAtRest, Standing, last, left_of}
+use Rattle.rubis_keep.specs.declared.answers.Answers.{Answers}
+use Rattle.rubis_keep.specs.declared.fault.KeepFault.{KeepFault}
+use Rattle.rubis_keep.specs.declared.fault.KeepFault.TheVariants as fault
+use Rattle.rubis_keep.specs.declared.site.Clerk.{Clerk}
+use Rattle.rubis_keep.proofs.AskFacts.{IsSilent, replied-append, silent-more, tells-silent}
+use Rattle.rubis_keep.proofs.FileFacts.{consumes-none, some-is}
+use Rattle.rubis_keep.proofs.HistoryFacts.{grows-more, grows-none, now-more, stays-more, still-flushed, still-none, tells-log, tells-out}
+use Rattle.rubis_keep.proofs.LifeFacts.{IsFresh, IsReady, account_of, answered-front, answered-more, answered-text, ended-live, ended-replay, ended-same, ended-unread, lived, read-all, read-too}
+use Rattle.rubis_keep.proofs.LifeFacts.{replay-begins, replayed, same-known, true-left, true-live, true-replay}
+use Rattle.rubis_keep.proofs.ReplyFacts.{Asks, Stood, asks-both, first-more, turns-ask, turns-ask-first}
+use Rattle.rubis_keep.proofs.SafeFacts.{broke-safe, turns-safe}
+use Rattle.rubis_keep.proofs.SoundFacts.{whole-sound, whole-whole}
+use Rattle.rubis_keep.proofs.StageFacts.{starting-rests}
+use Rattle.rubis_keep.proofs.StartFacts.{cut-kept, flushed-found, flushed-safe, replay-found, safe-take, starts-safe, told-within}
+use Rattle.rubis_keep.proofs.TurnFacts.{Fell, Went, turns-fell, turns-went, went-fell}
+
+-- ---- a history that is known
+
+known : {kept : List ℕ} (a : Option History) → kept_in a ≡ Some kept → (h : History) × (a ≡ Some h) × ((now h).kept ≡ kept)
+known None e = absurd (cc e)
+known (Some h) e = (h, refl, cc e)
+
+grown : (h : History) (b : Option History) (es : List Event) → Grows (Some h) b es → (h2 : History) × (b ≡ Some h2) × (now h2 ≡ after_all (now h) es)
+grown h None es g = absurd g
+grown h (Some h2) es g = (h2, refl, now-more h es g)
+
+-- ---- its start
+
+-- the site begins with nothing done
+pub record IsNew (a : Answering) : Type 0 where
+  pub idle : IsIdle a
+  pub none : a.answered ≡ 0
+
+fresh-start : {kept old : List ℕ} {first past : Option (List ℕ)} {a : Answering} (h mid : Option History) → IsNew a
+    → Opens kept old first past (kept_in h) a.before (out_in h) → Starts first h mid → IsFresh kept old (starting a past mid)
+fresh-start h mid fresh o s = record {
+  input = o.past_is;
+  before = o.before_is;
+  out = same-known (out_in h) (out_in mid) o.out_is (still-flushed h mid s.flushed).1;
+  begun = refl;
+  len = refl;
+  answered = fresh.none;
+  idle = fresh.idle;
+  sound = rw o.first_is at s.sound;
+}
+
+log-start : {kept old : List ℕ} {first past before : Option (List ℕ)} (h mid : Option History) → Opens kept old first past (kept_in h) before (out_in h)
+    → Starts first h mid → kept_in mid ≡ Some kept
+log-start h mid o s = same-known (kept_in h) (kept_in mid) o.log_is (still-flushed h mid s.flushed).0
+
+-- ---- what was kept is answered again
+
+-- a run that answered it has come to stand there
+record Again (x : Standing) (kept old : List ℕ) (y : Standing) : Type 0 where
+  replayed : HasReplayed (account_of x) x.at.place x.at.state y.at kept old (out_in y.history) y.kept
+  log : kept_in y.history ≡ Some kept
+  sound : AreSound [] kept
+  added : List ℕ
+  told : Tells x.at.is_live x.history y.history added []
+  limit : y.at.limit ≡ x.at.limit
+  within : x.at.answered ≤ x.at.limit → y.at.answered ≤ x.at.limit
+
+again : {x y : Standing} {kept old : List ℕ} → IsAtRest x → IsFresh kept old x → kept_in x.history ≡ Some kept → Replays x y → Again x kept old y
+again {x} {y} {kept} {old} rests fresh log r =
+    let e = r.ends in
+    let w = subst (λ (s : Standing). Went false x s) (sym e.last_is) (turns-went x e.turns rests e.are).0 in
+    let z = r.end in
+    rw r.is (record {
+      replayed = replayed r.before fresh w e.rests.idle e.end r.same r.none_left;
+      log = same-known (kept_in x.history) (kept_in z.history) log (tells-log true x.at.is_live x.history z.history (w.told refl));
+      sound = fresh.sound;
+      added = w.added;
+      told = w.told refl;
+      limit = w.fed.limit;
+      within = λ l. let few = w.fed.within l in few;
+    })
+
+again-start : {kept old : List ℕ} {first past : Option (List ℕ)} {a : Answering} (h mid : Option History) {y : Standing} → IsNew a
+    → Opens kept old first past (kept_in h) a.before (out_in h) → Starts first h mid → Replays (starting a past mid) y → Again (starting a past mid) kept old y
+again-start {past = past} {a = a} h mid fresh o s r =
+    again (starting-rests a past mid fresh.idle) (fresh-start h mid fresh o s) (log-start h mid o s) r
+
+-- and then `kept,..` was shown
+ready : {x y z : Standing} {kept old : List ℕ} {input : Option (List ℕ)} → (a : Again x kept old y) → Begun y input z
+    → IsReady (account_of x) x.at.place x.at.state kept a.replayed.told input z
+ready {x} {y} {z} {kept} {old} {input} a b =
+    let k = known y.history a.log in
+    let g = grown k.0 b.history (beginning y) (rw k.1 at b.happened) in
+    let r = a.replayed in
+    rw b.is (record {
+      answered = record {
+        text = r.answered.text;
+        place = r.answered.place;
+        state = r.answered.state;
+        count = r.answered.count;
+        whole = r.answered.whole;
+        idle = record { window = r.answered.idle.window; empty = r.answered.idle.empty };
+      };
+      before = r.before_is;
+      input_is = refl;
+      log = ap kept_in g.1 ∙ ap (λ k. Some k) (ap (λ s. s.kept) g.2 ∙ ap (take y.kept) k.2 ∙ cut-kept kept r.length_is);
+      out = ap out_in g.1 ∙ ap (λ s. Some s.out) g.2 ∙ sym (ap out_in k.1) ∙ r.out_is;
+      begun = refl;
+      sound = a.sound;
+    })
+
+-- ---- what it leaves
+
+run-lived : {x y : Standing} {kept old : List ℕ} {input : Option (List ℕ)} (input2 : Option (List ℕ)) (new : Option History) → Again x kept old y
+    → GoesOn y input input2 new → Lived (account_of x) kept old input input2 (kept_in new) (out_in new)
+run-lived {x} {y} {kept} {old} {input} input2 new a (z, end, unread, b, e, is, happened) =
+    let w = subst (λ (s : Standing). Went true z s) (sym e.last_is) (turns-went z e.turns b.rests e.are).0 in
+    subst (λ h. Lived (account_of x) kept old input input2 (kept_in h) (out_in h)) happened
+    (lived old input2 unread (ready a b) w e.rests.idle is e.end a.replayed.found)
+
+-- some first events of the beginning cut the line that isn't whole off, or are none
+cut-first : (n : ℕ) (y : Standing) (s : FileState) → (n ≡ 0) ⊎ (((after_all s (take n (beginning y))).kept ≡ take y.kept s.kept) × ((after_all s (take n (beginning y))).out ≡ s.out))
+cut-first zero y s = inl refl
+cut-first (suc zero) y s = inr (refl, refl)
+cut-first (suc (suc zero)) y s = inr (refl, refl)
+cut-first (suc (suc (suc zero))) y s = inr (refl, refl)
+cut-first (suc (suc (suc (suc n)))) y s =
+    let all = ap (after_all (after_all s (beginning y))) (take-nil n) in
+    inr (ap (λ (f : FileState). f.kept) all, ap (λ (f : FileState). f.out) all)
+
+-- a fault came once all was answered again, before the first new record
+run-uncut : {x y : Standing} {kept old : List ℕ} (input : Option (List ℕ)) (new : Option History) (n : ℕ) → Again x kept old y
+    → Grows y.history new (take n (beginning y)) → Ended (account_of x) kept old input input (kept_in new) (out_in new)
+run-uncut {x} {y} {kept} {old} input new n a g =
+    let k = known y.history a.log in
+    let h = grown k.0 new (take n (beginning y)) (rw k.1 at g) in
+    let out : Some (now k.0).out ≡ Some a.replayed.told = sym (ap out_in k.1) ∙ a.replayed.out_is in
+    go h.0 h.1 k.0 k.2 out h.2 (cut-first n y (now k.0))
+  where
+    begins : (more : List (List (List ℕ))) → IsFrontOf a.replayed.told ((account_of x).text AtEnd (input_records (whole_lines kept) ++ more))
+    begins = answered-front a.replayed.answered
+
+    go : (h2 : History) → new ≡ Some h2 → (h : History) → (now h).kept ≡ kept → Some (now h).out ≡ Some a.replayed.told
+        → now h2 ≡ after_all (now h) (take n (beginning y))
+        → (n ≡ 0) ⊎ (((after_all (now h) (take n (beginning y))).kept ≡ take y.kept (now h).kept) × ((after_all (now h) (take n (beginning y))).out ≡ (now h).out))
+        → Ended (account_of x) kept old input input (kept_in new) (out_in new)
+    go h2 is h kept_is out state (inl none) =
+        let same = state ∙ ap (λ m. after_all (now h) (take m (beginning y))) none in
+        subst (λ l. Ended (account_of x) kept old input input l (out_in new))
+        (sym (ap kept_in is ∙ ap (λ (f : FileState). Some f.kept) same ∙ ap (λ t. Some t) kept_is))
+        (ended-same (account_of x) kept old a.replayed.told input (ap out_in is ∙ ap (λ (f : FileState). Some f.out) same ∙ out)
+        (inr (a.sound, a.replayed.found, begins)))
+    go h2 is h kept_is out state (inr (log, same)) = record {
+      kept = whole_lines kept;
+      told = a.replayed.told;
+      bytes = [];
+      log_is = ap kept_in is ∙ ap (λ (f : FileState). Some f.kept) state ∙ ap (λ t. Some t) (log ∙ ap (take y.kept) kept_is ∙ cut-kept kept a.replayed.length_is);
+      out_is = ap out_in is ∙ ap (λ (f : FileState). Some f.out) state ∙ ap (λ t. Some t) same ∙ out;
+      taken = consumes-none input;
+      sound = λ s. whole-sound kept s;
+      grows = inr (([], append-nil (whole_lines kept)), ([], refl));
+      answers = inr (
+        a.sound,
+        a.replayed.found,
+        λ more. subst (λ k. IsFrontOf a.replayed.told ((account_of x).text AtEnd (input_records k ++ more))) (sym (whole-whole kept a.sound)) (begins more),
+      );
+    }
+
+-- what was kept couldn't be answered again
+unreplayed-fell : {x : Standing} (new : Option History) (e : KeepFault) → IsAtRest x → Unreplayed x new e
+    → (past2 : Option (List ℕ)) × (met : KeepFault) × Fell false x past2 new met
+unreplayed-fell {x} new e rests (inl (met, past2, b, is)) = (past2, met, turns-fell x b.turns past2 new rests b.are b.broke)
+unreplayed-fell {x} new e rests (inr (z, ends, happened, differs)) =
+    let w = subst (λ (s : Standing). Went false x s) (sym ends.last_is) (turns-went x ends.turns rests ends.are).0 in (
+      z.input,
+      fault.Memory,
+      subst (λ h. Fell false x z.input h fault.Memory) (sym happened)
+          (went-fell z.input z.history [] [] w (consumes-none z.input) (λ line b. ([], refl)) tt
+          (still-none z.history z.history (grows-none z.history)).1 (λ off. grows-none z.history) tt),
+    )
+
+run-unreplayed : {x : Standing} {kept old : List ℕ} (input : Option (List ℕ)) (new : Option History) (e : KeepFault) → IsAtRest x → IsFresh kept old x
+    → kept_in x.history ≡ Some kept → Unreplayed x new e → Ended (account_of x) kept old input input (kept_in new) (out_in new)
+run-unreplayed {x} {kept} {old} input new e rests fresh log u =
+    let f = (unreplayed-fell new e rests u).2 in
+    let told = f.told refl in
+    subst (λ l. Ended (account_of x) kept old input input l (out_in new))
+    (sym (same-known (kept_in x.history) (kept_in new) log (tells-log true x.at.is_live x.history new told.1))) (ended-replay new input fresh f)
+
+run-ended : {x : Standing} {kept old : List ℕ} (input input2 : Option (List ℕ)) (new : Option History) (e : KeepFault) → IsAtRest x → IsFresh kept old x
+    → kept_in x.history ≡ Some kept → ((input2 ≡ input) × Unreplayed x new e) ⊎ ((y : Standing) × Replays x y × Fails y input input2 new e)
+    → Ended (account_of x) kept old input input2 (kept_in new) (out_in new)
+run-ended input input2 new e rests fresh log (inl (is, u)) = rw is (run-unreplayed input new e rests fresh log u)
+run-ended {x} {kept} {old} input input2 new e rests fresh log (inr (y, r, inl (n, g, is, fails))) =
+    rw is (run-uncut input new n (again rests fresh log r) g)
+run-ended {x} {kept} {old} input input2 new e rests fresh log (inr (y, r, inr (z, unread, b, f))) =
+    let a = again rests fresh log r in
+    ended-live old input2 unread new (ready a b) (turns-fell z f.turns (left_of unread input2) new b.rests f.are f.broke) a.replayed.found
+
+-- ---- by which fault it ends
+
+left-true : {x z : Standing} {kept old : List ℕ} (e : KeepFault) (lines : ℕ) → IsFresh kept old x → (w : Went false x z) → IsIdle z.at → IsAtEnd z.input
+    → MayDiffer e (λ d. IfSome z.at.before (λ left. HasMore left lines d)) → IsTrueFault x.at.limit (account_of x) kept old [] e
+left-true (fault.Differs d) lines fresh w idle end h = true-left lines d fresh w idle end h
+left-true fault.TooLong lines fresh w idle end h = absurd h
+left-true (fault.Edited n) lines fresh w idle end h = absurd h
+left-true e lines fresh w idle end h = tt
+
+failure-true : (limit : ℕ) (all : Account) (kept old bytes : List ℕ) (e : KeepFault) → IsFailure e → IsTrueFault limit all kept old bytes e
+failure-true limit all kept old bytes (fault.Differs d) h = absurd h
+failure-true limit all kept old bytes fault.TooLong h = absurd h
+failure-true limit all kept old bytes (fault.Edited n) h = absurd h
+failure-true limit all kept old bytes e h = tt
+
+edited-true : (limit : ℕ) (all : Account) {kept : List ℕ} (old : List ℕ) (first : Option (List ℕ)) (e : KeepFault) → first ≡ Some kept
+    → MayBeEdited e (IfSome first (λ text. are_sound [] text ≡ false)) → IsTrueFault limit all kept old [] e
+edited-true limit all old None e is h = absurd (cc is)
+edited-true limit all {kept} old (Some text) e is h = go e h
+  where
+    go : (e : KeepFault) → MayBeEdited e (are_sound [] text ≡ false) → IsTrueFault limit all kept old [] e
+    go (fault.Edited n) h = subst (λ t. are_sound [] t ≡ false) (same is) h
+      where
+        same : Some text ≡ Some kept → text ≡ kept
+        same e = cc e
+    go (fault.Differs d) h = absurd h
+    go fault.TooLong h = absurd h
+    go e h = tt
+
+run-true : {x : Standing} {kept old : List ℕ} (input input2 : Option (List ℕ)) (new : Option History) (e : KeepFault) → IsAtRest x → IsFresh kept old x
+    → kept_in x.history ≡ Some kept → ((input2 ≡ input) × Unreplayed x new e) ⊎ ((y : Standing) × Replays x y × Fails y input input2 new e)
+    → (bytes : List ℕ) × Consumes input input2 bytes × IsTrueFault x.at.limit (account_of x) kept old bytes e
+run-true {x} {kept} {old} input input2 new e rests fresh log (inl (is, inl (met, past2, b, by))) = (
+  [],
+  rw is (consumes-none input),
+  rw by (true-replay past2 new met fresh (turns-fell x b.turns past2 new rests b.are b.broke)),
+)
+run-true {x} {kept} {old} input input2 new e rests fresh log (inl (is, inr (z, ends, happened, (lines, differs)))) =
+    let w = subst (λ (s : Standing). Went false x s) (sym ends.last_is) (turns-went x ends.turns rests ends.are).0 in
+    ([], rw is (consumes-none input), left-true e lines fresh w ends.rests.idle ends.end differs)
+run-true {x} {kept} {old} input input2 new e rests fresh log (inr (y, r, inl (n, g, is, fails))) =
+    ([], rw is (consumes-none input), failure-true x.at.limit (account_of x) kept old [] e fails)
+run-true {x} {kept} {old} input input2 new e rests fresh log (inr (y, r, inr (z, unread, b, f))) =
+    let a = again rests fresh log r in
+    let fell = turns-fell z f.turns (left_of unread input2) new b.rests f.are f.broke in
+    let begins = ready a b in
+    let bytes = fell.bytes ++ fell.next in
+    let limit : z.at.limit ≡ x.at.limit = ap (λ (s : Standing). s.at.limit) b.is ∙ a.limit in (
+      bytes ++ unread,
+      read-too input input2 bytes unread (subst (λ i. Consumes i (left_of unread input2) bytes) begins.input_is fell.taken),
+      subst (λ l. IsTrueFault l (account_of x) kept old (bytes ++ unread) e) limit (true-live old input2 unread new e begins fell),
+    )
+
+-- no more records than the limit came
+run-within : {x y : Standing} {kept old : List ℕ} {input : Option (List ℕ)} (input2 : Option (List ℕ)) (new : Option History) → Again x kept old y
+    → x.at.answered ≤ x.at.limit → GoesOn y input input2 new
+    → (bytes : List ℕ) × Consumes input input2 bytes × (length (input_records (whole_lines kept ++ kept_of bytes)) ≤ x.at.limit)
+run-within {x} {y} {kept} {old} {input} input2 new a few (z, end, unread, b, e, is, happened) =
+    let w = subst (λ (s : Standing). Went true z s) (sym e.last_is) (turns-went z e.turns b.rests e.are).0 in
+    let begins = ready a b in
+    let h = answered-more begins.answered w.fed w.whole e.rests.idle in
+    let chunk = (w.cuts [] begins.begun).1 in
+    let count = h.count ∙ ap (λ c. length (input_records (whole_lines kept ++ c))) chunk in
+    let limit : z.at.limit ≡ y.at.limit = ap (λ (s : Standing). s.at.limit) b.is in
+    let many : z.at.answered ≡ y.at.answered = ap (λ (s : Standing). s.at.answered) b.is in
+    let first = a.within few in
+    let last = w.fed.within (omega (arith, first, limit, many)) in
+    let same = a.limit in
+    let same2 = w.fed.limit in (
+      w.bytes,
+      read-all input input2 w.bytes unread (subst IsAtEnd is e.end)
+          (subst (λ i. Consumes i (left_of unread input2) w.bytes) begins.input_is (subst (λ i. Consumes z.input i w.bytes) is w.taken)),
+      omega (arith, count, last, limit, same, same2),
+    )
+
+-- ---- what it replies
+
+silent-start : (a b c : Option History) (live : Bool) {told due : List ℕ} → Grows a b (Flushed ∷ []) → Tells live b c told due → IsSilent a c
+silent-start a b c live g t = silent-more a b c (Flushed ∷ [], g, refl) (tells-silent live b c t)
+
+silent-take : (n : ℕ) (a b : Option History) (y : Standing) → Grows a b (take n (beginning y)) → IsSilent a b
+silent-take n a b y g = (take n (beginning y), g, go n)
+  where
+    go : (n : ℕ) → replied_in (take n (beginning y)) ≡ []
+    go zero = refl
+    go (suc zero) = refl
+    go (suc (suc zero)) = refl
+    go (suc (suc (suc zero))) = refl
+    go (suc (suc (suc (suc n)))) = ap replied_in (take-nil n)
+
+stood-start : {x y z : Standing} {kept old : List ℕ} {input : Option (List ℕ)} → (a : Again x kept old y) → (b : Begun y input z)
+    → Stood (account_of x) x.at.place x.at.state z a.replayed.told (whole_lines kept) []
+stood-start a b = let r = ready a b in record { answered = r.answered; begun = r.begun; rests = b.rests }
+
+-- what happened before is no reply
+after-silent : {T E : Type 0} (p : Place) (s : Replica) (kept : List ℕ) (input input2 : Option (List ℕ)) (old mid new : Option History) (r : Result T E)
+    → IsSilent old mid → RepliesTo p s kept input input2 mid new r → RepliesTo p s kept input input2 old new r
+after-silent {T} {E} p s kept input input2 old mid new r silent (bytes, taken, events, g, replied) =
+    (bytes, taken, silent.0 ++ events, grows-more old mid new silent.0 events silent.1 g, go r replied)
+  where
+    told : replied_in (silent.0 ++ events) ≡ replied_in events
+    told = replied-append silent.0 events ∙ ap (λ t. t ++ replied_in events) silent.2
+
+    go : (r : Result T E)
+        → MatchResult r (λ _. replied_in events ≡ replies p s (whole_lines kept) bytes)
+        (λ _. AreFirst (replied_in events) (replies p s (whole_lines kept) bytes))
+        → MatchResult r (λ _. replied_in (silent.0 ++ events) ≡ replies p s (whole_lines kept) bytes)
+        (λ _. AreFirst (replied_in (silent.0 ++ events)) (replies p s (whole_lines kept) bytes))
+    go (Ok x) h = told ∙ h
+    go (Err x) h = subst (λ t. AreFirst t (replies p s (whole_lines kept) bytes)) (sym told) h
+
+replies-none : {T E : Type 0} (p : Place) (s : Replica) (kept : List ℕ) (input : Option (List ℕ)) (old new : Option History) (r : Result T E) (e : E) → r ≡ Err e
+    → IsSilent old new → RepliesTo p s kept input input old new r
+replies-none p s kept input old new r e is (events, g, none) =
+    rw is ([], consumes-none input, events, g, inl ([], append-nil (replied_in events) ∙ none))
+
+-- what came of the input was asked and answered
+asked-live : {x y : Standing} {kept old : List ℕ} {input : Option (List ℕ)} (input2 : Option (List ℕ)) (new : Option History) → Again x kept old y
+    → GoesOn y input input2 new → (bytes : List ℕ) × Consumes input input2 bytes × (events : List Event) × Grows y.history new events
+    × (replied_in events ≡ replies x.at.place x.at.state (whole_lines kept) bytes)
+asked-live {x} {y} {kept} {old} {input} input2 new a (z, end, unread, b, e, is, happened) =
+    let asks = subst (λ (s : Standing). Asks (account_of x) x.at.place x.at.state z s (whole_lines kept) []) (sym e.last_is) (turns-ask z e.turns (stood-start a b) e.are) in
+    let begins = ready a b in
+    let start = beginning y in (
+      asks.bytes,
+      read-all input input2 asks.bytes unread (subst IsAtEnd is e.end)
+          (subst (λ i. Consumes i (left_of unread input2) asks.bytes) begins.input_is (subst (λ i. Consumes z.input i asks.bytes) is asks.taken)),
+      start ++ asks.events,
+      subst (λ h. Grows y.history h (start ++ asks.events)) happened (grows-more y.history z.history end.history start asks.events
+          (subst (λ (s : Standing). Grows y.history s.history start) (sym b.is) b.happened) asks.grows),
+      asks.replied,
+    )
+
+first-live : {x y : Standing} {kept old : List ℕ} {input : Option (List ℕ)} (input2 : Option (List ℕ)) (new : Option History) (e : KeepFault) → Again x kept old y
+    → Fails y input input2 new e → (bytes : List ℕ) × Consumes input input2 bytes × (events : List Event) × Grows y.history new events
+    × AreFirst (replied_in events) (replies x.at.place x.at.state (whole_lines kept) bytes)
+first-live {x} {y} {kept} {old} {input} input2 new e a (inl (n, g, is, fails)) =
+    let silent = silent-take n y.history new y g in
+    ([], rw is (consumes-none input), silent.0, silent.1, inl ([], append-nil (replied_in silent.0) ∙ silent.2))
+first-live {x} {y} {kept} {old} {input} input2 new e a (inr (z, unread, b, f)) =
+    let p = x.at.place in
+    let s = x.at.state in
+    let asks = turns-ask-first z f.turns (left_of unread input2) new (stood-start a b) f.are f.broke in
+    let begins = ready a b in
+    let start = beginning y in
+    let more = map (reply_to p s) (asked_after true (whole_lines kept ++ kept_after true [] asks.bytes) (begun_after [] asks.bytes) unread) in (
+      asks.bytes ++ unread,
+      read-too input input2 asks.bytes unread (subst (λ i. Consumes i (left_of unread input2) asks.bytes) begins.input_is asks.taken),
+      start ++ asks.events,
+      grows-more y.history z.history new start asks.events (subst (λ (s : Standing). Grows y.history s.history start) (sym b.is) b.happened) asks.grows,
+      subst (AreFirst (replied_in asks.events)) (sym (asks-both p s (whole_lines kept) [] asks.bytes unread))
+          (first-more (replied_in asks.events) (replies p s (whole_lines kept) asks.bytes) more asks.replied),
+    )
+
+-- ---- that its files are safe
+
+-- as far as it was answered again
+safe-told : (x : Standing) {kept : List ℕ} (p : Place) (s : Replica) (m : History) (new : Option History) {added due : List ℕ} → x.history ≡ Some m
+    → x.at.is_live ≡ false → AreSound [] kept → Found kept (now m) → Tells x.at.is_live x.history new added due
+    → IsFrontOf ((now m).out ++ added) ((account_of x).text AtEnd (records_in kept)) → StaysSafe (says_by (account_of x) p s) (Some m) new
+safe-told x p s m None is off sound found t front = absurd (rw is at t).1
+safe-told x {kept} p s m (Some h2) {added} {due} is off sound found t front =
+    let told = rw is at t in
+    told-within (says_by (account_of x) p s) m off sound found told
+    (subst (λ o. IsFrontOf o ((account_of x).text AtEnd (records_in kept))) (sym (tells-out x.at.is_live (Some m) (Some h2) told)) front)
+
+-- what was kept couldn't be answered again
+unreplayed-safe : {x : Standing} {kept old : List ℕ} (p : Place) (s : Replica) (m : History) (new : Option History) (e : KeepFault) → x.history ≡ Some m
+    → x.at.is_live ≡ false → IsAtRest x → IsFresh kept old x → Found kept (now m) → IsFrontOf old ((account_of x).text AtEnd (records_in kept))
+    → Unreplayed x new e → StaysSafe (says_by (account_of x) p s) (Some m) new
+unreplayed-safe {x} {kept} {old} p s m new e is off rests fresh found front u =
+    let f = (unreplayed-fell new e rests u).2 in
+    let all = account_of x in
+    let out : (now m).out ≡ old = some-is (sym (ap out_in is) ∙ fresh.out) in
+    safe-told x p s m new is off fresh.sound found (f.told refl).1
+    (subst (λ o. IsFrontOf (o ++ f.added) (all.text AtEnd (records_in kept))) (sym out)
+    (either f.added (all.text AtEnd (records_in kept)) (subst (λ r. (f.added ≡ []) ⊎ IsFrontOf (old ++ f.added) (all.text AtEnd r)) (append-nil (records_in kept))
+    (replay-begins fresh f [])) front))
+  where
+    either : (added text : List ℕ) → (added ≡ []) ⊎ IsFrontOf (old ++ added) text → IsFrontOf old text → IsFrontOf (old ++ added) text
+    either added text (inl none) front = subst (λ o. IsFrontOf o text) (sym (ap (λ t. old ++ t) none ∙ append-nil old)) front
+    either added text (inr begins) front = begins
+
+-- it was, and then `kept,..` was shown as far as it goes
+record SafeAgain (x y : Standing) (kept : List ℕ) (p : Place) (s : Replica) (m m2 : History) : Type 0 where
+  is : y.history ≡ Some m2
+  safe : StaysSafe (says_by (account_of x) p s) (Some m) (Some m2)
+  found : Found kept (now m2)
+
+again-safe : {x y : Standing} {kept old : List ℕ} (p : Place) (s : Replica) (m : History) → x.history ≡ Some m → x.at.is_live ≡ false → IsFresh kept old x
+    → Found kept (now m) → (a : Again x kept old y) → (m2 : History) × SafeAgain x y kept p s m m2
+again-safe {x} {y} {kept} {old} p s m is off fresh found a =
+    let k = known y.history a.log in
+    let all = account_of x in
+    let told = rw (is, k.1) at a.told in
+    let r = a.replayed in
+    let out : (now k.0).out ≡ r.told = some-is (sym (ap out_in k.1) ∙ r.out_is) in
+    let grows : (now k.0).out ≡ (now m).out ++ a.added = tells-out x.at.is_live (Some m) (Some k.0) told in (
+      k.0,
+      record {
+        is = k.1;
+        safe = safe-told x p s m (Some k.0) is off a.sound found (subst (λ h. Tells x.at.is_live x.history h a.added []) k.1 a.told)
+            (subst (λ o. IsFrontOf o (all.text AtEnd (records_in kept))) (sym out ∙ grows) ([], append-nil r.told ∙ sym (answered-text AtEnd r.answered)));
+        found = replay-found m off found told;
+      },
+    )
+
+-- the run goes on from there
+begun-safe : {x y z : Standing} {kept old : List ℕ} {input : Option (List ℕ)} (m2 : History) → y.history ≡ Some m2 → Found kept (now m2)
+    → Again x kept old y → Begun y input z → (m3 : History) × (z.history ≡ Some m3) × StaysSafe (says_by (account_of x) x.at.place x.at.state) (Some m2) (Some m3)
+    × Rested (account_of x) x.at.place x.at.state z.at (now m3)
+begun-safe {x} {y} {z} {kept} {old} m2 is found a b =
+    let start = starts-safe y m2 a.sound found (subst (λ h. HasReplayed (account_of x) x.at.place x.at.state y.at kept old (out_in h) y.kept) is a.replayed) in
+    let g = grown m2 b.history (beginning y) (rw is at b.happened) in (
+      g.0,
+      ap (λ (s : Standing). s.history) b.is ∙ g.1,
+      (beginning y, subst (λ h. Grows (Some m2) h (beginning y)) g.1 (rw is at b.happened), start.0),
+      subst (λ (v : Answering). Rested (account_of x) x.at.place x.at.state v (now g.0)) (sym (ap (λ (s : Standing). s.at) b.is))
+          (subst (Rested (account_of x) x.at.place x.at.state (record y.at { is_live = true })) (sym g.2) start.1),
+    )
+
+fails-safe : {x y : Standing} {kept old : List ℕ} {input : Option (List ℕ)} (input2 : Option (List ℕ)) (m2 : History) (new : Option History) (e : KeepFault)
+    → y.history ≡ Some m2 → Found kept (now m2) → Again x kept old y → Fails y input input2 new e
+    → StaysSafe (says_by (account_of x) x.at.place x.at.state) (Some m2) new
+fails-safe {x} {y} {kept} {old} input2 m2 new e is found a (inl (n, g, i, fails)) =
+    let start = starts-safe y m2 a.sound found (subst (λ h. HasReplayed (account_of x) x.at.place x.at.state y.at kept old (out_in h) y.kept) is a.replayed) in
+    (take n (beginning y), rw is at g, safe-take (says_by (account_of x) x.at.place x.at.state) n (now m2) (beginning y) start.0)
+fails-safe {x} input2 m2 new e is found a (inr (z, unread, b, f)) =
+    let s = begun-safe m2 is found a b in
+    stays-more (says_by (account_of x) x.at.place x.at.state) (Some m2) (Some s.0) new s.2
+    (broke-safe z f.turns (left_of unread input2) s.0 new s.1 b.rests s.3 f.are f.rests f.broke)
+
+goes-safe : {x y : Standing} {kept old : List ℕ} {input : Option (List ℕ)} (input2 : Option (List ℕ)) (m2 : History) (new : Option History)
+    → y.history ≡ Some m2 → Found kept (now m2) → Again x kept old y → GoesOn y input input2 new
+    → StaysSafe (says_by (account_of x) x.at.place x.at.state) (Some m2) new × IfSome new (λ h. IsShown (now h))
+goes-safe {x} input2 m2 new is found a (z, end, unread, b, e, i, happened) =
+    let s = begun-safe m2 is found a b in
+    let t = turns-safe z e.turns s.0 s.1 b.rests s.3 e.are in
+    let last_is : new ≡ Some t.0 = sym happened ∙ ap (λ (w : Standing). w.history) e.last_is ∙ t.1 in
+    rw last_is (stays-more (says_by (account_of x) x.at.place x.at.state) (Some m2) (Some s.0) (Some t.0) s.2 t.2, (t.3.begun, t.3.shown))
+
+-- ---- for whoever calls it
+
+-- a site with nothing done, where its memory doesn't suffice for a desk
+abbrev pub new-site : Place → Replica → ℕ → Bool → Option (List ℕ) → Answering
+new-site place state limit live before = record {
+  place = place;
+  state = state;
+  held = [];
+  first = 0;
+  answered = 0;
+  limit = limit;
+  sink = [];
+  is_live = live;
+  before = before;
+}
+
+-- a clerk with nothing done
+pub new-clerk : {O F G : Type 0} (before : O → Option (List ℕ)) (c : Clerk G) (a : Answers O F) → (c.desk.window.items ≡ []) × (c.reply.sink ≡ []) × (c.answered ≡ 0)
+    → IsNew (answering before c a)
+new-clerk before c a fresh = record { idle = record { window = fresh.0; empty = fresh.1 }; none = fresh.2 }
+
+pub is-new : (place : Place) (state : Replica) (limit : ℕ) (live : Bool) (before : Option (List ℕ)) → IsNew (new-site place state limit live before)
+is-new place state limit live before = record { idle = record { window = refl; empty = refl }; none = refl }
+
+pub runs-lived : {T : Type 0} (r : Result T KeepFault) (first past input input2 : Option (List ℕ)) {a : Answering} (h new : Option History)
+    → IsNew a → Runs first past a input input2 h new r → OnOk r ((kept old : List ℕ) → Opens kept old first past (kept_in h) a.before (out_in h)
+    → Lived (site_account a.place a.state 1) kept old input input2 (kept_in new) (out_in new))
+runs-lived (Ok u) first past input input2 h new fresh (mid, y, s, r, goes) = λ kept old o. run-lived input2 new (again-start h mid fresh o s r) goes
+runs-lived (Err e) first past input input2 h new fresh runs = tt
+
+pub runs-ended : {T : Type 0} (r : Result T KeepFault) (first past input input2 : Option (List ℕ)) {a : Answering} (h new : Option History)
+    → IsNew a → Runs first past a input input2 h new r → OnErr r ((kept old : List ℕ) → Opens kept old first past (kept_in h) a.before (out_in h)
+    → Ended (site_account a.place a.state 1) kept old input input2 (kept_in new) (out_in new))
+runs-ended (Ok u) first past input input2 h new fresh runs = tt
+runs-ended (Err e) first past input input2 {a} h new fresh (inl (g, is, edited)) = λ kept old o.
+    let still = still-none h new g in
+    rw (is, same-known (kept_in h) (kept_in new) o.log_is still.0, same-known (out_in h) (out_in new) o.out_is still.1)
+    (ended-unread (site_account a.place a.state 1) kept old input)
+runs-ended (Err e) first past input input2 {a} h new fresh (inr (mid, s, rest)) = λ kept old o.
+    run-ended input input2 new e (starting-rests a past mid fresh.idle) (fresh-start h mid fresh o s) (log-start h mid o s) rest
+
+pub runs-true : {T : Type 0} (r : Result T KeepFault) {kept old : List ℕ} (first past input input2 : Option (List ℕ)) {a : Answering} (h new : Option History)
+    → IsNew a → Runs first past a input input2 h new r → Opens kept old first past (kept_in h) a.before (out_in h)
+    → EndsTruly a.limit (site_account a.place a.state 1) kept old input input2 r
+runs-true (Ok u) first past input input2 h new fresh (mid, y, s, r, goes) o =
+    let none = fresh.none in
+    run-within input2 new (again-start h mid fresh o s r) (omega (arith, none)) goes
+runs-true (Err e) {kept} {old} first past input input2 {a} h new fresh (inl (g, is, edited)) o =
+    ([], rw is (consumes-none input), edited-true a.limit (site_account a.place a.state 1) old first e o.first_is edited)
+runs-true (Err e) first past input input2 {a} h new fresh (inr (mid, s, rest)) o =
+    run-true input input2 new e (starting-rests a past mid fresh.idle) (fresh-start h mid fresh o s) (log-start h mid o s) rest
+
+pub runs-reply : {T : Type 0} (r : Result T KeepFault) {kept old : List ℕ} (first past input input2 : Option (List ℕ)) {a : Answering} (h new : Option History)
+    → IsNew a → Runs first past a input input2 h new r → Opens kept old first past (kept_in h) a.before (out_in h)
+    → RepliesTo a.place a.state kept input input2 h new r
+runs-reply {T} (Ok u) {kept} first past input input2 {a} h new fresh (mid, y, s, r, goes) o =
+    let again = again-start h mid fresh o s r in
+    after-silent {T = T} {E = KeepFault} a.place a.state kept input input2 h y.history new (Ok u)
+    (silent-start h mid y.history a.is_live s.flushed again.told) (asked-live input2 new again goes)
+runs-reply {T} (Err e) {kept} first past input input2 {a} h new fresh (inl (g, is, edited)) o =
+    rw is (replies-none {T = T} {E = KeepFault} a.place a.state kept input h new (Err e) e refl ([], g, refl))
+runs-reply {T} (Err e) {kept} first past input input2 {a} h new fresh (inr (mid, s, inl (is, u))) o =
+    let f = (unreplayed-fell new e (starting-rests a past mid fresh.idle) u).2 in
+    rw is (replies-none {T = T} {E = KeepFault} a.place a.state kept input h new (Err e) e refl (silent-start h mid new a.is_live s.flushed (f.told refl).1))
+runs-reply {T} (Err e) {kept} first past input input2 {a} h new fresh (inr (mid, s, inr (y, r, fails))) o =
+    let again = again-start h mid fresh o s r in
+    after-silent {T = T} {E = KeepFault} a.place a.state kept input input2 h y.history new (Err e)
+    (silent-start h mid y.history a.is_live s.flushed again.told) (first-live input2 new e again fails)
+
+-- the same site, where its files are as a start finds them
+pub opened-at : {p p2 : Place} {s s2 : Replica} {f : FileState} → p2 ≡ p → s2 ≡ s → IsOpened ((site_account p s 1).text AtEnd) f
+    → IsOpened ((site_account p2 s2 1).text AtEnd) f
+opened-at {p} {p2} {s} {s2} {f} place state o = subst (λ q. IsOpened ((site_account q s2 1).text AtEnd) f) (sym place)
+    (subst (λ t. IsOpened ((site_account p t 1).text AtEnd) f) (sym state) o)
+
+-- what was kept was read through and flushed: the files are found so then, and are safe as long as they are safe from there on
+record Started (a : Answering) (h : History) (kept old : List ℕ) (mid : Option History) : Type 0 where
+  m : History
+  is : mid ≡ Some m
+  found : Found kept (now m)
+  front : IsFrontOf old ((site_account a.place a.state 1).text AtEnd (records_in kept))
+  later : (new : Option History) → StaysSafe (says_of a.place a.state) (Some m) new → StaysSafe (says_of a.place a.state) (Some h) new
+
+started : {kept old : List ℕ} {first past : Option (List ℕ)} {a : Answering} (h : History) (mid : Option History)
+    → Opens kept old first past (kept_in (Some h)) a.before (out_in (Some h)) → IsOpened ((site_account a.place a.state 1).text AtEnd) (now h)
+    → Starts first (Some h) mid → Started a h kept old mid
+started {kept} {old} {a = a} h mid o opened s =
+    let text = (site_account a.place a.state 1).text AtEnd in
+    let g = grown h mid (Flushed ∷ []) s.flushed in
+    let kept_now : (now h).kept ≡ kept = some-is o.log_is in
+    record {
+      m = g.0;
+      is = g.1;
+      found = subst (Found kept) (sym g.2) (flushed-found opened kept_now);
+      front = subst (λ t. IsFrontOf t (text (records_in kept))) (some-is o.out_is)
+          (subst (λ k. IsFrontOf (now h).out (text (records_in k))) kept_now (opened.left.rest, opened.left.begins));
+      later = λ new safe. stays-more (says_of a.place a.state) (Some h) (Some g.0) new
+          (Flushed ∷ [], subst (λ m. Grows (Some h) m (Flushed ∷ [])) g.1 s.flushed, flushed-safe (says_of a.place a.state) opened) safe;
+    }
+
+-- its files stay safe, and where it came to its end all that `out` has is shown
+pub runs-safe : {T : Type 0} (r : Result T KeepFault) {kept old : List ℕ} (first past input input2 : Option (List ℕ)) {a : Answering} (h : History)
+    (new : Option History) → IsNew a → a.is_live ≡ false → Runs first past a input input2 (Some h) new r
+    → Opens kept old first past (kept_in (Some h)) a.before (out_in (Some h)) → IsOpened ((site_account a.place a.state 1).text AtEnd) (now h)
+    → StaysSafe (says_of a.place a.state) (Some h) new × OnOk r (IfSome new (λ h2. IsShown (now h2)))
+runs-safe (Ok u) first past input input2 {a} h new fresh off (mid, y, s, r, goes) o opened =
+    let t = started {a = a} h mid o opened s in
+    let again = again-start (Some h) mid fresh o s r in
+    let g = again-safe a.place a.state t.m t.is off (fresh-start (Some h) mid fresh o s) t.found again in
+    let on = goes-safe input2 g.0 new g.1.is g.1.found again goes in
+    (t.later new (stays-more (says_of a.place a.state) (Some t.m) (Some g.0) new g.1.safe on.0), on.1)
+runs-safe (Err e) first past input input2 h new fresh off (inl (g, is, edited)) o opened = (([], g, opened.safe), tt)
+runs-safe (Err e) first past input input2 {a} h new fresh off (inr (mid, s, inl (is, u))) o opened =
+    let t = started {a = a} h mid o opened s in (
+      t.later new (unreplayed-safe a.place a.state t.m new e t.is off (starting-rests a past mid fresh.idle) (fresh-start (Some h) mid fresh o s) t.found t.front u),
+      tt,
+    )
+runs-safe (Err e) first past input input2 {a} h new fresh off (inr (mid, s, inr (y, r, fails))) o opened =
+    let t = started {a = a} h mid o opened s in
+    let again = again-start (Some h) mid fresh o s r in
+    let g = again-safe a.place a.state t.m t.is off (fresh-start (Some h) mid fresh o s) t.found again in (
+      t.later new (stays-more (says_of a.place a.state) (Some t.m) (Some g.0) new g.1.safe (fails-safe input2 g.0 new e g.1.is g.1.found again fails)),
+      tt,
+    )

@@ -1,0 +1,164 @@
+-- How far a run over an input has come: it goes on by turns, each of which reads bytes, keeps and answers the lines that end in them, and
+-- answers a question if they end with one.
+use Rattle.std.specs.Prelude.{◌≡◌, ◌≢◌, ◌+◌, ◌∷◌, ◌⊎◌, [], ℕ, Bool, List, MatchBool, ⊤, Option, cond, length, map, take, true}
+use Rattle.std.specs.Io.KnownBytes.{Consumes, IsAtEnd, prepend_known}
+use Rattle.rubis_engine.specs.Text.{input_records}
+use Rattle.rubis_keep.specs.Answering.{Answering, Fed, IsIdle, Stopped, answering}
+use Rattle.rubis_keep.specs.Cuts.{CutsLines}
+use Rattle.rubis_keep.specs.Files.{IsFailure}
+use Rattle.rubis_keep.specs.History.{Grows, History, KeepsLines, Tells}
+use Rattle.rubis_keep.specs.History.Event.{Kept, Replied}
+use Rattle.rubis_keep.specs.Kept.{IsFrontOf}
+use Rattle.rubis_keep.specs.Lines.{HasNoEnd, kept_after}
+use Rattle.rubis_keep.specs.Pages.{AreListed}
+use Rattle.rubis_keep.specs.Places.{begun_bytes}
+use Rattle.rubis_keep.specs.Questions.{reply_rows, reply_text}
+use Rattle.rubis_keep.specs.declared.answers.Answers.{Answers}
+use Rattle.rubis_keep.specs.declared.fault.KeepFault.{KeepFault}
+use Rattle.rubis_keep.specs.declared.keeping.KeptLines.{KeptLines}
+use Rattle.rubis_keep.specs.declared.pages.Listed.{Listed}
+use Rattle.rubis_keep.specs.declared.site.Clerk.{Clerk}
+
+-- ---- where a run stands
+
+-- the site that answers, what is left of the input, and what happened to the files; of the lines that are kept, which one is begun, how long
+-- they are, and what is held of a listing
+pub record Standing : Type 0 where
+  pub at : Answering
+  pub input : Option (List ℕ)
+  pub history : Option History
+  pub begun : List ℕ
+  pub kept : ℕ
+  pub listed : Option Listed
+
+-- what is left of an input of which these bytes were read and aren't looked at yet
+abbrev pub left_of : List ℕ → Option (List ℕ) → Option (List ℕ)
+left_of unread input = prepend_known unread input
+
+abbrev pub standing : {R O F G : Type 0} → (R → Option (List ℕ)) → (O → Option (List ℕ)) → (F → Option History) → R → KeptLines → Clerk G → Answers O F → Standing
+standing input before history live lines clerk answers = record {
+  at = answering before clerk answers;
+  input = left_of lines.unread (input live);
+  history = history answers.files;
+  begun = lines.cutter;
+  kept = lines.kept;
+  listed = lines.listed;
+}
+
+-- the beginning of some line
+abbrev pub IsBegun : List ℕ → Type 0
+IsBegun begun = (line : List ℕ) × HasNoEnd line × (begun ≡ begun_bytes line)
+
+-- nothing is held, and nothing waits to be put; some line is begun; and what is held of a listing is that of this moment
+pub record IsAtRest (s : Standing) : Type 0 where
+  pub idle : IsIdle s.at
+  pub begun : IsBegun s.begun
+  pub listed : AreListed s.at.state s.listed
+
+-- ---- what comes of an input
+
+-- some bytes of it came, and what is kept of the lines that end in them is `chunk`; they end with the one question that they ask, if they
+-- ask one. What was kept asks none, whatever it has
+pub record Reads (asks asked : Bool) (input input2 : Option (List ℕ)) (begun begun2 chunk question : List ℕ) : Type 0 where
+  pub bytes : List ℕ
+  pub taken : Consumes input input2 bytes
+  pub cuts : (line : List ℕ) → begun ≡ begun_bytes line → CutsLines asks line bytes begun2 [] chunk asked question
+  pub asks_it : asked ≡ true → asks ≡ true
+
+-- some bytes of an input came; or it is at its end
+abbrev pub CameOrEnded : Bool → Option (List ℕ) → Option (List ℕ) → Type 0
+CameOrEnded more input input2 = MatchBool more ((bytes : List ℕ) × Consumes input input2 bytes × (bytes ≢ [])) (IsAtEnd input2)
+
+-- ---- a turn
+
+-- it went on from the one to the other: its lines are kept, if this run keeps what it reads, and answered. Whether it ended with a question
+pub record Answered (keeps : Bool) (x y : Standing) (asked : Bool) (question : List ℕ) : Type 0 where
+  pub chunk : List ℕ
+  pub reads : Reads keeps asked x.input y.input x.begun y.begun chunk question
+  pub mid : Option History
+  pub kept : KeepsLines keeps x.history mid chunk
+  pub text : List ℕ
+  pub added : List ℕ
+  pub fed : Fed (input_records chunk) x.at y.at text added
+  pub told : Tells x.at.is_live mid y.history added []
+  pub length_is : y.kept ≡ x.kept + length chunk
+  pub rests : IsAtRest y
+
+-- what answers a question
+abbrev pub replied_to : Answering → List ℕ → List ℕ
+replied_to a question = reply_text (reply_rows a.place a.state a.answered question)
+
+-- the question was answered, if there was one, and nothing else has changed
+pub record Turn (keeps : Bool) (x y : Standing) : Type 0 where
+  pub asked : Bool
+  pub question : List ℕ
+  pub mid : Standing
+  pub answered : Answered keeps x mid asked question
+  pub replied : Grows mid.history y.history (cond asked (Replied question (replied_to mid.at question) ∷ []) [])
+  pub same : y ≡ record mid { history = y.history; listed = y.listed }
+  pub listed : AreListed mid.at.state y.listed
+
+-- ---- a turn that a fault ended, with what was read and what happened until then
+
+-- before its lines were kept: some first bytes of them may be
+pub record Torn (keeps : Bool) (x : Standing) (input2 : Option (List ℕ)) (history2 : Option History) (e : KeepFault) : Type 0 where
+  pub bytes : List ℕ
+  pub torn : List ℕ
+  pub taken : Consumes x.input input2 bytes
+  pub front : (line : List ℕ) → x.begun ≡ begun_bytes line → IsFrontOf torn (kept_after keeps line bytes)
+  pub kept : Grows x.history history2 (map (λ b. Kept b) torn)
+  pub only : (torn ≡ []) ⊎ (keeps ≡ true)
+  pub cause : IsFailure e
+
+-- before they were answered
+pub record Unanswered (keeps : Bool) (x : Standing) (input2 : Option (List ℕ)) (history2 : Option History) (e : KeepFault) : Type 0 where
+  pub asked : Bool
+  pub question : List ℕ
+  pub begun2 : List ℕ
+  pub chunk : List ℕ
+  pub reads : Reads keeps asked x.input input2 x.begun begun2 chunk question
+  pub mid : Option History
+  pub kept : KeepsLines keeps x.history mid chunk
+  pub added : List ℕ
+  pub stopped : Stopped (input_records chunk) x.at added e
+  pub due : List ℕ
+  pub told : Tells x.at.is_live mid history2 added due
+
+-- before its question was: some first bytes of the answer may be shown
+pub record Unreplied (keeps : Bool) (x : Standing) (input2 : Option (List ℕ)) (history2 : Option History) (e : KeepFault) : Type 0 where
+  pub question : List ℕ
+  pub mid : Standing
+  pub answered : Answered keeps x mid true question
+  pub input_is : input2 ≡ mid.input
+  pub replied : Grows mid.history history2 []
+      ⊎ ((n : ℕ) × Grows mid.history history2 (Replied question (take n (replied_to mid.at question)) ∷ []))
+  pub cause : IsFailure e
+
+abbrev pub Broke : Bool → Standing → Option (List ℕ) → Option History → KeepFault → Type 0
+Broke keeps x input2 history2 e = Torn keeps x input2 history2 e ⊎ (Unanswered keeps x input2 history2 e ⊎ Unreplied keeps x input2 history2 e)
+
+-- ---- many turns
+
+abbrev pub last : Standing → List Standing → Standing
+last x [] = x
+last x (y ∷ ys) = last y ys
+
+-- turn by turn it came from where it stood to the last of these
+abbrev pub Turns : Bool → Standing → List Standing → Type 0
+Turns keeps x [] = ⊤
+Turns keeps x (y ∷ ys) = Turn keeps x y × Turns keeps y ys
+
+-- it came to the end of its input
+pub record Ends (keeps : Bool) (x y : Standing) : Type 0 where
+  pub turns : List Standing
+  pub are : Turns keeps x turns
+  pub last_is : y ≡ last x turns
+  pub rests : IsAtRest y
+  pub end : IsAtEnd y.input
+
+-- a fault ended it
+pub record Breaks (keeps : Bool) (x : Standing) (input2 : Option (List ℕ)) (history2 : Option History) (e : KeepFault) : Type 0 where
+  pub turns : List Standing
+  pub are : Turns keeps x turns
+  pub rests : IsAtRest (last x turns)
+  pub broke : Broke keeps (last x turns) input2 history2 e
