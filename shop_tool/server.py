@@ -183,6 +183,9 @@ class Server:
                         f"and this is of form {form}: upgrade it; nothing was asked")
         seconds = seconds_of(request)
         match request.get("op"):
+            case "ask" if form == 0:
+                raise Fault(Status.AWAY, f"site {site.number} runs on a machine with a later version of shop, which takes only asks that name the "
+                            "life of the site that they are for, and this one names none: upgrade the machine here; nothing was asked")
             case "ask":
                 await self._ask(site, request, say)
                 return None

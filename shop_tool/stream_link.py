@@ -94,8 +94,7 @@ class StreamLink(ServerLink, Carrying):
 
     def called(self, site: Site, fields: dict[bytes, bytes]) -> Callable[[], None]:
         name, request = fields[b"call"].decode(), request_of(fields[b"request"])
-        form = int(fields.get(b"form", b"1" if b"life" in fields else b"0"))
-        request["form"] = form
+        request["form"] = int(fields.get(b"form", b"1")) if b"life" in fields else 0
 
         def answer() -> None:
             self.shop.task(self._called(name, cast(KeptSite, site), request), is_needed=False)

@@ -162,7 +162,8 @@ class ServerLink(Link):
 
     @staticmethod
     def _is_called(site: Site, life: bytes | None) -> bool:
-        return life is not None and is_called(life.decode("utf-8", "replace"), life_text(site.lives))
+        """Where no life is named, as by versions of before, what is called may be read, and an ask is refused with words."""
+        return not site.fenced_by if life is None else is_called(life.decode("utf-8", "replace"), life_text(site.lives))
 
     def is_unseen(self, site: Site) -> bool:
         return Publisher(self, site).name in self.down

@@ -52,5 +52,5 @@ class Once:
 
 def is_called(life: str, own: str) -> bool:
     """Whether a call to a site is for this life of its folder. It is for the life that the others saw last, since any other one would
-    answer what it can't know: that nothing was given. One that names none, as versions of before sent it, is for none."""
+    answer what it can't know: that nothing was given."""
     return life == own
