@@ -59,6 +59,13 @@ def viewed(path: pathlib.Path) -> Rows:
     return found
 
 
+def count_of(path: pathlib.Path) -> int:
+    """How many rows a view has: none before its file and its tables are there."""
+    with contextlib.suppress(sqlite3.OperationalError):
+        return len(viewed(path)) if path.exists() else 0
+    return 0
+
+
 def entered(path: pathlib.Path) -> Entries:
     """Where the messages of a view's rows stand in the log."""
     with contextlib.closing(sqlite3.connect(path)) as db:
@@ -179,7 +186,7 @@ def test_times_and_orders(at: Folder) -> None:
     """What stands there when a view is made has no time, and what comes then has that at which it came, in the order of the log."""
     at.start_sale(2)
     view = at.start("./shop -C auction view view.db")
-    at.wait("a view", lambda: (at.path / "view.db").exists() and len(viewed(at.path / "view.db")) == 4)
+    at.wait("a view", lambda: count_of(at.path / "view.db") == 4)
     before = time.time()
     at.shop("ask 1 bid,0.3,0.2,500 buy,0.3,0.2,1")
     at.shop("wait 0")
@@ -205,7 +212,7 @@ def test_other_files(at: Folder, program: pathlib.Path) -> None:
 
     def is_listed(folder: str = "auction") -> None:
         at.wait(f"the rows of {folder}", lambda: viewed(at.path / "view.db") == listed_by(program, at.path / folder / "0"))
-    at.wait("a view", lambda: (at.path / "view.db").exists() and len(viewed(at.path / "view.db")) == 7)
+    at.wait("a view", lambda: count_of(at.path / "view.db") == 7)
     at.run("./shop stop auction; ./shop -C auction shorten 0")
     is_listed()
     at.run("./shop -C auction rebuild 0")
