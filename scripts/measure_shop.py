@@ -1,7 +1,7 @@
 #!/usr/bin/env python3
 """Measures what asks of a shop cost: scripts/measure_shop.py PROGRAM [--sync] [--seconds N]
 
-One site is asked over connections that are kept, by 16 askers with one request at a time each, for so many seconds: by the socket,
+One site is asked over connections that are kept, by 16 askers with one request at a time each, for N seconds: by the socket,
 and over HTTP with one ask a request and with a hundred. Beside that, where they are installed: a server of aiohttp that reads such a
 request and answers, Redis and etcd by 16 clients, SQLite with a transaction for each insert; and each as a command. Each has the
 processor time of an ask too, of the supervisor (or the other server), the keeper, the server over HTTP, and the client, since rates are

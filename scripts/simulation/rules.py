@@ -56,7 +56,7 @@ def opens(dice: random.Random) -> Drawn:
 
 
 def serves(dice: random.Random) -> Drawn:
-    """A call of so many records, for a life, comes to a folder in its second or third life, once or twice."""
+    """A call of none to three records, for a life, comes to a folder in its second or third life, once or twice."""
     own, life, records = dice.randint(2, 3), dice.randint(1, 3), dice.randint(0, 3)
     names, times = Once(), dice.randint(1, 2)
     takes = is_called(f"{life} a", f"{own} a") and why_not_one_record(TEXTS[records]) is None and [names.is_new(b"a") for _ in range(times)][-1]

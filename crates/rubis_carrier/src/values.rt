@@ -83,7 +83,7 @@ pub enum ShopEvent {
     Sends(u64, ShopPacket),
     Arrives(ShopPacket),
     Reads(u64, ShopPacket),
-    /// Only the first packets of the folder are left, so many, or are as they were by their sums; nothing is left; another folder becomes a
+    /// Only the first n packets of the folder are left, or are as they were by their sums; nothing is left; another folder becomes a
     /// copy of it, or is put back to that.
     LosesEnd(u64, u64),
     IsLost(u64),
@@ -91,7 +91,7 @@ pub enum ShopEvent {
     /// A rebuild finds a packet for a folder that doesn't run; and puts another folder, which it made so, in its place.
     Finds(u64, ShopPacket),
     Rebuilds(u64, u64),
-    /// The server has only the first packets of the stream of a site, so many; it has nothing.
+    /// The server has only the first n packets of the stream of a site; it has nothing.
     StreamLosesEnd(u64, u64),
     ServerLosesAll,
     /// The stream of its site is written anew from the folder.
