@@ -61,10 +61,6 @@ def files(kind: str, suffix: str) -> list[pathlib.Path]:
     return sorted(path for path in CRATES.glob(f"*/{kind}/**/*{suffix}") if "out" not in path.parts)
 
 
-def spec_names() -> set[str]:
-    return {name for path in files("specs", ".antt") for name in DEFINITION.findall(path.read_text())}
-
-
 def code_names() -> set[str]:
     names = {path.parent.name for path in CRATES.glob("*/src")}
     for path in files("src", ".rt"):
@@ -80,19 +76,12 @@ def found_in(page: pathlib.Path, pattern: re.Pattern[str], but: str = "\n") -> l
     return [(place, found) for place, line in lines for found in pattern.findall(line)]
 
 
-def check_model(page: pathlib.Path, names: set[str]) -> Checked:
-    """Each name and each file of specs on the page is there. The lines of its notation, which begin with code, are left out."""
-    for place, span in found_in(page, CODE_SPAN, "- `"):
+def check_names(page: pathlib.Path, names: set[str], but: str = "\n") -> Checked:
+    """Each of these names and each file of specs that the page names is there, but for lines that begin so."""
+    for place, span in found_in(page, CODE_SPAN, but):
         if "/specs/" in span or PATH_OR_NAME.match(span):
-            is_there = (CRATES / f"{span}.antt").is_file() if "/specs/" in span else span in names
-            yield None if is_there else f"{place}: `{span}` stands in no specs and no src"
-
-
-def check_names(page: pathlib.Path, names: set[str]) -> Checked:
-    """Each call, definition and wrong body that the page names stands in a crate."""
-    for place, span in found_in(page, CODE_SPAN):
-        if PATH_OR_NAME.match(span):
-            yield None if names.issuperset(span.split("::")) else f"{place}: `{span}` stands nowhere"
+            is_there = (CRATES / f"{span}.antt").is_file() if "/specs/" in span else names.issuperset(span.split("::"))
+            yield None if is_there else f"{place}: `{span}` stands nowhere"
 
 
 def quotes(page: pathlib.Path) -> list[tuple[int, str]]:
@@ -249,9 +238,11 @@ def check_written(fix: bool) -> Checked:
 
 def main() -> int:
     fix = sys.argv[1:] == ["--fix"]
-    names, edits = spec_names() | code_names() | FOREIGN, {path.stem for path in CRATES.glob("*/must-fail/*.edit")}
+    names = {name for path in files("specs", ".antt") for name in DEFINITION.findall(path.read_text())} | code_names() | FOREIGN
+    edits = {path.stem for path in CRATES.glob("*/must-fail/*.edit")}
     found = [
-        *check_model(TOP / "docs/MODEL.md", names), *check_names(TOP / "docs/PROMISES.md", names | edits), *check_quotes(TOP / "docs/PROMISES.md"),
+        # The lines of the model's notation begin with code.
+        *check_names(TOP / "docs/MODEL.md", names, "- `"), *check_names(TOP / "docs/PROMISES.md", names | edits), *check_quotes(TOP / "docs/PROMISES.md"),
         *check_old_texts(), *check_written(fix), *check_callers(TOP / "docs/CALLING.md"), *check_refusals(TOP / "docs/MANUAL.md"),
         *check_crates(TOP / "docs/ARCHITECTURE.md"), *(None for _ in edits),
     ]

@@ -10,11 +10,9 @@ import argparse
 import pathlib
 import sys
 
-TOP = pathlib.Path(__file__).resolve().parent.parent
-sys.path[:0] = [str(TOP), str(TOP / "scripts")]
-
-from simulation.plays import play, text_of, told     # noqa: E402
-from simulation.without import RULES                # noqa: E402
+import top      # by which the packages of the repository are found; pylint: disable=unused-import
+from simulation.plays import play, text_of, told
+from simulation.without import RULES
 
 
 def main() -> int:

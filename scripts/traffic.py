@@ -21,10 +21,6 @@ class Field(NamedTuple):
     least: int = 0
     most: int = 0
 
-    @property
-    def is_id(self) -> bool:
-        return ID in self.form
-
 
 class Kind(NamedTuple):
     """A kind of ask: its fields, whether it is red, those of its messages where they are others, and the version of these."""
@@ -158,8 +154,7 @@ class Known(Fields):
     def user(self) -> str:
         return str(self.recent(self.users))
 
-    def other(self) -> str:
-        return self.user()
+    other = user
 
     def item(self) -> str:
         return self.drawn[0]

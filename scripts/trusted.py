@@ -59,11 +59,8 @@ def called(tools: pathlib.Path, program: str) -> list[str]:
 
 def seams() -> list[str]:
     """The types of files whose history nothing can prove: what implements `SiteFiles` in the program's crates."""
-    found = []
-    for path in sorted((TOP / "crates").glob("*/src/*.rt")):
-        for name in re.findall(r"^impl\b.* SiteFiles for (\w+)", path.read_text(), re.M):
-            found.append(f"{path.parent.parent.name}::{path.stem}::{name}")
-    return found
+    return [f"{path.parent.parent.name}::{path.stem}::{name}" for path in sorted((TOP / "crates").glob("*/src/*.rt"))
+            for name in re.findall(r"^impl\b.* SiteFiles for (\w+)", path.read_text(), re.M)]
 
 
 def listed() -> dict[str, list[str]]:
@@ -93,12 +90,11 @@ def main() -> int:
         text = laid_out("libraries", stands_on) + laid_out("assumed", assumed()) + laid_out("called", calls) + laid_out("seams", seams())
         PAGE.write_text(BLOCK.sub(lambda _: text, PAGE.read_text()))
     now = listed()
-    faults = [f"docs/PROMISES.md: `{name}` is a library that is {'not listed' if name in stands_on else 'not used'}"
-              for name in sorted(set(stands_on) ^ set(now["libraries"]))]
+    faults = [f"docs/PROMISES.md: `{name}` is a {what} that is {'not listed' if name in there else 'not there'}"
+              for what, there, known in (("library", stands_on, now["libraries"]), ("seam", seams(), now["seams"]))
+              for name in sorted(set(there) ^ set(known))]
     more = set(calls) - set(now["assumed"]) - set(now["called"])
     faults += [f"docs/PROMISES.md: the program calls `{name}`, which isn't listed" for name in sorted(more)]
-    faults += [f"docs/PROMISES.md: `{name}` is a seam that is {'not listed' if name in seams() else 'not there'}"
-               for name in sorted(set(seams()) ^ set(now["seams"]))]
     return report("trusted", len(stands_on) + len(calls) + len(seams()), faults)
 
 

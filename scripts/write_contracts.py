@@ -96,12 +96,6 @@ def calls_of(path: pathlib.Path) -> Iterator[Call]:
         yield Call(name, path, start + 1, end, is_public, sentence_of(comment), clauses)
 
 
-def is_exported(root: str, path: pathlib.Path, call: Call) -> bool:
-    """Whether the crate's root passes the call, or its type, on."""
-    word = call.name.split("::")[0]
-    return re.search(rf"\b{word}\b", "".join(re.findall(r"^pub use [^;]*;", root, re.M))) is not None
-
-
 def changed_texts(edit: pathlib.Path) -> list[tuple[pathlib.Path, str]]:
     """The texts that a wrong body changes, each with its file."""
     files = re.findall(r"^file: (.*)\n((?:old: .*\nnew: .*\n)+)", edit.read_text(), re.M)
@@ -131,8 +125,9 @@ def section_of(crate: str, among: set[tuple[str, str]] | None) -> str:
     intro = " ".join(line.removeprefix("//!").strip() for line in root.splitlines() if line.startswith("//!"))
     calls = [call for path in sorted((folder / "src").rglob("*.rt")) for call in calls_of(path)]
     parts = [f"\n## {crate}\n\n{intro}\n"]
+    exported = re.findall(r"\w+", "".join(re.findall(r"^pub use [^;]*;", root, re.M)))      # the calls and types that the crate's root passes on
     for call in calls:
-        if not call.is_public or not call.clauses or not is_exported(root, call.path, call):
+        if not call.is_public or not call.clauses or call.name.split("::")[0] not in exported:
             continue
         if among is not None and (str(call.path.relative_to(TOP / "crates")), call.name.split("::")[-1]) not in among:
             continue

@@ -289,10 +289,6 @@ def quoted(text: str) -> str:
     return "'" + text.replace("'", "'\\''") + "'"
 
 
-def zsh_text(text: str) -> str:
-    return text.replace("[", "(").replace("]", ")").replace(":", " -")
-
-
 ZSH = """\
 #compdef {name}
 # Completion of {name} for zsh. {written}
@@ -322,7 +318,8 @@ def zsh_completion(it: Program) -> str:
 
     def spec(option: Option) -> str:
         marks = [name + "=" * (name.startswith("--") and bool(option.value)) for name in option.names]
-        rest = f"[{zsh_text(option.help)}]" + (offered(option.value, option.offers) if option.value else "")
+        about = option.help.replace("[", "(").replace("]", ")").replace(":", " -")
+        rest = f"[{about}]" + (offered(option.value, option.offers) if option.value else "")
         return quoted(marks[0] + rest) if len(marks) == 1 else f"{quoted('(' + ' '.join(option.names) + ')')}{{{','.join(marks)}}}{quoted(rest)}"
 
     commands = [f"        {quoted(command.name + ':' + command.about.replace(':', ' -'))}" for command in it.commands]

@@ -11,7 +11,6 @@ from shop_ask.quick import CONNECT_SECONDS, MARGIN, Begun
 
 from .ends import Fault, Status
 from .lock import holder_of
-from .settings import lost
 from .carrier.told import unanswered
 
 
@@ -96,6 +95,7 @@ def away(folder: str) -> Fault:
         return Fault(Status.AWAY, f"{folder}: there is no shop (-C FOLDER names its folder, and shop start begins one)")
     if not os.access(folder, os.X_OK):
         return Fault(Status.AWAY, f"{folder}: this user may not use it")
+    from .settings import lost      # not before it is needed: it takes a quarter of the time of a command
     holder = holder_of(folder)
     if not holder and (why_lost := lost(folder)):
         return Fault(Status.AWAY, why_lost)

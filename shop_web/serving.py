@@ -578,10 +578,10 @@ def view_of(args: argparse.Namespace) -> View | None:
     return View(path, folder, site)
 
 
-def serve(args: argparse.Namespace) -> int:
-    """Serves the shop until it is stopped by a signal."""
+def serve(args: argparse.Namespace, keys: access.Access) -> int:
+    """Serves the shop, to who has one of these keys, until it is stopped by a signal."""
     host, port = address_of(args.listen)
-    tls, keys = tls_of(args), access.from_file(args.keys_file)
+    tls = tls_of(args)
     for origin in args.allow_origin or ():
         if not re.fullmatch(r"https?://[^/?#]+", origin):
             raise Fault(Status.MISUSE, f"--allow-origin is a scheme and a host, as https://shop.example, and not {origin}")

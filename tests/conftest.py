@@ -11,9 +11,9 @@ it needs by name:
 - `web`, `shop serve` over the shop in at's folder `auction`, which is started first: web.get(path), web.post(path, body), web.ask(0, record);
   Web(at, words) of tests/web.py where it takes options or the shop is started otherwise;
 - `browser`, one page of Chromium (picture_tool/tests/browser.py); `strace`: with strace(process, "write,fsync") as calls;
-- `built("rubis_decider")`, the program of another crate;
 - `extent`, how long it may take: extent.seed, extent.seconds(30), extent.count(15), each a default that an option replaces;
-- `counted("conversations", 7)`, what the summary counts; need("cargo") of tests/needs.py skips a test by name where it isn't installed.
+- `counted("conversations", 7)`, what the summary counts; of tests/needs.py need("cargo") skips a test by name where it isn't installed, and
+  built("rubis_decider"), which is the program of another crate, where it isn't built.
 
 Marks: slow, server, browser, kill; a test that takes the fixture `server` or `browser` has the mark."""
 
@@ -51,6 +51,7 @@ def pytest_addoption(parser: pytest.Parser) -> None:
 
 def pytest_configure(config: pytest.Config) -> None:
     os.environ.pop("RUBIS", None)       # else `shop` would take that program
+    os.environ.pop("PYTHONDONTWRITEBYTECODE", None)     # else each of some thousand commands would compile `shop` anew
     if config.option.program is None:
         which = subprocess.run([TOP / "rubis", "--which"], stdin=subprocess.DEVNULL, capture_output=True, text=True)
         config.option.program = BUILT if which.returncode else pathlib.Path(which.stdout.rstrip("\n"))
@@ -60,6 +61,16 @@ def pytest_configure(config: pytest.Config) -> None:
 
 def pytest_report_header(config: pytest.Config) -> str:
     return f"rubis: {config.option.program}, --seed {config.option.seed}"
+
+
+def pytest_ignore_collect(collection_path: pathlib.Path, config: pytest.Config) -> bool | None:
+    """Of a -k of one word, leaves out files that have no such test by what they define and mark, since to import all of them takes a second.
+    Where tests have parameters, the word may come from these."""
+    word = config.option.keyword.lower()
+    if not word.isidentifier() or word == "not" or collection_path.suffix != ".py" or word in str(collection_path).lower():
+        return None
+    names = " ".join(re.findall(r"^\s*(?:def|class|@|pytestmark).*", collection_path.read_text(), re.M)).lower()
+    return None if word in names or "parametrize" in names else True
 
 
 def pytest_collection_modifyitems(items: list[pytest.Item]) -> None:
@@ -72,21 +83,17 @@ def pytest_collection_modifyitems(items: list[pytest.Item]) -> None:
 
 
 def pytest_terminal_summary(terminalreporter: TerminalReporter, config: pytest.Config) -> None:
-    """What was counted, what was skipped for lack of a part, and how to draw the same again."""
-    counts, lacks = collections.Counter[str](), collections.Counter[str]()
+    """What was counted, and how to draw the same again."""
+    counts = collections.Counter[str]()
     for reports in terminalreporter.stats.values():
         for report in reports:
             if isinstance(report, pytest.TestReport) and report.when == "call":
                 for name, number in report.user_properties:
                     counts[name] += int(str(number))
-            if isinstance(report, pytest.TestReport) and report.skipped and isinstance(report.longrepr, tuple):
-                lacks[report.longrepr[2].removeprefix("Skipped: ")] += 1
-    if counts or lacks:
+    if counts:
         terminalreporter.section("counted")
     for name, number in sorted(counts.items()):
         terminalreporter.line(f"{name}: {number:,}")
-    for lack, number in sorted(lacks.items()):
-        terminalreporter.line(f"skipped: {number} test{'s'[:number != 1]}: {lack}")
     if terminalreporter.stats.get("failed"):
         terminalreporter.line(f"random tests drew from --seed {config.option.seed}")
 
@@ -116,17 +123,6 @@ def extent(request: pytest.FixtureRequest) -> Extent:
 def program(request: pytest.FixtureRequest) -> pathlib.Path:
     found = pathlib.Path(request.config.option.program).resolve()
     assert os.access(found, os.X_OK), f"there is no program {found}: `./rubis site` builds it, --program PATH names another one"
-    return found
-
-
-@pytest.fixture(scope="session")
-def built() -> Callable[[str], pathlib.Path]:
-    """The program of another crate, which only the toolchain builds."""
-    def found(crate: str) -> pathlib.Path:
-        path = TOP / "crates" / crate / "out" / crate
-        if not os.access(path, os.X_OK):
-            pytest.skip(f"crates/{crate} isn't built (rt ci)")
-        return path
     return found
 
 

@@ -1,4 +1,4 @@
-"""What a test needs of the machine: programs, and modules of Debian's Python. Where one is missing, the test is skipped by its name."""
+"""What a test needs of the machine: programs, modules of Debian's Python, and what was built. Where one is missing, the test is skipped by its name."""
 
 import functools
 import os
@@ -28,12 +28,17 @@ def is_there(name: str) -> bool:
     return shutil.which(name, path=PATHS) is not None
 
 
-def package(name: str) -> str:
-    return PACKAGES.get(name, name.replace(":", "-").replace("_", "-"))
+def built(crate: str) -> pathlib.Path:
+    """The program of another crate than the usual one, which only the toolchain builds."""
+    path = TOP / "crates" / crate / "out" / crate
+    if not os.access(path, os.X_OK):
+        pytest.skip(f"crates/{crate} isn't built (rt ci)")
+    return path
 
 
 def need(*names: str) -> None:
     """Skips the test that calls this where one of them is missing."""
     for name in names:
         if not is_there(name):
-            pytest.skip(f"no {name} on this machine (apt-get install {package(name)})")
+            package = PACKAGES.get(name, name.replace(":", "-").replace("_", "-"))
+            pytest.skip(f"no {name} on this machine (apt-get install {package})")

@@ -56,17 +56,12 @@ def pieces_of(text: bytes, sizes: list[int]) -> Iterator[bytes]:
     yield text[at:]
 
 
-def is_read(pipe: int) -> bool:
-    """Whether a pipe is empty."""
-    return fcntl.ioctl(pipe, termios.FIONREAD, b"\0\0\0\0") == b"\0\0\0\0"
-
-
 def write_pieces(pipe: int, text: bytes, sizes: list[int]) -> None:
     """Writes a text in pieces; each of the first waits a little until the one before is read."""
     with contextlib.suppress(BrokenPipeError):
         for turn, piece in enumerate(pieces_of(text, sizes)):
             until = time.monotonic() + 0.002
-            while turn < 25 and not is_read(pipe) and time.monotonic() < until:
+            while turn < 25 and any(fcntl.ioctl(pipe, termios.FIONREAD, bytes(4))) and time.monotonic() < until:
                 os.sched_yield()
             left = memoryview(piece)
             while left:

@@ -24,8 +24,7 @@ class Server:
         return self.at.run(f"redis-cli -p {self.port} {words}; true")
 
     def kill(self) -> None:
-        self.process.kill()
-        self.process.wait()
+        self.at.kill(self.process.pid)
 
     def start_shop(self) -> "Server":
         self.at.run(f"./shop start a --sites 3 --here 0,1 --over {self.over}")

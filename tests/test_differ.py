@@ -22,7 +22,6 @@ from tests.needs import TOP, need
 from tests.runs import expect_same, run
 from traffic import KINDS, Dice, Site
 
-PLAIN = TOP / "plain/target/release/plain"
 SHARES = 4              # how many tests there are, which run beside each other
 GROUP = 20              # how many cases are made of one seed,
 OF_ONE_SOURCE = 6       # and how many of these are audits and widenings, of the logs of one run
@@ -34,7 +33,7 @@ def plain() -> pathlib.Path:
     """The plain program, built."""
     need("cargo")
     subprocess.run(["cargo", "build", "--release", "--offline", "--quiet"], cwd=TOP / "plain", check=True)
-    return PLAIN
+    return TOP / "plain/target/release/plain"
 
 
 def group_of(seed: int, number: int, plain: pathlib.Path) -> list[cases.Case]:

@@ -152,6 +152,7 @@ OWN = {
         ["site --site 1", "site --site 2 --sites 2", "site --site 7 --sites 3 --keep 5", "lack --waiting --site 2 --sites 2"],
     b"fault: --site and --keep are of the site that --waiting reads\n": ["lack --site 0", "lack --keep 5", "lack --site 1 --sites 2"],
     b"fault: there is no site in /nowhere\n": ["keep /nowhere --shorten"],
+    b"fault: the folder has no name\n": ["keep ''"],       # nothing is written, where the root of the file system would be taken
     b"fault: only records of site, world or audit are checked\n": ["check lack"],
     b"fault: to must not be below sites\n": ["widen --sites 3 --to 2", "widen --sites 16 --to 15"],
 }
@@ -226,11 +227,6 @@ def test_input(runs: Callable[[], list[Expected]], program: pathlib.Path, counte
 def test_most_records(more: int, program: pathlib.Path, counted: Counted) -> None:
     """As many records as there may be, and one more."""
     expect_each(program, counted, too_long(more))
-
-
-def test_nameless_folder(program: pathlib.Path, counted: Counted) -> None:
-    """A site in a folder without a name: nothing is written, where the root of the file system would be taken."""
-    expect_each(program, counted, [Expected("keep ''", b"", b"", 2, b"fault: the folder has no name\n")])
 
 
 def test_failed_reads(program: pathlib.Path, counted: Counted) -> None:

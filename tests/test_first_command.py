@@ -367,7 +367,7 @@ def test_release_is_installed(clone: Clone) -> None:
     """Also the command `shop` of the clone runs it."""
     clone.release()
     for name in ("clients", "completions", "docs", "examples", "monitoring", "picture_tool", "shop_ask", "shop_tool", "shop_web", "systemd"):
-        shutil.copytree(TOP / name, clone.top / name)
+        shutil.copytree(TOP / name, clone.top / name, ignore=shutil.ignore_patterns("__pycache__"))     # others write there meanwhile
     for name in ("install", "shop", "CHANGELOG.md", "scripts/picture.py"):
         shutil.copy(TOP / name, clone.top / name)
     assert clone.ended("./install", str(clone.home / "usr")) == (0, "", CAME)

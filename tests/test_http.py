@@ -257,12 +257,12 @@ def test_description(web: Web) -> None:
     assert (refused.status, refused.headers["allow"]) == (405, "GET, HEAD"), f"what can't be done there: {refused}"
 
 
-def raw(web: Web, *pieces: bytes, wait: float = 0.1) -> bytes:
+def raw(web: Web, *pieces: bytes) -> bytes:
     """What comes over a connection that is sent these pieces, until it is closed."""
     with web.line() as line:
         for piece in pieces:
             line.sendall(piece)
-            time.sleep(wait)
+            time.sleep(0.1)
         return b"".join(iter(lambda: line.recv(1 << 16), b""))
 
 
@@ -441,8 +441,7 @@ TOLD = ["0.1", True, "0.2", "0.3", "0.4", "KeyTaken", 1, "a/b, c", "ann", "0.1",
 
 
 def test_typescript(at: Folder) -> None:
-    """The client in TypeScript is what the description gives, its types hold, and node asks and reads a running shop by it."""
-    at.run(f"{PYTHON} {TOP}/scripts/write_client.py --check")
+    """The types of the client in TypeScript hold, and node asks and reads a running shop by it."""
     need("tsc", "node")
     shutil.copy(TOP / "clients/shop.ts", at.path)
     (at.path / "trial.ts").write_text(TYPESCRIPT)

@@ -245,10 +245,7 @@ class Trial:
 
     def kill_disk(self, folder: str, state: dict[str, Any], site: dict[str, Any]) -> bool:
         """A site's folder is lost, and made again from the streams."""
-        self.at.kill(state["pid"])
-        time.sleep(0.3)
-        number = site["site"]
-        self.note_lost(folder, number)
+        number = self.about_to_lose(folder, state, site)
         sent = sends(self.at, f"{folder}/{number}")
         shutil.rmtree(f"{folder}/{number}")
         self.rebuild(folder, number)
@@ -263,10 +260,7 @@ class Trial:
 
     def kill_power(self, folder: str, state: dict[str, Any], site: dict[str, Any]) -> bool:
         """A site's files lose their ends. It starts, or is refused or fenced and then made again from the streams."""
-        self.at.kill(state["pid"])
-        time.sleep(0.5)
-        number = site["site"]
-        self.note_lost(folder, number)
+        number = self.about_to_lose(folder, state, site)
         for name, most in (("kept", self.dice.choice([0, 30, 300, 3000])), ("out", self.dice.choice([0, 300, 3000, 9000]))):
             path = f"{folder}/{number}/{name}"
             os.truncate(path, max(0, os.path.getsize(path) - int(most * self.dice.random())))
@@ -275,35 +269,36 @@ class Trial:
 
     def kill_older(self, folder: str, state: dict[str, Any], site: dict[str, Any]) -> bool:
         """A site's folder is copied; the next time it is put back to the copy. It starts, or is fenced or refused and then made again."""
-        number = site["site"]
-        copy = self.at.path / f"{pathlib.Path(folder).name}.{number}.older"
+        copy = self.at.path / f"{pathlib.Path(folder).name}.{site['site']}.older"
         if not copy.exists():
-            shutil.copytree(f"{folder}/{number}", copy)
+            shutil.copytree(f"{folder}/{site['site']}", copy)
             return False
-        self.at.kill(state["pid"])
-        time.sleep(0.3)
-        self.note_lost(folder, number)
+        number = self.about_to_lose(folder, state, site)
         for name in ("kept", "out", "life", "setup", "sums"):
             shutil.copyfile(copy / name, f"{folder}/{number}/{name}")
         shutil.rmtree(copy)
         self.mend(folder, number, "older")
         return True
 
-    def note_lost(self, folder: str, number: int) -> None:
-        """A folder is about to lose something. Of what was told before the server lost its end, some messages may stand nowhere else: then
-        their numbers may be given again. What was told since stands in a stream."""
+    def about_to_lose(self, folder: str, state: dict[str, Any], site: dict[str, Any]) -> int:
+        """Ends what runs a site whose folder is about to lose something: its number. Of what was told before the server lost its end, some
+        messages may stand nowhere else: then their numbers may be given again. What was told since stands in a stream."""
+        self.at.kill(state["pid"])
+        time.sleep(0.5)
+        number: int = site["site"]
         if self.course.over != "everysec":
-            return
+            return number
         assert self.server
         elsewhere = set(self.server.say(f"xrange auction:{number} - +").splitlines())
         for part, sites in self.parts.items():
-            for site in sites:
-                if site != number and os.path.exists(f"{part}/{site}/kept"):
-                    elsewhere |= set(pathlib.Path(part, str(site), "kept").read_text(errors="replace").split("\n"))
+            for other in sites:
+                if other != number and os.path.exists(f"{part}/{other}/kept"):
+                    elsewhere |= set(pathlib.Path(part, str(other), "kept").read_text(errors="replace").split("\n"))
         sent = {text for text in sends(self.at, f"{folder}/{number}") if text.startswith("msg,")}
         lost = {text for text in sent - elsewhere if self.asked.told.get(text, self.lost_end) < self.lost_end}
         self.kills["messages that only the folder had"] += len(lost - self.asked.lost)
         self.asked.lost |= lost
+        return number
 
     def mend(self, folder: str, number: int, kind: str) -> None:
         """Starts sites of which one may have lost something; it goes on, or is made again."""

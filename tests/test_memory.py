@@ -17,16 +17,16 @@ import pathlib
 import re
 import subprocess
 import tempfile
-from collections.abc import Callable, Iterable, Sequence
+from collections.abc import Iterable, Sequence
 
 import pytest
 
 from tests.conftest import Extent
 from tests.folder import Counted
-from tests.needs import TOP, need
+from tests.needs import TOP, built, need
 from tests.test_conversations import Run, runs_of
 
-SCENARIOS = TOP / "crates/rubis_growths/src/main.rt"
+SCENARIOS: list[str] = re.findall(r'^ +"(\w+)" =>', (TOP / "crates/rubis_growths/src/main.rt").read_text(), re.M)
 EACH, STEP, MANY, RUNS = 400, 37, 10 ** 9, 24
 WHOLE = {"every_growth_site", "every_growth_windows", "every_growth_script", "short_apply"}
 SECONDS = 60            # in which a run has to end
@@ -257,11 +257,6 @@ class Keeping(Command):
         return wrote.partition(b"\n")[2]
 
 
-def scenarios() -> list[str]:
-    """The scenarios of rubis_growths, by their names."""
-    return re.findall(r'^ +"(\w+)" =>', SCENARIOS.read_text(), re.M)
-
-
 class Refusing:
     """Refuses one call after the other of what is tried: how many runs there were, and how many of them met a refusal."""
 
@@ -283,12 +278,9 @@ class Refusing:
         calls = itertools.chain(range(1, self.each), itertools.count(self.each, STEP))
         while self.refuse(some := list(itertools.islice(calls, RUNS))):
             pass
-        self.show(some[-1])
-
-    def show(self, last: int) -> None:
-        """Refuses the calls up to the last one that were passed over, until what has to be told is told. Which call it is that
-        leads to that depends on how threads take turns."""
-        for first in range(self.each + 1, last, RUNS):
+        # Refuses the calls up to the last one that were passed over, until what has to be told is told. Which call it is that
+        # leads to that depends on how threads take turns.
+        for first in range(self.each + 1, some[-1], RUNS):
             if self.tried.is_shown:
                 break
             self.refuse(range(first, first + RUNS))
@@ -315,8 +307,8 @@ def expect_all_is_told(tried: Tried, made: pathlib.Path, extent: Extent, counted
 
 
 @pytest.mark.slow
-@pytest.mark.parametrize("name", scenarios())
-def test_scenario(name: str, built: Callable[[str], pathlib.Path], made: pathlib.Path, extent: Extent, counted: Counted) -> None:
+@pytest.mark.parametrize("name", SCENARIOS)
+def test_scenario(name: str, made: pathlib.Path, extent: Extent, counted: Counted) -> None:
     tried = Scenario(name, [str(built("rubis_growths")), name], "", text_of(*TEXTS[name]) if name in TEXTS else None)
     expect_all_is_told(tried, made, extent, counted)
 

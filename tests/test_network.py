@@ -67,14 +67,14 @@ class Site(abc.ABC):
         self.child.stdin.write(record + "\n")
         self.child.stdin.flush()
 
-    def answered(self, record: str) -> list[str]:
-        """Gives a record. Returns its answer and what that sends, or has the rows of a listing."""
+    def answered(self, record: str) -> tuple[int, list[str]]:
+        """Gives a record. Returns its number, and its answer with what that sends, or has the rows of a listing."""
         self.give(record)
         first = self.line()
         fields = first.split(",")
         assert fields[0] == "reply", f"site {self.site} answers {record} with {first!r}"
         more = {"ok": 1, "passed": 1, "rows": int(fields[3]) if fields[2] == "rows" else 0}.get(fields[2], 0)
-        return [first, *(self.line() for _ in range(more))]
+        return int(fields[1]), [first.split(",", 2)[2], *(self.line() for _ in range(more))]
 
     def kill(self, record: str | None) -> None:
         """Kills the process, where a record is given while it may be answering it."""
@@ -143,11 +143,10 @@ class Kept(Site):
         return sent
 
     def answer(self, record: str) -> list[str]:
-        lines = self.answered(record)
-        number = int(lines[0].split(",")[1])
+        number, answer = self.answered(record)
         self.seen += 1
         assert number == self.seen, f"site {self.site} answers {record} with number {number} after {self.seen - 1}"
-        return [lines[0].split(",", 2)[2], *lines[1:]]
+        return answer
 
     def records(self) -> bytes:
         kept = (self.folder / "kept").read_bytes()
@@ -179,15 +178,13 @@ class Recorded(Site):
 
     def replay(self, most: int) -> None:
         for it in self.to_replay[:most]:
-            first, *more = self.answered(it.record)
-            answer = [first.split(",", 2)[2], *more]
+            _, answer = self.answered(it.record)
             assert answer == it.answer or it.is_idle, f"site {self.site} answered {it.record} with {it.answer}, and now with {answer}"
         self.to_replay = self.to_replay[most:]
 
     def answer(self, record: str) -> list[str]:
         self.replay(len(self.to_replay))
-        first, *more = self.answered(record)
-        answer = [first.split(",", 2)[2], *more]
+        _, answer = self.answered(record)
         self.recording.append(Recording(record, answer, answer[0].split(",")[0] in ("rows", "refused", "repeat")))
         return answer
 

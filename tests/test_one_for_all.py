@@ -3,6 +3,7 @@
 import gzip
 import json
 import os
+import zlib
 
 import pytest
 
@@ -112,7 +113,10 @@ def test_a_packed_body_is_unpacked_up_to_the_limit_and_for_known_keys_alone(at: 
     def post(body: bytes, *words: str, coding: str = "gzip") -> int:
         (at.path / "body").write_bytes(body)
         return web.post("/sites/0/asks", "@body", "-H", f"Content-Encoding: {coding}", "-H", "Expect:", *words).status
-    ask, bomb = gzip.compress(b'{"record": "user,ann"}'), gzip.compress(bytes(200 << 20), 1)
+    # 200 MiB, of which each but the first comes to the same bytes, so two are packed.
+    packer = zlib.compressobj(1, wbits=31)
+    first, other = (packer.compress(bytes(1 << 20)) + packer.flush(zlib.Z_FULL_FLUSH) for _ in range(2))
+    ask, bomb = gzip.compress(b'{"record": "user,ann"}'), first + 199 * other
     assert post(ask, *key) == 201
     assert post(bomb) == 401 and post(bomb, *key) == 413
     assert post(b"no gzip", *key) == 400 and post(ask[:-1], *key) == 400 and post(ask + b"x", *key) == 400

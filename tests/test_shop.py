@@ -468,9 +468,8 @@ def test_hung(at: Folder) -> None:
         shown = at.run("./shop -C auction status; test $? = 1")
         assert "1     silent " in shown and "0     up " in shown, f"how it is shown: {shown}"
     at.wait("that it goes on", lambda: at.status()["well"])
-    if answers_questions(str(at.path / "rubis")):
-        with at.standing_still(at.site(0)["pid"]):      # else the stop would wait half a minute for it
-            at.wait("the status of one that isn't asked", lambda: at.site(0)["silent"])
+    with at.standing_still(at.site(0)["pid"]):      # else the stop would wait half a minute for it
+        at.wait("the status of one that isn't asked", lambda: at.site(0)["silent"])
 
 
 def test_small_things(at: Folder) -> None:
@@ -525,8 +524,7 @@ def test_once_two_starts_doubled_links(at: Folder) -> None:
 
 
 def test_help(at: Folder) -> None:
-    """Each command has its help, and the man page and the completions are those of the command line."""
+    """Each command has its help."""
     for command in at.run("./shop --help").split("COMMAND\n")[1].split("\n\n")[0].split("\n"):
         if command.startswith("    ") and command[4] != " ":
             assert "usage: shop" in at.run(f"./shop {command.split()[0]} --help"), command
-    at.run(f"python3 {TOP}/scripts/write_help.py --check")

@@ -248,8 +248,9 @@ def test_forged_packets(at: Folder, server: Server) -> None:
     assert at.text("a/0/kept") == "user,cat\n", f"what it was given: {at.text('a/0/kept')!r}"
 
 
-def recorded(at: Folder) -> str:
-    """A shop with something to shorten, stopped; the tables of its sites."""
+def test_shorten(at: Folder) -> None:
+    """A recording without what changed nothing gives the same packets and tables. One that can't be shortened is said so, also where whoever
+    runs the command ignores SIGCHLD; what was changed in `out` is told by its log."""
     at.start_sale(2)
     at.shop("ask 0 user,ann user,bob 'bid,0.3,0.2,5'", 1)
     at.shop("ask 1 bid,0.3,0.2,500")
@@ -257,23 +258,6 @@ def recorded(at: Folder) -> str:
     rows = at.shop("ask 1 list,tables")
     at.shop("shorten 0", 1, "auction is running")
     at.shop("stop")
-    return rows
-
-
-def stands_where_it_stood(at: Folder, folder: str, rows: str) -> None:
-    """The site has the same tables and has sent the same packets; it goes on with the next number."""
-    at.run(f"./shop start {folder}")
-    assert at.shop("ask 0 list,tables", folder=folder) == rows, "the same tables"
-    assert sends(at, f"{folder}/0") == sends(at, "auction/0"), "the same packets"
-    assert at.shop("ask 0 user,cat", folder=folder) == "ok,0.4\n", "the next number"
-    at.shop("audit", folder=folder)
-    at.run(f"./shop stop {folder}")
-
-
-def test_shorten(at: Folder) -> None:
-    """A recording without what changed nothing gives the same packets and tables. One that can't be shortened is said so, also where whoever
-    runs the command ignores SIGCHLD; what was changed in `out` is told by its log."""
-    rows = recorded(at)
     at.run("cp auction/0/out aside; echo strange >> auction/0/out")
     at.run("env --ignore-signal=CHLD ./shop -C auction shorten 0", 1, "out differs")
     at.shop("log 0", 1, "auction/0/out was changed: not an answer: b'strange'")
@@ -282,7 +266,11 @@ def test_shorten(at: Folder) -> None:
     assert at.text("said") == "site 0: 5 of 8 records are left\n", at.text("said")
     left = "user,ann\nuser,bob\nitem,0.1,lamp,7,3,100,80\npass,1\nmsg,1,1,1,3,3:0,bid,0.3,0.2,500\n"
     assert at.text("short/0/kept") == left, "what is left"
-    stands_where_it_stood(at, "short", rows)
+    at.run("./shop start short")
+    assert at.shop("ask 0 list,tables", folder="short") == rows, "the same tables"
+    assert sends(at, "short/0") == sends(at, "auction/0"), "the same packets"
+    assert at.shop("ask 0 user,cat", folder="short") == "ok,0.4\n", "the next number"
+    at.shop("audit", folder="short")
 
 
 def seconds_of_calls(count: int) -> float:

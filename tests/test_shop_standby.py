@@ -40,10 +40,6 @@ asyncio.run(main())
     def join(self) -> None:
         self.process = self.at.start(f"{PYTHON} line.py {self.port} {self.to}")
 
-    def cut(self) -> None:
-        self.process.kill()
-        self.process.wait()
-
 
 def yields(at: Folder, server: Server) -> None:
     """Waits until site 2 yields to its standby."""
@@ -109,7 +105,7 @@ def test_standby_of_one_that_was_cut_off(at: Folder, server: Server) -> None:
     again it is fenced."""
     line = Line(at, server)
     start_with_standby(at, line.over, server)
-    line.cut()
+    at.kill(line.process.pid)
     said = at.run("./shop -C b ask 2 comment,0.3,0.2,0.1,2,late --timeout 1 2>&1", 3)
     assert "whether it was accepted isn't known (shop log 2)" in said and "ok," not in said, f"what is told where the server is away: {said}"
     assert ",ok,2.2\n" in at.shop("log 2", folder="b"), "it is accepted there"

@@ -6,14 +6,14 @@ itself says that the model doesn't have it: a site is opened of which something 
 import collections
 import gc
 import pathlib
-from collections.abc import Callable
 
 import pytest
 
-from simulation.plays import Played, answers_of, compared, decided, play, told
+from simulation.plays import answers_of, compared, decided, play, told
 from simulation.rules import RULES, drawn
 from tests.conftest import Extent
 from tests.folder import Counted
+from tests.needs import built
 
 SEED = "4"              # of the runs that are runs of the model too
 RUNS, MORE = 400, 100
@@ -30,7 +30,10 @@ def expect_kept(seed: str, numbers: range, decider: pathlib.Path | None, counted
         for played in decided(str(decider), plays) if decider else plays:
             assert not played.broken, told(played, None)
             assert all(played.least[name] >= least for name, least in LEAST.items()), f"{played.seed} has {played.least}"
-            events.update(kinds_of(played))
+            kinds = ("IsKilled", "IsLost", "IsPutBack", "TakesOver", "Rebuilds", "fenced", "cut-off")
+            events.update(f"with {kind}" for kind in kinds if played.counts.get(kind))
+            events.update([f"not all looked at: {played.excused}"] if played.excused else [])
+            events.update([f"up to a step that the model doesn't have: {played.why_none}"] if played.why_none else [])
         gc.collect()
     gc.enable()
     counted("simulated shops", len(numbers))
@@ -38,16 +41,9 @@ def expect_kept(seed: str, numbers: range, decider: pathlib.Path | None, counted
         counted(f"simulated shops, {name}", count)
 
 
-def kinds_of(played: Played) -> list[str]:
-    """What the summary counts of a run."""
-    wanted = [f"with {kind}" for kind in ("IsKilled", "IsLost", "IsPutBack", "TakesOver", "Rebuilds", "fenced", "cut-off") if played.counts.get(kind)]
-    excuses = [f"not all looked at: {played.excused}"] if played.excused else []
-    return wanted + excuses + ([f"up to a step that the model doesn't have: {played.why_none}"] if played.why_none else [])
-
-
 @pytest.mark.slow
 @pytest.mark.parametrize("share", range(SHARES))
-def test_runs_of_the_model(share: int, built: Callable[[str], pathlib.Path], extent: Extent, counted: Counted) -> None:
+def test_runs_of_the_model(share: int, extent: Extent, counted: Counted) -> None:
     expect_kept(SEED, range(share, extent.count(RUNS), SHARES), built("rubis_decider"), counted)
 
 
@@ -66,7 +62,7 @@ def test_opens_beside_a_site_that_cannot_say_what_it_has(seed: str) -> None:
 
 
 @pytest.mark.parametrize("rule", RULES)
-def test_rules_are_as_defined(rule: str, built: Callable[[str], pathlib.Path], extent: Extent) -> None:
+def test_rules_are_as_defined(rule: str, extent: Extent) -> None:
     """What a rule of `shop` lets happen is a step of the model, and else it is none, but for the differences that PROMISES names."""
     states = drawn(rule, str(extent.seed), 400)
     answers = answers_of(str(built("rubis_decider")), [state.lines for state in states])

@@ -3,7 +3,6 @@
 import csv
 import pathlib
 import re
-import subprocess
 
 import pytest
 
@@ -12,6 +11,7 @@ from shop_tool.carrier import records
 from tests import cases
 from tests.folder import Counted
 from tests.needs import TOP, need
+from tests.test_random import answers
 from traffic import FIELDS, KINDS, RED, Dice, Fields, Message, Site
 
 MANUAL = (TOP / "docs/MANUAL.md").read_text()
@@ -21,10 +21,6 @@ DRAWN = 2_000
 
 def in_manual(pattern: str) -> list[str]:
     return re.findall(pattern, MANUAL, re.M)
-
-
-def codes() -> dict[str, int]:
-    return {name: int(code) for code, name in re.findall(r"^\| (\d+) \| (\w+) \|", MANUAL, re.M)}
 
 
 def test_manual() -> None:
@@ -86,13 +82,6 @@ def test_all_kinds_are_accepted() -> None:
     assert net.kinds.keys() == asked == KINDS.keys()
 
 
-def checked(program: pathlib.Path, lines: list[str]) -> set[int]:
-    """The numbers of the records that the program says to be outside the grammar."""
-    text = "".join(f"{line}\n" for line in lines).encode()
-    done = subprocess.run([program, "check", "--sites", "2"], input=text, capture_output=True)
-    return {int(number) for number in re.findall(rb"^bad,(\d+),", done.stdout, re.M)}
-
-
 @pytest.mark.parametrize("kind", KINDS)
 def test_kind_of_the_program(kind: str, program: pathlib.Path) -> None:
     """The program takes asks and messages of that kind, and no number beyond its ends."""
@@ -107,12 +96,13 @@ def test_kind_of_the_program(kind: str, program: pathlib.Path) -> None:
                 bad += [drawn[:place] + [str(end)] + drawn[place + 1:] for end in (ends[0] - 1, ends[1] + 1)]
         red = 2 if kind in RED else 0
         lines = [",".join(each) if before is not None else Message(0, 3, red, [2, 0], each).text() for each in good + bad]
-        assert checked(program, lines) == set(range(len(good) + 1, len(lines) + 1)), f"{lines}"
+        told = answers(program, ["check", "--sites", "2"], lines, (0, 1))
+        assert [int(number) for number in re.findall(r"^bad,(\d+),", told, re.M)] == [*range(len(good) + 1, len(lines) + 1)], f"{lines}"
 
 
 def test_decisions(program: pathlib.Path, counted: Counted) -> None:
     """What is foretold of each ask is what a site answers: the message, or the refusal by its name and code."""
-    site, dice, numbers = Site(0, 1), Dice(4), codes()
+    site, dice, codes = Site(0, 1), Dice(4), {name: code for code, name in re.findall(r"^\| (\d+) \| (\w+) \|", MANUAL, re.M)}
     fields = cases.OddFields(dice, 0.0, [*cases.NICKS, *(f"n{number}" for number in range(60))], site)
     asks, said = [], list[str]()
     kinds = {kind: set[str]() for kind in KINDS}
@@ -122,12 +112,11 @@ def test_decisions(program: pathlib.Path, counted: Counted) -> None:
         name = site.refusal(ask)
         kinds[ask[0]].add(name or "ok")
         if name:
-            said.append(f"reply,{number},refused,{numbers[name]},{name}")
+            said.append(f"reply,{number},refused,{codes[name]},{name}")
         else:
             message = site.make(site.shadow(ask))
             said += [f"reply,{number},ok,0.{message.number}", f"send,{message.text()}"]
-    done = subprocess.run([program, "site"], input="".join(f"{ask}\n" for ask in asks), capture_output=True, text=True, check=True)
-    assert list(csv.reader(done.stdout.splitlines())) == list(csv.reader(said))
+    assert list(csv.reader(answers(program, ["site"], asks).splitlines())) == list(csv.reader(said))
     for kind, names in kinds.items():
         assert names >= {"ok", *in_manual(rf"^\| `{kind}` \| BadRecord, (.*) \|$")[0].split(", ")} - {"Full", "NoToken", "RedBehind"}, f"{kind}: {names}"
     counted("decisions that were foretold", DRAWN)

@@ -17,9 +17,10 @@ if TYPE_CHECKING:
 
 KEYED_TRIES = 4         # how often one asks again once it was answered; three times as often before
 MARGIN = 2.0            # as the client's: seconds beyond its time-out that a request has
-NOTHING = ("nothing was given to it", "nothing more was given to it", "nothing was asked")
+# What a fault says of the records behind those that were answered: the first of these that it has.
+SAID = {"may still be accepted": "unknown", "isn't known": "unknown", "nothing was given to it": "not-given", "nothing more was given to it": "not-given",
+        "nothing was asked": "not-given", "not accepted": "not-accepted", "published": "unknown", "accepted here": "unknown"}
 WORDS = {"ok": "TellsOk", "unknown": "TellsUnknown", "not-given": "TellsNothing", "not-accepted": "TellsNothing", "refused": "TellsNo"}
-UNKNOWN = ("may still be accepted", "isn't known")
 NUMBER = re.compile(r"may still be accepted, as record ([0-9]+) of")
 
 
@@ -34,7 +35,10 @@ class Told:
     def of_answer(cls, site: int, record: bytes, line: str) -> "Told":
         """What an answer says. One that a request ends with, since the token didn't come, is no acceptance either."""
         head = line.split(",")
-        return cls(site, record, "ok", id_of(head[3])) if head[2] == "ok" else cls(site, record, "refused")
+        if head[2] != "ok":
+            return cls(site, record, "refused")
+        origin, number = map(int, head[3].split("."))
+        return cls(site, record, "ok", (origin, number))
 
 
 class Asker:
@@ -93,8 +97,11 @@ class Asker:
             else:
                 last = answer.get("fault", "")
         found = NUMBER.search(last)
+        what = next((what for words, what in SAID.items() if words in last), None)
         for at, record in enumerate(records):
-            self.told.append(Told(self.site, record, self._what(last, at), number=int(found[1]) + at if found else None))
+            if not what:
+                raise Violation(f"an asker isn't told what came of a record: {last or 'there is neither an answer nor a fault'}")
+            self.told.append(Told(self.site, record, what, number=int(found[1]) + at if found else None))
         here = self.supervisor.sites.get(self.site) if self.supervisor else None
         if here and self.published and not last:
             self._look_at_published(here)
@@ -114,26 +121,6 @@ class Asker:
             found = {line[:-1] for site in here.shop.sites.values() if site is not here for line in site.folder.lines("kept")}
         if not texts <= found and here.folder.is_whole and len(here.shop.sites) > 1 - world.is_over_server:
             raise Violation(f"{sorted(texts - found)} were told published, and nobody else has them")
-
-    @staticmethod
-    def _what(fault: str, at: int) -> str:
-        """What a fault says of the records behind those that were answered, the first of them is at 0."""
-        if any(words in fault for words in UNKNOWN):
-            return "unknown"
-        if any(words in fault for words in NOTHING):
-            return "not-given"
-        if "not accepted" in fault:
-            return "not-accepted"
-        if not fault:
-            raise Violation("a request ended without an answer to each record, and without a fault")
-        if "published" in fault or "accepted here" in fault:
-            return "unknown"
-        raise Violation(f"an asker isn't told what came of a record: {fault}")
-
-
-def id_of(name: str) -> tuple[int, int]:
-    site, number = map(int, name.split("."))
-    return site, number
 
 
 def note_told(world: "World", told: list[Told]) -> None:

@@ -5,7 +5,6 @@ from collections.abc import Callable
 from typing import TYPE_CHECKING
 
 from .disk import Folder, Machine
-from .server import lost_seconds
 from .world import Supervisor
 
 if TYPE_CHECKING:
@@ -58,7 +57,7 @@ class Faults:
 
     def lost_end(self, dice: random.Random) -> None:
         """A file of a stopped site loses some of its end."""
-        machine, folder = self.run.some_folder(dice)
+        machine, _, folder = self.run.some_folder(dice)
         self.run.switch_off(machine)
         for name in dice.choice([["kept"], ["out"], ["kept", "out"], ["kept", "out"]]):
             if name in folder.files:
@@ -69,11 +68,11 @@ class Faults:
         self.run.taint([folder], "LosesEnd", is_whole=True)      # what is left of it is whole
 
     def copied(self, dice: random.Random) -> None:
-        machine, folder = self.run.some_folder(dice)
+        machine, number, folder = self.run.some_folder(dice)
         copy = folder.copied(machine)
         self.world.note("IsCopied")
         self.world.steps.copied(folder, copy, is_stored=True)
-        self.run.backups.append((machine, self.run.number_of(machine, folder), copy))
+        self.run.backups.append((machine, number, copy))
 
     def put_back(self, dice: random.Random) -> None:
         """A folder is put back to a copy of before, while its site runs or not, over what is there or as another folder."""
@@ -119,10 +118,9 @@ class Faults:
         world.clock.after(seconds, restore)
 
     def lost(self, dice: random.Random) -> None:
-        machine, folder = self.run.some_folder(dice)
+        machine, number, folder = self.run.some_folder(dice)
         if dice.random() < 0.5:
             self.run.switch_off(machine)
-        number = self.run.number_of(machine, folder)
         folder.is_there, folder.keeper = False, None
         folder.files = {}
         machine.folders[number] = made = Folder(self.world, machine)
@@ -132,14 +130,14 @@ class Faults:
 
     def lost_file(self, dice: random.Random) -> None:
         """`out` or `kept` is removed while the site runs."""
-        _, folder = self.run.some_folder(dice)
+        _, _, folder = self.run.some_folder(dice)
         if folder.files.pop(dice.choice(["out", "out", "kept"]), None):
             self.world.steps.lost_end(folder)
             self.run.taint([folder], "file-removed")
 
     def changed_word(self, dice: random.Random) -> None:
         """A byte of `kept` changes while its site is stopped, in a line that has its sum on the disk."""
-        machine, folder = self.run.some_folder(dice)
+        machine, _, folder = self.run.some_folder(dice)
         self.run.switch_off(machine)
         kept = folder.files.get("kept")
         size = sum(map(len, folder.lines("kept")[:folder.checked()[0]]))
@@ -219,7 +217,7 @@ class Faults:
         self.world.clock.after(dice.choice([0.05, 0.5, 5.0]), come)
 
     def server_loses_end(self, dice: random.Random) -> None:
-        self.server_goes(dice, lambda: self.server_forgets(lost_seconds(self.world.server, dice)))
+        self.server_goes(dice, lambda: self.server_forgets(0.0 if self.world.server.is_always else dice.choice([0.05, 0.3, 1.0, 2.0])))
 
     def server_forgets(self, seconds: float) -> None:
         """The server comes back as it was that long ago."""

@@ -25,6 +25,7 @@ One thing that happens is no step of the model, since its laws don't hold where 
 anybody decides. A site opens, and a folder or a stream has more of it that it doesn't reach: which supervisors run, and what they know, says
 whether it does. Or somebody reads what a process sends whose supervisor is gone."""
 
+import contextlib
 from collections.abc import Callable, Generator, Iterable, Sequence
 from functools import partial
 from typing import TYPE_CHECKING, Any
@@ -58,6 +59,19 @@ class Step:
     def __init__(self, text: str, is_void: bool = False) -> None:
         self.text, self.is_void = text, is_void
         self.why_none: str | None = None
+
+
+def sent_in(rest: bytes) -> bytes:
+    """The text of the packet that an answer sends."""
+    return rest.rstrip(b"\n")[5:]
+
+
+def packet_of(keeper: "Keeper", fields: Sequence[bytes], rest: bytes, more: int) -> Packet:
+    """The packet that an answer sends: a message with that ask, or a pass behind so many messages of its site."""
+    if fields[2] == b"ok":
+        return "m", keeper.number, int(fields[3].split(b".")[1]), more
+    turn, to = (int(field) for field in sent_in(rest).split(b",")[2:4])
+    return "p", keeper.number, turn, to, more
 
 
 class Given:
@@ -101,27 +115,6 @@ class Slot:
         """Says which packets its site may send again, under their names: those of it that are beyond what the folder has."""
         last = {"m": self.last("m"), "p": max(self.last("p"), self.taken())}
         return lambda packets: [packet for packet in packets if packet[1] == self.site and packet[2] > last[packet[0]]]
-
-
-class Asking(Generator[tuple[Any, ...], Any, None]):
-    """The steps of an asker, who notes whose answer is said."""
-
-    def __init__(self, steps: "Steps", asks: Sequence[int], ask: Ask, run: Generator[tuple[Any, ...], Any, None]) -> None:
-        self._steps, self._asks, self._ask, self._run = steps, asks, ask, run
-
-    def _noted(self, step: tuple[Any, ...]) -> tuple[Any, ...]:
-        if isinstance(step, Say):
-            self._steps.told = self._asks[self._ask.answered]
-        return step
-
-    def send(self, said: Any) -> tuple[Any, ...]:
-        return self._noted(self._run.send(said))
-
-    def throw(self, *raised: Any) -> tuple[Any, ...]:
-        return self._noted(self._run.throw(*raised))
-
-    def close(self) -> None:
-        self._run.close()
 
 
 class Steps:
@@ -170,11 +163,6 @@ class Steps:
         had = {slot: len(slot.packets) for slot in self.slots}
         self.last.update((packet, (step, had)) for packet in packets)
 
-    def _is_offered(self, packet: Packet) -> bool:
-        if self.world.is_over_server:
-            return packet in self.streams[packet[1]]
-        return any(packet in slot.packets for slot in self.slots if slot.site == packet[1])
-
     @staticmethod
     def _word(packet: Packet) -> str:
         return ",".join(map(str, packet[1:]))
@@ -220,12 +208,6 @@ class Steps:
             step = self._open(slot, UNREACHED if is_unreached else None)
         slot.takes_over = False
         self.unseen.update((other, (loss, packets, step)) for (other, packets), loss in zip(stored, lost))
-
-    def _is_seen_again(self, slot: Slot) -> None:
-        """A stored copy is put back that was as good as lost where a site was opened: that site didn't reach it."""
-        if slot in self.unseen:
-            loss, slot.packets, opened = self.unseen.pop(slot)
-            loss.is_void, opened.why_none = True, UNREACHED
 
     def _open(self, slot: Slot, why_none: str | None, word: str = "Opens") -> Step:
         """It opens, and so closes the others of its site; or it takes over, and they go on."""
@@ -358,9 +340,18 @@ class Steps:
         if slot and (asks := slot.waiting.get(record)):
             slot.given.append(Given(keeper, record, asks[0], self._add("Gives", slot.number, asks[0], is_void=True)))
 
-    def asking(self, asks: Sequence[int], ask: Ask, run: Generator[tuple[Any, ...], Any, None]) -> Asking:
-        """The steps of the asker of these."""
-        return Asking(self, asks, ask, run)
+    def asking(self, asks: Sequence[int], ask: Ask, run: Generator[tuple[Any, ...], Any, None]) -> Generator[tuple[Any, ...], Any, None]:
+        """The steps of the asker of these, of whom it is noted whose answer is said."""
+        goes_on = partial(run.send, None)
+        with contextlib.suppress(StopIteration):
+            while True:
+                step = goes_on()
+                if isinstance(step, Say):
+                    self.told = asks[ask.answered]
+                try:
+                    goes_on = partial(run.send, (yield step))
+                except BaseException as raised:
+                    goes_on = partial(run.throw, raised)
 
     def says(self, sites: Iterable["SimulatedSite"], record: bytes, answer: Answer, is_again: bool) -> None:
         """An asker is told an answer."""
@@ -422,25 +413,22 @@ class Steps:
             self._open_again(slot)
         match fields[2]:
             case b"ok":
-                number, ask = int(fields[3].split(b".")[1]), given.ask if given else 0
-                packet = "m", keeper.number, number, ask
-                self.known[rest.rstrip(b"\n")[5:]] = packet
+                self.known[sent_in(rest)] = packet = packet_of(keeper, fields, rest, given.ask if given else 0)
                 if slot.life:
-                    slot.accepted[record] = ask
-                    step = self._add("Accepts", slot.number, ask)
+                    slot.accepted[record] = packet[3]
+                    step = self._add("Accepts", slot.number, packet[3])
                     self._look_at_name(step, packet, slot.last("m") + 1)
             case b"passed":
-                turn, to = (int(field) for field in rest.rstrip(b"\n").split(b",")[3:5])
-                packet = "p", keeper.number, turn, to, slot.last("m")
+                self.known[sent_in(rest)] = packet = packet_of(keeper, fields, rest, slot.last("m"))
                 self.passes.append(packet)
-                self.known[rest.rstrip(b"\n")[5:]] = packet
                 if slot.life:
-                    step = self._add("Passes", slot.number, to)
+                    step = self._add("Passes", slot.number, packet[3])
                     self._look_at_name(step, packet, slot.taken() + 1)
             case b"holding" | b"released" | b"held":
                 packet = self.known.get(record) if slot.life else None
                 if packet:
-                    is_offered = self._is_offered(packet)
+                    from_files = [its.packets for its in self.slots if its.site == packet[1]]
+                    is_offered = any(packet in place for place in ([self.streams[packet[1]]] if self.world.is_over_server else from_files))
                     lost = None if is_offered else self.last.get(packet)
                     step = self._add("Reads", slot.number, self._word(packet), before=lost and lost[0])
                     if not is_offered and packet in self.gone_on:
@@ -461,15 +449,8 @@ class Steps:
 
     def _sent_unseen(self, keeper: "Keeper", fields: Sequence[bytes], rest: bytes) -> None:
         """What a process sends whose folder isn't one of the model any more."""
-        packet: Packet | None = None
-        match fields[2]:
-            case b"ok":
-                packet = "m", keeper.number, int(fields[3].split(b".")[1]), 0
-            case b"passed":
-                turn, to = (int(field) for field in rest.rstrip(b"\n").split(b",")[3:5])
-                packet = "p", keeper.number, turn, to, 0
-        if packet:
-            self.known.setdefault(rest.rstrip(b"\n")[5:], packet)
+        if fields[2] in (b"ok", b"passed"):
+            self.known.setdefault(sent_in(rest), packet_of(keeper, fields, rest, 0))
 
     def _look_at_name(self, step: Step, packet: Packet, next_one: int) -> None:
         """A folder has sent a packet: its name is the next one, if no packet stands there that its process sent as it went on."""
@@ -587,20 +568,17 @@ class Steps:
             return
         folder.slot = None
         made.slot = slot
-        self._is_seen_again(its)
+        if its in self.unseen:      # it was as good as lost where a site was opened: that site didn't reach it
+            loss, its.packets, opened = self.unseen.pop(its)
+            loss.is_void, opened.why_none = True, UNREACHED
         self._harm(slot, partial(self._copy, its, slot))
 
-    def lost(self, folder: "Folder", made: "Folder") -> None:
-        slot = folder.slot
-        if slot:
-            folder.slot = None
-            made.slot = slot
-            self._harm(slot, partial(self._lose, slot))
-
-    def gone(self, folder: "Folder") -> None:
-        """Nobody comes back to this copy."""
+    def lost(self, folder: "Folder", made: "Folder | None" = None) -> None:
+        """Another one is in its place, or nobody comes back to this copy."""
         if slot := folder.slot:
             folder.slot = None
+            if made:
+                made.slot = slot
             self._harm(slot, partial(self._lose, slot))
 
     def _note_lost(self, step: Step, slot: Slot) -> None:
@@ -626,19 +604,8 @@ class Steps:
     def _lose_end(self, slot: Slot, folder: "Folder") -> None:
         left = sum(packet is not None for packet in folder.packets)
         sent = self._sent(slot, folder, slot.packets[:left])
-        if left + len(sent) == len(slot.packets):
-            return
-        if not sent:
-            step = self._add("LosesEnd", slot.number, left)
-            self._note_lost(step, slot)
-            self._note_gone(step, slot.packets[left:])
-            del slot.packets[left:]
-        else:
-            copy = self._copy_of(slot)
-            self._note_lost(self._add("LosesEnd", slot.number, left), slot)
-            slot.packets[left:] = sent
-            self._put(slot, slot.packets)
-            self._lose(copy)
+        if left + len(sent) < len(slot.packets):
+            self._cut(slot, slot.packets[:left], sent, slot.packets[left:] if not sent else [])
 
     def changed(self, folder: "Folder", records: int) -> None:
         """Only this many records are as they were."""
@@ -648,9 +615,14 @@ class Steps:
             self._harm(slot, partial(self._change, slot, folder, left))
 
     def _change(self, slot: Slot, folder: "Folder", left: list[Packet]) -> None:
-        sent = self._sent(slot, folder, left)
+        self._cut(slot, left, self._sent(slot, folder, left))
+
+    def _cut(self, slot: Slot, left: list[Packet], sent: list[Packet], gone: Sequence[Packet] = ()) -> None:
+        """Only these are left in the folder, and what its site sent that is in `out` still."""
         copy = self._copy_of(slot) if sent else None
-        self._note_lost(self._add("LosesEnd", slot.number, len(left)), slot)
+        step = self._add("LosesEnd", slot.number, len(left))
+        self._note_lost(step, slot)
+        self._note_gone(step, gone)
         slot.packets = left + sent
         if copy:
             self._put(slot, slot.packets)
@@ -668,7 +640,7 @@ class Steps:
         head, _, rest = said.partition(b"\n")
         match head.split(b",")[2]:
             case b"ok" | b"passed":
-                return self.known.get(rest.rstrip(b"\n")[5:])
+                return self.known.get(sent_in(rest))
             case b"released" | b"held" | b"holding":
                 return self.known.get(record)
         return None

@@ -10,7 +10,7 @@ from shrink import smaller
 from .askers import asked
 from .run import Run
 from .stand_in import StandIn, records_of
-from .without import rules_without, taken_out
+from .without import taken_out
 from .world import Violation
 
 NO_STEP = "step "       # how it begins what is said of a list that is no run of the model
@@ -35,7 +35,7 @@ class Played(NamedTuple):
 def play(seed: str, without: str | None = None, skip: frozenset[int] = frozenset()) -> Played:
     broken = None
     with taken_out(without):
-        run = Run(seed, rules_without(without), skip)
+        run = Run(seed, skip)
         try:
             run.play()
         except Violation as violation:
@@ -46,12 +46,6 @@ def play(seed: str, without: str | None = None, skip: frozenset[int] = frozenset
     counts = dict(run.world.counts)
     least = {"events": sum(counts.values()), "faults": run.fault_count, "asks": len(run.askers), "turns": counts.get("Passes", 0)}
     return Played(seed, broken, run.why_excused(), counts, least, run.planned, lines, run.world.steps.none())
-
-
-def needless(seed: str, without: str | None, events: int) -> frozenset[int]:
-    """Events of a broken run that it doesn't need to break a promise."""
-    all_events = frozenset(range(events))
-    return all_events - set(smaller(range(events), lambda left: bool(play(seed, without, all_events - set(left)).broken)))
 
 
 def text_of(lines: list[str]) -> str:
@@ -134,6 +128,7 @@ def told(played: Played, without: str | None) -> str:
     said = f"{played.seed}: {played.broken or 'no promise is broken'}"
     if not played.broken or played.broken.startswith((OWN, NO_STEP)):
         return said
-    skip = needless(played.seed, without, played.planned)
+    events = frozenset(range(played.planned))
+    skip = events - set(smaller(sorted(events), lambda left: bool(play(played.seed, without, events - set(left)).broken)))
     least = play(played.seed, without, skip).broken
     return f"{said}\nsmaller: {again} --skip {','.join(map(str, sorted(skip)))}\n{played.seed}: {least}"

@@ -14,7 +14,7 @@ from .askers import Asker, KeyedAsker, asked
 from .disk import Folder, Machine
 from .faults import FAULTS, Faults
 from .remembered import packet_of
-from .world import Command, Rules, SimulatedSite, Supervisor, Violation, World
+from .world import Command, SimulatedSite, Supervisor, Violation, World
 
 ASKS, FAULTS_OF_A_RUN, QUESTIONS = (58, 75), (12, 18), (8, 14)
 FAULT_SECONDS = 30.0        # how long things go wrong
@@ -30,9 +30,9 @@ EXACT = 15                  # how often an operator tries to rebuild a site befo
 
 
 class Run:
-    def __init__(self, seed: str, rules: Rules, skip: frozenset[int] = frozenset()) -> None:
+    def __init__(self, seed: str, skip: frozenset[int] = frozenset()) -> None:
         self.seed, self.skip = seed, skip
-        self.world = World(seed, rules)
+        self.world = World(seed)
         self.askers: list[Asker | KeyedAsker] = []
         self.supervisors: dict[str, Supervisor] = {}
         self.copies: list[Supervisor] = []              # those of copies of folders
@@ -147,7 +147,9 @@ class Run:
         world.clock.after(0.5 if world.is_calm else 0.5 + world.dice.random(), self._operate)
 
     def _look_at(self, supervisor: Supervisor) -> None:
-        self._are_fences_just(supervisor)
+        for number, why in supervisor.fenced:
+            self._is_due(supervisor.sites[number], why)
+        supervisor.fenced.clear()
         sick = [site for site in supervisor.sites.values()
                 if site.state is State.FENCED or site.state is State.DOWN and site.keeper and site.keeper.fault]
         for site in sick:
@@ -157,7 +159,7 @@ class Run:
             supervisor.stop()
             for site in elsewhere:      # its operator starts the machine without it
                 supervisor.machine.here.remove(site.number)
-                self.world.steps.gone(site.folder)
+                self.world.steps.lost(site.folder)
             return
         if sick and not supervisor.is_leaving and (self.world.is_calm or self.world.dice.random() < 0.3):
             supervisor.stop()
@@ -169,15 +171,10 @@ class Run:
             supervisor.machine is not site.machine and site.number in supervisor.sites and supervisor.sites[site.number].compared.is_set
             and not supervisor.sites[site.number].fenced_by for supervisor in self.supervisors.values())
 
-    def _are_fences_just(self, supervisor: Supervisor) -> None:
-        for number, why in supervisor.fenced:
-            self._is_due(supervisor.sites[number], why)
-        supervisor.fenced.clear()
-
     def _is_due(self, site: SimulatedSite, why: str) -> None:
         """A site whose files nobody touched isn't stopped."""
         ran_copies = any(site.number in copy.sites for copy in self.copies) or site.number in self.world.taken_over
-        if site.folder.inode not in self.tainted and not self.changed and not ran_copies and not self._is_excused():
+        if site.folder.inode not in self.tainted and not self.changed and not ran_copies and not self.why_excused():
             raise Violation(f"site {site.number} is stopped, and nothing happened to its folder: {why}")
 
     def _mend(self, machine: Machine, number: int, why: str) -> None:
@@ -230,13 +227,10 @@ class Run:
         supervisor = self.some_supervisor(dice)
         return dice.choice(list(supervisor.sites.values())) if supervisor and supervisor.sites else None
 
-    def some_folder(self, dice: random.Random) -> tuple[Machine, Folder]:
+    def some_folder(self, dice: random.Random) -> tuple[Machine, int, Folder]:
+        """A folder, with its machine and its site."""
         machine = dice.choice(self.world.machines)
-        return machine, dice.choice(list(machine.folders.values()))
-
-    @staticmethod
-    def number_of(machine: Machine, folder: Folder) -> int:
-        return next(number for number, its in machine.folders.items() if its is folder)
+        return machine, *dice.choice(list(machine.folders.items()))
 
     def taint(self, folders: Iterable[Folder], what: str, is_whole: bool = False) -> None:
         """Something happened to these folders; they aren't whole any more, unless that is said."""
@@ -256,13 +250,10 @@ class Run:
 
     # What was lost, as it may be.
 
-    def _folders(self) -> list[tuple[int, Folder]]:
-        return [(number, folder) for machine in self.world.machines for number, folder in machine.folders.items()]
-
     def note_losses(self) -> None:
         """After something was lost: the messages of which nothing whole is left, and whether the token is one of these things."""
         held: set[bytes] = set()
-        for _, folder in self._folders():
+        for folder in (folder for machine in self.world.machines for folder in machine.folders.values()):
             if folder.is_whole:
                 held.update(line.rstrip(b"\n") for line in folder.lines("kept"))
                 held.update(folder.sent())
@@ -295,7 +286,7 @@ class Run:
             if copy.is_alive:
                 copy.end()
         for folder in [folder for _, _, folder in self.backups] + [folder for copy in self.copies for folder in copy.machine.folders.values()]:
-            world.steps.gone(folder)
+            world.steps.lost(folder)
         world.server.come()
         for machine in world.machines:
             machine.is_cut_off = False
@@ -307,7 +298,7 @@ class Run:
             if not self._is_well():
                 well_since = world.clock.now
             if world.clock.now > until:
-                if self._is_excused():
+                if self.why_excused():
                     return
                 raise Violation(f"after {CALM_SECONDS:g} seconds in which nothing went wrong the shop doesn't go on: {self._state()}")
             world.clock.run(world.clock.now + 0.5)
@@ -339,13 +330,10 @@ class Run:
             return "a site was made again --anyway"
         return "a message is lost that others count" if self._is_past_lost() else None
 
-    def _is_excused(self) -> bool:
-        return self.why_excused() is not None
-
     def _goes_on(self) -> None:
         """A red ask at each site is accepted, and all read all."""
         world = self.world
-        if self._is_excused():
+        if self.why_excused():
             return
         for site in range(world.sites):
             asker = self._ask_red(site, LAST + site)
@@ -372,7 +360,7 @@ class Run:
                                 f"{world.numbers_of[told.record]}")
             if told.what == "ok" and told.id not in accepted:
                 raise Violation(f"{told.record!r} was told ok,{told.id}, and was accepted as {sorted(accepted)}")
-        if self._is_excused():
+        if self.why_excused():
             return
         logs = {site.number: site.keeper.site for site in self._sites() if site.keeper}
         texts = {number: {text for _, text in site.log} for number, site in logs.items()}
@@ -383,11 +371,5 @@ class Run:
             raise Violation(f"the logs differ: { {number: sorted(log - common)[:3] for number, log in texts.items()} }")
         ids = {(message.origin, message.number): message.shadow for message, _ in logs[0].log}
         for told in (told for asker in self.askers for told in asker.told if told.what == "ok"):
-            if told.id and world.text_of[told.record] not in world.lost and ids.get(told.id) != shadow_in(world.text_of[told.record]):
+            if told.id and world.text_of[told.record] not in world.lost and ids.get(told.id) != world.text_of[told.record].split(b",", 6)[6]:
                 raise Violation(f"{told.record!r} was told ok,{told.id}, and there the logs have {ids.get(told.id)!r}")
-
-
-def shadow_in(text: bytes) -> bytes:
-    message = packet_of(text)
-    assert isinstance(message, Message)
-    return message.shadow

@@ -3,7 +3,6 @@
 import functools
 import math
 import operator
-import random
 from bisect import bisect_right
 from collections.abc import Callable
 from typing import TYPE_CHECKING, Any
@@ -116,16 +115,14 @@ class Server:
                     return False
                 self._set("lives", site, life)
                 return True
-            case Append(site, last, packets, life):
-                if life and self.lives[site] != life:
-                    return False
+            case Append(site, _, _, life) | Rewrite(site, _, life) if life and self.lives[site] != life:
+                return False
+            case Append(site, last, packets, _):
                 if self.streams[site].last != last or packets[0][0] <= self.streams[site].greatest:
                     return False
                 self._write(functools.partial(self._append, site, packets, by.world.new_mark()))
                 return True
-            case Rewrite(site, packets, life):
-                if life and self.lives[site] != life:
-                    return False
+            case Rewrite(site, packets, _):
                 if packets:
                     self._write(functools.partial(self._rewrite, site, list(packets), by.world.new_mark()))
                 return True
@@ -162,10 +159,6 @@ class Server:
         until, said = self.said.get(site, (0.0, {}))
         return self.lives[site] or (str(said["life"]) if until > self.clock.now else "")
 
-    def forget(self, sites: list[int]) -> None:
-        for site in sites:
-            self.said.pop(site, None)
-
     def _entries(self, site: int, after: Place, upto: Place | None, most: int = PAGE) -> Packets:
         """Those behind a place, which stand in their order."""
         entries = self.streams[site].entries
@@ -201,8 +194,3 @@ class Server:
         self._append(site, packets, mark)
         self.marks[site] = mark
         self.yields[site] = f"none {mark.decode()}"
-
-
-def lost_seconds(server: Server, dice: random.Random) -> float:
-    """How much of its end a server may lose."""
-    return 0.0 if server.is_always else dice.choice([0.05, 0.3, 1.0, 2.0])

@@ -6,7 +6,7 @@ from collections.abc import Iterator
 
 from shop_tool.carrier.records import Message, Token
 from shop_tool.carrier.release import Release
-from traffic import FIELDS, KINDS, NUMBER, RED, Rows, form_of
+from traffic import FIELDS, ID, KINDS, NUMBER, RED, Rows, form_of
 
 from .remembered import packet_of
 
@@ -45,7 +45,7 @@ def in_limits(names: tuple[str, ...], fields: tuple[str, ...], sites: int) -> bo
         field = FIELDS[name]
         if field.most and not field.least <= int(text) <= field.most:
             return False
-        if field.is_id and text != "none" and not (int(text.split(".")[0]) < sites and int(text.split(".")[1]) <= MOST):
+        if ID in field.form and text != "none" and not (int(text.split(".")[0]) < sites and int(text.split(".")[1]) <= MOST):
             return False
     return True
 

@@ -6,7 +6,7 @@ from unittest import mock
 
 from shop_tool.carrier.asking import Ask
 from shop_tool.carrier.files import Files
-from shop_tool.carrier.keys import Key, Keys
+from shop_tool.carrier.keys import Keys
 from shop_tool.carrier.lives import Standing
 from shop_tool.carrier.opening import must_hear_all
 from shop_tool.carrier.over_server import ServerLink
@@ -21,15 +21,10 @@ from .world import Rules
 LOOKS = ("shop_tool.carrier.site", "shop_tool.carrier.shop", "shop_tool.requests")
 
 
-def answered_only(keys: Keys, name: bytes, now: float) -> Key | None:
-    key = keys._keys.get(name)
-    return key if key and key.is_answered else None
-
-
-# What is replaced of the carrier where a rule is taken out.
+# What is replaced of the carrier, or of the harness, where a rule is taken out.
 RULES: dict[str, list[Any]] = {
     "1": [mock.patch("shop_tool.carrier.over_server.is_called", lambda *_: True)],
-    "2": [mock.patch.object(ServerLink, "goes_on", lambda _: True)],
+    "2": [mock.patch.object(ServerLink, "goes_on", lambda _: True), mock.patch.object(Rules, "swallowed_cancel_ends", False)],
     "3": [mock.patch("shop_tool.carrier.reader.to_search", lambda *_: [])],
     "4": [mock.patch.object(Shop, "begin_site", lambda shop, site, answered: shop._opened(site, answered or 0))],
     "5": [mock.patch(f"{name}.why_not_one_record", lambda *_: None) for name in LOOKS],
@@ -39,21 +34,14 @@ RULES: dict[str, list[Any]] = {
           mock.patch.object(Files, "why_lost", lambda *_: None)],
     "9": [mock.patch("shop_tool.carrier.sums.compared", lambda lines, sums: (compared(lines, sums)[0], None))],
     "9-lives": [mock.patch(f"shop_tool.carrier.{name}.standing", lambda *_: Standing.NEXT) for name in ("publisher", "over_files")],
-    "11": [],
+    "11": [mock.patch.object(Rules, "hands_over", False)],
     "hear": [mock.patch("shop_tool.carrier.publisher.must_hear_all", lambda is_forgotten, *more: is_forgotten and must_hear_all(is_forgotten, *more))],
     "keys-read": [mock.patch.object(Keys, "read", lambda *_: None)],
-    "keys-given": [mock.patch.object(Keys, "find", answered_only)],
+    "keys-given": [mock.patch.object(Keys, "find", lambda keys, name, _: key if (key := keys._keys.get(name)) and key.is_answered else None)],
     "told-number": [mock.patch.object(Site, "numbered", lambda site: ((pending, site.ledger.records + 1) for pending in site.line))],
     "standby-told": [mock.patch.object(Ask, "_stands", lambda *_: iter(()))],
     "turns": [mock.patch("shop_tool.carrier.shop.why_passed_on", lambda *_: None)],
 }
-
-
-def rules_without(rule: str | None) -> Rules:
-    """What the harness does where a rule is taken out."""
-    rules = Rules()
-    rules.swallowed_cancel_ends, rules.hands_over = rule != "2", rule != "11"
-    return rules
 
 
 def taken_out(rule: str | None) -> ExitStack:

@@ -49,10 +49,9 @@ class Rules:
 
 
 class World:
-    def __init__(self, seed: str, rules: Rules) -> None:
+    def __init__(self, seed: str) -> None:
         self.dice = random.Random(seed)
         self.clock = Clock(self.dice)
-        self.rules = rules
         self.counts: collections.Counter[str] = collections.Counter()
         self.numbers = 0
         self.sites = self.dice.choice([2, 2, 3, 3, 4, 5])
@@ -449,16 +448,14 @@ class Process:
         if isinstance(step, Connect):
             task.connection = server.times if self.reaches() else None
             return task.answer()
+        if isinstance(step, Append):
+            self.world.steps.sends(self.machine, [text for _, text in step.packets])
         if isinstance(step, WRITES) and not self.world.is_calm and dice.random() < 0.004:
             self.world.note("late")
-            if isinstance(step, Append):
-                self.world.steps.sends(self.machine, [text for _, text in step.packets])
             self.clock.after(dice.choice([1.0, 10.0, 3600.0]) * dice.random(), lambda: self._arrives_late(step))
             return task.answer(fault=Broken("timed out"), seconds=10 * dice.random())
 
         turn = task.turn
-        if isinstance(step, Append):
-            self.world.steps.sends(self.machine, [text for _, text in step.packets])
 
         def arrives() -> None:
             if task.turn != turn and dice.random() < 0.5:
@@ -468,7 +465,7 @@ class Process:
             if not self.reaches() or task.connection != server.times:
                 return task.answer(fault=Broken("away"), seconds=dice.choice([0.01, 0.01, 3.0]))
             if isinstance(step, (Read, Hear)):
-                return self._read(task, Hear(self._heard_upto()) if step == Hear(b"$") else step)
+                return self._read(task, Hear(b"%d" % server.wants[-1][0] if server.wants else b"0") if step == Hear(b"$") else step)
             said = server.do(self, step)
             self._note(step, said)
             if isinstance(step, TakeOver) and said:
@@ -481,10 +478,6 @@ class Process:
     def _arrives_late(self, step: tuple[Any, ...]) -> None:
         if self.world.server.is_up and not self.world.is_calm:
             self._note(step, self.world.server.do(self, step))
-
-    def _heard_upto(self) -> bytes:
-        wants = self.world.server.wants
-        return b"%d" % (wants[-1][0] if wants else 0)
 
     def _read(self, task: Task, step: Read | Hear) -> None:
         """Answers once there is something to read, or its time is over."""
@@ -601,8 +594,7 @@ class Supervisor(Process, Shop):
     def now(self) -> float:
         return self.clock.now + self.skew
 
-    def unix_time(self) -> float:
-        return self.clock.now + self.skew
+    unix_time = now
 
     def stamp(self) -> str:
         return f"{self.clock.now:.3f}"
@@ -611,16 +603,10 @@ class Supervisor(Process, Shop):
         self.events.append(f"{self.clock.now:.3f} {self.machine.name} {text}")
 
     def later(self, seconds: float, call: Callable[[], None]) -> None:
-        self.clock.after(seconds, self._guarded(call))
+        self.clock.after(seconds, lambda: call() if self.is_alive else None)
 
     def soon(self, call: Callable[[], None]) -> None:
-        self.clock.soon(self._guarded(call))
-
-    def _guarded(self, call: Callable[[], None]) -> Callable[[], None]:
-        def guarded() -> None:
-            if self.is_alive:
-                call()
-        return guarded
+        self.clock.soon(lambda: call() if self.is_alive else None)
 
     def begin(self, steps: Steps[None]) -> None:
         self.spawn(steps)
@@ -866,7 +852,7 @@ class Supervisor(Process, Shop):
                 and site.up.is_set and site.compared.is_set and not site.fenced_by and said.get(site.number, {}).get("state") == "up"}
 
     def _leave(self) -> Steps[None]:
-        if len(self.sites) < self.count and self.world.rules.hands_over:
+        if len(self.sites) < self.count and Rules.hands_over:
             over = Flag()
             handing = self.spawn(self.hand_over(), lambda said, fault: over.set())
             yield Wait(over, HAND_OVER_SECONDS)
@@ -889,8 +875,8 @@ class Supervisor(Process, Shop):
             while self.link.state == "up" and self.clock.now < until and not self.link.is_published():
                 yield Wait(None, 0.02)
             self.link.is_over = True
-            if self.reaches():
-                self.world.server.forget([site.number for site in self.link.own_sites()])
+            for own in self.link.own_sites() if self.reaches() else ():
+                self.world.server.said.pop(own.number, None)
         yield from self._cancel_tasks()
         self.clock.soon(self.end)
 
@@ -904,7 +890,7 @@ class Supervisor(Process, Shop):
                 task.cancel()
         until = self.clock.now + END_SECONDS
         while any(not task.is_over for task in others):
-            if self.clock.now > until and self.world.rules.swallowed_cancel_ends:
+            if self.clock.now > until and Rules.swallowed_cancel_ends:
                 break
             yield Wait(None, 0.1)
 

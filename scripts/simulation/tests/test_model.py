@@ -6,10 +6,10 @@ import unittest
 
 from simulation import model
 from simulation.model import UNREACHED, Slot
-from simulation.world import Rules, World
+from simulation.world import World
 
 READ = pathlib.Path(__file__).resolve().parents[3] / "crates/rubis_decider/stdin"      # what the program that decides reads in its stored run
-SEED = next(str(seed) for seed in range(100) if World(str(seed), Rules()).is_over_server)
+SEED = next(str(seed) for seed in range(100) if World(str(seed)).is_over_server)
 MESSAGE = "m", 0, 1, 1
 SAID = b"reply,1,ok,0.1\nsend,msg,1,0,1,1,0:0,user,ann\n"
 
@@ -18,7 +18,7 @@ class Written(unittest.TestCase):
     """Site 0 has sent a message."""
 
     def setUp(self) -> None:
-        self.world = World(SEED, Rules())
+        self.world = World(SEED)
         self.steps = self.world.steps
         self.folder = next(machine.folders[0] for machine in self.world.machines if 0 in machine.folders)
         self.steps.starts(self.folder, "1 a")
@@ -32,7 +32,7 @@ class Written(unittest.TestCase):
         text = SAID.split(b"\n")[1][5:]
         self.steps.sends(self.folder.machine, [text])
         self.steps.supervisor_ended(self.folder, None)
-        self.steps.gone(self.folder)
+        self.steps.lost(self.folder)
         self.steps.appends(self.folder.machine, text)
         self.assertEqual(self.steps.lines()[1:], ["Sends,0,0,1,1", "IsKilled,0", "IsLost,0", "Arrives,0,1,1"])
 
@@ -83,7 +83,7 @@ class WentOn(unittest.TestCase):
     """A copy of a folder was opened, and the process of the folder goes on."""
 
     def setUp(self) -> None:
-        self.steps = World(SEED, Rules()).steps
+        self.steps = World(SEED).steps
         self.slot, self.other = Slot(0, 0), Slot(5, 0)
         self.steps.slots[:] = [self.slot, self.other]
         for slot in self.steps.slots:
