@@ -6,7 +6,7 @@ use Rattle.rubis_command.specs.declared.options.LackOptions.{LackOptions}
 use Rattle.rubis_command.specs.declared.options.Options.{Options}
 use Rattle.rubis_command.specs.declared.options.SetupOptions.{SetupOptions}
 use Rattle.rubis_keep.specs.declared.keep.Wanted.{Wanted}
-use Rattle.rubis_world.specs.Setup.{WorldSetup}
+use Rattle.rubis_world.specs.Worlds.{WorldSetup}
 
 -- the options of a site whose input is read for what waits: site 0, which keeps as many messages as a site can, where nothing else is said
 abbrev pub waiting_options : LackOptions → Options

@@ -10,7 +10,7 @@ ghost use Rattle.rubis_world.specs.Script.{IsSetup};
 ghost use Rattle.rubis_command.specs.Setups.{setup_of};
 ghost use Rattle.rubis_command.specs.Statuses.{IsRunStatus, IsStatus, IsStatusOf};
 ghost use Rattle.rubis_app.specs.Setups.{names_a_site, waiting_options, wanted_of, world_setup_of};
-ghost use Rattle.rubis_world.specs.Setup.{IsWorldSetup};
+ghost use Rattle.rubis_world.specs.Worlds.{IsWorldSetup};
 ghost use Rattle.rubis_app.specs.Statuses.{status_of};
 
 use rubis_audit::{Auditor, Grammar, LogQuestion, Tally, run_auditor, run_check, run_widen};

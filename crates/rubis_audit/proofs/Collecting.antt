@@ -1,19 +1,101 @@
 -- How an auditor goes on with the records that it reads.
-use Rattle.std.proofs.Common.{ℕ, ◌≡◌, ◌∙◌, ◌+◌, List, [], ◌∷◌, ◌++◌, Option, Some, None, refl, sym, ap, subst, ⊎_elim, arith}
-use Rattle.std.specs.Prelude.{OnErr, OnOk, Result, Ok, Err, option_and_then, reverse, suc}
+use Rattle.std.proofs.Common.{ℕ, ◌≡◌, ◌∙◌, List, [], ◌∷◌, Bool, true, false, cond, refl, ap, Option, Some, None, ◌+◌, ◌++◌, sym, subst, ⊎_elim, arith, ◌≢◌, ◌≤◌}
+use Rattle.std.specs.Prelude.{bytes_eq, codes, nat_lt, option_and_then, option_map, OnErr, OnOk, Result, Ok, Err, reverse, suc, IfSome}
+use Rattle.std.specs.Option.{option_or}
+use Rattle.rubis_schema.specs.NumberForms.{number_of}
+use Rattle.rubis_message.specs.Readings.{Form, followed_by, beside, check, give, mapped, no_more, take_site, whole, packet_of}
+use Rattle.rubis_message.specs.declared.tokens.Packet.{Packet}
+use Rattle.rubis_model.specs.AuditRecords.{Line, claim_of, line_of, next_of, take_begin, audit_record, logs_after, with_line, audit_of, verdict_record}
+use Rattle.rubis_model.specs.AuditRecords.Line.{Begin, Claim}
+use Rattle.rubis_audit.specs.Running.{begin_of, is_row, AreRead, HasMessagesAmong, IsCurrentAmong, account_from, answer_text, logs_so_far, read_behind}
+use Rattle.rubis_audit.specs.Running.{rows_for, AuditorState, AgreesOnSoundLogs, agreed_text}
 use Rattle.rubis_message.specs.Message.{Message, sites_of}
-use Rattle.rubis_model.specs.AuditRecords.{Line, audit_record, line_of, logs_after, with_line}
-use Rattle.rubis_model.specs.Logs.{Log}
-use Rattle.rubis_model.specs.Settle.{Has}
-use Rattle.rubis_model.proofs.Lists.{has_reverse, push_cases}
+use Rattle.rubis_model.specs.Verdict.{Log, verdict}
+use Rattle.rubis_model.specs.Site.{Has}
+use Rattle.rubis_model.proofs.Settling.{has_reverse, push_cases}
 use Rattle.rubis_engine.specs.Accounts.{AnswersRecord}
 use Rattle.rubis_engine.specs.Accounts.Ending.{AtEnd}
-use Rattle.rubis_engine.specs.Text.{rows_text}
+use Rattle.rubis_engine.specs.Text.{rows_text, input_records}
 use Rattle.rubis_engine.specs.declared.service.Course.TheVariants.{GoesOn, Ends}
 use Rattle.rubis_audit.specs.Walks.{HaveMessagesAmong}
 use Rattle.rubis_audit.specs.declared.auditor.LogQuestion.{LogQuestion}
 use Rattle.rubis_audit.specs.declared.auditor.LogQuestion.TheVariants.{Agreement, Lacks}
-use Rattle.rubis_audit.specs.Running.{AreRead, HasMessagesAmong, IsCurrentAmong, account_from, answer_text, logs_so_far, read_behind, rows_for}
+use Rattle.std.specs.Io.KnownBytes.{Appends}
+use Rattle.std.proofs.lemmas.List.{append_cancel_left}
+use Rattle.rubis_schema.specs.declared.limits.TheConstants.{COUNTED_MAX}
+use Rattle.rubis_message.specs.declared.answers.Verdict.{Verdict}
+use Rattle.rubis_message.specs.declared.answers.Verdict.TheVariants.{Agree, Found}
+use Rattle.rubis_laws.proofs.Audits.Verdicts.{agreed_audits_are_sound}
+use Rattle.rubis_engine.specs.Progress.{IsDone}
+use Rattle.rubis_engine.proofs.ReadBack.{HasNoMark, no_mark, rows_back}
+
+-- what `site` is read as, once its tests are known
+abbrev behind : Bool → Form Line → Form Line
+behind b form fields = followed_by (check b fields) (λ _. form)
+
+abbrev numbered : ℕ → Option ℕ → List (List ℕ) → Option (Line × List (List ℕ))
+numbered sites o rest = followed_by (followed_by (beside rest o) (λ n. λ more. followed_by (check (nat_lt n sites) more) (λ _. give n))) (λ n. give (Begin n))
+
+nothing_behind : (sites : ℕ) (b : Bool) → no_more (behind b (mapped Begin (take_site sites)) []) ≡ None
+unfolding take_site
+nothing_behind sites true = refl
+nothing_behind sites false = refl
+
+one_behind : (sites : ℕ) (o : Option ℕ) → no_more (numbered sites o []) ≡ option_map Begin (option_and_then (λ n. cond (nat_lt n sites) (Some n) None) o)
+one_behind sites None = refl
+one_behind sites (Some k) = at (nat_lt k sites)
+  where
+    at : (b : Bool) → no_more (followed_by (followed_by (check b []) (λ _. give k)) (λ n. give (Begin n))) ≡ option_map Begin (cond b (Some k) None)
+    at true = refl
+    at false = refl
+
+more_behind : (sites : ℕ) (o : Option ℕ) (more : List ℕ) (rest : List (List ℕ)) → no_more (numbered sites o (more ∷ rest)) ≡ None
+more_behind sites None more rest = refl
+more_behind sites (Some k) more rest = at (nat_lt k sites)
+  where
+    at : (b : Bool) → no_more (followed_by (followed_by (check b (more ∷ rest)) (λ _. give k)) (λ n. give (Begin n))) ≡ None
+    at true = refl
+    at false = refl
+
+begin_is : (sites : ℕ) (fields : List (List ℕ)) → whole (take_begin sites) fields ≡ option_map Begin (begin_of sites fields)
+unfolding take_begin take_site
+begin_is sites [] = refl
+begin_is sites (word ∷ []) = nothing_behind sites (bytes_eq word (codes "site"))
+begin_is sites (word ∷ site ∷ []) = at (bytes_eq word (codes "site"))
+  where
+    at : (b : Bool) → no_more (behind b (mapped Begin (take_site sites)) (site ∷ []))
+        ≡ option_map Begin (cond b (option_and_then (λ n. cond (nat_lt n sites) (Some n) None) (number_of 255 site)) None)
+    at true = one_behind sites (number_of 255 site)
+    at false = refl
+begin_is sites (word ∷ site ∷ more ∷ rest) = at (bytes_eq word (codes "site"))
+  where
+    at : (b : Bool) → no_more (behind b (mapped Begin (take_site sites)) (site ∷ more ∷ rest)) ≡ None
+    at true = more_behind sites (number_of 255 site) more rest
+    at false = refl
+
+claim_is : (fields : List (List ℕ)) → claim_of fields ≡ cond (is_row fields) (Some (Claim fields)) None
+claim_is [] = refl
+claim_is (word ∷ rest) = refl
+
+pub line_is : (sites : ℕ) (fields : List (List ℕ)) → line_of sites fields
+    ≡ option_or (option_map Begin (begin_of sites fields))
+    (option_or (cond (is_row fields) (Some (Claim fields)) None) (option_and_then next_of (packet_of sites fields)))
+line_is sites fields = λ i. option_or (begin_is sites fields i) (option_or (claim_is fields i) (option_and_then next_of (packet_of sites fields)))
+
+-- where no log begins
+pub line_by : (sites : ℕ) (fields : List (List ℕ)) (row : Bool) (packet : Option Packet) → begin_of sites fields ≡ None → is_row fields ≡ row →
+    packet_of sites fields ≡ packet
+    → line_of sites fields ≡ option_or (cond row (Some (Claim fields)) None) (option_and_then next_of packet)
+line_by sites fields row packet b r p =
+    line_is sites fields ∙ (λ i. option_or (option_map Begin (b i)) (option_or (cond (r i) (Some (Claim fields)) None) (option_and_then next_of (p i))))
+
+-- where one does
+pub line_begins : (sites : ℕ) (fields : List (List ℕ)) (site : ℕ) → begin_of sites fields ≡ Some site → line_of sites fields ≡ Some (Begin site)
+line_begins sites fields site b =
+    line_is sites fields ∙ ap
+    (λ o. option_or (option_map Begin o) (option_or (cond (is_row fields) (Some (Claim fields)) None) (option_and_then next_of (packet_of sites fields)))) b
+
+-- ---- how an auditor goes on with the records that it reads
 
 some_same : {X : Type 0} (a b : X) → Some a ≡ Some b → a ≡ b
 some_same a b e = cc
@@ -102,3 +184,57 @@ ends asked sites n logs more fields sink sink2 e s rest = (
   ap (λ r. sink ++ answer_text asked AtEnd r) (after_ends sites n logs fields rest e) ∙ ap (λ rows. sink ++ rows_text rows) (malformed asked n) ∙ sym s,
   read_next sites logs fields rest None e,
 )
+
+-- ---- an audit that wrote that the logs agree was given sound logs
+
+-- each such record begins with `audit`
+verdict_begins : (v : Verdict) → HasNoMark (rows_text (verdict_record v ∷ []))
+verdict_begins Agree = no_mark (rows_text (verdict_record Agree ∷ [])) refl
+verdict_begins (Found kind log entry) = no_mark (rows_text (verdict_record (Found kind log entry) ∷ [])) refl
+
+begins : (read : Result (List Log) ℕ) → HasNoMark (rows_text (audit_record read ∷ []))
+begins (Ok logs) = verdict_begins (verdict (reverse logs))
+begins (Err n) = no_mark (rows_text (audit_record (Err n) ∷ [])) refl
+
+some_verdict : (v : Verdict) → verdict_record v ≢ []
+some_verdict Agree e = cc
+some_verdict (Found kind log entry) e = cc
+
+some_fields : (read : Result (List Log) ℕ) → audit_record read ≢ []
+some_fields (Ok logs) = some_verdict (verdict (reverse logs))
+some_fields (Err n) = λ e. cc
+
+-- so it is read back
+record_back : (read : Result (List Log) ℕ) → input_records (rows_text (audit_record read ∷ [])) ≡ audit_record read ∷ []
+record_back read = rows_back (audit_record read ∷ [])
+    (λ row h. ⊎_elim (λ s. subst (λ (r : List (List ℕ)). r ≢ []) (sym s) (some_fields read)) (λ no. absurd no) h) (begins read)
+
+agree_back : input_records agreed_text ≡ verdict_record Agree ∷ []
+agree_back = rows_back (verdict_record Agree ∷ [])
+    (λ row h. ⊎_elim (λ s. subst (λ (r : List (List ℕ)). r ≢ []) (sym s) (some_verdict Agree)) (λ no. absurd no) h) (verdict_begins Agree)
+
+same_front : (a b : List (List ℕ)) → a ∷ [] ≡ b ∷ [] → a ≡ b
+same_front a b e = cc
+
+pub agrees_on_sound : (sites : ℕ) (old now : Option (List ℕ)) (records : List (List (List ℕ))) → sites ≤ COUNTED_MAX
+    → Appends old now (rows_text (audit_of sites records ∷ [])) → AgreesOnSoundLogs sites old now records
+agrees_on_sound sites None now records few wrote before is agreed = absurd cc
+agrees_on_sound sites (Some xs) None records few wrote before is agreed = absurd cc
+agrees_on_sound sites (Some xs) (Some ys) records few wrote before is agreed =
+    let read = logs_after sites 1 [] records in
+    let text = rows_text (audit_record read ∷ []) in
+    let front : xs ≡ before = cc in
+    let whole : ys ≡ before ++ agreed_text = cc in
+    let same : text ≡ agreed_text = append_cancel_left before text agreed_text (ap (λ (b : List ℕ). b ++ text) (sym front) ∙ sym wrote ∙ whole) in
+    let rows : audit_record read ∷ [] ≡ verdict_record Agree ∷ [] = sym (record_back read) ∙ ap input_records same ∙ agree_back in
+    agreed_audits_are_sound sites records few (same_front (audit_record read) (verdict_record Agree) rows)
+
+-- the same of the bytes of a reader, if they are known, and of an auditor that had read nothing
+pub agrees_known : (sites limit count : ℕ) (auditor : AuditorState) (well : Bool) (input old now : Option (List ℕ)) → sites ≤ COUNTED_MAX
+    → auditor ≡ record { sites = sites; asked = Agreement; logs = []; well = well }
+    → IfSome input (λ text. IsDone (account_from auditor.asked auditor.sites 1 auditor.logs) limit old now (input_records text) count)
+    → IfSome input (λ text. AgreesOnSoundLogs sites old now (input_records text))
+agrees_known sites limit count auditor well None old now few fresh done = tt
+agrees_known sites limit count auditor well (Some text) old now few fresh done =
+    agrees_on_sound sites old now (input_records text) few
+    (subst (λ (a : AuditorState). Appends old now ((account_from a.asked a.sites 1 a.logs).text AtEnd (input_records text))) fresh done.0)

@@ -1,30 +1,32 @@
 -- How logs are merged, and what a log lacks: what is new is what its clock doesn't count.
 use Rattle.std.proofs.Common.{ℕ, ◌≡◌, ◌+◌, ◌<◌, ◌≤◌, zero, suc, List, [], ◌∷◌, ◌++◌, length, get_or, take, drop, Bool, true, false, cond, refl, sym, ap, ◌∙◌}
-use Rattle.std.proofs.Common.{subst, arith, inl, inr, ⊎_elim, drop-cons, add-one, append_assoc}
-use Rattle.std.specs.Prelude.{Some, None, filter, map, not, nat_lt, reverse, slice_index}
+use Rattle.std.proofs.Common.{subst, arith, inl, inr, ⊎_elim, drop-cons, add-one, append_assoc, ◌&&◌, ◌==◌, ◌-◌, Option, Some, None}
+use Rattle.std.specs.Prelude.{filter, map, not, nat_lt, reverse, slice_index}
 use Rattle.std.specs.Borrow.{Bor}
 use Rattle.std.proofs.lemmas.Bool.{cond-true, cond-false, cases_lt, true≢false}
 use Rattle.std.proofs.lemmas.Bool.Decides.{nat_tests}
-use Rattle.std.proofs.lemmas.List.{drop_all, take_all, take_more, take-append-drop}
+use Rattle.std.proofs.lemmas.List.{drop_all, take_all, take_more, take-append-drop, append-nil}
 use Rattle.std.proofs.lemmas.List.Elements.{filter-append}
 use Rattle.rubis_clock.specs.Clocks.{MessageCounts, IsReady, advanced, opening_clock}
 use Rattle.rubis_message.specs.Message.{IsMessage, Message, dep, sites_of}
 use Rattle.rubis_model.specs.Audit.{AreFaultless, Logged}
-use Rattle.rubis_model.specs.Lack.{awaited, firsts, is_among, lacked, merged}
-use Rattle.rubis_model.specs.Logs.{Log}
-use Rattle.rubis_model.specs.Order.{Released}
-use Rattle.rubis_model.specs.Settle.{Has, counted}
-use Rattle.rubis_model.proofs.Lists.{contained, has_back, has_left, has_last, has_reverse, push_cases}
-use Rattle.rubis_model.proofs.Pasts.{found, seq_within}
-use Rattle.rubis_model.proofs.Settling.{counted_reverse, reverse_push}
-use Rattle.rubis_laws.proofs.Runs.Converging.{ready_forth}
-use Rattle.rubis_laws.proofs.Lacking.InOrder.{among_in, log_released, of_merged, released_front, released_push}
-use Rattle.rubis_laws.proofs.Runs.Resting.{listed}
+use Rattle.rubis_model.specs.Lack.{awaited, firsts, is_among, lacked, merged, lack_rows, lack_rows_from, made_at, awaited_red, red_rows, waits_rows}
+use Rattle.rubis_model.specs.Verdict.{Log}
+use Rattle.rubis_model.specs.System.{Released}
+use Rattle.rubis_model.specs.Site.{Has, counted}
+use Rattle.rubis_model.proofs.Settling.{contained, has_back, has_left, has_last, has_reverse, push_cases, found, seq_within, counted_reverse, reverse_push}
+use Rattle.rubis_laws.proofs.Runs.Delivering.{ready_forth}
+use Rattle.rubis_laws.proofs.Lacking.InOrder.{among_in, log_released, of_merged, released_front, released_push, in_merged}
+use Rattle.rubis_laws.proofs.Runs.Written.{listed}
 use Rattle.rubis_release.specs.Release.{AllAmong, IsAmong, clock_of}
-use Rattle.rubis_release.proofs.Counting.{clock_more, counts_at, length_counts, opening_counts, ready_by_clock}
-use Rattle.rubis_audit.specs.Lacks.{IsMerged}
-use Rattle.rubis_audit.specs.Walks.{HaveMessagesAmong, messages_of_logs}
+use Rattle.rubis_release.proofs.Keeping.{clock_more, counts_at, length_counts, opening_counts, ready_by_clock}
+use Rattle.rubis_audit.specs.Walks.{IsMerged, HaveMessagesAmong, messages_of_logs}
 use Rattle.rubis_audit.proofs.Walking.{among_at, sites_at}
+use Rattle.rubis_engine.specs.Text.{rows_text}
+use Rattle.rubis_engine.proofs.TextFacts.{text-goes, text-more}
+use Rattle.rubis_audit.specs.Running.{none_lost, for_row, for_rows, for_rows_from}
+use Rattle.std.specs.List.{cons_option, filter_map, flat_map, range_with_len}
+use Rattle.rubis_schema.specs.declared.ids.Id.{Id}
 
 pub drop_at : {X : Type 0} (xs : List X) (n : ℕ) (x : X) → n < length xs → x ≡ get_or xs n x → drop n xs ≡ x ∷ drop (n + 1) xs
 drop_at xs n x l e = drop-cons xs n x l ∙ (λ i. sym e i ∷ drop (sym (add-one n) i) xs)
@@ -292,3 +294,98 @@ awaited_none log m site count l e h =
   where
     not_below : (x y : ℕ) → y ≤ x → nat_lt x y ≡ false
     not_below x y l = grind (arith, nat_tests)
+
+-- ---- how the records of what logs lack go on with the logs
+
+-- the log at an index is one of the logs
+pub log_at : (logs : List Log) (at : ℕ) (log : Log) → at < length logs → log ≡ get_or logs at log → Has log logs
+log_at logs at log l e = contained logs log (at, l, sym e)
+
+-- where the merged messages are of these sites, so are those of each log
+pub log_among : (sites : ℕ) (logs : List Log) (log : Log) → AreFaultless logs → AllAmong sites (merged logs) → Has log logs → AllAmong sites log.messages
+log_among sites logs log f among h m k = among m (in_merged logs f m ((log, h), k))
+
+-- the rows of one log were written
+pub log_told : (logs : List Log) (at : ℕ) (log : Log) (base sink sink2 : List ℕ) → at < length logs → log ≡ get_or logs at log
+    → sink ++ rows_text (lack_rows_from (1 + at) logs (drop at logs)) ≡ base
+    → sink2 ≡ sink ++ rows_text (lack_rows (at + 1) log.site (lacked logs log.messages))
+    → sink2 ++ rows_text (lack_rows_from (1 + (at + 1)) logs (drop (at + 1) logs)) ≡ base
+log_told logs at log base sink sink2 l e told wrote =
+    sym (text-goes sink sink2 (lack_rows (at + 1) log.site (lacked logs log.messages)) (lack_rows_from (1 + (at + 1)) logs (drop (at + 1) logs)) wrote)
+    ∙ sym (ap (λ rows. sink ++ rows_text rows) next) ∙ told
+  where
+    this : 1 + at ≡ at + 1
+    this = omega arith
+
+    after : 1 + at + 1 ≡ 1 + (at + 1)
+    after = omega arith
+
+    next : lack_rows_from (1 + at) logs (drop at logs) ≡ lack_rows (at + 1) log.site (lacked logs log.messages)
+        ++ lack_rows_from (1 + (at + 1)) logs (drop (at + 1) logs)
+    next =
+        ap (lack_rows_from (1 + at) logs) (drop_at logs at log l e)
+        ∙ (λ i. lack_rows (this i) log.site (lacked logs log.messages) ++ lack_rows_from (after i) logs (drop (at + 1) logs))
+
+-- whether a message is lost goes on with the logs
+pub lost_told : (logs : List Log) (at : ℕ) (log : Log) (well kept : Bool) → at < length logs → log ≡ get_or logs at log
+    → (well && none_lost logs (drop at logs)) ≡ none_lost logs logs → kept ≡ (length (made_at log.site (lacked logs log.messages)) == 0)
+    → ((well && kept) && none_lost logs (drop (at + 1) logs)) ≡ none_lost logs logs
+lost_told logs at log well kept l e told is =
+    regrouped well kept ∙ ap (λ k. well && (k && none_lost logs (drop (at + 1) logs))) is
+    ∙ sym (ap (λ rest. well && none_lost logs rest) (drop_at logs at log l e)) ∙ told
+  where
+    regrouped : (a b : Bool) → ((a && b) && none_lost logs (drop (at + 1) logs)) ≡ (a && (b && none_lost logs (drop (at + 1) logs)))
+    regrouped true b = refl
+    regrouped false b = refl
+
+-- ---- how the records of what messages wait for go on
+
+for_next : (log : List Message) (m : Message) (site : ℕ) → site < sites_of m
+    → for_rows_from log m site ≡ for_rows m (awaited log m site) ++ for_rows_from log m (site + 1)
+for_next log m site l = ap (λ n. map (for_row m) (filter_map (awaited log m) (range_with_len site n))) less ∙ first (awaited log m site)
+  where
+    rest : List Id
+    rest = filter_map (awaited log m) (range_with_len (site + 1) (sites_of m - (site + 1)))
+
+    less : sites_of m - site ≡ suc (sites_of m - (site + 1))
+    less = omega (arith, l)
+
+    first : (o : Option Id) → map (for_row m) (cons_option o rest) ≡ for_rows m o ++ map (for_row m) rest
+    first None = refl
+    first (Some id) = refl
+
+for_last : (log : List Message) (m : Message) (site : ℕ) → sites_of m ≤ site → for_rows_from log m site ≡ []
+for_last log m site l = ap (λ n. map (for_row m) (filter_map (awaited log m) (range_with_len site n)))
+    (let none : sites_of m - site ≡ 0 = omega (arith, l) in none)
+
+-- what the message waits for of one site was written
+pub for_told : (log : List Message) (m : Message) (site : ℕ) (base sink sink2 : List ℕ) → site < sites_of m
+    → sink ++ rows_text (for_rows_from log m site) ≡ base → sink2 ≡ sink ++ rows_text (for_rows m (awaited log m site))
+    → sink2 ++ rows_text (for_rows_from log m (site + 1)) ≡ base
+for_told log m site base sink sink2 l told wrote =
+    sym (text-goes sink sink2 (for_rows m (awaited log m site)) (for_rows_from log m (site + 1)) wrote)
+    ∙ sym (ap (λ rows. sink ++ rows_text rows) (for_next log m site l)) ∙ told
+
+-- that of all sites, and then the red number
+pub waits_told : (log : List Message) (m : Message) (site : ℕ) (base sink sink2 : List ℕ) → sites_of m ≤ site
+    → sink ++ rows_text (for_rows_from log m site) ≡ base ++ rows_text (for_rows_from log m 0) → sink2 ≡ sink ++ rows_text (red_rows m (awaited_red log m))
+    → sink2 ≡ base ++ rows_text (waits_rows log m)
+waits_told log m site base sink sink2 l told wrote =
+    text-more base sink sink2 (for_rows_from log m 0) (red_rows m (awaited_red log m)) first wrote
+    ∙ ap (λ n. base ++ rows_text (map (for_row m) (filter_map (awaited log m) (range_with_len 0 n)) ++ red_rows m (awaited_red log m))) all
+  where
+    all : sites_of m - 0 ≡ sites_of m
+    all = omega arith
+
+    first : sink ≡ base ++ rows_text (for_rows_from log m 0)
+    first = sym (append-nil sink) ∙ sym (ap (λ rows. sink ++ rows_text rows) (for_last log m site l)) ∙ told
+
+-- what one message waits for was written
+pub message_told : (log : List Message) (messages : List (Bor Message)) (at : ℕ) (message : Bor Message) (base sink sink2 : List ℕ) → at < length messages
+    → message ≡ get_or messages at message
+    → sink ++ rows_text (flat_map (waits_rows log) (map (λ m. m.now) (drop at messages))) ≡ base
+    → sink2 ≡ sink ++ rows_text (waits_rows log message.now)
+    → sink2 ++ rows_text (flat_map (waits_rows log) (map (λ m. m.now) (drop (at + 1) messages))) ≡ base
+message_told log messages at message base sink sink2 l e told wrote =
+    sym (text-goes sink sink2 (waits_rows log message.now) (flat_map (waits_rows log) (map (λ m. m.now) (drop (at + 1) messages))) wrote)
+    ∙ sym (ap (λ rest. sink ++ rows_text (flat_map (waits_rows log) (map (λ m. m.now) rest))) (drop_at messages at message l e)) ∙ told

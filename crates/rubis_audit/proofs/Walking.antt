@@ -17,32 +17,24 @@ use Rattle.rubis_message.specs.declared.answers.Kind.{Kind}
 use Rattle.rubis_message.specs.declared.answers.Kind.TheVariants as kind
 use Rattle.rubis_message.specs.declared.answers.Verdict.TheVariants.{Agree, Found}
 use Rattle.rubis_model.specs.Log.{core, cores}
-use Rattle.rubis_model.specs.Logs.{Log, shown_rows}
+use Rattle.rubis_model.specs.Verdict.{Log, shown_rows, checks, first_fault, first_of, found_or, last_red, log_fault, verdict, same_rows, verdict_from}
+use Rattle.rubis_model.specs.Verdict.{wrong_rows}
 use Rattle.rubis_model.specs.Listings.{table_rows}
 use Rattle.rubis_model.specs.Audit.{AreAmong, AreFaultless, AreSound}
-use Rattle.rubis_model.specs.Settle.{Has, Ready}
-use Rattle.rubis_model.specs.Site.{counts}
-use Rattle.rubis_model.specs.Verdict.{checks, first_fault, first_of, found_or, last_red, log_fault, verdict, same_rows, verdict_from, wrong_rows}
-use Rattle.rubis_model.proofs.CoreLists.{cores_length, cores_push}
-use Rattle.rubis_model.proofs.Lists.{contained, has_left, has_reverse, has_right}
-use Rattle.rubis_model.proofs.Settling.{counted_reverse, reds_reverse, reverse_push}
+use Rattle.rubis_model.specs.Site.{Has, Ready, counts}
+use Rattle.rubis_model.proofs.Settling.{cores_length, cores_push, contained, has_left, has_reverse, has_right, counted_reverse, reds_reverse, reverse_push}
 use Rattle.rubis_laws.proofs.Rows.FoldIsMeaning.{fold_is_meaning}
 use Rattle.rubis_laws.proofs.Runs.Invariants.{checked_holds}
 use Rattle.rubis_laws.proofs.Rows.Lengths.{log_small}
-use Rattle.rubis_laws.proofs.Audits.Audited.{faultless_sound}
-use Rattle.rubis_laws.proofs.Audits.Verdicts.{agree_faultless, clean}
+use Rattle.rubis_laws.proofs.Audits.Verdicts.{faultless_sound, agree_faultless, clean}
 use Rattle.rubis_shard.specs.Holdings.{HoldsLog, TakesOn, union}
 use Rattle.rubis_shard.specs.States.{ShardState}
 use Rattle.rubis_shard.proofs.Unions.{union_of_log}
 use Rattle.rubis_release.specs.Release.{IsAmong, clock_of}
-use Rattle.rubis_release.proofs.Counting.{clock_more, counts_at, length_counts, ready_by_clock}
-use Rattle.rubis_audit.specs.Lookups.{clash_by_id}
-use Rattle.rubis_audit.specs.Past.{IsFaultless, Remembers, Shows, checks_by}
-use Rattle.rubis_audit.specs.Seen.{Sees}
-use Rattle.rubis_audit.specs.Walks.{HaveMessagesAmong, IsWalked, Walked, messages_of_logs}
+use Rattle.rubis_release.proofs.Keeping.{clock_more, counts_at, length_counts, ready_by_clock}
+use Rattle.rubis_audit.specs.Walks.{clash_by_id, IsFaultless, Remembers, Shows, checks_by, Sees, HaveMessagesAmong, IsWalked, Walked, messages_of_logs}
 use Rattle.rubis_audit.specs.declared.seen.Seen.{Seen}
-use Rattle.rubis_audit.proofs.Opened.{nothing_shown}
-use Rattle.rubis_audit.proofs.Judging.{checks_are, known_log, known_push, ready}
+use Rattle.rubis_audit.proofs.Judging.{nothing_shown, checks_are, known_log, known_push, ready}
 
 -- ---- what stands before an entry
 

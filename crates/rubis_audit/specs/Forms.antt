@@ -1,15 +1,23 @@
--- The forms of records: the grammar of the manual, a line for each form.
+-- The forms of records: the grammar of the manual, a line for each form, and when a field is as its rule says.
 use Prim.Native.String.{String}
-use Rattle.std.specs.Prelude.{ℕ, ◌+◌, ◌-◌, ◌==◌, ◌&&◌, Bool, true, false, if◌then◌else◌, bytes_eq, codes, find, length}
-use Rattle.std.specs.Prelude.{slice_get, unwrap_or, List, [], ◌∷◌, Option}
-use Rattle.rubis_schema.specs.declared.limits.TheConstants.{PASS_MAX, RECORDS_MAX}
+use Rattle.std.specs.Prelude.{ℕ, ◌+◌, ◌-◌, ◌==◌, ◌&&◌, Bool, true, false, if◌then◌else◌, bytes_eq, codes, find, length, slice_get, unwrap_or, List, [], ◌∷◌}
+use Rattle.std.specs.Prelude.{Option, Some, None, ◌||◌, is_some, nat_le, nat_lt}
+use Rattle.rubis_schema.specs.declared.limits.TheConstants.{PASS_MAX, RECORDS_MAX, COUNT_MAX}
 use Rattle.rubis_audit.specs.declared.forms.Form.{Form as Row}
 use Rattle.rubis_audit.specs.declared.forms.Section.{Section}
 use Rattle.rubis_audit.specs.declared.forms.Section.TheVariants.{Request, Message, Token, At, Event, LogSite, LogRow}
 use Rattle.rubis_audit.specs.declared.forms.TheConstants.{AMOUNT, CATEGORY, COUNT, PRICE, QUANTITY, SEQ, TURN}
 use Rattle.rubis_audit.specs.declared.rules.Rule.{Rule}
-use Rattle.rubis_audit.specs.declared.rules.Rule.TheVariants.{Blue, Counts, Effect, First, Id, Name, Nick, Number, Rating, Red, Second, Shown, Site}
-use Rattle.rubis_audit.specs.declared.rules.Rule.TheVariants.{Text, Told, Version, Winner}
+use Rattle.rubis_audit.specs.declared.rules.Rule.TheVariants.{Blue, Counts, Effect, First, Id, Name, Nick, Number, Rating, Red, Second, Shown, Site, Text, Told}
+use Rattle.rubis_audit.specs.declared.rules.Rule.TheVariants.{Version, Winner, Positive}
+use Rattle.rubis_model.specs.AuditRecords.{Line}
+use Rattle.rubis_model.specs.AuditRecords.Line.{Begin, Claim, Next}
+use Rattle.rubis_model.specs.Verdict.{Log}
+use Rattle.rubis_audit.specs.declared.widener.LinePlace.{LinePlace}
+use Rattle.rubis_audit.specs.declared.widener.LinePlace.TheVariants.{BeforeLogs, InMessages, InRows}
+use Rattle.rubis_schema.specs.FieldForms.{id_of, is_name, is_nick, is_text}
+use Rattle.rubis_schema.specs.NumberForms.{number_of, rating_of}
+use Rattle.rubis_message.specs.Counts.{deps_of}
 
 -- a form: its section, its first word, the word that tells it, `at` fields behind the first, what a record of it is called, what its fields
 -- after the first may be, and whether more may follow
@@ -93,3 +101,60 @@ form_of start fields = find (is_told start fields) forms
 -- how many fields a record of the form has, or has at least
 abbrev pub wanted : ℕ → Form → ℕ
 wanted start form = start + length form.rules
+
+-- ---- where the records of an audit stand
+
+-- after the records of a log: whether it claims rows
+abbrev pub place_in : Option (List (List (List ℕ))) → LinePlace
+place_in None = InMessages
+place_in (Some rows) = InRows
+
+-- after the records of these logs, newest first
+abbrev pub place_of : List Log → LinePlace
+place_of [] = BeforeLogs
+place_of (log ∷ logs) = place_in log.rows
+
+-- the least logs after whose records it is
+abbrev pub logs_at : LinePlace → List Log
+logs_at BeforeLogs = []
+logs_at InMessages = record { site = 0; messages = []; rows = None } ∷ []
+logs_at InRows = record { site = 0; messages = []; rows = Some [] } ∷ []
+
+-- the place after a record that says this, if it may stand here
+abbrev pub place_after : LinePlace → Line → Option LinePlace
+place_after place (Begin site) = Some InMessages
+place_after BeforeLogs line = None
+place_after InMessages (Next m) = Some InMessages
+place_after InRows (Next m) = None
+place_after place (Claim row) = Some InRows
+
+-- ---- when a field is as its rule says
+
+-- there is a number, and the test holds of it
+abbrev pub holds_of : (ℕ → Bool) → Option ℕ → Bool
+holds_of test None = false
+holds_of test (Some n) = test n
+
+-- a number from `low` to `high`
+abbrev pub is_within : ℕ → ℕ → List ℕ → Bool
+is_within low high field = holds_of (nat_le low) (number_of high field)
+
+-- a field is as the rule says when there are `sites` sites; a rule that isn't about a field alone holds of none
+abbrev pub fits : ℕ → Rule → List ℕ → Bool
+fits sites Nick field = is_nick field
+fits sites Name field = is_name field
+fits sites Text field = is_text field
+fits sites Rating field = is_some (rating_of field)
+fits sites Id field = is_some (id_of sites field)
+fits sites Winner field = bytes_eq field (codes "none") || is_some (id_of sites field)
+fits sites Site field = nat_lt 0 sites && is_within 0 (sites - 1) field
+fits sites Counts field = is_some (deps_of sites field)
+fits sites (Number high) field = is_within 0 high field
+fits sites (Positive high) field = is_within 1 high field
+fits sites Red field = is_within 1 COUNT_MAX field
+fits sites Blue field = bytes_eq field (codes "0")
+fits sites First field = bytes_eq field (codes "1")
+fits sites Second field = bytes_eq field (codes "2")
+fits sites Version field = bytes_eq field (codes "1") || bytes_eq field (codes "2")
+fits sites Told field = true
+fits sites other field = false

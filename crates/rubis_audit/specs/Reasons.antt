@@ -1,16 +1,16 @@
 -- Why a record is outside the grammar, in words.
-use Rattle.std.specs.Prelude.{ℕ, ◌+◌, ◌==◌, ◌&&◌, ◌||◌, not, if◌then◌else◌, bytes_eq, codes, decimal, filter, length, map, min, nat_lt}
-use Rattle.std.specs.Prelude.{slice_index, take, List, [], ◌++◌, Option, Some, None}
+use Rattle.std.specs.Prelude.{ℕ, ◌+◌, ◌==◌, ◌&&◌, ◌||◌, not, if◌then◌else◌, bytes_eq, codes, decimal, filter, length, map, min, nat_lt, slice_index, take, List}
+use Rattle.std.specs.Prelude.{[], ◌++◌, Option, Some, None}
 use Rattle.std.specs.List.{list_all}
-use Rattle.rubis_schema.specs.Texts.{is_digit, is_printable}
+use Rattle.rubis_schema.specs.FieldForms.{is_digit, is_printable}
 use Rattle.rubis_schema.specs.declared.limits.TheConstants.{COUNT_MAX}
 use Rattle.rubis_audit.specs.Forms.{Form, field_at, form_of, wanted}
 use Rattle.rubis_audit.specs.declared.reasons.Lines.{Lines}
 use Rattle.rubis_audit.specs.declared.record_faults.RecordFault.{RecordFault}
 use Rattle.rubis_audit.specs.declared.rules.Rule.{Rule}
-use Rattle.rubis_audit.specs.declared.rules.Rule.TheVariants.{BeforeRows, Blue, Count, Counts, Effect, First, Id, InGrammar, Log, Name, NewNick}
-use Rattle.rubis_audit.specs.declared.rules.Rule.TheVariants.{Next, Nick, Number, OneLine, Positive, Rating, Record, Red, Request, Second, Shown}
-use Rattle.rubis_audit.specs.declared.rules.Rule.TheVariants.{Site, Text, Version, Winner}
+use Rattle.rubis_audit.specs.declared.rules.Rule.TheVariants.{BeforeRows, Blue, Count, Counts, Effect, First, Id, InGrammar, Log, Name, NewNick, Next, Nick}
+use Rattle.rubis_audit.specs.declared.rules.Rule.TheVariants.{Number, OneLine, Positive, Rating, Record, Red, Request, Second, Shown, Site, Text, Version}
+use Rattle.rubis_audit.specs.declared.rules.Rule.TheVariants.{Winner}
 
 -- what is said of a rule, or what comes before what is said of the field
 abbrev pub words_of : Rule → List ℕ

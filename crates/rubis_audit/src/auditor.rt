@@ -3,14 +3,13 @@
 ghost use Rattle.std.proofs.Common.{rules};
 ghost use Rattle.std.specs.Prelude.{◌≡◌, ◌++◌, ◌≤◌, ℕ, List, [], IfOk, None, Ok, OnErr, OnOk, Some, false, refl, reverse, ⊤};
 ghost use Rattle.rubis_message.specs.Message.{sites_of};
-ghost use Rattle.rubis_model.specs.Logs as logs;
+ghost use Rattle.rubis_model.specs.Verdict as logs;
 ghost use Rattle.std.specs.Bool.{MatchBool};
 ghost use Rattle.rubis_schema.specs.declared.limits.TheConstants.{COUNTED_MAX};
 ghost use Rattle.rubis_model.specs.AuditRecords.{with_line};
 ghost use Rattle.rubis_model.specs.AuditRecords.Line.{Begin, Claim, Next};
-ghost use Rattle.rubis_audit.specs.Lines.{IsAmongLine, line_as};
+ghost use Rattle.rubis_audit.specs.Running.{IsAmongLine, line_as, AreAudited, IsCurrentAmong, LeadsAuditor, account_from, is_well, logs_so_far, rows_for};
 ghost use Rattle.rubis_engine.specs.Text.{rows_text};
-ghost use Rattle.rubis_audit.specs.Running.{AreAudited, IsCurrentAmong, LeadsAuditor, account_from, is_well, logs_so_far, rows_for};
 
 use crate::audits::audit_hashed;
 use crate::lacks::write_lacks;

@@ -2,10 +2,10 @@
 
 ghost use Rattle.std.specs.Prelude.{◌≡◌, nat_le, option_copied};
 ghost use Rattle.rubis_message.specs.Message.{dep};
-ghost use Rattle.rubis_generate.specs.Lookup.{is_ended, item_in, row_by_key};
-ghost use Rattle.rubis_audit.specs.Contents as contents;
-ghost use Rattle.rubis_audit.specs.Contents.{closed_in, known_in, nick_taken_in, outbid_in, stock_short_in, wrong_category_in};
-ghost use Rattle.rubis_audit.specs.Contents.{wrong_reference_in, wrong_winner_in};
+ghost use Rattle.rubis_generate.specs.Decision.{is_ended, item_in, row_by_key};
+ghost use Rattle.rubis_audit.specs.Walks as contents;
+ghost use Rattle.rubis_audit.specs.Walks.{closed_in, known_in, nick_taken_in, outbid_in, stock_short_in, wrong_category_in, wrong_reference_in};
+ghost use Rattle.rubis_audit.specs.Walks.{wrong_winner_in};
 
 use rubis_message::Message;
 use rubis_schema::{Id, ItemRow, Nick, Row, RowKey, Sale, View};

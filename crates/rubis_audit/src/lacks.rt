@@ -3,7 +3,7 @@
 ghost use Rattle.std.specs.Prelude.{◌≡◌, ◌≤◌, ◌==◌, ◌++◌, ◌∷◌, [], IfOk, OnOk, length, map};
 ghost use Rattle.rubis_schema.specs.declared.limits.TheConstants.{COUNTED_MAX};
 ghost use Rattle.rubis_model.specs.Audit.{AreFaultless};
-ghost use Rattle.rubis_model.specs.LackRecords.{count_row, lack_row, lack_rows, lack_rows_from, made_at};
+ghost use Rattle.rubis_model.specs.Lack.{count_row, lack_row, lack_rows, lack_rows_from, made_at};
 ghost use Rattle.rubis_engine.specs.Text.{rows_text};
 ghost use Rattle.rubis_audit.specs.Running.{none_lost};
 ghost use Rattle.rubis_audit.specs.Walks.{HaveMessagesAmong};

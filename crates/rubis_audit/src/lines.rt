@@ -3,7 +3,7 @@
 ghost use Rattle.std.specs.Prelude.{◌≡◌, ◌≤◌, IfOk, option_map};
 ghost use Rattle.rubis_schema.specs.declared.limits.TheConstants.{COUNTED_MAX};
 ghost use Rattle.rubis_model.specs.AuditRecords.{line_of};
-ghost use Rattle.rubis_audit.specs.Lines.{IsAmongLine, begin_of, is_row, line_as};
+ghost use Rattle.rubis_audit.specs.Running.{IsAmongLine, begin_of, is_row, line_as};
 
 use rubis_engine::InputRecord;
 use rubis_message::{Message, Packet, ReadFault, read_packet};

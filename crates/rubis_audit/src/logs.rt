@@ -27,7 +27,7 @@ impl Drop for Log {
 }
 
 impl Model for Log {
-    ghost use Rattle.rubis_model.specs.Logs as model;
+    ghost use Rattle.rubis_model.specs.Verdict as model;
 
     ghost Value = { model.Log };
 

@@ -2,7 +2,7 @@
 
 ghost use Rattle.std.specs.Prelude.{◌≡◌, ◌≤◌, IfOk};
 ghost use Rattle.rubis_schema.specs.declared.limits.TheConstants.{COUNTED_MAX};
-ghost use Rattle.rubis_audit.specs.Readings.{is_read};
+ghost use Rattle.rubis_audit.specs.Checking.{is_read};
 
 use crate::checker::Grammar;
 use rubis_message::{Input, WorldInput, read_input, read_world_input};

@@ -2,10 +2,9 @@
 
 ghost use Rattle.std.specs.Prelude.{◌≡◌, ◌≤◌, IfOk, length};
 ghost use Rattle.std.specs.List.{list_all};
-ghost use Rattle.rubis_schema.specs.Texts.{is_digit};
+ghost use Rattle.rubis_schema.specs.FieldForms.{is_digit};
 ghost use Rattle.rubis_audit.specs.Forms.{row};
-ghost use Rattle.rubis_audit.specs.Reasons.{count_text, counts_text, has, marks, named_text, noun, number_text, quote_text};
-ghost use Rattle.rubis_audit.specs.Reasons.{reason_text, shown_byte, words_of};
+ghost use Rattle.rubis_audit.specs.Reasons.{count_text, counts_text, has, marks, named_text, noun, number_text, quote_text, reason_text, shown_byte, words_of};
 
 use crate::forms::{Form, field_at, form_of, says};
 use crate::record_faults::RecordFault;

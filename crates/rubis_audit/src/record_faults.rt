@@ -3,8 +3,8 @@
 ghost use Rattle.std.specs.Prelude.{◌≡◌, ◌≤◌};
 ghost use Rattle.rubis_schema.specs.declared.limits.TheConstants.{COUNTED_MAX};
 ghost use Rattle.rubis_audit.specs.Forms.{row};
-ghost use Rattle.rubis_audit.specs.RecordFaults.{discord, fault, fault_in, form_fault, further, has_line_end, has_section, is_next, line_end_at};
-ghost use Rattle.rubis_audit.specs.RecordFaults.{line_end_from, misfit, misplaced, place_after, record_fault, request_fault};
+ghost use Rattle.rubis_audit.specs.Checking.{discord, fault, fault_in, form_fault, further, has_line_end, has_section, is_next, line_end_at, line_end_from};
+ghost use Rattle.rubis_audit.specs.Checking.{misfit, misplaced, place_after, record_fault, request_fault};
 
 use crate::checker::Grammar;
 use crate::counts::read_counts;

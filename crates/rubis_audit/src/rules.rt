@@ -2,9 +2,9 @@
 
 ghost use Rattle.std.specs.Prelude.{◌≡◌, ◌≤◌};
 ghost use Rattle.std.specs.List.{list_all};
-ghost use Rattle.rubis_schema.specs.Texts.{is_printable};
+ghost use Rattle.rubis_schema.specs.FieldForms.{is_printable};
 ghost use Rattle.rubis_schema.specs.declared.limits.TheConstants.{COUNTED_MAX};
-ghost use Rattle.rubis_audit.specs.Rules.{fits, is_within};
+ghost use Rattle.rubis_audit.specs.Forms.{fits, is_within};
 
 use crate::counts::read_counts;
 use crate::forms::says;

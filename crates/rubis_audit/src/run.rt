@@ -5,9 +5,8 @@ ghost use Rattle.rubis_engine.specs.Progress.{IsRun};
 ghost use Rattle.rubis_engine.specs.Text.{input_records};
 ghost use Rattle.rubis_schema.specs.declared.limits.TheConstants.{COUNTED_MAX, RECORDS_MAX};
 ghost use Rattle.rubis_audit.specs.declared.auditor.LogQuestion.TheVariants as LogQuestion;
-ghost use Rattle.rubis_audit.specs.Running.{account_from, audit_account, lack_account};
-ghost use Rattle.rubis_audit.specs.Soundness.{AgreesOnSoundLogs};
-ghost use Rattle.rubis_serving.specs.Whole.{EndsWhole};
+ghost use Rattle.rubis_audit.specs.Running.{account_from, audit_account, lack_account, AgreesOnSoundLogs};
+ghost use Rattle.rubis_serving.specs.Serving.{EndsWhole};
 ghost use Rattle.rubis_reading.specs.Chunked.{HasAll};
 
 use crate::auditor::{Auditor, LogQuestion};

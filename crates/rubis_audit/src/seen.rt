@@ -5,8 +5,7 @@ ghost use Rattle.std.specs.HashMap as hash;
 ghost use Rattle.rubis_schema.specs.Keys.{same_id};
 ghost use Rattle.rubis_message.specs.Message as model;
 ghost use Rattle.rubis_message.specs.Message.{IsMessage};
-ghost use Rattle.rubis_audit.specs.Lookups.{clash_by_id};
-ghost use Rattle.rubis_audit.specs.Seen.{FirstById, FirstByRed, Sees, id_in, red_in};
+ghost use Rattle.rubis_audit.specs.Walks.{clash_by_id, FirstById, FirstByRed, Sees, id_in, red_in};
 
 use rubis_message::Message;
 use rubis_schema::{Hashes, Id};

@@ -4,8 +4,8 @@ ghost use Rattle.std.specs.Prelude.{◌≡◌, List, false, length, option_copie
 ghost use Rattle.std.specs.Option.{option_map_or};
 ghost use Rattle.rubis_message.specs.Message as model;
 ghost use Rattle.rubis_message.specs.Message.{sites_of};
-ghost use Rattle.rubis_audit.specs.Lookups.{by_message_id, clash_by_id, differs_by, early_by, exceeds, forgets_by_id, gap_by, order_by, taken_by_red};
-ghost use Rattle.rubis_audit.specs.Seen.{Sees, id_in};
+ghost use Rattle.rubis_audit.specs.Walks.{by_message_id, clash_by_id, differs_by, early_by, exceeds, forgets_by_id, gap_by, order_by, taken_by_red, Sees};
+ghost use Rattle.rubis_audit.specs.Walks.{id_in};
 ghost use Rattle.rubis_audit.specs.declared.seen.Seen.{Seen};
 
 use crate::contents::is_counted;

@@ -5,10 +5,10 @@ ghost use Rattle.std.specs.List.{flat_map};
 ghost use Rattle.rubis_message.specs.Message as model;
 ghost use Rattle.rubis_message.specs.Message.{sites_of};
 ghost use Rattle.rubis_model.specs.Lack as lack;
-ghost use Rattle.rubis_model.specs.LackRecords.{red_rows, waiting_rows, waits_rows};
+ghost use Rattle.rubis_model.specs.Lack.{red_rows, waiting_rows, waits_rows};
 ghost use Rattle.rubis_engine.specs.Text.{rows_text};
 ghost use Rattle.rubis_release.specs.Release.{AllAmong, clock_of};
-ghost use Rattle.rubis_audit.specs.Waits.{for_rows};
+ghost use Rattle.rubis_audit.specs.Running.{for_rows};
 
 use rubis_clock::Clock;
 use rubis_engine::Sink;

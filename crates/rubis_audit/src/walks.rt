@@ -7,9 +7,7 @@ ghost use Rattle.rubis_message.specs.Message as model;
 ghost use Rattle.rubis_message.specs.Message.{IsMessage, sites_of};
 ghost use Rattle.rubis_model.specs.Verdict.{first_of};
 ghost use Rattle.rubis_shard.specs.Holdings.{HoldsLog, union};
-ghost use Rattle.rubis_audit.specs.Past.{checks_by};
-ghost use Rattle.rubis_audit.specs.Seen.{Sees, id_in};
-ghost use Rattle.rubis_audit.specs.Walks.{HaveMessagesAmong, IsWalked, TakesEntry, Walked};
+ghost use Rattle.rubis_audit.specs.Walks.{checks_by, Sees, id_in, HaveMessagesAmong, IsWalked, TakesEntry, Walked};
 
 use crate::contents::{nick_taken, stock_short, wrong_reference, wrong_winner};
 use crate::logs::Log;

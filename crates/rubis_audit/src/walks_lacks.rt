@@ -5,12 +5,11 @@ ghost use Rattle.rubis_schema.specs.declared.limits.TheConstants.{COUNTED_MAX};
 ghost use Rattle.rubis_message.specs.Message.{IsMessage, sites_of};
 ghost use Rattle.rubis_model.specs.Audit.{AreFaultless};
 ghost use Rattle.rubis_model.specs.Lack as lack;
-ghost use Rattle.rubis_model.specs.Logs as model;
-ghost use Rattle.rubis_model.specs.Order.{Released};
-ghost use Rattle.rubis_model.specs.Settle.{Has};
+ghost use Rattle.rubis_model.specs.Verdict as model;
+ghost use Rattle.rubis_model.specs.System.{Released};
+ghost use Rattle.rubis_model.specs.Site.{Has};
 ghost use Rattle.rubis_release.specs.Release.{AllAmong, clock_of};
-ghost use Rattle.rubis_audit.specs.Lacks.{HavePassed, IsMerged};
-ghost use Rattle.rubis_audit.specs.Walks.{HaveMessagesAmong};
+ghost use Rattle.rubis_audit.specs.Walks.{HavePassed, IsMerged, HaveMessagesAmong};
 
 use crate::logs::Log;
 use rubis_clock::Clock;

@@ -4,18 +4,16 @@ ghost use Rattle.std.proofs.Common.{rules};
 ghost use Rattle.std.specs.Prelude.{◌≡◌, ◌++◌, ◌∷◌, ◌≤◌, [], ℕ, List, OnOk, ⊤, refl};
 ghost use Rattle.rubis_schema.specs.declared.limits.TheConstants.{COUNTED_MAX, RECORDS_MAX};
 ghost use Rattle.rubis_message.specs.Grammar.{message_record};
-ghost use Rattle.rubis_message.specs.Message.{sites_of};
-ghost use Rattle.rubis_message.specs.Widening.{widened};
+ghost use Rattle.rubis_message.specs.Message.{sites_of, widened};
 ghost use Rattle.rubis_model.specs.AuditRecords.{line_record};
-ghost use Rattle.rubis_model.specs.WidenedRecords.{widened_line};
+ghost use Rattle.rubis_model.specs.Widening.{widened_line};
 ghost use Rattle.rubis_engine.specs.Progress.{IsRun};
 ghost use Rattle.rubis_engine.specs.Text.{rows_text};
 ghost use Rattle.rubis_reading.specs.Chunked.{HasAll};
-ghost use Rattle.rubis_serving.specs.Whole.{EndsWhole};
-ghost use Rattle.rubis_audit.specs.Lines.{IsAmongLine, line_as};
-ghost use Rattle.rubis_audit.specs.Places.{logs_at, place_after};
+ghost use Rattle.rubis_serving.specs.Serving.{EndsWhole};
+ghost use Rattle.rubis_audit.specs.Running.{IsAmongLine, line_as, bad_record, widening_account, widening_from};
+ghost use Rattle.rubis_audit.specs.Forms.{logs_at, place_after};
 ghost use Rattle.rubis_audit.specs.declared.widener.LinePlace.TheVariants.{BeforeLogs};
-ghost use Rattle.rubis_audit.specs.Widening.{bad_record, widening_account, widening_from};
 
 use crate::lines::{Line, read_line};
 use rubis_engine::{Count, Course, InputRecord, OutOfMemory, Reply, RunFault, Service, Sink};
@@ -66,7 +64,7 @@ pub struct Widener {
 impl Model for Widener {
     ghost use Rattle.std.specs.Prelude.{◌≤◌};
     ghost use Rattle.rubis_schema.specs.declared.limits.TheConstants.{COUNTED_MAX};
-    ghost use Rattle.rubis_audit.specs.Widening.{WidenerState};
+    ghost use Rattle.rubis_audit.specs.Running.{WidenerState};
 
     ghost Value = { WidenerState };
 

@@ -2,8 +2,8 @@
 use Rattle.std.specs.Prelude.{◌≡◌, ℕ, ◌<◌, List, [], ◌∷◌, ◌++◌}
 use Rattle.crossbeam_queue.specs.Fifo.{Pushes, Pops, Forks, Merges}
 use Rattle.rubis_pieces.specs.declared.pieces.Piece.{Piece}
-use Rattle.rubis_pieces.specs.Posted.{Move, Moves, MovesAll}
-use Rattle.rubis_pieces.specs.Posted.Move.{Posted, Taken}
+use Rattle.rubis_pieces.specs.Pieces.{Move, Moves, MovesAll}
+use Rattle.rubis_pieces.specs.Pieces.Move.{Posted, Taken}
 use Rattle.rubis_board.specs.declared.rule.PassView.{PassView}
 use Rattle.rubis_board.specs.declared.rule.Item.{Item}
 use Rattle.rubis_board.specs.declared.rule.Item.TheVariants.{Work, Mark}

@@ -1,4 +1,2 @@
 pub mod Rule
-pub mod Passes
-pub mod Codes
 pub mod Laws

@@ -2,15 +2,14 @@
 
 ghost use Rattle.std.specs.Prelude.{◌≡◌, ◌<◌, [], ◌∷◌, ◌++◌, length, true, false, IfOk, IfErr, OnOk, IfSome, IfNone};
 ghost use Rattle.std.specs.List.Sorted.{IsPermutation};
-ghost use Rattle.rubis_board.specs.Passes.{opened, one_part_less, new_part, joined_pass, after_piece, after_none};
-ghost use Rattle.rubis_board.specs.Rule.{IsPartOf};
+ghost use Rattle.rubis_board.specs.Rule.{opened, one_part_less, new_part, joined_pass, after_piece, after_none, IsPartOf};
 
 use crate::rule::{BoardRule, Item, Looking, Marking, PassView, Posting, Sharing, Taking};
 use crossbeam_queue::RuledArrayQueue;
 use rubis_pieces::Piece;
 use std::alloc::{AllocError, Global};
 use std::marker::Model;
-use std::sync::Wait;
+use std::sync::{Arc, Wait};
 
 type Queue = RuledArrayQueue<Item, PassView, BoardRule>;
 
@@ -19,7 +18,7 @@ type Seat = crossbeam_queue::Pass<Item, PassView>;
 /// A board to which pieces are posted, before it is opened.
 #[derive(Drop)]
 pub struct Poster {
-    queue: Queue,
+    queue: Arc<Queue, Global>,
     seat: Seat,
     // How many pieces were posted.
     count: usize,
@@ -27,19 +26,18 @@ pub struct Poster {
 
 impl Model for Poster {
     ghost use Rattle.std.specs.Prelude.{◌≡◌, ◌≤◌, length};
+    ghost use Rattle.std.specs.Arc.{arc_value};
     ghost use Rattle.crossbeam_queue.specs.Passes.{IsPassOf, ruled_capacity};
-    ghost use Rattle.rubis_board.specs.Passes.{PosterState, known};
-    ghost use Rattle.rubis_board.specs.Rule.{posting};
-    ghost use Rattle.rubis_board.specs.Codes.{poster_code};
+    ghost use Rattle.rubis_board.specs.Rule.{PosterState, known, posting, poster_code};
 
     ghost Value = { PosterState };
 
     ghost coded = { poster_code };
 
-    ghost view = { λ p. record { capacity = ruled_capacity p.queue; posted = (known p.seat).posted } };
+    ghost view = { λ p. record { capacity = ruled_capacity (arc_value p.queue); posted = (known p.seat).posted } };
 
-    ghost invariant = { λ p. IsPassOf p.queue p.seat × (known p.seat ≡ posting (known p.seat).posted)
-        × (p.count ≡ length (known p.seat).posted) × (p.count ≤ ruled_capacity p.queue) };
+    ghost invariant = { λ p. IsPassOf (arc_value p.queue) p.seat × (known p.seat ≡ posting (known p.seat).posted)
+        × (p.count ≡ length (known p.seat).posted) × (p.count ≤ ruled_capacity (arc_value p.queue)) };
 }
 
 impl Poster {
@@ -50,7 +48,7 @@ impl Poster {
     {
         let (queue, seat) = Queue::ruled(alloc, capacity)?;
         Ok(Poster {
-            queue,
+            queue: Arc::new(alloc, queue)?,
             seat,
             count: 0,
         })
@@ -90,19 +88,22 @@ impl Poster {
     }
 }
 
-/// An open board. It ends by `close`, and can't be let go before. To a contract it is its identity.
+/// An open board, or one of several handles on it: threads that don't end with the call have one each. Only `close`, with all parts, says
+/// that what was posted was taken. To a contract it is its identity.
+#[derive(Drop)]
 pub struct Board {
-    queue: Queue,
+    queue: Arc<Queue, Global>,
 }
 
 impl Model for Board {
+    ghost use Rattle.std.specs.Arc.{arc_value};
     ghost use Rattle.atomic_table.specs.Seated.{TableId, table_id_coded};
 
     ghost Value = { TableId };
 
     ghost coded = { table_id_coded };
 
-    ghost view = { λ b. b.queue.table.shared.table_id };
+    ghost view = { λ b. (arc_value b.queue).table.shared.table_id };
 }
 
 /// What one thread knows of a board, and its permission to take from it. Zero-sized.
@@ -113,8 +114,7 @@ pub struct Pass {
 
 impl Model for Pass {
     ghost use Rattle.std.specs.Prelude.{◌≡◌, ◌<◌, []};
-    ghost use Rattle.rubis_board.specs.Passes.{PassState, state_of, known};
-    ghost use Rattle.rubis_board.specs.Codes.{pass_code};
+    ghost use Rattle.rubis_board.specs.Rule.{PassState, state_of, known, pass_code};
 
     ghost Value = { PassState };
 
@@ -126,6 +126,16 @@ impl Model for Pass {
 }
 
 impl Board {
+    /// One more handle, unless there are too many.
+    pub fn share(&self) -> Option<Board>
+        ensures { IfSome result (λ board. board ≡ self.now) }
+    {
+        match Arc::try_clone(&self.queue) {
+            Ok(queue) => Some(Board { queue }),
+            Err(_) => None,
+        }
+    }
+
     /// Gives one part of the pass to a new one, for another thread.
     pub fn split(&self, pass: Pass) -> (Pass, Pass)
         requires board { pass.board ≡ self.now }

@@ -2,8 +2,8 @@
 use Rattle.std.proofs.Common.{◌≡◌, ◌∙◌, ◌≢◌, ◌⊎◌, inl, inr, ⊎_elim, ◌++◌, ◌∷◌, [], ℕ, true, false, cond, eqb, List, refl, sym, ap, subst}
 use Rattle.std.specs.Prelude.{not, ◌==◌}
 use Rattle.std.proofs.lemmas.Bool.{cases_eq}
-use Rattle.rubis_model.specs.Settle.{Has}
-use Rattle.rubis_model.proofs.Lists.{push_cases}
+use Rattle.rubis_model.specs.Site.{Has}
+use Rattle.rubis_model.proofs.Settling.{push_cases}
 use Rattle.rubis_carrier.specs.declared.values.Carrier.{Carrier}
 use Rattle.rubis_carrier.specs.declared.values.ShopPacket.{ShopPacket}
 use Rattle.rubis_carrier.specs.Events.{IsFirst, May, after, first, next_message, next_pass, opening, others, without}
@@ -13,10 +13,9 @@ use Rattle.rubis_carrier.specs.declared.values.ShopEvent.TheVariants.{IsKilled, 
 use Rattle.rubis_carrier.specs.declared.values.ShopEvent.TheVariants.{Passes, Reads, Rebuilds, Refuses, Sends, ServerLosesAll, Serves, Starts, StreamLosesEnd}
 use Rattle.rubis_carrier.specs.declared.values.ShopEvent.TheVariants.{TakesBack, TakesOver, TellsNothing, TellsOk, TellsPublished, TellsUnknown, WritesAnew}
 use Rattle.rubis_carrier.specs.declared.values.ShopEvent.TheVariants.{Yields}
-use Rattle.rubis_carrier.specs.Packets.{sender}
-use Rattle.rubis_carrier.specs.Shops.{Folder, Place, Shop, asks, folder, folder_in, put_folder, put_stream, stream, stream_in, there}
+use Rattle.rubis_carrier.specs.Shops.{sender, Folder, Place, Shop, asks, folder, folder_in, put_folder, put_stream, stream, stream_in, there}
 use Rattle.rubis_carrier.specs.Shops.Place.{InFolder, InStream, UnderWay}
-use Rattle.rubis_carrier.proofs.PutFacts.{eqb_other, eqb_same, filter_has, folder_cases, has_filter, has_take, opened_cases, stream_cases}
+use Rattle.rubis_carrier.proofs.PacketFacts.{eqb_other, eqb_same, filter_has, folder_cases, has_filter, has_take, opened_cases, stream_cases}
 use Rattle.rubis_carrier.proofs.Sound.{IsSomewhere, offered}
 
 -- ---- packets

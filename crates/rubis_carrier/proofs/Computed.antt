@@ -4,24 +4,23 @@ use Rattle.std.specs.Prelude.{◌==◌, ◌&&◌, ◌||◌, not, nat_le, zero, s
 use Rattle.std.specs.List.{list_all, list_any}
 use Rattle.std.proofs.lemmas.Bool.{and_from, and_parts, eq-eqb, eqb-true, false≢true, leb-true, le-leb, or_cases, or_left, or_right}
 use Rattle.std.proofs.lemmas.Bool.Decides.{Decides-and, Decides-eqb, Decides-like, Decides-ltb, Decides-not, Decides-or, not_from_Decides}
-use Rattle.rubis_model.specs.Settle.{Has}
+use Rattle.rubis_model.specs.Site.{Has}
 use Rattle.rubis_carrier.specs.declared.values.Answer.{Answer}
 use Rattle.rubis_carrier.specs.declared.values.Carrier.{Carrier}
 use Rattle.rubis_carrier.specs.declared.values.Carrier.TheVariants.{Files, Server}
 use Rattle.rubis_carrier.specs.declared.values.ShopPacket.{ShopPacket}
 use Rattle.rubis_carrier.specs.declared.values.ShopPacket.TheVariants.{Message, Pass}
-use Rattle.rubis_carrier.specs.Events.{AreSteps, HasRoom, IsFirst, IsOffered, May, MayRebuild, MayServe, MayStandNext, MayWriteAnew, after}
+use Rattle.rubis_carrier.specs.Events.{AreSteps, HasRoom, IsFirst, IsOffered, May, MayRebuild, MayServe, MayStandNext, MayWriteAnew, after, MayIsComputed}
+use Rattle.rubis_carrier.specs.Events.{are_reached, are_steps, has_answer, has_number, has_packet, has_room, holds, is_alone, is_compared, is_first, is_offered}
+use Rattle.rubis_carrier.specs.Events.{is_placed, is_reached, is_server, is_somewhere, may, may_open, may_rebuild, may_send, may_serve, may_write_anew, runs}
 use Rattle.rubis_carrier.specs.declared.values.ShopEvent.{ShopEvent}
 use Rattle.rubis_carrier.specs.declared.values.ShopEvent.TheVariants.{Accepts, Appends, Arrives, Finds, Gives, GoesOn, IsAsked, IsRaised, Opens, OpensAlone}
 use Rattle.rubis_carrier.specs.declared.values.ShopEvent.TheVariants.{Passes, Reads, Rebuilds, Refuses, Sends, Serves, Starts, TakesOver, TellsNothing, TellsOk}
 use Rattle.rubis_carrier.specs.declared.values.ShopEvent.TheVariants.{TellsPublished, WritesAnew}
-use Rattle.rubis_carrier.specs.Packets.{Holds, IsReached, highest, last_turn, own, passed, same_packet, sender, taken}
-use Rattle.rubis_carrier.specs.Shops.{Folder, IsAlone, IsCompared, MayOpen, Place, Shop, asks, empty, folder, request, stream, there}
+use Rattle.rubis_carrier.specs.Shops.{Holds, IsReached, highest, last_turn, own, passed, same_packet, sender, taken, Folder, IsAlone, IsCompared, MayOpen}
+use Rattle.rubis_carrier.specs.Shops.{Place, Shop, asks, empty, folder, request, stream, there}
 use Rattle.rubis_carrier.specs.Shops.Place.{InFolder, InStream, UnderWay}
-use Rattle.rubis_carrier.specs.Tests.{MayIsComputed, are_reached, are_steps, has_answer, has_number, has_packet, has_room, holds, is_alone, is_compared}
-use Rattle.rubis_carrier.specs.Tests.{is_first, is_offered, is_placed, is_reached, is_server, is_somewhere, may, may_open, may_rebuild, may_send, may_serve}
-use Rattle.rubis_carrier.specs.Tests.{may_write_anew, runs}
-use Rattle.rubis_carrier.proofs.PutFacts.{filter_has, has_filter}
+use Rattle.rubis_carrier.proofs.PacketFacts.{filter_has, has_filter}
 use Rattle.rubis_carrier.proofs.Sound.{IsSomewhere}
 
 -- ---- all of a list, and some of it

@@ -1,13 +1,9 @@
 pub mod PacketFacts
-pub mod PutFacts
 pub mod Sound
-pub mod Whole
 pub mod Carrying
-pub mod Token
 pub mod Changes
 pub mod Telling
 pub mod Over
-pub mod Needed
 pub mod Sites
 pub mod Standby
 pub mod Computed

@@ -1,6 +1,6 @@
 -- What a site's records make it send and take in, and the names that it gives.
-use Rattle.std.proofs.Common.{◌≡◌, ◌∙◌, ◌≢◌, ◌⊎◌, inl, inr, ⊎_elim, ◌≤◌, ◌<◌, ◌+◌, ◌-◌, ◌++◌, ◌∷◌, [], ℕ, Bool, true, false, cond, eqb, List, length, refl, sym, ap, subst, arith}
-use Rattle.std.proofs.Common.{Option, Some, None, append-nil, append_assoc}
+use Rattle.std.proofs.Common.{◌≡◌, ◌∙◌, ◌≢◌, ◌⊎◌, inl, inr, ⊎_elim, ◌≤◌, ◌<◌, ◌+◌, ◌-◌, ◌++◌, ◌∷◌, [], ℕ, Bool, true, false, cond, eqb, List, length, refl, sym}
+use Rattle.std.proofs.Common.{ap, subst, arith, Option, Some, None, append-nil, append_assoc}
 use Rattle.std.specs.Prelude.{Result, Ok, Err, ◌==◌, ◌&&◌, ◌||◌, not, nat_lt, nat_le}
 use Rattle.std.proofs.lemmas.Bool.{cond_both, eqb-true, ltb-false, leb-false, not-false}
 use Rattle.rubis_schema.specs.declared.refusals.Refusal.{Refusal}
@@ -18,22 +18,16 @@ use Rattle.rubis_message.specs.declared.tokens.Token.{Token}
 use Rattle.rubis_model.specs.Processes.{site_after}
 use Rattle.rubis_message.specs.Inputs.{input_of}
 use Rattle.rubis_message.specs.declared.inputs.Input.{Input}
-use Rattle.rubis_model.specs.Runs.{input_step}
+use Rattle.rubis_model.specs.Site.{input_step, Has, counted, settle, Place, Replica, after_came, after_made, arrival_of, arrived, generating, is_full}
+use Rattle.rubis_model.specs.Site.{is_repeat, issued_after, made, not_ours, opening_at, passing, rows_at, standing_of, token_for, took}
 use Rattle.rubis_message.specs.declared.inputs.Input.TheVariants.{Asked, Came, Neither}
-use Rattle.rubis_model.specs.Settle.{Has, counted, settle}
-use Rattle.rubis_model.specs.Site.{Place, Replica, after_came, after_made, arrival_of, arrived, generating, is_full, is_repeat, issued_after, made, not_ours}
-use Rattle.rubis_model.specs.Site.{opening_at, passing, rows_at, standing_of, token_for, took}
 use Rattle.rubis_generate.specs.Decision.{decision}
-use Rattle.rubis_model.proofs.Lists.{push_cases}
-use Rattle.rubis_model.proofs.Pasts.{counted_no, counted_yes}
-use Rattle.rubis_model.proofs.Settling.{counted_push, settle_keeps}
+use Rattle.rubis_model.proofs.Settling.{push_cases, counted_no, counted_yes, counted_push, settle_keeps}
 use Rattle.rubis_carrier.specs.declared.values.ShopPacket.{ShopPacket}
-use Rattle.rubis_carrier.specs.Packets.{Holds, highest, taken}
-use Rattle.rubis_carrier.specs.Packets.{passed as passed_on}
+use Rattle.rubis_carrier.specs.Shops.{Holds, highest, taken, passed as passed_on}
 use Rattle.rubis_carrier.specs.Sites.{SitesGiveTheseNames, came_by, known_as, packets_by, packets_of, passed_by, sent_by, took_by}
-use Rattle.rubis_carrier.proofs.PacketFacts.{highest_next, highest_other, highest_pass, passed_message, passed_next, passed_other, taken_message}
-use Rattle.rubis_carrier.proofs.PacketFacts.{taken_next, taken_other}
-use Rattle.rubis_carrier.proofs.PutFacts.{eqb_other, eqb_same}
+use Rattle.rubis_carrier.proofs.PacketFacts.{highest_next, highest_other, highest_pass, passed_message, passed_next, passed_other, taken_message, taken_next}
+use Rattle.rubis_carrier.proofs.PacketFacts.{taken_other, eqb_other, eqb_same}
 
 -- ---- what a site's state has of its packets
 

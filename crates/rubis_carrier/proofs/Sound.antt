@@ -1,10 +1,10 @@
 -- What every event keeps of a shop, and that so a name is given once.
-use Rattle.std.proofs.Common.{◌≡◌, ◌∙◌, ◌≢◌, ◌⊎◌, inl, inr, ⊎_elim, ◌≤◌, ◌+◌, ◌++◌, ◌∷◌, [], ℕ, Bool, true, false, cond, eqb, List, refl, sym, ap, subst, arith, max}
+use Rattle.std.proofs.Common.{◌≡◌, ◌∙◌, ◌≢◌, ◌⊎◌, inl, inr, ⊎_elim, ◌≤◌, ◌+◌, ◌++◌, ◌∷◌, [], ℕ, Bool, true, false, cond, eqb, List, refl, sym, ap, subst, arith}
+use Rattle.std.proofs.Common.{max}
 use Rattle.std.specs.Prelude.{take, not, ◌==◌}
 use Rattle.std.proofs.lemmas.Bool.{eqb-false, eqb-true}
-use Rattle.rubis_model.specs.Settle.{Has}
-use Rattle.rubis_model.proofs.Lists.{has_last, push_cases}
-use Rattle.rubis_carrier.specs.Laws.{AreGivenOnce, IdsAreGivenOnce}
+use Rattle.rubis_model.specs.Site.{Has}
+use Rattle.rubis_model.proofs.Settling.{has_last, push_cases}
 use Rattle.rubis_carrier.specs.Laws.{AreGivenOnce, IdsAreGivenOnce}
 use Rattle.rubis_carrier.specs.declared.values.Carrier.{Carrier}
 use Rattle.rubis_carrier.specs.declared.values.Carrier.TheVariants.{Files, Server}
@@ -12,21 +12,18 @@ use Rattle.rubis_carrier.specs.declared.values.ShopPacket.{ShopPacket}
 use Rattle.rubis_carrier.specs.declared.values.ShopPacket.TheVariants.{Message, Pass}
 use Rattle.rubis_carrier.specs.declared.values.ShopRequest.{ShopRequest}
 use Rattle.rubis_carrier.specs.declared.values.Notice.{Notice}
-use Rattle.rubis_carrier.specs.Events.{AreSteps, IsOffered, May, accepting, after, keeping, next_message, next_pass, opening}
+use Rattle.rubis_carrier.specs.Events.{AreSteps, IsOffered, May, accepting, after, keeping, next_message, next_pass, opening, opening_uncompared, run}
 use Rattle.rubis_carrier.specs.declared.values.ShopEvent.{ShopEvent}
-use Rattle.rubis_carrier.specs.Events.{opening_uncompared, run}
 use Rattle.rubis_carrier.specs.declared.values.ShopEvent.TheVariants.{Accepts, Appends, Arrives, Closes, Fills, Finds, Gives, GoesOn, IsAsked, IsCopied}
 use Rattle.rubis_carrier.specs.declared.values.ShopEvent.TheVariants.{IsKilled, IsLost, IsRaised, KeeperStarts, LosesEnd, MachineStarts, Opens, OpensAlone}
 use Rattle.rubis_carrier.specs.declared.values.ShopEvent.TheVariants.{Passes, Reads, Rebuilds, Refuses, Sends, ServerLosesAll, Serves, Starts, StreamLosesEnd}
 use Rattle.rubis_carrier.specs.declared.values.ShopEvent.TheVariants.{TakesBack, TakesOver, TellsNothing, TellsOk, TellsPublished, TellsUnknown, WritesAnew}
 use Rattle.rubis_carrier.specs.declared.values.ShopEvent.TheVariants.{Yields}
-use Rattle.rubis_carrier.specs.Laws.{AreGivenOnce, IdsAreGivenOnce}
-use Rattle.rubis_carrier.specs.Packets.{IsReached, highest, name, passed, sender, taken}
-use Rattle.rubis_carrier.specs.Shops.{Folder, IsCompared, IsNotAhead, MayOpen, Place, Shop, folder, folder_in, put_folder, put_stream, start, stream, stream_in}
-use Rattle.rubis_carrier.specs.Shops.{there, with_folder}
+use Rattle.rubis_carrier.specs.Shops.{IsReached, highest, name, passed, sender, taken, Folder, IsCompared, IsNotAhead, MayOpen, Place, Shop, folder, folder_in}
+use Rattle.rubis_carrier.specs.Shops.{put_folder, put_stream, start, stream, stream_in, there, with_folder}
 use Rattle.rubis_carrier.specs.Shops.Place.{InFolder, InStream, UnderWay}
-use Rattle.rubis_carrier.proofs.PacketFacts.{reached_more, reached_within}
-use Rattle.rubis_carrier.proofs.PutFacts.{eqb_same, filter_holds, folder_cases, has_filter, has_take, opened_cases, stream_cases}
+use Rattle.rubis_carrier.proofs.PacketFacts.{reached_more, reached_within, eqb_same, filter_holds, folder_cases, has_filter, has_take, opened_cases}
+use Rattle.rubis_carrier.proofs.PacketFacts.{stream_cases}
 
 -- the packet stands somewhere
 abbrev pub IsSomewhere : Shop → ShopPacket → Type 0

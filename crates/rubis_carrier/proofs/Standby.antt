@@ -1,8 +1,8 @@
 -- What stands in a stream under a number is one message, whoever appended it; and what is told of a site that yields.
 use Rattle.std.proofs.Common.{◌≡◌, ◌∙◌, ◌≢◌, ◌⊎◌, inl, inr, ⊎_elim, ◌++◌, ◌∷◌, [], ℕ, ◌+◌, List, refl, sym, ap, subst, arith}
 use Rattle.std.specs.Prelude.{take}
-use Rattle.rubis_model.specs.Settle.{Has}
-use Rattle.rubis_model.proofs.Lists.{push_cases}
+use Rattle.rubis_model.specs.Site.{Has}
+use Rattle.rubis_model.proofs.Settling.{push_cases}
 use Rattle.rubis_carrier.specs.declared.values.Carrier.{Carrier}
 use Rattle.rubis_carrier.specs.declared.values.ShopPacket.{ShopPacket}
 use Rattle.rubis_carrier.specs.declared.values.ShopPacket.TheVariants.{Message, Pass}
@@ -12,15 +12,13 @@ use Rattle.rubis_carrier.specs.declared.values.ShopEvent.{ShopEvent}
 use Rattle.rubis_carrier.specs.declared.values.ShopEvent.TheVariants.{Appends, Arrives, GoesOn, OpensAlone, Refuses, ServerLosesAll, Starts, StreamLosesEnd}
 use Rattle.rubis_carrier.specs.declared.values.ShopEvent.TheVariants.{TakesBack, TakesOver, TellsNothing, TellsOk, TellsPublished, TellsUnknown, WritesAnew}
 use Rattle.rubis_carrier.specs.declared.values.ShopEvent.TheVariants.{Yields}
-use Rattle.rubis_carrier.specs.Packets.{highest, sender}
-use Rattle.rubis_carrier.specs.Shops.{Shop, folder, start, stream}
+use Rattle.rubis_carrier.specs.Shops.{highest, sender, Shop, folder, start, stream}
 use Rattle.rubis_carrier.specs.Shops.Place.{InStream}
-use Rattle.rubis_carrier.specs.Standby.{IdsAreToldOnce, StaysYielding, ToldStaysInStream, WhatYieldsIsPublished}
+use Rattle.rubis_carrier.specs.Laws.{IdsAreToldOnce, StaysYielding, ToldStaysInStream, WhatYieldsIsPublished}
 use Rattle.rubis_carrier.proofs.Changes.{has_or, without_other}
-use Rattle.rubis_carrier.proofs.PacketFacts.{number_within}
-use Rattle.rubis_carrier.proofs.PutFacts.{has_take, stream_cases}
+use Rattle.rubis_carrier.proofs.PacketFacts.{number_within, has_take, stream_cases}
 use Rattle.rubis_carrier.proofs.Sound.{Sound, WasCompared, sound_run, sound_step}
-use Rattle.rubis_carrier.proofs.Whole.{run_append, steps_left, steps_right, whole_after}
+use Rattle.rubis_carrier.proofs.Carrying.{run_append, steps_left, steps_right, whole_after}
 
 -- ---- one message under a number
 

@@ -3,8 +3,8 @@ use Rattle.std.specs.Prelude.{zero, suc}
 use Rattle.std.proofs.lemmas.Bool.{cases_eq}
 use Rattle.std.proofs.lemmas.List.{length_push}
 use Rattle.std.proofs.Common.{◌≡◌, ◌∙◌, ◌≢◌, ◌⊎◌, inl, inr, ⊎_elim, ◌≤◌, ◌<◌, ◌+◌, ◌++◌, ◌∷◌, [], ℕ, List, length, refl, sym, ap, subst, arith}
-use Rattle.rubis_model.specs.Settle.{Has}
-use Rattle.rubis_model.proofs.Lists.{has_last, has_left, push_cases}
+use Rattle.rubis_model.specs.Site.{Has}
+use Rattle.rubis_model.proofs.Settling.{has_last, has_left, push_cases}
 use Rattle.rubis_carrier.specs.declared.values.Answer.{Answer}
 use Rattle.rubis_carrier.specs.declared.values.Carrier.{Carrier}
 use Rattle.rubis_carrier.specs.declared.values.ShopPacket.{ShopPacket}
@@ -12,22 +12,21 @@ use Rattle.rubis_carrier.specs.declared.values.ShopPacket.TheVariants.{Message}
 use Rattle.rubis_carrier.specs.declared.values.ShopRequest.{ShopRequest}
 use Rattle.rubis_carrier.specs.declared.values.Notice.{Notice}
 use Rattle.rubis_carrier.specs.declared.values.Notice.TheVariants.{No, Ok}
-use Rattle.rubis_carrier.specs.Events.{AreSteps, IsFirst, May, MayServe, accepting, after, answering, first, giving, next_message, opening}
+use Rattle.rubis_carrier.specs.Events.{AreSteps, IsFirst, May, MayServe, accepting, after, answering, first, giving, next_message, opening, others, run}
+use Rattle.rubis_carrier.specs.Events.{started, times, without}
 use Rattle.rubis_carrier.specs.declared.values.ShopEvent.{ShopEvent}
-use Rattle.rubis_carrier.specs.Events.{others, run, started, times, without}
 use Rattle.rubis_carrier.specs.declared.values.ShopEvent.TheVariants.{Accepts, Appends, Arrives, Closes, Fills, Finds, Gives, GoesOn, IsAsked, IsCopied}
 use Rattle.rubis_carrier.specs.declared.values.ShopEvent.TheVariants.{IsKilled, IsLost, IsRaised, KeeperStarts, LosesEnd, MachineStarts, Opens, OpensAlone}
 use Rattle.rubis_carrier.specs.declared.values.ShopEvent.TheVariants.{Passes, Reads, Rebuilds, Refuses, Sends, ServerLosesAll, Serves, Starts, StreamLosesEnd}
 use Rattle.rubis_carrier.specs.declared.values.ShopEvent.TheVariants.{TakesBack, TakesOver, TellsNothing, TellsOk, TellsPublished, TellsUnknown, WritesAnew}
 use Rattle.rubis_carrier.specs.declared.values.ShopEvent.TheVariants.{Yields}
 use Rattle.rubis_carrier.specs.Laws.{AsksAreAcceptedOnce, IsUnmade, NobodyIsToldBoth, PublishedIsInStream, ToldOkIsKept, WhatIsToldIsTrue}
-use Rattle.rubis_carrier.specs.Packets.{highest}
-use Rattle.rubis_carrier.specs.Shops.{Folder, Place, Shop, asks, empty, folder, folder_in, put_folder, request, request_in, start, stream, there}
+use Rattle.rubis_carrier.specs.Shops.{highest, Folder, Place, Shop, asks, empty, folder, folder_in, put_folder, request, request_in, start, stream, there}
 use Rattle.rubis_carrier.specs.Shops.Place.{InFolder, InStream, UnderWay}
 use Rattle.rubis_carrier.proofs.Changes.{AreApart, IsNew, apart_more, apart_others, first_in, from_step, has_others, has_without, opened_from}
-use Rattle.rubis_carrier.proofs.PutFacts.{folder_cases, has_filter, opened_cases, request_new, request_old}
+use Rattle.rubis_carrier.proofs.PacketFacts.{folder_cases, has_filter, opened_cases, request_new, request_old}
 use Rattle.rubis_carrier.proofs.Sound.{IsSomewhere}
-use Rattle.rubis_carrier.proofs.Whole.{run_append, steps_left, steps_right}
+use Rattle.rubis_carrier.proofs.Carrying.{run_append, steps_left, steps_right}
 
 -- ---- what every event keeps
 

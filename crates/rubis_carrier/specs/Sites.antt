@@ -12,13 +12,11 @@ use Rattle.rubis_message.specs.declared.tokens.Token.{Token}
 use Rattle.rubis_model.specs.Processes.{site_after}
 use Rattle.rubis_message.specs.Inputs.{input_of}
 use Rattle.rubis_message.specs.declared.inputs.Input.{Input}
-use Rattle.rubis_model.specs.Runs.{input_step}
+use Rattle.rubis_model.specs.Site.{input_step, counted, Place, Replica, arrived, asked, opening_at, passed, took}
 use Rattle.rubis_message.specs.declared.inputs.Input.TheVariants.{Asked, Came, Neither}
-use Rattle.rubis_model.specs.Settle.{counted}
-use Rattle.rubis_model.specs.Site.{Place, Replica, arrived, asked, opening_at, passed, took}
 use Rattle.rubis_carrier.specs.declared.values.ShopPacket.{ShopPacket}
 use Rattle.rubis_carrier.specs.declared.values.ShopPacket.TheVariants as known
-use Rattle.rubis_carrier.specs.Packets.{Holds, highest, taken}
+use Rattle.rubis_carrier.specs.Shops.{Holds, highest, taken}
 
 -- a message as the carrier knows it, if `ask` says of which ask each message was made
 abbrev pub known_as : (Message → ℕ) → Message → ShopPacket

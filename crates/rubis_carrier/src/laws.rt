@@ -1,10 +1,10 @@
 //! The laws of shops, each with its statement in specs/.
 
-ghost use Rattle.rubis_carrier.specs.Laws.{AnswersComeInOrder, AsksAreAcceptedOnce, ComparingIsNeeded, GivenAgainOnlyWhereLost, IdsAreGivenOnce, NothingAcceptedIsLost, TheFirstSiteHolds, TheTokenComesBack};
-ghost use Rattle.rubis_carrier.specs.Standby.{IdsAreToldOnce, ToldStaysInStream, WhatYieldsIsPublished};
-ghost use Rattle.rubis_carrier.specs.Tests.{MayIsComputed};
+ghost use Rattle.rubis_carrier.specs.Laws.{AnswersComeInOrder, AsksAreAcceptedOnce, ComparingIsNeeded, GivenAgainOnlyWhereLost, IdsAreGivenOnce};
+ghost use Rattle.rubis_carrier.specs.Laws.{NothingAcceptedIsLost, TheFirstSiteHolds, TheTokenComesBack, IdsAreToldOnce, ToldStaysInStream};
+ghost use Rattle.rubis_carrier.specs.Laws.{WhatYieldsIsPublished, NobodyIsToldBoth, PublishedIsInStream, ToldOkIsKept, WhatIsOverStays, WhatIsToldIsTrue};
+ghost use Rattle.rubis_carrier.specs.Events.{MayIsComputed};
 ghost use Rattle.rubis_carrier.specs.Sites.{SitesGiveTheseNames};
-ghost use Rattle.rubis_carrier.specs.Laws.{NobodyIsToldBoth, PublishedIsInStream, ToldOkIsKept, WhatIsOverStays, WhatIsToldIsTrue};
 
 /// Two messages of one site under one number, and two passes of one site under one turn, are the same one, in whatever folders and streams
 /// they stand at that moment, or are under way. So a number is given again only where nothing is left that had the first. Not so of a site

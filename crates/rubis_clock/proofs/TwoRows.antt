@@ -3,7 +3,7 @@ use Rattle.std.proofs.Common.{ℕ, zero, suc, ◌≡◌, ◌+◌, ◌*◌, ◌<�
 use Rattle.std.proofs.Common.{false, Bool}
 use Rattle.std.specs.Prelude.{slice_set, slice_index}
 use Rattle.std.proofs.lemmas.List.{length-take, take_more, take_more_set, get_or-take}
-use Rattle.rubis_clock.specs.Packed.{counts_of, halves, joined}
+use Rattle.rubis_clock.specs.Counts.{counts_of, halves, joined}
 
 pub joined_at : (low high : List ℕ) (i : ℕ) → i < length low → i < length high → slice_index (joined low high) i
     ≡ slice_index low i + 65536 * slice_index high i

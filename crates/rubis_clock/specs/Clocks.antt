@@ -1,6 +1,8 @@
--- Clocks, and the order of stamps.
-use Rattle.std.specs.Prelude.{◌≡◌, ◌≢◌, ℕ, ◌+◌, ◌<◌, ◌≤◌, cond, nat_lt, List, replicate, slice_index, slice_set}
+-- Clocks, the order of stamps, and a stamp that counts more sites.
+use Rattle.std.specs.Prelude.{◌≡◌, ◌≢◌, ℕ, ◌+◌, ◌<◌, ◌≤◌, cond, nat_lt, List, replicate, slice_index, slice_set, ◌-◌, ◌++◌, length, nat_le, ◌&&◌, Bool, Result}
+use Rattle.std.specs.Prelude.{Ok, Err}
 use Rattle.rubis_clock.specs.declared.stamps.Stamp.{Stamp}
+use Rattle.rubis_schema.specs.declared.limits.TheConstants.{COUNTED_MAX}
 
 -- how many messages of each site, and how many red ones
 pub record MessageCounts : Type 0 where
@@ -28,3 +30,17 @@ advanced c s = record {
 -- v's origin had released u when it made v
 abbrev pub StampPrecedes : Stamp → Stamp → Type 0
 StampPrecedes u v = u.id.seq ≤ slice_index v.deps u.id.site
+
+-- ---- a stamp that counts more sites
+
+-- with counts of 0 for the further sites, `sites` in all
+abbrev pub widened : ℕ → Stamp → Stamp
+widened sites s = record { id = s.id; red = s.red; deps = s.deps ++ replicate (sites - length s.deps) 0 }
+
+-- it counts no more than `sites`, and that many can be counted
+abbrev pub widens : ℕ → Stamp → Bool
+widens sites s = nat_le (length s.deps) sites && nat_le sites COUNTED_MAX
+
+-- the stamp that counts `sites`, or else itself
+abbrev pub widening : ℕ → Stamp → Result Stamp Stamp
+widening sites s = cond (widens sites s) (Ok (widened sites s)) (Err s)

@@ -1,5 +1,5 @@
--- Counts in a row of as many places as a message counts sites at most.
-use Rattle.std.specs.Prelude.{◌≡◌, ℕ, ◌-◌, ◌≤◌, List, ◌++◌, length, take, replicate}
+-- Counts in one row and in two.
+use Rattle.std.specs.Prelude.{◌≡◌, ℕ, ◌-◌, ◌≤◌, List, ◌++◌, length, take, replicate, ◌+◌, ◌*◌, ◌/◌, ◌%◌, [], ◌∷◌}
 use Rattle.rubis_schema.specs.declared.limits.TheConstants.{COUNTED_MAX}
 
 -- with zeros after them, so that the row is full
@@ -17,3 +17,20 @@ filled_take row used h = h.behind
 
 pub length_take_filled : (row : List ℕ) (used : ℕ) → IsFilled row used → length (take used row) ≡ used
 length_take_filled row used h = h.counted
+
+-- ---- counts in two rows: the lower 16 bits of each, and the four bits above them, two counts to a byte
+
+-- two numbers below 16 from each byte
+abbrev pub halves : List ℕ → List ℕ
+halves [] = []
+halves (pair ∷ pairs) = (pair % 16) ∷ (pair / 16) ∷ halves pairs
+
+-- each count from its two parts
+abbrev pub joined : List ℕ → List ℕ → List ℕ
+joined [] high = []
+joined (l ∷ low) [] = []
+joined (l ∷ low) (h ∷ high) = (l + 65536 * h) ∷ joined low high
+
+-- the counts that are packed in two rows: their lower 16 bits, and what is above these, two in each byte
+abbrev pub counts_of : List ℕ → List ℕ → List ℕ
+counts_of low pairs = joined low (halves pairs)

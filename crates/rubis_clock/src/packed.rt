@@ -19,7 +19,7 @@ pub struct PackedDeps {
 
 impl Model for PackedDeps {
     ghost use Rattle.std.specs.Prelude.{List, ℕ, ◌≤◌, take};
-    ghost use Rattle.rubis_clock.specs.Packed.{counts_of};
+    ghost use Rattle.rubis_clock.specs.Counts.{counts_of};
 
     ghost Value = { List ℕ };
 

@@ -1,7 +1,7 @@
 //! The stamp of a message: its id, its counts, and its red number.
 
 ghost use Rattle.std.specs.Prelude.{◌≡◌};
-ghost use Rattle.rubis_clock.specs.Widening.{widening};
+ghost use Rattle.rubis_clock.specs.Clocks.{widening};
 
 use crate::counts::Deps;
 use rubis_schema::{COUNTED_MAX, Id};

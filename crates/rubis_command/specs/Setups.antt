@@ -1,5 +1,5 @@
 -- The configuration that a command line asks for.
-use Rattle.rubis_replica.specs.Setup.{Setup}
+use Rattle.rubis_replica.specs.State.{Setup}
 use Rattle.rubis_command.specs.declared.options.Options.{Options}
 
 -- the configuration of one site

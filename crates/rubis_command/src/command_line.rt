@@ -3,7 +3,7 @@
 ghost use Rattle.std.specs.Prelude.{◌≡◌, [], IfErr, IfOk, map, string_bytes};
 ghost use Rattle.std.specs.Process.{exit_status};
 ghost use Rattle.clap.specs.Words.{fault_of, kind_of};
-ghost use Rattle.rubis_replica.specs.Setup.{IsSetup};
+ghost use Rattle.rubis_replica.specs.State.{IsSetup};
 ghost use Rattle.rubis_command.specs.CommandLine.{IsAsked, command_line};
 ghost use Rattle.rubis_command.specs.Setups.{setup_of};
 ghost use Rattle.rubis_command.specs.Statuses.{IsRefusal, IsStatus, IsStatusOf, status_by};

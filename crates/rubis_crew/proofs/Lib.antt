@@ -1,11 +1,4 @@
-pub mod Numbers
-pub mod Views
-pub mod Jobs
 pub mod Giving
-pub mod Taking
 pub mod Handing
-pub mod Settling
 pub mod Paying
-pub mod Leads
-pub mod Helping
 pub mod ManySteps

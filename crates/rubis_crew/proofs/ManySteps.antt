@@ -1,4 +1,4 @@
--- Many steps: what waits, and the account of what was given.
+-- Many steps: the account of what was given.
 use Rattle.std.proofs.Common.{◌≡◌, ℕ, suc, ◌+◌, Bool, true, false, List, [], ◌∷◌, ◌++◌, length, set, Contains, sym, refl, ap, ◌∙◌, subst, ⊎_elim, arith}
 use Rattle.std.proofs.lemmas.List.Elements.{Contains-append_cases}
 use mathlib.Core.Option.{some}
@@ -8,29 +8,10 @@ use Rattle.rubis_crew.specs.declared.rule.JobView.{JobView}
 use Rattle.rubis_crew.specs.declared.rule.JobEntry.{JobEntry}
 use Rattle.rubis_crew.specs.declared.rule.JobEntry.TheVariants.{Work, Over}
 use Rattle.rubis_crew.specs.Rule.{weigh, waiting, sum_over, Ruled, HasTaken}
-use Rattle.rubis_crew.specs.Laws.{QueueStep, QueueStepsAll, moves_of, MovesAll, JobState, Step, Steps, StepsAll, opening, held_if, held_by, out}
-use Rattle.rubis_crew.specs.Laws.{coming_back, IsAccounted}
-use Rattle.rubis_crew.specs.Laws.QueueStep.{Pushed, Popped}
+use Rattle.rubis_crew.specs.Laws.{JobState, Step, Steps, StepsAll, opening, held_if, held_by, out, coming_back, IsAccounted}
 use Rattle.rubis_crew.specs.Laws.Step.{Puts, Takes, Shares, Hands, Receives, Settles}
-use Rattle.rubis_crew.proofs.Numbers.{none_in, weigh-append}
-use Rattle.rubis_crew.proofs.Jobs.{waiting_append, waiting_over}
-use Rattle.rubis_crew.proofs.Giving.{begins, gives, says}
-use Rattle.rubis_crew.proofs.Taking.{takes}
-use Rattle.rubis_crew.proofs.Handing.{shares, hands, receives}
-use Rattle.rubis_crew.proofs.Settling.{settles}
-
-module _ {J : Type 0} where
-  pub moves : (before : List (JobEntry J)) (steps : List (QueueStep J)) (after : List (JobEntry J)) → QueueStepsAll before steps after
-      → MovesAll (waiting before) (moves_of steps) (waiting after)
-  moves before [] after is = ap waiting is
-  moves before (Pushed (Work x) ∷ steps) after is =
-      (waiting is.0, ap waiting is.1 ∙ waiting_append before (Work x ∷ []), moves is.0 steps after is.2)
-  moves before (Pushed Over ∷ steps) after is =
-      subst (λ (l : List (Given J)). MovesAll l (moves_of steps) (waiting after)) (ap waiting is.1 ∙ waiting_over before)
-      (moves is.0 steps after is.2)
-  moves before (Popped (Work x) ∷ steps) after is = (waiting is.0, ap waiting is.1, moves is.0 steps after is.2)
-  moves before (Popped Over ∷ steps) after is =
-      subst (λ (l : List (Given J)). MovesAll l (moves_of steps) (waiting after)) (sym (ap waiting is.1)) (moves is.0 steps after is.2)
+use Rattle.rubis_crew.proofs.Giving.{none_in, weigh-append, begins, gives, says}
+use Rattle.rubis_crew.proofs.Handing.{takes, shares, hands, receives, settles}
 
 module _ {J : Type 0} (Fits : J → Type 0) where
   abbrev IsRuled : JobState J → Type 0

@@ -14,7 +14,7 @@ use Rattle.rubis_crew.specs.declared.results.Payment.{Payment}
 use Rattle.rubis_crew.specs.declared.results.ResultView.{ResultView}
 use Rattle.rubis_crew.specs.declared.results.Slip.{Slip}
 use Rattle.rubis_crew.specs.declared.results.Slip.TheVariants.{Name, Pay}
-use Rattle.rubis_crew.specs.Results.{holds, IsPaid, BelongsTo, unnamed, newcomer, Named, AreResults, HasNamed, HasPaid, HasCollected}
+use Rattle.rubis_crew.specs.Rule.{holds, IsPaid, BelongsTo, unnamed, newcomer, Named, AreResults, HasNamed, HasPaid, HasCollected}
 
 module _ {A : Type 0} where
   -- a list of one has one place, and there it is

@@ -1,5 +1,4 @@
--- Every step keeps the rules, and moves what waits as a schedule moves its posted list. Whatever the steps, each job that is given
--- waits, is out or comes back, once.
+-- Every step keeps the rules. Whatever the steps, each job that is given waits, is out or comes back, once.
 use Rattle.std.specs.Prelude.{◌≡◌, ℕ, Bool, true, false, List, [], ◌∷◌, ◌++◌, slice_set, Some}
 use Rattle.std.specs.List.{Contains}
 use mathlib.Core.Option.{some}
@@ -14,8 +13,8 @@ use Rattle.rubis_crew.specs.declared.rule.JobEntry.TheVariants.{Work, Over}
 use Rattle.rubis_crew.specs.declared.results.Payment.{Payment}
 use Rattle.rubis_crew.specs.declared.results.ResultView.{ResultView}
 use Rattle.rubis_crew.specs.declared.results.Slip.TheVariants.{Name, Pay}
-use Rattle.rubis_crew.specs.Rule.{AreRising, weigh, waiting, first_view, idle, Ruled, HasPut, HasTaken, emptied, token_view, together, settled, EachAt}
-use Rattle.rubis_crew.specs.Results.{IsPaid, AreResults, unnamed, newcomer, HasNamed, HasPaid, HasCollected}
+use Rattle.rubis_crew.specs.Rule.{AreRising, weigh, waiting, first_view, idle, Ruled, HasPut, HasTaken, emptied, token_view, together, settled, EachAt, IsPaid}
+use Rattle.rubis_crew.specs.Rule.{AreResults, unnamed, newcomer, HasNamed, HasPaid, HasCollected}
 
 -- ---- one step, whatever a queue holds and whatever the other passes know
 
@@ -41,51 +40,6 @@ pub record ResultStepsKeepTheRule {J R : Type 0} (Worked : J → R → Type 0) :
       → Pushes (AreResults Worked) room place v (Pay p) (HasPaid v (Pay p))
   pub collect : (place : ℕ) (v : ResultView J) → Pops (AreResults Worked) place v (HasCollected Worked v)
   pub join : (place : ℕ) (v : ResultView J) (queue : TableId) → v.of ≡ Some queue → Forks (AreResults Worked) place v v (newcomer v)
-
--- ---- what waits
-
--- a job is given, or taken
-pub data Move (J : Type 0) : Type 0 where
-  Put : Given J → Move J
-  Taken : Given J → Move J
-
--- what is done to the queue: an item is pushed, and is then its last, or the first is popped
-pub data QueueStep (J : Type 0) : Type 0 where
-  Pushed : JobEntry J → QueueStep J
-  Popped : JobEntry J → QueueStep J
-
-module _ {J : Type 0} where
-  -- a job that is given is put last, and one that is taken was the first
-  abbrev pub Moves : List (Given J) → Move J → List (Given J) → Type 0
-  Moves before (Put x) after = after ≡ before ++ x ∷ []
-  Moves before (Taken x) after = before ≡ x ∷ after
-
-  abbrev pub MovesAll : List (Given J) → List (Move J) → List (Given J) → Type 0
-  MovesAll before [] after = before ≡ after
-  MovesAll before (move ∷ moves) after = (between : List (Given J)) × Moves before move between × MovesAll between moves after
-
-  abbrev pub QueueSteps : List (JobEntry J) → QueueStep J → List (JobEntry J) → Type 0
-  QueueSteps before (Pushed item) after = after ≡ before ++ item ∷ []
-  QueueSteps before (Popped item) after = before ≡ item ∷ after
-
-  abbrev pub QueueStepsAll : List (JobEntry J) → List (QueueStep J) → List (JobEntry J) → Type 0
-  QueueStepsAll before [] after = before ≡ after
-  QueueStepsAll before (step ∷ steps) after =
-      (between : List (JobEntry J)) × QueueSteps before step between × QueueStepsAll between steps after
-
-  -- how it moves what waits: what says that no more come doesn't
-  abbrev pub moves_of : List (QueueStep J) → List (Move J)
-  moves_of [] = []
-  moves_of (Pushed (Work x) ∷ steps) = Put x ∷ moves_of steps
-  moves_of (Pushed Over ∷ steps) = moves_of steps
-  moves_of (Popped (Work x) ∷ steps) = Taken x ∷ moves_of steps
-  moves_of (Popped Over ∷ steps) = moves_of steps
-
--- whatever is pushed and popped, in any order, what waits changes as a schedule's posted list does by posts and takes
-abbrev pub StepsMoveTheWaiting : Type 0 → Type 0
-StepsMoveTheWaiting J =
-    (before : List (JobEntry J)) (steps : List (QueueStep J)) (after : List (JobEntry J)) → QueueStepsAll before steps after
-    → MovesAll (waiting before) (moves_of steps) (waiting after)
 
 -- ---- many steps of many passes
 

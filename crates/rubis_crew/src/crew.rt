@@ -3,10 +3,10 @@
 ghost use Rattle.std.specs.Prelude.{◌≡◌, ◌+◌, ◌-◌, ◌<◌, ◌≤◌, ◌^◌, [], ◌∷◌, ◌++◌, length, true, false, Some, IfOk, IfErr, OnOk, IfSome, IfNone};
 ghost use Rattle.crossbeam_queue.specs.Passes.{view, ruled_capacity, IsPassOf, IsSamePass};
 ghost use Rattle.rubis_crew.specs.declared.job.Given.{Given};
-ghost use Rattle.rubis_crew.specs.Results.{IsPaid, holds};
+ghost use Rattle.rubis_crew.specs.Rule.{IsPaid, holds, AreBelow};
 ghost use Rattle.atomic_table.specs.Seated.{TableId};
-ghost use Rattle.rubis_crew.specs.Rule.{AreBelow};
-ghost use Rattle.rubis_crew.specs.States.{drained, ended, new_lead, new_helper, given_too, HasNoRoom, IsBack, HasHelped, ComesBack, Settles, HasAllBack, TellsAll};
+ghost use Rattle.rubis_crew.specs.States.{drained, ended, new_lead, new_helper, given_too, HasNoRoom, IsBack, HasHelped, ComesBack, Settles, HasAllBack};
+ghost use Rattle.rubis_crew.specs.States.{TellsAll};
 
 use crate::job::{Back, Given, Job};
 use crate::results::{
@@ -43,8 +43,7 @@ pub struct Crew<J: Job> {
 impl<J: Job> Model for Crew<J> {
     ghost use Rattle.std.specs.Prelude.{◌+◌, ◌≤◌};
     ghost use Rattle.crossbeam_queue.specs.Passes.{ruled_capacity};
-    ghost use Rattle.rubis_crew.specs.States.{CrewState};
-    ghost use Rattle.rubis_crew.specs.Codes.{crew_code};
+    ghost use Rattle.rubis_crew.specs.States.{CrewState, crew_code};
 
     ghost Value = { CrewState };
 
@@ -71,8 +70,7 @@ pub struct Lead<J: Job> {
 }
 
 impl<J: Job> Model for Lead<J> {
-    ghost use Rattle.rubis_crew.specs.States.{LeadState, AreALead, lead_of};
-    ghost use Rattle.rubis_crew.specs.Codes.{lead_code};
+    ghost use Rattle.rubis_crew.specs.States.{LeadState, AreALead, lead_of, lead_code};
 
     ghost Value = { LeadState J };
 
@@ -91,8 +89,7 @@ pub struct Helper<J: Job> {
 }
 
 impl<J: Job> Model for Helper<J> {
-    ghost use Rattle.rubis_crew.specs.States.{HelperState, AreAPair, helper_of};
-    ghost use Rattle.rubis_crew.specs.Codes.{helper_code};
+    ghost use Rattle.rubis_crew.specs.States.{HelperState, AreAPair, helper_of, helper_code};
 
     ghost Value = { HelperState J };
 
@@ -354,7 +351,7 @@ impl<J: Job> Crew<J> {
         let Given { number, job } = self.take_unworked(rt, lead)?;
         Some(Back {
             number,
-            result: job.work(),
+            result: job.work(rt),
         })
     }
 
@@ -413,7 +410,7 @@ impl<J: Job> Crew<J> {
         match self.jobs.pop_as::<Fetching, R>(rt, &mut me.seat) {
             Some(JobEntry::Work(given)) => {
                 let Given { number, job } = given;
-                let result = job.work();
+                let result = job.work(rt);
                 let token = self.jobs.another::<Handing>(&mut me.seat);
                 let payment = Payment {
                     number,

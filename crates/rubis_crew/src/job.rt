@@ -1,5 +1,7 @@
 //! Jobs, and what comes of them.
 
+use std::sync::Wait;
+
 /// A job that any thread may do.
 pub trait Job: Drop + Send {
     type Output: Drop + Send;
@@ -9,7 +11,7 @@ pub trait Job: Drop + Send {
     ghost Worked: { Self → Self.Output → Type 0 };
 
     /// Does it.
-    fn work(self) -> Self::Output
+    fn work<R: Wait>(self, rt: &R) -> Self::Output
         requires { Fits self }
         ensures { Worked self result };
 }

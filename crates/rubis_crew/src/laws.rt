@@ -1,6 +1,6 @@
 //! The laws of the rules, stated in specs/Laws.
 
-ghost use Rattle.rubis_crew.specs.Laws.{EveryListOfStepsAccounts, JobStepsKeepTheRule, ResultStepsKeepTheRule, StepsMoveTheWaiting};
+ghost use Rattle.rubis_crew.specs.Laws.{EveryListOfStepsAccounts, JobStepsKeepTheRule, ResultStepsKeepTheRule};
 
 use crate::job::Job;
 
@@ -8,12 +8,6 @@ use crate::job::Job;
 pub fn every_step_keeps_the_rules<J: Job>()
     ensures jobs { JobStepsKeepTheRule J.Fits }
     ensures results { ResultStepsKeepTheRule J.Worked }
-{}
-
-/// The jobs that wait change by the steps on their queue, one or many, as the posted list of a schedule does by its posts and takes: a
-/// job that is given is put last, a job that is taken was the first.
-pub fn steps_move_the_waiting<J: Job>()
-    ensures { StepsMoveTheWaiting J }
 {}
 
 /// Whatever the steps, in whatever order passes take them, gifts among takes: what is given waits, is out with a pass, or is on its

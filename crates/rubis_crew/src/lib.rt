@@ -14,4 +14,4 @@ mod tests;
 pub use both::Both;
 pub use crew::{Crew, Found, Helper, Lead};
 pub use job::{Back, Given, Job};
-pub use laws::{every_list_of_steps_accounts, every_step_keeps_the_rules, steps_move_the_waiting};
+pub use laws::{every_list_of_steps_accounts, every_step_keeps_the_rules};

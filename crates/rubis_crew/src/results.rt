@@ -56,7 +56,7 @@ pub struct ResultView<J> {
 pub struct ResultRule;
 
 impl<J: Job> Protocol<Slip<J, J::Output>, ResultView<J>> for ResultRule {
-    ghost use Rattle.rubis_crew.specs.Results.{AreResults, unnamed};
+    ghost use Rattle.rubis_crew.specs.Rule.{AreResults, unnamed};
 
     ghost holds = { AreResults J.Worked };
 
@@ -67,7 +67,7 @@ impl<J: Job> Protocol<Slip<J, J::Output>, ResultView<J>> for ResultRule {
 pub struct Naming;
 
 impl<J, R> Outcome<Slip<J, R>, ResultView<J>> for Naming {
-    ghost use Rattle.rubis_crew.specs.Results.{HasNamed};
+    ghost use Rattle.rubis_crew.specs.Rule.{HasNamed};
 
     ghost then = { HasNamed };
 }
@@ -82,7 +82,7 @@ impl<J, R> Lesson<Slip<J, R>, ResultView<J>> for Naming {
 pub struct Paying;
 
 impl<J, R> Outcome<Slip<J, R>, ResultView<J>> for Paying {
-    ghost use Rattle.rubis_crew.specs.Results.{HasPaid};
+    ghost use Rattle.rubis_crew.specs.Rule.{HasPaid};
 
     ghost then = { HasPaid };
 }
@@ -97,7 +97,7 @@ impl<J, R> Lesson<Slip<J, R>, ResultView<J>> for Paying {
 pub struct Collecting;
 
 impl<J: Job> Outcome<Slip<J, J::Output>, ResultView<J>> for Collecting {
-    ghost use Rattle.rubis_crew.specs.Results.{HasCollected};
+    ghost use Rattle.rubis_crew.specs.Rule.{HasCollected};
 
     ghost then = { HasCollected J.Worked };
 }
@@ -112,7 +112,7 @@ impl<J, R> Lesson<Slip<J, R>, ResultView<J>> for Collecting {
 pub struct Joining;
 
 impl<J> Split<ResultView<J>> for Joining {
-    ghost use Rattle.rubis_crew.specs.Results.{newcomer};
+    ghost use Rattle.rubis_crew.specs.Rule.{newcomer};
 
     ghost left = { λ v. v };
 

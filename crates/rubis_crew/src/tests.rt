@@ -23,7 +23,7 @@ impl Job for Double {
 
     ghost Worked = { λ double result. result ≡ 2 * double.number };
 
-    fn work(self) -> u64 {
+    fn work<R: Wait>(self, _rt: &R) -> u64 {
         2 * u64::from(self.number)
     }
 }

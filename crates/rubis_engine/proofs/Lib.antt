@@ -1,9 +1,5 @@
-pub mod ListFacts
+pub mod RunFacts
 pub mod ReadingFacts
 pub mod RowFacts
-pub mod EndFacts
-pub mod FrontFacts
-pub mod RunFacts
 pub mod TextFacts
-pub mod AnswerFacts
 pub mod ReadBack

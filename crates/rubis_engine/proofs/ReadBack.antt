@@ -7,8 +7,8 @@ use Rattle.csv.specs.Reading.{default_config, records_from, records_next, strip_
 use Rattle.csv.specs.Writing.{default_writer, escaped, field_text, fields_text, is_blank, needs_quotes, read_back, row_body, row_text}
 use Rattle.csv.specs.declared.parser.State.TheVariants as st
 use Rattle.csv.proofs.RoundTrip.{read-write}
-use Rattle.rubis_schema.specs.Members.{Has}
-use Rattle.rubis_engine.specs.Lines.{SentLinesAreLines}
+use Rattle.rubis_schema.specs.Tables.{Has}
+use Rattle.rubis_engine.specs.Rows.{SentLinesAreLines}
 use Rattle.rubis_engine.specs.Text.{input_records, plain_writer, rows_text}
 
 -- rows of any lengths are written as rows of one length

@@ -1,9 +1,5 @@
 pub mod Text
-pub mod Lines
 pub mod Rows
 pub mod Reading
 pub mod Accounts
-pub mod Answers
-pub mod Endings
 pub mod Progress
-pub mod Adding

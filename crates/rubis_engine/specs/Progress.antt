@@ -1,19 +1,25 @@
--- How far a run has come, and how it ended.
-use Rattle.std.specs.Prelude.{◌≡◌, ◌≤◌, ◌<◌, ◌+◌, ◌++◌, ◌⊎◌, [], ℕ, List, IfSome, length, take, Option, Result, Ok, Err}
-use Rattle.std.specs.Io.KnownBytes.{Appends}
-use Rattle.rubis_engine.specs.declared.fault.Count.{Count}
+-- How far a run has come, how a record is answered, and how a step and a run end.
+use Rattle.std.specs.Prelude.{Result, Ok, Err, ◌≡◌, ◌≤◌, ◌<◌, ◌+◌, ◌++◌, ◌⊎◌, [], ℕ, List, IfSome, length, take, Option, ◌∷◌}
 use Rattle.rubis_engine.specs.declared.fault.RunFault.{RunFault}
 use Rattle.rubis_engine.specs.declared.fault.RunFault.TheVariants.{Memory, Read, TooLong, Write}
-use Rattle.rubis_engine.specs.Accounts.{Account, Ending}
+use Rattle.std.specs.Io.KnownBytes.{Appends}
+use Rattle.rubis_engine.specs.declared.fault.Count.{Count}
+use Rattle.rubis_engine.specs.Accounts.{Account, AnswersRecord, LeadsOn}
 use Rattle.rubis_engine.specs.Accounts.Ending.{AtEnd, Cut}
 use Rattle.rubis_engine.specs.Text.{input_records}
+use Rattle.rubis_engine.specs.declared.service.Course.{Course}
+use Rattle.rubis_engine.specs.declared.service.Reply.{Reply}
 
--- what was held is written out, and the text stays what it was
-pub record Drained (old new : Account) (held : List ℕ) (before after : Option (List ℕ)) : Type 0 where
-  pub out : List ℕ
-  pub appended : Appends before after out
-  pub told : (ending : Ending) (more : List (List (List ℕ))) → held ++ old.text ending more ≡ out ++ new.text ending more
-  pub counted : (more : List (List (List ℕ))) → old.read more ≡ new.read more
+-- what holds, by how a step ends: it is done, the input was too long, the reader failed, or it broke off, since memory ran out or
+-- the writer failed
+abbrev pub ByEnd : {T : Type 0} → Result T RunFault → (T → Type 0) → Type 0 → Type 0 → Type 0 → Type 0
+ByEnd (Ok v) done too_long read broke = done v
+ByEnd (Err TooLong) done too_long read broke = too_long
+ByEnd (Err Read) done too_long read broke = read
+ByEnd (Err Memory) done too_long read broke = broke
+ByEnd (Err Write) done too_long read broke = broke
+
+-- ---- how far a run has come, and how it ended
 
 -- a text that waited was written out, or waits on with nothing written
 abbrev pub IsWrittenOrWaits : List ℕ → List ℕ → Option (List ℕ) → Option (List ℕ) → Type 0
@@ -22,10 +28,6 @@ IsWrittenOrWaits waited waits before after = (Appends before after waited × (wa
 -- a prefix of the text was written
 abbrev pub AppendsFront : Option (List ℕ) → Option (List ℕ) → List ℕ → Type 0
 AppendsFront old now text = (written left : List ℕ) × Appends old now written × (written ++ left ≡ text)
-
--- of the text that waited and what is still to be made of any records, a prefix was written
-abbrev pub WritesFrontOf : (ℕ → Account) → List ℕ → Option (List ℕ) → Option (List ℕ) → Type 0
-WritesFrontOf account sink before after = (number : ℕ) (more : List (List (List ℕ))) → AppendsFront before after (sink ++ (account number).text AtEnd more)
 
 -- ---- what a run has written and read
 
@@ -58,3 +60,23 @@ EndsSo all limit old new records (Err Write) = WrotePrefix (all.text AtEnd) old 
 -- what its writer had and has
 abbrev pub IsRun : Account → ℕ → Option (List ℕ) → Option (List ℕ) → Option (List ℕ) → Result Count RunFault → Type 0
 IsRun all limit input old new result = IfSome input (λ bytes. EndsSo all limit old new (input_records bytes) result)
+
+-- ---- how a record is answered
+
+-- of what waited and is still to be made of a record and of any after it, a prefix was written
+abbrev pub BreaksOff : Account → List ℕ → List (List ℕ) → Option (List ℕ) → Option (List ℕ) → Type 0
+BreaksOff old sink fields before after = (more : List (List (List ℕ))) → AppendsFront before after (sink ++ old.text AtEnd (fields ∷ more))
+
+-- a record was answered, and some of what waits was written out
+pub record WritesRecord (course : Course) (old new : Account) (sink sink2 : List ℕ) (before after : Option (List ℕ)) (fields : List (List ℕ)) : Type 0 where
+  pub out : List ℕ
+  pub appended : Appends before after out
+  pub answers : AnswersRecord course old new sink (out ++ sink2) fields
+
+-- a record with these fields was answered, as far as the reply and the writer go and as where it leads; or a prefix of the text was written
+abbrev pub IsAnswer : {S : Type 0} → (S → ℕ → Account) → (S → ℕ → List (List (List ℕ)) → S → Type 0) → S → S → Reply → Reply
+    → Option (List ℕ) → Option (List ℕ) → List (List ℕ) → Result Course RunFault → Type 0
+IsAnswer account leads old new reply reply2 before after fields result = ByEnd result
+    (λ course. WritesRecord course (account old reply.number) (account new (reply.number + 1)) reply.sink reply2.sink before after fields
+    × LeadsOn course leads reply.number fields old new)
+    ⊥ ⊥ (BreaksOff (account old reply.number) reply.sink fields before after)

@@ -1,12 +1,40 @@
 -- A row on its way into a writer or a text.
-use Rattle.std.specs.Prelude.{◌≡◌, ◌==◌, ◌||◌, ◌&&◌, ◌++◌, ◌∷◌, [], ◌-◌, ◌^◌, ℕ, List, drop, false, length, min, not}
+use Rattle.std.proofs.Common.{◌≡◌, ℕ, List, [], ◌++◌, sym, ap, ◌∙◌, append_assoc, Vec, Global}
+use Rattle.std.proofs.lemmas.Grind.{flat_map-append}
+use Rattle.std.proofs.lemmas.List.{append-nil}
+use Rattle.rubis_engine.specs.Text.{plain_writer, row_text, rows_text, input_records}
+use Rattle.std.specs.Prelude.{◌≢◌, ◌≤◌, codes, ◌∷◌, length, ◌==◌, ◌||◌, ◌&&◌, ◌-◌, ◌^◌, drop, false, min, not}
+use Rattle.csv.specs.Reading.{strip_bom}
+use Rattle.rubis_schema.specs.Tables.{Has}
 use Rattle.std.specs.List.{flat_map}
-use Rattle.std.proofs.Common.{Vec, Global}
 use Rattle.csv.specs.Writing.{fields_written, has_written, is_blank, row_body, writer_pending, writer_setup, writer_under}
 use Rattle.csv.specs.declared.writer.Writer.{Writer}
 use Rattle.csv.specs.Machine.{line_feed}
 use Rattle.rubis_schema.specs.FieldList.{comma}
-use Rattle.rubis_engine.specs.Text.{plain_writer}
+
+pub none_written : (text : List ℕ) → text ≡ text ++ rows_text []
+none_written text = sym (append-nil text)
+
+pub more_written : (xs ys : List (List (List ℕ))) (a b c : List ℕ) → b ≡ a ++ rows_text xs → c ≡ b ++ rows_text ys → c ≡ a ++ rows_text (xs ++ ys)
+more_written xs ys a b c e f =
+    f ∙ ap (λ t. t ++ rows_text ys) e ∙ append_assoc a (rows_text xs) (rows_text ys) ∙ ap (λ t. a ++ t) (sym (flat_map-append (row_text plain_writer) xs ys))
+
+pub held_more : (xs ys : List (List (List ℕ))) (a b : List ℕ) → a ≡ rows_text xs → b ≡ a ++ rows_text ys → b ≡ rows_text (xs ++ ys)
+held_more xs ys a b e f = f ∙ ap (λ t. t ++ rows_text ys) e ∙ sym (flat_map-append (row_text plain_writer) xs ys)
+
+-- ---- the line of a row that is sent, and what it is read as
+
+-- the line of fields that are sent is `send,` and then the line of the fields
+abbrev pub SentLinesAreLines : Type 0
+SentLinesAreLines = (fields : List (List ℕ)) → 2 ≤ length fields → row_text plain_writer (codes "send" ∷ fields) ≡ codes "send," ++ row_text plain_writer fields
+
+-- the lines of rows, each with a field, are read as these rows, if the text begins with no byte order mark
+abbrev pub RowsAreReadBack : Type 0
+RowsAreReadBack =
+    (rows : List (List (List ℕ))) → ((row : List (List ℕ)) → Has row rows → row ≢ []) → strip_bom (rows_text rows) ≡ rows_text rows
+    → input_records (rows_text rows) ≡ rows
+
+-- ---- a row on its way into a writer or a text
 
 -- the text that a writer holds
 abbrev pub held : Writer (Vec ℕ Global) → List ℕ

@@ -3,7 +3,7 @@
 ghost use Rattle.std.specs.Prelude.{◌≡◌, ◌<◌, ◌++◌, ◌∷◌, [], ℕ, List, OnOk};
 ghost use Rattle.rubis_engine.specs.Accounts.{Account, Keeps, LeadsAlike};
 ghost use Rattle.rubis_engine.specs.Accounts.Ending.{AtEnd, Cut};
-ghost use Rattle.rubis_engine.specs.Answers.{IsAnswer};
+ghost use Rattle.rubis_engine.specs.Progress.{IsAnswer};
 
 use crate::fault::{OutOfMemory, RunFault};
 use crate::input_record::InputRecord;

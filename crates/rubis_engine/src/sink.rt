@@ -295,7 +295,7 @@ impl Sink {
 
 impl RowSink for Sink {
     ghost use Rattle.std.specs.Prelude.{◌≡◌, ◌++◌};
-    ghost use Rattle.rubis_engine.specs.Adding.{more_written, none_written};
+    ghost use Rattle.rubis_engine.specs.Rows.{more_written, none_written};
     ghost use Rattle.rubis_engine.specs.Text.{rows_text};
 
     ghost adds = { λ rows old new. new ≡ old ++ rows_text rows };
@@ -318,7 +318,7 @@ impl PlainSink for Sink {
 
 impl SharedSink for Sink {
     ghost use Rattle.std.specs.Prelude.{◌≡◌};
-    ghost use Rattle.rubis_engine.specs.Adding.{held_more};
+    ghost use Rattle.rubis_engine.specs.Rows.{held_more};
     ghost use Rattle.rubis_engine.specs.Text.{rows_text};
 
     ghost holds = { λ rows s. s ≡ rows_text rows };

@@ -14,8 +14,7 @@ use Rattle.rubis_shadow.specs.declared.shadows.Ask.{Ask}
 use Rattle.rubis_shadow.specs.declared.shadows.Ask.TheVariants as ask
 use Rattle.rubis_shadow.specs.declared.shadows.Shadow.TheVariants as shadow
 use Rattle.rubis_generate.specs.declared.standing.Standing.{Standing}
-use Rattle.rubis_generate.specs.Decision.{decision}
-use Rattle.rubis_generate.specs.Lookup.{Rows}
+use Rattle.rubis_generate.specs.Decision.{decision, Rows}
 
 abbrev id : ℕ → Id
 id seq = record { site = 0; seq = seq }

@@ -15,8 +15,7 @@ use Rattle.rubis_shadow.specs.declared.shadows.Ask.TheVariants.{User, Bid, Buy, 
 use Rattle.rubis_shadow.specs.declared.shadows.AskedClose.{AskedClose}
 use Rattle.rubis_shadow.specs.declared.shadows.AskedRename.{AskedRename}
 use Rattle.rubis_shadow.specs.declared.shadows.Shadow.{Shadow}
-use Rattle.rubis_generate.specs.Decision.{closing, decision, is_due, order_of, refused_or, shadow_of}
-use Rattle.rubis_generate.specs.Lookup.{Rows, user_in}
+use Rattle.rubis_generate.specs.Decision.{closing, decision, is_due, order_of, refused_or, shadow_of, Rows, user_in}
 use Rattle.rubis_generate.specs.declared.standing.Standing.{Standing}
 
 no_refusal : (o : Option Refusal) (x y : Shadow) → refused_or o x ≡ Ok y → (o ≡ None) × (x ≡ y)

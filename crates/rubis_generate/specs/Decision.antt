@@ -1,25 +1,95 @@
 -- The answer to an ask: the first of its refusals that holds, in their order, or its shadow.
-use Rattle.std.specs.Prelude.{Bool, false, ◌||◌, not, ℕ, bytes_eq, nat_eq, nat_lt, List, [], ◌∷◌, Option, Some, None, Result, Ok, Err}
-use Rattle.std.specs.Prelude.{is_some, is_none, option_map, option_and_then, find}
+use Rattle.std.specs.Prelude.{Bool, true, false, Option, Some, None, option_and_then, ◌≡◌, ◌⊎◌, ◌||◌, not, ℕ, bytes_eq, nat_eq, nat_lt, List, [], ◌∷◌, Result}
+use Rattle.std.specs.Prelude.{Ok, Err, is_some, is_none, option_map, find}
+use Rattle.std.specs.FinMap as map
+use Rattle.rubis_schema.specs.Tables.{Tables}
+use Rattle.rubis_schema.specs.declared.ids.Id.{Id}
+use Rattle.rubis_schema.specs.declared.row_keys.RowKey.{RowKey}
+use Rattle.rubis_schema.specs.declared.row_keys.RowKey.TheVariants as key
+use Rattle.rubis_schema.specs.declared.rows.Row.{Row}
+use Rattle.rubis_schema.specs.declared.rows.Row.TheVariants as row
+use Rattle.rubis_schema.specs.declared.rows.UserRow.{UserRow}
+use Rattle.rubis_schema.specs.declared.rows.ItemRow.{ItemRow}
+use Rattle.rubis_schema.specs.declared.rows.Sale.{Sale}
+use Rattle.rubis_schema.specs.declared.rows.Sale.TheVariants.{Open, Ended}
+use Rattle.rubis_schema.specs.Keys.{same_id}
+use Rattle.rubis_schema.specs.declared.refusals.Refusal.{Refusal}
+use Rattle.rubis_schema.specs.declared.refusals.Refusal.TheVariants.{Full, NoToken, RedBehind, NoUser, Closed, NotSeller, OwnItem, BadRecord, NickTaken, NoItem}
+use Rattle.rubis_schema.specs.declared.refusals.Refusal.TheVariants.{LowBid, StockShort, NoBuyNow, SelfComment, BadTarget, LastTurn, NotOurs, NotForMe}
+use Rattle.rubis_schema.specs.declared.refusals.Refusal.TheVariants.{BadEvent, NoSuchPacket}
+use Rattle.rubis_generate.specs.declared.standing.Standing.{Standing}
 use Rattle.std.specs.Option.{option_map_or}
 use Rattle.std.specs.List.{list_any}
-use Rattle.rubis_schema.specs.Keys.{same_id}
-use Rattle.rubis_schema.specs.declared.ids.Id.{Id}
-use Rattle.rubis_schema.specs.declared.row_keys.RowKey.TheVariants as key
-use Rattle.rubis_schema.specs.declared.rows.ItemRow.{ItemRow}
-use Rattle.rubis_schema.specs.declared.rows.UserRow.{UserRow}
 use Rattle.rubis_schema.specs.declared.rows.Best.{Best}
-use Rattle.rubis_schema.specs.declared.refusals.Refusal.{Refusal}
-use Rattle.rubis_schema.specs.declared.refusals.Refusal.TheVariants.{BadRecord, Full, NoToken, RedBehind, NickTaken, NoUser, NoItem, Closed}
-use Rattle.rubis_schema.specs.declared.refusals.Refusal.TheVariants.{LowBid, StockShort, NotSeller, OwnItem, NoBuyNow, SelfComment}
-use Rattle.rubis_schema.specs.declared.refusals.Refusal.TheVariants.{BadTarget, LastTurn, NotOurs, NotForMe, BadEvent, NoSuchPacket}
 use Rattle.rubis_shadow.specs.declared.shadows.Ask.{Ask}
 use Rattle.rubis_shadow.specs.declared.shadows.AskedRename.{AskedRename}
 use Rattle.rubis_shadow.specs.declared.shadows.Ask.TheVariants.{User, Item, Bid, Buy, Close, Comment, Restock, Rename}
 use Rattle.rubis_shadow.specs.declared.shadows.Shadow.{Shadow}
 use Rattle.rubis_shadow.specs.declared.shadows.Shadow.TheVariants as shadow
-use Rattle.rubis_generate.specs.declared.standing.Standing.{Standing}
-use Rattle.rubis_generate.specs.Lookup.{Rows, user_in, item_in, is_ended}
+
+-- the row at each key
+abbrev pub Rows : Type 0
+Rows = RowKey → Option Row
+
+-- the rows of these tables, by key
+abbrev pub row_by_key : Tables → Rows
+row_by_key t k = map.get t k
+
+-- the row, if it is a user's
+abbrev pub as_user_row : Row → Option UserRow
+as_user_row (row.User u) = Some u
+as_user_row r = None
+
+-- the row, if it is an item's
+abbrev pub as_item_row : Row → Option ItemRow
+as_item_row (row.Item i) = Some i
+as_item_row r = None
+
+-- the row of a user, if there is one
+abbrev pub user_in : Rows → Id → Option UserRow
+user_in t id = option_and_then as_user_row (t (key.User id))
+
+-- the row of an item, if there is one
+abbrev pub item_in : Rows → Id → Option ItemRow
+item_in t id = option_and_then as_item_row (t (key.Item id))
+
+-- the item was closed
+abbrev pub is_ended : Sale → Bool
+is_ended Open = false
+is_ended (Ended winner) = true
+
+-- ---- the tests that asks share: the first refusal of each that holds
+
+-- the site may make a red message
+abbrev pub MayMakeRed : Standing → Type 0
+MayMakeRed s = (s.full ≡ false) × (s.holds ≡ true) × (s.current ≡ true)
+
+-- why not
+abbrev pub IsRedRefusal : Standing → Refusal → Type 0
+IsRedRefusal s refusal = ((refusal ≡ Full) × (s.full ≡ true))
+    ⊎ ((refusal ≡ NoToken) × (s.full ≡ false) × (s.holds ≡ false))
+    ⊎ ((refusal ≡ RedBehind) × (s.full ≡ false) × (s.holds ≡ true) × (s.current ≡ false))
+
+-- the user, if there is one, may bid on the item or buy it
+abbrev pub MayBuy : Bool → Id → ItemRow → Type 0
+MayBuy is_user user item = (is_user ≡ true) × (is_ended item.sale ≡ false) × (same_id user item.seller ≡ false)
+
+-- why not
+abbrev pub IsBuyerRefusal : Bool → Id → ItemRow → Refusal → Type 0
+IsBuyerRefusal is_user user item refusal = ((refusal ≡ NoUser) × (is_user ≡ false))
+    ⊎ ((refusal ≡ Closed) × (is_user ≡ true) × (is_ended item.sale ≡ true))
+    ⊎ ((refusal ≡ OwnItem) × (is_user ≡ true) × (is_ended item.sale ≡ false) × (same_id user item.seller ≡ true))
+
+-- the user sells the item, and its sale is open
+abbrev pub MaySell : Id → ItemRow → Type 0
+MaySell user item = (same_id user item.seller ≡ true) × (is_ended item.sale ≡ false)
+
+-- why not
+abbrev pub IsSellerRefusal : Id → ItemRow → Refusal → Type 0
+IsSellerRefusal user item refusal = ((refusal ≡ NotSeller) × (same_id user item.seller ≡ false))
+    ⊎ ((refusal ≡ Closed) × (same_id user item.seller ≡ true) × (is_ended item.sale ≡ true))
+
+-- ---- the answer to an ask: the first of its refusals that holds, in their order, or its shadow
 
 -- the order in which an ask's refusals are tested
 abbrev pub order_of : Ask → List Refusal

@@ -3,9 +3,8 @@
 ghost use Rattle.std.specs.Prelude.{◌≡◌, IfErr, IfOk, false, is_some, option_copied, true};
 ghost use Rattle.rubis_schema.specs.declared.refusals.Refusal.TheVariants as Refusal;
 ghost use Rattle.rubis_shadow.specs.declared.shadows.Ask.TheVariants as Ask;
-ghost use Rattle.rubis_generate.specs.Lookup.{row_by_key, user_in, item_in, is_ended};
-ghost use Rattle.rubis_generate.specs.Checks.{IsBuyerRefusal, IsRedRefusal, IsSellerRefusal, MayBuy, MayMakeRed, MaySell};
-ghost use Rattle.rubis_generate.specs.Decision.{decision};
+ghost use Rattle.rubis_generate.specs.Decision.{row_by_key, user_in, item_in, is_ended, IsBuyerRefusal, IsRedRefusal, IsSellerRefusal, MayBuy, MayMakeRed};
+ghost use Rattle.rubis_generate.specs.Decision.{MaySell, decision};
 
 use crate::standing::Standing;
 use rubis_schema::{

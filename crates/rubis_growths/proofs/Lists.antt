@@ -2,7 +2,7 @@
 use Rattle.std.proofs.Common.{List, [], ◌∷◌, ◌++◌, inl, inr, subst, sym}
 use Rattle.std.specs.List.{All}
 use Rattle.std.proofs.lemmas.List.Elements.{All-head, All-tail}
-use Rattle.rubis_model.specs.Settle.{Has}
+use Rattle.rubis_model.specs.Site.{Has}
 
 -- what holds of all of a list holds of its end
 pub of_rest : {A : Type 0} (P : A → Type 0) (taken rest : List A) → All P (taken ++ rest) → All P rest

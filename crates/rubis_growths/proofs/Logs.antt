@@ -2,8 +2,8 @@
 use Rattle.std.proofs.Common.{◌≡◌, [], ◌∷◌, inl, inr, subst}
 use Rattle.std.specs.List.{All}
 use Rattle.rubis_message.specs.Message.{sites_of}
-use Rattle.rubis_model.specs.Logs.{Log}
-use Rattle.rubis_model.specs.Settle.{Has}
+use Rattle.rubis_model.specs.Verdict.{Log}
+use Rattle.rubis_model.specs.Site.{Has}
 use Rattle.rubis_audit.specs.Walks.{HaveMessagesAmong}
 use Rattle.rubis_growths.proofs.Lists.{of_each}
 

@@ -1,6 +1,6 @@
 -- Where a text has its first line and its last one, and what is told of two texts that differ.
-use Rattle.std.proofs.Common.{◌≡◌, ◌≢◌, ◌∙◌, ◌≤◌, ◌<◌, ◌+◌, ◌^◌, ◌-◌, ◌++◌, ◌∷◌, ◌==◌, [], ℕ, All, List, Option, Some, None, IfSome, drop, get_or, length, min, not, take}
-use Rattle.std.proofs.Common.{refl, sym, ap, subst, take-append-drop, arith, length-append, Result, Ok, Err}
+use Rattle.std.proofs.Common.{◌≡◌, ◌≢◌, ◌∙◌, ◌≤◌, ◌<◌, ◌+◌, ◌^◌, ◌-◌, ◌++◌, ◌∷◌, ◌==◌, [], ℕ, All, List, Option, Some, None, IfSome, drop, get_or, length, min}
+use Rattle.std.proofs.Common.{not, take, refl, sym, ap, subst, take-append-drop, arith, length-append, Result, Ok, Err}
 use Rattle.std.specs.List.{after_last, before_first, suffix_len}
 use Rattle.std.proofs.Math.Seq.{drop-append-add, take-length}
 use Rattle.std.specs.Prelude.{IfErr, string_bytes}
@@ -8,9 +8,8 @@ use Rattle.std.proofs.lemmas.Bool.{cond-true, eq-eqb, ne_eqb}
 use Rattle.std.proofs.lemmas.List.{get_or_append_left, length-drop, length-take-le}
 use Rattle.std.proofs.lemmas.List.Elements.{All-get_or}
 use Rattle.std.proofs.lemmas.List.Sums.{common_prefix_len-le, position_or_len_is, suffix_len_is}
-use Rattle.rubis_keep.specs.Differences.{HasDifference, HasMore, IsDifference, MayDiffer, ends_in, last_line, same_in, shown_line}
-use Rattle.rubis_keep.specs.Files.{DiffersFrom, IsFailure}
-use Rattle.rubis_keep.specs.Kept.{IsFrontOf}
+use Rattle.rubis_keep.specs.Faults.{HasDifference, HasMore, IsDifference, MayDiffer, ends_in, last_line, same_in, shown_line, DiffersFrom, IsFailure}
+use Rattle.rubis_keep.specs.History.{IsFrontOf}
 use Rattle.rubis_keep.specs.declared.fault.Difference.{Difference}
 use Rattle.rubis_keep.specs.declared.fault.KeepFault.{KeepFault}
 use Rattle.rubis_keep.specs.declared.fault.KeepFault.TheVariants as fault

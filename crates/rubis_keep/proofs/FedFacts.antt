@@ -1,6 +1,6 @@
 -- How records are answered, one after the other and many together.
-use Rattle.std.proofs.Common.{Bool, false, ◌≡◌, ◌==◌, true, ◌∙◌, ◌≤◌, ◌<◌, ◌+◌, ◌-◌, ◌⊎◌, inl, inr, ◌++◌, ◌∷◌, [], ℕ, List, Option, Some, None, Result, Ok, Err, IfSome, drop, length, take}
-use Rattle.std.proofs.Common.{refl, sym, ap, subst, arith, append_assoc, length-append, take-append-drop}
+use Rattle.std.proofs.Common.{Bool, false, ◌≡◌, ◌==◌, true, ◌∙◌, ◌≤◌, ◌<◌, ◌+◌, ◌-◌, ◌⊎◌, inl, inr, ◌++◌, ◌∷◌, [], ℕ, List, Option, Some, None, Result, Ok, Err}
+use Rattle.std.proofs.Common.{IfSome, drop, length, take, refl, sym, ap, subst, arith, append_assoc, length-append, take-append-drop}
 use lib.Seq.{take-nil}
 use Rattle.std.proofs.lemmas.Bool.{cases_lt}
 use Rattle.std.proofs.lemmas.Bool.Decides.{Decides-eqb}
@@ -12,14 +12,12 @@ use Rattle.rubis_engine.specs.Reading.{Advances, Gives, fields_now}
 use Rattle.rubis_engine.specs.declared.record_list.Records.{Records}
 use Rattle.rubis_message.specs.Inputs.{IsInput}
 use Rattle.rubis_message.specs.declared.inputs.Input.{Input}
-use Rattle.rubis_reading.specs.Inputs.{AreInputs}
-use Rattle.rubis_replica.specs.Arrivals.{after_all}
+use Rattle.rubis_reading.specs.Readings.{AreInputs}
+use Rattle.rubis_replica.specs.State.{after_all}
 use Rattle.rubis_script.specs.Desks.{TakesHeld, TakesNext}
-use Rattle.rubis_keep.specs.Answering.{Answering, Fed, Feeds, IsCause, IsOver, Puts, PutsFront, PutsOver, Stopped, answering, coming}
-use Rattle.rubis_keep.specs.Differences.{HasDifference, MayDiffer}
-use Rattle.rubis_keep.specs.Files.{Found, IsFailure}
-use Rattle.rubis_keep.specs.History.{History, Tells, TellsFront}
-use Rattle.rubis_keep.specs.Kept.{IsFrontOf}
+use Rattle.rubis_keep.specs.Turns.{Answering, Fed, Feeds, IsCause, IsOver, Puts, PutsFront, PutsOver, Stopped, answering, coming}
+use Rattle.rubis_keep.specs.Faults.{HasDifference, MayDiffer, Found, IsFailure}
+use Rattle.rubis_keep.specs.History.{History, Tells, TellsFront, IsFrontOf}
 use Rattle.rubis_keep.specs.Shortened.{state_after}
 use Rattle.rubis_keep.specs.declared.answers.Answers.{Answers}
 use Rattle.rubis_keep.specs.declared.fault.Difference.{Difference}
@@ -28,9 +26,8 @@ use Rattle.rubis_keep.specs.declared.fault.KeepFault.TheVariants as fault
 use Rattle.rubis_keep.specs.declared.site.Clerk.{Clerk}
 use Rattle.rubis_keep.proofs.AskFacts.{led-step, reads-next}
 use Rattle.rubis_keep.proofs.DifferenceFacts.{differs-there}
-use Rattle.rubis_keep.proofs.FileFacts.{apart, none-right}
-use Rattle.rubis_keep.proofs.HistoryFacts.{tells-more, tells-none}
-use Rattle.rubis_keep.proofs.RecordFacts.{none-read}
+use Rattle.rubis_keep.proofs.HistoryFacts.{apart, none-right, tells-more, tells-none}
+use Rattle.rubis_keep.proofs.SoundFacts.{none-read}
 use Rattle.rubis_keep.proofs.ShortenFacts.{after-append}
 
 -- ---- texts that are put one after the other

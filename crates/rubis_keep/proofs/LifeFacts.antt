@@ -1,39 +1,31 @@
 -- What a run has answered, from its start to its end.
-use Rattle.std.proofs.Common.{◌≡◌, ◌∙◌, ◌<◌, ◌+◌, ◌⊎◌, inl, inr, ◌++◌, ◌∷◌, [], ℕ, true, false, List, Option, Some, None, IfSome, length}
-use Rattle.std.proofs.Common.{refl, sym, ap, subst, arith, append_assoc, length-append}
+use Rattle.std.proofs.Common.{◌≡◌, ◌∙◌, ◌<◌, ◌+◌, ◌⊎◌, inl, inr, ◌++◌, ◌∷◌, [], ℕ, true, false, List, Option, Some, None, IfSome, length, refl, sym, ap, subst}
+use Rattle.std.proofs.Common.{arith, append_assoc, length-append}
 use Rattle.std.proofs.lemmas.List.{append-nil}
 use Rattle.std.specs.Io.KnownBytes.{Appends, Consumes, IsAtEnd, Keeps}
 use Rattle.rubis_message.specs.Message.{Message}
-use Rattle.rubis_model.specs.Runs.{answers}
-use Rattle.rubis_model.specs.Site.{Place, Replica}
-use Rattle.rubis_replica.specs.Arrivals.{after_all}
+use Rattle.rubis_model.specs.Site.{answers, Place, Replica}
+use Rattle.rubis_replica.specs.State.{after_all}
 use Rattle.rubis_engine.specs.Accounts.{Account, Ending}
 use Rattle.rubis_engine.specs.Accounts.Ending.{AtEnd, Cut}
 use Rattle.rubis_engine.specs.Text.{input_records}
 use Rattle.rubis_script.specs.SiteRuns.{site_account}
-use Rattle.rubis_keep.specs.Answering.{Answering, Fed, IsCause, IsIdle, IsOver, PutsFront, PutsOver, coming}
-use Rattle.rubis_keep.specs.Differences.{HasMore}
-use Rattle.rubis_keep.specs.Faults.{IsTrueFault}
-use Rattle.rubis_keep.specs.Files.{of_kept}
-use Rattle.rubis_keep.specs.History.{History, log_of, out_in}
-use Rattle.rubis_keep.specs.Kept.{Ended, IsFrontOf, Lived}
-use Rattle.rubis_keep.specs.Lines.{AreSound, begun_after, is_marked, kept_after, kept_of, read_back, whole_after, whole_lines}
+use Rattle.rubis_keep.specs.Turns.{Answering, Fed, IsCause, IsIdle, IsOver, PutsFront, PutsOver, coming, Standing, left_of}
+use Rattle.rubis_keep.specs.Faults.{HasMore, IsTrueFault, of_kept}
+use Rattle.rubis_keep.specs.History.{History, log_of, out_in, Ended, IsFrontOf, Lived}
+use Rattle.rubis_keep.specs.Lines.{AreSound, begun_after, is_marked, kept_after, kept_of, read_back, whole_after, whole_lines, IsWhole}
 use Rattle.rubis_keep.specs.Lives.{HasAnswered, HasReplayed}
 use Rattle.rubis_keep.specs.Shortened.{state_after}
-use Rattle.rubis_keep.specs.Turns.{Standing, left_of}
-use Rattle.rubis_keep.specs.Whole.{IsWhole}
 use Rattle.rubis_keep.specs.declared.fault.Difference.{Difference}
 use Rattle.rubis_keep.specs.declared.fault.KeepFault.{KeepFault}
 use Rattle.rubis_keep.specs.declared.fault.KeepFault.TheVariants as fault
 use Rattle.rubis_keep.proofs.DifferenceFacts.{more-left}
-use Rattle.rubis_keep.proofs.FileFacts.{consumes-none, none-right}
+use Rattle.rubis_keep.proofs.HistoryFacts.{consumes-none, none-right}
 use Rattle.rubis_keep.proofs.LineFacts.{begun-append, kept-append}
-use Rattle.rubis_keep.proofs.RecordFacts.{none-read, none-whole, records-append}
+use Rattle.rubis_keep.proofs.SoundFacts.{none-read, none-whole, records-append, kept-ends, kept-sound, sound-append, sound-back, sound-front, sound-kept}
+use Rattle.rubis_keep.proofs.SoundFacts.{whole-append-after, whole-ends, whole-rest, whole-sound, kept-whole, whole-append}
 use Rattle.rubis_keep.proofs.ShortenFacts.{after-append}
-use Rattle.rubis_keep.proofs.SoundFacts.{kept-ends, kept-sound, sound-append, sound-back, sound-front, sound-kept, whole-append-after, whole-ends, whole-rest}
-use Rattle.rubis_keep.proofs.SoundFacts.{whole-sound}
 use Rattle.rubis_keep.proofs.TurnFacts.{Fell, Went}
-use Rattle.rubis_keep.proofs.WholeFacts.{kept-whole, whole-append}
 
 -- ---- what is answered
 

@@ -1,12 +1,13 @@
 -- Pages of listings.
-use Rattle.std.proofs.Common.{◌≡◌, ◌≤◌, ◌∙◌, ◌⊎◌, ◌+◌, ◌-◌, ◌∷◌, [], ℕ, zero, suc, List, None, Option, ap, arith, drop, inl, inr, length, refl, slice_get, subst, sym}
+use Rattle.std.proofs.Common.{◌≡◌, ◌≤◌, ◌∙◌, ◌⊎◌, ◌+◌, ◌-◌, ◌∷◌, [], ℕ, zero, suc, List, None, Option, ap, arith, drop, inl, inr, length, refl, slice_get}
+use Rattle.std.proofs.Common.{subst, sym}
 use Rattle.std.proofs.lemmas.Option.{slice_get_past}
 use Rattle.rubis_engine.specs.Text.{input_records}
 use Rattle.rubis_model.specs.Site.{Place, Replica}
-use Rattle.rubis_keep.specs.Pages.{AreListed}
+use Rattle.rubis_keep.specs.Questions.{AreListed}
 use Rattle.rubis_keep.specs.Shortened.{state_after}
 use Rattle.rubis_keep.specs.declared.pages.Listed.{Listed}
-use Rattle.rubis_keep.proofs.RecordFacts.{none-read}
+use Rattle.rubis_keep.proofs.SoundFacts.{none-read}
 
 -- what is held of a listing is let go where records are answered, and stays right where none are
 pub listed-after : (p : Place) (s : Replica) {s2 : Replica} {records : List ℕ} {old new : Option Listed} → AreListed s old

@@ -3,7 +3,7 @@ use Rattle.std.proofs.Common.{◌≡◌, ◌≢◌, ◌≤◌, ◌∙◌, ◌++�
 use Rattle.std.proofs.lemmas.List.{append-nil}
 use Rattle.csv.specs.Writing.{row_text}
 use Rattle.rubis_schema.specs.FieldList.{all_plain, joined}
-use Rattle.rubis_schema.specs.Members.{Has}
+use Rattle.rubis_schema.specs.Tables.{Has}
 use Rattle.rubis_engine.proofs.ReadBack.{no_mark, rows_back}
 use Rattle.rubis_engine.proofs.RowFacts.{row-plain}
 use Rattle.rubis_engine.specs.Text.{input_records, plain_writer, rows_text}

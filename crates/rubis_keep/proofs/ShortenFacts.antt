@@ -4,20 +4,16 @@ use Rattle.std.proofs.Common.{ap, subst, append_assoc, append-nil}
 use Rattle.rubis_engine.specs.Text.{input_records}
 use Rattle.rubis_engine.specs.Reading.{Advances, Gives, fields_now}
 use Rattle.rubis_engine.specs.declared.record_list.Records.{Records}
-use Rattle.rubis_model.specs.Restarts.{IsShortened}
+use Rattle.rubis_model.specs.Processes.{IsShortened}
 use Rattle.rubis_message.specs.Inputs.{input_of}
-use Rattle.rubis_model.specs.Runs.{input_step}
-use Rattle.rubis_model.specs.Site.{Place, Replica}
+use Rattle.rubis_model.specs.Site.{input_step, Place, Replica}
 use Rattle.rubis_script.specs.Replica.{SiteState}
 use Rattle.rubis_laws.proofs.Processes.Restarts.{nothing_left_out}
-use Rattle.rubis_keep.specs.Lines.{AreSound, begun_after, is_sound, whole_lines}
+use Rattle.rubis_keep.specs.Lines.{AreSound, begun_after, is_sound, whole_lines, IsWhole}
 use Rattle.rubis_keep.specs.Shortened.{IsShort, Shortens, TakesRecord, TakesRecords, state_after}
-use Rattle.rubis_keep.specs.Whole.{IsWhole}
 use Rattle.rubis_keep.proofs.LineFacts.{begun-append}
-use Rattle.rubis_keep.proofs.RecordFacts.{records-append}
-use Rattle.rubis_keep.proofs.SoundFacts.{begun-line, begun-no-end, sound-append, sound-back, sound-front, sound-kept, sound-line, whole-append-after}
-use Rattle.rubis_keep.proofs.SoundFacts.{whole-rest}
-use Rattle.rubis_keep.proofs.WholeFacts.{kept-whole, sound-whole}
+use Rattle.rubis_keep.proofs.SoundFacts.{records-append, begun-line, begun-no-end, sound-append, sound-back, sound-front, sound-kept, sound-line}
+use Rattle.rubis_keep.proofs.SoundFacts.{whole-append-after, whole-rest, kept-whole, sound-whole}
 use Rattle.csv.specs.Machine.{next_record}
 use Rattle.csv.specs.Reading.{records_from, strip_bom}
 use Rattle.std.specs.Io.KnownBytes.{Appends, Consumes, IsAtEnd}

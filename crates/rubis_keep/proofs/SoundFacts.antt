@@ -1,13 +1,83 @@
--- Texts of lines that are kept as they are, cut off anywhere and gone on with.
-use Rattle.std.proofs.Common.{◌≡◌, ◌∙◌, ◌&&◌, ◌++◌, ◌∷◌, [], ℕ, Bool, true, false, cond, drop, eqb, get_or, length, take, ◌<◌, ◌+◌, List, Option, Some, None}
-use Rattle.std.proofs.Common.{IfSome, refl, sym, ap, subst, append_assoc}
+-- Texts of lines that are kept as they are, cut off anywhere and gone on with, and the records in them.
+use Rattle.std.proofs.Common.{◌≡◌, ◌∙◌, ◌&&◌, ◌++◌, ◌∷◌, [], ℕ, Bool, true, false, not, List, cond, length, leb, eqb, refl, ap, drop, get_or, take, ◌<◌, ◌+◌}
+use Rattle.std.proofs.Common.{Option, Some, None, IfSome, sym, subst, append_assoc, ◌≤◌, zero, suc, if◌then◌else◌, arith, rules}
+use Rattle.std.proofs.lemmas.Bool.{and_parts, eqb-true}
+use Rattle.csv.specs.Machine.{step, ends_at_end, field_after, fields_after, is_end, next_record}
+use Rattle.csv.specs.Reading.{default_config, records_from, records_next, strip_bom}
+use Rattle.csv.specs.declared.parser.State.{State}
+use Rattle.csv.specs.declared.parser.State.TheVariants as st
+use Rattle.rubis_keep.specs.Lines.{broken, closes, is_marked, is_question, is_quoted, is_sound, kept_after, kept_line, kept_record, line_max, state_after}
+use Rattle.rubis_keep.specs.Lines.{IsWhole, AreSound, HasNoEnd, are_sound, begun_after, kept_of, read_back, whole_after, whole_lines, is_usual, CutsLines}
+use Rattle.rubis_keep.specs.Lines.{asked_by, begun_bytes, asked_after, asked_line, without_after}
+use Rattle.rubis_keep.proofs.LineFacts.{state-append, begun-append, begun-pushed, begun-stays, kept-append, kept_begun, question_begun}
 use Rattle.std.specs.Io.KnownBytes.{Consumes, IsAtEnd}
 use Rattle.std.specs.Prelude.{IsTrue, MatchBool}
 use Rattle.std.proofs.lemmas.List.{append-nil, take-append-drop, take_more}
-use Rattle.std.proofs.lemmas.Bool.{and_parts, eqb-true}
-use Rattle.rubis_keep.specs.Lines.{AreSound, HasNoEnd, are_sound, begun_after, broken, is_question, is_sound, kept_after, kept_line, kept_of, kept_record, read_back}
-use Rattle.rubis_keep.specs.Lines.{whole_after, whole_lines}
-use Rattle.rubis_keep.proofs.LineFacts.{begun-append}
+use Rattle.csv.specs.declared.parser.Action.{Action}
+use Rattle.csv.specs.declared.parser.Action.TheVariants as act
+use Rattle.rubis_engine.specs.Text.{input_records}
+use Rattle.rubis_engine.proofs.ReadBack.{no_mark}
+
+end-closes : (s : State) → is_quoted s ≡ false → (step default_config s 10).0 ≡ st.StartRecord
+end-closes st.InQuoted e = absurd (cc e)
+end-closes st.InEscape e = absurd (cc e)
+end-closes st.StartRecord e = refl
+end-closes st.StartField e = refl
+end-closes st.InField e = refl
+end-closes st.AfterQuote e = refl
+end-closes st.InComment e = refl
+end-closes st.AfterCr e = refl
+
+not-quoted : (b : Bool) → not b ≡ true → b ≡ false
+not-quoted true e = cc e
+not-quoted false e = refl
+
+pub whole-append : {xs ys : List ℕ} → IsWhole xs → IsWhole ys → IsWhole (xs ++ ys)
+whole-append {xs} {ys} a b = record {
+  closed = state-append st.StartRecord xs ys ∙ ap (λ s. state_after s ys) a.closed ∙ b.closed;
+  unmarked = head xs a.unmarked;
+}
+  where
+    head : (zs : List ℕ) → is_marked zs ≡ false → is_marked (zs ++ ys) ≡ false
+    head [] e = b.unmarked
+    head (z ∷ zs) e = e
+
+unmarked-line : (line : List ℕ) → is_marked line ≡ false → is_marked (line ++ 10 ∷ []) ≡ false
+unmarked-line [] e = refl
+unmarked-line (x ∷ line) e = e
+
+pub sound-whole : (line : List ℕ) → is_sound line ≡ true → IsWhole (line ++ 10 ∷ [])
+sound-whole line e =
+    let parts = and_parts (leb (length line) line_max) (closes line && not (is_marked line)) e in
+    let more = and_parts (closes line) (not (is_marked line)) parts.1 in
+    record {
+      closed = state-append st.StartRecord line (10 ∷ []) ∙ end-closes (state_after st.StartRecord line) (not-quoted _ more.0);
+      unmarked = unmarked-line line (not-quoted _ more.1);
+    }
+
+kept-record-whole : (line : List ℕ) → IsWhole (kept_record line)
+kept-record-whole line =
+    elim (is_sound line) as (λ b. is_sound line ≡ b → IsWhole (cond b (line ++ 10 ∷ []) broken)) [
+      | true ↦ λ e. sound-whole line e
+      | false ↦ λ e. record { closed = refl; unmarked = refl }
+    ] refl
+
+pub kept-line-whole : (asks : Bool) (line : List ℕ) → IsWhole (kept_line asks line)
+kept-line-whole asks line =
+    elim (asks && is_question line) as (λ v. IsWhole (cond v [] (kept_record line))) [
+      | true ↦ record { closed = refl; unmarked = refl }
+      | false ↦ kept-record-whole line
+    ]
+
+pub kept-whole : (asks : Bool) (line bytes : List ℕ) → IsWhole (kept_after asks line bytes)
+kept-whole asks line [] = record { closed = refl; unmarked = refl }
+kept-whole asks line (b ∷ rest) =
+    elim (eqb b 10) as (λ t. IsWhole (cond t (kept_line asks line ++ kept_after asks [] rest) (kept_after asks (line ++ b ∷ []) rest))) [
+      | true ↦ whole-append (kept-line-whole asks line) (kept-whole asks [] rest)
+      | false ↦ kept-whole asks (line ++ b ∷ []) rest
+    ]
+
+-- ---- texts of lines that are kept as they are, cut off anywhere and gone on with
 
 -- the lines of the beginning of such a text
 pub sound-front : (line p q : List ℕ) → AreSound line (p ++ q) → AreSound line p
@@ -242,3 +312,231 @@ whole-sound t h = subst (AreSound []) (sound-kept [] t h) (kept-sound-after fals
 
 pub whole-ends : (t : List ℕ) → AreSound [] t → begun_after [] (whole_lines t) ≡ []
 whole-ends t h = ap (begun_after []) (sym (sound-kept [] t h)) ∙ back-ends t
+
+-- ---- the records of a text that goes on after whole records
+
+-- the records of a text, from within one
+abbrev rows_of : State → List (List ℕ) → List ℕ → List ℕ → List (List (List ℕ))
+rows_of s fs f [] = if ends_at_end s then (fs ++ f ∷ []) ∷ [] else []
+rows_of s fs f (c ∷ rest) =
+    if is_end (step default_config s c).1 then fields_after (step default_config s c).1 fs f ∷ rows_of (step default_config s c).0 [] [] rest
+    else rows_of (step default_config s c).0 (fields_after (step default_config s c).1 fs f) (field_after (step default_config s c).1 c f) rest
+
+none-left : (n : ℕ) → records_from default_config n st.StartRecord [] ≡ []
+unfolding records_from next_record
+none-left zero = refl
+none-left (suc n) = refl
+
+rows-are : (n : ℕ) (s : State) (fs : List (List ℕ)) (f xs : List ℕ) → length xs ≤ n
+    → records_next (records_from default_config n) (next_record default_config s fs f xs) ≡ rows_of s fs f xs
+unfolding records_from next_record
+rows-are n s fs f [] l =
+    elim (ends_at_end s) as (λ b. records_next (records_from default_config n) (if b then Some (fs ++ (f ∷ []), st.StartRecord, []) else None)
+    ≡ (if b then (fs ++ f ∷ []) ∷ [] else [])) [
+      | true ↦ ap (λ t. (fs ++ f ∷ []) ∷ t) (none-left n)
+      | false ↦ refl
+    ]
+rows-are zero s fs f (c ∷ rest) l = absurd (omega (arith, l))
+rows-are (suc m) s fs f (c ∷ rest) l =
+    elim (is_end (step default_config s c).1) as (λ b. records_next (records_from default_config (suc m))
+    (if b then Some (fields_after (step default_config s c).1 fs f, (step default_config s c).0, rest)
+    else next_record default_config (step default_config s c).0 (fields_after (step default_config s c).1 fs f)
+    (field_after (step default_config s c).1 c f) rest)
+    ≡ (if b then fields_after (step default_config s c).1 fs f ∷ rows_of (step default_config s c).0 [] [] rest
+    else rows_of (step default_config s c).0 (fields_after (step default_config s c).1 fs f) (field_after (step default_config s c).1 c f) rest)) [
+      | true ↦ ap (λ t. fields_after (step default_config s c).1 fs f ∷ t) (rows-are m (step default_config s c).0 [] [] rest (omega (arith, l)))
+      | false ↦ rows-are (suc m) (step default_config s c).0 (fields_after (step default_config s c).1 fs f) (field_after (step default_config s c).1 c f) rest
+          (omega (arith, l))
+    ]
+
+records-are : (xs : List ℕ) → records_from default_config (length xs + 1) st.StartRecord xs ≡ rows_of st.StartRecord [] [] xs
+unfolding records_from
+records-are xs =
+    let e : length xs + 1 ≡ suc (length xs) = omega arith in
+    rw e (rows-are (length xs) st.StartRecord [] [] xs (omega arith))
+
+-- ---- between records nothing is begun
+
+stays-usual : (s : State) (c : ℕ) → is_usual s ≡ true → is_usual (step default_config s c).0 ≡ true
+stays-usual st.StartRecord c u = grind rules
+stays-usual st.StartField c u = grind rules
+stays-usual st.InField c u = grind rules
+stays-usual st.InQuoted c u = grind rules
+stays-usual st.AfterQuote c u = grind rules
+stays-usual st.AfterCr c u = grind rules
+stays-usual st.InEscape c u = absurd (cc u)
+stays-usual st.InComment c u = absurd (cc u)
+
+abbrev StaysBetween : State → State × Action → Type 0
+StaysBetween s p = is_end p.1 ≡ false → ends_at_end p.0 ≡ false → (ends_at_end s ≡ false) × (p.1 ≡ act.Skip)
+
+stays-between : (s : State) (c : ℕ) → is_usual s ≡ true → StaysBetween s (step default_config s c)
+stays-between st.StartRecord c u = grind rules
+stays-between st.StartField c u = grind rules
+stays-between st.InField c u = grind rules
+stays-between st.InQuoted c u = grind rules
+stays-between st.AfterQuote c u = grind rules
+stays-between st.AfterCr c u = grind rules
+stays-between st.InEscape c u = absurd (cc u)
+stays-between st.InComment c u = absurd (cc u)
+
+-- nothing is begun where the machine stands between records
+abbrev NoneBegun : State → List (List ℕ) → List ℕ → Type 0
+NoneBegun s fs f = ends_at_end s ≡ false → (fs ≡ []) × (f ≡ [])
+
+none-begun : (s : State) (c : ℕ) (fs : List (List ℕ)) (f : List ℕ) → is_usual s ≡ true → NoneBegun s fs f → is_end (step default_config s c).1 ≡ false
+    → NoneBegun (step default_config s c).0 (fields_after (step default_config s c).1 fs f) (field_after (step default_config s c).1 c f)
+none-begun s c fs f u h e between =
+    let stays = stays-between s c u e between in
+    let none = h stays.0 in
+    rw stays.1 none
+
+rows-append : (s : State) (fs : List (List ℕ)) (f xs ys : List ℕ) → is_usual s ≡ true → NoneBegun s fs f → state_after s xs ≡ st.StartRecord
+    → rows_of s fs f (xs ++ ys) ≡ rows_of s fs f xs ++ rows_of st.StartRecord [] [] ys
+rows-append s fs f [] ys u h e =
+    let none = h (ap ends_at_end e) in
+    rw (e, none.0, none.1) refl
+rows-append s fs f (c ∷ xs) ys u h e =
+    elim (is_end (step default_config s c).1) as (λ b. is_end (step default_config s c).1 ≡ b →
+    (if b then fields_after (step default_config s c).1 fs f ∷ rows_of (step default_config s c).0 [] [] (xs ++ ys)
+    else rows_of (step default_config s c).0 (fields_after (step default_config s c).1 fs f) (field_after (step default_config s c).1 c f) (xs ++ ys))
+    ≡ (if b then fields_after (step default_config s c).1 fs f ∷ rows_of (step default_config s c).0 [] [] xs
+    else rows_of (step default_config s c).0 (fields_after (step default_config s c).1 fs f) (field_after (step default_config s c).1 c f) xs)
+    ++ rows_of st.StartRecord [] [] ys) [
+      | true ↦ λ end. ap (λ t. fields_after (step default_config s c).1 fs f ∷ t)
+          (rows-append (step default_config s c).0 [] [] xs ys (stays-usual s c u) (λ b. (refl, refl)) e)
+      | false ↦ λ end. rows-append (step default_config s c).0 (fields_after (step default_config s c).1 fs f)
+          (field_after (step default_config s c).1 c f) xs ys (stays-usual s c u) (none-begun s c fs f u h end) e
+    ] refl
+
+-- ---- the records of a text
+
+records-of : (bytes : List ℕ) → is_marked bytes ≡ false → input_records bytes ≡ rows_of st.StartRecord [] [] bytes
+unfolding input_records
+records-of bytes e = ap (λ t. records_from default_config (length t + 1) st.StartRecord t) (no_mark bytes e) ∙ records-are bytes
+
+unmarked-append : (xs ys : List ℕ) → is_marked xs ≡ false → is_marked ys ≡ false → is_marked (xs ++ ys) ≡ false
+unmarked-append [] ys e f = f
+unmarked-append (x ∷ xs) ys e f = e
+
+-- the records of a text after whole records
+pub records-append : {xs : List ℕ} (ys : List ℕ) → IsWhole xs → is_marked ys ≡ false → input_records (xs ++ ys) ≡ input_records xs ++ input_records ys
+records-append {xs} ys w u =
+    records-of (xs ++ ys) (unmarked-append xs ys w.unmarked u) ∙ rows-append st.StartRecord [] [] xs ys refl (λ b. (refl, refl)) w.closed
+    ∙ ap (λ t. t ++ rows_of st.StartRecord [] [] ys) (sym (records-of xs w.unmarked)) ∙ ap (λ t. input_records xs ++ t) (sym (records-of ys u))
+
+pub none-whole : IsWhole []
+none-whole = record { closed = refl; unmarked = refl }
+
+pub none-read : input_records [] ≡ []
+unfolding input_records records_from strip_bom next_record
+none-read = refl
+
+-- ---- questions among the lines of an input
+
+pub asked-append : (asks : Bool) (kept line xs ys : List ℕ) → asked_after asks kept line (xs ++ ys) ≡ asked_after asks kept line xs ++ asked_after asks
+    (kept ++ kept_after asks line xs) (begun_after line xs) ys
+asked-append asks kept line [] ys = ap (λ k. asked_after asks k line ys) (sym (append-nil kept))
+asked-append asks kept line (b ∷ xs) ys =
+    let next = kept ++ kept_line asks line in
+    elim (eqb b 10) as (λ t. cond t (asked_line asks kept line ++ asked_after asks next [] (xs ++ ys)) (asked_after asks kept (line ++ b ∷ []) (xs ++ ys))
+    ≡ cond t (asked_line asks kept line ++ asked_after asks next [] xs) (asked_after asks kept (line ++ b ∷ []) xs)
+    ++ asked_after asks (kept ++ cond t (kept_line asks line ++ kept_after asks [] xs) (kept_after asks (line ++ b ∷ []) xs))
+    (cond t (begun_after [] xs) (begun_after (line ++ b ∷ []) xs)) ys) [
+      | true ↦
+          ap (λ r. asked_line asks kept line ++ r) (asked-append asks next [] xs ys)
+          ∙ ap (λ k. asked_line asks kept line ++ (asked_after asks next [] xs ++ asked_after asks k (begun_after [] xs) ys))
+          (append_assoc kept (kept_line asks line) (kept_after asks [] xs)) ∙ sym (append_assoc (asked_line asks kept line) (asked_after asks next [] xs)
+          (asked_after asks (kept ++ (kept_line asks line ++ kept_after asks [] xs)) (begun_after [] xs) ys))
+      | false ↦ asked-append asks kept (line ++ b ∷ []) xs ys
+    ]
+
+-- ---- the cutter
+
+pub cut-none : (asks : Bool) (line : List ℕ) {begun : List ℕ} (kept question : List ℕ) → begun ≡ begun_bytes line
+    → CutsLines asks line [] begun kept kept false question
+cut-none asks line kept question e = record { begins = e; keeps = sym (append-nil kept); questions = λ done. refl }
+
+-- bytes that ask nothing, and then more
+pub cut-more : {asks : Bool} {line xs ys begun begun2 kept0 kept1 kept2 question question2 : List ℕ} {asked : Bool}
+    → CutsLines asks line xs begun kept0 kept1 false question → CutsLines asks (begun_after line xs) ys begun2 kept1 kept2 asked question2
+    → CutsLines asks line (xs ++ ys) begun2 kept0 kept2 asked question2
+cut-more {asks} {line} {xs} {ys} {kept0} {question2} {asked} a b =
+    let first = kept_after asks line xs in
+    let second = kept_after asks (begun_after line xs) ys in
+    record {
+      begins = b.begins ∙ ap begun_bytes (sym (begun-append line xs ys));
+      keeps = b.keeps ∙ ap (λ t. t ++ second) a.keeps ∙ append_assoc kept0 first second ∙ ap (λ t. kept0 ++ t) (sym (kept-append asks line xs ys));
+      questions = λ done.
+          asked-append asks done line xs ys ∙ ap (λ t. t ++ asked_after asks (done ++ first) (begun_after line xs) ys) (a.questions done)
+          ∙ b.questions (done ++ first)
+          ∙ ap (λ k. asked_by asked k question2) (append_assoc done first second ∙ ap (λ t. done ++ t) (sym (kept-append asks line xs ys)));
+    }
+
+pub cut-next : {asks : Bool} {line : List ℕ} (piece : List ℕ) {begun begun2 kept0 kept1 kept2 question question2 : List ℕ} {asked : Bool} (i : ℕ)
+    → i < length piece → CutsLines asks line (take i piece) begun kept0 kept1 false question
+    → CutsLines asks (begun_after line (take i piece)) (get_or piece i 0 ∷ []) begun2 kept1 kept2 asked question2
+    → CutsLines asks line (take (i + 1) piece) begun2 kept0 kept2 asked question2
+cut-next {asks} {line} piece {begun2} {kept0} {kept2} {question2} {asked} i h a b =
+    subst (λ t. CutsLines asks line t begun2 kept0 kept2 asked question2) (sym (take_more piece i 0 h)) (cut-more a b)
+
+-- a line ends
+pub cut-ended : (asks : Bool) (line : List ℕ) {begun begun2 : List ℕ} (kept : List ℕ) {kept2 : List ℕ} (question : List ℕ) {asked : Bool}
+    → begun ≡ begun_bytes line → begun2 ≡ [] → asked ≡ (asks && is_question begun) → (asked ≡ true → question ≡ begun) → kept2 ≡ kept ++ kept_line asks begun
+    → CutsLines asks line (10 ∷ []) begun2 kept kept2 asked question
+cut-ended asks line kept question {asked} h none is q k = record {
+  begins = none;
+  keeps = k ∙ ap (λ l. kept ++ l) (ap (kept_line asks) h ∙ kept_begun asks line ∙ sym (append-nil (kept_line asks line)));
+  questions = λ done. go done (asks && is_question line) (is ∙ ap (λ l. asks && is_question l) h ∙ ap (λ t. asks && t) (question_begun line));
+}
+  where
+    go : (done : List ℕ) (v : Bool) → asked ≡ v
+        → cond v (record { kept = done; question = begun_bytes line } ∷ []) [] ++ []
+        ≡ asked_by asked (done ++ (cond v [] (kept_record line) ++ [])) question
+    go done true e = rw (e, q e, h, append-nil done) refl
+    go done false e = rw e refl
+
+-- or goes on
+pub cut-pushed : (asks : Bool) (line : List ℕ) {begun begun2 : List ℕ} (kept question : List ℕ) (b : ℕ) → eqb b 10 ≡ false → begun ≡ begun_bytes line
+    → length begun ≤ 4096 → begun2 ≡ begun ++ b ∷ [] → CutsLines asks line (b ∷ []) begun2 kept kept false question
+cut-pushed asks line kept question b e h l new = record {
+  begins = rw e (begun-pushed line b h l new);
+  keeps = rw e (sym (append-nil kept));
+  questions = λ done. rw e refl;
+}
+
+pub cut-stays : (asks : Bool) (line : List ℕ) {begun : List ℕ} (kept question : List ℕ) (b : ℕ) → eqb b 10 ≡ false → begun ≡ begun_bytes line
+    → 4096 < length begun → CutsLines asks line (b ∷ []) begun kept kept false question
+cut-stays asks line kept question b e h l = record {
+  begins = rw e (begun-stays line b h l);
+  keeps = rw e (sym (append-nil kept));
+  questions = λ done. rw e refl;
+}
+
+-- ---- an input without its questions
+
+line-kept : (start line rest : List ℕ) → HasNoEnd line → kept_after true start (line ++ 10 ∷ rest) ≡ kept_line true (start ++ line) ++ kept_after true [] rest
+line-kept start [] rest h = ap (λ l. kept_line true l ++ kept_after true [] rest) (sym (append-nil start))
+line-kept start (b ∷ line) rest h =
+    rw h.0 (line-kept (start ++ b ∷ []) line rest h.1 ∙ ap (λ l. kept_line true l ++ kept_after true [] rest) (append_assoc start (b ∷ []) line))
+
+nothing-kept : (start line : List ℕ) → HasNoEnd line → kept_after true start line ≡ []
+nothing-kept start [] h = refl
+nothing-kept start (b ∷ line) h = rw h.0 (nothing-kept (start ++ b ∷ []) line h.1)
+
+kept-ended : (line rest : List ℕ) (v : Bool) → HasNoEnd line → is_question line ≡ v → kept_of (without_after [] rest) ≡ kept_after true [] rest
+    → kept_of (cond v [] (line ++ 10 ∷ []) ++ without_after [] rest) ≡ kept_line true line ++ kept_after true [] rest
+kept-ended line rest true h e rest_kept = rest_kept ∙ ap (λ t. cond t [] (kept_record line) ++ kept_after true [] rest) (sym e)
+kept-ended line rest false h e rest_kept =
+    ap kept_of (append_assoc line (10 ∷ []) (without_after [] rest)) ∙ line-kept [] line (without_after [] rest) h
+    ∙ ap (λ t. kept_line true line ++ t) rest_kept
+
+pub kept-without : (line bytes : List ℕ) → HasNoEnd line → kept_of (without_after line bytes) ≡ kept_after true line bytes
+kept-without line [] h = nothing-kept [] line h
+kept-without line (b ∷ rest) h =
+    elim (eqb b 10) as (λ v. eqb b 10 ≡ v → kept_of
+    (cond v (cond (is_question line) [] (line ++ 10 ∷ []) ++ without_after [] rest) (without_after (line ++ b ∷ []) rest))
+    ≡ cond v (kept_line true line ++ kept_after true [] rest) (kept_after true (line ++ b ∷ []) rest)) [
+      | true ↦ λ e. kept-ended line rest (is_question line) h refl (kept-without [] rest tt)
+      | false ↦ λ e. kept-without (line ++ b ∷ []) rest (no-end-more line b h e)
+    ] refl

@@ -1,35 +1,29 @@
 -- How a run goes on, turn by turn, and what has come of its turns.
-use Rattle.std.proofs.Common.{◌≡◌, ◌∙◌, ◌≤◌, ◌+◌, ◌⊎◌, inl, inr, ◌++◌, ◌∷◌, [], ℕ, Bool, true, false, List, Option, Some, None, cond, drop, length, map, refl, take, take-append-drop, sym, ap, subst, arith}
-use Rattle.std.proofs.Common.{length-append}
+use Rattle.std.proofs.Common.{◌≡◌, ◌∙◌, ◌≤◌, ◌+◌, ◌⊎◌, inl, inr, ◌++◌, ◌∷◌, [], ℕ, Bool, true, false, List, Option, Some, None, cond, drop, length, map, refl}
+use Rattle.std.proofs.Common.{take, take-append-drop, sym, ap, subst, arith, length-append}
 use Rattle.std.proofs.lemmas.List.{append-nil}
 use Rattle.std.specs.Io.KnownBytes.{Appends, Consumes, IsAtEnd, Keeps}
-use Rattle.rubis_replica.specs.Arrivals.{after_all}
+use Rattle.rubis_replica.specs.State.{after_all}
 use Rattle.csv.proofs.WriteFacts.{appends-more, appends-none}
 use Rattle.rubis_engine.specs.Text.{input_records}
-use Rattle.rubis_engine.proofs.FrontFacts.{front-kept as appends-kept}
-use Rattle.rubis_keep.specs.Answering.{Answering, Fed, IsIdle, Stopped, answering}
-use Rattle.rubis_keep.specs.Asking.{IsUnmoved}
-use Rattle.rubis_keep.specs.Files.{IsFailure}
-use Rattle.rubis_keep.specs.History.{Grows, History, KeepsLines, Tells, log_of, out_in}
+use Rattle.rubis_engine.proofs.RunFacts.{front-kept as appends-kept}
+use Rattle.rubis_keep.specs.Turns.{Answering, Fed, IsIdle, Stopped, answering, Answered, Breaks, Broke, Ends, IsAtRest, IsBegun, Reads, Standing, Torn, Turn}
+use Rattle.rubis_keep.specs.Turns.{Turns, Unanswered, Unreplied, last, replied_to}
+use Rattle.rubis_keep.specs.Questions.{IsUnmoved, AreListed}
+use Rattle.rubis_keep.specs.Faults.{IsFailure}
+use Rattle.rubis_keep.specs.History.{Grows, History, KeepsLines, Tells, log_of, out_in, IsFrontOf}
 use Rattle.rubis_keep.specs.History.Event.{Kept, Replied}
-use Rattle.rubis_keep.specs.Kept.{IsFrontOf}
-use Rattle.rubis_keep.specs.Lines.{begun_after, kept_after}
-use Rattle.rubis_keep.specs.Places.{begun_bytes}
+use Rattle.rubis_keep.specs.Lines.{begun_after, kept_after, begun_bytes, IsWhole}
 use Rattle.rubis_keep.specs.Shortened.{state_after}
-use Rattle.rubis_keep.specs.Pages.{AreListed}
-use Rattle.rubis_keep.specs.Turns.{Answered, Breaks, Broke, Ends, IsAtRest, IsBegun, Reads, Standing, Torn, Turn, Turns, Unanswered, Unreplied, last, replied_to}
-use Rattle.rubis_keep.specs.Whole.{IsWhole}
 use Rattle.rubis_keep.specs.declared.answers.Answers.{Answers}
 use Rattle.rubis_keep.specs.declared.fault.KeepFault.{KeepFault}
 use Rattle.rubis_keep.specs.declared.site.Clerk.{Clerk}
 use Rattle.rubis_keep.proofs.FedFacts.{HasFed, HasStopped, fed-more, fed-none, stopped-failed, stopped-later}
-use Rattle.rubis_keep.proofs.FileFacts.{consumes-more, consumes-none}
-use Rattle.rubis_keep.proofs.HistoryFacts.{IsStill, front-log, front-out, grows-none, kept-log, kept-out, still-by, still-none, tells-log, tells-more, tells-none, tells-out}
+use Rattle.rubis_keep.proofs.HistoryFacts.{consumes-more, consumes-none, IsStill, front-log, front-out, grows-none, kept-log, kept-out, still-by, still-none}
+use Rattle.rubis_keep.proofs.HistoryFacts.{tells-log, tells-more, tells-none, tells-out}
 use Rattle.rubis_keep.proofs.LineFacts.{begun-append, kept-append}
 use Rattle.rubis_keep.proofs.PageFacts.{listed-after}
-use Rattle.rubis_keep.proofs.RecordFacts.{none-read, none-whole, records-append}
-use Rattle.rubis_keep.proofs.SoundFacts.{begun-no-end}
-use Rattle.rubis_keep.proofs.WholeFacts.{kept-whole, whole-append}
+use Rattle.rubis_keep.proofs.SoundFacts.{none-read, none-whole, records-append, begun-no-end, kept-whole, whole-append}
 
 -- ---- one turn more
 

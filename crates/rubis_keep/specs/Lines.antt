@@ -1,6 +1,6 @@
 -- What is kept of an input: its lines, each one whole records of CSV, but for its questions.
 use Rattle.std.specs.Prelude.{◌≡◌, ◌==◌, ◌&&◌, ◌+◌, ◌++◌, ◌∷◌, [], ℕ, Bool, List, IsTrue, false, true, if◌then◌else◌, length, nat_le, not, get_or, take, ⊤}
-use Rattle.std.specs.Prelude.{MatchBool}
+use Rattle.std.specs.Prelude.{MatchBool, cond}
 use Rattle.csv.specs.Machine.{step}
 use Rattle.csv.specs.Reading.{default_config}
 use Rattle.csv.specs.declared.parser.State.{State}
@@ -120,3 +120,40 @@ are_sound line (b ∷ rest) = if b == 10 then is_sound line && are_sound [] rest
 abbrev pub HasNoEnd : List ℕ → Type 0
 HasNoEnd [] = ⊤
 HasNoEnd (b ∷ line) = (b == 10 ≡ false) × HasNoEnd line
+
+-- ---- how a line is looked through
+
+-- a state that the machine comes to with the crate's defaults
+abbrev pub is_usual : State → Bool
+is_usual st.InQuoted = true
+is_usual st.StartRecord = true
+is_usual st.StartField = true
+is_usual st.InField = true
+is_usual st.AfterQuote = true
+is_usual st.AfterCr = true
+is_usual st.InEscape = false
+is_usual st.InComment = false
+
+-- the first bytes of a line, one more than a line may have
+abbrev pub begun_bytes : List ℕ → List ℕ
+begun_bytes line = take (line_max + 1) line
+
+-- ---- lines that are cut off an input, up to a question
+
+-- these are the one question that was asked, or none was
+abbrev pub asked_by : Bool → List ℕ → List ℕ → List Asked
+asked_by asked kept question = cond asked (record { kept = kept; question = question } ∷ []) []
+
+-- these bytes go on with a begun line: what is kept of their lines was added, and they end with the one question that they ask, or
+-- they ask none
+pub record CutsLines (asks : Bool) (line bytes begun kept kept2 : List ℕ) (asked : Bool) (question : List ℕ) : Type 0 where
+  pub begins : begun ≡ begun_bytes (begun_after line bytes)
+  pub keeps : kept2 ≡ kept ++ kept_after asks line bytes
+  pub questions : (done : List ℕ) → asked_after asks done line bytes ≡ asked_by asked (done ++ kept_after asks line bytes) question
+
+-- ---- a text of whole records
+
+-- after these bytes a record begins, and no byte order mark is at their start
+pub record IsWhole (bytes : List ℕ) : Type 0 where
+  pub closed : state_after st.StartRecord bytes ≡ st.StartRecord
+  pub unmarked : is_marked bytes ≡ false

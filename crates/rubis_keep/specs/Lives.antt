@@ -4,13 +4,10 @@ use Rattle.rubis_model.specs.Site.{Place, Replica}
 use Rattle.rubis_engine.specs.Accounts.{Account, Ending}
 use Rattle.rubis_engine.specs.Accounts.Ending.{AtEnd}
 use Rattle.rubis_engine.specs.Text.{input_records}
-use Rattle.rubis_keep.specs.Answering.{Answering, IsIdle, coming}
-use Rattle.rubis_keep.specs.History.{FileState, IsSafe, records_in}
-use Rattle.rubis_keep.specs.Kept.{IsFrontOf}
-use Rattle.rubis_keep.specs.Left.{IsLeft}
-use Rattle.rubis_keep.specs.Lines.{AreSound, begun_after, whole_lines}
+use Rattle.rubis_keep.specs.Turns.{Answering, IsIdle, coming}
+use Rattle.rubis_keep.specs.History.{FileState, IsSafe, records_in, IsFrontOf, IsLeft}
+use Rattle.rubis_keep.specs.Lines.{AreSound, begun_after, whole_lines, IsWhole}
 use Rattle.rubis_keep.specs.Shortened.{state_after}
-use Rattle.rubis_keep.specs.Whole.{IsWhole}
 
 -- the records of `kept` are answered by `told`, and led the site, which had begun in state s at place p, to where it is: `all` is the account of
 -- all its records

@@ -1,28 +1,101 @@
--- What a site answers to a question.
-use Rattle.std.specs.Prelude.{ℕ, ◌++◌, ◌∷◌, [], Bool, List, Option, None, Some, bytes_eq, codes, cond, decimal, drop, false, length, nat_le, not, option_map}
+-- What a site answers to a question, and how a run answers those of its input.
+use Rattle.std.specs.Prelude.{ℕ, ◌∷◌, [], List, codes, decimal, length, ◌≡◌, ◌==◌, ◌++◌, Bool, Option, None, Some, IfSome, bytes_eq, cond, drop, false, take}
+use Rattle.std.specs.Prelude.{true, nat_le, not, option_map, ◌⊎◌, MatchResult, Result, map}
 use Rattle.std.specs.Option.{option_map_or}
-use Rattle.rubis_message.specs.Grammar.{deps_text}
 use Rattle.rubis_message.specs.Readings.{request_of}
 use Rattle.rubis_message.specs.declared.requests.Request.{Request}
 use Rattle.rubis_message.specs.declared.requests.Request.TheVariants as request
-use Rattle.rubis_model.specs.Settle.{counted}
-use Rattle.rubis_model.specs.Listings.{row_record}
-use Rattle.rubis_model.specs.Site.{Place, Replica, counts, rows_at}
-use Rattle.rubis_schema.specs.FieldForms.{id_of, nick_of}
-use Rattle.rubis_schema.specs.Ids.{id_text}
+use Rattle.rubis_model.specs.Log.{cores, fold_of}
+use Rattle.rubis_model.specs.Site.{listing_rows, Replica, counted, Place, counts, rows_at}
+use Rattle.rubis_schema.specs.FieldForms.{text_of, id_of, nick_of}
 use Rattle.rubis_schema.specs.NumberForms.{number_of}
+use Rattle.rubis_schema.specs.declared.listings.Listing.{Listing}
+use Rattle.rubis_schema.specs.declared.listings.Listing.TheVariants as listing
+use Rattle.rubis_keep.specs.declared.pages.Listed.{Listed}
+use Rattle.rubis_keep.specs.declared.pages.Page.{Page}
+use Rattle.rubis_keep.specs.declared.pages.TheConstants.{PAGE_MAX, PLACE_MAX}
+use Rattle.rubis_message.specs.Grammar.{deps_text}
+use Rattle.rubis_model.specs.Listings.{row_record}
+use Rattle.rubis_schema.specs.Ids.{id_text}
 use Rattle.rubis_schema.specs.declared.limits.TheConstants.{CAT_MAX}
 use Rattle.rubis_schema.specs.declared.row_keys.RowKey.{RowKey}
 use Rattle.rubis_schema.specs.declared.row_keys.RowKey.TheVariants as key
 use Rattle.rubis_schema.specs.declared.rows.Row.{Row}
 use Rattle.rubis_schema.specs.declared.rows.Row.TheVariants as row
 use Rattle.rubis_engine.specs.Text.{input_records, rows_text}
-use Rattle.rubis_keep.specs.Lines.{closes, line_max}
-use Rattle.rubis_keep.specs.Pages.{page_asked, page_rows, rows_in}
-use Rattle.rubis_keep.specs.Showing.{counted_rows, refused_as}
-use Rattle.rubis_keep.specs.declared.pages.Page.{Page}
+use Rattle.rubis_keep.specs.Lines.{closes, line_max, Asked, asked_after, whole_lines}
 use Rattle.rubis_keep.specs.declared.questions.Question.{Question}
 use Rattle.rubis_keep.specs.declared.questions.Question.TheVariants as question
+use Rattle.std.specs.Io.KnownBytes.{Consumes}
+use Rattle.rubis_keep.specs.History.{Event, Grows, History}
+use Rattle.rubis_keep.specs.History.Event.{Replied}
+use Rattle.rubis_keep.specs.Shortened.{state_after}
+use Rattle.rubis_keep.specs.declared.site.Clerk.{Clerk}
+
+-- a question is refused, for this reason
+abbrev pub refused_as : List ℕ → List (List (List ℕ))
+refused_as reason = (codes "refused" ∷ reason ∷ []) ∷ []
+
+-- how many rows there are, and the rows
+abbrev pub counted_rows : List (List (List ℕ)) → List (List (List ℕ))
+counted_rows rows = (codes "rows" ∷ decimal (length rows) ∷ []) ∷ rows
+
+-- ---- pages of listings
+
+-- ---- what is asked
+
+-- a listing has pages unless it is of all tables, whose rows have no names
+abbrev pub has_pages : Listing → Bool
+has_pages listing.Tables = false
+has_pages l = true
+
+abbrev pub paged_by : Option Request → Option Listing
+paged_by (Some (request.List l)) = cond (has_pages l) (Some l) None
+paged_by (Some (request.Ask a)) = None
+paged_by (Some (request.Pass to)) = None
+paged_by None = None
+
+abbrev pub page_with : Option ℕ → Option ℕ → Option (List ℕ) → Option Listing → Option Page
+page_with (Some most) (Some from) (Some after) (Some l) = Some (record { most = most; from = from; after = after; listing = l })
+page_with most from after l = None
+
+-- the page that these fields ask for: how many rows at most, where the named row is looked for, its name, and a request for a listing
+abbrev pub page_asked : ℕ → List (List ℕ) → Option Page
+page_asked sites (word ∷ most ∷ from ∷ after ∷ request) =
+    cond (bytes_eq word (codes "page")) (page_with (number_of PAGE_MAX most) (number_of PLACE_MAX from) (text_of after) (paged_by (request_of sites request))) None
+page_asked sites fields = None
+
+-- ---- its rows
+
+-- a row's name is its key, which stands behind the two words for its kind; of what didn't fit it is the entry and the part
+abbrev pub row_name : List (List ℕ) → List ℕ
+row_name (row ∷ kind ∷ key ∷ next ∷ rest) = cond (bytes_eq kind (codes "misfit")) (key ++ 46 ∷ next) key
+row_name fields = []
+
+-- the rows behind the first one of this name, if there is one
+abbrev pub behind : List ℕ → List (List (List ℕ)) → Option (List (List (List ℕ)))
+behind name [] = None
+behind name (row ∷ rows) = cond (bytes_eq (row_name row) name) (Some rows) (behind name rows)
+
+-- the rows of a listing from where a page begins: the named row is looked for from a place on, and without a name the page begins at that place
+abbrev pub rows_from : Page → List (List (List ℕ)) → Option (List (List (List ℕ)))
+rows_from p rows = cond (length p.after == 0) (Some (drop p.from rows)) (behind p.after (drop p.from rows))
+
+-- what answers that asks for a page of these rows
+abbrev pub page_rows : Page → List (List (List ℕ)) → List (List (List ℕ))
+page_rows p rows = option_map_or (λ later. counted_rows (take p.most later)) (rows_from p rows) (refused_as (codes "NoRow"))
+
+-- ---- what is held of a listing
+
+-- the rows of a listing in this state
+abbrev pub rows_in : Replica → Listing → List (List (List ℕ))
+rows_in s l = listing_rows s.log (fold_of (cores s.log)) l
+
+-- the rows that are held, if any are, are those of their listing in this state
+abbrev pub AreListed : Replica → Option Listed → Type 0
+AreListed s held = IfSome held (λ h. h.rows ≡ rows_in s h.listing)
+
+-- ---- what a site answers to a question
 
 -- ---- what a line asks
 
@@ -114,3 +187,55 @@ reply_rows p s answered line =
 -- the text of an answer: '?', and the text of its rows
 abbrev pub reply_text : List (List (List ℕ)) → List ℕ
 reply_text rows = 63 ∷ rows_text rows
+
+-- ---- how a run answers the questions of its input
+
+-- ---- what is replied
+
+-- a question, and the text that answers it
+pub record Reply : Type 0 where
+  pub question : List ℕ
+  pub text : List ℕ
+
+-- what a history replied, question by question
+abbrev pub replied_in : List Event → List Reply
+replied_in [] = []
+replied_in (Replied question text ∷ later) = record { question = question; text = text } ∷ replied_in later
+replied_in (e ∷ later) = replied_in later
+
+-- the answer of a site that had begun in state s, to a question: it has answered the records that were kept before it
+abbrev pub reply_to : Place → Replica → Asked → Reply
+reply_to p s a = record {
+  question = a.question;
+  text = reply_text (reply_rows p (state_after p s (input_records a.kept)) (length (input_records a.kept)) a.question);
+}
+
+-- the answers to the questions of these bytes of an input, where `kept` was kept before
+abbrev pub replies : Place → Replica → List ℕ → List ℕ → List Reply
+replies p s kept bytes = map (reply_to p s) (asked_after true kept [] bytes)
+
+-- these are the first ones, the last of which may be cut off
+abbrev pub AreFirst : List Reply → List Reply → Type 0
+AreFirst xs all = ((rest : List Reply) × (xs ++ rest ≡ all))
+    ⊎ ((first rest : List Reply) × (r : Reply) × (n : ℕ) × (xs ≡ first ++ record r { text = take n r.text } ∷ []) × (first ++ r ∷ rest ≡ all))
+
+-- a run that began with `kept` in its folder, and read these bytes of its input, has replied to the questions of them in their order;
+-- if it ended with a fault, to the first ones
+abbrev pub RepliesTo : {T E : Type 0} → Place → Replica → List ℕ → Option (List ℕ) → Option (List ℕ) → Option History → Option History → Result T E → Type 0
+RepliesTo p s kept input input2 old new r = (bytes : List ℕ) × Consumes input input2 bytes × (events : List Event) × Grows old new events
+    × MatchResult r (λ _. replied_in events ≡ replies p s (whole_lines kept) bytes) (λ _. AreFirst (replied_in events) (replies p s (whole_lines kept) bytes))
+
+-- a question was replied to, if it was asked; at a fault nothing happened, or some first bytes of its answer stand there
+abbrev pub RepliesIf : {T E : Type 0} → Bool → Option History → Option History → Result T E → List ℕ → List ℕ → Type 0
+RepliesIf asked old new r question text = MatchResult r (λ _. Grows old new (cond asked (Replied question text ∷ []) []))
+    (λ _. (asked ≡ true) × (Grows old new [] ⊎ ((n : ℕ) × Grows old new (Replied question (take n text) ∷ []))))
+
+-- nothing of what a clerk answers has changed, nor what it holds
+pub record IsUnmoved {G : Type 0} (old new : Clerk G) : Type 0 where
+  pub place : new.desk.site.place ≡ old.desk.site.place
+  pub state : new.desk.site.state ≡ old.desk.site.state
+  pub answered : new.answered ≡ old.answered
+  pub window : new.desk.window.items ≡ old.desk.window.items
+  pub first : new.desk.first ≡ old.desk.first
+  pub sink : new.reply.sink ≡ old.reply.sink
+  pub limit : new.limit ≡ old.limit

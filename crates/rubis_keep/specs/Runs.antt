@@ -3,13 +3,11 @@
 use Rattle.std.specs.Prelude.{◌≡◌, ◌∷◌, ◌⊎◌, [], ℕ, IfSome, List, MatchResult, None, Option, Result, false, take, true}
 use Rattle.std.specs.Io.KnownBytes.{IsAtEnd, Keeps}
 use Rattle.rubis_model.specs.Site.{counts}
-use Rattle.rubis_keep.specs.Answering.{Answering}
-use Rattle.rubis_keep.specs.Differences.{HasMore, MayDiffer}
-use Rattle.rubis_keep.specs.Files.{IsFailure, MayBeEdited, of_kept}
+use Rattle.rubis_keep.specs.Turns.{Answering, Breaks, Ends, IsAtRest, Standing, left_of}
+use Rattle.rubis_keep.specs.Faults.{HasMore, MayDiffer, IsFailure, MayBeEdited, of_kept}
 use Rattle.rubis_keep.specs.History.{Event, Grows, History}
 use Rattle.rubis_keep.specs.History.Event.{Began, CutTo, Flushed, Settled}
 use Rattle.rubis_keep.specs.Lines.{AreSound, are_sound}
-use Rattle.rubis_keep.specs.Turns.{Breaks, Ends, IsAtRest, Standing, left_of}
 use Rattle.rubis_keep.specs.declared.fault.KeepFault.{KeepFault}
 
 -- ---- what was kept is answered again

@@ -1,11 +1,10 @@
 -- What was kept, without the lines whose records changed nothing.
 use Rattle.std.specs.Prelude.{◌≡◌, ◌∷◌, [], ℕ, Bool, List, Option, Some, false}
 use Rattle.std.specs.Io.KnownBytes.{Appends}
-use Rattle.rubis_model.specs.Restarts.{IsShortened}
+use Rattle.rubis_model.specs.Processes.{IsShortened}
 use Rattle.rubis_message.specs.Inputs.{input_of}
 use Rattle.rubis_message.specs.declared.inputs.Input.{Input}
-use Rattle.rubis_model.specs.Runs.{input_step}
-use Rattle.rubis_model.specs.Site.{Place, Replica}
+use Rattle.rubis_model.specs.Site.{input_step, Place, Replica}
 use Rattle.rubis_script.specs.Replica.{SiteState}
 use Rattle.rubis_engine.specs.Text.{input_records}
 use Rattle.rubis_keep.specs.Lines.{AreSound, begun_after, whole_lines}

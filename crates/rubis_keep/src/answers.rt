@@ -2,9 +2,8 @@
 
 ghost use Rattle.std.specs.Prelude.{◌≡◌, ◌≤◌, [], IfErr, IfOk, IfSome, MatchResult, OnOk, false, length, take};
 ghost use Rattle.std.specs.Io.KnownBytes.{IsAtEnd, Keeps};
-ghost use Rattle.rubis_keep.specs.Answering.{Puts};
-ghost use Rattle.rubis_keep.specs.Differences.{HasDifference, HasMore, MayDiffer};
-ghost use Rattle.rubis_keep.specs.Files.{IsFailure};
+ghost use Rattle.rubis_keep.specs.Turns.{Puts};
+ghost use Rattle.rubis_keep.specs.Faults.{HasDifference, HasMore, MayDiffer, IsFailure};
 ghost use Rattle.rubis_keep.specs.History.{Tells, TellsFront};
 
 use crate::comparing::{compare, differ, ends_in};

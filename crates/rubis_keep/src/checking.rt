@@ -1,9 +1,8 @@
 //! What was kept, read through before it is answered again.
 
 ghost use Rattle.std.specs.Prelude.{◌≡◌, ◌∷◌, ◌<◌, [], ℕ, List, IfErr, IfOk, IfSome, OnOk, false, true};
-ghost use Rattle.rubis_keep.specs.Files.{MayBeEdited};
-ghost use Rattle.rubis_keep.specs.Lines.{AreSound, are_sound, begun_after};
-ghost use Rattle.rubis_keep.specs.Places.{begun_bytes};
+ghost use Rattle.rubis_keep.specs.Faults.{MayBeEdited};
+ghost use Rattle.rubis_keep.specs.Lines.{AreSound, are_sound, begun_after, begun_bytes};
 
 use crate::fault::KeepFault;
 use crate::lines::{LINE_MAX, is_sound};

@@ -1,8 +1,7 @@
 //! Answers that are compared with those that were given before, as far as these go.
 
 ghost use Rattle.std.specs.Prelude.{◌≡◌, ◌≤◌, ◌++◌, IfErr, IfOk, IfSome, false, length, string_bytes, take, true};
-ghost use Rattle.rubis_keep.specs.Differences.{HasDifference, IsDifference, MayDiffer, ends_in, first_line, last_line, same_in, shown_line};
-ghost use Rattle.rubis_keep.specs.Files.{DiffersFrom, Found};
+ghost use Rattle.rubis_keep.specs.Faults.{HasDifference, IsDifference, MayDiffer, ends_in, first_line, last_line, same_in, shown_line, DiffersFrom, Found};
 
 use crate::fault::{Difference, KeepFault};
 use rubis_engine::read_through_signals;

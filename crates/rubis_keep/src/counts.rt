@@ -4,7 +4,7 @@ ghost use Rattle.std.specs.Prelude.{◌≡◌, ◌≤◌, ◌++◌, ◌∷◌, [
 ghost use Rattle.std.specs.List.{range_with_len};
 ghost use Rattle.rubis_schema.specs.declared.limits.TheConstants.{COUNTED_MAX};
 ghost use Rattle.rubis_message.specs.Grammar.{deps_text};
-ghost use Rattle.rubis_model.specs.Settle.{counted};
+ghost use Rattle.rubis_model.specs.Site.{counted};
 
 use rubis_message::Message;
 use rubis_schema::{COUNTS_TEXT_MAX, Fields, ShortText};

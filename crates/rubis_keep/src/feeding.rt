@@ -4,7 +4,7 @@ ghost use Rattle.std.specs.Prelude.{◌∷◌, [], ℕ, List, OnOk};
 ghost use Rattle.rubis_engine.specs.Reading.{Gives};
 ghost use Rattle.rubis_engine.specs.Text.{input_records};
 ghost use Rattle.rubis_message.specs.Inputs.{FitsIn};
-ghost use Rattle.rubis_keep.specs.Answering.{Feeds, FeedsInputs, IsIdle, answering};
+ghost use Rattle.rubis_keep.specs.Turns.{Feeds, FeedsInputs, IsIdle, answering};
 
 use crate::answers::Answers;
 use crate::fault::KeepFault;

@@ -2,7 +2,7 @@
 
 ghost use Rattle.std.specs.Prelude.{◌≡◌, [], IfErr, IfOk, None, true};
 ghost use Rattle.std.specs.Io.KnownBytes.{Consumes};
-ghost use Rattle.rubis_keep.specs.Files.{IsFailure};
+ghost use Rattle.rubis_keep.specs.Faults.{IsFailure};
 ghost use Rattle.rubis_keep.specs.History.{HasKept};
 ghost use Rattle.rubis_keep.specs.Turns.{CameOrEnded, Reads, left_of};
 

@@ -1,9 +1,7 @@
 //! The lines of an input that comes in pieces.
 
 ghost use Rattle.std.specs.Prelude.{◌≡◌, [], ◌<◌, ◌≤◌, ℕ, List, IfOk, false, length, take, true};
-ghost use Rattle.rubis_keep.specs.Lines.{closes, is_sound};
-ghost use Rattle.rubis_keep.specs.Cuts.{CutsLines};
-ghost use Rattle.rubis_keep.specs.Places.{begun_bytes};
+ghost use Rattle.rubis_keep.specs.Lines.{closes, is_sound, CutsLines, begun_bytes};
 
 use rubis_reading::{CsvState, after};
 use std::alloc::{AllocError, Global};
@@ -28,7 +26,7 @@ pub(crate) fn closes(line: &[u8]) -> bool
 }
 
 /// Whether a line is kept as it is.
-#[tactic(auto, using(crate::proofs::QuoteFacts::plain_closes))]
+#[tactic(auto, using(crate::proofs::LineFacts::plain_closes))]
 pub(crate) fn is_sound(line: &[u8]) -> bool
     ensures { result ≡ is_sound line.now }
 {

@@ -6,9 +6,8 @@ ghost use Rattle.rubis_message.specs.Readings.{request_of};
 ghost use Rattle.rubis_model.specs.Site.{Replica};
 ghost use Rattle.rubis_schema.specs.FieldForms.{text_of};
 ghost use Rattle.rubis_schema.specs.NumberForms.{number_of};
-ghost use Rattle.rubis_keep.specs.Asking.{IsUnmoved};
-ghost use Rattle.rubis_keep.specs.Pages.{AreListed, behind, has_pages, page_asked, page_rows, page_with, paged_by, row_name, rows_from, rows_in};
-ghost use Rattle.rubis_keep.specs.Showing.{counted_rows};
+ghost use Rattle.rubis_keep.specs.Questions.{IsUnmoved, AreListed, behind, has_pages, page_asked, page_rows, page_with, paged_by, row_name, rows_from, rows_in};
+ghost use Rattle.rubis_keep.specs.Questions.{counted_rows};
 ghost use Rattle.rubis_keep.specs.declared.pages.TheConstants.{PAGE_MAX, PLACE_MAX};
 
 use crate::fault::KeepFault;

@@ -1,14 +1,12 @@
 //! Questions, and what a site answers to them.
 
 ghost use Rattle.std.specs.Prelude.{◌≡◌, ◌++◌, ◌∷◌, [], IfOk, MatchBool, Some, length};
-ghost use Rattle.rubis_model.specs.Settle.{counted};
-ghost use Rattle.rubis_model.specs.Site.{rows_at};
-ghost use Rattle.rubis_replica.specs.Progress.{resting_at};
+ghost use Rattle.rubis_model.specs.Site.{counted, rows_at};
+ghost use Rattle.rubis_replica.specs.Follow.{resting_at};
 ghost use Rattle.rubis_engine.specs.Text.{input_records, rows_text};
-ghost use Rattle.rubis_keep.specs.Asking.{IsUnmoved};
+ghost use Rattle.rubis_keep.specs.Questions.{IsUnmoved, AreListed, key_in, or_none, question_in, question_of, reply_rows, row_asked, row_shown, says_state};
+ghost use Rattle.rubis_keep.specs.Questions.{shown_to, state_row};
 ghost use Rattle.rubis_keep.specs.declared.questions.Question.TheVariants as Question;
-ghost use Rattle.rubis_keep.specs.Pages.{AreListed};
-ghost use Rattle.rubis_keep.specs.Questions.{key_in, or_none, question_in, question_of, reply_rows, row_asked, row_shown, says_state, shown_to, state_row};
 
 use crate::counts::push_counts;
 use crate::fault::KeepFault;

@@ -1,10 +1,8 @@
 //! A question is answered on standard output.
 
 ghost use Rattle.std.specs.Prelude.{◌≡◌, ◌∷◌, [], IfErr, IfOk};
-ghost use Rattle.rubis_keep.specs.Asking.{IsUnmoved, RepliesIf};
-ghost use Rattle.rubis_keep.specs.Files.{IsFailure};
-ghost use Rattle.rubis_keep.specs.Pages.{AreListed};
-ghost use Rattle.rubis_keep.specs.Questions.{reply_rows, reply_text};
+ghost use Rattle.rubis_keep.specs.Questions.{IsUnmoved, RepliesIf, AreListed, reply_rows, reply_text};
+ghost use Rattle.rubis_keep.specs.Faults.{IsFailure};
 
 use crate::answers::Answers;
 use crate::fault::KeepFault;

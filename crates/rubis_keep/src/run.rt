@@ -2,13 +2,12 @@
 
 ghost use Rattle.std.specs.Prelude.{◌≡◌, ◌∷◌, ◌⊎◌, [], IfErr, MatchResult, OnErr, OnOk, None, map};
 ghost use Rattle.std.specs.List.{range_with_len};
-ghost use Rattle.rubis_model.specs.Settle.{counted};
-ghost use Rattle.rubis_keep.specs.Answering.{IsIdle, answering};
-ghost use Rattle.rubis_keep.specs.Files.{IsFailure, of_kept};
+ghost use Rattle.rubis_model.specs.Site.{counted};
+ghost use Rattle.rubis_keep.specs.Turns.{IsIdle, answering, IsAtRest, standing};
+ghost use Rattle.rubis_keep.specs.Faults.{IsFailure, of_kept};
 ghost use Rattle.rubis_keep.specs.History.{Grows, HasDone};
 ghost use Rattle.rubis_keep.specs.History.Event.{Began, CutTo, Flushed, Settled};
 ghost use Rattle.rubis_keep.specs.Runs.{Fails, GoesOn, Replays, Runs, Unreplayed};
-ghost use Rattle.rubis_keep.specs.Turns.{IsAtRest, standing};
 
 use crate::answers::Answers;
 use crate::checking::check_kept;

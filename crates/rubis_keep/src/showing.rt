@@ -3,7 +3,7 @@
 ghost use Rattle.std.specs.Prelude.{◌≡◌, ◌∷◌, [], ℕ, List, IfOk, codes, decimal, length, true};
 ghost use Rattle.rubis_schema.specs.FieldList.{is_plain};
 ghost use Rattle.rubis_engine.specs.Text.{rows_text};
-ghost use Rattle.rubis_keep.specs.Showing.{counted_rows, refused_as};
+ghost use Rattle.rubis_keep.specs.Questions.{counted_rows, refused_as};
 
 use rubis_engine::Sink;
 use rubis_schema::{Counted, Fields, RowSink};

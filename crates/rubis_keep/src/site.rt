@@ -5,10 +5,9 @@ ghost use Rattle.rubis_model.specs.Site.{opening_at};
 ghost use Rattle.rubis_script.specs.Replica.{setup_place};
 ghost use Rattle.rubis_script.specs.SiteRuns.{site_account};
 ghost use Rattle.rubis_engine.specs.Accounts.Ending.{AtEnd};
-ghost use Rattle.rubis_keep.specs.Asking.{RepliesTo};
+ghost use Rattle.rubis_keep.specs.Questions.{RepliesTo};
 ghost use Rattle.rubis_keep.specs.Faults.{EndsTruly};
-ghost use Rattle.rubis_keep.specs.History.{History, IsShown, StaysSafe, kept_in, now, out_in};
-ghost use Rattle.rubis_keep.specs.Kept.{Ended, Lived, Opens};
+ghost use Rattle.rubis_keep.specs.History.{History, IsShown, StaysSafe, kept_in, now, out_in, Ended, Lived, Opens};
 ghost use Rattle.rubis_keep.specs.Lives.{IsOpened};
 ghost use Rattle.rubis_keep.specs.Saying.{says_of};
 

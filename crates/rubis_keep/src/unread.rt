@@ -2,7 +2,7 @@
 
 ghost use Rattle.std.specs.Prelude.{◌≡◌, ◌<◌, ◌≤◌, [], IfErr, IfOk, drop, false, length, true};
 ghost use Rattle.std.specs.Io.KnownBytes.{Consumes, IsAtEnd};
-ghost use Rattle.rubis_keep.specs.Files.{IsFailure};
+ghost use Rattle.rubis_keep.specs.Faults.{IsFailure};
 ghost use Rattle.rubis_keep.specs.Turns.{left_of};
 
 use crate::fault::KeepFault;

@@ -1,6 +1,4 @@
 -- What a log lacks, and what a message waits for.
 pub mod InOrder
 pub mod LackingRuns
-pub mod LackingWaiting
-pub mod Awaiting
 pub mod LackReadings

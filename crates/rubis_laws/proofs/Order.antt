@@ -2,11 +2,6 @@
 pub mod Decisions
 pub mod NotRefused
 pub mod FitsByKind
-pub mod Fitting
-pub mod Referring
 pub mod Deciding
-pub mod Making
-pub mod Tokens
-pub mod RunsInOrder
-pub mod LogsChecked
 pub mod Winners
+pub mod RunsInOrder

@@ -1,9 +1,7 @@
 -- What a log's messages do to rows, and what its set alone says.
-pub mod Heads
+pub mod Sets
 pub mod Cores
 pub mod Lengths
-pub mod Pushes
-pub mod Sets
 pub mod Choices
 pub mod Nicks
 pub mod CheckedLogs

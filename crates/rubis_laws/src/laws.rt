@@ -1,29 +1,22 @@
 //! The laws of runs and of logs, each with its statement in rubis_model/specs.
 
-ghost use Rattle.rubis_model.specs.AgreedAudits.{AgreedAuditsAreSound};
-ghost use Rattle.rubis_model.specs.AuditRecords.{LinesAreReadAsWritten, LogsAreReadAsWritten};
-ghost use Rattle.rubis_model.specs.Convergence.{AllCanBeDelivered, AllHadAreReleased, DeliveredAreHad, DeliveringAllConverges};
-ghost use Rattle.rubis_model.specs.Convergence.{HavingAllConverges, MomentsAreReleased, NoMessageIsRefused};
+ghost use Rattle.rubis_model.specs.AuditRecords.{AgreedAuditsAreSound, LinesAreReadAsWritten, LogsAreReadAsWritten};
+ghost use Rattle.rubis_model.specs.Laws.{AllCanBeDelivered, AllHadAreReleased, DeliveredAreHad, DeliveringAllConverges, HavingAllConverges, MomentsAreReleased};
+ghost use Rattle.rubis_model.specs.Laws.{NoMessageIsRefused, LogsOnlyGrow, MeaningIsOne, FoldIsMeaning, CheckedLogsHold, DecidedShadowsFit};
+ghost use Rattle.rubis_model.specs.Laws.{EqualSetsEqualTables, RunsAreInOrder, RunsKeepInvariants, RunsAgreeOnTables, RunsSendDeliverables};
+ghost use Rattle.rubis_model.specs.Laws.{RefusalsChangeNothing, FaultlessLogsAreSound, RunsAreFaultless, AgreesWhereFaultless, AgreedLogsAreSound, RunsAgree};
+ghost use Rattle.rubis_model.specs.Laws.{NicknamesAreUnique, RedsAreInOneOrder};
 ghost use Rattle.rubis_model.specs.Commuting.{BlueMessagesCommute};
 ghost use Rattle.rubis_model.specs.Forged.{NamesAreHeld, NamesStay, SitesKeepStock, StockIsKept};
-ghost use Rattle.rubis_model.specs.Given.{GivenAreReleased, GivenConverge, GivenHaveTheTablesOfTheRun};
-ghost use Rattle.rubis_model.specs.Lack.{CompletedTablesAreEqual, LackIsReleased, LackIsReleasedInRuns, LackNeverWaits, LacksTheRest};
-ghost use Rattle.rubis_model.specs.Lack.{OneRoundConverges, WaitingIsExplained};
-ghost use Rattle.rubis_model.specs.LackRecords.{LackFollowsTheAudit};
-ghost use Rattle.rubis_model.specs.Widening.{MeaningStays, VerdictStays, WidenedAreAmong};
-ghost use Rattle.rubis_model.specs.WidenedRecords.{AuditStays};
-ghost use Rattle.rubis_model.specs.Laws.{LogsOnlyGrow, MeaningIsOne, FoldIsMeaning, CheckedLogsHold, DecidedShadowsFit};
-ghost use Rattle.rubis_model.specs.Laws.{EqualSetsEqualTables, RunsAreInOrder, RunsKeepInvariants, RunsAgreeOnTables, RunsSendDeliverables};
-ghost use Rattle.rubis_model.specs.Laws.{RefusalsChangeNothing, FaultlessLogsAreSound, RunsAreFaultless, AgreesWhereFaultless};
-ghost use Rattle.rubis_model.specs.Laws.{AgreedLogsAreSound, RunsAgree};
-ghost use Rattle.rubis_model.specs.Nicknames.{NicknamesAreUnique, RedsAreInOneOrder};
-ghost use Rattle.rubis_model.specs.Processes.{ProcessesAgree, ProcessesAgreeOnTables, ProcessesAreARun, ProcessesAreInRun};
-ghost use Rattle.rubis_model.specs.Processes.{ProcessesConverge, ProcessesKeepInvariants, ProcessesKnowTheirOwn};
-ghost use Rattle.rubis_model.specs.Rebuild.{InputsRebuild, SitesAreRebuilt, AsksAreReadOff};
-ghost use Rattle.rubis_model.specs.RebuildRecords.{RecordsRebuild};
-ghost use Rattle.rubis_model.specs.RecordedRuns.{AnswersAreARun, AuditsAgree, RecordsAreARun, RecordsKeepInvariants};
-ghost use Rattle.rubis_model.specs.Restarts.{AnswersStay, NewRecordsAreRead, NothingIsLeftOut, ReadingsAreMoments, RecordingsReplay};
-ghost use Rattle.rubis_model.specs.Restarts.{RestartedAgree, RestartedConverge, RestartsChangeNothing};
+ghost use Rattle.rubis_model.specs.Rebuild.{GivenAreReleased, GivenConverge, GivenHaveTheTablesOfTheRun, InputsRebuild, SitesAreRebuilt, AsksAreReadOff};
+ghost use Rattle.rubis_model.specs.Rebuild.{RecordsRebuild};
+ghost use Rattle.rubis_model.specs.Lack.{CompletedTablesAreEqual, LackIsReleased, LackIsReleasedInRuns, LackNeverWaits, LacksTheRest, OneRoundConverges};
+ghost use Rattle.rubis_model.specs.Lack.{WaitingIsExplained, LackFollowsTheAudit};
+ghost use Rattle.rubis_model.specs.Widening.{MeaningStays, VerdictStays, WidenedAreAmong, AuditStays};
+ghost use Rattle.rubis_model.specs.Processes.{ProcessesAgree, ProcessesAgreeOnTables, ProcessesAreARun, ProcessesAreInRun, ProcessesConverge};
+ghost use Rattle.rubis_model.specs.Processes.{ProcessesKeepInvariants, ProcessesKnowTheirOwn, AnswersAreARun, AuditsAgree, RecordsAreARun};
+ghost use Rattle.rubis_model.specs.Processes.{RecordsKeepInvariants, AnswersStay, NewRecordsAreRead, NothingIsLeftOut, ReadingsAreMoments, RecordingsReplay};
+ghost use Rattle.rubis_model.specs.Processes.{RestartedAgree, RestartedConverge, RestartsChangeNothing};
 
 /// A log that passes the checks folds without misfit to the meaning of its set, and there is only one.
 pub fn fold_is_meaning()

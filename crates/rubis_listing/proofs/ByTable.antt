@@ -11,9 +11,8 @@ use Rattle.std.specs.FinMap.Entries.{below_all, is_sorted}
 use Rattle.std.proofs.lemmas.Bool.{cases_order, eqb-true, ltb-true}
 use Rattle.std.proofs.lemmas.Bool.Decides.{nat_tests}
 use Rattle.std.proofs.lemmas.List.{append-nil}
-use Rattle.rubis_schema.specs.Categories.{shows_nothing}
+use Rattle.rubis_schema.specs.Tables.{shows_nothing, Tables}
 use Rattle.rubis_schema.specs.Keys.{holds, key_code, key_order, table_of}
-use Rattle.rubis_schema.specs.Tables.{Tables}
 use Rattle.rubis_schema.specs.declared.listings.Listing.{Listing}
 use Rattle.rubis_schema.specs.declared.listings.Listing.TheVariants as listing
 use Rattle.rubis_schema.specs.declared.row_keys.RowKey.{RowKey}
@@ -25,9 +24,8 @@ use Rattle.rubis_schema.specs.declared.rows.Row.{Row}
 use Rattle.rubis_schema.specs.declared.rows.Row.TheVariants as row
 use Rattle.rubis_shadow.specs.Tables.{rows_of}
 use Rattle.rubis_model.specs.Listings.{category_record, records_of, row_record, table_rows}
-use Rattle.rubis_shard.specs.Counted.{has_record, number_of, recorded_from}
-use Rattle.rubis_listing.specs.ByTable.{tables_of}
-use Rattle.rubis_listing.specs.LaterTables.{after, rows_after, rows_from_table}
+use Rattle.rubis_shard.specs.Listed.{has_record, number_of, recorded_from}
+use Rattle.rubis_listing.specs.Parts.{tables_of, after, rows_after, rows_from_table}
 use Rattle.rubis_listing.proofs.Selecting.{Entries, IsWithin, bids_within, categories_within, comments_within, items_within, one_table, purchases_within}
 use Rattle.rubis_listing.proofs.Selecting.{records_append, shows_none, users_within}
 

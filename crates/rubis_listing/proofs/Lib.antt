@@ -1,6 +1,3 @@
 pub mod Selecting
 pub mod ByTable
-pub mod Entering
-pub mod LaterRows
-mod Making
-pub mod Ranges
+pub mod Making

@@ -5,9 +5,8 @@ use Rattle.std.specs.List.{flat_map}
 use Rattle.std.proofs.lemmas.Grind.{flat_map-append}
 use Rattle.std.proofs.lemmas.List.Elements.{filter-append}
 use Rattle.std.specs.FinMap as map
-use Rattle.rubis_schema.specs.Categories.{shows_nothing}
+use Rattle.rubis_schema.specs.Tables.{shows_nothing, Tables}
 use Rattle.rubis_schema.specs.Keys.{holds}
-use Rattle.rubis_schema.specs.Tables.{Tables}
 use Rattle.rubis_schema.specs.declared.ids.Id.{Id}
 use Rattle.rubis_schema.specs.declared.listings.Listing.{Listing}
 use Rattle.rubis_schema.specs.declared.listings.Listing.TheVariants as listing

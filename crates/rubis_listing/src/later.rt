@@ -5,8 +5,7 @@ ghost use Rattle.rubis_schema.specs.declared.listings.Listing.TheVariants as Sho
 ghost use Rattle.rubis_shadow.specs.Tables.{rows_of};
 ghost use Rattle.rubis_model.specs.Listings.{records_of};
 ghost use Rattle.rubis_shard.specs.Holdings.{union};
-ghost use Rattle.rubis_listing.specs.LaterTables.{after, later_rows, rows_of_later};
-ghost use Rattle.rubis_listing.specs.Parts.{rows_from};
+ghost use Rattle.rubis_listing.specs.Parts.{after, later_rows, rows_of_later, rows_from};
 
 use crate::listings::rows_in;
 use crate::sources::Source;

@@ -38,8 +38,7 @@ pub struct ListingRows<'a> {
 
 impl<'a> Model for ListingRows<'a> {
     ghost use Rattle.std.specs.Prelude.{◌≤◌, ◌++◌, ℕ, List};
-    ghost use Rattle.rubis_listing.specs.LaterTables.{later_rows, AreCountable};
-    ghost use Rattle.rubis_listing.specs.Parts.{rows_from, size_of};
+    ghost use Rattle.rubis_listing.specs.Parts.{later_rows, AreCountable, rows_from, size_of};
 
     ghost Value = { List (List (List ℕ)) };
 

@@ -5,7 +5,7 @@ ghost use Rattle.rubis_schema.specs.declared.listings.Listing.TheVariants as Sho
 ghost use Rattle.rubis_shadow.specs.Tables.{rows_of};
 ghost use Rattle.rubis_model.specs.Listings.{records_of, table_rows};
 ghost use Rattle.rubis_shard.specs.Holdings.{union};
-ghost use Rattle.rubis_listing.specs.ByTable.{tables_of};
+ghost use Rattle.rubis_listing.specs.Parts.{tables_of};
 
 use crate::records::put_record;
 use rubis_schema::{Fields, Id, IdTable, Items, Listing, Row, RowKey, RowSink, Table};

@@ -1,6 +1,6 @@
 -- A shop of two sites, computed on the definitions: the bytes of both folders, lives that end anywhere, and the run that they are.
-use Rattle.std.proofs.Common.{◌≡◌, ◌∙◌, inl, inr, ◌<◌, ◌+◌, ◌++◌, ◌∷◌, [], ℕ, zero, suc, Bool, true, false, List, Some, None, cond, eqb, drop, length}
-use Rattle.std.proofs.Common.{refl, sym, ap, subst, arith, append-nil, take}
+use Rattle.std.proofs.Common.{◌≡◌, ◌∙◌, inl, inr, ◌<◌, ◌+◌, ◌++◌, ◌∷◌, [], ℕ, zero, suc, Bool, true, false, List, Some, None, cond, eqb, drop, length, refl}
+use Rattle.std.proofs.Common.{sym, ap, subst, arith, append-nil, take}
 use Rattle.std.specs.Prelude.{MatchBool, Result, codes, map, ⊤}
 use Rattle.std.specs.Fmt.{digits}
 use Rattle.csv.specs.Machine.{next_record}
@@ -12,48 +12,39 @@ use Rattle.rubis_schema.specs.declared.refusals.Refusal.{Refusal}
 use Rattle.rubis_schema.specs.declared.limits.TheConstants.{KEEP_MAX}
 use Rattle.rubis_shadow.specs.declared.shadows.Ask.TheVariants as ask
 use Rattle.rubis_shadow.specs.declared.shadows.Shadow.TheVariants as shadow
-use Rattle.rubis_generate.specs.Decision.{decision}
-use Rattle.rubis_generate.specs.Lookup.{Rows}
+use Rattle.rubis_generate.specs.Decision.{decision, Rows}
 use Rattle.rubis_message.specs.Counts.{deps_of}
-use Rattle.rubis_message.specs.Forms.{take_positive, take_site}
-use Rattle.rubis_message.specs.Readings.{packet_of, request_of, take_kind, take_listing, take_message, take_packet, take_request, take_shadow, take_shown}
-use Rattle.rubis_message.specs.Readings.{take_stamp, kind_of, shown_of}
+use Rattle.rubis_message.specs.Readings.{take_positive, take_site, packet_of, request_of, take_kind, take_listing, take_message, take_packet, take_request}
+use Rattle.rubis_message.specs.Readings.{take_shadow, take_shown, take_stamp, kind_of, shown_of}
 use Rattle.rubis_message.specs.Message.{Message}
 use Rattle.rubis_message.specs.declared.requests.Request.TheVariants as request
 use Rattle.rubis_message.specs.declared.tokens.Packet.{Packet}
 use Rattle.rubis_message.specs.declared.tokens.Packet.TheVariants as packet
 use Rattle.rubis_model.specs.Listings.{log_from}
 use Rattle.rubis_model.specs.Meaning.{meaning_row}
-use Rattle.rubis_model.specs.Processes.{site_after}
-use Rattle.rubis_model.specs.Restarts.{CarriedWithRestarts, IsShortened, Moment, WasEverSent, has_read, read_on}
-use Rattle.rubis_model.specs.Restarts.Moment.{Reads, Replays, Restarts}
-use Rattle.rubis_model.specs.Runs.{answers, output_of}
-use Rattle.rubis_model.specs.Settle.{Has}
-use Rattle.rubis_model.specs.Site.{Replica, counts, generating, opening_at, rows_at, standing_of}
+use Rattle.rubis_model.specs.Processes.{site_after, CarriedWithRestarts, IsShortened, Moment, WasEverSent, has_read, read_on}
+use Rattle.rubis_model.specs.Processes.Moment.{Reads, Replays, Restarts}
+use Rattle.rubis_model.specs.Site.{answers, output_of, Has, Replica, counts, generating, opening_at, rows_at, standing_of}
 use Rattle.rubis_model.specs.System.{Event as SystemEvent, World, happens, run, sending, site, start}
 use Rattle.rubis_model.specs.System.Event.{At, Deliver}
 use Rattle.rubis_engine.specs.Text.{input_records, rows_text}
 use Rattle.rubis_laws.proofs.Rows.FoldIsMeaning.{fold_is_meaning}
 use Rattle.rubis_laws.proofs.Processes.AreARun.{is_itself, is_other}
 use Rattle.rubis_laws.proofs.Examples.ProcessExamples.{ann_answers, ann_is_answered, ann_is_asked, ann_is_sent, no_packet_asked, not_some}
-use Rattle.rubis_keep.specs.Left.{Files}
+use Rattle.rubis_keep.specs.History.{Files, Answers, AreSafe, Event, FileState, after, after_all, records_in}
 use Rattle.rubis_lives.specs.Folders.{AreFoldersOfARun}
-use Rattle.rubis_lives.specs.Histories.{ShortensKept, Step, answered_on, keep_after, keeps, moments_in, most, shortened_to, site_keeping, stand_after}
-use Rattle.rubis_lives.specs.Histories.{stands}
+use Rattle.rubis_lives.specs.Histories.{ShortensKept, Step, answered_on, keep_after, keeps, moments_in, most, shortened_to, site_keeping, stand_after, stands}
+use Rattle.rubis_lives.specs.Histories.{from_disk, opened_again, taken_by, taken_in, AreLives, AreShopLives, SiteLife, happening, own_steps, steps_of}
 use Rattle.rubis_lives.specs.Histories.Step.{Does, Fails, Happens, Raises, Shortens}
-use Rattle.rubis_keep.specs.History.{Answers, AreSafe, Event, FileState, after, after_all, records_in}
 use Rattle.rubis_keep.specs.History.Event.{Began, Flushed, Kept, Settled, Shown, Told}
 use Rattle.rubis_keep.specs.Lines.{AreSound}
 use Rattle.rubis_keep.specs.Lives.{IsOpened}
 use Rattle.rubis_keep.specs.Shortened.{state_after}
-use Rattle.rubis_lives.specs.Moments.{from_disk, opened_again}
-use Rattle.rubis_lives.specs.Room.{taken_by, taken_in}
 use Rattle.rubis_lives.specs.Shops.{IsPrefix, text_of, words_of}
-use Rattle.rubis_lives.specs.SiteLives.{AreLives, AreShopLives, SiteLife, happening, own_steps, steps_of}
-use Rattle.rubis_lives.specs.SiteLives.End.{IsRewritten, PowerFails}
+use Rattle.rubis_lives.specs.Histories.End.{IsRewritten, PowerFails}
 use Rattle.rubis_lives.proofs.FolderFacts.{folders-are-a-run}
 use Rattle.rubis_keep.proofs.HistoryFacts.{answers-append, answers-shown, answers-told, safe-answers, safe-append, safe-keeps, safe-last}
-use Rattle.rubis_lives.proofs.ShopFacts.{Records}
+use Rattle.rubis_lives.proofs.RewritingFacts.{Records}
 use Rattle.rubis_lives.proofs.SiteLivesFacts.{shortened-opened}
 
 -- ---- what is kept and told

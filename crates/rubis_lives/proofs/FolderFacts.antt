@@ -1,7 +1,20 @@
--- Folders with their lives are a run, which keeps its promises.
-use Rattle.std.proofs.Common.{◌≡◌, ◌∙◌, ◌≤◌, ◌<◌, ◌+◌, ◌∷◌, [], ℕ, List, None, refl, sym, ap, subst, arith, append-nil}
-use Rattle.std.specs.Prelude.{map}
+-- What the calls of a site promise makes lives, and folders with their lives are a run that keeps its promises.
+use Rattle.std.proofs.Common.{◌≡◌, ◌∙◌, ◌⊎◌, inl, inr, ◌≤◌, ◌++◌, ◌∷◌, [], ℕ, List, Option, Some, None, refl, sym, ap, subst, append-nil, ◌<◌, ◌+◌, arith}
+use Rattle.std.proofs.lemmas.List.{append_cancel_left}
+use Rattle.std.specs.Io.KnownBytes.{Consumes}
 use Rattle.rubis_schema.specs.declared.limits.TheConstants.{KEEP_MAX}
+use Rattle.rubis_model.specs.Processes.{IsShortened, process, read_by, site_after, recorded}
+use Rattle.rubis_model.specs.Site.{Place, opening_at, input_step, Replica}
+use Rattle.rubis_engine.specs.Accounts.Ending.{AtEnd}
+use Rattle.rubis_engine.specs.Text.{input_records}
+use Rattle.rubis_script.specs.SiteRuns.{answers_of}
+use Rattle.rubis_lives.specs.Calls.{CallsAreLives, RaisedCallsRaise, ShortenedMayReplace}
+use Rattle.rubis_lives.specs.Histories.{RaisesKeep, keeping, keeps, moments_in, most, site_keeping, stands, takes}
+use Rattle.rubis_keep.specs.History.{AreSafe, FileState, History, now, records_in, IsFrontOf, Lived}
+use Rattle.rubis_keep.specs.Lines.{AreSound, begun_after, kept_of, whole_lines}
+use Rattle.rubis_lives.specs.Shops.{text_of, words_of}
+use Rattle.rubis_keep.proofs.SoundFacts.{whole-rest, whole-whole}
+use Rattle.std.specs.Prelude.{map}
 use Rattle.rubis_message.specs.Inputs.{input_of}
 use Rattle.rubis_message.specs.Message.{Message}
 use Rattle.rubis_message.specs.declared.inputs.Input.{Input}
@@ -10,26 +23,87 @@ use Rattle.rubis_message.specs.declared.requests.Request.TheVariants as request
 use Rattle.rubis_message.specs.declared.tokens.Packet.TheVariants as packet
 use Rattle.rubis_message.specs.declared.tokens.Token.{Token}
 use Rattle.rubis_model.specs.Laws.{IsLogOf}
-use Rattle.rubis_model.specs.Logs.{Log}
-use Rattle.rubis_model.specs.Processes.{process, read_by, site_after}
+use Rattle.rubis_model.specs.Verdict.{Log}
 use Rattle.rubis_model.specs.Rebuild.{after_inputs, inputs_to_rebuild, sent_by, sent_on_inputs}
-use Rattle.rubis_model.specs.Restarts.{IsShortened, recorded}
-use Rattle.rubis_model.specs.Runs.{input_step}
-use Rattle.rubis_model.specs.Site.{Place, Replica, opening_at}
 use Rattle.rubis_model.specs.System.{AreEvents, Event, World, run, site, start}
 use Rattle.rubis_laws.proofs.Processes.AreARun.{processes_run}
 use Rattle.rubis_laws.proofs.Processes.Restarts.{restarts_change_nothing, short_state}
-use Rattle.rubis_laws.proofs.Rebuilding.RebuildInputs.{inputs_rebuild}
+use Rattle.rubis_laws.proofs.Rebuilding.RebuildRecords.{inputs_rebuild}
 use Rattle.rubis_laws.proofs.Rebuilding.RebuiltSites.{sites_are_rebuilt}
 use Rattle.rubis_laws.proofs.Runs.EveryRun.{every_run}
 use Rattle.rubis_laws.proofs.Runs.Nicknames.{nicknames_are_unique}
 use Rattle.rubis_lives.specs.Folders.{AreOfSite, FoldersAreARun, IsRebuiltFolder, KeepsItsPromises}
-use Rattle.rubis_lives.specs.Histories.{keeps, moments_in, most, site_keeping, stands, takes}
-use Rattle.rubis_keep.specs.History.{records_in}
 use Rattle.rubis_lives.proofs.HistoriesFacts.{come, histories-are-replayed, history-at}
 use Rattle.rubis_lives.proofs.RoomFacts.{taken-state}
-use Rattle.rubis_lives.proofs.ShopFacts.{Records, prefix-same}
+use Rattle.rubis_lives.proofs.RewritingFacts.{Records, prefix-same}
 use Rattle.rubis_lives.proofs.SiteLivesFacts.{shop-histories}
+
+pub calls-are-lives : CallsAreLives
+calls-are-lives p h h2 first later safe grown = (
+  later,
+  λ opened.
+      let s = safe opened in
+      let same : s.0 ≡ first ++ later =
+      append_cancel_left h.events s.0 (first ++ later) (sym (ap (λ (t : History). t.events) s.1) ∙ grown) in
+      subst (AreSafe (words_of p) (now h)) same s.2,
+)
+
+-- a text that ends with a line is its whole lines
+ended-whole : (text : List ℕ) → begun_after [] text ≡ [] → whole_lines text ≡ text
+ended-whole text e = sym (append-nil (whole_lines text)) ∙ ap (λ t. whole_lines text ++ t) (sym e) ∙ whole-rest [] text
+
+pub shortened-may-replace : ShortenedMayReplace
+shortened-may-replace p kept written sound h =
+    let w = h kept refl sound in
+    let same : written ≡ w.0 = w.1 in
+    let whole : whole_lines written ≡ w.0 = ap whole_lines same ∙ ended-whole w.0 w.4 in
+    record {
+      sound = subst (AreSound []) (sym same) w.3;
+      without = subst (λ t. IsShortened p (opening_at p.site) (input_records t) (records_in kept)) (sym whole) w.2;
+    }
+
+some-same : {a b : List ℕ} → Some a ≡ Some b → a ≡ b
+some-same e = cc e
+
+none-read : (bytes : List ℕ) (later : Option (List ℕ)) → Consumes (Some []) later bytes → bytes ≡ []
+none-read [] later c = refl
+none-read (b ∷ bytes) None c = absurd c
+none-read (b ∷ bytes) (Some rest) c = absurd (cc c)
+
+module _ (p : Place) (keep : ℕ) (kept old : List ℕ) (done : Option (List ℕ)) (s : FileState) (more : p.keep ≤ keep) (most : keep ≤ KEEP_MAX)
+    (flushed : s.flushed ≡ s.kept) (l : Lived (answers_of p) kept old (Some []) done (Some s.kept) (Some s.out)) where
+  read : whole_lines kept ++ kept_of l.bytes ≡ whole_lines kept
+  read = ap (λ b. whole_lines kept ++ kept_of b) (none-read l.bytes done l.taken) ∙ append-nil (whole_lines kept)
+
+  kept-is : s.kept ≡ whole_lines kept
+  kept-is = some-same l.log_is ∙ read
+
+  whole : whole_lines s.kept ≡ s.kept
+  whole = ap whole_lines kept-is ∙ whole-whole kept l.sound ∙ sym kept-is
+
+  answered : s.out ≡ text_of p (records_in s.kept)
+  answered =
+      some-same l.out_is
+      ∙ ap (λ t. text_of p (input_records t)) (read ∙ sym kept-is ∙ sym whole)
+
+  raised : IsFrontOf s.out (text_of (keeping p keep) (records_in s.kept)) → RaisesKeep p s keep
+  raised told = record { more = more; most = most; flushed = flushed; answered = answered; told = told }
+
+  ends : {log out : Option (List ℕ)} (k t : List ℕ) → log ≡ Some k → out ≡ Some t
+      → ((k ≡ s.kept) × (t ≡ s.out))
+      ⊎ (AreSound [] s.kept × IsFrontOf s.out ((answers_of (keeping p keep)).text AtEnd (input_records (whole_lines s.kept)))
+      × ((rest : List (List (List ℕ))) → IsFrontOf t ((answers_of (keeping p keep)).text AtEnd (input_records (whole_lines k) ++ rest))))
+      → ((log ≡ Some s.kept) × (out ≡ Some s.out)) ⊎ RaisesKeep p s keep
+  ends k t e f (inl is) = inl (e ∙ ap (λ x. Some x) is.0, f ∙ ap (λ x. Some x) is.1)
+  ends k t e f (inr found) = inr (raised found.1)
+
+pub raised-calls-raise : RaisedCallsRaise
+raised-calls-raise p keep kept old done s input later log out more most flushed l = (
+  λ lived. raised p keep kept old done s more most flushed l lived.found,
+  λ ended. ends p keep kept old done s more most flushed l ended.kept ended.told ended.log_is ended.out_is ended.answers,
+)
+
+-- ---- folders with their lives are a run, which keeps its promises
 
 -- ---- every run keeps the promises
 

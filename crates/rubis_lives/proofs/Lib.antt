@@ -1,13 +1,7 @@
-pub mod CrashFacts
-pub mod ShopFacts
-pub mod RoomFacts
-pub mod GrowFacts
 pub mod MomentFacts
-pub mod SiteFacts
-pub mod HistoriesFacts
-pub mod RefusedFacts
-pub mod SiteLivesFacts
 pub mod RewritingFacts
+pub mod RoomFacts
+pub mod HistoriesFacts
+pub mod SiteLivesFacts
 pub mod FolderFacts
 pub mod Examples
-pub mod CallFacts

@@ -1,6 +1,10 @@
 -- Records that a site refuses since it is full.
-use Rattle.std.proofs.Common.{◌≡◌, ◌≢◌, ◌∙◌, ◌≤◌, ◌+◌, ◌++◌, ◌∷◌, ◌&&◌, [], ℕ, Bool, true, false, cond, List, Option, Some, None, refl, sym, ap, subst, arith}
-use Rattle.std.proofs.Common.{append_assoc, inl, inr}
+use Rattle.std.proofs.Common.{◌≡◌, ◌∙◌, ◌++◌, [], false, List, ℕ, sym, ap, subst, append_assoc, ◌≢◌, ◌≤◌, ◌+◌, ◌∷◌, ◌&&◌, Bool, true, cond, Option, Some, None}
+use Rattle.std.proofs.Common.{refl, arith, inl, inr}
+use Rattle.rubis_engine.specs.Text.{input_records, plain_writer, row_text, rows_text}
+use Rattle.rubis_keep.specs.History.{IsFrontOf, records_in}
+use Rattle.rubis_keep.specs.Lines.{AreSound, begun_after, is_marked, whole_after, whole_lines, IsWhole}
+use Rattle.rubis_keep.proofs.SoundFacts.{records-append, sound-back, sound-kept, whole-append-after, whole-ends, whole-rest, whole-whole, kept-whole}
 use Rattle.std.proofs.lemmas.Bool.Decides.{nat_tests}
 use Rattle.std.proofs.lemmas.List.{append_cancel_left}
 use Rattle.std.proofs.lemmas.Option.{same_Some}
@@ -15,14 +19,13 @@ use Rattle.csv.specs.declared.parser.State.TheVariants as st
 use Rattle.csv.proofs.RoundTrip.{read-write}
 use Rattle.rubis_schema.specs.Refusals.{code_of, refusal_name}
 use Rattle.rubis_schema.specs.declared.refusals.Refusal.{Refusal}
-use Rattle.rubis_schema.specs.declared.refusals.Refusal.TheVariants.{BadRecord, Full, NoToken, RedBehind, NickTaken, NoUser, NoItem, Closed}
-use Rattle.rubis_schema.specs.declared.refusals.Refusal.TheVariants.{LowBid, StockShort, NotSeller, OwnItem, NoBuyNow, SelfComment}
-use Rattle.rubis_schema.specs.declared.refusals.Refusal.TheVariants.{BadTarget, LastTurn, NotOurs, NotForMe, BadEvent, NoSuchPacket}
+use Rattle.rubis_schema.specs.declared.refusals.Refusal.TheVariants.{BadRecord, Full, NoToken, RedBehind, NickTaken, NoUser, NoItem, Closed, LowBid, StockShort}
+use Rattle.rubis_schema.specs.declared.refusals.Refusal.TheVariants.{NotSeller, OwnItem, NoBuyNow, SelfComment, BadTarget, LastTurn, NotOurs, NotForMe}
+use Rattle.rubis_schema.specs.declared.refusals.Refusal.TheVariants.{BadEvent, NoSuchPacket}
 use Rattle.rubis_shadow.specs.declared.shadows.Ask.{Ask}
 use Rattle.rubis_shadow.specs.declared.shadows.Ask.TheVariants as ask
 use Rattle.rubis_shadow.specs.declared.shadows.Shadow.{Shadow}
-use Rattle.rubis_generate.specs.Decision.{decision, is_due, order_of, refused_or, shadow_of}
-use Rattle.rubis_generate.specs.Lookup.{Rows}
+use Rattle.rubis_generate.specs.Decision.{decision, is_due, order_of, refused_or, shadow_of, Rows}
 use Rattle.rubis_generate.specs.declared.standing.Standing.{Standing}
 use Rattle.rubis_message.specs.Inputs.{input_of}
 use Rattle.rubis_message.specs.Message.{Message}
@@ -32,17 +35,41 @@ use Rattle.rubis_message.specs.declared.inputs.Input.TheVariants.{Asked, Came, N
 use Rattle.rubis_message.specs.declared.requests.Request.TheVariants as request
 use Rattle.rubis_message.specs.declared.tokens.Packet.TheVariants as packet
 use Rattle.rubis_message.specs.declared.tokens.Token.{Token}
-use Rattle.rubis_model.specs.Answers.{arrived_rows, asked_rows, passed_rows, refused_row}
-use Rattle.rubis_model.specs.Processes.{site_after}
+use Rattle.rubis_model.specs.Site.{arrived_rows, asked_rows, passed_rows, refused_row, answers, input_step, told, Place, Replica, after_came, arrival_of}
+use Rattle.rubis_model.specs.Site.{generating, is_full, is_repeat, not_ours, opening_at, passing, rows_at, standing_of}
+use Rattle.rubis_model.specs.Processes.{site_after, IsShortened}
 use Rattle.rubis_model.specs.Rebuild.{sent_on, sent_on_inputs}
-use Rattle.rubis_model.specs.Restarts.{IsShortened}
-use Rattle.rubis_model.specs.Runs.{answers, input_step, told}
-use Rattle.rubis_model.specs.Site.{Place, Replica, after_came, arrival_of, generating, is_full, is_repeat, not_ours, opening_at, passing, rows_at, standing_of}
-use Rattle.rubis_engine.specs.Text.{plain_writer, row_text, rows_text}
-use Rattle.rubis_keep.specs.History.{records_in}
-use Rattle.rubis_lives.specs.Room.{RaisedKeepsTakeTheSame, RefusedAsFullAreNoEvents, keeping, refuses_as_full, taken_by}
+use Rattle.rubis_lives.specs.Histories.{RaisedKeepsTakeTheSame, RefusedAsFullAreNoEvents, keeping, refuses_as_full, taken_by}
 use Rattle.rubis_lives.specs.Shops.{IsPrefix}
-use Rattle.rubis_lives.proofs.ShopFacts.{Records}
+use Rattle.rubis_lives.proofs.RewritingFacts.{Records}
+
+-- whole lines are followed by whole lines
+pub whole-grow : (a b : List ℕ) → AreSound [] a → (f : IsFrontOf (whole_lines a) b) → whole_lines b ≡ whole_lines a ++ whole_lines f.0
+whole-grow a b sa (rest, e) =
+    ap whole_lines (sym e) ∙ whole-append-after [] (whole_lines a) rest ∙ ap (λ t. t ++ whole_after (begun_after [] (whole_lines a)) rest) (whole-whole a sa)
+    ∙ ap (λ s. whole_lines a ++ whole_after s rest) (whole-ends a sa)
+
+pub records-grow : (a : List ℕ) {b : List ℕ} → AreSound [] a → AreSound [] b → IsFrontOf (whole_lines a) b
+    → (more : List (List (List ℕ))) × (input_records (whole_lines a) ++ more ≡ input_records (whole_lines b))
+records-grow a {b} sa sb (rest, e) =
+    let lines = whole-grow a b sa (rest, e) in
+    let sr : AreSound [] rest = subst (λ l. AreSound l rest) (whole-ends a sa) (sound-back [] (whole_lines a) rest (subst (AreSound []) (sym e) sb)) in
+    let whole = subst IsWhole (sound-kept [] a sa) (kept-whole false [] a) in
+    let unmarked = subst (λ t. is_marked t ≡ false) (sound-kept [] rest sr) (kept-whole false [] rest).unmarked in
+    (input_records (whole_lines rest), sym (ap input_records lines ∙ records-append (whole_lines rest) whole unmarked))
+
+pub whole-more : (a b c : List ℕ) → AreSound [] a → IsFrontOf (whole_lines a) b → IsFrontOf (whole_lines b) c → IsFrontOf (whole_lines a) c
+whole-more a b c sa f (rest, e) =
+    (whole_lines f.0 ++ rest, sym (append_assoc (whole_lines a) (whole_lines f.0) rest) ∙ ap (λ t. t ++ rest) (sym (whole-grow a b sa f)) ∙ e)
+
+-- the whole lines of a text begin it
+pub whole-front : (a : List ℕ) → IsFrontOf (whole_lines a) a
+whole-front a = (begun_after [] a, whole-rest [] a)
+
+pub front-more : (a b c : List ℕ) → IsFrontOf a b → IsFrontOf b c → IsFrontOf a c
+front-more a b c (x, e) (y, f) = (x ++ y, sym (append_assoc a x y) ∙ ap (λ t. t ++ y) e ∙ f)
+
+-- ---- records that a site refuses since it is full
 
 -- ---- a full site
 

@@ -3,15 +3,12 @@ use Rattle.std.specs.Prelude.{◌≡◌, ◌≤◌, ◌++◌, ◌⊎◌, [], ℕ
 use Rattle.rubis_schema.specs.declared.limits.TheConstants.{KEEP_MAX}
 use Rattle.rubis_model.specs.Site.{Place, opening_at}
 use Rattle.rubis_script.specs.SiteRuns.{answers_of}
-use Rattle.rubis_lives.specs.Histories.{RaisesKeep, ShortensKept}
-use Rattle.rubis_keep.specs.History.{Event, FileState, History, StaysSafe, now}
-use Rattle.rubis_keep.specs.Kept.{Ended, Lived}
+use Rattle.rubis_lives.specs.Histories.{RaisesKeep, ShortensKept, keeping, IsLife}
+use Rattle.rubis_keep.specs.History.{Event, FileState, History, StaysSafe, now, Ended, Lived}
 use Rattle.rubis_keep.specs.Lines.{AreSound}
 use Rattle.rubis_keep.specs.Lives.{IsOpened}
-use Rattle.rubis_lives.specs.Room.{keeping}
 use Rattle.rubis_keep.specs.Shortened.{Shortens}
 use Rattle.rubis_lives.specs.Shops.{text_of, words_of}
-use Rattle.rubis_lives.specs.SiteLives.{IsLife}
 
 -- a call of `keep_site`, as far as it came before its process was killed, is a life
 abbrev pub CallsAreLives : Type 0

@@ -3,8 +3,7 @@ use Rattle.std.specs.Prelude.{◌≡◌, ◌≢◌, ◌++◌, [], ◌∷◌, ℕ
 use Rattle.rubis_engine.specs.Accounts.{Account}
 use Rattle.rubis_engine.specs.Accounts.Ending.{AtEnd}
 use Rattle.rubis_engine.specs.Text.{input_records}
-use Rattle.rubis_keep.specs.Kept.{Ended, IsFrontOf, Lived}
-use Rattle.rubis_keep.specs.Left.{Files, IsLeft}
+use Rattle.rubis_keep.specs.History.{Ended, IsFrontOf, Lived, Files, IsLeft}
 use Rattle.rubis_keep.specs.Lines.{AreSound, kept_of, read_back, whole_lines, without_questions}
 
 -- what a run leaves that is never cut off, and began with no files: it is given lines that were kept, each one of records, and then an

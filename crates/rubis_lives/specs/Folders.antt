@@ -11,24 +11,17 @@ use Rattle.rubis_message.specs.Inputs.{input_of}
 use Rattle.rubis_message.specs.Message.{Message}
 use Rattle.rubis_message.specs.declared.tokens.Packet.TheVariants as packet
 use Rattle.rubis_message.specs.declared.tokens.Token.{Token}
-use Rattle.rubis_model.specs.Bids.{IsHighestBid}
-use Rattle.rubis_model.specs.Checks.{SameSet}
-use Rattle.rubis_model.specs.Invariants.{Unique}
-use Rattle.rubis_model.specs.Laws.{Sent, tables_at}
+use Rattle.rubis_model.specs.Meaning.{IsHighestBid, closes, item_at, nick_at, sold_of, supply, total, winner_of}
+use Rattle.rubis_model.specs.Checks.{SameSet, Unique}
+use Rattle.rubis_model.specs.Laws.{Sent, tables_at, AreFirstReds}
 use Rattle.rubis_model.specs.Log.{cores}
-use Rattle.rubis_model.specs.Meaning.{closes, item_at, nick_at, sold_of, supply, total, winner_of}
-use Rattle.rubis_model.specs.Nicknames.{AreFirstReds}
-use Rattle.rubis_model.specs.Processes.{AreProcesses, site_after}
+use Rattle.rubis_model.specs.Processes.{AreProcesses, site_after, CarriedWithRestarts, recorded}
 use Rattle.rubis_model.specs.Rebuild.{Concerns, InPlaceOf, inputs_to_rebuild, sent_by, sent_on_inputs}
-use Rattle.rubis_model.specs.Restarts.{CarriedWithRestarts, recorded}
-use Rattle.rubis_model.specs.Settle.{Has}
-use Rattle.rubis_model.specs.Site.{opening_at, rows_at}
+use Rattle.rubis_model.specs.Site.{Has, opening_at, rows_at}
 use Rattle.rubis_model.specs.System.{AreEvents, Event, World, run, site, start}
-use Rattle.rubis_lives.specs.Histories.{Step, answered_by, keeps, moments_in, most, site_keeping, stands, takes}
-use Rattle.rubis_keep.specs.History.{Event as FileEvent, FileState, records_in}
-use Rattle.rubis_keep.specs.Kept.{IsFrontOf}
+use Rattle.rubis_lives.specs.Histories.{Step, answered_by, keeps, moments_in, most, site_keeping, stands, takes, AreShopLives, SiteLife}
+use Rattle.rubis_keep.specs.History.{Event as FileEvent, FileState, records_in, IsFrontOf}
 use Rattle.rubis_lives.specs.Shops.{text_of}
-use Rattle.rubis_lives.specs.SiteLives.{AreShopLives, SiteLife}
 
 -- ---- what is promised
 

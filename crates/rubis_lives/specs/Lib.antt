@@ -1,9 +1,6 @@
 pub mod Crashes
 pub mod Shops
-pub mod Room
-pub mod Moments
 pub mod Histories
-pub mod SiteLives
 pub mod Rewriting
 pub mod Folders
 pub mod Calls

@@ -1,15 +1,11 @@
 -- What was kept is rewritten without what changed nothing: what a site answers afterwards, and what is left of its files at each moment.
 use Rattle.std.specs.Prelude.{◌≡◌, ◌≢◌, ◌+◌, ◌<◌, ◌++◌, ◌∷◌, ◌⊎◌, [], ℕ, Bool, List, MatchBool, cond, false, length, map, true}
 use Rattle.rubis_message.specs.Inputs.{input_of}
-use Rattle.rubis_model.specs.Processes.{site_after}
+use Rattle.rubis_model.specs.Processes.{site_after, IsShortened}
 use Rattle.rubis_model.specs.Rebuild.{sent_on_inputs}
-use Rattle.rubis_model.specs.Restarts.{IsShortened}
-use Rattle.rubis_model.specs.Runs.{answers, output_of}
-use Rattle.rubis_model.specs.Site.{Place, opening_at}
-use Rattle.rubis_keep.specs.Left.{Files}
-use Rattle.rubis_keep.specs.History.{FileState, IsSafe}
-use Rattle.rubis_keep.specs.Kept.{IsFrontOf}
-use Rattle.rubis_lives.specs.Moments.{SurvivesIn}
+use Rattle.rubis_model.specs.Site.{answers, output_of, Place, opening_at}
+use Rattle.rubis_keep.specs.History.{Files, FileState, IsSafe, IsFrontOf}
+use Rattle.rubis_lives.specs.Histories.{SurvivesIn}
 
 -- ---- what a site answers afterwards
 

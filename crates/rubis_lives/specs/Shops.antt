@@ -2,14 +2,10 @@
 use Rattle.std.specs.Prelude.{◌≡◌, ◌++◌, ℕ, List}
 use Rattle.rubis_schema.specs.declared.limits.TheConstants.{KEEP_MAX}
 use Rattle.rubis_message.specs.declared.answers.Verdict.TheVariants.{Agree}
-use Rattle.rubis_model.specs.Logs.{Log}
-use Rattle.rubis_model.specs.Processes.{AreProcesses}
-use Rattle.rubis_model.specs.Restarts.{Moment, WasLogSinceStart, recorded}
-use Rattle.rubis_model.specs.Runs.{output_of}
-use Rattle.rubis_model.specs.Settle.{Has}
-use Rattle.rubis_model.specs.Site.{Place, opening_at}
+use Rattle.rubis_model.specs.Verdict.{Log, verdict}
+use Rattle.rubis_model.specs.Processes.{AreProcesses, Moment, WasLogSinceStart, recorded}
+use Rattle.rubis_model.specs.Site.{output_of, Has, Place, opening_at}
 use Rattle.rubis_model.specs.System.{AreEvents, Event, run, start}
-use Rattle.rubis_model.specs.Verdict.{verdict}
 use Rattle.rubis_engine.specs.Text.{rows_text}
 use Rattle.rubis_keep.specs.History.{Says}
 use Rattle.rubis_keep.specs.Saying.{says_of}

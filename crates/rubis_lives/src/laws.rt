@@ -3,11 +3,10 @@
 ghost use Rattle.rubis_lives.specs.Crashes.{ComesBack, DifferencesAreFound, EditsAreFound, EndsLeft, LivesLeft, QuestionsLeaveNothing};
 ghost use Rattle.rubis_lives.specs.Calls.{CallsAreLives, RaisedCallsRaise, ShortenedMayReplace};
 ghost use Rattle.rubis_lives.specs.Folders.{FoldersAreARun};
-ghost use Rattle.rubis_lives.specs.Histories.{HistoriesAreRuns};
+ghost use Rattle.rubis_lives.specs.Histories.{HistoriesAreRuns, RaisedKeepsTakeTheSame, RefusedAsFullAreNoEvents, LivesAreHistories, ShopLivesAreRuns};
+ghost use Rattle.rubis_lives.specs.Histories.{AnsweredBeforeMore, BegunTooEarlyIsUnsafe, KeptTooEarlyIsUnsafe, KillsLeaveFiles, PowerFailuresLeaveFiles};
+ghost use Rattle.rubis_lives.specs.Histories.{RaisedKeepsTellTheSame, ShownTooEarlyIsUnsafe, SiteTextsExtend, ToldTooEarlyIsUnsafe};
 ghost use Rattle.rubis_lives.specs.Rewriting.{NamedBeforeEmptied, NamedBeforeFlushed, RewritingLeavesFiles, ShorteningKeepsThePromise};
-ghost use Rattle.rubis_lives.specs.Room.{RaisedKeepsTakeTheSame, RefusedAsFullAreNoEvents};
-ghost use Rattle.rubis_lives.specs.SiteLives.{LivesAreHistories, ShopLivesAreRuns};
-ghost use Rattle.rubis_lives.specs.Moments.{AnsweredBeforeMore, BegunTooEarlyIsUnsafe, KeptTooEarlyIsUnsafe, KillsLeaveFiles, PowerFailuresLeaveFiles, RaisedKeepsTellTheSame, ShownTooEarlyIsUnsafe, SiteTextsExtend, ToldTooEarlyIsUnsafe};
 
 /// A run that was cut off any number of times, and anywhere, comes to where one comes that was never cut off. However a run ends,
 /// it leaves what the next one can begin with. Questions leave nothing. Answers that aren't those to what was kept, and a line that no run kept, are found

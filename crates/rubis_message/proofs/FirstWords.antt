@@ -3,9 +3,8 @@ use Rattle.std.proofs.Common.{◌≡◌, ◌∙◌, ◌≤◌, true, false, cond
 use Rattle.std.specs.Prelude.{IfOk, Option, None, Some, Result, Ok, Err, bytes_eq, codes}
 use Rattle.std.specs.Cmp.Lexicographic.{bytes_decides}
 use Rattle.rubis_schema.specs.declared.limits.TheConstants.{COUNTED_MAX}
-use Rattle.rubis_message.specs.Forms.{mapped, no_more, none}
+use Rattle.rubis_message.specs.Readings.{mapped, no_more, none, kind_of, packet_of, request_of, take_kind, take_message, take_packet, take_request, take_token}
 use Rattle.rubis_message.specs.Inputs.{IsInput, input_by, input_of}
-use Rattle.rubis_message.specs.Readings.{kind_of, packet_of, request_of, take_kind, take_message, take_packet, take_request, take_token}
 use Rattle.rubis_message.specs.declared.faults.ReadFault.{ReadFault}
 use Rattle.rubis_message.specs.declared.faults.ReadFault.TheVariants.{BadRecord}
 use Rattle.rubis_message.specs.declared.inputs.Input.{Input}

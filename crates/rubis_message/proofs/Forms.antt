@@ -6,9 +6,8 @@ use Rattle.std.proofs.lemmas.Option.{same_Some, some_pair_parts}
 use Rattle.std.proofs.lemmas.Bool.Decides.{Decides-ltb}
 use Rattle.rubis_schema.specs.NumberForms.{IsField}
 use Rattle.rubis_schema.proofs.NumberForms.{number_is}
-use Rattle.rubis_message.specs.Forms.{Form, ◌>>=◌, ◌>>◌, followed_by, beside, check, give, kept, mapped, at_end, no_more, one, take_number, take_positive}
-use Rattle.rubis_message.specs.Forms.{take_site, whole}
-use Rattle.rubis_message.specs.Readings.{said}
+use Rattle.rubis_message.specs.Readings.{Form, ◌>>=◌, ◌>>◌, followed_by, beside, check, give, kept, mapped, at_end, no_more, one, take_number, take_positive}
+use Rattle.rubis_message.specs.Readings.{take_site, whole, said}
 
 -- what the form reads is within the limits and written so, and all that is written so is read
 pub record IsForm {A : Type 0} (Fits : A → Type 0) (write : A → List (List ℕ)) (form : Form A) : Type 0 where

@@ -1,9 +1,6 @@
-pub mod Cursor
-pub mod Counts
 pub mod Fields
 pub mod Forms
 pub mod Records
 pub mod FirstWords
-pub mod Packed
-pub mod Versions
 pub mod Widening
+pub mod Versions

@@ -5,7 +5,7 @@ use Rattle.std.specs.Cmp.Lexicographic.{bytes_decides}
 use mathlib.Core.Bool.{true≢false}
 use Rattle.std.proofs.lemmas.Bool.Decides.{Decides-eqb, nat_tests}
 use Rattle.rubis_schema.specs.Ids.{IsId, id_text}
-use Rattle.rubis_schema.specs.Texts.{IsName, IsNick, IsText}
+use Rattle.rubis_schema.specs.FieldForms.{IsName, IsNick, IsText}
 use Rattle.rubis_schema.specs.declared.limits.TheConstants.{AMOUNT_MAX, CATEGORIES, CAT_MAX, COUNTED_MAX, COUNT_MAX, PASS_MAX, QUANTITY_MAX, TURN_MAX}
 use Rattle.rubis_schema.specs.declared.listings.Listing.{Listing}
 use Rattle.rubis_schema.specs.declared.listings.Listing.TheVariants as listing
@@ -19,11 +19,10 @@ use Rattle.rubis_message.specs.Grammar.{token_version, HasShadowTexts, IsListing
 use Rattle.rubis_message.specs.Grammar.{asked_rename_fields, asked_restock_fields, bid_fields, close_fields, comment_fields, item_fields, listing_fields}
 use Rattle.rubis_message.specs.Grammar.{message_fields, message_record, packet_record, purchase_fields, request_record, rename_fields, restock_fields}
 use Rattle.rubis_message.specs.Grammar.{shadow_fields, stamp_fields, token_fields, token_record}
-use Rattle.rubis_message.specs.Forms.{followed_by, give, none, mapped, one, take_id, take_number, take_positive}
-use Rattle.rubis_message.specs.Readings.{agrees, listing_by, packet_of, request_by, request_of, shadow_by, take_asked_close, take_asked_rename}
-use Rattle.rubis_message.specs.Readings.{take_asked_restock, take_bid, take_close, take_comment, take_item, take_kind, take_listing, take_message, take_packet}
-use Rattle.rubis_message.specs.Readings.{take_purchase, take_rename, take_request, take_restock, take_shadow, take_shown, take_stamp, take_token, all_shown}
-use Rattle.rubis_message.specs.Readings.{kind_of, kind_text, kinds, shown_of, shown_text}
+use Rattle.rubis_message.specs.Readings.{followed_by, give, none, mapped, one, take_id, take_number, take_positive, agrees, listing_by, packet_of, request_by}
+use Rattle.rubis_message.specs.Readings.{request_of, shadow_by, take_asked_close, take_asked_rename, take_asked_restock, take_bid, take_close, take_comment}
+use Rattle.rubis_message.specs.Readings.{take_item, take_kind, take_listing, take_message, take_packet, take_purchase, take_rename, take_request, take_restock}
+use Rattle.rubis_message.specs.Readings.{take_shadow, take_shown, take_stamp, take_token, all_shown, kind_of, kind_text, kinds, shown_of, shown_text}
 use Rattle.rubis_message.specs.declared.faults.ReadFault.{ReadFault}
 use Rattle.rubis_message.specs.declared.faults.ReadFault.TheVariants.{BadRecord}
 use Rattle.rubis_message.specs.declared.kinds.RecordKind.{RecordKind}

@@ -1,6 +1,6 @@
--- A message that counts more sites meets the conditions of a message.
-use Rattle.std.proofs.Common.{ℕ, ◌≡◌, ◌+◌, ◌-◌, ◌≤◌, Option, Some, None, refl, sym, ap, ◌∙◌, subst, arith}
-use Rattle.std.proofs.Common.{Bool, true, false, cond, Result, Ok, Err}
+-- A message is what is kept of it, and one that counts more sites meets the conditions of a message.
+use Rattle.std.proofs.Common.{◌≡◌, sym, ap, subst, ℕ, ◌+◌, ◌-◌, ◌≤◌, Option, Some, None, refl, ◌∙◌, arith, Bool, true, false, cond, Result, Ok, Err}
+use Rattle.rubis_message.specs.Message.{Message, IsMessage, message_of, sites_of, widened}
 use Rattle.std.specs.Prelude.{IfSome, nat_le, replicate}
 use Rattle.std.proofs.lemmas.Bool.{and_parts, leb-true}
 use Rattle.std.proofs.lemmas.List.{get_or_append_left, length-append, length-replicate}
@@ -11,10 +11,17 @@ use Rattle.rubis_schema.specs.declared.limits.TheConstants.{COUNT_MAX, COUNTED_M
 use Rattle.rubis_shadow.specs.Shadows.{InLimits}
 use Rattle.rubis_shadow.specs.declared.shadows.Shadow.{Shadow}
 use Rattle.rubis_shadow.specs.declared.shadows.Shadow.TheVariants.{User, Item, Bid, Buy, Close, Comment}
-use Rattle.rubis_clock.specs.Widening as stamps
+use Rattle.rubis_clock.specs.Clocks as stamps
 use Rattle.rubis_clock.specs.declared.stamps.Stamp.{Stamp}
-use Rattle.rubis_message.specs.Message.{Message, IsMessage, sites_of}
-use Rattle.rubis_message.specs.Widening.{widened}
+
+pub message_is : (m : Message) → IsMessage m → message_of m.stamp.red m.stamp.deps m.stamp.id.site m.shadow ≡ m
+message_is m h = ap (λ n. record
+    { stamp = record { id = record { site = m.stamp.id.site; seq = n }; red = m.stamp.red; deps = m.stamp.deps }; shadow = m.shadow }) (sym h.own)
+
+pub parts_meet : (m : Message) → IsMessage m → IsMessage (message_of m.stamp.red m.stamp.deps m.stamp.id.site m.shadow)
+parts_meet m h = subst IsMessage (sym (message_is m h)) h
+
+-- ---- a message that counts more sites meets the conditions of a message
 
 pub sites_widened : (sites : ℕ) (m : Message) → sites_of m ≤ sites → sites_of (widened sites m) ≡ sites
 sites_widened sites m l =

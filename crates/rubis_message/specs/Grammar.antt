@@ -2,7 +2,7 @@
 use Rattle.std.specs.Prelude.{◌≡◌, ℕ, ◌+◌, ◌^◌, ◌<◌, ◌≤◌, ⊤, List, [], ◌∷◌, ◌++◌, All, length, map, slice_index, Option, Some, None, codes, decimal}
 use Rattle.std.specs.List.{join_with_byte}
 use Rattle.rubis_schema.specs.Ids.{IsId, id_text, int_text}
-use Rattle.rubis_schema.specs.Texts.{IsNick, IsName, IsText}
+use Rattle.rubis_schema.specs.FieldForms.{IsNick, IsName, IsText}
 use Rattle.rubis_schema.specs.declared.ids.Id.{Id}
 use Rattle.rubis_schema.specs.declared.limits.TheConstants.{CATEGORIES, COUNT_MAX, PASS_MAX, TURN_MAX}
 use Rattle.rubis_schema.specs.declared.listings.Listing.{Listing}

@@ -1,11 +1,7 @@
 pub mod Message
-pub mod Packed
 pub mod Equal
-pub mod Kinds
 pub mod Grammar
 pub mod Counts
-pub mod Forms
 pub mod Readings
 pub mod Inputs
 pub mod WorldReadings
-pub mod Widening

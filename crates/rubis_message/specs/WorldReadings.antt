@@ -2,9 +2,8 @@
 use Rattle.std.specs.Prelude.{◌≡◌, ℕ, bytes_eq, codes, List, [], ◌∷◌, Option, Some, None, Result, Ok, Err, option_and_then, unwrap_or, ⊤}
 use Rattle.std.specs.Option.{option_or}
 use Rattle.rubis_schema.specs.declared.limits.TheConstants.{RECORDS_MAX}
-use Rattle.rubis_message.specs.Forms.{Form, ◌>>=◌, ◌>>◌, check, give, one, take_number, take_site, whole}
+use Rattle.rubis_message.specs.Readings.{Form, ◌>>=◌, ◌>>◌, check, give, one, take_number, take_site, whole, request_of}
 use Rattle.rubis_message.specs.Grammar.{IsRequest}
-use Rattle.rubis_message.specs.Readings.{request_of}
 use Rattle.rubis_message.specs.declared.faults.ReadFault.{ReadFault}
 use Rattle.rubis_message.specs.declared.faults.ReadFault.TheVariants.{BadRecord, Memory}
 use Rattle.rubis_message.specs.declared.world_inputs.WorldInput.{WorldInput}

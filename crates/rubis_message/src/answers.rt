@@ -1,7 +1,7 @@
 //! What is answered to a packet, and what an auditor says of logs.
 
 ghost use Rattle.std.specs.Prelude.{◌≡◌};
-ghost use Rattle.rubis_message.specs.Kinds.{fault_kind_name};
+ghost use Rattle.rubis_message.specs.Message.{fault_kind_name};
 
 use rubis_schema::{Fields, Items};
 

@@ -1,10 +1,8 @@
 //! The kinds of records: the word for each, and what follows it, asked or sent.
 
 ghost use Rattle.std.specs.Prelude.{◌≡◌};
-ghost use Rattle.rubis_message.specs.Forms.{Takes};
-ghost use Rattle.rubis_message.specs.Readings.{kind_of, take_asked_close, take_asked_rename, take_asked_restock, take_bid, take_close};
-ghost use Rattle.rubis_message.specs.Readings.{take_comment, take_item, take_purchase, take_rename, take_request, take_restock};
-ghost use Rattle.rubis_message.specs.Readings.{take_shadow};
+ghost use Rattle.rubis_message.specs.Readings.{Takes, kind_of, take_asked_close, take_asked_rename, take_asked_restock, take_bid, take_close, take_comment};
+ghost use Rattle.rubis_message.specs.Readings.{take_item, take_purchase, take_rename, take_request, take_restock, take_shadow};
 
 use crate::faults::ReadFault;
 use crate::readers::Reader;

@@ -3,9 +3,7 @@
 ghost use Rattle.std.specs.Prelude.{◌≡◌, ◌↔◌, ◌<◌, IfOk, IsTrue, length};
 ghost use Rattle.rubis_clock.specs.Clocks.{IsReady, advanced};
 ghost use Rattle.rubis_message.specs.Message as model;
-ghost use Rattle.rubis_message.specs.Message.{IsMessage, sites_of};
-ghost use Rattle.rubis_message.specs.Packed.{message_of};
-ghost use Rattle.rubis_message.specs.Widening.{widening};
+ghost use Rattle.rubis_message.specs.Message.{IsMessage, sites_of, message_of, widening};
 
 use rubis_clock::{Clock, PackedDeps, Stamp};
 use rubis_schema::Id;
@@ -39,8 +37,7 @@ impl Drop for Message {
 
 impl Model for Message {
     ghost use Rattle.rubis_message.specs.Message as model;
-    ghost use Rattle.rubis_message.specs.Message.{IsMessage};
-    ghost use Rattle.rubis_message.specs.Packed.{message_of};
+    ghost use Rattle.rubis_message.specs.Message.{IsMessage, message_of};
 
     ghost Value = { model.Message };
 
@@ -52,7 +49,7 @@ impl Model for Message {
 impl Message {
     /// The shadow with that stamp.
     #[inline(always)]
-    #[tactic(auto, using(crate::proofs::Packed::message_is, crate::proofs::Packed::parts_meet))]
+    #[tactic(auto, using(crate::proofs::Widening::message_is, crate::proofs::Widening::parts_meet))]
     pub fn new(stamp: Stamp, shadow: Shadow) -> Message
         requires { IsMessage (record { stamp = stamp; shadow = shadow }) }
         ensures { result ≡ record { stamp = stamp; shadow = shadow } }

@@ -1,10 +1,9 @@
 //! What one site sends to others, read from its record.
 
 ghost use Rattle.std.specs.Prelude.{◌≡◌, ◌≢◌, ◌<◌, ◌≤◌, ◌∷◌, [], None, Some, IfOk, IsErrOf, codes};
-ghost use Rattle.rubis_message.specs.Forms.{Takes, take_site};
+ghost use Rattle.rubis_message.specs.Readings.{Takes, take_site, agrees, packet_of, take_message, take_stamp, take_token};
 ghost use Rattle.rubis_message.specs.Grammar.{IsPacket, packet_record};
-ghost use Rattle.rubis_message.specs.Packed.{stamp_of};
-ghost use Rattle.rubis_message.specs.Readings.{agrees, packet_of, take_message, take_stamp, take_token};
+ghost use Rattle.rubis_message.specs.Message.{stamp_of};
 
 use crate::faults::ReadFault;
 use crate::messages::Message;
@@ -29,7 +28,7 @@ fn agree(shadow: &Shadow, red: u32) -> bool
 
 impl<'a, F: Record> Reader<'a, F> {
     /// The number of a site, below `sites`.
-    #[tactic(auto, unfolding(crate::specs::Forms::take_site))]
+    #[tactic(auto, unfolding(crate::specs::Readings::take_site))]
     #[inline(always)]
     pub fn site(&mut self, sites: u8) -> Result<u8, ReadFault>
         ensures form { Takes (take_site sites) self.old self.new result }

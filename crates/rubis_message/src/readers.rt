@@ -1,7 +1,7 @@
 //! A record that is read field by field.
 
 ghost use Rattle.std.specs.Prelude.{◌≡◌, ◌≤◌, ◌==◌, ℕ, List, [], ◌∷◌, IfOk, MatchResult, length};
-ghost use Rattle.rubis_message.specs.Forms.{Takes, at_end, take_id, take_name, take_nick, take_number, take_positive, take_rating, take_text, take_winner};
+ghost use Rattle.rubis_message.specs.Readings.{Takes, at_end, take_id, take_name, take_nick, take_number, take_positive, take_rating, take_text, take_winner};
 ghost use Rattle.rubis_message.specs.Readings.{take_kind, take_shown};
 
 use crate::faults::ReadFault;
@@ -92,7 +92,7 @@ impl<'a, F: Record> Reader<'a, F> {
     }
 
     /// A number from 1 to `max`.
-    #[tactic(auto, unfolding(crate::specs::Forms::take_positive))]
+    #[tactic(auto, unfolding(crate::specs::Readings::take_positive))]
     #[inline(always)]
     pub fn positive(&mut self, max: u64) -> Result<u64, ReadFault>
         ensures form { Takes (take_positive max) self.old self.new result }
@@ -120,7 +120,7 @@ impl<'a, F: Record> Reader<'a, F> {
     }
 
     /// An id whose site is below `sites`, or `none`.
-    #[tactic(auto, unfolding(crate::specs::Forms::id_or_none))]
+    #[tactic(auto, unfolding(crate::specs::Readings::id_or_none))]
     pub fn winner(&mut self, sites: u8) -> Result<Option<Id>, ReadFault>
         ensures { Takes (take_winner sites) self.old self.new result }
     {

@@ -1,9 +1,8 @@
 //! What a record asks of a site.
 
 ghost use Rattle.std.specs.Prelude.{◌≡◌, ◌≢◌, None, Some, IfOk, IsErrOf};
-ghost use Rattle.rubis_message.specs.Forms.{Takes};
+ghost use Rattle.rubis_message.specs.Readings.{Takes, request_of, take_listing};
 ghost use Rattle.rubis_message.specs.Grammar.{IsRequest, request_record};
-ghost use Rattle.rubis_message.specs.Readings.{request_of, take_listing};
 
 use crate::faults::ReadFault;
 use crate::readers::Reader;

@@ -1,7 +1,7 @@
 //! What a record is to several sites in one run.
 
 ghost use Rattle.std.specs.Prelude.{◌≡◌, ℕ, IfOk};
-ghost use Rattle.rubis_message.specs.Forms.{Takes, whole};
+ghost use Rattle.rubis_message.specs.Readings.{Takes, whole};
 ghost use Rattle.rubis_message.specs.WorldReadings.{IsWorldInput, Reads, request_at, take_at, take_audit, take_delivery, take_word, world_input};
 
 use crate::faults::ReadFault;

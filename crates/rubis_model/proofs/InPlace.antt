@@ -16,10 +16,10 @@ use Rattle.rubis_shadow.specs.declared.numbered.Numbered.{Numbered}
 use Rattle.rubis_shadow.specs.declared.numbered.Misfit.{Misfit}
 use Rattle.rubis_shadow.specs.Changes.{after_part, misfit_of}
 use Rattle.rubis_model.specs.Log.{Core, noted, number_parts, numbered_from, parts_of, share}
-use Rattle.rubis_model.specs.Settle.{Has}
+use Rattle.rubis_model.specs.Site.{Has}
 use Rattle.rubis_model.specs.Shares.{part_of, batch_folded, share_folded, IsBefore, InPlace}
 use Rattle.rubis_model.proofs.Shares.{outcomes, all_noted, fold_on_is, share_outcomes}
-use Rattle.rubis_model.proofs.Lists.{has_left, has_right, has_append}
+use Rattle.rubis_model.proofs.Settling.{has_left, has_right, has_append}
 
 -- ---- lists in a strict order
 module _ {X : Type 0} (Before : X → X → Type 0) (apart : (x y : X) → Before x y → Before y x → ⊥) where

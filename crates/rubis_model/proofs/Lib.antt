@@ -1,8 +1,4 @@
-pub mod Lists
-pub mod CoreLists
-pub mod Commute
+pub mod Settling
 pub mod Shares
 pub mod InPlace
-pub mod Pasts
-pub mod Settling
 pub mod OneOutcome

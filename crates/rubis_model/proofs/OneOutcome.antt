@@ -5,8 +5,8 @@ use Rattle.std.specs.Prelude.{◌||◌, ◌==◌, nat_le}
 use Rattle.std.specs.List.{list_all, range_with_len}
 use Rattle.std.proofs.lemmas.Bool.{cases_eq, cases_lt, cond-true, cond-false, eq-eqb, le-leb, and_from, cond_both, false_from_ne_true}
 use Rattle.rubis_message.specs.Message.{Message, dep}
-use Rattle.rubis_model.specs.Settle.{counted, reds, Ready, Has, is_ready, first_ready, behind, settle, Settles}
-use Rattle.rubis_model.specs.Settle.Settles.{Rest, Release}
+use Rattle.rubis_model.specs.Site.{counted, reds, Ready, Has, is_ready, first_ready, behind, settle, Settles}
+use Rattle.rubis_model.specs.Site.Settles.{Rest, Release}
 use Rattle.rubis_model.proofs.Settling.{ready_is}
 
 -- ---- what is ready passes the test

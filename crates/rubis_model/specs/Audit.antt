@@ -4,13 +4,13 @@ use Rattle.rubis_schema.specs.Tables.{Tables}
 use Rattle.rubis_schema.specs.declared.listings.Listing.TheVariants as listing
 use Rattle.rubis_message.specs.Message.{Message, IsMessage, dep, sites_of}
 use Rattle.rubis_model.specs.Log.{cores}
-use Rattle.rubis_model.specs.Logs.{Log, shown_rows}
+use Rattle.rubis_model.specs.Verdict.{Log, shown_rows}
 use Rattle.rubis_model.specs.Listings.{table_rows}
 use Rattle.rubis_model.specs.Meaning.{IsMeaning}
 use Rattle.rubis_model.specs.Checks.{Fits}
 use Rattle.rubis_model.specs.Claims.{SerializeOneOrder, KeepInvariants}
-use Rattle.rubis_model.specs.Settle.{Has, Ready, counted}
-use Rattle.rubis_model.specs.Order.{Precedes}
+use Rattle.rubis_model.specs.Site.{Has, Ready, counted}
+use Rattle.rubis_model.specs.System.{Precedes}
 use Rattle.rubis_model.specs.References.{RefersToPast}
 
 -- one of the logs

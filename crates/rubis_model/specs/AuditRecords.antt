@@ -1,22 +1,20 @@
 -- The records that an auditor reads, and the one that it writes.
-use Rattle.std.specs.Prelude.{◌≡◌, ◌≢◌, ◌↔◌, ℕ, ◌+◌, ◌<◌, ◌≤◌, List, [], ◌∷◌, ◌++◌, map, reverse, bytes_eq, codes, decimal, Option, Some}
-use Rattle.std.specs.Prelude.{None, option_and_then, unwrap_or, Result, Ok, Err}
+use Rattle.std.specs.Prelude.{◌≡◌, ◌≢◌, ◌↔◌, ℕ, ◌+◌, ◌<◌, ◌≤◌, List, [], ◌∷◌, ◌++◌, map, reverse, bytes_eq, codes, decimal, Option, Some, None, option_and_then}
+use Rattle.std.specs.Prelude.{unwrap_or, Result, Ok, Err}
 use Rattle.std.specs.List.{flat_map}
 use Rattle.std.specs.Option.{option_or}
 use Rattle.rubis_schema.specs.NumberForms.{only_if}
 use Rattle.rubis_schema.specs.declared.limits.TheConstants.{COUNTED_MAX}
-use Rattle.rubis_message.specs.Forms.{Form, ◌>>=◌, ◌>>◌, check, mapped, one, take_site, whole}
+use Rattle.rubis_message.specs.Readings.{Form, ◌>>=◌, ◌>>◌, check, mapped, one, take_site, whole, packet_of}
 use Rattle.rubis_message.specs.Grammar.{IsMessageAmong, message_record}
-use Rattle.rubis_message.specs.Kinds.{fault_kind_name}
-use Rattle.rubis_message.specs.Message.{Message}
-use Rattle.rubis_message.specs.Readings.{packet_of}
+use Rattle.rubis_message.specs.Message.{fault_kind_name, Message}
 use Rattle.rubis_message.specs.declared.answers.Verdict.{Verdict}
 use Rattle.rubis_message.specs.declared.answers.Verdict.TheVariants.{Agree, Found}
 use Rattle.rubis_message.specs.declared.tokens.Packet.{Packet}
 use Rattle.rubis_message.specs.declared.tokens.Packet.TheVariants as packet
-use Rattle.rubis_model.specs.Logs.{Log}
-use Rattle.rubis_model.specs.Settle.{Has}
-use Rattle.rubis_model.specs.Verdict.{verdict}
+use Rattle.rubis_model.specs.Verdict.{Log, verdict}
+use Rattle.rubis_model.specs.Site.{Has}
+use Rattle.rubis_model.specs.Audit.{AreSound}
 
 -- what a record says: a log of that site begins; its next message; one of the rows that it claims
 pub data Line : Type 0 where
@@ -114,3 +112,10 @@ abbrev pub LogsAreReadAsWritten : Type 0
 LogsAreReadAsWritten =
     (sites : ℕ) → sites ≤ COUNTED_MAX → (records : List (List (List ℕ))) (logs : List Log)
     → (logs_after sites 1 [] records ≡ Ok (reverse logs)) ↔ (((log : Log) → Has log logs → IsLogAmong sites log) × (records ≡ flat_map log_records logs))
+
+-- ---- what the one record of an audit says of the logs that were read
+
+-- where the record is Agree, the records of the input are those of logs, and these are sound
+abbrev pub AgreedAuditsAreSound : Type 0
+AgreedAuditsAreSound = (sites : ℕ) (records : List (List (List ℕ))) → sites ≤ COUNTED_MAX → audit_of sites records ≡ verdict_record Agree
+    → (logs : List Log) × (logs_after sites 1 [] records ≡ Ok (reverse logs)) × AreSound logs

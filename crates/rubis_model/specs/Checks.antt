@@ -1,6 +1,6 @@
--- What each message of a log must meet, given those before it.
-use Rattle.std.specs.Prelude.{ℕ, ◌≡◌, ◌+◌, ◌==◌, List, [], ◌∷◌, ◌++◌, Bool, false, ◌||◌, not, cond, nat_lt, Option, Some, None, is_some}
-use Rattle.std.specs.Prelude.{option_map, IsSome, ⊤, Contains, ◌↔◌}
+-- What each message of a log must meet, given those before it, and what holds of every log.
+use Rattle.std.specs.Prelude.{ℕ, ◌≡◌, ◌+◌, ◌==◌, List, [], ◌∷◌, ◌++◌, Bool, false, ◌||◌, not, cond, nat_lt, Option, Some, None, is_some, option_map, IsSome, ⊤}
+use Rattle.std.specs.Prelude.{Contains, ◌↔◌, ◌≤◌, IfSome}
 use Rattle.std.specs.List.{All}
 use Rattle.std.specs.Option.{option_eq, option_map_or}
 use Rattle.rubis_schema.specs.Keys.{same_id}
@@ -13,6 +13,7 @@ use Rattle.rubis_shadow.specs.declared.shadows.Shadow.{Shadow}
 use Rattle.rubis_shadow.specs.declared.shadows.Shadow.TheVariants.{User, Bid, Buy, Close, Rename}
 use Rattle.rubis_model.specs.Log.{Core}
 use Rattle.rubis_model.specs.Meaning.{as_bid, user_at, item_at, nick_at, is_same_nick, named, close_of, best_bid, total, sold_of, supply, count, at_id}
+use Rattle.rubis_model.specs.Meaning.{winner_of}
 
 -- the message with that id
 abbrev pub has_id : Id → List Core → Option Core
@@ -80,3 +81,16 @@ Checked log = CheckedFrom [] log
 -- the two lists have the same members
 abbrev pub SameSet : {A : Type 0} → List A → List A → Type 0
 SameSet {A} a b = (m : A) → Contains a m ↔ Contains b m
+
+-- ---- the invariants of one log
+
+-- no nickname is that of two users
+abbrev pub Unique : (Id → Option (List ℕ)) → Type 0
+Unique nick = (n : List ℕ) (u v : Id) → nick u ≡ Some n → nick v ≡ Some n → u ≡ v
+
+-- no more of an item is sold than there was, each nickname has one user, and the winner of a closed item is its highest
+-- bid, `none` where it has no bid
+pub record Holds (a : List Core) : Type 0 where
+  pub stock : (i : Id) → IfSome (item_at i a) (λ n. total (sold_of i) a ≤ supply a i n)
+  pub nicks : Unique (λ u. nick_at u a)
+  pub winner : (i : Id) → IfSome (close_of i a) (λ m. winner_of m.shadow ≡ option_map (λ (b : Core). b.id) (best_bid i a))

@@ -7,13 +7,11 @@ use Rattle.rubis_schema.specs.declared.rows.Row.TheVariants as row
 use Rattle.rubis_schema.specs.declared.rows.Sale.TheVariants.{Ended}
 use Rattle.rubis_schema.specs.declared.offers.NewItem.{NewItem}
 use Rattle.rubis_message.specs.Message.{Message}
-use Rattle.rubis_model.specs.Bids.{IsHighestBid}
-use Rattle.rubis_model.specs.Checks.{Checked}
-use Rattle.rubis_model.specs.Invariants.{Holds}
+use Rattle.rubis_model.specs.Meaning.{IsHighestBid, IsMeaning, closes, item_at, supply, winner_of}
+use Rattle.rubis_model.specs.Checks.{Checked, Holds}
 use Rattle.rubis_model.specs.Log.{cores, fold_of}
-use Rattle.rubis_model.specs.Logs.{Log}
-use Rattle.rubis_model.specs.Meaning.{IsMeaning, closes, item_at, supply, winner_of}
-use Rattle.rubis_model.specs.Order.{IsRedBlueOrder, Serializes}
+use Rattle.rubis_model.specs.Verdict.{Log}
+use Rattle.rubis_model.specs.System.{IsRedBlueOrder, Serializes}
 use Rattle.rubis_model.specs.References.{RefersToPast}
 use Rattle.rubis_model.specs.Site.{rows_at}
 

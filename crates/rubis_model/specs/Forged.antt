@@ -1,6 +1,6 @@
 -- What holds of every log, be its messages forged or not.
-use Rattle.std.specs.Prelude.{◌≡◌, ◌+◌, ◌^◌, ◌<◌, ◌≤◌, ℕ, Bool, false, ◌&&◌, cond, bytes_eq, List, [], ◌∷◌, ◌++◌, length, fold, Option}
-use Rattle.std.specs.Prelude.{Some, None, option_map, IfSome}
+use Rattle.std.specs.Prelude.{◌≡◌, ◌+◌, ◌^◌, ◌<◌, ◌≤◌, ℕ, Bool, false, ◌&&◌, cond, bytes_eq, List, [], ◌∷◌, ◌++◌, length, fold, Option, Some, None, option_map}
+use Rattle.std.specs.Prelude.{IfSome}
 use Rattle.std.specs.Option.{option_or}
 use Rattle.std.specs.FinMap as map
 use Rattle.rubis_schema.specs.declared.limits.TheConstants.{KEEP_MAX}
@@ -16,7 +16,7 @@ use Rattle.rubis_shadow.specs.declared.shadows.Shadow.TheVariants.{User, Rename}
 use Rattle.rubis_message.specs.Message.{IsMessage, Message}
 use Rattle.rubis_model.specs.Log.{Core, cores, fold_of}
 use Rattle.rubis_model.specs.Meaning.{as_item, restocked_of, when}
-use Rattle.rubis_model.specs.Settle.{Has}
+use Rattle.rubis_model.specs.Site.{Has}
 
 -- a rename of that user from that nickname
 abbrev pub frees : List ℕ → Id → Shadow → Bool

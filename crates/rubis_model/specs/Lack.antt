@@ -1,26 +1,27 @@
--- What a log lacks of others, what becomes of a site to which that is sent, and what a message waits for.
-use Rattle.std.specs.Prelude.{◌≡◌, ◌≢◌, ◌↔◌, ◌⊎◌, ℕ, ◌+◌, ◌<◌, ◌≤◌, Bool, not, cond, nat_lt, Option, Some, None, Result, Ok, Err, List, []}
-use Rattle.std.specs.Prelude.{◌∷◌, ◌++◌, length, map, filter, ⊤}
-use Rattle.std.specs.List.{list_any, flat_map}
-use Rattle.rubis_schema.specs.declared.limits.TheConstants.{KEEP_MAX}
+-- What a log lacks of others, and what becomes of a site to which that is sent.
+use Rattle.std.specs.Prelude.{◌≡◌, ◌≢◌, ◌↔◌, ◌⊎◌, ℕ, ◌+◌, ◌<◌, ◌≤◌, Bool, not, cond, nat_lt, Option, Some, None, Result, Ok, Err, List, [], ◌∷◌, ◌++◌, length}
+use Rattle.std.specs.Prelude.{map, filter, ⊤, ◌==◌, reverse, codes, decimal}
+use Rattle.std.specs.List.{list_any, flat_map, filter_map, range_with_len}
+use Rattle.rubis_schema.specs.declared.limits.TheConstants.{KEEP_MAX, COUNTED_MAX}
 use Rattle.rubis_schema.specs.Keys.{same_id}
 use Rattle.rubis_schema.specs.declared.ids.Id.{Id}
 use Rattle.rubis_schema.specs.declared.refusals.Refusal.{Refusal}
-use Rattle.rubis_message.specs.Message.{Message, dep}
+use Rattle.rubis_message.specs.Message.{Message, dep, sites_of}
 use Rattle.rubis_message.specs.declared.answers.Arrival.{Arrival}
 use Rattle.rubis_message.specs.declared.answers.Arrival.TheVariants as arrival
 use Rattle.rubis_message.specs.declared.tokens.Packet.TheVariants as packet
-use Rattle.rubis_model.specs.Arrivals.{after_all, answers_to}
+use Rattle.rubis_model.specs.Site.{after_all, answers_to, Has, counted, reds, Place, Replica}
 use Rattle.rubis_model.specs.Audit.{AreAmong, AreFaultless, Logged}
-use Rattle.rubis_model.specs.Convergence.{AfterDeliveries, HasReleasedAll, message_count}
-use Rattle.rubis_model.specs.Laws.{EveryRun, Sent, WasLogOf, tables_at}
+use Rattle.rubis_model.specs.Laws.{AfterDeliveries, HasReleasedAll, message_count, EveryRun, Sent, WasLogOf, tables_at}
 use Rattle.rubis_model.specs.Log.{cores, fold_of}
-use Rattle.rubis_model.specs.Logs.{Log}
-use Rattle.rubis_model.specs.Order.{Precedes, StandsBefore}
-use Rattle.rubis_model.specs.Settle.{Has, counted, reds}
-use Rattle.rubis_model.specs.Site.{Place, Replica}
-use Rattle.rubis_model.specs.System.{World, Event, packet_at, place, site}
+use Rattle.rubis_model.specs.Verdict.{Log, verdict}
+use Rattle.rubis_model.specs.System.{Precedes, StandsBefore, World, Event, packet_at, place, site}
 use Rattle.rubis_model.specs.System.Event.{Deliver}
+use Rattle.rubis_schema.specs.Ids.{id_text}
+use Rattle.rubis_message.specs.Grammar.{message_record}
+use Rattle.rubis_message.specs.declared.answers.Verdict.{Verdict}
+use Rattle.rubis_message.specs.declared.answers.Verdict.TheVariants.{Agree, Found}
+use Rattle.rubis_model.specs.AuditRecords.{audit_of, audit_record, logs_after, verdict_record}
 
 -- ---- what a log lacks
 
@@ -132,3 +133,70 @@ pub record NamesWhatIsAwaited (w : World) (i : ℕ) (m : Message) : Type 0 where
 
 abbrev pub WaitingIsExplained : Type 0
 WaitingIsExplained = EveryRun (λ w. (i : ℕ) (m : Message) → Has m (site w i).waiting → NamesWhatIsAwaited w i m)
+
+-- ---- the records that `rubis lack` writes of logs, and of the messages that wait at a site
+
+-- those of these messages that the site made
+abbrev pub made_at : ℕ → List Message → List Message
+made_at site messages = filter (λ m. m.stamp.id.site == site) messages
+
+-- how many messages the log of that number lacks, or how many are lost
+abbrev pub count_row : List ℕ → ℕ → ℕ → List (List ℕ)
+count_row word number many = word ∷ decimal number ∷ decimal many ∷ []
+
+-- one of the messages that it lacks
+abbrev pub lack_row : ℕ → Message → List (List ℕ)
+lack_row number m = codes "lack" ∷ decimal number ∷ message_record m
+
+-- how many it lacks, and each of them. A site can't be given messages that it made itself: where it lacks some of these, only how
+-- many they are
+abbrev pub named_or_lost : ℕ → List Message → List Message → List (List (List ℕ))
+named_or_lost number messages [] = count_row (codes "lacks") number (length messages) ∷ map (lack_row number) messages
+named_or_lost number messages (m ∷ own) = count_row (codes "lost") number (length (m ∷ own)) ∷ []
+
+abbrev pub lack_rows : ℕ → ℕ → List Message → List (List (List ℕ))
+lack_rows number site messages = named_or_lost number messages (made_at site messages)
+
+-- of the logs from that number on, among all logs
+abbrev pub lack_rows_from : ℕ → List Log → List Log → List (List (List ℕ))
+lack_rows_from number all [] = []
+lack_rows_from number all (log ∷ logs) = lack_rows number log.site (lacked all log.messages) ++ lack_rows_from (number + 1) all logs
+
+-- of logs with that verdict: what each lacks, or else the record of the verdict
+abbrev pub lack_rows_of : List Log → Verdict → List (List (List ℕ))
+lack_rows_of logs Agree = lack_rows_from 1 logs logs
+lack_rows_of logs (Found kind log entry) = verdict_record (Found kind log entry) ∷ []
+
+-- of logs that were read, or of the number of the record that couldn't be
+abbrev pub lack_rows_read : Result (List Log) ℕ → List (List (List ℕ))
+lack_rows_read (Ok logs) = lack_rows_of (reverse logs) (verdict (reverse logs))
+lack_rows_read (Err n) = audit_record (Err n) ∷ []
+
+-- the records that tell what logs lack, in answer to the records of these logs
+abbrev pub lack_of : ℕ → List (List (List ℕ)) → List (List (List ℕ))
+lack_of sites records = lack_rows_read (logs_after sites 1 [] records)
+
+-- where the auditor's record is Agree, the records are those of logs that pass the checks, and what each lacks is answered; else
+-- the auditor's record is
+abbrev pub LackFollowsTheAudit : Type 0
+LackFollowsTheAudit = (sites : ℕ) (records : List (List (List ℕ))) → sites ≤ COUNTED_MAX
+    → (audit_of sites records ≡ verdict_record Agree
+    → (logs : List Log) × (logs_after sites 1 [] records ≡ Ok (reverse logs)) × (AreAmong sites logs) × (AreFaultless logs)
+    × (lack_of sites records ≡ lack_rows_from 1 logs logs))
+    × ((audit_of sites records ≡ verdict_record Agree → ⊥) → lack_of sites records ≡ audit_of sites records ∷ [])
+
+-- ---- what waits
+
+abbrev pub red_rows : Message → Option ℕ → List (List (List ℕ))
+red_rows m None = []
+red_rows m (Some r) = (codes "waits" ∷ id_text m.stamp.id ∷ codes "red" ∷ decimal r ∷ []) ∷ []
+
+-- of each site the first message that m waits for, and the red number
+abbrev pub waits_rows : List Message → Message → List (List (List ℕ))
+waits_rows log m =
+    map (λ id. codes "waits" ∷ id_text m.stamp.id ∷ codes "for" ∷ id_text id ∷ []) (filter_map (awaited log m) (range_with_len 0 (sites_of m)))
+    ++ red_rows m (awaited_red log m)
+
+-- the records that tell what each message that waits at a site waits for, in arrival order
+abbrev pub waiting_rows : Replica → List (List (List ℕ))
+waiting_rows s = flat_map (waits_rows s.log) s.waiting

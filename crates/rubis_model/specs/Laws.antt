@@ -1,5 +1,5 @@
 -- The laws of every run and of every log, as contracts name them.
-use Rattle.std.specs.Prelude.{◌≡◌, ◌≢◌, ℕ, ◌+◌, ◌^◌, ◌<◌, ◌≤◌, List, [], ◌++◌, length, IfSome, Ok, Err, ◌↔◌}
+use Rattle.std.specs.Prelude.{◌≡◌, ◌≢◌, ℕ, ◌+◌, ◌^◌, ◌<◌, ◌≤◌, List, [], ◌++◌, length, IfSome, Ok, Err, ◌↔◌, ◌∷◌, ⊤, Some, ◌⊎◌}
 use Rattle.std.specs.FinMap as map
 use Rattle.rubis_schema.specs.declared.limits.TheConstants.{COUNTED_MAX, KEEP_MAX}
 use Rattle.rubis_schema.specs.Keys.{home}
@@ -9,8 +9,7 @@ use Rattle.rubis_shadow.specs.Changes.{after_part, misfit_of}
 use Rattle.rubis_shadow.specs.declared.shadows.Ask.{Ask}
 use Rattle.rubis_shadow.specs.declared.keyed_change.Effect.{Effect}
 use Rattle.rubis_shadow.specs.declared.shadows.Shadow.{Shadow}
-use Rattle.rubis_generate.specs.Decision.{decision}
-use Rattle.rubis_generate.specs.Lookup.{row_by_key}
+use Rattle.rubis_generate.specs.Decision.{decision, row_by_key}
 use Rattle.rubis_generate.specs.declared.standing.Standing.{Standing}
 use Rattle.rubis_shadow.specs.declared.numbered.Misfit.{Misfit}
 use Rattle.rubis_message.specs.declared.answers.Arrival.TheVariants as arrival
@@ -20,21 +19,19 @@ use Rattle.rubis_message.specs.declared.answers.Verdict.TheVariants.{Agree}
 use Rattle.rubis_schema.specs.declared.refusals.Refusal.{Refusal}
 use Rattle.rubis_schema.specs.declared.refusals.Refusal.TheVariants.{NotOurs}
 use Rattle.rubis_message.specs.Message.{Message}
-use Rattle.rubis_model.specs.Settle.{Has, Settles, settle}
-use Rattle.rubis_model.specs.Site.{arrived}
+use Rattle.rubis_model.specs.Site.{Has, Settles, settle, arrived, Replica}
 use Rattle.rubis_model.specs.Log.{Core, cores, fold_of}
-use Rattle.rubis_model.specs.Meaning.{IsMeaning}
-use Rattle.rubis_model.specs.Checks.{Fits, Checked, SameSet}
-use Rattle.rubis_model.specs.Invariants.{Holds}
+use Rattle.rubis_model.specs.Meaning.{IsMeaning, nick_at}
+use Rattle.rubis_model.specs.Checks.{Fits, Checked, SameSet, Holds, Unique}
 use Rattle.rubis_model.specs.Shares.{part_of, batch_folded, share_folded, InPlace}
 use Rattle.rubis_model.specs.Audit.{AreAmong, AreFaultless, AreSound}
 use Rattle.rubis_model.specs.Claims.{SerializeOneOrder, KeepInvariants}
-use Rattle.rubis_model.specs.Logs.{Log, shown_rows}
-use Rattle.rubis_model.specs.Verdict.{verdict}
-use Rattle.rubis_model.specs.Order.{Precedes, Foundation}
-use Rattle.rubis_model.specs.System.{World, Event, AreEvents, site, place, happens, run, start}
+use Rattle.rubis_model.specs.Verdict.{Log, shown_rows, verdict}
+use Rattle.rubis_model.specs.System.{Precedes, Foundation, World, Event, AreEvents, site, place, happens, run, start, AllDeliverable, red_count, OneToken}
+use Rattle.rubis_model.specs.System.{packet_at}
 use Rattle.rubis_message.specs.declared.tokens.Packet.TheVariants as packet
-use Rattle.rubis_model.specs.Sound.{AllDeliverable, red_count, OneToken}
+use Rattle.rubis_message.specs.declared.tokens.Packet.{Packet}
+use Rattle.rubis_model.specs.System.Event.{At, Deliver}
 
 -- ---- parts and logs
 
@@ -202,3 +199,95 @@ AgreedLogsAreSound = (sites : ℕ) (logs : List Log) → AreAmong sites logs →
 -- of logs of a run, each as it was at any moment, with its tables then or without, the verdict is Agree
 abbrev pub RunsAgree : Type 0
 RunsAgree = EveryRun (λ w. (logs : List Log) → ((log : Log) → Has log logs → WasLogOf w log) → verdict logs ≡ Agree)
+
+-- ---- nicknames over all sites: along the one order of the red messages of a run
+
+-- their red numbers are n + 1, n + 2, and so on
+abbrev pub AreNumberedFrom : ℕ → List Message → Type 0
+AreNumberedFrom n [] = ⊤
+AreNumberedFrom n (m ∷ ms) = (m.stamp.red ≡ n + 1) × AreNumberedFrom (n + 1) ms
+
+-- the first red messages of all that were sent, in the order of their numbers
+pub record AreFirstReds (w : World) (ms : List Message) : Type 0 where
+  pub sent : (m : Message) → Has m ms → Sent w m
+  pub numbered : AreNumberedFrom 0 ms
+
+-- at each point of that order no nickname has two users
+abbrev pub NicknamesAreUnique : Type 0
+NicknamesAreUnique = EveryRun (λ w. (ms : List Message) → AreFirstReds w ms → Unique (λ u. nick_at u (cores ms)))
+
+-- and the order goes on to the last of them
+abbrev pub RedsAreInOneOrder : Type 0
+RedsAreInOneOrder = EveryRun (λ w. (n : ℕ) → n ≤ red_count w.sent → (ms : List Message) × AreFirstReds w ms × (length ms ≡ n))
+
+-- ---- sites that have had every message come to the same tables
+
+-- every message that was sent is in the site's log or waits there
+abbrev pub HasAll : World → ℕ → Type 0
+HasAll w i = (m : Message) → Sent w m → Has m (site w i).log ⊎ Has m (site w i).waiting
+
+-- nothing waits at a site in that state, and its log has exactly these messages
+pub record HasExactly (These : Message → Type 0) (s : Replica) : Type 0 where
+  pub none_waits : s.waiting ≡ []
+  pub released : (m : Message) → These m ↔ Has m s.log
+
+-- nothing waits there, and its log has exactly the messages that were sent
+abbrev pub HasReleasedAll : World → ℕ → Type 0
+HasReleasedAll w i = HasExactly (Sent w) (site w i)
+
+-- a site that has all messages has released them all
+abbrev pub AllHadAreReleased : Type 0
+AllHadAreReleased = EveryRun (λ w. (i : ℕ) → HasAll w i → HasReleasedAll w i)
+
+-- two sites that have all messages have the same tables
+abbrev pub HavingAllConverges : Type 0
+HavingAllConverges = EveryRun (λ w. (i j : ℕ) → HasAll w i → HasAll w j → tables_at w i ≡ tables_at w j)
+
+-- a site that has every message that was sent up to some moment has released all of these, whatever came since
+abbrev pub MomentsAreReleased : Type 0
+MomentsAreReleased = (n keep : ℕ) (events later : List Event) → 1 ≤ n → keep ≤ KEEP_MAX → AreEvents n events → AreEvents n later → (i : ℕ)
+    → ((m : Message) → Sent (run keep events (start n)) m
+    → Has m (site (run keep later (run keep events (start n))) i).log ⊎ Has m (site (run keep later (run keep events (start n))) i).waiting)
+    → (m : Message) → Sent (run keep events (start n)) m → Has m (site (run keep later (run keep events (start n))) i).log
+
+-- how many messages were sent
+abbrev pub message_count : List Packet → ℕ
+message_count [] = 0
+message_count (packet.Msg m ∷ ps) = message_count ps + 1
+message_count (packet.Token t ∷ ps) = message_count ps
+
+-- only deliveries: any packets, in any order, to any sites, and again
+abbrev pub AreDeliveries : List Event → Type 0
+AreDeliveries [] = ⊤
+AreDeliveries (At i r ∷ es) = ⊥
+AreDeliveries (Deliver i k ∷ es) = AreDeliveries es
+
+-- each packet that is a message is delivered to site i at least once
+abbrev pub DeliversAll : World → ℕ → List Event → Type 0
+DeliversAll w i es = (k : ℕ) (m : Message) → packet_at w.sent k ≡ Some (packet.Msg m) → Has (Deliver i k) es
+
+-- what is claimed of any run at n sites that sent no more messages than a site keeps, and any deliveries after it
+abbrev pub AfterDeliveries : (ℕ → World → List Event → World → Type 0) → Type 0
+AfterDeliveries claim = (n keep : ℕ) (events deliveries : List Event) → 1 ≤ n → keep ≤ KEEP_MAX → AreEvents n events → AreDeliveries deliveries
+    → message_count (run keep events (start n)).sent ≤ keep
+    → claim n (run keep events (start n)) deliveries (run keep deliveries (run keep events (start n)))
+
+-- a site to which every message is delivered has them all
+abbrev pub DeliveredAreHad : Type 0
+DeliveredAreHad = AfterDeliveries (λ n w es v. (i : ℕ) → i < n → DeliversAll w i es → HasAll v i)
+
+-- sites to which every message is delivered have released them all, and have the same tables
+abbrev pub DeliveringAllConverges : Type 0
+DeliveringAllConverges = AfterDeliveries (λ n w es v. (i j : ℕ) → i < n → j < n → DeliversAll w i es → DeliversAll w j es
+    → HasReleasedAll v i × HasReleasedAll v j × (tables_at v i ≡ tables_at v j))
+
+-- any deliveries after a run: no message that was sent is then refused by any site
+abbrev pub NoMessageIsRefused : Type 0
+NoMessageIsRefused = (n keep : ℕ) (events deliveries : List Event) → 1 ≤ n → keep ≤ KEEP_MAX → AreEvents n events → AreDeliveries deliveries
+    → message_count (run keep events (start n)).sent ≤ keep
+    → (i : ℕ) (m : Message) (r : Refusal) → Sent (run keep events (start n)) m
+    → (arrived (place keep (run keep deliveries (run keep events (start n))) i) (site (run keep deliveries (run keep events (start n))) i) m).1 ≢ Err r
+
+-- there are such deliveries, to all sites at once
+abbrev pub AllCanBeDelivered : Type 0
+AllCanBeDelivered = (w : World) → (es : List Event) × (AreDeliveries es) × ((i : ℕ) → i < length w.sites → DeliversAll w i es)

@@ -2,10 +2,9 @@
 use Rattle.std.specs.Prelude.{ℕ, ◌+◌, List, [], ◌∷◌, ◌++◌, Option, Some, None, Bool, true, false, cond, filter, codes, decimal, nat_eq}
 use Rattle.std.specs.List.{flat_map}
 use Rattle.std.specs.FinMap as map
-use Rattle.rubis_schema.specs.Categories.{shows_nothing}
+use Rattle.rubis_schema.specs.Tables.{shows_nothing, Tables}
 use Rattle.rubis_schema.specs.Ids.{id_text, int_text}
 use Rattle.rubis_schema.specs.Keys.{same_id}
-use Rattle.rubis_schema.specs.Tables.{Tables}
 use Rattle.rubis_schema.specs.declared.ids.Id.{Id}
 use Rattle.rubis_schema.specs.declared.listings.Listing.{Listing}
 use Rattle.rubis_schema.specs.declared.listings.Listing.TheVariants as listing

@@ -1,6 +1,6 @@
--- What a set of messages means, row by row. The set is given as a list of its members, whose order doesn't matter.
-use Rattle.std.specs.Prelude.{ℕ, ◌≡◌, ◌+◌, ◌-◌, ℤ, pos, ◌+ℤ◌, ◌-ℤ◌, List, [], ◌∷◌, Bool, false, cond, ◌&&◌, ◌||◌, nat_eq, nat_lt, bytes_eq}
-use Rattle.std.specs.Prelude.{fold, sum_by, count_by, Option, Some, None, option_map}
+-- What a set of messages means, row by row, and the accepted bids of an item.
+use Rattle.std.specs.Prelude.{ℕ, ◌≡◌, ◌+◌, ◌-◌, ℤ, pos, ◌+ℤ◌, ◌-ℤ◌, List, [], ◌∷◌, Bool, false, cond, ◌&&◌, ◌||◌, nat_eq, nat_lt, bytes_eq, fold, sum_by}
+use Rattle.std.specs.Prelude.{count_by, Option, Some, None, option_map, true}
 use Rattle.std.specs.Option.{option_or}
 use Rattle.std.specs.FinMap as map
 use Rattle.rubis_schema.specs.Keys.{same_id}
@@ -19,7 +19,8 @@ use Rattle.rubis_schema.specs.declared.rows.Best.{Best}
 use Rattle.rubis_schema.specs.declared.offers.NewItem.{NewItem}
 use Rattle.rubis_shadow.specs.declared.shadows.Shadow.{Shadow}
 use Rattle.rubis_shadow.specs.declared.shadows.Shadow.TheVariants.{User, Item, Bid, Buy, Close, Comment, Restock, Rename}
-use Rattle.rubis_model.specs.Log.{Core}
+use Rattle.rubis_model.specs.Log.{Core, core}
+use Rattle.rubis_message.specs.Message.{Message}
 
 -- ---- what one shadow says of a row
 
@@ -266,3 +267,15 @@ meaning_row a (key.Cat k) = when (nat_lt k 1000) (Some (category_row a k))
 -- the tables are the meaning of the set: they have exactly these rows
 pub record IsMeaning (a : List Core) (t : Tables) : Type 0 where
   pub rows : (q : RowKey) → map.get t q ≡ meaning_row a q
+
+-- ---- the accepted bids of an item, over all sites, and the highest of them
+
+-- an accepted bid on the item: one of all these messages
+abbrev pub IsAcceptedBid : (Message → Type 0) → Id → Message → Type 0
+IsAcceptedBid all item b = (all b) × (bids_on item b.shadow ≡ true)
+
+-- the id of an accepted bid such that no accepted bid is higher; `None` if and only if there is no accepted bid
+abbrev pub IsHighestBid : (Message → Type 0) → Id → Option Id → Type 0
+IsHighestBid all item None = (b : Message) → IsAcceptedBid all item b → ⊥
+IsHighestBid all item (Some id) =
+    (b : Message) × (IsAcceptedBid all item b) × (b.stamp.id ≡ id) × ((c : Message) → IsAcceptedBid all item c → higher (core c) (core b) ≡ false)

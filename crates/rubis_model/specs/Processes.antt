@@ -1,25 +1,88 @@
--- Sites as separate processes, with packets carried between them, and the run of the model that they are.
-use Rattle.std.specs.Prelude.{◌≡◌, ◌↔◌, ◌⊎◌, ℕ, ◌+◌, ◌<◌, ◌≤◌, ◌==◌, cond, List, [], ◌∷◌, ◌++◌, length, Some, IfSome, IsSome}
+-- Sites as separate processes, with packets carried between them, that stop at any moment and are restarted on their recordings.
+use Rattle.std.specs.Prelude.{◌≡◌, ℕ, ◌+◌, ◌≤◌, List, [], ◌∷◌, ◌++◌, length, take, Some, None, ◌↔◌, ◌⊎◌, ◌<◌, ◌==◌, cond, IfSome, IsSome, map}
+use Rattle.std.specs.List.{flat_map}
 use Rattle.rubis_schema.specs.declared.limits.TheConstants.{COUNTED_MAX, KEEP_MAX}
+use Rattle.rubis_message.specs.WorldReadings.{world_input}
+use Rattle.rubis_message.specs.declared.answers.Verdict.TheVariants.{Agree}
+use Rattle.rubis_message.specs.declared.world_inputs.WorldInput.{WorldInput}
+use Rattle.rubis_message.specs.declared.world_inputs.WorldInput.TheVariants.{Asked, Delivered, Audit, Neither}
+use Rattle.rubis_model.specs.AuditRecords.{verdict_record}
+use Rattle.rubis_model.specs.Checks.{SameSet}
+use Rattle.rubis_model.specs.Laws.{InRun, tables_at, HasExactly}
+use Rattle.rubis_model.specs.System.{AreEvents, Event, World, run, site, start}
+use Rattle.rubis_model.specs.System.Event.{At, Deliver}
+use Rattle.rubis_model.specs.WorldRecords.{world_output_of, world_step}
 use Rattle.rubis_schema.specs.declared.refusals.Refusal.TheVariants.{NotOurs}
 use Rattle.rubis_message.specs.Message.{Message}
 use Rattle.rubis_message.specs.Readings.{packet_of}
-use Rattle.rubis_message.specs.declared.answers.Verdict.TheVariants.{Agree}
 use Rattle.rubis_message.specs.declared.tokens.Packet.{Packet}
 use Rattle.rubis_message.specs.declared.tokens.Packet.TheVariants as packet
-use Rattle.rubis_model.specs.Answers.{refused_row, send_row}
-use Rattle.rubis_model.specs.Checks.{SameSet}
+use Rattle.rubis_model.specs.Site.{refused_row, send_row, input_step, output_of, Has, Place, Replica, opening_at, answers}
 use Rattle.rubis_model.specs.Claims.{KeepInvariants, SerializeOneOrder}
-use Rattle.rubis_model.specs.Convergence.{HasExactly}
-use Rattle.rubis_model.specs.Laws.{InRun}
 use Rattle.rubis_model.specs.Log.{cores, fold_of}
-use Rattle.rubis_model.specs.Logs.{Log, shown_rows}
+use Rattle.rubis_model.specs.Verdict.{Log, shown_rows, verdict}
 use Rattle.rubis_message.specs.Inputs.{input_of}
-use Rattle.rubis_model.specs.Runs.{input_step, output_of}
-use Rattle.rubis_model.specs.Settle.{Has}
-use Rattle.rubis_model.specs.Site.{Place, Replica, opening_at}
-use Rattle.rubis_model.specs.System.{AreEvents, Event, World, run, site, start}
-use Rattle.rubis_model.specs.Verdict.{verdict}
+
+-- the event that a record is, if it is one
+abbrev pub input_events : WorldInput → List Event
+input_events (Asked i (Some r)) = At i r ∷ []
+input_events (Asked i None) = []
+input_events (Delivered i k) = Deliver i k ∷ []
+input_events Audit = []
+input_events Neither = []
+
+-- the events that these records are, in order
+abbrev pub record_events : ℕ → List (List (List ℕ)) → List Event
+record_events sites records = flat_map (λ fields. input_events (world_input sites fields)) records
+
+-- the world after these records, the first of which has that number
+abbrev pub world_after : ℕ → World → ℕ → List (List (List ℕ)) → World
+world_after keep w n [] = w
+world_after keep w n (fields ∷ rest) = world_after keep (world_step keep w n (world_input (length w.sites) fields)).0 (n + 1) rest
+
+-- the events that records are, are within the limits, and the world after the records is their run
+abbrev pub RecordsAreARun : Type 0
+RecordsAreARun = (sites keep : ℕ) (records : List (List (List ℕ))) → sites ≤ COUNTED_MAX
+    → AreEvents sites (record_events sites records) × (world_after keep (start sites) 1 records ≡ run keep (record_events sites records) (start sites))
+
+-- so after any records the claims of every run hold
+abbrev pub RecordsKeepInvariants : Type 0
+RecordsKeepInvariants =
+    (sites keep : ℕ) (records : List (List (List ℕ))) → 1 ≤ sites → sites ≤ COUNTED_MAX → keep ≤ KEEP_MAX → InRun (world_after keep (start sites) 1 records)
+
+-- and an audit after any records is answered Agree
+abbrev pub AuditsAgree : Type 0
+AuditsAgree = (sites keep : ℕ) (records : List (List (List ℕ))) (fields : List (List ℕ)) → 1 ≤ sites → sites ≤ COUNTED_MAX → keep ≤ KEEP_MAX
+    → world_input sites fields ≡ Audit → world_output_of sites keep (records ++ fields ∷ []) ≡ world_output_of sites keep records ++ verdict_record Agree ∷ []
+
+-- the sites after the first k of these records
+abbrev pub world_at : ℕ → ℕ → List (List (List ℕ)) → ℕ → World
+world_at sites keep records k = world_after keep (start sites) 1 (take k records)
+
+-- these rows are the text of a run of the sites, and every claim of the headline holds of that run
+pub record IsTextOfARun (sites keep : ℕ) (records rows : List (List (List ℕ))) : Type 0 where
+  -- the rows are the answers to the records
+  pub text : rows ≡ world_output_of sites keep records
+  -- the first k records are events within the limits, and the sites are then where these events lead
+  pub events : (k : ℕ) → AreEvents sites (record_events sites (take k records))
+      × (world_at sites keep records k ≡ run keep (record_events sites (take k records)) (start sites))
+  -- the answers to one record more are those to the records before it, and then what it is answered by the sites as those
+  -- before it left them
+  pub told : (before later : List (List (List ℕ))) (fields : List (List ℕ)) → records ≡ before ++ fields ∷ later
+      → world_output_of sites keep (before ++ fields ∷ [])
+      ≡ world_output_of sites keep before ++ (world_step keep (world_after keep (start sites) 1 before) (length before + 1) (world_input sites fields)).1
+  -- after the first k records the logs are in one order, and the invariants hold
+  pub claims : (k : ℕ) → InRun (world_at sites keep records k)
+  -- two sites with the same messages, be it at two moments, have equal tables
+  pub agree : (j k a b : ℕ) → SameSet (site (world_at sites keep records j) a).log (site (world_at sites keep records k) b).log
+      → tables_at (world_at sites keep records j) a ≡ tables_at (world_at sites keep records k) b
+
+-- what is answered to any records is the text of a run
+abbrev pub AnswersAreARun : Type 0
+AnswersAreARun = (sites keep : ℕ) (records : List (List (List ℕ))) → 1 ≤ sites → sites ≤ COUNTED_MAX → keep ≤ KEEP_MAX
+    → IsTextOfARun sites keep records (world_output_of sites keep records)
+
+-- ---- sites as separate processes, with packets carried between them, and the run of the model that they are
 
 -- ---- what processes read, and what they come to
 
@@ -151,3 +214,148 @@ ProcessesConverge = OfProcesses (λ sites keep readings. (i j : ℕ) → i < sit
     → KeepsAll sites keep readings i → KeepsAll sites keep readings j
     → HasExactlySent sites keep readings (state_of sites keep readings i) × HasExactlySent sites keep readings (state_of sites keep readings j)
     × ((fold_of (cores (state_of sites keep readings i).log)).tables ≡ (fold_of (cores (state_of sites keep readings j).log)).tables))
+
+-- ---- processes that stop at any moment, and are restarted on their recordings: they are processes that never stopped
+
+-- what a process answered stays as it was when it reads more
+abbrev pub AnswersStay : Type 0
+AnswersStay = (p : Place) (records more : List (List (List ℕ)))
+    → output_of p (records ++ more) ≡ output_of p records ++ answers p (site_after p (opening_at p.site) 1 records) (1 + length records) more
+
+-- ---- processes that are restarted
+
+-- the process of that site reads and answers a record that it had not read, which is recorded; or it stops, and is restarted with
+-- nothing read; or it reads and answers a record of its recording again
+pub data Moment : Type 0 where
+  Reads : (site : ℕ) (fields : List (List ℕ)) → Moment
+  Restarts : (site : ℕ) → Moment
+  Replays : (site : ℕ) (fields : List (List ℕ)) → Moment
+
+-- what is recorded: the readings of processes that never stop
+abbrev pub recorded : List Moment → List Reading
+recorded [] = []
+recorded (Reads i fields ∷ rest) = record { site = i; fields = fields } ∷ recorded rest
+recorded (Restarts i ∷ rest) = recorded rest
+recorded (Replays i fields ∷ rest) = recorded rest
+
+-- what the process of site i has read since its last start, after these moments, if it had read `so_far` before them
+abbrev pub read_on : ℕ → List (List (List ℕ)) → List Moment → List (List (List ℕ))
+read_on i so_far [] = so_far
+read_on i so_far (Reads j fields ∷ rest) = read_on i (cond (j == i) (so_far ++ fields ∷ []) so_far) rest
+read_on i so_far (Restarts j ∷ rest) = read_on i (cond (j == i) [] so_far) rest
+read_on i so_far (Replays j fields ∷ rest) = read_on i (cond (j == i) (so_far ++ fields ∷ []) so_far) rest
+
+-- what process i has read since its last start
+abbrev pub has_read : ℕ → List Moment → List (List (List ℕ))
+has_read i moments = read_on i [] moments
+
+-- the state of the process, from what it has read since its last start
+abbrev pub state_since_start : ℕ → (ℕ → ℕ) → List Moment → ℕ → Replica
+state_since_start sites keep moments i = site_after (process sites keep i) (opening_at i) 1 (has_read i moments)
+
+-- `short` is `full` without some of the records that change nothing where they are read, from state s on
+abbrev pub IsShortened : Place → Replica → List (List (List ℕ)) → List (List (List ℕ)) → Type 0
+IsShortened p s short [] = short ≡ []
+IsShortened p s short (fields ∷ full) =
+    (((input_step p s 1 (input_of p.sites fields)).0 ≡ s) × IsShortened p s short full)
+    ⊎ ((rest : List (List (List ℕ))) × (short ≡ fields ∷ rest) × IsShortened p (input_step p s 1 (input_of p.sites fields)).0 rest full)
+
+-- a restarted process reads its recording again, from the first record on and in order, where records that change nothing may
+-- be left out; and it reads no new record before it has read the whole recording
+pub record Replayed (sites : ℕ) (keep : ℕ → ℕ) (i : ℕ) (before later : List Moment) : Type 0 where
+  pub first : List (List (List ℕ))
+  pub rest : List (List (List ℕ))
+  pub parts : read_by i (recorded before) ≡ first ++ rest
+  pub again : IsShortened (process sites keep i) (opening_at i) (has_read i before) first
+  pub whole : (fields : List (List ℕ)) (more : List Moment) → later ≡ Reads i fields ∷ more → rest ≡ []
+
+-- at every moment, each restarted process has read of its recording what `Replayed` says
+abbrev pub AreReplayed : ℕ → (ℕ → ℕ) → List Moment → Type 0
+AreReplayed sites keep moments = (i : ℕ) (before later : List Moment) → moments ≡ before ++ later → Replayed sites keep i before later
+
+-- one of the processes answered with these fields after `send`, since its last start or before
+abbrev pub WasEverSent : ℕ → (ℕ → ℕ) → List Moment → List (List ℕ) → Type 0
+WasEverSent sites keep moments fields =
+    (i : ℕ) × (i < sites) × (a b : List Moment) × (moments ≡ a ++ b) × Has (send_row fields) (output_of (process sites keep i) (has_read i a))
+
+-- packets are carried unchanged: each packet that a process reads and records was sent before by one of them
+abbrev pub CarriedWithRestarts : ℕ → (ℕ → ℕ) → List Moment → Type 0
+CarriedWithRestarts sites keep moments = (before later : List Moment) (i : ℕ) (fields : List (List ℕ)) (p : Packet)
+    → moments ≡ before ++ Reads i fields ∷ later → packet_of sites fields ≡ Some p → WasEverSent sites keep before fields
+
+-- what is recorded are readings of processes that never stop, whose packets are carried unchanged: at any moment each process
+-- has the state that it has there at some moment, and they have sent what they send there
+pub record NeverStopped (sites : ℕ) (keep : ℕ → ℕ) (moments : List Moment) : Type 0 where
+  pub carried : Carried sites keep (recorded moments)
+  pub states : (i : ℕ) (before later : List Moment) → moments ≡ before ++ later → (first rest : List Reading) × (recorded moments ≡ first ++ rest)
+      × (state_since_start sites keep before i ≡ state_of sites keep first i)
+  pub sent : (fields : List (List ℕ)) → WasEverSent sites keep moments fields ↔ WasSent sites keep (recorded moments) fields
+
+abbrev pub RestartsChangeNothing : Type 0
+RestartsChangeNothing =
+    (sites : ℕ) (keep : ℕ → ℕ) (moments : List Moment) → AreReplayed sites keep moments → CarriedWithRestarts sites keep moments
+    → NeverStopped sites keep moments
+
+-- it is the log of a process at some moment, from what it had read since its last start, with its tables as they were shown, or
+-- without
+pub record WasLogSinceStart (sites : ℕ) (keep : ℕ → ℕ) (moments : List Moment) (log : Log) : Type 0 where
+  pub before : List Moment
+  pub later : List Moment
+  pub parts : moments ≡ before ++ later
+  pub within : log.site < sites
+  pub messages : log.messages ≡ (state_since_start sites keep before log.site).log
+  pub rows : IfSome log.rows (λ rows. rows ≡ shown_rows log.messages)
+
+-- so the verdict on their logs, each as it was at any moment, before or after restarts, is Agree
+abbrev pub RestartedAgree : Type 0
+RestartedAgree =
+    (sites : ℕ) (keep : ℕ → ℕ) (moments : List Moment) → 1 ≤ sites → sites ≤ COUNTED_MAX → ((i : ℕ) → keep i ≤ KEEP_MAX) → AreReplayed sites keep moments
+    → CarriedWithRestarts sites keep moments → (logs : List Log) → ((log : Log) → Has log logs → WasLogSinceStart sites keep moments log) → verdict logs ≡ Agree
+
+-- the process has read its whole recording again, perhaps without records that changed nothing
+abbrev pub IsLevel : ℕ → (ℕ → ℕ) → List Moment → ℕ → Type 0
+IsLevel sites keep moments i = IsShortened (process sites keep i) (opening_at i) (has_read i moments) (read_by i (recorded moments))
+
+-- so processes that have read all messages have released all of them, and have equal tables, however often they were restarted
+abbrev pub RestartedConverge : Type 0
+RestartedConverge = (sites : ℕ) (keep : ℕ → ℕ) (moments : List Moment) → 1 ≤ sites → sites ≤ COUNTED_MAX → ((i : ℕ) → keep i ≤ KEEP_MAX)
+    → AreReplayed sites keep moments → CarriedWithRestarts sites keep moments → (i j : ℕ) → i < sites → j < sites
+    → IsLevel sites keep moments i → IsLevel sites keep moments j
+    → HasReadAll sites keep (recorded moments) i → HasReadAll sites keep (recorded moments) j
+    → KeepsAll sites keep (recorded moments) i → KeepsAll sites keep (recorded moments) j
+    → HasExactlySent sites keep (recorded moments) (state_since_start sites keep moments i)
+    × HasExactlySent sites keep (recorded moments) (state_since_start sites keep moments j)
+    × ((fold_of (cores (state_since_start sites keep moments i).log)).tables ≡ (fold_of (cores (state_since_start sites keep moments j).log)).tables)
+
+-- ---- when the conditions hold
+
+-- processes that never stop are a case of this
+abbrev pub without_restarts : List Reading → List Moment
+without_restarts readings = map (λ (r : Reading). Reads r.site r.fields) readings
+
+abbrev pub ReadingsAreMoments : Type 0
+ReadingsAreMoments = (sites : ℕ) (keep : ℕ → ℕ) (readings : List Reading) → Carried sites keep readings
+    → AreReplayed sites keep (without_restarts readings) × CarriedWithRestarts sites keep (without_restarts readings)
+
+-- after these moments process j stops, is restarted, and reads these records again
+abbrev pub restarted_on : ℕ → List (List (List ℕ)) → List Moment → List Moment
+restarted_on j records moments = moments ++ Restarts j ∷ map (Replays j) records
+
+-- so a process may be restarted at any moment on its recording, or on a shortened one
+abbrev pub RecordingsReplay : Type 0
+RecordingsReplay = (sites j : ℕ) (keep : ℕ → ℕ) (moments : List Moment) (records : List (List (List ℕ))) → AreReplayed sites keep moments
+    → CarriedWithRestarts sites keep moments
+    → IsShortened (process sites keep j) (opening_at j) records (read_by j (recorded moments))
+    → AreReplayed sites keep (restarted_on j records moments) × CarriedWithRestarts sites keep (restarted_on j records moments)
+
+-- the recording itself is a case of this
+abbrev pub NothingIsLeftOut : Type 0
+NothingIsLeftOut = (p : Place) (s : Replica) (records : List (List (List ℕ))) → IsShortened p s records records
+
+-- and a process that has read its whole recording again may read a new record, if that is a packet only one that was sent
+abbrev pub NewRecordsAreRead : Type 0
+NewRecordsAreRead = (sites j : ℕ) (keep : ℕ → ℕ) (moments : List Moment) (fields : List (List ℕ)) → AreReplayed sites keep moments
+    → CarriedWithRestarts sites keep moments
+    → IsLevel sites keep moments j → ((p : Packet) → packet_of sites fields ≡ Some p → WasEverSent sites keep moments fields)
+    → AreReplayed sites keep (moments ++ Reads j fields ∷ []) × CarriedWithRestarts sites keep (moments ++ Reads j fields ∷ [])
+    × IsLevel sites keep (moments ++ Reads j fields ∷ []) j

@@ -1,9 +1,9 @@
--- A site that lost its disk is made again from the messages and tokens that the sites sent.
-use Rattle.std.specs.Prelude.{◌≡◌, ◌↔◌, ℕ, ◌<◌, ◌≤◌, ◌==◌, Bool, ◌&&◌, not, nat_lt, nat_le, bytes_eq, codes, cond, drop, is_some, filter}
-use Rattle.std.specs.Prelude.{map, Option, Some, None, Result, List, [], ◌∷◌, ◌++◌, length, ◌⊎◌}
+-- A site that lost its disk is made again from the messages and tokens that the others have.
+use Rattle.std.specs.Prelude.{◌≡◌, ◌↔◌, ℕ, ◌<◌, ◌≤◌, ◌==◌, Bool, ◌&&◌, not, nat_lt, nat_le, bytes_eq, codes, cond, drop, is_some, filter, map, Option, Some}
+use Rattle.std.specs.Prelude.{None, Result, List, [], ◌∷◌, ◌++◌, length, ◌⊎◌, ⊤, false}
 use Rattle.std.specs.Option.{option_map_or}
 use Rattle.rubis_schema.specs.Ids.{id_text}
-use Rattle.rubis_schema.specs.declared.limits.TheConstants.{KEEP_MAX}
+use Rattle.rubis_schema.specs.declared.limits.TheConstants.{KEEP_MAX, COUNTED_MAX}
 use Rattle.rubis_schema.specs.declared.ids.Id.{Id}
 use Rattle.rubis_schema.specs.declared.refusals.Refusal.{Refusal}
 use Rattle.rubis_shadow.specs.Shadows.{is_red}
@@ -12,25 +12,23 @@ use Rattle.rubis_shadow.specs.declared.shadows.Ask.TheVariants as ask
 use Rattle.rubis_schema.specs.declared.offers.NewItem.{NewItem}
 use Rattle.rubis_shadow.specs.declared.shadows.Shadow.{Shadow}
 use Rattle.rubis_shadow.specs.declared.shadows.Shadow.TheVariants as shadow
-use Rattle.rubis_message.specs.Grammar.{ask_record, message_record}
+use Rattle.rubis_message.specs.Grammar.{ask_record, message_record, IsRequest, packet_record, request_record}
 use Rattle.rubis_message.specs.Message.{Message, dep}
 use Rattle.rubis_message.specs.declared.requests.Request.{Request}
 use Rattle.rubis_message.specs.declared.requests.Request.TheVariants as request
 use Rattle.rubis_message.specs.declared.tokens.Packet.{Packet}
 use Rattle.rubis_message.specs.declared.tokens.Packet.TheVariants as packet
 use Rattle.rubis_message.specs.declared.tokens.Token.{Token}
-use Rattle.rubis_model.specs.Arrivals.{after_all}
-use Rattle.rubis_model.specs.Laws.{Sent}
-use Rattle.rubis_model.specs.Log.{cores}
+use Rattle.rubis_model.specs.Site.{after_all, input_step, Has, counted, Place, Replica, opening_at, asked, took, passed, send_row, output_of}
+use Rattle.rubis_model.specs.Laws.{Sent, HasExactly, HasReleasedAll, message_count, tables_at}
+use Rattle.rubis_model.specs.Log.{cores, fold_of}
 use Rattle.rubis_model.specs.Meaning.{item_at}
-use Rattle.rubis_model.specs.Order.{Precedes}
+use Rattle.rubis_model.specs.System.{Precedes, World, Event, AreEvents, site, place, sending, happens, run, start}
 use Rattle.rubis_message.specs.declared.inputs.Input.{Input}
-use Rattle.rubis_model.specs.Runs.{input_step}
 use Rattle.rubis_message.specs.declared.inputs.Input.TheVariants.{Asked, Came, Neither}
-use Rattle.rubis_model.specs.Settle.{Has, counted}
-use Rattle.rubis_model.specs.Site.{Place, Replica, opening_at, asked, took, passed}
-use Rattle.rubis_model.specs.System.{World, Event, AreEvents, site, place, sending, happens, run, start}
 use Rattle.rubis_model.specs.System.Event.{At, Deliver}
+use Rattle.rubis_model.specs.Processes.{site_after}
+use Rattle.rubis_message.specs.Inputs.{input_of}
 
 -- ---- what a site sent
 
@@ -218,3 +216,85 @@ InputsRebuild = (p : Place) (sent : List Packet) (all : List Message) (tokens : 
     → (after_inputs p s (inputs_to_rebuild p tokens all s packets) ≡ (rebuilt p tokens all s packets).0)
     × (sent_on_inputs p s (inputs_to_rebuild p tokens all s packets) ≡ (rebuilt p tokens all s packets).1)
     × ((x : Packet) → Has (Came x) (inputs_to_rebuild p tokens all s packets) → Has x sent)
+
+-- ---- a new site that is given all messages of a run, one after the other or as many at a time as one likes
+
+-- these are all messages that were sent in these events at n sites, in any order and repeated at will; site i sent nothing, and
+-- keeps as many as were sent
+pub record AreAllFor (n keep i : ℕ) (events : List Event) (messages : List Message) : Type 0 where
+  pub within : i < n
+  pub sends_nothing : sent_by i keep events (start n) ≡ []
+  pub all : (m : Message) → Has m messages ↔ Sent (run keep events (start n)) m
+  pub room : message_count (run keep events (start n)).sent ≤ keep
+
+-- site i with nothing done, after these messages arrived
+abbrev pub given : ℕ → ℕ → ℕ → List Message → Replica
+given n keep i messages = after_all (record { site = i; sites = n; keep = keep }) (opening_at i) messages
+
+-- a new site that is given all messages has released exactly these, and nothing waits there
+abbrev pub GivenAreReleased : Type 0
+GivenAreReleased = (n keep i : ℕ) (events : List Event) (messages : List Message) → 1 ≤ n → keep ≤ KEEP_MAX → AreEvents n events
+    → AreAllFor n keep i events messages → HasExactly (Sent (run keep events (start n))) (given n keep i messages)
+
+-- so two of them have the same tables, and those of each site of the run that has released all messages
+abbrev pub GivenConverge : Type 0
+GivenConverge = (n keep i j : ℕ) (events : List Event) (messages others : List Message) → 1 ≤ n → keep ≤ KEEP_MAX → AreEvents n events
+    → AreAllFor n keep i events messages → AreAllFor n keep j events others
+    → (fold_of (cores (given n keep i messages).log)).tables ≡ (fold_of (cores (given n keep j others).log)).tables
+
+abbrev pub GivenHaveTheTablesOfTheRun : Type 0
+GivenHaveTheTablesOfTheRun = (n keep i j : ℕ) (events : List Event) (messages : List Message) → 1 ≤ n → keep ≤ KEEP_MAX → AreEvents n events
+    → AreAllFor n keep i events messages → HasReleasedAll (run keep events (start n)) j
+    → (fold_of (cores (given n keep i messages).log)).tables ≡ tables_at (run keep events (start n)) j
+
+-- ---- the records from which a lost site is made again, and what a fresh site makes of them
+
+-- ---- the records
+
+-- the record that says an input
+abbrev pub input_record : Input → List (List ℕ)
+input_record (Asked r) = request_record r
+input_record (Came x) = packet_record x
+input_record Neither = []
+
+-- what a fresh site is given for these packets of the lost one, in order
+abbrev pub records_to_rebuild : Place → List Token → List Message → List Packet → List (List (List ℕ))
+records_to_rebuild p tokens all packets = map input_record (inputs_to_rebuild p tokens all (opening_at p.site) packets)
+
+-- ---- a run whose requests were records
+
+-- the request that an event is is one that a record can say
+abbrev pub IsWritten : ℕ → Event → Type 0
+IsWritten sites (At i q) = IsRequest sites q
+IsWritten sites (Deliver i k) = ⊤
+
+abbrev pub AreWritten : ℕ → List Event → Type 0
+AreWritten sites [] = ⊤
+AreWritten sites (e ∷ es) = IsWritten sites e × AreWritten sites es
+
+-- ---- what a fresh site makes of the records
+
+-- the row is sent to the other sites
+abbrev pub is_send : List (List ℕ) → Bool
+is_send [] = false
+is_send (word ∷ fields) = bytes_eq word (codes "send")
+
+-- a fresh site that reads the records for these packets
+pub record RebuildsByRecords (p : Place) (tokens : List Token) (all : List Message) (packets : List Packet) : Type 0 where
+  -- reads each as the input that it is there for,
+  pub read : map (input_of p.sites) (records_to_rebuild p tokens all packets) ≡ inputs_to_rebuild p tokens all (opening_at p.site) packets
+  -- comes to be the rebuilt site,
+  pub state : site_after p (opening_at p.site) 1 (records_to_rebuild p tokens all packets) ≡ (rebuilt p tokens all (opening_at p.site) packets).0
+  -- and sends exactly the records of these packets, in order
+  pub sent : filter is_send (output_of p (records_to_rebuild p tokens all packets)) ≡ map (λ x. send_row (packet_record x)) packets
+
+-- whatever happened at n sites that were asked by records: each site is rebuilt by the records for what it sent, where the
+-- messages and tokens are as for `SitesAreRebuilt`
+abbrev pub RecordsRebuild : Type 0
+RecordsRebuild = (n keep i : ℕ) (events : List Event) (all : List Message) (tokens : List Token) → n ≤ COUNTED_MAX → keep ≤ KEEP_MAX → i < n
+    → AreWritten n events
+    → ((m : Message) → Has m all → Sent (run keep events (start n)) m)
+    → ((m : Message) → Sent (run keep events (start n)) m → Concerns i (run keep events (start n)) m → Has m all)
+    → ((t : Token) → Has t tokens → Has (packet.Token t) (run keep events (start n)).sent)
+    → ((t : Token) → Has (packet.Token t) (run keep events (start n)).sent → t.to ≡ i → Has t tokens)
+    → RebuildsByRecords (record { site = i; sites = n; keep = keep }) tokens all (sent_by i keep events (start n))

@@ -8,7 +8,7 @@ use Rattle.rubis_shadow.specs.declared.shadows.Shadow.{Shadow}
 use Rattle.rubis_shadow.specs.declared.shadows.Shadow.TheVariants.{Close}
 use Rattle.rubis_message.specs.Message.{Message}
 use Rattle.rubis_model.specs.Meaning.{as_user, as_item, as_bid, bids_on}
-use Rattle.rubis_model.specs.Order.{Precedes}
+use Rattle.rubis_model.specs.System.{Precedes}
 
 -- one of these messages is of this kind, and precedes v
 abbrev pub Preceded : (Message → Type 0) → Message → (Message → Type 0) → Type 0

@@ -5,7 +5,7 @@ use Rattle.rubis_schema.specs.Keys.{home}
 use Rattle.rubis_schema.specs.Tables.{Tables}
 use Rattle.rubis_shadow.specs.declared.numbered.Misfit.{Misfit}
 use Rattle.rubis_model.specs.Log.{Core, Folded, fold_on, numbered_from, share}
-use Rattle.rubis_model.specs.Settle.{Has}
+use Rattle.rubis_model.specs.Site.{Has}
 
 -- the rows whose key has its home at shard k
 abbrev pub part_of : ℕ → ℕ → Tables → Tables

@@ -1,6 +1,10 @@
--- The checks of an auditor, each as a test, and the first fault that they find.
-use Rattle.std.specs.Prelude.{ℕ, ◌+◌, ◌==◌, List, [], ◌∷◌, ◌++◌, length, reverse, find, Bool, false, ◌&&◌, ◌||◌, not, cond, nat_lt, nat_le}
-use Rattle.std.specs.Prelude.{bytes_eq, Option, Some, None, is_some, option_map}
+-- The logs that an auditor is given, its checks, each as a test, and the first fault that they find.
+use Rattle.std.specs.Prelude.{ℕ, List, Option, ◌+◌, ◌==◌, [], ◌∷◌, ◌++◌, length, reverse, find, Bool, false, ◌&&◌, ◌||◌, not, cond, nat_lt, nat_le, bytes_eq}
+use Rattle.std.specs.Prelude.{Some, None, is_some, option_map}
+use Rattle.rubis_schema.specs.declared.listings.Listing.TheVariants as listing
+use Rattle.rubis_message.specs.Message.{Message, dep, sites_of}
+use Rattle.rubis_model.specs.Listings.{table_rows}
+use Rattle.rubis_model.specs.Log.{cores, fold_of}
 use Rattle.std.specs.Cmp.Lexicographic.{pointwise}
 use Rattle.std.specs.List.{list_any, range_with_len}
 use Rattle.std.specs.Option.{option_map_or, option_or}
@@ -9,16 +13,25 @@ use Rattle.rubis_schema.specs.declared.row_keys.RowKey.{RowKey}
 use Rattle.rubis_schema.specs.declared.row_keys.RowKey.TheVariants as key
 use Rattle.rubis_shadow.specs.Shadows.{refers_of, is_red}
 use Rattle.rubis_message.specs.Equal.{same_message}
-use Rattle.rubis_message.specs.Message.{Message, dep, sites_of}
 use Rattle.rubis_message.specs.declared.answers.Kind.{Kind}
 use Rattle.rubis_message.specs.declared.answers.Kind.TheVariants as kind
 use Rattle.rubis_message.specs.declared.answers.Verdict.{Verdict}
 use Rattle.rubis_message.specs.declared.answers.Verdict.TheVariants.{Agree, Found}
 use Rattle.rubis_model.specs.Checks.{nick_taken, stock_short, wrong_category, wrong_winner}
-use Rattle.rubis_model.specs.Log.{cores}
-use Rattle.rubis_model.specs.Logs.{Log, shown_rows}
 use Rattle.rubis_model.specs.Meaning.{as_bid, as_item, as_user}
-use Rattle.rubis_model.specs.Settle.{counted, reds}
+use Rattle.rubis_model.specs.Site.{counted, reds}
+
+-- the log of a site: its messages in release order, and, optionally, the rows of its tables as it claims them
+pub record Log : Type 0 where
+  pub site : ℕ
+  pub messages : List Message
+  pub rows : Option (List (List (List ℕ)))
+
+-- the rows that `list,tables` shows of these messages
+abbrev pub shown_rows : List Message → List (List (List ℕ))
+shown_rows messages = table_rows listing.Tables (fold_of (cores messages)).tables
+
+-- ---- the checks of an auditor, each as a test, and the first fault that they find
 
 -- ---- the checks of an entry v. `others` has the messages of the earlier logs, `own` those of this log before v
 

@@ -12,12 +12,11 @@ use Rattle.rubis_message.specs.declared.tokens.Packet.{Packet}
 use Rattle.rubis_message.specs.declared.tokens.Packet.TheVariants as packet
 use Rattle.rubis_message.specs.declared.world_inputs.WorldInput.{WorldInput}
 use Rattle.rubis_message.specs.declared.world_inputs.WorldInput.TheVariants.{Asked, Delivered, Audit, Neither}
-use Rattle.rubis_model.specs.Answers.{arrived_rows, asked_rows, listed_rows, passed_rows, refused_row, took_rows}
+use Rattle.rubis_model.specs.Site.{arrived_rows, asked_rows, listed_rows, passed_rows, refused_row, took_rows}
 use Rattle.rubis_model.specs.AuditRecords.{verdict_record}
-use Rattle.rubis_model.specs.Logs.{Log, shown_rows}
+use Rattle.rubis_model.specs.Verdict.{Log, shown_rows, verdict}
 use Rattle.rubis_model.specs.System.{World, happens, packet_at, site, start}
 use Rattle.rubis_model.specs.System.Event.{At, Deliver}
-use Rattle.rubis_model.specs.Verdict.{verdict}
 
 -- ---- answers
 

@@ -1,14 +1,25 @@
--- Shards with a beginning of their shares folded on, in order of number.
-use Rattle.std.proofs.Common.{◌≡◌, ℕ, zero, suc, ◌+◌, ◌<◌, ◌≤◌, List, [], ◌∷◌, ◌++◌, length, take, drop, get_or, true, false}
-use Rattle.std.proofs.Common.{cond, refl, sym, ap, ◌∙◌, subst, arith}
-use Rattle.std.specs.Prelude.{Some, nat_eq, nat_lt, slice_get, map, flat_map}
-use Rattle.std.specs.Option.{option_map}
-use Rattle.std.specs.List.{All, Contains}
+-- Shards in order of number, with a beginning of their shares folded on.
+use Rattle.std.proofs.Common.{ℕ, suc, [], ◌∷◌, ◌≡◌, ◌+◌, ◌<◌, List, length, Bool, true, false, refl, sym, ap, ◌∙◌, subst, arith, get_or, set, ⊎_elim, zero, ◌-◌}
+use Rattle.std.proofs.Common.{◌≤◌, add-one, ◌≢◌, true≢false, ◌++◌, take, drop, cond}
+use Rattle.std.specs.Prelude.{Some, nat_eq, slice_get, sum_by, map, slice_index, All, nat_lt, flat_map, ⊤}
 use Rattle.std.proofs.lemmas.Bool.Decides.{Decides-eqb, nat_tests}
-use Rattle.std.proofs.lemmas.List.{length-map, drop_all, same_lists, take-append-drop}
+use Rattle.std.proofs.lemmas.Option.{slice_get-get_or, slice_get_read, slice_get_within, get_or_from_slice_get, slice_get-map}
+use Rattle.std.proofs.lemmas.List.{length-set, length-map, get_or-map, drop_all, same_lists, take-append-drop}
+use Rattle.std.proofs.lemmas.List.Sums.{sum_by-set, sum_by-cons}
+use Rattle.rubis_pieces.specs.declared.pieces.Done.{Done}
+use Rattle.rubis_shard.proofs.Picked.{below_or_last, written_here, written_elsewhere}
+use Rattle.rubis_pieces.specs.Batches.{AllUnseen, StandsBelow, IsSoundTo, IsSeenTo, numbers_of, IsGatherable, IsInOrder, IsFault, IsFolded, Belong, AreFolded}
+use Rattle.rubis_pieces.specs.Batches.{rest_of, AreLeft, IsBegun, AreUnfinished, HoldsBut, TakesBatch, TakesWholeBatch, left_of, AreShares}
+use Rattle.std.specs.List.{AllByRecursion, IsDistinct, Contains}
+use Rattle.std.specs.List.Sorted.{IsNonDecreasingBy, IsNonDecreasing, IsStrictlyIncreasing, IsPermutation}
+use Rattle.std.specs.Cmp.{nat_eq_equiv}
+use Rattle.std.proofs.lemmas.List.Sorted.{IsPermutation-map, All-permutation, IsPermutation-sym, Contains-permutation}
+use Rattle.std.proofs.lemmas.Map.Keys.{IsDistinct-IsPermutation, IsStrictlyIncreasing-from_distinct, apart_from_distinct}
+use Rattle.std.proofs.lemmas.Map.Views.{All-map-IsPermutation}
+use Rattle.rubis_pieces.specs.declared.gathers.FaultKind.{FaultKind}
+use Rattle.rubis_pieces.specs.declared.gathers.FaultKind.TheVariants.{Stranger, Twice, Missing}
+use Rattle.std.specs.Option.{option_map}
 use Rattle.std.proofs.lemmas.List.Elements.{All-cons}
-use Rattle.std.proofs.lemmas.List.Sorted.{IsPermutation-sym, Contains-permutation}
-use Rattle.std.proofs.lemmas.Option.{slice_get-get_or, slice_get-map, slice_get_within, get_or_from_slice_get}
 use Rattle.rubis_schema.specs.Keys.{home}
 use Rattle.rubis_shadow.specs.declared.numbered.Numbered.{Numbered}
 use Rattle.rubis_model.specs.Log.{Core, numbered_from, share}
@@ -18,15 +29,234 @@ use Rattle.rubis_shard.specs.declared.shares.Share.{Share}
 use Rattle.rubis_shard.proofs.Folds.{not_equal, with_append}
 use Rattle.rubis_shard.proofs.Logs.{shard_with_share}
 use Rattle.rubis_shard.proofs.Unions.{AreFrom, from_rest, from_first}
-use Rattle.rubis_pieces.specs.Batches.{IsFolded, Belong, AreFolded, rest_of, AreLeft, IsBegun, AreUnfinished}
-use Rattle.rubis_pieces.specs.Batches.{HoldsBut, TakesBatch, TakesWholeBatch}
-use Rattle.rubis_pieces.specs.Faults.{IsFault, numbers_of}
-use Rattle.rubis_pieces.specs.Gathered.{left_of, IsInOrder}
-use Rattle.rubis_pieces.specs.Shares.{AreShares}
-use Rattle.rubis_pieces.specs.declared.gathers.FaultKind.{FaultKind}
-use Rattle.rubis_pieces.specs.declared.gathers.FaultKind.TheVariants.{Stranger, Twice, Missing}
-use Rattle.rubis_pieces.specs.declared.pieces.Done.{Done}
 use Rattle.rubis_pieces.specs.declared.pieces.Left.{Left}
+
+abbrev pub trues : List Bool → ℕ
+trues seen = sum_by (λ b. cond b 1 0) seen
+
+pub number_at : (ds : List Done) (i : ℕ) (d : Done) → i < length ds → d ≡ get_or ds i d
+    → slice_get (numbers_of ds) i ≡ Some d.shard.number
+number_at ds i d l e =
+    slice_get-get_or (numbers_of ds) i d.shard.number (let w = length-map ds (λ (x : Done). x.shard.number) in
+    omega (arith, w, l))
+    ∙ ap Some (get_or-map (λ (x : Done). x.shard.number) ds i d d.shard.number l ∙ ap (λ (x : Done). x.shard.number) (sym e))
+
+pub sound_more : (shards i p : ℕ) (ns : List ℕ) → IsSoundTo shards i ns → slice_get ns i ≡ Some p → p < shards
+    → (StandsBelow i ns p → ⊥) → IsSoundTo shards (i + 1) ns
+sound_more shards i p ns h at l new = record {
+  below = λ j n lt e. ⊎_elim (λ b. h.below j n b e) (λ s. (let v : p ≡ n = (let w = sym at ∙ ap (slice_get ns) (sym s) ∙ e in
+      cc) in subst (λ z. z < shards) v l)) (below_or_last j i lt);
+  once = λ j n lt e b. ⊎_elim (λ z. h.once j n z e b)
+      (λ s. (let v : n ≡ p = (let w = sym at ∙ ap (slice_get ns) (sym s) ∙ e in cc) in
+      new (subst (λ z. StandsBelow z ns p) s (subst (λ z. StandsBelow j ns z) v b)))) (below_or_last j i lt);
+}
+
+pub seen_more : (i p : ℕ) (ns : List ℕ) (seen : List Bool) → IsSeenTo i ns seen → slice_get ns i ≡ Some p → p < length seen
+    → IsSeenTo (i + 1) ns (set seen p true)
+seen_more i p ns seen h at l = record {
+  yes = λ k e. yes_at k e (nat_eq k p) refl;
+  no = λ k e b. no_at k e b (nat_eq k p) refl;
+}
+  where
+    inside : (k : ℕ) (b : Bool) → slice_get (set seen p true) k ≡ Some b → k < length seen
+    inside k b e = let w = length-set seen p true in let v = slice_get_within (set seen p true) k b e in omega (arith, w, v)
+
+    other : (k : ℕ) → nat_eq k p ≡ false → k ≡ p → ⊥
+    other k q s = true≢false (sym ((Decides-eqb k p).1 s) ∙ q)
+
+    more : (k : ℕ) → StandsBelow i ns k → StandsBelow (i + 1) ns k
+    more k s = (s.0, (let z = s.1 in omega (arith, z)), s.2)
+
+    yes_at : (k : ℕ) → slice_get (set seen p true) k ≡ Some true → (b : Bool) → nat_eq k p ≡ b → StandsBelow (i + 1) ns k
+    yes_at k e true q = (i, omega arith, at ∙ ap Some (sym ((Decides-eqb k p).0 q)))
+    yes_at k e false q = more k (h.yes k (sym (written_elsewhere seen p k true (other k q) (inside k true e)) ∙ e))
+
+    no_at : (k : ℕ) → slice_get (set seen p true) k ≡ Some false → StandsBelow (i + 1) ns k → (b : Bool) → nat_eq k p ≡ b → ⊥
+    no_at k e s true q =
+        let w : Some true ≡ Some false = sym (written_here seen p true l)
+        ∙ ap (slice_get (set seen p true)) (sym ((Decides-eqb k p).0 q)) ∙ e in cc
+    no_at k e s false q =
+        ⊎_elim (λ b. h.no k (sym (written_elsewhere seen p k true (other k q) (inside k false e)) ∙ e) (s.0, b, s.2))
+        (λ z. other k q (let w = sym s.2 ∙ ap (slice_get ns) z ∙ at in let v : k ≡ p = cc in v)) (below_or_last s.0 i s.1)
+
+pub flag : (seen : List Bool) (k : ℕ) (b : Bool) → k < length seen → b ≡ get_or seen k b → slice_get seen k ≡ Some b
+flag seen k b l e = slice_get_read seen (length seen) k b refl l e
+
+pub seen_one_more : (m n : ℕ) (ns : List ℕ) (seen : List Bool) → IsSeenTo m ns seen → slice_get seen n ≡ Some true → ((k : ℕ)
+    → k < n → StandsBelow m ns k) → (k : ℕ) → k < n + 1 → StandsBelow m ns k
+seen_one_more m n ns seen h e all k l = ⊎_elim (λ b. all k b) (λ s. h.yes k (ap (slice_get seen) s ∙ e)) (below_or_last k n l)
+
+num_ap : {b c : Bool} → b ≡ c → ◌≡◌ {A = ℕ} (cond b 1 0) (cond c 1 0)
+num_ap e = λ i. cond (e i) 1 0
+
+pub none_true : (seen : List Bool) → AllUnseen seen → trues seen ≡ 0
+none_true [] h = refl
+none_true (b ∷ seen) h =
+    let t = sum_by-cons (λ (b : Bool). cond b 1 0) b seen in
+    let rest = none_true seen (λ k c e. h (suc k) c e) in
+    let z : ◌≡◌ {A = ℕ} (cond b 1 0) 0 = num_ap (h 0 b refl) in
+    omega (arith, t, rest, z)
+
+pub all_true : (seen : List Bool) → ((k : ℕ) → k < length seen → slice_get seen k ≡ Some true) → trues seen ≡ length seen
+all_true [] h = refl
+all_true (b ∷ seen) h =
+    let t = sum_by-cons (λ (b : Bool). cond b 1 0) b seen in
+    let rest = all_true seen (λ k l. h (suc k) (omega (arith, l))) in
+    let is : b ≡ true = (let w = h 0 (omega arith) in cc) in
+    let z : ◌≡◌ {A = ℕ} (cond b 1 0) 1 = num_ap is in
+    omega (arith, t, rest, z)
+
+pub one_true_more : (seen : List Bool) (p : ℕ) → p < length seen → slice_get seen p ≡ Some false
+    → trues (set seen p true) ≡ trues seen + 1
+one_true_more seen p l e =
+    let t = sum_by-set (λ (b : Bool). cond b 1 0) seen p true false l in
+    let is : get_or seen p false ≡ false = get_or_from_slice_get seen p false false e in
+    let z : ◌≡◌ {A = ℕ} (cond (get_or seen p false) 1 0) 0 = num_ap is in
+    omega (arith, t, z)
+
+pub one_flag_more : (seen : List Bool) (n : ℕ) → slice_get seen n ≡ Some true → ((k : ℕ) → k < n
+    → slice_get seen k ≡ Some true) → (k : ℕ) → k < n + 1 → slice_get seen k ≡ Some true
+one_flag_more seen n e all k l = ⊎_elim (λ b. all k b) (λ s. ap (slice_get seen) s ∙ e) (below_or_last k n l)
+
+-- ---- a list of shards, each number once, sorted by number: each stands at its number
+
+non_decreasing : {X : Type 0} (f : X → ℕ) (xs : List X) → IsNonDecreasingBy f xs → IsNonDecreasing (map f xs)
+non_decreasing f [] h i j e le lt = absurd (omega arith)
+non_decreasing f (x ∷ xs) h i j e le lt =
+    let inside : j < length (x ∷ xs) = subst (λ n. j < n) (length-map (x ∷ xs) f) lt in
+    let before : i < length (x ∷ xs) = omega arith in
+    let a : get_or (map f (x ∷ xs)) i e ≡ f (get_or (x ∷ xs) i x) = get_or-map f (x ∷ xs) i x e before in
+    let b : get_or (map f (x ∷ xs)) j e ≡ f (get_or (x ∷ xs) j x) = get_or-map f (x ∷ xs) j x e inside in
+    let o : f (get_or (x ∷ xs) i x) ≤ f (get_or (x ∷ xs) j x) = h i j x le inside in
+    omega arith
+
+climb : (xs : List ℕ) → IsStrictlyIncreasing xs → (k : ℕ) → k < length xs → k ≤ slice_index xs k
+climb xs h zero l = omega arith
+climb xs h (suc k) l =
+    let a : k ≤ slice_index xs k = climb xs h k (omega arith) in
+    let b : slice_index xs k < slice_index xs (k + 1) = h k (omega arith) in
+    let c : slice_index xs k < slice_index xs (suc k) = rw add-one at b in
+    omega arith
+
+room : (xs : List ℕ) → IsStrictlyIncreasing xs → All (λ x. x < length xs) xs → (m k : ℕ) → k + m < length xs
+    → slice_index xs k + m < length xs
+room xs h below zero k l = let a : slice_index xs k < length xs = below k 0 (omega arith) in omega arith
+room xs h below (suc m) k l =
+    let a : slice_index xs (k + 1) + m < length xs = room xs h below m (k + 1) (omega arith) in
+    let b : slice_index xs k < slice_index xs (k + 1) = h k (omega arith) in
+    omega arith
+
+pub at_its_number : (xs : List ℕ) → IsStrictlyIncreasing xs → All (λ x. x < length xs) xs → (k : ℕ) → k < length xs
+    → slice_index xs k ≡ k
+at_its_number xs h below k l =
+    let a = climb xs h k l in
+    let b : slice_index xs k + (length xs - 1 - k) < length xs = room xs h below (length xs - 1 - k) k (omega arith) in
+    omega arith
+
+pub placed : {X : Type 0} (f : X → ℕ) (xs ys : List X) → IsDistinct nat_eq (map f xs) → All (λ n. n < length xs) (map f xs)
+    → IsPermutation xs ys → length ys ≡ length xs → IsNonDecreasingBy f ys
+    → (k : ℕ) → k < length ys → slice_index (map f ys) k ≡ k
+placed f xs ys distinct below p same sorted k l =
+    let d : IsDistinct nat_eq (map f ys) = IsDistinct-IsPermutation nat_eq nat_eq_equiv.symm (map f xs) (map f ys)
+    (IsPermutation-map f xs ys p) distinct in
+    let u = IsStrictlyIncreasing-from_distinct (map f ys) (non_decreasing f ys sorted) d in
+    let n : length xs ≡ length (map f ys) = sym same ∙ sym (length-map ys f) in
+    let b : All (λ x. x < length (map f ys)) (map f ys) = subst (λ m. All (λ x. x < m) (map f ys)) n (All-map-IsPermutation f
+    (λ x. x < length xs) xs ys p below) in
+    at_its_number (map f ys) u b k (subst (λ m. k < m) (sym (length-map ys f)) l)
+
+apart : (x : ℕ) (xs : List ℕ) → ((j n : ℕ) → slice_get xs j ≡ Some n → x ≡ n → ⊥) → AllByRecursion (λ y. nat_eq x y ≡ false) xs
+apart x [] h = tt
+apart x (y ∷ xs) h = (differ (nat_eq x y) refl, apart x xs (λ j n g e. h (suc j) n g e))
+  where
+    differ : (b : Bool) → nat_eq x y ≡ b → nat_eq x y ≡ false
+    differ true e = absurd (h 0 y refl ((Decides-eqb x y).0 e))
+    differ false e = e
+
+pub distinct_from : (ns : List ℕ) → ((j n : ℕ) → slice_get ns j ≡ Some n → StandsBelow j ns n → ⊥) → IsDistinct nat_eq ns
+unfolding IsDistinct
+distinct_from [] h = tt
+distinct_from (x ∷ xs) h = (
+  apart x xs (λ j n g e. h (suc j) n g (0, omega arith, ap Some e)),
+  distinct_from xs (λ j n g b. h (suc j) n g (suc b.0, (let l = b.1 in omega (arith, l)), b.2)),
+)
+
+pub in_order : (shards : ℕ) (list ds : List Done) → IsGatherable shards (numbers_of list) → IsPermutation list ds
+    → length ds ≡ length list
+    → IsNonDecreasingBy (λ (d : Done). d.shard.number) ds → IsInOrder shards list ds
+in_order shards list ds g p same sorted = record {
+  moved = p;
+  many = omega (arith, same, m, long);
+  placed = λ k l.
+      let within : k < length ds = omega (arith, l, same, m, long) in
+      let counted = length-map ds (λ (d : Done). d.shard.number) in
+      slice_get-get_or (numbers_of ds) k 0 (omega (arith, within, counted))
+      ∙ ap Some (placed (λ (d : Done). d.shard.number) list ds distinct below p same sorted k within);
+}
+  where
+    ns : List ℕ
+    ns = numbers_of list
+
+    long : length ns ≡ length list
+    long = length-map list (λ (d : Done). d.shard.number)
+
+    m : length ns ≡ shards
+    m = g.many
+
+    below : All (λ n. n < length list) ns
+    below k e l =
+        let at : slice_get ns k ≡ Some (get_or ns k e) = slice_get-get_or ns k e l in
+        let b = g.sound.below k (get_or ns k e) l at in
+        omega (arith, b, m, long)
+
+    distinct : IsDistinct nat_eq ns
+    distinct = distinct_from ns (λ j n e b. g.sound.once j n (slice_get_within ns j n e) e b)
+
+-- ---- the numbers from 0 on, in any order, have no fault
+
+module _ (shards : ℕ) (ms ns : List ℕ) (many : length ms ≡ shards) (each : (k : ℕ) → k < shards → slice_get ms k ≡ Some k)
+    (moved : IsPermutation ms ns) where
+  at : (k n : ℕ) → slice_get ms k ≡ Some n → n ≡ k
+  at k n is =
+      let inside : k < length ms = slice_get_within ms k n is in
+      let there = each k (omega arith) in
+      let same : Some n ≡ Some k = sym is ∙ there in
+      cc
+
+  no_stranger : All (λ n. n < shards) ns
+  no_stranger =
+      All-permutation (λ n. n < shards) ms ns moved
+      (λ k d less. subst (λ n. n < shards) (sym (get_or_from_slice_get ms k k d (each k (omega arith)))) (omega arith))
+
+  none_twice : IsDistinct nat_eq ns
+  none_twice =
+      IsDistinct-IsPermutation nat_eq nat_eq_equiv.symm ms ns moved
+      (distinct_from ms (λ j n is (i, less, there). let a = at j n is in let b = at i n there in omega arith))
+
+  not_twice : (p i j : ℕ) → j < i → slice_get ns i ≡ Some p → slice_get ns j ≡ Some p → ⊥
+  not_twice p i j less is there =
+      let differ : nat_eq (get_or ns j p) (get_or ns i p) ≡ false =
+      apart_from_distinct nat_eq ns j i p none_twice less (slice_get_within ns i p is) in
+      let same : nat_eq (get_or ns j p) (get_or ns i p) ≡ true =
+      (Decides-eqb _ _).1 (get_or_from_slice_get ns j p p there ∙ sym (get_or_from_slice_get ns i p p is)) in
+      true≢false (sym same ∙ differ)
+
+  none_missing : (p : ℕ) → p < shards → (StandsBelow (length ns) ns p → ⊥) → ⊥
+  none_missing p less absent =
+      let differ : All (λ n. n ≢ p) ms =
+      All-permutation (λ n. n ≢ p) ns ms (IsPermutation-sym ms ns moved)
+      (λ k d inside e. absent (k, inside, slice_get-get_or ns k d inside ∙ ap (λ n. Some n) e)) in
+      differ p p (omega arith) (get_or_from_slice_get ms p p p (each p less))
+
+  pub no_fault_if_moved : (kind : FaultKind) → IsFault shards ns kind → ⊥
+  no_fault_if_moved (Stranger p) (i, sound, is, past) =
+      let inside : i < length ns = slice_get_within ns i p is in
+      let below : p < shards = subst (λ n. n < shards) (get_or_from_slice_get ns i p p is) (no_stranger i p inside) in
+      omega arith
+  no_fault_if_moved (Twice p) (i, sound, is, (j, less, there)) = not_twice p i j less is there
+  no_fault_if_moved (Missing p) (sound, less, absent, first) = none_missing p less absent
+
+-- ---- shards with a beginning of their shares folded on, in order of number
 
 -- ---- each share is its shard's
 all_at_home : (shards k : ℕ) (ns : List Numbered) → All (λ n. home shards n.effect.key ≡ k) (parts_at shards k ns)
@@ -322,3 +552,25 @@ pub takes_whole : (first : ℕ) (batch : List Core) (old new : List ShardState) 
     → IsBegun first batch old new left → TakesWholeBatch first batch old new left
 takes_whole first batch old new left b none shards log next holds = holds_all shards (log ++ batch) left new none (takes_batch
     first batch old new left b shards log next holds)
+
+-- ---- what is left of shares that aren't folded whole
+
+-- as unfinished shares are, but that some may be whole
+abbrev pub AreRests : ℕ → ℕ → List Left → Type 0
+AreRests n shards [] = ⊤
+AreRests n shards (l ∷ ls) =
+    (n ≤ l.share.number) × (l.share.number < shards)
+    × All (λ (p : Numbered). home shards p.effect.key ≡ l.share.number) l.share.effects × (l.done ≤ length l.share.effects)
+    × AreRests (l.share.number + 1) shards ls
+
+pub are_rests : (n shards : ℕ) (ls : List Left) → AreUnfinished n shards ls → AreRests n shards ls
+are_rests n shards [] h = tt
+are_rests n shards (l ∷ ls) h = (h.0, h.1, h.2, (let w = h.3 in omega (arith, w)), are_rests (l.share.number + 1) shards ls h.4)
+
+-- there is nothing left of a shard before them
+pub rest_past : (n shards k : ℕ) (ls : List Left) → AreRests n shards ls → k < n → rest_of ls k ≡ []
+rest_past n shards k [] h l = refl
+rest_past n shards k (x ∷ ls) h l =
+    ap (λ b. cond b (drop x.done x.share.effects) (rest_of ls k)) (not_equal x.share.number k (λ q. let a = h.0 in
+    omega (arith, q, a, l)))
+    ∙ rest_past (x.share.number + 1) shards k ls h.4 (let a = h.0 in omega (arith, a, l))

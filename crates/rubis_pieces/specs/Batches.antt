@@ -1,18 +1,112 @@
--- A batch folded on the shards of a set, as far as memory went, and what is left of it.
-use Rattle.std.specs.Prelude.{◌≡◌, ℕ, ◌+◌, ◌-◌, ◌<◌, ◌≤◌, List, [], ◌∷◌, ◌++◌, ⊤, Some, nat_eq, cond, slice_get, map, flat_map}
-use Rattle.std.specs.Prelude.{length, take, drop, sum_by}
+-- A batch folded on the shards of a set, as far as memory went: the shards gathered by number, and what is left of it.
+use Rattle.std.specs.Prelude.{◌≡◌, ℕ, ◌<◌, ◌≤◌, List, Bool, false, true, Some, slice_get, map, length, [], ◌∷◌, flat_map, cond, nat_lt, ◌+◌, drop, take, ◌-◌}
+use Rattle.std.specs.Prelude.{◌++◌, ⊤, nat_eq, sum_by}
+use Rattle.rubis_pieces.specs.declared.pieces.Done.{Done}
+use Rattle.rubis_pieces.specs.declared.gathers.FaultKind.{FaultKind}
+use Rattle.rubis_pieces.specs.declared.gathers.FaultKind.TheVariants.{Stranger, Twice, Missing}
+use Rattle.rubis_shard.specs.States.{ShardState, with_parts}
+use Rattle.rubis_pieces.specs.declared.pieces.Left.{Left}
+use Rattle.std.specs.List.Sorted.{IsPermutation}
+use Rattle.rubis_pieces.specs.declared.gathers.CountedShards.{CountedShards}
+use Rattle.rubis_pieces.specs.declared.gathers.Gathered.{Gathered}
+use Rattle.std.specs.Global.{Vec}
+use Rattle.rubis_shadow.specs.declared.numbered.Numbered.{Numbered}
+use Rattle.rubis_model.specs.Log.{Core, numbered_from, parts_of, share}
+use Rattle.rubis_shard.specs.Holdings.{parts_at, shard_of_log, HoldsLog}
+use Rattle.rubis_shard.specs.declared.shares.Share.{Share}
 use Rattle.std.specs.List.{All}
 use Rattle.rubis_schema.specs.Keys.{home}
-use Rattle.rubis_shadow.specs.declared.numbered.Numbered.{Numbered}
-use Rattle.rubis_model.specs.Log.{Core, parts_of, share}
-use Rattle.rubis_shard.specs.States.{ShardState, with_parts}
-use Rattle.rubis_shard.specs.Holdings.{shard_of_log, HoldsLog}
-use Rattle.rubis_shard.specs.declared.shares.Share.{Share}
 use Rattle.rubis_pieces.specs.Pieces.{IsShareOf}
-use Rattle.rubis_pieces.specs.Gathered.{left_of}
-use Rattle.rubis_pieces.specs.declared.gathers.Gathered.{Gathered}
-use Rattle.rubis_pieces.specs.declared.pieces.Done.{Done}
-use Rattle.rubis_pieces.specs.declared.pieces.Left.{Left}
+use Rattle.rubis_pieces.specs.declared.pieces.Piece.{Piece}
+
+abbrev pub numbers_of : List Done → List ℕ
+numbers_of ds = map (λ (d : Done). d.shard.number) ds
+
+abbrev pub AllUnseen : List Bool → Type 0
+AllUnseen seen = (k : ℕ) (b : Bool) → slice_get seen k ≡ Some b → b ≡ false
+
+-- some place below i has the number
+abbrev pub StandsBelow : ℕ → List ℕ → ℕ → Type 0
+StandsBelow i ns n = (j : ℕ) × (j < i) × (slice_get ns j ≡ Some n)
+
+-- the numbers at the places below i are below the count of shards, and none stands twice
+pub record IsSoundTo (shards i : ℕ) (ns : List ℕ) : Type 0 where
+  pub below : (j n : ℕ) → j < i → slice_get ns j ≡ Some n → n < shards
+  pub once : (j n : ℕ) → j < i → slice_get ns j ≡ Some n → StandsBelow j ns n → ⊥
+
+-- each number once
+pub record IsGatherable (shards : ℕ) (ns : List ℕ) : Type 0 where
+  pub sound : IsSoundTo shards (length ns) ns
+  pub all : (k : ℕ) → k < shards → StandsBelow (length ns) ns k
+  pub many : length ns ≡ shards
+
+-- what a walk through the list finds first: a number that is none of the set, or a duplicate; after it the smallest absent number
+abbrev pub IsFault : ℕ → List ℕ → FaultKind → Type 0
+IsFault shards ns (Stranger p) = (i : ℕ) × IsSoundTo shards i ns × (slice_get ns i ≡ Some p) × (shards ≤ p)
+IsFault shards ns (Twice p) = (i : ℕ) × IsSoundTo shards i ns × (slice_get ns i ≡ Some p) × StandsBelow i ns p
+IsFault shards ns (Missing p) = IsSoundTo shards (length ns) ns × (p < shards) × (StandsBelow (length ns) ns p → ⊥)
+    × ((k : ℕ) → k < p → StandsBelow (length ns) ns k)
+
+-- the flags say which numbers stand below i
+pub record IsSeenTo (i : ℕ) (ns : List ℕ) (seen : List Bool) : Type 0 where
+  pub yes : (k : ℕ) → slice_get seen k ≡ Some true → StandsBelow i ns k
+  pub no : (k : ℕ) → slice_get seen k ≡ Some false → StandsBelow i ns k → ⊥
+
+-- ---- room for gathering
+
+-- a flag for each shard, none of which is set, and room for as many shards and shares
+pub record HasRoomForEach (seen : List Bool) (shards : List ShardState) (shard_room : ℕ) (left : List Left) (left_room : ℕ) : Type 0
+  where
+    pub unseen : AllUnseen seen
+    pub no_shards : shards ≡ []
+    pub no_left : left ≡ []
+    pub for_shards : length seen ≤ shard_room
+    pub for_left : length seen ≤ left_room
+
+-- ---- shards by number, and what is left of their shares
+
+-- the share, where it isn't folded whole
+abbrev pub left_of : Done → List Left
+left_of d = cond (nat_lt d.done (length d.share.effects)) (record { share = d.share; done = d.done } ∷ []) []
+
+-- the same list in order of number, each number once
+pub record IsInOrder (shards : ℕ) (list ds : List Done) : Type 0 where
+  pub moved : IsPermutation list ds
+  pub many : length ds ≡ shards
+  pub placed : (k : ℕ) → k < shards → slice_get (numbers_of ds) k ≡ Some k
+
+-- the shards of the list in order of number, and those of their shares that aren't folded whole
+abbrev pub IsGathered : ℕ → List Done → Gathered → Type 0
+IsGathered shards list g =
+    (ds : List Done) × IsInOrder shards list ds × (g.shards ≡ map (λ (d : Done). d.shard) ds) × (g.left ≡ flat_map left_of ds)
+
+-- the shards of the list in order of number, with how much is done of each
+abbrev pub IsCounted : ℕ → List Done → CountedShards → Type 0
+IsCounted shards list c =
+    (ds : List Done) × IsInOrder shards list ds × (c.shards ≡ map (λ (d : Done). d.shard) ds) × (c.dones ≡ map (λ (d : Done). d.done) ds)
+
+-- ---- the shares of a batch
+
+-- each part in the share of its home, in their order
+pub record AreDealt (shards : ℕ) (ns : List Numbered) (shares : List Share) : Type 0 where
+  pub many : length shares ≡ shards
+  pub each : (k : ℕ) → k < shards → slice_get shares k ≡ Some (record { number = k; effects = parts_at shards k ns })
+
+-- the shares of a batch whose first message is that entry of the log, in order of number
+abbrev pub AreShares : ℕ → ℕ → List Core → List Share → Type 0
+AreShares shards first batch shares = AreDealt shards (numbered_from first batch) shares
+
+-- a part of a batch is of 1,024 messages, or of those that are left
+abbrev pub part_of : {X : Type 0} → ℕ → List X → List X
+part_of from batch = take 1024 (drop from batch)
+
+-- the shares of each part of a batch, in order
+abbrev pub AreOfParts : ℕ → ℕ → List Core → List (Vec Share) → Type 0
+AreOfParts shards first batch [] = batch ≡ []
+AreOfParts shards first batch (part ∷ parts) =
+    AreShares shards first (take 1024 batch) part.items × AreOfParts shards (first + length (take 1024 batch)) (drop 1024 batch) parts
+
+-- ---- a batch folded on the shards of a set, as far as memory went, and what is left of it
 
 -- a beginning of the share is folded on the shard, as long as it says
 pub record IsFolded (s : ShardState) (h : Share) (d : Done) : Type 0 where
@@ -91,3 +185,19 @@ parts_left ls = sum_by (λ (l : Left). length l.share.effects - l.done) ls
 pub record LeavesNoMore (batch : List Core) (old new : List ShardState) (left : List Left) : Type 0 where
   pub few : parts_left left ≤ length (flat_map parts_of batch)
   pub none : parts_left left ≡ length (flat_map parts_of batch) → new ≡ old
+
+-- ---- pieces, and what work makes of one
+
+-- the share is the shard's own: it has its number, and each part's key has its home there
+abbrev pub IsPiece : Piece → Type 0
+IsPiece p = IsShareOf p.shard p.share
+
+-- a beginning of the piece's share is folded on its shard, as long as it says
+abbrev pub IsWorked : Piece → Done → Type 0
+IsWorked p d = IsFolded p.shard p.share d
+
+-- each shard with the share in its place
+abbrev pub pieces_of : List ShardState → List Share → List Piece
+pieces_of [] shares = []
+pieces_of (s ∷ ts) [] = []
+pieces_of (s ∷ ts) (share ∷ shares) = record { shard = s; share = share } ∷ pieces_of ts shares

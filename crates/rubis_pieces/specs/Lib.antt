@@ -1,10 +1,4 @@
 pub mod Pieces
-pub mod Posted
-pub mod Shares
-pub mod Faults
-pub mod Gathered
-pub mod Places
-pub mod Misfits
 pub mod Batches
-pub mod Work
+pub mod Misfits
 pub mod Following

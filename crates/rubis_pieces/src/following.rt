@@ -4,7 +4,7 @@ ghost use Rattle.std.specs.Prelude.{◌≡◌, ℕ, ◌+◌, ◌<◌, ◌≤◌,
 ghost use Rattle.rubis_schema.specs.declared.limits.TheConstants.{KEEP_MAX};
 ghost use Rattle.rubis_message.specs.Message.{IsMessage};
 ghost use Rattle.rubis_model.specs.Log.{cores};
-ghost use Rattle.rubis_shard.specs.PartHomes.{AreHomes};
+ghost use Rattle.rubis_shard.specs.Holdings.{AreHomes};
 ghost use Rattle.rubis_pieces.specs.Following.{AreFurther, GoesTo, HoldsTo, IsFollowed, StopWithin};
 
 use rubis_message::Message;

@@ -2,8 +2,7 @@
 
 ghost use Rattle.std.specs.Prelude.{◌≡◌, ◌≤◌, [], length, IfSome, IfNone, IfOk, IfErr};
 ghost use Rattle.std.specs.Vec.{vec_capacity};
-ghost use Rattle.rubis_pieces.specs.Faults.{AllUnseen, IsFault, IsGatherable, numbers_of};
-ghost use Rattle.rubis_pieces.specs.Gathered.{IsCounted, IsGathered, IsInOrder};
+ghost use Rattle.rubis_pieces.specs.Batches.{AllUnseen, IsFault, IsGatherable, numbers_of, IsCounted, IsGathered, IsInOrder};
 
 use crate::pieces::{Done, Left};
 use rubis_schema::Items;
@@ -52,7 +51,7 @@ pub struct Places {
 impl Model for Places {
     ghost use Rattle.std.specs.Prelude.{ℕ, length};
     ghost use Rattle.std.specs.Vec.{vec_capacity};
-    ghost use Rattle.rubis_pieces.specs.Places.{HasRoomForEach};
+    ghost use Rattle.rubis_pieces.specs.Batches.{HasRoomForEach};
 
     ghost Value = { ℕ };
 

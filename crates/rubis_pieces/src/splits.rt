@@ -4,8 +4,8 @@ ghost use Rattle.std.specs.Prelude.{◌≡◌, ℕ, ◌+◌, ◌*◌, ◌<◌, �
 ghost use Rattle.rubis_schema.specs.declared.limits.TheConstants.{KEEP_MAX};
 ghost use Rattle.rubis_shadow.specs.declared.numbered.Numbered.{Numbered};
 ghost use Rattle.rubis_model.specs.Log.{cores};
-ghost use Rattle.rubis_shard.specs.Entries.{numbered_of};
-ghost use Rattle.rubis_pieces.specs.Shares.{AreDealt, AreOfParts, AreShares, part_of};
+ghost use Rattle.rubis_shard.specs.Holdings.{numbered_of};
+ghost use Rattle.rubis_pieces.specs.Batches.{AreDealt, AreOfParts, AreShares, part_of};
 
 use rayon::prelude::*;
 use rubis_message::Message;

@@ -4,8 +4,7 @@ ghost use Rattle.std.specs.Prelude.{◌≡◌, ◌+◌, ◌<◌, ◌≤◌, Opti
 ghost use Rattle.rubis_schema.specs.declared.limits.TheConstants.{KEEP_MAX};
 ghost use Rattle.rubis_shadow.specs.declared.keyed_change.Effect.{Effect};
 ghost use Rattle.rubis_model.specs.Log.{Core, cores, parts_of};
-ghost use Rattle.rubis_shard.specs.Holdings.{home_or};
-ghost use Rattle.rubis_shard.specs.PartHomes.{AreHomesOf};
+ghost use Rattle.rubis_shard.specs.Holdings.{home_or, AreHomesOf};
 ghost use Rattle.rubis_pieces.specs.Following.{parts_behind, waits, waits_or};
 
 use rubis_message::Message;

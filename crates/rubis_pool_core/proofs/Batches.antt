@@ -1,32 +1,53 @@
 -- Every schedule folds the batch.
-use Rattle.std.proofs.Common.{◌≡◌, ℕ, zero, suc, ◌+◌, ◌<◌, List, [], ◌∷◌, ◌++◌, length, get_or, take, cond, false, refl, sym, ap, ◌∙◌, subst, arith, ⊎_elim}
-use Rattle.std.specs.Prelude.{Option, Some, None, slice_get, map, flat_map, nat_lt, option_map}
-use Rattle.std.specs.List.{All, AllZip}
+use Rattle.std.proofs.Common.{◌≡◌, ℕ, ◌<◌, List, [], ◌∷◌, length, refl, ap, ◌∙◌, subst, zero, suc, ◌+◌, ◌++◌, get_or, take, cond, false, sym, arith, ⊎_elim}
+use Rattle.std.specs.Prelude.{Some, slice_get, map, option_map, Option, None, flat_map, nat_lt}
+use Rattle.std.specs.List.{AllZip, All}
 use Rattle.std.specs.List.Sorted.{IsPermutation}
-use Rattle.std.proofs.lemmas.Bool.{le-ltb}
-use Rattle.std.proofs.lemmas.List.{take_all, length-map}
-use Rattle.std.proofs.lemmas.List.Elements.{All-nil, All-cons}
-use Rattle.std.proofs.lemmas.List.Sorted.{All-permutation}
+use Rattle.std.proofs.lemmas.List.{length-map, take_all}
+use Rattle.std.proofs.lemmas.List.Sorted.{IsPermutation-map, All-permutation}
 use Rattle.std.proofs.lemmas.Option.{slice_get-map, slice_get_cases, get_or_from_slice_get}
-use Rattle.rubis_model.specs.Log.{Core, share}
 use Rattle.rubis_shard.specs.States.{ShardState, with_parts}
+use Rattle.rubis_pieces.specs.Batches.{numbers_of, IsFault, IsWorked, IsInOrder, IsGathered, left_of, pieces_of}
+use Rattle.rubis_pieces.specs.declared.gathers.FaultKind.{FaultKind}
+use Rattle.rubis_pieces.proofs.Folded.{no_fault_if_moved}
+use Rattle.rubis_pieces.specs.declared.pieces.Piece.{Piece}
+use Rattle.rubis_pieces.specs.declared.pieces.Done.{Done}
+use Rattle.rubis_pool_core.specs.Machine.{PoolState, IsWhole, run_of}
+use Rattle.rubis_pool_core.specs.Batches.{Accounted, present, IsWorkedSlot, FoldsTheBatch, IsAtEnd, HoldsTheBatch, EveryScheduleFoldsTheBatch}
+use Rattle.std.proofs.lemmas.Bool.{le-ltb}
+use Rattle.std.proofs.lemmas.List.Elements.{All-nil, All-cons}
+use Rattle.rubis_model.specs.Log.{Core, share}
 use Rattle.rubis_shard.specs.Holdings.{shard_of_log, HoldsLog}
 use Rattle.rubis_shard.specs.declared.shares.Share.{Share}
 use Rattle.rubis_shard.proofs.Logs.{shard_with_share}
 use Rattle.rubis_shard.proofs.Unions.{union_of_log}
 use Rattle.rubis_pieces.proofs.Order.{misfits_are}
-use Rattle.rubis_pieces.specs.Gathered.{IsInOrder, IsGathered, left_of}
 use Rattle.rubis_pieces.specs.declared.gathers.Gathered.{Gathered}
-use Rattle.rubis_pieces.specs.declared.pieces.Piece.{Piece}
-use Rattle.rubis_pieces.specs.declared.pieces.Done.{Done}
-use Rattle.rubis_pieces.specs.Work.{IsWorked}
-use Rattle.rubis_pool_core.specs.Pieces.{IsWhole}
-use Rattle.rubis_pool_core.specs.Machine.{PoolState, run_of}
-use Rattle.rubis_pool_core.specs.Schedules.{present, IsWorkedSlot, Accounted}
-use Rattle.rubis_pieces.specs.Work.{pieces_of}
-use Rattle.rubis_pool_core.specs.Batches.{FoldsTheBatch, IsAtEnd, HoldsTheBatch, EveryScheduleFoldsTheBatch}
 use Rattle.rubis_pool_core.proofs.Accounts.{every}
-use Rattle.rubis_pool_core.proofs.Numbers.{never_faulty}
+
+abbrev number_of : Piece → ℕ
+number_of p = p.shard.number
+
+-- work leaves the number
+numbers_kept : (ps : List Piece) (ds : List Done) → AllZip IsWorked ps ds → numbers_of ds ≡ map number_of ps
+numbers_kept [] [] h = refl
+numbers_kept [] (d ∷ ds) h = absurd h
+numbers_kept (p ∷ ps) [] h = absurd h
+numbers_kept (p ∷ ps) (d ∷ ds) h =
+    let same : d.shard.number ≡ p.shard.number = ap (λ (s : ShardState). s.number) h.0.shard in
+    λ i. same i ∷ numbers_kept ps ds h.1 i
+
+pub never_faulty : (shards : ℕ) (pieces : List Piece) (s : PoolState) (a : Accounted pieces s) → IsPermutation pieces a.returned
+    → length pieces ≡ shards
+    → ((k : ℕ) → k < shards → (p : Piece) × (slice_get pieces k ≡ Some p) × (p.shard.number ≡ k)) → (kind : FaultKind)
+    → IsFault shards (numbers_of s.returned) kind → ⊥
+never_faulty shards pieces s a moved many each kind fault =
+    no_fault_if_moved shards (map number_of pieces) (map number_of a.returned) (length-map pieces number_of ∙ many)
+    (λ k less. let p = each k less in slice_get-map number_of pieces k ∙ ap (option_map number_of) p.1 ∙ ap (λ n. Some n) p.2)
+    (IsPermutation-map number_of pieces a.returned moved) kind
+    (subst (λ ns. IsFault shards ns kind) (numbers_kept a.returned s.returned a.returned_worked) fault)
+
+-- ---- every schedule folds the batch
 
 none_present : (ps : List (Option Piece)) (ds : List (Option Done)) → AllZip IsWorkedSlot ps ds
     → ((w : ℕ) (d : Done) → slice_get ds w ≡ Some (Some d) → ⊥) → present ps ≡ []

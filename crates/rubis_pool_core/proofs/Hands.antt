@@ -4,7 +4,7 @@ use Rattle.std.specs.Prelude.{Option, Some, None, slice_get, slice_set, map, opt
 use Rattle.std.proofs.lemmas.Option.{slice_get-map}
 use Rattle.rubis_shadow.specs.declared.numbered.Numbered.{Numbered}
 use Rattle.rubis_pieces.specs.declared.pieces.Done.{Done}
-use Rattle.rubis_pool_core.specs.Threads.{Hands}
+use Rattle.rubis_pool_core.specs.Teams.{Hands}
 
 -- ---- a list with one place set
 pub set_now : {A : Type 0} (xs : List A) (w : ℕ) (new old : A) → slice_get xs w ≡ Some old → slice_get (slice_set xs w new) w ≡ Some new

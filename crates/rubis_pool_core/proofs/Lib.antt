@@ -1,13 +1,5 @@
-pub mod Works
-pub mod Slots
 pub mod Accounts
-pub mod Steps
-pub mod Numbers
 pub mod Batches
 pub mod Posted
 pub mod Hands
 pub mod Threads
-pub mod ThreadExamples
-pub mod Teams
-pub mod Crews
-pub mod CrewExamples

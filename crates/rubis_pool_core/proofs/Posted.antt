@@ -2,15 +2,13 @@
 use Rattle.std.proofs.Common.{◌≡◌, ℕ, zero, suc, List, [], ◌∷◌, refl, sym, ap, ◌∙◌, subst}
 use Rattle.std.specs.Prelude.{Option, Some, None, slice_get, slice_set}
 use Rattle.rubis_shadow.specs.declared.numbered.Numbered.{Numbered}
-use Rattle.rubis_pieces.specs.Posted.{Move, Moves, MovesAll}
-use Rattle.rubis_pieces.specs.Posted.Move.{Posted, Taken}
+use Rattle.rubis_pieces.specs.Pieces.{Move, Moves, MovesAll}
+use Rattle.rubis_pieces.specs.Pieces.Move.{Posted, Taken}
 use Rattle.rubis_pieces.specs.declared.pieces.Piece.{Piece}
 use Rattle.rubis_pieces.specs.declared.pieces.Done.{Done}
 use Rattle.rubis_pool_core.specs.declared.event.Event.{Event}
 use Rattle.rubis_pool_core.specs.declared.event.Event.TheVariants.{Take, Apply, Back}
-use Rattle.rubis_pool_core.specs.Pieces.{begun, next_part}
-use Rattle.rubis_pool_core.specs.Machine.{PoolState, taken, applied_to, applied, back_of, backed, stepped}
-use Rattle.rubis_pool_core.specs.Posted.{MovesPosted}
+use Rattle.rubis_pool_core.specs.Machine.{begun, next_part, PoolState, taken, applied_to, applied, back_of, backed, stepped, MovesPosted}
 
 now_held : (held : List (Option Done)) (w : ℕ) (new old : Option Done) → slice_get held w ≡ Some old
     → slice_get (slice_set held w new) w ≡ Some new

@@ -1,19 +1,31 @@
--- The machine goes along with what threads do.
-use Rattle.std.proofs.Common.{◌≡◌, ℕ, zero, suc, ◌+◌, ◌-◌, List, [], ◌∷◌, ◌++◌, length, take, refl, sym, ap, ◌∙◌, subst, arith}
-use Rattle.std.specs.Prelude.{Option, Some, None, is_some, slice_get, slice_set, map}
-use Rattle.rubis_pieces.specs.Posted.{Moves, MovesAll}
+-- The machine goes along with what threads, and a team, do.
+use Rattle.std.proofs.Common.{◌≡◌, ℕ, zero, suc, ◌+◌, ◌-◌, List, [], ◌∷◌, ◌++◌, length, take, refl, sym, ap, ◌∙◌, subst, arith, length-append, drop}
+use Rattle.std.specs.Prelude.{Option, Some, None, is_some, slice_get, slice_set, map, option_map}
+use Rattle.rubis_pieces.specs.Pieces.{Moves, MovesAll}
 use Rattle.rubis_pieces.specs.declared.pieces.Piece.{Piece}
 use Rattle.rubis_pieces.specs.declared.pieces.Done.{Done}
 use Rattle.rubis_pool_core.specs.declared.event.Event.TheVariants.{Take, Apply, Back}
-use Rattle.rubis_pool_core.specs.Pieces.{begun, next_part, one_part_more}
-use Rattle.rubis_pool_core.specs.Machine.{PoolState, opening_pool, with_posted, taken, applied_to, applied, back_of, backed, stepped, or_same, posted_all}
-use Rattle.rubis_pool_core.specs.Machine.{run_from}
-use Rattle.rubis_pool_core.specs.Threads.{BoardStep, move_of, Action, steps_of, moves_of, Hands, empty_hands, InTurn, after_action, after_actions, CanDo}
-use Rattle.rubis_pool_core.specs.Threads.{GoesAlong, EveryRunIsASchedule, AreTakenBy, EveryListOfStepsIsScheduled, events_of, posts, HasNoPost}
-use Rattle.rubis_pool_core.specs.Threads.{PostsFirstAreARun}
-use Rattle.rubis_pool_core.specs.Threads.BoardStep.{Posts, Takes}
-use Rattle.rubis_pool_core.specs.Threads.Action.{OnBoard, Folds, GivesBack}
+use Rattle.rubis_pool_core.specs.Machine.{begun, next_part, one_part_more, PoolState, opening_pool, with_posted, taken, applied_to, applied, back_of, backed}
+use Rattle.rubis_pool_core.specs.Machine.{stepped, or_same, posted_all, run_from, run_of}
+use Rattle.rubis_pool_core.specs.Teams.{BoardStep, move_of, Action, steps_of, moves_of, Hands, empty_hands, InTurn, after_action, after_actions, CanDo}
+use Rattle.rubis_pool_core.specs.Teams.{GoesAlong, EveryRunIsASchedule, AreTakenBy, EveryListOfStepsIsScheduled, events_of, posts, HasNoPost, PostsFirstAreARun}
+use Rattle.rubis_pool_core.specs.Teams.{EveryRunOfATeamIsASchedule, EveryTeamFoldsTheBatch, EveryTeamIsScheduled, FollowingFoldsTheShare, in_batch}
+use Rattle.rubis_pool_core.specs.Teams.{step_in_batch, steps_in_batch}
+use Rattle.rubis_pool_core.specs.Teams.BoardStep.{Posts, Takes}
+use Rattle.rubis_pool_core.specs.Teams.Action.{OnBoard, Folds, GivesBack}
 use Rattle.rubis_pool_core.proofs.Hands.{set_now, set_twice, set_same, all_empty, part_there, no_part, AreHandsOf, start_empty, hands_set, free_at, held_at}
+use Rattle.rubis_shadow.specs.declared.numbered.Numbered.{Numbered}
+use Rattle.rubis_shard.specs.States.{ShardState, with_parts}
+use Rattle.std.specs.List.Sorted.{IsPermutation}
+use Rattle.std.proofs.lemmas.List.{length-map, map-append, take_all, take-append-drop, take_at}
+use Rattle.std.proofs.lemmas.List.Sorted.{IsPermutation-map, IsPermutation-trans}
+use Rattle.std.proofs.lemmas.Option.{slice_get-map}
+use Rattle.rubis_model.specs.Log.{Core, share}
+use Rattle.rubis_shard.proofs.Logs.{share_append}
+use Rattle.rubis_workers.specs.Work.{bare}
+use Rattle.rubis_pool_core.specs.Batches.{Accounted, present}
+use Rattle.rubis_pool_core.proofs.Accounts.{every}
+use Rattle.rubis_pool_core.proofs.Batches.{folds_pieces}
 
 -- ---- one action more, in front
 possible_more : (s : PoolState) (a : Action) (actions : List Action) → CanDo s a
@@ -208,3 +220,136 @@ after_events (GivesBack w ∷ actions) s none = after_events actions (after_acti
 pub posts_first : PostsFirstAreARun
 posts_first workers pieces actions none =
     after_posts pieces actions (opening_pool workers) ∙ after_events actions (posted_all (opening_pool workers) pieces) none
+
+-- ---- a worked example of what threads do with a board, and what isn't one
+
+not_empty : (left : ℕ) → Some (Some left) ≡ Some None → ⊥
+not_empty left e = absurd cc
+
+-- three pieces, with two parts, with one, and with none
+module _ (a b c : ShardState) (m n o : Numbered) where
+  abbrev with_share : ShardState → ℕ → List Numbered → Piece
+  with_share s number ns = record { shard = s; share = record { number = number; effects = ns } }
+
+  abbrev first : Piece
+  first = with_share a 0 (m ∷ n ∷ [])
+
+  abbrev second : Piece
+  second = with_share b 1 (o ∷ [])
+
+  abbrev third : Piece
+  third = with_share c 2 []
+
+  -- the third is posted after the first two were taken, one by each of two workers
+  abbrev steps : List BoardStep
+  steps = Posts first ∷ Posts second ∷ Takes 0 first ∷ Takes 1 second ∷ Posts third ∷ Takes 1 third ∷ []
+
+  -- the second worker has done with its piece, and takes the third, while the first worker still folds its own
+  abbrev actions : List Action
+  actions =
+      OnBoard (Posts first) ∷ OnBoard (Posts second) ∷ OnBoard (Takes 0 first) ∷ OnBoard (Takes 1 second) ∷ Folds 0 ∷ Folds 1
+      ∷ GivesBack 1 ∷ OnBoard (Posts third) ∷ OnBoard (Takes 1 third) ∷ Folds 0 ∷ GivesBack 0 ∷ GivesBack 1 ∷ []
+
+  these_steps : steps_of actions ≡ steps
+  these_steps = refl
+
+  on_the_board : MovesAll [] (moves_of actions) []
+  on_the_board = (
+    first ∷ [],
+    refl,
+    (
+      first ∷ second ∷ [],
+      refl,
+      (second ∷ [], refl, ([], refl, (third ∷ [], refl, ([], refl, refl)))),
+    ),
+  )
+
+  each_in_turn : InTurn (empty_hands 2) actions
+  each_in_turn = (refl, (refl, (1, refl, (0, refl, (refl, (refl, (0, refl, (refl, (refl, tt)))))))))
+
+  it_goes_along : GoesAlong (opening_pool 2) actions
+  it_goes_along = schedules 2 actions [] each_in_turn on_the_board
+
+  -- after the sixth action nothing is posted, and the second worker has folded its piece to the end
+  halfway : (after_actions (opening_pool 2) (take 6 actions)).posted ≡ []
+  halfway = refl
+
+  -- at the end all three were given back
+  at_the_end : map (λ (d : Done). d.share) (after_actions (opening_pool 2) actions).returned
+      ≡ second.share ∷ first.share ∷ third.share ∷ []
+  at_the_end = refl
+
+  -- a worker that takes twice without giving back isn't in turn
+  takes_twice : InTurn (empty_hands 2)
+      (OnBoard (Posts first) ∷ OnBoard (Posts second) ∷ OnBoard (Takes 0 first) ∷ OnBoard (Takes 0 second) ∷ []) → ⊥
+  takes_twice turn = not_empty 2 turn.1.0
+
+-- ---- the machine does what a team does whose workers read the parts of a batch from its messages
+
+-- ---- the steps, each piece as what it stands for
+module _ (first : ℕ) (batch : List Core) where
+  moved : (b : BoardStep) (before after : List Piece) → Moves before (move_of b) after
+      → Moves (map (in_batch first batch) before) (move_of (step_in_batch first batch b)) (map (in_batch first batch) after)
+  moved (Posts p) before after h = ap (map (in_batch first batch)) h ∙ map-append (in_batch first batch) before (p ∷ [])
+  moved (Takes w p) before after h = ap (map (in_batch first batch)) h
+
+  all_moved : (steps : List BoardStep) (before after : List Piece) → MovesAll before (map move_of steps) after
+      → MovesAll (map (in_batch first batch) before) (map move_of (steps_in_batch first batch steps)) (map (in_batch first batch) after)
+  all_moved [] before after h = ap (map (in_batch first batch)) h
+  all_moved (b ∷ steps) before after h =
+      (map (in_batch first batch) h.0, moved b before h.0 h.1, all_moved steps h.0 after h.2)
+
+  taken_by : (workers : ℕ) (steps : List BoardStep) → AreTakenBy workers steps → AreTakenBy workers (steps_in_batch first batch steps)
+  taken_by workers [] by = tt
+  taken_by workers (Posts p ∷ steps) by = taken_by workers steps by
+  taken_by workers (Takes w p ∷ steps) by = (by.0, taken_by workers steps by.1)
+
+pub team_scheduled : EveryTeamIsScheduled
+team_scheduled workers first batch steps board by moves =
+    scheduled workers (steps_in_batch first batch steps) (map (in_batch first batch) board) (taken_by first batch workers steps by)
+    (all_moved first batch steps [] board moves)
+
+pub team_goes_along : EveryRunOfATeamIsASchedule
+team_goes_along workers first batch steps board actions moves same turn =
+    schedules workers actions (map (in_batch first batch) board) turn
+    (subst (λ l. MovesAll [] (map move_of l) (map (in_batch first batch) board)) (sym same) (all_moved first batch steps [] board moves))
+
+-- ---- what a worker makes of a piece
+pub follows_the_share : FollowingFoldsTheShare
+follows_the_share first batch p messages shard h =
+    let n = p.shard.shards in
+    let k = p.shard.number in
+    let done = share n first (take messages batch) k in
+    let rest = share n (first + length (take messages batch)) (drop messages batch) k in
+    let all : share n first batch k ≡ done ++ rest =
+    ap (λ ms. share n first ms k) (sym (take-append-drop messages batch)) ∙ share_append n first (take messages batch) (drop messages batch) k in
+    let d : Done = record { shard = shard; share = (in_batch first batch p).share; done = length done } in (
+      d,
+      refl,
+      record {
+        share = refl;
+        done = let long = ap length all in let both = length-append done rest in omega (arith, long, both);
+        shard = h.shard ∙ ap (with_parts p.shard) (sym (ap (take (length done)) all ∙ take_at done rest (length done) refl));
+      },
+      λ whole. ap (λ ms. length (share n first ms k)) (take_all messages batch (omega (arith, whole))),
+    )
+
+-- ---- the whole batch
+pub team_folds : EveryTeamFoldsTheBatch
+team_folds shards workers log batch ts posted events held order end =
+    let stands : Piece → Piece = in_batch (1 + length log) batch in
+    let pieces : List Piece = map stands (map bare ts) in
+    let s : PoolState = run_of workers (map stands posted) events in
+    let a : Accounted (map stands posted) s = every workers (map stands posted) events in
+    folds_pieces shards log batch pieces s (length-map (map bare ts) stands ∙ length-map ts bare ∙ held.many)
+    (λ k less. slice_get-map stands (map bare ts) k
+    ∙ ap (option_map stands) (slice_get-map bare ts k ∙ ap (option_map bare) (held.each k less)))
+    (record {
+      held = a.held;
+      returned = a.returned;
+      once = IsPermutation-trans pieces (map stands posted) (s.posted ++ (present a.held ++ a.returned))
+          (IsPermutation-map stands (map bare ts) posted order) a.once;
+      held_worked = a.held_worked;
+      returned_worked = a.returned_worked;
+      returned_whole = a.returned_whole;
+    }) end

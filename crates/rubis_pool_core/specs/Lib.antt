@@ -1,9 +1,3 @@
-pub mod Pieces
 pub mod Machine
-pub mod Schedules
-pub mod Posted
-pub mod Threads
 pub mod Batches
-pub mod Codes
 pub mod Teams
-pub mod Crews

@@ -1,11 +1,39 @@
 -- The schedule machine: the posted pieces, what each worker holds, and what was returned.
-use Rattle.std.specs.Prelude.{ℕ, List, [], ◌∷◌, ◌++◌, Option, Some, None, slice_get, slice_set, replicate, fold}
+use Rattle.std.specs.Prelude.{◌≡◌, ◌+◌, [], ◌∷◌, length, slice_get, Option, Some, None, ℕ, List, ◌++◌, slice_set, replicate, fold, refl}
 use Rattle.rubis_shadow.specs.declared.numbered.Numbered.{Numbered}
+use Rattle.rubis_shard.specs.States.{with_parts}
 use Rattle.rubis_pieces.specs.declared.pieces.Piece.{Piece}
 use Rattle.rubis_pieces.specs.declared.pieces.Done.{Done}
 use Rattle.rubis_pool_core.specs.declared.event.Event.{Event}
 use Rattle.rubis_pool_core.specs.declared.event.Event.TheVariants.{Take, Apply, Back}
-use Rattle.rubis_pool_core.specs.Pieces.{begun, next_part, one_part_more}
+use Rattle.rubis_pieces.specs.Pieces.{Move, Moves, MovesAll}
+use Rattle.rubis_pieces.specs.Pieces.Move.{Posted, Taken}
+use Rattle.std.specs.Coded.{Coded, code_by, coded×, coded_ℕ, coded_list, coded_option}
+use Rattle.rubis_pieces.specs.contracts.pieces.Piece as piece
+use Rattle.rubis_pieces.specs.contracts.pieces.Done as done
+
+-- a piece of which nothing is done
+abbrev pub begun : Piece → Done
+begun p = record { shard = p.shard; share = p.share; done = 0 }
+
+-- its next part, if one is left
+abbrev pub next_part : Done → Option Numbered
+next_part d = slice_get d.share.effects d.done
+
+-- with that part folded on
+abbrev pub one_part_more : Done → Numbered → Done
+one_part_more d n = record { shard = with_parts d.shard (n ∷ []); share = d.share; done = d.done + 1 }
+
+-- all of its share is done
+abbrev pub IsWhole : Done → Type 0
+IsWhole d = d.done ≡ length d.share.effects
+
+-- the same, or nothing changes where no part is left
+abbrev pub or_one_part_more : Done → Option Numbered → Done
+or_one_part_more d (Some n) = one_part_more d n
+or_one_part_more d None = d
+
+-- ---- the schedule machine: the posted pieces, what each worker holds, and what was returned
 
 -- the posted pieces, in order; what each worker holds, if anything; the returned pieces, in order
 pub record PoolState : Type 0 where
@@ -92,3 +120,35 @@ pub record PoolOf : Type 0 where
 
 abbrev pub in_state : PoolOf → PoolState → PoolOf
 in_state pool s = record { capacity = pool.capacity; count = pool.count; state = s }
+
+-- ---- the posted list, as the events of a schedule change it
+
+-- a Take takes the piece that its worker then holds; the other events leave the list
+abbrev pub MovesPosted : PoolState → Event → PoolState → Type 0
+MovesPosted s (Take w) t = (p : Piece) × Moves s.posted (Taken p) t.posted × (slice_get t.held w ≡ Some (Some (begun p)))
+MovesPosted s (Apply w) t = t.posted ≡ s.posted
+MovesPosted s (Back w) t = t.posted ≡ s.posted
+
+-- what Post and each event do to the posted list
+pub record EventsMoveThePosted : Type 0 where
+  pub post : (s : PoolState) (p : Piece) → Moves s.posted (Posted p) (with_posted s p).posted
+  pub event : (s : PoolState) (e : Event) (t : PoolState) → stepped s e ≡ Some t → MovesPosted s e t
+  -- the moves fix the list
+  pub fixed : (before : List Piece) (moves : List Move) (a b : List Piece) → MovesAll before moves a
+      → MovesAll before moves b → a ≡ b
+
+-- ---- what a contract sees of a pool as plain data, by which proofs tell pools apart
+
+abbrev pub done_code : Coded Done
+done_code = done.the_row.coded
+
+abbrev pub pool_state_code : Coded PoolState
+pool_state_code =
+    code_by (List Piece × (List (Option Done) × List Done))
+    (coded× (coded_list piece.the_row.coded) (coded× (coded_list (coded_option done_code)) (coded_list done_code)))
+    (λ s. (s.posted, (s.held, s.returned))) (λ c. record { posted = c.0; held = c.1.0; returned = c.1.1 }) (λ _. refl)
+
+abbrev pub pool_code : Coded PoolOf
+pool_code =
+    code_by (ℕ × (ℕ × PoolState)) (coded× coded_ℕ (coded× coded_ℕ pool_state_code)) (λ p. (p.capacity, (p.count, p.state)))
+    (λ c. record { capacity = c.0; count = c.1.0; state = c.1.1 }) (λ _. refl)

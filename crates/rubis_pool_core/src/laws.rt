@@ -1,15 +1,9 @@
 //! The laws of the machine, each stated in a file of specs/.
 
-ghost use Rattle.rubis_replica.specs.Folding.{IsFoldable};
-ghost use Rattle.rubis_pool_core.specs.Posted.{EventsMoveThePosted};
-ghost use Rattle.rubis_pool_core.specs.Batches.{EveryScheduleFoldsTheBatch};
-ghost use Rattle.rubis_pool_core.specs.Crews.{EveryCrewFoldsTheBatch, EveryCrewIsScheduled, EveryListOfPassesIsScheduled};
-ghost use Rattle.rubis_pool_core.specs.Crews.{EveryRunOfACrewIsASchedule, JobsFoldTheShare, PassesMoveTheWaiting};
-ghost use Rattle.rubis_pool_core.specs.Schedules.{EveryScheduleAccounts, StepsAccount};
+ghost use Rattle.rubis_pool_core.specs.Machine.{EventsMoveThePosted};
+ghost use Rattle.rubis_pool_core.specs.Batches.{EveryScheduleFoldsTheBatch, EveryScheduleAccounts, StepsAccount};
 ghost use Rattle.rubis_pool_core.specs.Teams.{EveryRunOfATeamIsASchedule, EveryTeamFoldsTheBatch, EveryTeamIsScheduled, FollowingFoldsTheShare};
-ghost use Rattle.rubis_pool_core.specs.Threads.{EveryListOfStepsIsScheduled, EveryRunIsASchedule, PostsFirstAreARun};
-
-use rubis_workers::Gate;
+ghost use Rattle.rubis_pool_core.specs.Teams.{EveryListOfStepsIsScheduled, EveryRunIsASchedule, PostsFirstAreARun};
 
 /// After every schedule each piece is posted, held by one worker or returned, once, and each shard is the fold of a
 /// beginning of its share.
@@ -41,7 +35,8 @@ pub fn every_list_of_steps_is_scheduled()
     ensures posts_first { PostsFirstAreARun }
 {}
 
-/// The same of a team whose workers read the parts of a batch from its messages, as those of a site do. A shard on its board carries no
+/// The same of a team whose workers read the parts of a batch from its messages, as those of a site do, whether their threads are started for
+/// the batch or are helpers of a run, each with a part of the board. A shard on its board carries no
 /// parts, and stands for the share of the batch that is the shard's: the machine that is given the shares takes the same pieces in the
 /// same order, each by the same worker. What a worker makes of a shard is what the machine's Applies make of it, as far as the worker
 /// came. Once all are returned, by whatever schedule, the shards hold the log with the batch.
@@ -50,19 +45,4 @@ pub fn every_team_is_scheduled()
     ensures runs { EveryRunOfATeamIsASchedule }
     ensures shares { FollowingFoldsTheShare }
     ensures batch { EveryTeamFoldsTheBatch }
-{}
-
-/// The same of a crew that stays, whose jobs are shards, each with the batch to be folded on it, as those of the helpers of a run. They are
-/// given between takes and after results came back: the next batch's shards too, while others are out. Whatever steps the passes of the
-/// crew take, in whatever order, what waits moves by the jobs that are given and got. A job stands for its shard with the shard's share of
-/// the job's own batch: the machine that is given the shares takes the same pieces in the same order, each by the same pass, and has posted
-/// what waits. What comes back of a job is what the machine's Applies make of it, as far as the worker came. Once none of a batch's shards is
-/// out any more, by whatever schedule, the shards hold the log with the batch.
-pub fn every_crew_is_scheduled<G: Gate + Drop>()
-    ensures waiting { PassesMoveTheWaiting (IsFoldable {G = G}) }
-    ensures steps { EveryCrewIsScheduled G }
-    ensures runs { EveryRunOfACrewIsASchedule G }
-    ensures passes { EveryListOfPassesIsScheduled G }
-    ensures shares { JobsFoldTheShare G }
-    ensures batch { EveryCrewFoldsTheBatch G }
 {}

@@ -9,8 +9,8 @@ mod work;
 
 pub use event::Event;
 pub use laws::{
-    events_move_the_posted, every_crew_is_scheduled, every_list_of_steps_is_scheduled,
-    every_schedule_accounts, every_schedule_folds_the_batch, every_team_is_scheduled,
+    events_move_the_posted, every_list_of_steps_is_scheduled, every_schedule_accounts,
+    every_schedule_folds_the_batch, every_team_is_scheduled,
 };
 pub use pool::Pool;
 pub use schedules::run;

@@ -3,7 +3,7 @@
 ghost use Rattle.std.specs.Prelude.{◌≡◌, ◌+◌, ◌<◌, is_some, None, IfOk, IfErr, OnOk, OnErr, length, slice_get, replicate};
 ghost use Rattle.std.specs.List.{All};
 ghost use Rattle.rubis_pool_core.specs.Machine.{opening_pool, with_posted, posted_all, stepped, after_event, in_state, or_same, taken, applied, backed};
-ghost use Rattle.rubis_pieces.specs.Work.{IsPiece};
+ghost use Rattle.rubis_pieces.specs.Batches.{IsPiece};
 
 use crate::event::Event;
 use crate::work::Work;
@@ -27,9 +27,8 @@ impl Model for Pool {
     ghost use Rattle.std.specs.Prelude.{◌≤◌, length};
     ghost use Rattle.std.specs.List.{All};
     ghost use Rattle.std.specs.VecDeque.{deque_capacity};
-    ghost use Rattle.rubis_pool_core.specs.Machine.{PoolOf};
-    ghost use Rattle.rubis_pool_core.specs.Codes.{pool_code};
-    ghost use Rattle.rubis_pieces.specs.Work.{IsPiece};
+    ghost use Rattle.rubis_pool_core.specs.Machine.{PoolOf, pool_code};
+    ghost use Rattle.rubis_pieces.specs.Batches.{IsPiece};
 
     ghost Value = { PoolOf };
 

@@ -3,8 +3,8 @@
 ghost use Rattle.std.specs.Prelude.{◌≡◌, IfOk, length};
 ghost use Rattle.std.specs.List.{All};
 ghost use Rattle.rubis_pool_core.specs.Machine.{run_of};
-ghost use Rattle.rubis_pieces.specs.Work.{IsPiece};
-ghost use Rattle.rubis_pool_core.specs.Schedules.{Accounted};
+ghost use Rattle.rubis_pieces.specs.Batches.{IsPiece};
+ghost use Rattle.rubis_pool_core.specs.Batches.{Accounted};
 
 use crate::event::Event;
 use crate::pool::Pool;

@@ -1,8 +1,8 @@
 //! The work of one step: a piece folded by the worker that holds it.
 
 ghost use Rattle.std.specs.Prelude.{◌≡◌, is_some, is_none, IfOk, OnOk, OnErr};
-ghost use Rattle.rubis_pieces.specs.Work.{IsPiece};
-ghost use Rattle.rubis_pool_core.specs.Pieces.{begun, next_part, or_one_part_more};
+ghost use Rattle.rubis_pieces.specs.Batches.{IsPiece};
+ghost use Rattle.rubis_pool_core.specs.Machine.{begun, next_part, or_one_part_more};
 
 use rubis_pieces::{Done, Piece};
 use std::alloc::AllocError;
@@ -17,7 +17,7 @@ pub struct Work {
 impl Model for Work {
     ghost use Rattle.rubis_pieces.specs.declared.pieces.Done.{Done};
     ghost use Rattle.rubis_pieces.specs.Pieces.{IsShareOf};
-    ghost use Rattle.rubis_pool_core.specs.Codes.{done_code};
+    ghost use Rattle.rubis_pool_core.specs.Machine.{done_code};
 
     ghost Value = { Done };
 

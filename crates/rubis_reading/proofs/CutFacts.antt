@@ -14,7 +14,7 @@ use Rattle.csv.specs.declared.parser.Action.{Action}
 use Rattle.csv.specs.declared.parser.Action.TheVariants as act
 use Rattle.csv.specs.declared.parser.Terminator.TheVariants as term
 use Rattle.rubis_reading.specs.Streams.{Closes, EndsFrom, IsBetween, IsLineEnd, IsWhole, stands}
-use Rattle.rubis_reading.proofs.StreamFacts.{mark-within}
+use Rattle.rubis_reading.proofs.ChunkFacts.{mark-within}
 
 -- ---- a text with quotes
 

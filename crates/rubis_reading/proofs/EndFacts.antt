@@ -12,9 +12,8 @@ use Rattle.csv.specs.Reading.{default_config, is_bom, strip_bom}
 use Rattle.csv.specs.declared.parser.State.{State}
 use Rattle.csv.specs.declared.parser.State.TheVariants as st
 use Rattle.rubis_reading.specs.Streams.{Closes, EndsFrom, HasNoQuote, IsBetween, IsLike, IsLineEnd, IsWhole, NoEndAfter, NoWholeAfter, stands}
-use Rattle.rubis_reading.proofs.ChunkFacts.{feed-left}
+use Rattle.rubis_reading.proofs.ChunkFacts.{feed-left, HasNoMark, mark-within, no-mark, no-mark-third}
 use Rattle.rubis_reading.proofs.QuoteFacts.{get-within, like-back, like-between, no-quote-take, quoted-run, stands-append, stands-like, take-sum, take-within}
-use Rattle.rubis_reading.proofs.StreamFacts.{HasNoMark, mark-within, no-mark, no-mark-third}
 
 -- ---- some bytes with no quote
 

@@ -1,11 +1,6 @@
-pub mod StreamFacts
+pub mod ChunkFacts
 pub mod CutFacts
 pub mod QuoteFacts
-pub mod ChunkFacts
-pub mod InputFacts
-pub mod AheadFacts
-pub mod RunFacts
-mod HeldFacts
+pub mod PieceFacts
 pub mod EndFacts
 pub mod LookFacts
-mod PieceFacts

@@ -7,9 +7,7 @@ use Rattle.std.specs.Prelude.{if◌then◌else◌}
 use Rattle.csv.specs.Reading.{is_bom, strip_bom}
 use Rattle.csv.specs.declared.parser.State.{State}
 use Rattle.csv.specs.declared.parser.State.TheVariants as st
-use Rattle.rubis_reading.specs.Looks.{HasLooked}
-use Rattle.rubis_reading.specs.Standings.{state_of}
-use Rattle.rubis_reading.specs.Streams.{EndsFrom, IsLike, stands}
+use Rattle.rubis_reading.specs.Streams.{HasLooked, state_of, EndsFrom, IsLike, stands}
 use Rattle.rubis_reading.specs.declared.cuts.Looked.{Looked}
 use Rattle.rubis_reading.proofs.EndFacts.{front-back}
 use Rattle.rubis_reading.proofs.QuoteFacts.{front-ends, like-then, stands-append, stands-like, take-all}

@@ -1,17 +1,131 @@
--- Pieces of a text that are given to be read.
-use Rattle.std.proofs.Common.{◌≡◌, ◌∙◌, ◌≤◌, ◌<◌, ◌+◌, ◌-◌, ◌++◌, ◌∷◌, ◌⊎◌, inl, inr, [], ℕ, zero, suc, List, ap, arith, drop, drop-drop, length, length-append, length-drop, length-set, refl, subst, sym, take}
-use Rattle.std.specs.Prelude.{IfNone, IfOk, None, Option, Result, Some, slice_index_or, slice_set, ⊤}
+-- Pieces of a text that are given to be read, and runs of records.
+use Rattle.std.proofs.Common.{◌≡◌, ◌∙◌, ◌++◌, ◌∷◌, [], ℕ, List, ap, append-nil, append_assoc, subst, sym, refl, ◌≤◌, ◌+◌, suc, arith, drop, length}
+use Rattle.std.proofs.Common.{length-append, length-drop, zero, All, Option, ◌<◌, ◌-◌, ◌⊎◌, inl, inr, drop-drop, length-set, take}
+use Rattle.std.specs.Prelude.{true, false, MatchOption, None, Some, IfNone, IfOk, Result, slice_index_or, slice_set, ⊤}
+use Rattle.rubis_message.specs.Inputs.{IsInput, FitsIn}
+use Rattle.rubis_engine.specs.declared.record_list.Records.{Records}
+use Rattle.rubis_engine.specs.Reading.{Advances, Gives, fields_now}
+use Rattle.rubis_reading.specs.Readings.{AreInputs, FitWindow, FitsWindow, all_came, flat, of_stretch, AreGiven, AreOf, AreRead, EachGiven, IsAmong, IsPiece}
+use Rattle.rubis_reading.specs.Readings.{IsPut, IsReading, passed}
+use Rattle.rubis_message.specs.declared.inputs.Input.{Input}
+use Rattle.std.proofs.lemmas.List.{nil_from_length}
+use Rattle.rubis_message.specs.Message.{Message}
+use Rattle.rubis_message.specs.declared.tokens.Packet.TheVariants.{Msg}
+use Rattle.rubis_message.specs.declared.inputs.Input.TheVariants.{Came}
+use Rattle.rubis_reading.specs.declared.stretches.Stretch.{Stretch}
 use Rattle.std.specs.Global.{Vec}
 use Rattle.rubis_engine.specs.declared.fault.OutOfMemory.{OutOfMemory}
 use Rattle.rubis_crew.specs.declared.job.Back.{Back}
 use Rattle.rubis_crew.specs.declared.job.Given.{Given}
 use Rattle.rubis_crew.specs.States.{IsBack, LeadState}
 use Rattle.rubis_reading.specs.Chunked.{IsChunk}
-use Rattle.rubis_reading.specs.Readings.{AreGiven, AreOf, AreRead, EachGiven, IsAmong, IsPiece, IsPut, IsReading, passed}
 use Rattle.rubis_reading.specs.declared.pieces.GivenPiece.{GivenPiece}
 use Rattle.rubis_reading.specs.declared.pieces.Pieces.{Pieces}
 use Rattle.rubis_reading.specs.declared.readings.Reading.{Reading}
-use Rattle.rubis_reading.specs.declared.stretches.Stretch.{Stretch}
+
+pub inputs-none : (sites : ℕ) → AreInputs sites [] []
+unfolding AreInputs
+inputs-none sites = tt
+
+pub inputs-more : (sites : ℕ) (rows : List (List (List ℕ))) (ps : List Input) (fields : List (List ℕ)) (p : Input)
+    → AreInputs sites rows ps → IsInput sites fields p → AreInputs sites (rows ++ fields ∷ []) (ps ++ p ∷ [])
+unfolding AreInputs
+inputs-more sites [] [] fields p all one = (one, tt)
+inputs-more sites [] (q ∷ ps) fields p all one = absurd all
+inputs-more sites (r ∷ rows) [] fields p all one = absurd all
+inputs-more sites (r ∷ rows) (q ∷ ps) fields p all one = (all.0, inputs-more sites rows ps fields p all.1 one)
+
+-- the records that were read, and those still to come
+pub record HasInputs {R : Type 0} (rem : R → Option (List ℕ)) (records : Records R) (sites : ℕ) (rows : List (List (List ℕ))) (list : List Input) :
+    Type 0 where
+  pub done : List (List (List ℕ))
+  pub rest : List (List (List ℕ))
+  pub parts : rows ≡ done ++ rest
+  pub gives : Gives rem records rest
+  pub parsed : AreInputs sites done list
+
+pub inputs-starts : {R : Type 0} (rem : R → Option (List ℕ)) (records : Records R) (sites : ℕ) (rows : List (List (List ℕ))) (list : List Input)
+    → list ≡ [] → Gives rem records rows → HasInputs rem records sites rows list
+inputs-starts rem records sites rows list none gives =
+    record { done = []; rest = rows; parts = refl; gives = gives; parsed = rw none (inputs-none sites) }
+
+pub inputs-step : {R : Type 0} (rem : R → Option (List ℕ)) (a b : Records R) (sites : ℕ) (rows : List (List (List ℕ))) (list : List Input) (p : Input)
+    → HasInputs rem a sites rows list → Advances rem a b true → IsInput sites (fields_now b) p → HasInputs rem b sites rows (list ++ p ∷ [])
+inputs-step rem a b sites rows list p h takes one =
+    let (left, first, gives) = takes h.rest h.gives in
+    record {
+      done = h.done ++ (fields_now b ∷ []);
+      rest = left;
+      parts = h.parts ∙ ap (λ t. h.done ++ t) first ∙ sym (append_assoc h.done (fields_now b ∷ []) left);
+      gives = gives;
+      parsed = inputs-more sites h.done list (fields_now b) p h.parsed one;
+    }
+
+pub inputs-ends : {R : Type 0} (rem : R → Option (List ℕ)) (a b : Records R) (sites : ℕ) (rows : List (List (List ℕ))) (list : List Input)
+    → HasInputs rem a sites rows list → Advances rem a b false → AreInputs sites rows list
+inputs-ends rem a b sites rows list h takes =
+    let whole : h.done ≡ rows = sym (h.parts ∙ ap (λ t. h.done ++ t) (takes h.rest h.gives) ∙ append-nil h.done) in
+    subst (λ t. AreInputs sites t list) whole h.parsed
+
+-- ---- runs of records
+
+pub flat-both : (a b : List Stretch) → flat (a ++ b) ≡ flat a ++ flat b
+flat-both [] b = refl
+flat-both (r ∷ a) b = ap (λ t. of_stretch r ++ t) (flat-both a b) ∙ sym (append_assoc (of_stretch r) (flat a) (flat b))
+
+pub flat-more : (a : List Stretch) (r : Stretch) → flat (a ++ r ∷ []) ≡ flat a ++ of_stretch r
+flat-more a r = flat-both a (r ∷ []) ∙ ap (λ t. flat a ++ t) (append-nil (of_stretch r))
+
+pub came-more : (ms : List Message) (m : Message) → all_came (ms ++ m ∷ []) ≡ all_came ms ++ Came (Msg m) ∷ []
+came-more [] m = refl
+came-more (x ∷ ms) m = ap (λ t. Came (Msg x) ∷ t) (came-more ms m)
+
+-- what holds of each run still holds with one more
+pub window-more : (window : ℕ) (a : List Stretch) (r : Stretch) → FitWindow window a → FitsWindow window r → FitWindow window (a ++ r ∷ [])
+window-more window [] r all one = (one, tt)
+window-more window (x ∷ a) r all one = (all.0, window-more window a r all.1 one)
+
+pub came-length : (ms : List Message) → length (all_came ms) ≡ length ms
+came-length [] = refl
+came-length (m ∷ ms) = ap suc (came-length ms)
+
+-- how many records runs have
+abbrev pub counted : List Stretch → ℕ
+counted [] = 0
+counted (r ∷ rest) = length (of_stretch r) + counted rest
+
+pub counted-flat : (runs : List Stretch) → counted runs ≡ length (flat runs)
+counted-flat [] = refl
+counted-flat (r ∷ rest) = let more = counted-flat rest in let both = length-append (of_stretch r) (flat rest) in omega (arith, more, both)
+
+pub ruleset run_facts = (flat-more)
+
+pub ruleset count_facts = (counted-flat)
+
+pub counted-end : (runs : List Stretch) (i : ℕ) → length runs ≤ i → counted (drop i runs) ≡ 0
+counted-end runs i over = ap counted (nil_from_length (drop i runs) (omega (arith, length-drop i runs, over)))
+
+-- ---- what was read of records, and what was found
+
+pub all-fit : (sites : ℕ) (rows : List (List (List ℕ))) (ps : List Input) → AreInputs sites rows ps → All (λ p. FitsIn sites p) ps
+unfolding AreInputs
+all-fit sites [] [] h k d lt = absurd (omega arith)
+all-fit sites [] (p ∷ ps) h k d lt = absurd h
+all-fit sites (r ∷ rows) [] h k d lt = absurd h
+all-fit sites (r ∷ rows) (p ∷ ps) h zero d lt = h.0.fits
+all-fit sites (r ∷ rows) (p ∷ ps) h (suc k) d lt = all-fit sites rows ps h.1 k d (omega (arith, lt))
+
+-- ---- what was found
+
+pub match-none : {A : Type 0} (o : Option A) (P : Type 0) (Q : A → Type 0) → MatchOption o P Q → o ≡ None → P
+match-none None P Q h e = h
+match-none (Some x) P Q h e = absurd cc
+
+pub match-some : {A : Type 0} (o : Option A) (P : Type 0) (Q : A → Type 0) (x : A) → MatchOption o P Q → o ≡ Some x → Q x
+match-some None P Q x h e = absurd cc
+match-some (Some y) P Q x h e = let same : y ≡ x = cc in subst Q same h
+
+-- ---- pieces of a text that are given to be read
 
 -- ---- jobs
 

@@ -1,5 +1,15 @@
--- What a piece of text is read as, and the pieces of a text that are given to be read.
-use Rattle.std.specs.Prelude.{◌≡◌, ◌≤◌, ◌<◌, ◌+◌, ◌-◌, ◌∷◌, ◌⊎◌, [], ⊤, ℕ, IfNone, IfOk, IfSome, List, None, Option, Result, Some, drop, length, slice_index_or, slice_set, take, true}
+-- What a piece of text, and several records, are read as, and the pieces that are given to be read.
+use Rattle.std.specs.Prelude.{⊤, ℕ, List, [], ◌∷◌, ◌++◌, ◌≤◌, ◌<◌, None, Option, Some, length, ◌≡◌, ◌+◌, ◌-◌, ◌⊎◌, IfNone, IfOk, IfSome, Result, drop}
+use Rattle.std.specs.Prelude.{slice_index_or, slice_set, take, true, ◌*◌, Bool, cond, max, min, nat_lt}
+use Rattle.rubis_message.specs.Inputs.{IsInput}
+use Rattle.rubis_message.specs.declared.inputs.Input.{Input}
+use Rattle.rubis_message.specs.Message.{Message}
+use Rattle.rubis_engine.specs.Reading.{Gives}
+use Rattle.rubis_engine.specs.declared.record_list.Records.{Records}
+use Rattle.rubis_message.specs.declared.tokens.Packet.TheVariants.{Msg}
+use Rattle.rubis_message.specs.declared.inputs.Input.TheVariants.{Came}
+use Rattle.rubis_reading.specs.declared.stretches.Stretch.{Stretch}
+use Rattle.rubis_reading.specs.declared.stretches.Stretch.TheVariants.{Messages, One}
 use Rattle.std.specs.Global.{Vec}
 use Rattle.rubis_engine.specs.Text.{input_records}
 use Rattle.rubis_engine.specs.declared.fault.OutOfMemory.{OutOfMemory}
@@ -7,13 +17,64 @@ use Rattle.rubis_crew.specs.declared.job.Back.{Back}
 use Rattle.rubis_crew.specs.declared.job.Given.{Given}
 use Rattle.rubis_crew.specs.States.{CrewId, LeadState}
 use Rattle.rubis_reading.specs.Chunked.{IsChunk}
-use Rattle.rubis_reading.specs.Inputs.{AreInputs}
-use Rattle.rubis_reading.specs.Runs.{FitWindow, flat}
 use Rattle.rubis_reading.specs.declared.pieces.GivenPiece.{GivenPiece}
 use Rattle.rubis_reading.specs.declared.pieces.Pieces.{Pieces}
 use Rattle.rubis_reading.specs.declared.pieces.ReadPiece.{ReadPiece}
 use Rattle.rubis_reading.specs.declared.readings.Reading.{Reading}
-use Rattle.rubis_reading.specs.declared.stretches.Stretch.{Stretch}
+use Rattle.std.specs.Int.{from_bool}
+use Rattle.rubis_reading.specs.declared.worth.TheConstants.{ALONE_MAX, ALONE_MIN, COUNTED}
+use Rattle.rubis_reading.specs.declared.worth.Worth.{Worth}
+
+-- the records are these inputs, one by one
+unfoldable pub AreInputs : ℕ → List (List (List ℕ)) → List Input → Type 0
+AreInputs sites [] [] = ⊤
+AreInputs sites [] (p ∷ ps) = ⊥
+AreInputs sites (fields ∷ rows) [] = ⊥
+AreInputs sites (fields ∷ rows) (p ∷ ps) = IsInput sites fields p × AreInputs sites rows ps
+
+-- ---- records that were read, one after the other, messages in lists of their own
+
+-- messages, each as what a record is
+abbrev pub all_came : List Message → List Input
+all_came [] = []
+all_came (m ∷ ms) = Came (Msg m) ∷ all_came ms
+
+-- what one run has
+abbrev pub of_stretch : Stretch → List Input
+of_stretch (Messages list) = all_came list.items
+of_stretch (One p) = p ∷ []
+
+-- what several have, one after the other
+abbrev pub flat : List Stretch → List Input
+flat [] = []
+flat (r ∷ rest) = of_stretch r ++ flat rest
+
+-- the next, if there is one
+abbrev pub of_next : Option Stretch → List Stretch
+of_next None = []
+of_next (Some r) = r ∷ []
+
+-- no more messages came together than a window has; a window of 0 sets no limit
+abbrev pub FitsWindow : ℕ → Stretch → Type 0
+FitsWindow window (Messages list) = 0 < window → length list.items ≤ window
+FitsWindow window (One p) = ⊤
+
+-- so it is with each of them
+abbrev pub FitWindow : ℕ → List Stretch → Type 0
+FitWindow window [] = ⊤
+FitWindow window (r ∷ rest) = FitsWindow window r × FitWindow window rest
+
+-- and with the messages that came last, which are still to be put behind
+abbrev pub HaveWindow : ℕ → List Stretch → List Message → Type 0
+HaveWindow window runs messages = FitWindow window runs × (0 < window → length messages ≤ window)
+
+-- all records of a reader are these, and those that came last are messages
+pub record HasRead {R : Type 0} (rem : R → Option (List ℕ)) (sites most : ℕ) (records : Records R) (runs : List Stretch) (messages : List Message) :
+    Type 0 where
+  pub parsed : (rows : List (List (List ℕ))) → Gives rem records rows → AreInputs sites rows (flat runs ++ all_came messages)
+  pub window : HaveWindow most runs messages
+
+-- ---- what a piece of text is read as, and the pieces of a text that are given to be read
 
 -- these are the records of a text, and no more messages came together than a window has
 abbrev pub AreRead : ℕ → ℕ → List ℕ → List Stretch → Type 0
@@ -80,3 +141,25 @@ abbrev pub IsPut : ℕ → List GivenPiece → Back (Result (Vec Stretch) OutOfM
 IsPut first old back new =
     ((new ≡ old) × ((back.number < first) ⊎ (first + length old ≤ back.number))) ⊎ ((k : ℕ) × (p : GivenPiece) × (first + k ≡ back.number) × (k < length old)
     × (p ≡ slice_index_or old k p) × (new ≡ slice_set old k (record { many = p.many; read = Some back.result })))
+
+-- ---- whether helpers are fed, by who read the last pieces
+
+-- it is counted who read the last `pieces`: the caller's thread read `mine` of them
+abbrev pub Counts : ℕ → ℕ → Worth → Type 0
+Counts pieces mine w = (w.pieces ≡ pieces) × (w.mine ≡ mine)
+
+-- the caller's thread reads the next `alone` pieces alone, of `last` that it began with
+abbrev pub ReadsAlone : ℕ → ℕ → Worth → Type 0
+ReadsAlone alone last w = (w.alone ≡ alone) × (w.last ≡ last)
+
+-- where it read more than seven of eight itself: twice as many as last time, within bounds; otherwise none
+abbrev pub alone_after : ℕ → ℕ → ℕ
+alone_after mine last = cond (nat_lt (7 * COUNTED) (8 * mine)) (min (max (2 * last) ALONE_MIN) ALONE_MAX) 0
+
+-- a piece more is counted; with the last of COUNTED it is decided whether helpers are fed, and nothing is counted any more
+abbrev pub HasCounted : Bool → Worth → Worth → Type 0
+HasCounted by_caller old new =
+    let mine = old.mine + from_bool by_caller in
+    let alone = alone_after mine old.last in
+    (old.pieces + 1 < COUNTED → Counts (old.pieces + 1) mine new × ReadsAlone old.alone old.last new)
+    × (old.pieces + 1 ≡ COUNTED → Counts 0 0 new × ReadsAlone alone alone new)

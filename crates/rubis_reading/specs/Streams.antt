@@ -1,10 +1,24 @@
 -- The records of a text, from any place in a record on, and where a text may be cut.
+use Rattle.csv.specs.declared.parser.State.{State}
+use Rattle.csv.specs.declared.parser.State.TheVariants as st
+use Rattle.rubis_reading.specs.declared.csv_state.CsvState.{CsvState}
+use Rattle.rubis_reading.specs.declared.csv_state.CsvState.TheVariants as at
 use Rattle.std.specs.Prelude.{◌≡◌, ◌==◌, ◌++◌, ◌∷◌, ◌≤◌, ◌<◌, ◌-◌, ◌⊎◌, [], ⊤, ℕ, List, false, get_or, if◌then◌else◌, length, take}
 use Rattle.std.specs.Bool.{MatchBool}
 use Rattle.csv.specs.Machine.{carriage_return, ends_at_end, field_after, fields_after, is_end, line_feed, step}
 use Rattle.csv.specs.Reading.{default_config, strip_bom}
-use Rattle.csv.specs.declared.parser.State.{State}
-use Rattle.csv.specs.declared.parser.State.TheVariants as st
+use Rattle.rubis_reading.specs.declared.cuts.Looked.{Looked}
+
+-- the machine's state
+abbrev pub state_of : CsvState → State
+state_of at.Start = st.StartRecord
+state_of at.FieldStart = st.StartField
+state_of at.Field = st.InField
+state_of at.Quoted = st.InQuoted
+state_of at.QuoteEnd = st.AfterQuote
+state_of at.CrEnd = st.AfterCr
+
+-- ---- the records of a text, from any place in a record on, and where a text may be cut
 
 -- the records of a text, from a state on, with the fields and the bytes of the field at hand
 unfoldable pub records_on : State → List (List ℕ) → List ℕ → List ℕ → List (List (List ℕ))
@@ -87,3 +101,17 @@ NoWholeAfter text n = (k : ℕ) → n < k → k ≤ length text → IsWhole (tak
 -- behind the line end that these bytes may begin with no record ends, a byte order mark at their start left aside
 abbrev pub EndsNoRecord : List ℕ → Type 0
 EndsNoRecord text = NoEndAfter st.StartRecord (strip_bom text) 1
+
+-- ---- how far a text was looked through for ends of records
+
+-- a record ends in the bytes that were looked at, behind the line end at their start, if there is one
+abbrev pub HasEnd : Looked → Type 0
+HasEnd l = 1 < l.end
+
+-- the machine stands so after the bytes that were looked at, and of the ends of records among them that is the last
+pub record HasLooked (text : List ℕ) (l : Looked) : Type 0 where
+  pub within : l.place ≤ length text
+  pub upto : l.end ≤ l.place
+  pub like : IsLike (state_of l.at) (stands st.StartRecord (take l.place text))
+  pub found : 0 < l.end → EndsFrom st.StartRecord text l.end
+  pub none : (k : ℕ) → l.end < k → k ≤ l.place → EndsFrom st.StartRecord text k → ⊥

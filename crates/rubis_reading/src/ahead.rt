@@ -2,7 +2,7 @@
 
 ghost use Rattle.std.specs.Prelude.{◌≡◌, ◌++◌, [], length, IfNone, IfOk, IfSome};
 ghost use Rattle.std.specs.Vec.Iter.{into_iter_items};
-ghost use Rattle.rubis_reading.specs.Runs.{flat, of_next, of_stretch};
+ghost use Rattle.rubis_reading.specs.Readings.{flat, of_next, of_stretch};
 
 use crate::stretches::Stretch;
 use rubis_engine::OutOfMemory;
@@ -21,7 +21,7 @@ fn count_stretch(run: &Stretch) -> usize
 }
 
 // How many records several runs have, if a number can tell.
-#[tactic(auto, using(crate::proofs::RunFacts::count_facts))]
+#[tactic(auto, using(crate::proofs::PieceFacts::count_facts))]
 fn count_stretches(list: &[Stretch]) -> Option<usize>
     ensures { IfSome result (λ many. many ≡ length (flat list.now)) }
 {

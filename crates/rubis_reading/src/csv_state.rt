@@ -4,7 +4,7 @@ ghost use Rattle.std.specs.Prelude.{◌≡◌};
 ghost use Rattle.csv.specs.Machine.{step};
 ghost use Rattle.csv.specs.Machine as Spec;
 ghost use Rattle.csv.specs.Reading.{default_config};
-ghost use Rattle.rubis_reading.specs.Standings.{state_of};
+ghost use Rattle.rubis_reading.specs.Streams.{state_of};
 
 /// Where the machine stands.
 #[derive(Clone, Copy)]

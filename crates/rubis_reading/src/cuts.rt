@@ -4,9 +4,8 @@ ghost use Rattle.std.specs.Bool.{MatchBool};
 ghost use Rattle.std.specs.Prelude.{◌≡◌, ◌≤◌, ◌<◌, ◌↔◌, ◌⊎◌, ℕ, IsTrue, List, drop, length, nat_lt, take};
 ghost use Rattle.csv.specs.Reading.{strip_bom};
 ghost use Rattle.csv.specs.declared.parser.State.TheVariants as st;
-ghost use Rattle.rubis_reading.specs.Standings.{state_of};
-ghost use Rattle.rubis_reading.specs.Looks.{HasEnd, HasLooked};
-ghost use Rattle.rubis_reading.specs.Streams.{EndsFrom, EndsNoRecord, HasNoQuote, IsLike, IsOutside, IsWhole, NoEndAfter, NoWholeAfter, stands};
+ghost use Rattle.rubis_reading.specs.Streams.{state_of, HasEnd, HasLooked, EndsFrom, EndsNoRecord, HasNoQuote, IsLike, IsOutside, IsWhole, NoEndAfter};
+ghost use Rattle.rubis_reading.specs.Streams.{NoWholeAfter, stands};
 
 use crate::csv_state::{CsvState, after, in_field};
 use memchr::{memchr, memrchr2};

@@ -3,6 +3,7 @@
 use crate::stretches::{Stretch, read_piece};
 use rubis_crew::Job;
 use rubis_engine::OutOfMemory;
+use std::sync::Wait;
 
 /// A piece of text that is to be read: of how many sites its messages may be, and how many that come one after the other are one run, at most.
 #[derive(Drop)]
@@ -22,7 +23,7 @@ impl Job for Reading {
 
     ghost Worked = { λ reading result. IfOk result (λ list. AreRead reading.sites reading.window reading.text.items list.items) };
 
-    fn work(self) -> Result<Vec<Stretch>, OutOfMemory> {
+    fn work<R: Wait>(self, _rt: &R) -> Result<Vec<Stretch>, OutOfMemory> {
         let alloc = *self.text.allocator();
         read_piece(alloc, self.text.as_slice(), self.sites, self.window)
     }

@@ -3,8 +3,7 @@
 ghost use Rattle.std.specs.Prelude.{◌≡◌, ◌≤◌, ◌<◌, ◌++◌, ◌∷◌, [], List, ℕ, IfOk, OnOk};
 ghost use Rattle.rubis_engine.specs.Reading.{Gives};
 ghost use Rattle.rubis_engine.specs.Text.{input_records};
-ghost use Rattle.rubis_reading.specs.Inputs.{AreInputs};
-ghost use Rattle.rubis_reading.specs.Runs.{FitWindow, HasRead, HaveWindow, all_came, flat, of_stretch};
+ghost use Rattle.rubis_reading.specs.Readings.{AreInputs, FitWindow, HasRead, HaveWindow, all_came, flat, of_stretch};
 ghost use Rattle.rubis_message.specs.declared.tokens.Packet.TheVariants.{Msg};
 ghost use Rattle.rubis_message.specs.declared.inputs.Input.TheVariants.{Came};
 
@@ -24,7 +23,7 @@ pub enum Stretch {
 }
 
 /// Puts a run behind.
-#[tactic(auto, using(crate::proofs::RunFacts::run_facts))]
+#[tactic(auto, using(crate::proofs::PieceFacts::run_facts))]
 pub(crate) fn push_stretch(list: &mut Vec<Stretch>, run: Stretch) -> Result<(), OutOfMemory>
     ensures records { OnOk result (flat list.new.items ≡ flat list.old.items ++ of_stretch run) }
     ensures last { OnOk result (list.new.items ≡ list.old.items ++ run ∷ []) }

@@ -25,7 +25,7 @@ pub struct Worth {
 }
 
 impl Worth {
-    ghost use Rattle.rubis_reading.specs.Feeding.{Counts, HasCounted, ReadsAlone, alone_after};
+    ghost use Rattle.rubis_reading.specs.Readings.{Counts, HasCounted, ReadsAlone, alone_after};
 
     /// Nothing was read yet.
     pub fn new() -> Worth

@@ -9,17 +9,12 @@ use Rattle.rubis_schema.specs.declared.ids.Id.{Id}
 use Rattle.rubis_schema.specs.declared.refusals.Refusal.TheVariants.{Full, NotOurs}
 use Rattle.rubis_clock.specs.Clocks.{MessageCounts}
 use Rattle.rubis_message.specs.Message.{Message, IsMessage, sites_of}
-use Rattle.rubis_model.specs.Settle.{counted, Settles}
+use Rattle.rubis_model.specs.Site.{counted, Settles, Place, Replica, after_came, arrival_of, arrived, not_ours, is_repeat}
 use Rattle.rubis_message.specs.declared.answers.Arrival.{Arrival}
 use Rattle.rubis_message.specs.declared.answers.Arrival.TheVariants as arrival
-use Rattle.rubis_model.specs.Site.{Place, Replica, after_came, arrival_of, arrived, not_ours, is_repeat}
 use Rattle.rubis_model.proofs.OneOutcome.{settles_one}
-use Rattle.rubis_release.specs.Release.{IsAmong, AreKept, clock_of}
-use Rattle.rubis_release.specs.Messages.{Messages, HaveSettled}
-use Rattle.rubis_release.specs.Intake.{Intake, IsUpToDate}
-use Rattle.rubis_release.specs.Answers.{IsAdmitted}
-use Rattle.rubis_release.proofs.Counting.{length_counts, counts_at}
-use Rattle.rubis_release.proofs.Keeping.{is_released, settling_keeps, coming_keeps}
+use Rattle.rubis_release.specs.Release.{IsAmong, AreKept, clock_of, Messages, HaveSettled, Intake, IsUpToDate, IsAdmitted}
+use Rattle.rubis_release.proofs.Keeping.{length_counts, counts_at, is_released, settling_keeps, coming_keeps}
 
 pub among_is : (n : ℕ) (m : Message) → IsMessage m → sites_of m ≡ n → IsAmong n m
 among_is n m h e = record

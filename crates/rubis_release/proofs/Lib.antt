@@ -1,9 +1,4 @@
-pub mod Waiters
-pub mod Counting
-pub mod Releasing
 pub mod Keeping
 pub mod Intakes
 pub mod Makes
 pub mod Slots
-pub mod Gaps
-pub mod Listing

@@ -13,13 +13,10 @@ use Rattle.rubis_shadow.specs.declared.shadows.Shadow.{Shadow}
 use Rattle.rubis_shadow.specs.declared.shadows.Colour.TheVariants.{Red, Blue}
 use Rattle.rubis_clock.specs.declared.stamps.Stamp.{Stamp}
 use Rattle.rubis_message.specs.Message.{Message, IsMessage, sites_of, dep}
-use Rattle.rubis_model.specs.Settle.{counted, reds, settle, Ready, Settles}
-use Rattle.rubis_model.specs.Site.{Place, Replica, counts, made, after_made, red_for, issued_after, is_current, is_full}
+use Rattle.rubis_model.specs.Site.{counted, reds, settle, Ready, Settles, Place, Replica, counts, made, after_made, red_for, issued_after, is_current, is_full}
 use Rattle.rubis_model.proofs.OneOutcome.{settles_one}
-use Rattle.rubis_release.specs.Release.{IsAmong, AreKept}
-use Rattle.rubis_release.specs.Intake.{Intake, IsIntake, IsUpToDate}
-use Rattle.rubis_release.proofs.Counting.{length_counts, counts_at}
-use Rattle.rubis_release.proofs.Keeping.{settling_keeps, making_keeps}
+use Rattle.rubis_release.specs.Release.{IsAmong, AreKept, Intake, IsIntake, IsUpToDate}
+use Rattle.rubis_release.proofs.Keeping.{length_counts, counts_at, settling_keeps, making_keeps}
 use Rattle.rubis_release.proofs.Intakes.{among_is}
 
 at_most_one : (b : Bool) → cond {A = ℕ} b 1 0 ≤ 1

@@ -1,9 +1,14 @@
--- What is found in slots, and where.
-use Rattle.std.proofs.Common.{◌≡◌, ℕ, zero, suc, ◌+◌, ◌<◌, ◌≤◌, Bool, true, false, cond, [], ◌∷◌, length, refl, sym, ap, ◌∙◌, subst, inl, inr, ⊎_elim, arith}
-use Rattle.std.specs.Prelude.{Option, None, Some, slice_get, slice_index, min, ◌⊎◌, ◌↔◌, IsTrue}
+-- What is found in slots, and a message that is taken out of its slot.
+use Rattle.std.proofs.Common.{◌≡◌, ◌∙◌, List, [], ◌∷◌, ◌++◌, ap, refl, sym, ℕ, zero, suc, ◌+◌, ◌<◌, ◌≤◌, Bool, true, false, cond, length, subst, inl, inr}
+use Rattle.std.proofs.Common.{⊎_elim, arith, ◌-◌, ◌||◌, get_or, length-append, length-take}
+use Rattle.std.specs.Prelude.{Option, None, map, Some, slice_get, slice_index, min, ◌⊎◌, ◌↔◌, IsTrue, filter, is_some, take}
+use Rattle.std.specs.Map.{values_of, keys_of, lookup, lookup_key}
+use Rattle.std.specs.Borrow.{Bor}
+use Rattle.rubis_message.specs.Message.{Message}
+use Rattle.rubis_release.specs.Waiting.{Slots, put_some, somes, IsItsSlot, HaveTheirIds, IsReadySlot, IsFirstOf, HasNoReady, NoSlotOf, first_of, AreApart}
+use Rattle.rubis_release.specs.Waiting.{AreSlots, TakesFirst, is_there}
 use Rattle.std.specs.Bool.{MatchBool}
-use Rattle.std.specs.List.{AllByRecursion, IsDistinct}
-use Rattle.std.specs.Map.{keys_of, lookup, lookup_key}
+use Rattle.std.specs.List.{AllByRecursion, IsDistinct, remove, list_any}
 use Rattle.std.proofs.lemmas.Bool.{cases_lt}
 use Rattle.std.proofs.lemmas.Option.{slice_get_past}
 use mathlib.Core.Bool.{true≢false}
@@ -12,9 +17,28 @@ use Rattle.rubis_schema.specs.KeyLaws.{Decides-same_id}
 use Rattle.rubis_schema.specs.declared.ids.Id.{Id}
 use Rattle.rubis_schema.specs.declared.limits.TheConstants.{SEQ_MAX}
 use Rattle.rubis_clock.specs.Clocks.{MessageCounts, IsReady}
-use Rattle.rubis_message.specs.Message.{Message}
-use Rattle.rubis_model.specs.Settle.{Has}
-use Rattle.rubis_release.specs.Waiting.{Slots, somes, put_some, IsItsSlot, HaveTheirIds, IsReadySlot, IsFirstOf, HasNoReady, NoSlotOf, first_of}
+use Rattle.rubis_model.specs.Site.{Has}
+use Rattle.std.proofs.lemmas.List.{get_or_append_left, get_or_at, nil_from_length}
+use Rattle.indexmap.specs.IndexMap.{insert_entry, set_value_at}
+use Rattle.rubis_release.specs.Release.{AllAmong, IsFirst, NoneReady}
+use Rattle.rubis_release.proofs.Keeping.{has_there}
+
+abbrev pub messages_of : List (Option Message) → List Message
+messages_of [] = []
+messages_of (v ∷ vs) = put_some v (messages_of vs)
+
+pub of_slots : (es : Slots) → messages_of (values_of es) ≡ somes es
+of_slots [] = refl
+of_slots (e ∷ es) = ap (put_some e.1) (of_slots es)
+
+-- a slot without one
+pub none_listed : (old : List (Bor Message)) (v : Option Message) (rest vs : List (Option Message)) (all : List Message)
+    → map (λ m. m.now) old ++ messages_of vs ≡ all → vs ≡ v ∷ rest → v ≡ None → map (λ m. m.now) old ++ messages_of rest ≡ all
+none_listed old v rest vs all listed next is =
+    sym (ap (λ w. map (λ m. m.now) old ++ put_some w (messages_of rest)) is)
+    ∙ sym (ap (λ ws. map (λ m. m.now) old ++ messages_of ws) next) ∙ listed
+
+-- ---- what is found in slots, and where
 
 itself : (k : Id) → same_id k k ≡ true
 itself k = (Decides-same_id k k).1 refl
@@ -179,3 +203,298 @@ module _ (clock : MessageCounts) (es : Slots) (at : ℕ) where
         (λ l. before i l k m there ready)
         (λ l. let none : Some (k, Some m) ≡ None = sym there ∙ slice_get_past es i (omega (arith, l, all)) in absurd cc)
         (cases_lt i at)
+
+-- ---- a message is taken out of its slot, and the slots that are left empty go
+
+pub un_some : {X : Type 0} (a b : X) → Some a ≡ Some b → a ≡ b
+un_some a b e = cc
+
+pub no_some : {X : Type 0} (a : X) → None ≡ Some a → ⊥
+no_some a e = cc
+
+-- where there are no slots, nothing waits
+pub nothing_waits : (es : Slots) (ms : List Message) → length es ≡ 0 → somes es ≡ ms → ms ≡ []
+nothing_waits es ms none is = sym is ∙ ap somes (nil_from_length es none)
+
+pub nothing_ready : (clock : MessageCounts) (ms : List Message) → ms ≡ [] → NoneReady clock ms
+nothing_ready clock ms none = subst (NoneReady clock) (sym none) (λ i d less. absurd (omega (arith, less)))
+
+pub values_at : (es : Slots) (i : ℕ) (k : Id) (v : Option Message) → slice_get es i ≡ Some (k, v) → slice_get (values_of es) i ≡ Some v
+values_at [] i k v there = absurd cc
+values_at (e ∷ es) zero k v there = let same : e ≡ (k, v) = cc in ap (λ (x : Id × Option Message). Some x.1) same
+values_at (e ∷ es) (suc i) k v there = values_at es i k v there
+
+-- a waiting message stands in a slot
+pub slot_of : (es : Slots) (m : Message) → Has m (somes es) → (i : ℕ) × (k : Id) × (i < length es) × (slice_get es i ≡ Some (k, Some m))
+slot_of [] m h = absurd h
+slot_of (e ∷ es) m h = at e.1 refl h (slot_of es m)
+  where
+    at : (v : Option Message) → e.1 ≡ v → Has m (put_some e.1 (somes es))
+        → (Has m (somes es) → (i : ℕ) × (k : Id) × (i < length es) × (slice_get es i ≡ Some (k, Some m)))
+        → (i : ℕ) × (k : Id) × (i < length (e ∷ es)) × (slice_get (e ∷ es) i ≡ Some (k, Some m))
+    at None is h rest =
+        let f = rest (subst (λ (v : Option Message). Has m (put_some v (somes es))) is h) in
+        (suc f.0, f.1, omega (arith, f.2), f.3)
+    at (Some x) is h rest = one (subst (λ (v : Option Message). Has m (put_some v (somes es))) is h)
+      where
+        one : (m ≡ x) ⊎ Has m (somes es) → (i : ℕ) × (k : Id) × (i < length (e ∷ es)) × (slice_get (e ∷ es) i ≡ Some (k, Some m))
+        one (inl same) = (0, e.0, omega arith, λ i. Some (e.0, (is ∙ ap Some (sym same)) i))
+        one (inr h) = let f = rest h in (suc f.0, f.1, omega (arith, f.2), f.3)
+
+pub somes_append : (es fs : Slots) → somes (es ++ fs) ≡ somes es ++ somes fs
+somes_append [] fs = refl
+somes_append (e ∷ es) fs = put e.1 (somes_append es fs)
+  where
+    put : (v : Option Message) → somes (es ++ fs) ≡ somes es ++ somes fs → put_some v (somes (es ++ fs)) ≡ put_some v (somes es) ++ somes fs
+    put None h = h
+    put (Some m) h = ap (λ ms. m ∷ ms) h
+
+emptied : Id × Option Message → Slots → Slots
+emptied x es = (x.0, None) ∷ es
+
+-- the slots before and after one
+pub record IsSplit (es : Slots) (at : ℕ) (k : Id) (m : Message) : Type 0 where
+  pub front : Slots
+  pub back : Slots
+  pub before : es ≡ front ++ (k, Some m) ∷ back
+  pub place : length front ≡ at
+  pub after : set_value_at es at None ≡ front ++ (k, None) ∷ back
+
+pub split_slots : (es : Slots) (at : ℕ) (k : Id) (m : Message) → slice_get es at ≡ Some (k, Some m) → IsSplit es at k m
+unfolding emptied
+split_slots [] at k m there = absurd cc
+split_slots (e ∷ es) zero k m there =
+    let same : e ≡ (k, Some m) = cc in
+    record {
+      front = [];
+      back = es;
+      before = ap (λ (x : Id × Option Message). x ∷ es) same;
+      place = refl;
+      after = ap (λ (x : Id × Option Message). emptied x es) same;
+    }
+split_slots (e ∷ es) (suc i) k m there =
+    let h = split_slots es i k m there in
+    record { front = e ∷ h.front; back = h.back; before = ap (λ xs. e ∷ xs) h.before; place = ap suc h.place; after = ap (λ xs. e ∷ xs) h.after }
+
+-- ---- lists
+at_middle : (xs ys : List Message) (m : Message) → slice_get (xs ++ m ∷ ys) (length xs) ≡ Some m
+at_middle [] ys m = refl
+at_middle (x ∷ xs) ys m = at_middle xs ys m
+
+without_middle : (xs ys : List Message) (m : Message) → remove (xs ++ m ∷ ys) (length xs) ≡ xs ++ ys
+without_middle [] ys m = refl
+without_middle (x ∷ xs) ys m = ap (λ zs. x ∷ zs) (without_middle xs ys m)
+
+slot_before : (es fs : Slots) (i : ℕ) → i < length es → slice_get (es ++ fs) i ≡ slice_get es i
+slot_before [] fs i l = absurd (omega (arith, l))
+slot_before (e ∷ es) fs zero l = refl
+slot_before (e ∷ es) fs (suc i) l = slot_before es fs i (omega (arith, l))
+
+-- ---- none is ready
+pub none_of_slots : (clock : MessageCounts) (es : Slots) (n : ℕ) → AllAmong n (somes es) → NoSlotOf clock es (λ j. j < n) → NoneReady clock (somes es)
+none_of_slots clock es n among none k d within ready =
+    let h = has_there (somes es) k d within in
+    let f = slot_of es (get_or (somes es) k d) h in
+    none f.0 f.1 (get_or (somes es) k d) f.3 ready (among (get_or (somes es) k d) h).id.site
+
+-- ---- the first that is ready is taken
+pub taken_first : (clock : MessageCounts) (es : Slots) (n at : ℕ) (k : Id) (m : Message) → AllAmong n (somes es) → slice_get es at ≡ Some (k, Some m)
+    → IsFirstOf clock es (λ j. j < n) (Some at) → TakesFirst clock (somes es) m (somes (set_value_at es at None))
+taken_first clock es n at k m among there first =
+    let h = split_slots es at k m there in
+    let xs = somes h.front in
+    let ys = somes h.back in
+    let old : somes es ≡ xs ++ m ∷ ys = ap somes h.before ∙ somes_append h.front ((k, Some m) ∷ h.back) in
+    let new : somes (set_value_at es at None) ≡ xs ++ ys = ap somes h.after ∙ somes_append h.front ((k, None) ∷ h.back) in
+    let ready : IsReady clock m.stamp = ready_there clock es at k m there first.0 in
+    record {
+      at = length xs;
+      first = subst (λ ms. IsFirst clock ms (length xs)) (sym old) (record {
+        within = let more = length-append xs (m ∷ ys) in omega (arith, more);
+        ready = λ d. subst (λ (x : Message). IsReady clock x.stamp) (sym (get_or_at xs m ys d (length xs) refl)) ready;
+        first = λ j d l r.
+            let x = get_or xs j d in
+            let f = slot_of h.front x (has_there xs j d l) in
+            let here : slice_get es f.0 ≡ Some (f.1, Some x) = ap (λ zs. slice_get zs f.0) h.before ∙ slot_before h.front ((k, Some m) ∷ h.back) f.0 f.2
+            ∙ f.3 in
+            let r' : IsReady clock x.stamp = subst (λ (y : Message). IsReady clock y.stamp) (get_or_append_left xs (m ∷ ys) d j l) r in
+            let late = first.1 f.0 f.1 x here r' (among x (slot_has es f.0 f.1 x here)).id.site in
+            omega (arith, late, f.2, h.place);
+      });
+      message = ap (λ ms. slice_get ms (length xs)) old ∙ at_middle xs ys m;
+      rest = new ∙ sym (without_middle xs ys m) ∙ ap (λ ms. remove ms (length xs)) (sym old);
+    }
+  where
+    one_message : (a b : Message) (i j : Id) → ◌≡◌ {A = Option (Id × Option Message)} (Some (i, Some a)) (Some (j, Some b)) → a ≡ b
+    one_message a b i j e = un_some a b (same_value i j (Some a) b e)
+
+    ready_there : (clock : MessageCounts) (es : Slots) (at : ℕ) (k : Id) (m : Message) → slice_get es at ≡ Some (k, Some m) → IsReadySlot clock es at →
+        IsReady clock m.stamp
+    ready_there clock es at k m there r = subst (λ (x : Message). IsReady clock x.stamp) (one_message r.message m r.key k (sym r.there ∙ there)) r.ready
+
+-- ---- the slots stay right
+ids_stay : (es : Slots) (at : ℕ) → HaveTheirIds es → HaveTheirIds (set_value_at es at None)
+ids_stay [] at h = h
+ids_stay (e ∷ es) zero h = (tt, h.1)
+ids_stay (e ∷ es) (suc i) h = (h.0, ids_stay es i h.1)
+
+keys_stay : (es : Slots) (at : ℕ) (v : Option Message) → keys_of (set_value_at es at v) ≡ keys_of es
+keys_stay [] at v = refl
+keys_stay (e ∷ es) zero v = refl
+keys_stay (e ∷ es) (suc i) v = ap (λ ks. e.0 ∷ ks) (keys_stay es i v)
+
+pub slots_stay : (es : Slots) (at gone : ℕ) (k : Id) (m : Message) → slice_get es at ≡ Some (k, Some m) → AreSlots es gone →
+    AreSlots (set_value_at es at None) (gone + 1)
+slots_stay es at gone k m there slots =
+    let h = split_slots es at k m there in
+    let old = ap (λ (zs : Slots). length (somes zs)) h.before ∙ ap length (somes_append h.front ((k, Some m) ∷ h.back))
+    ∙ length-append (somes h.front) (m ∷ somes h.back) in
+    let new = ap (λ (zs : Slots). length (somes zs)) h.after ∙ ap length (somes_append h.front ((k, None) ∷ h.back))
+    ∙ length-append (somes h.front) (somes h.back) in
+    let all = ap length h.before ∙ length-append h.front ((k, Some m) ∷ h.back) in
+    let left = ap length h.after ∙ length-append h.front ((k, None) ∷ h.back) in
+    record {
+      own = ids_stay es at slots.own;
+      apart = subst (IsDistinct same_id) (sym (keys_stay es at None)) slots.apart;
+      gone = omega (arith, slots.gone, old, new, all, left);
+    }
+
+-- ---- empty slots go
+pub somes_kept : (es : Slots) → somes (filter (λ e. is_some e.1) es) ≡ somes es
+somes_kept [] = refl
+somes_kept (e ∷ es) = by e.1 refl (somes_kept es)
+  where
+    by : (v : Option Message) → e.1 ≡ v → somes (filter (λ x. is_some x.1) es) ≡ somes es
+        → somes (cond (is_some e.1) (e ∷ filter (λ x. is_some x.1) es) (filter (λ x. is_some x.1) es)) ≡ put_some e.1 (somes es)
+    by None is h = ap (λ b. somes (cond b (e ∷ filter (λ x. is_some x.1) es) (filter (λ x. is_some x.1) es))) (ap is_some is) ∙ h
+        ∙ ap (λ (v : Option Message). put_some v (somes es)) (sym is)
+    by (Some m) is h = ap (λ b. somes (cond b (e ∷ filter (λ x. is_some x.1) es) (filter (λ x. is_some x.1) es))) (ap is_some is) ∙ ap (put_some e.1) h
+
+pub own_kept : (es : Slots) → HaveTheirIds es → HaveTheirIds (filter (λ e. is_some e.1) es)
+own_kept [] h = h
+own_kept (e ∷ es) h =
+    let rest = own_kept es h.1 in
+    elim (is_some e.1) as (λ b. HaveTheirIds (cond b (e ∷ filter (λ x. is_some x.1) es) (filter (λ x. is_some x.1) es))) [
+      | true ↦ (h.0, rest)
+      | false ↦ rest
+    ]
+
+pub full_kept : (es : Slots) → length (somes (filter (λ e. is_some e.1) es)) ≡ length (filter (λ e. is_some e.1) es)
+full_kept [] = refl
+full_kept (e ∷ es) = by e.1 refl (full_kept es)
+  where
+    by : (v : Option Message) → e.1 ≡ v → length (somes (filter (λ x. is_some x.1) es)) ≡ length (filter (λ x. is_some x.1) es)
+        → length (somes (cond (is_some e.1) (e ∷ filter (λ x. is_some x.1) es) (filter (λ x. is_some x.1) es)))
+        ≡ length (cond (is_some e.1) (e ∷ filter (λ x. is_some x.1) es) (filter (λ x. is_some x.1) es))
+    by None is h = subst (λ b. length (somes (cond b (e ∷ filter (λ x. is_some x.1) es) (filter (λ x. is_some x.1) es)))
+        ≡ length (cond b (e ∷ filter (λ x. is_some x.1) es) (filter (λ x. is_some x.1) es))) (sym (ap is_some is)) h
+    by (Some m) is h = subst
+        (λ b. length (somes (cond b (e ∷ filter (λ x. is_some x.1) es) (filter (λ x. is_some x.1) es)))
+        ≡ length (cond b (e ∷ filter (λ x. is_some x.1) es) (filter (λ x. is_some x.1) es))) (sym (ap is_some is))
+        (ap (λ (v : Option Message). length (put_some v (somes (filter (λ x. is_some x.1) es)))) is ∙ ap suc h)
+
+-- ---- what is looked up
+none_other : (k : Id) (es : Slots) → HaveTheirIds es → AllByRecursion (λ y. same_id k y ≡ false) (keys_of es) →
+    list_any (λ (m : Message). same_id k m.stamp.id) (somes es) ≡ false
+none_other k [] own apart = refl
+none_other k (e ∷ es) own apart = by e.1 own.0 (none_other k es own.1 apart.1) apart.0
+  where
+    by : (v : Option Message) → IsItsSlot e.0 v → list_any (λ (m : Message). same_id k m.stamp.id) (somes es) ≡ false → same_id k e.0 ≡ false →
+        list_any (λ (m : Message). same_id k m.stamp.id) (put_some v (somes es)) ≡ false
+    by None is h a = h
+    by (Some m) is h a = ap (λ b. b || list_any (λ (m : Message). same_id k m.stamp.id) (somes es)) (ap (same_id k) is ∙ a) ∙ h
+
+pub has_told : (es : Slots) (id : Id) → HaveTheirIds es → IsDistinct same_id (keys_of es) → is_there (lookup (same_id id) es)
+    ≡ list_any (λ (m : Message). same_id id m.stamp.id) (somes es)
+unfolding IsDistinct
+has_told [] id own d = refl
+has_told (e ∷ es) id own d = by (same_id id e.0) e.1 refl own.0 (has_told es id own.1 d.1) own.1 d.0
+  where
+    by : (b : Bool) (v : Option Message) → same_id id e.0 ≡ b → IsItsSlot e.0 v
+        → is_there (lookup (same_id id) es) ≡ list_any (λ (m : Message). same_id id m.stamp.id) (somes es)
+        → HaveTheirIds es → AllByRecursion (λ y. same_id e.0 y ≡ false) (keys_of es)
+        → is_there (cond (same_id id e.0) (Some v) (lookup (same_id id) es)) ≡ list_any (λ (m : Message). same_id id m.stamp.id) (put_some v (somes es))
+    by true None is own h rest apart = ap (λ b. is_there (cond b (Some None) (lookup (same_id id) es))) is
+        ∙ sym (ap (λ k. list_any (λ (m : Message). same_id k m.stamp.id) (somes es)) ((Decides-same_id id e.0).0 is) ∙ none_other e.0 es rest apart)
+    by true (Some m) is own h rest apart = ap (λ b. is_there (cond b (Some (Some m)) (lookup (same_id id) es))) is
+        ∙ ap (λ b. b || list_any (λ (m : Message). same_id id m.stamp.id) (somes es)) (sym (ap (same_id id) own ∙ is))
+    by false None is own h rest apart = ap (λ b. is_there (cond b (Some None) (lookup (same_id id) es))) is ∙ h
+    by false (Some m) is own h rest apart = ap (λ b. is_there (cond b (Some (Some m)) (lookup (same_id id) es))) is ∙ h
+        ∙ ap (λ b. b || list_any (λ (m : Message). same_id id m.stamp.id) (somes es)) (sym (ap (same_id id) own ∙ is))
+
+few_somes : (es : Slots) → length (somes es) ≤ length es
+few_somes [] = omega arith
+few_somes (e ∷ es) = by e.1 (few_somes es)
+  where
+    by : (v : Option Message) → length (somes es) ≤ length es → length (put_some v (somes es)) ≤ suc (length es)
+    by None l = omega (arith, l)
+    by (Some m) l = omega (arith, l)
+
+-- without its last slot, which is empty, a list of slots has the same messages
+front_same : (es : Slots) (n : ℕ) (k : Id) → length es ≡ n + 1 → slice_get es n ≡ Some (k, None) → somes (take n es) ≡ somes es
+front_same [] n k long there = absurd (omega (arith, long))
+front_same (e ∷ []) zero k long there = let same : e ≡ (k, None) = cc in ap (λ (x : Id × Option Message). put_some x.1 []) (sym same)
+front_same (e ∷ f ∷ es) zero k long there = absurd (omega (arith, long))
+front_same (e ∷ es) (suc n) k long there = ap (put_some e.1) (front_same es n k (omega (arith, long)) there)
+
+front_own : (es : Slots) (n : ℕ) → HaveTheirIds es → HaveTheirIds (take n es)
+front_own es zero own = tt
+front_own [] (suc n) own = tt
+front_own (e ∷ es) (suc n) own = (own.0, front_own es n own.1)
+
+-- and one that is empty less
+pub without_last : (es fs : Slots) (n gone : ℕ) (k : Id) → length es ≡ n + 1 → slice_get es n ≡ Some (k, None) → fs ≡ take n es → AreApart fs
+    → AreSlots es gone → (somes fs ≡ somes es) × (1 ≤ gone) × AreSlots fs (gone - 1)
+without_last es fs n gone k long there front apart slots =
+    let same = ap somes front ∙ front_same es n k long there in
+    let many = ap length same in
+    let few = few_somes fs in
+    let left = ap length front ∙ length-take n es in
+    let all = slots.gone in (
+      same,
+      omega (arith, many, few, left, long, all),
+      record {
+        own = subst HaveTheirIds (sym front) (front_own es n slots.own);
+        apart = apart;
+        gone = omega (arith, many, few, left, long, all);
+      },
+    )
+
+pub full_lookup : (t : Id → Bool) (es : Slots) → length (somes es) ≡ length es → is_there (lookup t es) ≡ false → lookup t es ≡ None
+full_lookup t [] full none = refl
+full_lookup t (e ∷ es) full none = by (t e.0) e.1 refl full none (few_somes es) (full_lookup t es)
+  where
+    by : (b : Bool) (v : Option Message) → t e.0 ≡ b → length (put_some v (somes es)) ≡ suc (length es) → is_there (cond (t e.0) (Some v) (lookup t es)) ≡ false
+        → length (somes es) ≤ length es → (length (somes es) ≡ length es → is_there (lookup t es) ≡ false → lookup t es ≡ None) →
+        cond (t e.0) (Some v) (lookup t es) ≡ None
+    by b None is full none few rest = absurd (omega (arith, full, few))
+    by true (Some m) is full none few rest = absurd (true≢false (ap (λ b. is_there (cond b (Some (Some m)) (lookup t es))) (sym is) ∙ none))
+    by false (Some m) is full none few rest = ap (λ b. cond b (Some (Some m)) (lookup t es)) is
+        ∙ rest (omega (arith, full)) (ap (λ b. is_there (cond b (Some (Some m)) (lookup t es))) (sym is) ∙ none)
+
+pub none_is : (o : Option (Option Message)) → is_some o ≡ false → o ≡ None
+none_is None e = refl
+none_is (Some v) e = absurd (true≢false e)
+
+-- ---- one message more
+pub new_last : (k : Id) (v : Option Message) (es : Slots) → lookup (same_id k) es ≡ None → insert_entry same_id es k v ≡ es ++ (k, v) ∷ []
+new_last k v [] none = refl
+new_last k v (e ∷ es) none = at (same_id k e.0) refl none (new_last k v es)
+  where
+    at : (b : Bool) → same_id k e.0 ≡ b → cond (same_id k e.0) (Some e.1) (lookup (same_id k) es) ≡ None
+        → (lookup (same_id k) es ≡ None → insert_entry same_id es k v ≡ es ++ (k, v) ∷ [])
+        → insert_entry same_id (e ∷ es) k v ≡ e ∷ (es ++ (k, v) ∷ [])
+    at true is none rest = absurd (no_some e.1 (sym none ∙ ap (λ b. cond b (Some e.1) (lookup (same_id k) es)) is))
+    at false is none rest = ap (λ b. cond b ((e.0, v) ∷ es) (e ∷ insert_entry same_id es k v)) is
+        ∙ ap (λ xs. e ∷ xs) (rest (ap (λ b. cond b (Some e.1) (lookup (same_id k) es)) (sym is) ∙ none))
+
+own_more : (es : Slots) (k : Id) (m : Message) → HaveTheirIds es → m.stamp.id ≡ k → HaveTheirIds (es ++ (k, Some m) ∷ [])
+own_more [] k m h is = (is, tt)
+own_more (e ∷ es) k m h is = (h.0, own_more es k m h.1 is)
+
+pub slots_more : (es : Slots) (gone : ℕ) (k : Id) (m : Message) → AreSlots es gone → m.stamp.id ≡ k → AreApart (es ++ (k, Some m) ∷ [])
+    → AreSlots (es ++ (k, Some m) ∷ []) gone
+slots_more es gone k m slots is apart =
+    let a = ap length (somes_append es ((k, Some m) ∷ [])) ∙ length-append (somes es) (m ∷ []) in
+    let b = length-append es ((k, Some m) ∷ []) in
+    record { own = own_more es k m slots.own is; apart = apart; gone = omega (arith, a, b, slots.gone) }

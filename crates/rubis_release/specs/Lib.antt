@@ -1,5 +1,2 @@
 pub mod Release
-pub mod Messages
-pub mod Intake
-pub mod Answers
 pub mod Waiting

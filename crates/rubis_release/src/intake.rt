@@ -7,10 +7,8 @@ ghost use Rattle.rubis_message.specs.declared.answers.Arrival.TheVariants as Arr
 ghost use Rattle.rubis_shadow.specs.Shadows.{InLimits, is_red};
 ghost use Rattle.rubis_model.specs.Site.{opening_at, made, after_made, arrived, standing_of, is_full, is_current, is_repeat, not_ours};
 ghost use Rattle.rubis_release.specs.declared.intake.IntakeFault.TheVariants.{Memory, Refused};
-ghost use Rattle.rubis_release.specs.Intake as model;
-ghost use Rattle.rubis_release.specs.Intake.{IsIntake};
-ghost use Rattle.rubis_release.specs.Release.{IsAmong, clock_of};
-ghost use Rattle.rubis_release.specs.Answers.{IsFaultOf};
+ghost use Rattle.rubis_release.specs.Release as model;
+ghost use Rattle.rubis_release.specs.Release.{IsIntake, IsAmong, clock_of, IsFaultOf};
 
 mod tokens;
 
@@ -69,8 +67,8 @@ impl Drop for Intake {
 }
 
 impl Model for Intake {
-    ghost use Rattle.rubis_release.specs.Intake as model;
-    ghost use Rattle.rubis_release.specs.Intake.{IsUpToDate};
+    ghost use Rattle.rubis_release.specs.Release as model;
+    ghost use Rattle.rubis_release.specs.Release.{IsUpToDate};
 
     ghost Value = { model.Intake };
 

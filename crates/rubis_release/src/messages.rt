@@ -5,10 +5,9 @@ ghost use Rattle.std.specs.List.{list_any};
 ghost use Rattle.rubis_schema.specs.declared.limits.TheConstants.{COUNTED_MAX};
 ghost use Rattle.rubis_schema.specs.Keys.{same_id};
 ghost use Rattle.rubis_clock.specs.Clocks.{IsReady};
-ghost use Rattle.rubis_model.specs.Settle.{Settles};
-ghost use Rattle.rubis_release.specs.Release.{IsAmong, clock_of};
-ghost use Rattle.rubis_release.specs.Messages as model;
-ghost use Rattle.rubis_release.specs.Messages.{HaveSettled};
+ghost use Rattle.rubis_model.specs.Site.{Settles};
+ghost use Rattle.rubis_release.specs.Release.{IsAmong, clock_of, HaveSettled};
+ghost use Rattle.rubis_release.specs.Release as model;
 
 use crate::waiting::Waiting;
 use rubis_clock::Clock;
@@ -31,8 +30,8 @@ pub struct Messages {
 
 impl Model for Messages {
     ghost use Rattle.std.specs.Prelude.{length};
-    ghost use Rattle.rubis_release.specs.Messages as model;
-    ghost use Rattle.rubis_release.specs.Messages.{AreCounted};
+    ghost use Rattle.rubis_release.specs.Release as model;
+    ghost use Rattle.rubis_release.specs.Release.{AreCounted};
 
     ghost Value = { model.Messages };
 

@@ -6,12 +6,12 @@ use Rattle.rubis_schema.specs.declared.refusals.Refusal.{Refusal}
 use Rattle.rubis_message.specs.Message.{Message}
 use Rattle.rubis_message.specs.declared.answers.Arrival.{Arrival}
 use Rattle.rubis_model.specs.Site.{Place, Replica, arrived}
-use Rattle.rubis_release.specs.Answers.{IsFaultOf}
+use Rattle.rubis_release.specs.Release.{IsFaultOf}
 use Rattle.rubis_release.specs.declared.intake.IntakeFault.{IntakeFault}
 use Rattle.rubis_release.specs.declared.intake.IntakeFault.TheVariants.{Refused}
-use Rattle.rubis_replica.specs.Arrivals.{TakesFirst, after_all, answers_to}
+use Rattle.rubis_replica.specs.State.{TakesFirst, after_all, answers_to}
 use Rattle.rubis_replica.specs.Follow.{Follower, FollowsLog}
-use Rattle.rubis_replica.proofs.Extending.{Extends, arrived_extends, follows_extended}
+use Rattle.rubis_replica.proofs.Standing.{Extends, arrived_extends, follows_extended}
 
 -- ---- one message more
 

@@ -11,12 +11,11 @@ use Rattle.rubis_schema.specs.declared.rows.Best.{Best}
 use Rattle.rubis_schema.specs.declared.rows.ItemRow.{ItemRow}
 use Rattle.rubis_schema.specs.declared.rows.Row.{Row}
 use Rattle.rubis_schema.specs.declared.rows.Row.TheVariants as row
-use Rattle.rubis_shadow.specs.Limits.{AllInLimits, RowInLimits}
+use Rattle.rubis_shadow.specs.Tables.{AllInLimits, RowInLimits}
 use Rattle.rubis_shadow.specs.Shadows.{InLimits, IsAsk}
 use Rattle.rubis_shadow.specs.declared.shadows.Ask.{Ask}
 use Rattle.rubis_shadow.specs.declared.shadows.Shadow.{Shadow}
-use Rattle.rubis_generate.specs.Lookup.{as_item_row, item_in, row_by_key}
-use Rattle.rubis_generate.specs.Decision.{decision}
+use Rattle.rubis_generate.specs.Decision.{as_item_row, item_in, row_by_key, decision}
 use Rattle.rubis_generate.proofs.Granted.{granted, shadow_limits}
 use Rattle.rubis_generate.specs.declared.standing.Standing.{Standing}
 use Rattle.rubis_model.specs.Log.{cores, fold_of}
@@ -25,14 +24,12 @@ use Rattle.rubis_model.specs.Site.{Place, Replica, asked, generating, rows_at, s
 use Rattle.rubis_workers.specs.Shard.{union}
 use Rattle.rubis_shadow.specs.declared.numbered.Misfit.{Misfit}
 use Rattle.rubis_workers.specs.Pieces.{AreOfTheLog}
-use Rattle.rubis_release.specs.Intake.{IsIntake}
-use Rattle.rubis_replica.specs.Follow.{Follower, FollowsLog}
-use Rattle.rubis_replica.specs.Progress.{left_of, resting_at}
+use Rattle.rubis_release.specs.Release.{IsIntake}
+use Rattle.rubis_replica.specs.Follow.{Follower, FollowsLog, left_of, resting_at}
 use Rattle.rubis_replica.specs.State.{AnswersAsTheStep, SiteState, with_all_applied}
 use Rattle.rubis_replica.specs.declared.faults.Fault.{Fault}
 use Rattle.rubis_replica.specs.declared.faults.Fault.TheVariants.{Refused, Behind, Memory}
-use Rattle.rubis_replica.proofs.Growing.{all_at, tables_of_log}
-use Rattle.rubis_replica.proofs.Kept.{log_in_limits}
+use Rattle.rubis_replica.proofs.Standing.{all_at, tables_of_log, log_in_limits}
 use Rattle.rubis_schema.specs.declared.refusals.Refusal.{Refusal}
 
 abbrev ItemFits : ℕ → Option ItemRow → Type 0

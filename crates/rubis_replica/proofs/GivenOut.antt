@@ -1,190 +1,282 @@
--- Shards of a set that are given to be folded, and come back.
-use Rattle.std.proofs.Common.{◌≡◌, ◌+◌, ℕ, suc, List, [], ◌∷◌, ◌++◌, length, map, refl, sym, ap, ◌∙◌, subst, append-nil, arith}
-use Rattle.std.specs.Prelude.{None, Some, slice_get}
+-- A batch that is shared by those who fold it, and shards of a set that are given to be folded, and come back.
+use Rattle.std.proofs.Common.{◌≡◌, ℕ, ◌+◌, ◌-◌, ◌<◌, ◌≤◌, true, List, drop, length, map, sym, ap, subst, subst₂, arith, ◌||◌, suc, false, [], ◌∷◌, ◌++◌}
+use Rattle.std.proofs.Common.{vec_len, refl, ◌∙◌}
+use Rattle.std.specs.Prelude.{Err, OnErr, OnOk, Result, slice_index, slice_range}
 use Rattle.std.specs.Global.{Vec}
 use Rattle.std.specs.Vec.{vec_capacity}
 use Rattle.std.specs.List.{All, AllZip}
 use Rattle.std.specs.List.Sorted.{IsPermutation}
-use Rattle.std.proofs.lemmas.List.{length-append, map-append}
-use Rattle.std.proofs.lemmas.List.Elements.{All-cons, All-nil}
+use Rattle.std.specs.declared.alloc.AllocError.{AllocError}
+use Rattle.std.proofs.lemmas.List.{length-take, length-append}
+use Rattle.std.proofs.lemmas.List.Elements.{All-weaker, All-cons, All-nil}
+use Rattle.std.proofs.lemmas.List.Sorted.{All-permutation}
 use Rattle.std.proofs.lemmas.Option.{slice_get_within}
-use Rattle.std.proofs.lemmas.List.Sorted.{IsPermutation-map, IsPermutation-refl}
-use Rattle.rubis_shard.specs.Holdings.{AreInOrder}
+use Rattle.rubis_message.specs.Message.{IsMessage, Message}
+use Rattle.rubis_model.specs.Log.{cores}
+use Rattle.rubis_shard.specs.Holdings.{AreInOrder, AreHomes}
 use Rattle.rubis_shard.specs.States.{ShardState}
-use Rattle.rubis_pieces.specs.Faults.{IsFault, numbers_of}
-use Rattle.rubis_pieces.specs.Following.{AreFollowed}
-use Rattle.rubis_pieces.specs.Gathered.{IsCounted}
+use Rattle.rubis_shard.specs.declared.part_homes.PartHomes.{PartHomes}
 use Rattle.rubis_pieces.specs.declared.gathers.CountedShards.{CountedShards}
-use Rattle.rubis_pieces.specs.declared.gathers.FaultKind.{FaultKind}
 use Rattle.rubis_pieces.specs.declared.pieces.Done.{Done}
 use Rattle.rubis_pieces.specs.declared.pieces.Piece.{Piece}
-use Rattle.rubis_workers.specs.Following.{bare}
-use Rattle.rubis_workers.proofs.Counts.{followed, no_fault}
-use Rattle.rubis_crew.specs.States.{ComesBack, CrewId, LeadState}
+use Rattle.rubis_workers.specs.Work.{IsFollowedOn, bare, IsRoom, having}
+use Rattle.rubis_workers.specs.Logs.{AppliesTo, AppliesWhole, IsPending, WereFolded}
+use Rattle.rubis_workers.specs.declared.team.Teamwork.{Teamwork}
+use Rattle.rubis_workers.proofs.Applied.{nothing}
+use Rattle.rubis_workers.proofs.Counts.{all_bare}
+use Rattle.rubis_release.specs.Release.{Intake}
+use Rattle.rubis_replica.specs.Folding.{CanApply, FitsBatch, FitsSet, HasWorked, IsApplied, IsBatch, IsFoldedOn, IsShared, IsSpan, messages_of, AreOf, AreOut}
+use Rattle.rubis_replica.specs.Folding.{CanShare, ComesOf, HasFolded, IsFoldable, IsIdle, IsOf, ReturnsPart}
+use Rattle.rubis_replica.specs.declared.folding.SharedBatch.{SharedBatch}
+use Rattle.rubis_replica.specs.declared.folding.Span.{Span}
+use Rattle.std.specs.Arc.{arc_value}
+use Rattle.atomic_table.specs.Seated.{TableId}
+use Rattle.rubis_board.specs.Rule.{PassState, joined_pass, new_part, one_part_less}
+use Rattle.rubis_crew.specs.States.{ComesBack, CrewId, LeadState, given_too}
 use Rattle.rubis_crew.specs.declared.job.Back.{Back}
 use Rattle.rubis_crew.specs.declared.job.Given.{Given}
-use Rattle.rubis_replica.specs.Folding.{AreOf, AreOut, FitsBatch, FitsSet, GoesOn, HasFolded, IsFoldedOn, IsFolding, IsGiven, IsBatch, IsOf, cores_of, shards_of}
-use Rattle.rubis_replica.specs.declared.folding.SharedBatch.{SharedBatch}
-use Rattle.rubis_replica.specs.declared.folding.Folding.{Folding}
-use Rattle.rubis_replica.proofs.Moving.{given_done, last_done, last_given}
+use Rattle.rubis_replica.specs.declared.folding.Part.{Part}
+use Rattle.rubis_replica.specs.declared.folding.PartDone.{PartDone}
 
--- ---- lists side by side
-pub zip_more : {A B : Type 0} (R : A → B → Type 0) (xs : List A) (ys : List B) (x : A) (y : B) → AllZip R xs ys → R x y
-    → AllZip R (xs ++ x ∷ []) (ys ++ y ∷ [])
-zip_more R [] [] x y h r = (r, tt)
-zip_more R [] (z ∷ ys) x y h r = absurd h
-zip_more R (w ∷ xs) [] x y h r = absurd h
-zip_more R (w ∷ xs) (z ∷ ys) x y h r = (h.0, zip_more R xs ys x y h.1 r)
+-- messages with the homes of their parts, and the intake that has them in its log
+pub shared : (intake : Intake) (s : Span) (shards : ℕ) (b : SharedBatch) → b.intake ≡ intake → b.span ≡ s → IsSpan intake.state.log s
+    → AreHomes shards (cores (slice_range intake.state.log s.from s.upto)) b.homes.items
+    → All IsMessage (slice_range intake.state.log s.from s.upto) → IsShared intake s shards b
+shared intake s shards b same is span homes conditions = record {
+  intake = same;
+  span = is;
+  batch = record {
+    span = subst₂ (λ (i : Intake) (t : Span). IsSpan i.state.log t) (sym same) (sym is) span;
+    homes = subst₂ (λ (i : Intake) (t : Span). AreHomes shards (cores (slice_range i.state.log t.from t.upto)) b.homes.items) (sym same) (sym is)
+        homes;
+  };
+  conditions = subst₂ (λ (i : Intake) (t : Span). All IsMessage (slice_range i.state.log t.from t.upto)) (sym same) (sym is) conditions;
+}
 
--- all but the last
+-- the batch fits the pieces of a board on which the shards of a set for it are posted
+pub all_fit : (b : SharedBatch) (ss : List ShardState) (posted : List Piece) → FitsSet b ss → IsPermutation (map bare ss) posted
+    → All (FitsBatch b) posted
+all_fit b ss posted h moved =
+    All-permutation (FitsBatch b) (map bare ss) posted moved
+    (all_bare (FitsBatch b) ss
+    (λ k s e.
+    let (number, shards) = h.set.order k s e in
+    let inside = slice_get_within ss k s e in
+    record { number = omega (arith, number, shards, inside); batch = subst (IsBatch b) (sym shards) h.batch; few = h.few }))
+
+-- the shards of tables are a set for it
+pub fits_set : (b : SharedBatch) (ts ss : List ShardState) (stops : Vec ℕ) → IsBatch b (length ts) → CanApply b.intake.state.log b.span ts stops
+    → AreInOrder ts → ss ≡ ts → FitsSet b ss
+fits_set b ts ss stops batch can order same =
+    subst (FitsSet b) (sym same)
+    (record {
+      set = record { some = can.some; order = order };
+      batch = batch;
+      few = (let taken = length-take (b.span.upto - b.span.from) (drop b.span.from b.intake.state.log) in
+          let some = can.some_pending in
+          let within = can.within in
+          let few = can.few in omega (arith, taken, some, within, few));
+    })
+
+-- ---- what a worker does
+-- it fits the pieces
+pub task_fits : (b : SharedBatch) (posted : List Piece) (batch : List Message) (homes : List PartHomes) (first : ℕ) → All (FitsBatch b) posted
+    → batch ≡ messages_of b → homes ≡ b.homes.items → first ≡ b.span.from + 1
+    → All (λ (p : Piece). (p.shard.number < p.shard.shards) × AreHomes p.shard.shards (cores batch) homes × (first + length batch ≤ 1000001)) posted
+task_fits b posted batch homes first all same there is =
+    All-weaker (FitsBatch b)
+    (λ (p : Piece). (p.shard.number < p.shard.shards) × AreHomes p.shard.shards (cores batch) homes × (first + length batch ≤ 1000001))
+    (λ p f. (
+      f.number,
+      subst₂ (λ (ms : List Message) (hs : List PartHomes). AreHomes p.shard.shards (cores ms) hs) (sym same) (sym there) f.batch.homes,
+      (let few = f.few in let long = ap length same in omega (arith, few, long, is)),
+    )) posted all
+
+-- and what it did is what is wanted
+pub as_folded : (b : SharedBatch) (batch : List Message) (first : ℕ) (taken : List Piece) (list : List Done) → batch ≡ messages_of b
+    → first ≡ b.span.from + 1 → AllZip (IsFollowedOn first (cores batch)) taken list → AllZip (IsFoldedOn b) taken list
+as_folded b batch first taken list same is =
+    subst₂ (λ (ms : List Message) (n : ℕ). AllZip (IsFollowedOn n (cores ms)) taken list) same is
+
+-- the caller's thread, before others come back
+pub mine_worked : (b : SharedBatch) (t : Teamwork (Unit {0})) → t.pass.seen_none ≡ true → AllZip (IsFoldedOn b) t.pass.taken t.list.items
+    → length t.pass.posted ≤ vec_capacity t.list → t.others ≡ 0 → HasWorked b t
+mine_worked b t seen worked room none =
+    record { seen_none = seen; worked = worked; room = room; others = omega (arith, none) }
+
+-- ---- the tables
+-- the messages as those who put the shards back see them
+pub is_pending : (b x : SharedBatch) (log : List Message) (ts : List ShardState) (stops : Vec ℕ) → log ≡ x.intake.state.log → x ≡ b
+    → CanApply b.intake.state.log b.span ts stops → All IsMessage (messages_of b) → IsPending log x.span.from x.span.upto
+is_pending b x log ts stops same is can conditions =
+    subst (λ l. IsPending l x.span.from x.span.upto) (sym same)
+    (subst (λ (y : SharedBatch). IsPending y.intake.state.log y.span.from y.span.upto) (sym is)
+    (record { few = can.few; within = can.within; pending = can.some_pending; conditions = conditions }))
+
+pub were_folded : (b x : SharedBatch) (log : List Message) (ss ts : List ShardState) (folded : Result CountedShards (List ShardState))
+    → log ≡ x.intake.state.log → x ≡ b → ss ≡ ts → WereFolded b.intake.state.log b.span.from b.span.upto ss folded
+    → WereFolded log x.span.from x.span.upto ts folded
+were_folded b x log ss ts folded same is back were =
+    subst (λ l. WereFolded l x.span.from x.span.upto ts folded) (sym same)
+    (subst (λ (y : SharedBatch). WereFolded y.intake.state.log y.span.from y.span.upto ts folded) (sym is)
+    (subst (λ (zs : List ShardState). WereFolded b.intake.state.log b.span.from b.span.upto zs folded) back were))
+
+pub is_applied : (b x : SharedBatch) (log : List Message) (old new : List ShardState) (before stops : Vec ℕ) (result : Result (Unit {0}) AllocError)
+    → log ≡ x.intake.state.log → x ≡ b → OnOk result (AppliesWhole log x.span.from x.span.upto old new)
+    → OnErr result (AppliesTo log x.span.from x.span.upto old new stops.items) → vec_capacity stops ≡ vec_capacity before
+    → IsApplied b.intake.state.log b.span old before new stops result
+is_applied b x log old new before stops result same is ok err room =
+    subst (λ (y : SharedBatch). IsApplied y.intake.state.log y.span old before new stops result) is
+    (subst (λ l. IsApplied l x.span old before new stops result) same (record { ok = ok; err = err; room = room }))
+
+-- nothing was applied
+pub none_is_applied : (log : List Message) (s : Span) (old new : List ShardState) (before stops : Vec ℕ) → CanApply log s old before → new ≡ old
+    → length stops.items ≡ length old → ((k : ℕ) → k < length old → slice_index stops.items k ≡ s.from)
+    → vec_capacity stops ≡ vec_capacity before → IsApplied log s old before new stops (Err (record {}))
+none_is_applied log s old new before stops can same counts each room = record {
+  ok = tt;
+  err = nothing log s.from s.upto old new stops.items (let some = can.some_pending in omega (arith, some)) same counts each;
+  room = room;
+}
+
+-- ---- parts of a board that are given to helpers, and what comes of them
+
+-- ---- lists
+-- all but the last, and the last
 pub all_front : {A : Type 0} (P : A → Type 0) (xs : List A) (x : A) → All P (xs ++ x ∷ []) → All P xs
 all_front P [] x h = All-nil P
 all_front P (y ∷ xs) x h = All-cons P y xs (h 0 y (omega arith)) (all_front P xs x (λ k d l. h (suc k) d (omega (arith, l))))
 
+pub all_last : {A : Type 0} (P : A → Type 0) (xs : List A) (x : A) → All P (xs ++ x ∷ []) → P x
+all_last P [] x h = h 0 x (omega arith)
+all_last P (y ∷ xs) x h = all_last P xs x (λ k d l. h (suc k) d (omega (arith, l)))
+
+zip_both : {A B : Type 0} (R : A → B → Type 0) (xs xs' : List A) (ys ys' : List B) → AllZip R xs ys → AllZip R xs' ys'
+    → AllZip R (xs ++ xs') (ys ++ ys')
+zip_both R [] xs' [] ys' h k = k
+zip_both R [] xs' (y ∷ ys) ys' h k = absurd h
+zip_both R (x ∷ xs) xs' [] ys' h k = absurd h
+zip_both R (x ∷ xs) xs' (y ∷ ys) ys' h k = (h.0, zip_both R xs xs' ys ys' h.1 k)
+
+-- ---- a pass that took nothing
+pub shares_too : (board : TableId) (b : SharedBatch) (p q : PassState) → CanShare board b p → q.board ≡ p.board → q.posted ≡ p.posted
+    → q.taken ≡ [] → q.seen_none ≡ false → CanShare board b q
+shares_too board b p q can same posted taken seen = record {
+  board_is = same ∙ can.board_is;
+  span = can.span;
+  pieces = subst (All (FitsBatch b)) (sym posted) can.pieces;
+  taken = taken;
+  seen_none = seen;
+}
+
 module _ {G : Type 0} where
-  -- ---- the jobs of a batch
-  of_more : (b : SharedBatch) (xs : List (Given (Folding G))) (x : Given (Folding G)) → AreOf b xs → IsOf b x → AreOf b (xs ++ x ∷ [])
-  of_more b [] x all one = (one, tt)
-  of_more b (y ∷ xs) x all one = (all.0, of_more b xs x all.1 one)
-
-  of_without : (b : SharedBatch) (before after : List (Given (Folding G))) (x : Given (Folding G)) → AreOf b (before ++ x ∷ after)
-      → AreOf b (before ++ after)
-  of_without b [] after x all = all.1
-  of_without b (y ∷ before) after x all = (all.0, of_without b before after x all.1)
-
-  of_one : (b : SharedBatch) (before after : List (Given (Folding G))) (x : Given (Folding G)) → AreOf b (before ++ x ∷ after) → IsOf b x
-  of_one b [] after x all = all.0
-  of_one b (y ∷ before) after x all = of_one b before after x all.1
-
-  abbrev shard : Given (Folding G) → ShardState
-  shard x = x.job.shard
-
-  -- ---- none is given yet
-  pub none_given : (b : SharedBatch) (all : List ShardState) (l : LeadState (Folding G)) (list : List Done) → l.given ≡ [] → list ≡ []
-      → IsFolding b all all l list
-  none_given b all l list none empty = record {
-    done = [];
-    moved = subst (λ xs. IsPermutation all (all ++ (shards_of xs ++ []))) (sym none)
-        (subst (IsPermutation all) (sym (append-nil all)) (IsPermutation-refl all));
-    folded = subst (AllZip (IsFoldedOn b) []) (sym empty) tt;
-    given = subst (AreOf b) (sym none) tt;
+  -- a new part that it shares can be worked at
+  pub part_fits : (board : TableId) (b : SharedBatch) (p : PassState) (x : Part G) → CanShare board b p → x.board ≡ board
+      → arc_value x.batch ≡ b → x.pass ≡ new_part p → IsRoom (length p.posted) x.room → IsFoldable x
+  part_fits board b p x can same batch is room = record {
+    share =
+        subst₂ (λ (c : TableId) (d : SharedBatch). CanShare c d x.pass) (sym same) (sym batch)
+        (subst (CanShare board b) (sym is) (shares_too board b p (new_part p) can refl refl refl refl));
+    one = ap (λ (q : PassState). q.parts) is;
+    room = subst (λ (q : PassState). IsRoom (length q.posted) x.room) (sym is) room;
   }
 
-  -- ---- the last shard that is left was given, or folded on at once
-  pub last_is_given : (b : SharedBatch) (all left : List ShardState) (s : ShardState) (old new : LeadState (Folding G)) (list : List Done)
-      → IsFolding b all (left ++ s ∷ []) old list → IsGiven b s old None new → IsFolding b all left new list
-  last_is_given b all left s old new list f (x, is, of, crew, given) =
-      let jobs : shards_of new.given ≡ shards_of old.given ++ s ∷ [] =
-      ap shards_of given ∙ map-append shard old.given (x ∷ []) ∙ ap (λ t. shards_of old.given ++ t ∷ []) is in
-      record {
-        done = f.done;
-        moved = subst (λ ss. IsPermutation all (left ++ (ss ++ f.done))) (sym jobs) (last_given all left (shards_of old.given) f.done s f.moved);
-        folded = f.folded;
-        given = subst (AreOf b) (sym given) (of_more b old.given x f.given of);
-      }
+  module _ (board : TableId) (posted : List Piece) (b : SharedBatch) where
+    of_more : (xs : List (Given (Part G))) (x : Given (Part G)) → AreOf board posted b xs → IsOf board posted b x → AreOf board posted b (xs ++ x ∷ [])
+    of_more [] x all one = (one, tt)
+    of_more (y ∷ xs) x all one = (all.0, of_more xs x all.1 one)
 
-  pub last_is_done : (b : SharedBatch) (all left : List ShardState) (s : ShardState) (old new : LeadState (Folding G)) (list : List Done) (d : Done)
-      → IsFolding b all (left ++ s ∷ []) old list → IsGiven b s old (Some d) new → IsFolding b all left new (list ++ d ∷ [])
-  last_is_done b all left s old new list d f (same, is) =
-      subst (λ l. IsFolding b all left l (list ++ d ∷ [])) (sym same)
-      (record {
-        done = f.done ++ s ∷ [];
-        moved = last_done all left (shards_of old.given) f.done s f.moved;
-        folded = zip_more (IsFoldedOn b) f.done list s d f.folded is;
-        given = f.given;
-      })
+    of_without : (before after : List (Given (Part G))) (x : Given (Part G)) → AreOf board posted b (before ++ x ∷ after)
+        → AreOf board posted b (before ++ after)
+    of_without [] after x all = all.1
+    of_without (y ∷ before) after x all = (all.0, of_without before after x all.1)
 
-  pub out_given : (id : CrewId) (b : SharedBatch) (all left : List ShardState) (s : ShardState) (old new : LeadState (Folding G)) (list after : Vec Done)
-      → AreOut id b all (left ++ s ∷ []) old list → IsGiven b s old None new → after ≡ list → AreOut id b all left new after
-  out_given id b all left s old new list after out given same =
-      subst (AreOut id b all left new) (sym same)
-      (record {
-        crew = given.3 ∙ out.crew;
-        folding = last_is_given b all left s old new list.items out.folding given;
-        room = (let room = out.room in
-            let fewer = length-append left (s ∷ []) in
-            let more = ap length given.4 ∙ length-append old.given (given.0 ∷ []) in omega (arith, room, fewer, more));
-      })
+    of_one : (before after : List (Given (Part G))) (x : Given (Part G)) → AreOf board posted b (before ++ x ∷ after) → IsOf board posted b x
+    of_one [] after x all = all.0
+    of_one (y ∷ before) after x all = of_one before after x all.1
 
-  pub out_done : (id : CrewId) (b : SharedBatch) (all left : List ShardState) (s : ShardState) (old new : LeadState (Folding G)) (list after : Vec Done)
-      (d : Done) → AreOut id b all (left ++ s ∷ []) old list → IsGiven b s old (Some d) new → after.items ≡ list.items ++ d ∷ []
-      → vec_capacity after ≡ vec_capacity list → AreOut id b all left new after
-  out_done id b all left s old new list after d out given items room = record {
-    crew = ap (λ (l : LeadState (Folding G)). l.crew) given.0 ∙ out.crew;
-    folding = subst (IsFolding b all left new) (sym items) (last_is_done b all left s old new list.items d out.folding given);
-    room = (let was = out.room in
-        let fewer = length-append left (s ∷ []) in
-        let same = ap (λ (l : LeadState (Folding G)). length l.given) given.0 in
-        let long = ap length items ∙ length-append list.items (d ∷ []) in omega (arith, was, fewer, same, long, room));
+  -- ---- a part was given
+  pub one_given : (id : CrewId) (board : TableId) (b : SharedBatch) (p mine : PassState) (x : Part G) (old new : LeadState (Part G))
+      → AreOut id board b p old → mine ≡ one_part_less p → x.pass ≡ new_part p → arc_value x.batch ≡ b → new ≡ given_too old x
+      → AreOut id board b mine new × (length new.given ≡ length old.given + 1)
+  one_given id board b p mine x old new out left is batch given =
+      let now : new.given ≡ old.given ++ record { number = old.next; job = x } ∷ [] = ap (λ (l : LeadState (Part G)). l.given) given in (
+        record {
+          same = ap (λ (l : LeadState (Part G)). l.crew) given ∙ out.same;
+          board_is = ap (λ (q : PassState). q.board) left ∙ out.board_is;
+          given =
+              subst₂ (λ (ps : List Piece) (xs : List (Given (Part G))). AreOf board ps b xs) (sym (ap (λ (q : PassState). q.posted) left)) (sym now)
+              (of_more board p.posted b old.given (record { number = old.next; job = x }) out.given
+              (record {
+                board_is = ap (λ (q : PassState). q.board) is ∙ out.board_is;
+                posted_are = ap (λ (q : PassState). q.posted) is;
+                parts = ap (λ (q : PassState). q.parts) is;
+                batch = batch;
+              }));
+        },
+        ap length now ∙ length-append old.given (record { number = old.next; job = x } ∷ []),
+      )
+
+  -- ---- what came of a part
+  -- nothing, where no helper took it
+  pub untaken : (x : Part G) (d : PartDone) → IsFoldable x → d.pass ≡ x.pass → d.list ≡ x.room → ComesOf x d
+  untaken x d fits same list = record {
+    pass = subst (λ (q : PassState). q ≡ having x.pass q.taken q.seen_none) (sym same) refl;
+    worked =
+        subst₂ (AllZip (IsFoldedOn (arc_value x.batch))) (sym (ap (λ (q : PassState). q.taken) same ∙ fits.share.taken))
+        (sym (ap (λ r. r.items) list ∙ fits.room.0)) tt;
   }
 
-  -- ---- one that was given is back
-  pub one_back : (old new : LeadState (Folding G)) (list : List Done) (back : Back Done) → ComesBack HasFolded old back new
-      → GoesOn old list new (list ++ back.result ∷ [])
-  one_back old new list back (job, (before, after, was, now), worked) =
-      let x : Given (Folding G) = record { number = back.number; job = job } in
-      let given : new.given ≡ before ++ after = ap (λ (l : LeadState (Folding G)). l.given) now in
-      record {
-        crew = ap (λ (l : LeadState (Folding G)). l.crew) now;
-        folding = λ b all left f.
-            let jobs : shards_of old.given ≡ shards_of before ++ job.shard ∷ shards_of after = ap shards_of was ∙ map-append shard before (x ∷ after) in
-            let left_jobs : shards_of new.given ≡ shards_of before ++ shards_of after = ap shards_of given ∙ map-append shard before after in
-            let all_of : AreOf b (before ++ x ∷ after) = subst (AreOf b) was f.given in
-            record {
-              done = f.done ++ job.shard ∷ [];
-              moved = subst (λ ss. IsPermutation all (left ++ (ss ++ (f.done ++ job.shard ∷ [])))) (sym left_jobs)
-                  (given_done all left (shards_of before) (shards_of after) f.done job.shard
-                  (subst (λ ss. IsPermutation all (left ++ (ss ++ f.done))) jobs f.moved));
-              folded = zip_more (IsFoldedOn b) f.done list job.shard back.result f.folded
-                  (subst (λ (c : SharedBatch). IsFoldedOn c job.shard back.result) (of_one b before after x all_of) worked);
-              given = subst (AreOf b) (sym given) (of_without b before after x all_of);
-            };
-      }
+  pub comes_back : (old new : LeadState (Part G)) (back : Back PartDone) → ComesBack HasFolded old back new → ReturnsPart old back.result new
+  comes_back old new back (job, is, worked) = (record { number = back.number; job = job }, is, worked.0)
 
-  pub goes_on_none : (l : LeadState (Folding G)) (list : List Done) → GoesOn l list l list
-  goes_on_none l list = record { crew = refl; folding = λ b all left f. f }
+  -- it is of the board that all are of
+  pub of_board : (id : CrewId) (board : TableId) (b : SharedBatch) (p : PassState) (old new : LeadState (Part G)) (d : PartDone)
+      → AreOut id board b p old → ReturnsPart old d new → d.pass.board ≡ board
+  of_board id board b p old new d out (x, (before, after, was, now), comes) =
+      ap (λ (q : PassState). q.board) comes.pass
+      ∙ (of_one board p.posted b before after x (subst (AreOf board p.posted b) was out.given)).board_is
 
-  pub goes_on : (old : LeadState (Folding G)) (before : List Done) (l : LeadState (Folding G)) (list : List Done) (new : LeadState (Folding G))
-      (after : List Done) → GoesOn old before l list → GoesOn l list new after → GoesOn old before new after
-  goes_on old before l list new after f g =
-      record { crew = g.crew ∙ f.crew; folding = λ b all left h. g.folding b all left (f.folding b all left h) }
+  pub of_batch : (id : CrewId) (board : TableId) (b : SharedBatch) (p : PassState) (old new : LeadState (Part G)) (d : PartDone)
+      → AreOut id board b p old → ReturnsPart old d new → AllZip (IsFoldedOn b) d.pass.taken d.list.items
+  of_batch id board b p old new d out (x, (before, after, was, now), comes) =
+      subst (λ (c : SharedBatch). AllZip (IsFoldedOn c) d.pass.taken d.list.items)
+      (of_one board p.posted b before after x (subst (AreOf board p.posted b) was out.given)).batch comes.worked
 
-  -- one less is given
-  pub one_fewer : (old new : LeadState (Folding G)) (back : Back Done) → ComesBack HasFolded old back new
-      → length old.given ≡ length new.given + 1
-  one_fewer old new back (job, (before, after, was, now), worked) =
-      let x : Given (Folding G) = record { number = back.number; job = job } in
-      let all = ap length was ∙ length-append before (x ∷ after) in
-      let less = ap (λ (l : LeadState (Folding G)). length l.given) now ∙ length-append before after in omega (arith, all, less)
+  -- the pass has its part back
+  pub one_back : (id : CrewId) (board : TableId) (b : SharedBatch) (p q : PassState) (old new : LeadState (Part G)) (d : PartDone)
+      → AreOut id board b p old → ReturnsPart old d new → q ≡ joined_pass p d.pass
+      → AreOut id board b q new × (q.parts + length new.given ≡ p.parts + length old.given)
+  one_back id board b p q old new d out (x, (before, after, was, now), comes) joined =
+      let all = subst (AreOf board p.posted b) was out.given in
+      let given : new.given ≡ before ++ after = ap (λ (l : LeadState (Part G)). l.given) now in (
+        record {
+          same = ap (λ (l : LeadState (Part G)). l.crew) now ∙ out.same;
+          board_is = ap (λ (r : PassState). r.board) joined ∙ out.board_is;
+          given =
+              subst₂ (λ (ps : List Piece) (xs : List (Given (Part G))). AreOf board ps b xs) (sym (ap (λ (r : PassState). r.posted) joined)) (sym given)
+              (of_without board p.posted b before after x all);
+        },
+        (let one = ap (λ (r : PassState). r.parts) comes.pass ∙ (of_one board p.posted b before after x all).parts in
+            let sum = ap (λ (r : PassState). r.parts) joined in
+            let more = ap length was ∙ length-append before (x ∷ after) in
+            let less = ap length given ∙ length-append before after in omega (arith, one, sum, more, less)),
+      )
 
--- ---- the shards of a set
-all_at : {A : Type 0} (P : A → Type 0) (xs : List A) → ((k : ℕ) (x : A) → slice_get xs k ≡ Some x → P x) → All P xs
-all_at P [] h = All-nil P
-all_at P (x ∷ xs) h = All-cons P x xs (h 0 x refl) (all_at P xs (λ k y e. h (suc k) y e))
+  -- none is given yet
+  pub none_out : (id : CrewId) (board : TableId) (b : SharedBatch) (p : PassState) (l : LeadState (Part G)) → CanShare board b p
+      → IsIdle id l → AreOut id board b p l
+  none_out id board b p l can idle = record { same = idle.0; board_is = can.board_is; given = subst (AreOf board p.posted b) (sym idle.1) tt }
 
-pub all_fit : (b : SharedBatch) (ss : List ShardState) → FitsSet b ss → All (FitsBatch b) ss
-all_fit b ss h =
-    all_at (FitsBatch b) ss
-    (λ k s e.
-    let (number, shards) = h.set.order k s e in
-    let inside = slice_get_within ss k s e in
-    record { number = omega (arith, number, shards, inside); batch = subst (IsBatch b) (sym shards) h.batch })
-
--- ---- all are back
-zip_bare : (b : SharedBatch) (ss : List ShardState) (ds : List Done) → AllZip (IsFoldedOn b) ss ds
-    → AllZip (λ (p : Piece) d. IsFoldedOn b p.shard d) (map bare ss) ds
-zip_bare b [] [] h = tt
-zip_bare b [] (d ∷ ds) h = absurd h
-zip_bare b (s ∷ ss) [] h = absurd h
-zip_bare b (s ∷ ss) (d ∷ ds) h = (h.0, zip_bare b ss ds h.1)
-
-module _ {G : Type 0} (b : SharedBatch) (ss : List ShardState) (l : LeadState (Folding G)) (list : List Done) (order : AreInOrder ss)
-    (f : IsFolding b ss [] l list) (none : l.given ≡ []) where
-  taken : IsPermutation (map bare ss) (map bare f.done)
-  taken = IsPermutation-map bare ss f.done (subst (λ xs. IsPermutation ss (shards_of xs ++ f.done)) none f.moved)
-
-  pub all_come_back : (kind : FaultKind) → IsFault (length ss) (numbers_of list) kind → ⊥
-  all_come_back = no_fault (b.span.from + 1) (cores_of b) ss (map bare f.done) list order taken (zip_bare b f.done list f.folded)
-
-  pub all_are_followed : (c : CountedShards) → IsCounted (length ss) list c → AreFollowed (b.span.from + 1) (cores_of b) ss c.shards c.dones
-  all_are_followed = followed (b.span.from + 1) (cores_of b) ss (map bare f.done) list order taken (zip_bare b f.done list f.folded)
+-- ---- those who work at a board, with what one more did
+pub worked_too : (b : SharedBatch) (ours team : Teamwork (Unit {0})) (pass : PassState) (list : Vec Done) → HasWorked b ours
+    → AllZip (IsFoldedOn b) pass.taken list.items → team.pass ≡ joined_pass ours.pass pass → team.list.items ≡ ours.list.items ++ list.items
+    → length ours.pass.posted ≤ vec_capacity team.list → team.others ≤ vec_len team.list → HasWorked b team
+worked_too b ours team pass list has more joined items room others = record {
+  seen_none = ap (λ (p : PassState). p.seen_none) joined ∙ ap (λ s. s || pass.seen_none) has.seen_none;
+  worked =
+      subst₂ (AllZip (IsFoldedOn b)) (sym (ap (λ (p : PassState). p.taken) joined)) (sym items)
+      (zip_both (IsFoldedOn b) ours.pass.taken pass.taken ours.list.items list.items has.worked more);
+  room = (let same = ap (λ (p : PassState). length p.posted) joined in omega (arith, same, room));
+  others = others;
+}

@@ -1,12 +1,7 @@
-pub mod Growing
+pub mod Standing
 pub mod Deciding
 pub mod Listing
-pub mod Standing
-pub mod Extending
 pub mod Comings
-pub mod Kept
 pub mod Trying
-mod Moving
 mod GivenOut
-mod SharedFacts
 mod TryExamples

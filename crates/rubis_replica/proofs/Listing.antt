@@ -6,8 +6,8 @@ use Rattle.rubis_schema.specs.declared.listings.Listing.TheVariants.{Users, Item
 use Rattle.rubis_message.specs.Message.{Message}
 use Rattle.rubis_model.specs.Listings.{table_rows}
 use Rattle.rubis_model.specs.Log.{Folded}
-use Rattle.rubis_model.specs.Runs.{listing_rows}
-use Rattle.rubis_replica.specs.Progress.{resting_at}
+use Rattle.rubis_model.specs.Site.{listing_rows}
+use Rattle.rubis_replica.specs.Follow.{resting_at}
 use Rattle.rubis_replica.specs.State.{IsReadyFor, SiteState, with_all_applied}
 
 -- but for the log and the misfits, a listing shows the rows of the tables

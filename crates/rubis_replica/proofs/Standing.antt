@@ -1,27 +1,61 @@
 -- Tables that follow a log: a batch that is whole or has begun, and a log that grows.
-use Rattle.std.proofs.Common.{◌≡◌, ℕ, ◌<◌, ◌≤◌, List, ◌++◌, length, length-append, take, drop, sym, ap, ◌∙◌, subst, arith}
-use Rattle.std.specs.Prelude.{◌⊎◌, OnErr, OnOk, Result, Ok, Err, Some, true, false, slice_index, slice_range}
+use Rattle.std.proofs.Common.{◌≡◌, ℕ, ◌<◌, List, [], ◌∷◌, length, get_or, refl, inl, inr, arith, subst, ◌≤◌, ◌++◌, length-append, take, drop, sym, ap, ◌∙◌}
+use Rattle.std.proofs.Common.{zero, suc, Bool, true, false, cond, append_assoc}
+use Rattle.std.specs.Prelude.{All, ◌⊎◌, OnErr, OnOk, Result, Ok, Err, Some, slice_index, slice_range, None, ◌==◌, ◌||◌, Option, nat_le}
+use Rattle.std.proofs.Math.Seq.{take-length}
+use Rattle.std.proofs.lemmas.List.Elements.{All-from_get_or, All-nil, All-take}
+use Rattle.rubis_shadow.specs.Tables.{AllInLimits}
+use Rattle.rubis_shadow.proofs.InLimits.{opening_in_limits}
+use Rattle.rubis_message.specs.Message.{IsMessage, Message, sites_of}
+use Rattle.rubis_model.specs.Log.{cores, fold_of, Core, core, parts_of}
+use Rattle.rubis_model.specs.Site.{Has, first_ready, settle, Place, Replica, arrived, is_full, is_repeat, not_ours, after_made, made, passed, passing}
+use Rattle.rubis_release.specs.Release.{Intake, IsIntake}
+use Rattle.rubis_workers.proofs.Applied.{log_within, cores_front, cores_slice, between_inside, slice_inside}
 use Rattle.std.specs.List.{flat_map}
 use Rattle.std.specs.Result.{is_ok}
 use Rattle.std.specs.declared.alloc.AllocError.{AllocError}
-use Rattle.std.proofs.lemmas.List.{length-map, take-append-le, take_all}
+use Rattle.std.proofs.lemmas.List.{length-map, take-append-le, take_all, append-nil}
 use Rattle.rubis_shadow.specs.declared.keyed_change.Effect.{Effect}
-use Rattle.rubis_message.specs.Message.{Message}
-use Rattle.rubis_model.specs.Log.{Core, core, cores, parts_of}
-use Rattle.rubis_model.proofs.CoreLists.{cores_append}
-use Rattle.rubis_workers.specs.Shard.{HoldsLog, shard_of_log}
-use Rattle.rubis_workers.specs.Shard.{ShardState}
+use Rattle.rubis_model.proofs.Settling.{cores_append}
+use Rattle.rubis_workers.specs.Shard.{HoldsLog, shard_of_log, ShardState, union}
 use Rattle.rubis_workers.specs.Pieces.{AreFurther, HoldsTo, StopWithin, parts_behind}
-use Rattle.rubis_workers.proofs.Pieces.{behind_few, holds_none, holds_whole}
-use Rattle.rubis_workers.proofs.Pieces.{fewer_behind}
+use Rattle.rubis_workers.proofs.Pieces.{behind_few, holds_none, holds_whole, fewer_behind}
 use Rattle.rubis_workers.specs.Logs.{AppliesTo, AppliesWhole, parts_between}
-use Rattle.rubis_workers.proofs.Applied.{cores_front, cores_slice}
-use Rattle.rubis_workers.proofs.Between.{between_inside, slice_inside}
-use Rattle.rubis_replica.specs.Follow.{CanFollow, ComesTo, Follower, FollowsLog, HasStops, IsTriedTo}
-use Rattle.rubis_replica.specs.Progress.{BatchBegins, IsProgress, IsStage, end_of, keeping, left_of, resting_at, short}
+use Rattle.rubis_replica.specs.Follow.{CanFollow, ComesTo, Follower, FollowsLog, HasStops, IsTriedTo, BatchBegins, IsProgress, IsStage, end_of, keeping}
+use Rattle.rubis_replica.specs.Follow.{left_of, resting_at, short}
 use Rattle.rubis_replica.specs.declared.progress.Progress.{Progress}
 use Rattle.rubis_replica.specs.declared.progress.Stage.{Stage}
 use Rattle.rubis_replica.specs.declared.progress.Stage.TheVariants.{Level, Keeping, Begun}
+use Rattle.rubis_shadow.specs.declared.shadows.Shadow.{Shadow}
+use Rattle.rubis_schema.specs.declared.refusals.Refusal.{Refusal}
+use Rattle.rubis_message.specs.declared.tokens.Token.{Token}
+use Rattle.rubis_workers.proofs.Shard.{union_of_log}
+
+has_get : (log : List Message) (i : ℕ) (d : Message) → i < length log → Has (get_or log i d) log
+has_get [] i d h = absurd (omega arith)
+has_get (x ∷ log) ℕ.zero d h = inl refl
+has_get (x ∷ log) (ℕ.suc i) d h = inr (has_get log i d (omega arith))
+
+all_by : (P : Message → Type 0) (log : List Message) → ((m : Message) → Has m log → P m) → All P log
+all_by P [] h = All-nil P
+all_by P (x ∷ log) h = All-from_get_or P (x ∷ log) x (λ i l. h (get_or (x ∷ log) i x) (has_get (x ∷ log) i x l))
+
+-- each message of a site's log counts its sites
+pub log_counts : (i : Intake) → IsIntake i → All (λ m. sites_of m ≡ i.place.sites) i.state.log
+log_counts i h = all_by (λ m. sites_of m ≡ i.place.sites) i.state.log (λ m k. (h.kept.log_sites m k).counts)
+
+-- the tables of a site's log are within its limits
+pub log_in_limits : (i : Intake) → IsIntake i → AllInLimits i.place.sites (fold_of (cores i.state.log)).tables
+log_in_limits i h = within i.state.log (log_counts i h) (all_by IsMessage i.state.log (λ m k. (h.kept.log_sites m k).conditions))
+  where
+    within : (log : List Message) → All (λ m. sites_of m ≡ i.place.sites) log → All IsMessage log → AllInLimits i.place.sites (fold_of (cores log)).tables
+    within [] counts formed = opening_in_limits i.place.sites
+    within (m ∷ log) counts formed =
+        subst (λ (xs : List Message). AllInLimits i.place.sites (fold_of (cores xs)).tables) (take-length (m ∷ log))
+        (log_within (m ∷ log) 0 (length (m ∷ log)) (omega arith) (omega arith) (All-take IsMessage _ (m ∷ log) formed) i.place.sites counts
+        (opening_in_limits i.place.sites))
+
+-- ---- tables that follow a log: a batch that is whole or has begun, and a log that grows
 
 -- ---- all is applied up to a message
 pub rests_follow : (log : List Message) (upto : ℕ) (f : Follower) → upto ≤ length log → 0 < length f.tables
@@ -211,3 +245,94 @@ comes_from log upto old mid new result same h = record {
   ok = h.ok;
   err = subst (λ (p : Progress). OnErr result ((new.progress ≡ short p) ⊎ BatchBegins log p.applied upto new.progress)) same h.err;
 }
+
+-- ---- a site's log grows at its end, and the tables that follow it follow it still
+
+abbrev pub Extends : List Message → List Message → Type 0
+Extends log new = (more : List Message) × (new ≡ log ++ more)
+
+-- the settled log is the log and some more
+pub settle_extends : (n : ℕ) (log waiting : List Message) → Extends log (settle n log waiting).0
+settle_extends zero log waiting = ([], sym (append-nil log))
+settle_extends (suc n) log waiting =
+    elim (first_ready log waiting) as
+    (λ o. Extends log (elim o as (λ _. List Message × List Message) [ None ↦ (log, waiting) | Some p ↦ settle n (log ++ p.0 ∷ []) p.1 ]).0) [
+      | None ↦ ([], sym (append-nil log))
+      | Some p ↦ let r = settle_extends n (log ++ p.0 ∷ []) p.1 in (p.0 ∷ r.0, r.1 ∙ append_assoc log (p.0 ∷ []) r.0)
+    ]
+
+-- ---- a message that arrives
+
+none_more : (s : Replica) → Extends s.log s.log
+none_more s = ([], sym (append-nil s.log))
+
+one_of : {A : Type 0} (b : Bool) (log : List Message) (x y : Replica × A) → Extends log x.0.log → Extends log y.0.log → Extends log (cond b x y).0.log
+one_of true log x y h g = h
+one_of false log x y h g = g
+
+pub arrived_extends : (p : Place) (s : Replica) (m : Message) → Extends s.log (arrived p s m).0.log
+arrived_extends p s m =
+    one_of (not_ours p s m) s.log _ _ (none_more s)
+    (one_of (is_repeat s m) s.log _ _ (none_more s)
+    (one_of (is_full p.keep s) s.log _ _ (none_more s) (settle_extends (length (s.waiting ++ m ∷ [])) s.log (s.waiting ++ m ∷ []))))
+
+-- ---- the tables
+
+pub follows_extended : (log new : List Message) (f : Follower) → Extends log new → FollowsLog log f → FollowsLog new f
+follows_extended log new f e h = subst (λ (l : List Message). FollowsLog l f) (sym e.1) (follows_more log e.0 f h)
+
+-- ---- a site's log grows at its end, and the tables that follow it follow it still
+
+-- ---- a message that the site makes
+
+made_extends : (p : Place) (s : Replica) (x : Shadow) → Extends s.log (after_made p s x).log
+made_extends p s x =
+    let r = settle_extends (length s.waiting) (s.log ++ made p s x ∷ []) s.waiting in
+    (made p s x ∷ r.0, r.1 ∙ append_assoc s.log (made p s x ∷ []) r.0)
+
+pub follows_made : (p : Place) (s new : Replica) (x : Shadow) (f : Follower) → new ≡ after_made p s x → FollowsLog s.log f → FollowsLog new.log f
+follows_made p s new x f e =
+    let more = made_extends p s x in
+    follows_extended s.log new.log f (more.0, ap (λ (r : Replica). r.log) e ∙ more.1)
+
+-- ---- a message that arrives
+
+pub follows_arrived : (p : Place) (s new : Replica) (m : Message) (f : Follower) → new ≡ (arrived p s m).0 → FollowsLog s.log f → FollowsLog new.log f
+follows_arrived p s new m f e =
+    let more = arrived_extends p s m in
+    follows_extended s.log new.log f (more.0, ap (λ (r : Replica). r.log) e ∙ more.1)
+
+-- ---- the token, which leaves the log
+
+same_log : {A : Type 0} (b : Bool) (log : List Message) (x y : Replica × A) → x.0.log ≡ log → y.0.log ≡ log → (cond b x y).0.log ≡ log
+same_log true log x y h g = h
+same_log false log x y h g = g
+
+passing_log : (p : Place) (s : Replica) (to : ℕ) (held : Option ℕ) → (passing p s to held).0.log ≡ s.log
+passing_log p s to None = refl
+passing_log p s to (Some issued) = same_log (nat_le p.sites to || (to == p.site)) s.log _ _ refl (same_log (nat_le 1000000000 s.last) s.log _ _ refl refl)
+
+pub follows_passed : (p : Place) (s new : Replica) (to : ℕ) (a : Result Token Refusal) (f : Follower) → (new, a) ≡ passed p s to
+    → FollowsLog s.log f → FollowsLog new.log f
+follows_passed p s new to a f e = subst (λ l. FollowsLog l f) (sym (ap (λ r. r.0.log) e ∙ passing_log p s to s.held))
+
+-- ---- the opening tables
+
+pub follows_opening : (log : List Message) (f : Follower) → log ≡ [] → f.progress ≡ resting_at 0 → 0 < length f.tables
+    → HoldsLog (length f.tables) [] f.tables → FollowsLog log f
+follows_opening log f e p some holds =
+    subst (λ (l : List Message). FollowsLog l f) (sym e)
+    (subst (λ (q : Progress). FollowsLog [] (record f { progress = q })) (sym p) (rests_follow [] 0 f (omega arith) some holds))
+
+-- ---- with all of the log applied
+
+-- all of it stands
+pub all_at : (log : List Message) (f : Follower) → f.progress ≡ resting_at (length log) → take f.progress.applied log ≡ log
+all_at log f e = ap (λ (p : Progress). take p.applied log) e ∙ take-length log
+
+-- the tables are those of the whole log
+pub tables_of_log : (log : List Message) (f : Follower) → FollowsLog log f → f.progress ≡ resting_at (length log)
+    → union f.tables ≡ (fold_of (cores log)).tables
+tables_of_log log f h e =
+    union_of_log (length f.tables) (cores (take f.progress.applied log)) f.tables h.some (h.rests (ap left_of e))
+    ∙ ap (λ xs. (fold_of (cores xs)).tables) (all_at log f e)

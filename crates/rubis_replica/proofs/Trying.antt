@@ -1,6 +1,5 @@
 -- Tries of a site's calls, and what lists of them come to.
-use Rattle.std.proofs.Common.{◌≡◌, ◌-◌, ◌++◌, List, [], ◌∷◌, length, map, Bool, true, false, cond, refl, sym, ap, ◌∙◌, subst, inl, inr}
-use Rattle.std.proofs.Common.{arith}
+use Rattle.std.proofs.Common.{◌≡◌, ◌-◌, ◌++◌, List, [], ◌∷◌, length, map, Bool, true, false, cond, refl, sym, ap, ◌∙◌, subst, inl, inr, arith}
 use Rattle.std.proofs.lemmas.List.Elements.{All-tail}
 use Rattle.std.specs.Prelude.{All, ◌||◌, ◌==◌, nat_le, not, OnOk, Option, Some, None, Result, Ok, Err, ℕ}
 use Rattle.rubis_schema.specs.declared.listings.Listing.{Listing}
@@ -15,11 +14,9 @@ use Rattle.rubis_message.specs.declared.answers.Taken.TheVariants as taken
 use Rattle.rubis_message.specs.declared.tokens.Token.{Token}
 use Rattle.rubis_generate.specs.Decision.{decision}
 use Rattle.rubis_model.specs.Log.{cores, fold_of}
-use Rattle.rubis_model.specs.Runs.{listed, listing_rows}
-use Rattle.rubis_model.specs.Site.{Place, Replica, after_came, arrival_of, arrived, asked, generating, is_full, is_repeat, not_ours, passed, passing}
-use Rattle.rubis_model.specs.Site.{rows_at, standing_of, token_for, took}
-use Rattle.rubis_replica.specs.Arrivals.{TakesFirst, after_all, answers_to}
-use Rattle.rubis_replica.specs.State.{AddsRows, AnswersAsTheStep, SiteState}
+use Rattle.rubis_model.specs.Site.{listed, listing_rows, Place, Replica, after_came, arrival_of, arrived, asked, generating, is_full, is_repeat, not_ours}
+use Rattle.rubis_model.specs.Site.{passed, passing, rows_at, standing_of, token_for, took}
+use Rattle.rubis_replica.specs.State.{TakesFirst, after_all, answers_to, AddsRows, AnswersAsTheStep, SiteState}
 use Rattle.rubis_replica.specs.Tries.{AllLead, AnswersAsWithoutRefusals, AnswersTheSameAgain, Answer, Call, ComeTogether, IsIdle, Leads, Try, Value}
 use Rattle.rubis_replica.specs.Tries.{after_calls, answer_by, answers_given, answers_of, called, calls_answered, came_try, said, stopped_at, telling}
 use Rattle.rubis_replica.specs.Tries.{with_answer, with_call}

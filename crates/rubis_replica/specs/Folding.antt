@@ -1,27 +1,29 @@
--- A batch of an intake's log, folded on the shards of a set by a crew.
-use Rattle.std.specs.Prelude.{◌≡◌, ℕ, ◌+◌, ◌<◌, ◌≤◌, ⊤, List, [], ◌∷◌, ◌++◌, None, Option, Some, Ok, Err, OnOk, OnErr, Result, length, map, slice_range}
+-- A batch of an intake's log, folded on the shards of a set by a crew, whose jobs are parts of a board.
+use Rattle.std.specs.Prelude.{◌≡◌, ℕ, ◌+◌, ◌<◌, ◌≤◌, ⊤, false, true, List, [], ◌∷◌, OnOk, OnErr, Result, length, slice_range, vec_len}
 use Rattle.std.specs.Arc.{arc_value}
 use Rattle.std.specs.Global.{Vec}
 use Rattle.std.specs.Vec.{vec_capacity}
 use Rattle.std.specs.List.{All, AllZip}
-use Rattle.std.specs.List.Sorted.{IsPermutation}
 use Rattle.std.specs.declared.alloc.AllocError.{AllocError}
+use Rattle.atomic_table.specs.Seated.{TableId}
 use Rattle.rubis_schema.specs.declared.limits.TheConstants.{KEEP_MAX}
 use Rattle.rubis_message.specs.Message.{IsMessage, Message}
 use Rattle.rubis_model.specs.Log.{Core, cores}
-use Rattle.rubis_shard.specs.Holdings.{IsSet}
-use Rattle.rubis_shard.specs.PartHomes.{AreHomes}
+use Rattle.rubis_shard.specs.Holdings.{IsSet, AreHomes}
 use Rattle.rubis_shard.specs.States.{ShardState}
-use Rattle.rubis_pieces.specs.Following.{AreFollowed, IsFollowed}
-use Rattle.rubis_pieces.specs.declared.gathers.CountedShards.{CountedShards}
 use Rattle.rubis_pieces.specs.declared.pieces.Done.{Done}
-use Rattle.rubis_crew.specs.States.{CrewId, LeadState}
+use Rattle.rubis_pieces.specs.declared.pieces.Piece.{Piece}
+use Rattle.rubis_board.specs.Rule.{PassState}
+use Rattle.rubis_crew.specs.States.{CrewId, IsBack, LeadState}
 use Rattle.rubis_crew.specs.declared.job.Given.{Given}
+use Rattle.rubis_workers.specs.Work.{IsFollowedOn, IsRoom, having}
 use Rattle.rubis_workers.specs.Logs.{AppliesTo, AppliesWhole}
-use Rattle.rubis_release.specs.Intake.{Intake}
+use Rattle.rubis_workers.specs.declared.team.Teamwork.{Teamwork}
+use Rattle.rubis_release.specs.Release.{Intake}
 use Rattle.rubis_replica.specs.declared.folding.Span.{Span}
 use Rattle.rubis_replica.specs.declared.folding.SharedBatch.{SharedBatch}
-use Rattle.rubis_replica.specs.declared.folding.Folding.{Folding}
+use Rattle.rubis_replica.specs.declared.folding.Part.{Part}
+use Rattle.rubis_replica.specs.declared.folding.PartDone.{PartDone}
 
 -- ---- a batch
 
@@ -50,75 +52,78 @@ pub record IsShared (i : Intake) (s : Span) (shards : ℕ) (b : SharedBatch) : T
   pub batch : IsBatch b shards
   pub conditions : All IsMessage (messages_of b)
 
--- the shard is one of a set among which the parts of the batch have their homes
-pub record FitsBatch (b : SharedBatch) (s : ShardState) : Type 0 where
-  pub number : s.number < s.shards
-  pub batch : IsBatch b s.shards
+-- ---- a part of a board
 
--- the shard's parts of the first `done` messages of the batch are folded on it
-abbrev pub FollowsBatch : SharedBatch → ShardState → ℕ → ShardState → Type 0
-FollowsBatch b old done new = IsFollowed (b.span.from + 1) (cores_of b) old done new
+-- the shard of the piece is one of a set among which the parts of the batch have their homes
+pub record FitsBatch (b : SharedBatch) (p : Piece) : Type 0 where
+  pub number : p.shard.number < p.shard.shards
+  pub batch : IsBatch b p.shard.shards
+  pub few : b.span.from + 1 + length (messages_of b) ≤ KEEP_MAX + 1
 
--- the same, as what was done says it
-abbrev pub IsFoldedOn : SharedBatch → ShardState → Done → Type 0
-IsFoldedOn b s d = FollowsBatch b s d.done d.shard
+-- the shard's parts of the first messages of the batch are folded on it, as many as are done
+abbrev pub IsFoldedOn : SharedBatch → Piece → Done → Type 0
+IsFoldedOn b p d = IsFollowedOn (b.span.from + 1) (cores_of b) p d
 
--- ---- a job
+-- the pass is one of that board, took nothing, and the batch fits the pieces
+pub record CanShare (board : TableId) (b : SharedBatch) (p : PassState) : Type 0 where
+  pub board_is : p.board ≡ board
+  pub span : IsSpan b.intake.state.log b.span
+  pub pieces : All (FitsBatch b) p.posted
+  pub taken : p.taken ≡ []
+  pub seen_none : p.seen_none ≡ false
 
 module _ {G : Type 0} where
-  -- the batch fits the shard
-  abbrev pub IsFoldable : Folding G → Type 0
-  IsFoldable job = FitsBatch (arc_value job.batch) job.shard
+  -- the part can be worked at
+  pub record IsFoldable (x : Part G) : Type 0 where
+    pub share : CanShare x.board (arc_value x.batch) x.pass
+    pub one : x.pass.parts ≡ 1
+    pub room : IsRoom (length x.pass.posted) x.room
 
-  -- and is folded on it
-  abbrev pub HasFolded : Folding G → Done → Type 0
-  HasFolded job d = IsFoldedOn (arc_value job.batch) job.shard d
+  -- what came of it: the batch is folded on the shards that were taken
+  pub record ComesOf (x : Part G) (d : PartDone) : Type 0 where
+    pub pass : d.pass ≡ having x.pass d.pass.taken d.pass.seen_none
+    pub worked : AllZip (IsFoldedOn (arc_value x.batch)) d.pass.taken d.list.items
 
-  -- ---- the one who gives the shards
+  -- and no shard was left on the board
+  abbrev pub HasFolded : Part G → PartDone → Type 0
+  HasFolded x d = ComesOf x d × (d.pass.seen_none ≡ true)
+
+  -- ---- the one who gives parts
 
   -- it is of that crew, and all that it gave is back
-  abbrev pub IsIdle : CrewId → LeadState (Folding G) → Type 0
+  abbrev pub IsIdle : CrewId → LeadState (Part G) → Type 0
   IsIdle crew l = (l.crew ≡ crew) × (l.given ≡ [])
 
-  -- the shards that are given
-  abbrev pub shards_of : List (Given (Folding G)) → List ShardState
-  shards_of xs = map (λ (x : Given (Folding G)). x.job.shard) xs
-
-  -- the job is one of that batch
-  abbrev pub IsOf : SharedBatch → Given (Folding G) → Type 0
-  IsOf b x = arc_value x.job.batch ≡ b
+  -- the part is one of that board, whose pieces those are, and of that batch
+  pub record IsOf (board : TableId) (posted : List Piece) (b : SharedBatch) (x : Given (Part G)) : Type 0 where
+    pub board_is : x.job.pass.board ≡ board
+    pub posted_are : x.job.pass.posted ≡ posted
+    pub parts : x.job.pass.parts ≡ 1
+    pub batch : arc_value x.job.batch ≡ b
 
   -- and so is each of them
-  abbrev pub AreOf : SharedBatch → List (Given (Folding G)) → Type 0
-  AreOf b [] = ⊤
-  AreOf b (x ∷ xs) = IsOf b x × AreOf b xs
+  abbrev pub AreOf : TableId → List Piece → SharedBatch → List (Given (Part G)) → Type 0
+  AreOf board posted b [] = ⊤
+  AreOf board posted b (x ∷ xs) = IsOf board posted b x × AreOf board posted b xs
 
-  -- a shard was given, for that batch to be folded on it; or the batch was folded on it at once
-  abbrev pub IsGiven : SharedBatch → ShardState → LeadState (Folding G) → Option Done → LeadState (Folding G) → Type 0
-  IsGiven b s old None new = (x : Given (Folding G)) × (x.job.shard ≡ s) × IsOf b x × (new.crew ≡ old.crew) × (new.given ≡ old.given ++ x ∷ [])
-  IsGiven b s old (Some d) new = (new ≡ old) × IsFoldedOn b s d
+  -- the parts that are given are of the board and the batch of the pass
+  pub record AreOut (crew : CrewId) (board : TableId) (b : SharedBatch) (p : PassState) (l : LeadState (Part G)) : Type 0 where
+    pub same : l.crew ≡ crew
+    pub board_is : p.board ≡ board
+    pub given : AreOf board p.posted b l.given
 
-  -- of the shards of a set some are left, some are given, and on the others the batch is folded, as the list says
-  pub record IsFolding (b : SharedBatch) (all left : List ShardState) (l : LeadState (Folding G)) (list : List Done) : Type 0 where
-    pub done : List ShardState
-    pub moved : IsPermutation all (left ++ (shards_of l.given ++ done))
-    pub folded : AllZip (IsFoldedOn b) done list
-    pub given : AreOf b l.given
+  -- a part that was given is given no more, and this came of it
+  abbrev pub ReturnsPart : LeadState (Part G) → PartDone → LeadState (Part G) → Type 0
+  ReturnsPart old d new = (x : Given (Part G)) × IsBack old x new × ComesOf x.job d
 
-  -- what was given and is folded goes into the list
-  pub record GoesOn (old : LeadState (Folding G)) (before : List Done) (new : LeadState (Folding G)) (after : List Done) : Type 0 where
-    pub crew : new.crew ≡ old.crew
-    pub folding : (b : SharedBatch) (all left : List ShardState) → IsFolding b all left old before → IsFolding b all left new after
+-- ---- those who work at a board
 
--- there is room for that many in the list
-abbrev pub HasRoomFor : ℕ → Vec Done → Type 0
-HasRoomFor many list = length list.items + many ≤ vec_capacity list
-
--- the same of that crew's lead, and there is room in the list for those that are left and given
-pub record AreOut {G : Type 0} (id : CrewId) (b : SharedBatch) (all left : List ShardState) (l : LeadState (Folding G)) (list : Vec Done) : Type 0 where
-  pub crew : l.crew ≡ id
-  pub folding : IsFolding b all left l list.items
-  pub room : HasRoomFor (length left + length l.given) list
+-- they took all that was there, the list says how far the batch is folded on each shard, and there is room in it for all
+pub record HasWorked (b : SharedBatch) (t : Teamwork (Unit {0})) : Type 0 where
+  pub seen_none : t.pass.seen_none ≡ true
+  pub worked : AllZip (IsFoldedOn b) t.pass.taken t.list.items
+  pub room : length t.pass.posted ≤ vec_capacity t.list
+  pub others : t.others ≤ vec_len t.list
 
 -- ---- the shards of a set
 
@@ -126,11 +131,7 @@ pub record AreOut {G : Type 0} (id : CrewId) (b : SharedBatch) (all left : List 
 pub record FitsSet (b : SharedBatch) (ss : List ShardState) : Type 0 where
   pub set : IsSet ss
   pub batch : IsBatch b (length ss)
-
--- the batch is folded on each as far as memory went; or there was no room to begin, and they are back
-abbrev pub AreFolded : SharedBatch → List ShardState → Result CountedShards (List ShardState) → Type 0
-AreFolded b ss (Ok c) = AreFollowed (b.span.from + 1) (cores_of b) ss c.shards c.dones
-AreFolded b ss (Err back) = back ≡ ss
+  pub few : b.span.from + 1 + length (messages_of b) ≤ KEEP_MAX + 1
 
 -- ---- the tables
 

@@ -1,9 +1,5 @@
-pub mod Setup
 pub mod State
-pub mod Arrivals
 pub mod Counts
-pub mod Faults
 pub mod Folding
 pub mod Follow
-pub mod Progress
 pub mod Tries

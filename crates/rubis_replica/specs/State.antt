@@ -1,15 +1,52 @@
--- A site's state, and what its calls answer.
-use Rattle.std.specs.Prelude.{◌≡◌, ◌-◌, ◌<◌, ◌⊎◌, ℕ, List, length, Result, Ok, Err, MatchResult, OnOk, ⊤}
+-- How a site is set up, its state, what its calls answer, and messages that arrive at it one after the other.
+use Rattle.rubis_release.specs.declared.intake.IntakeFault.{IntakeFault}
+use Rattle.rubis_release.specs.declared.intake.IntakeFault.TheVariants as intake
+use Rattle.rubis_replica.specs.declared.faults.Fault.{Fault}
+use Rattle.rubis_replica.specs.declared.faults.Fault.TheVariants.{Refused, Memory, Behind}
+use Rattle.std.specs.Prelude.{ℕ, ◌<◌, ◌≡◌, ◌-◌, ◌⊎◌, List, length, Result, Ok, Err, MatchResult, OnOk, ⊤, ◌++◌}
+use Rattle.rubis_schema.specs.declared.limits.TheConstants.{BATCH_MAX, KEEP_MAX, SHARDS_MAX, SITES_MAX, WORKERS_MAX}
+use Rattle.rubis_model.specs.Site.{Place, Replica}
+use Rattle.rubis_replica.specs.Counts.{IsCount}
 use Rattle.rubis_schema.specs.declared.listings.Listing.{Listing}
 use Rattle.rubis_schema.specs.declared.listings.Listing.TheVariants.{Log}
 use Rattle.rubis_schema.specs.declared.refusals.Refusal.{Refusal}
 use Rattle.rubis_message.specs.declared.answers.Arrival.{Arrival}
 use Rattle.rubis_message.specs.declared.answers.Arrival.TheVariants.{Released, Held, Repeat}
-use Rattle.rubis_model.specs.Site.{Place, Replica}
-use Rattle.rubis_replica.specs.Progress.{HasBegun, IsBatched, end_of, left_of, resting_at, short}
+use Rattle.rubis_replica.specs.Follow.{HasBegun, IsBatched, end_of, left_of, resting_at, short}
 use Rattle.rubis_replica.specs.declared.progress.Progress.{Progress}
-use Rattle.rubis_replica.specs.declared.faults.Fault.{Fault}
-use Rattle.rubis_replica.specs.declared.faults.Fault.TheVariants.{Refused, Behind, Memory}
+use Rattle.rubis_message.specs.Message.{Message}
+pub use Rattle.rubis_model.specs.Site.{after_all, answers_to}
+
+-- what an intake refuses, the site refuses; where the intake is out of memory, so is the site
+abbrev pub fault_of : IntakeFault → Fault
+fault_of (intake.Refused r) = Refused r
+fault_of (intake.Memory m) = Memory
+
+-- ---- how a site is set up
+
+-- the site, one of `sites`; its shards, workers and batches; how many messages it keeps
+pub record Setup : Type 0 where
+  pub site : ℕ
+  pub sites : ℕ
+  pub shards : ℕ
+  pub workers : ℕ
+  pub batch : ℕ
+  pub keep : ℕ
+
+-- each number is within its limits
+pub record IsSetup (s : Setup) : Type 0 where
+  pub site : s.site < s.sites
+  pub sites : IsCount s.sites SITES_MAX
+  pub shards : IsCount s.shards SHARDS_MAX
+  pub workers : IsCount s.workers WORKERS_MAX
+  pub batch : IsCount s.batch BATCH_MAX
+  pub keep : IsCount s.keep KEEP_MAX
+
+-- all of it that answers depend on
+abbrev pub setup_place : Setup → Place
+setup_place s = record { site = s.site; sites = s.sites; keep = s.keep }
+
+-- ---- a site's state, and what its calls answer
 
 -- a site: which one, its state, how far its tables are in its log, and how many messages a batch has
 pub record SiteState : Type 0 where
@@ -107,3 +144,18 @@ Lists l old new result = MatchResult result (λ rows. new ≡ with_all_applied o
 abbrev pub IsReadyFor : Listing → SiteState → Type 0
 IsReadyFor Log s = ⊤
 IsReadyFor l s = s.progress ≡ resting_at (length s.state.log)
+
+-- ---- messages that arrive at a site one after the other: how many of them it took in, and why not all
+
+-- the first of the messages were taken in, and each was answered; the others are the rest
+pub record TakesFirst (p : Place) (old new : Replica) (messages : List Message) (answers : List (Result Arrival Refusal)) (rest : List Message) : Type 0 where
+  pub taken : List Message
+  pub parts : messages ≡ taken ++ rest
+  pub state : new ≡ after_all p old taken
+  pub told : answers ≡ answers_to p old taken
+
+-- why not all of the messages were taken in, where the site wasn't behind: there was no memory for the first of the rest
+abbrev pub IsStop : ℕ → List Message → Fault → Type 0
+IsStop left rest (Refused r) = ⊥
+IsStop left rest Behind = 0 < left
+IsStop left rest Memory = 0 < length rest

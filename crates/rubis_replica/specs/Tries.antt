@@ -7,8 +7,7 @@ use Rattle.rubis_message.specs.Message.{Message}
 use Rattle.rubis_message.specs.declared.answers.Arrival.{Arrival}
 use Rattle.rubis_message.specs.declared.answers.Taken.{Taken}
 use Rattle.rubis_message.specs.declared.tokens.Token.{Token}
-use Rattle.rubis_model.specs.Runs.{listed}
-use Rattle.rubis_model.specs.Site.{Place, Replica, arrived, asked, passed, took}
+use Rattle.rubis_model.specs.Site.{listed, Place, Replica, arrived, asked, passed, took}
 use Rattle.rubis_replica.specs.declared.faults.Fault.{Fault}
 use Rattle.rubis_replica.specs.declared.faults.Fault.TheVariants as fault
 

@@ -3,7 +3,7 @@
 ghost use Rattle.std.specs.Prelude.{◌≡◌, ◌<◌, ◌≤◌, [], All, IfNone, IfSome, OnErr, OnOk, length, reverse};
 ghost use Rattle.std.specs.Vec.{vec_capacity, vec_len};
 ghost use Rattle.rubis_message.specs.Message.{sites_of};
-ghost use Rattle.rubis_replica.specs.Arrivals.{TakesFirst};
+ghost use Rattle.rubis_replica.specs.State.{TakesFirst};
 ghost use Rattle.rubis_replica.specs.declared.faults.Fault.TheVariants as Fault;
 
 use crate::faults::Fault;

@@ -3,7 +3,7 @@
 ghost use Rattle.std.specs.Prelude.{◌≡◌, ◌<◌, ◌↔◌, IsTrue};
 ghost use Rattle.std.specs.Option.{SomeIff};
 ghost use Rattle.rubis_replica.specs.Counts.{IsCount};
-ghost use Rattle.rubis_replica.specs.Setup.{IsSetup, Setup};
+ghost use Rattle.rubis_replica.specs.State.{IsSetup, Setup};
 
 use rubis_schema::{BATCH_MAX, Hashes, KEEP_MAX, SHARDS_MAX, SITES_MAX, WORKERS_MAX};
 use std::marker::Model;
@@ -23,7 +23,7 @@ pub struct Config {
 }
 
 impl Model for Config {
-    ghost use Rattle.rubis_replica.specs.Setup.{Setup, IsSetup};
+    ghost use Rattle.rubis_replica.specs.State.{Setup, IsSetup};
 
     ghost Value = { Setup };
 

@@ -1,7 +1,7 @@
 //! What ends a call of a site, and what refuses a packet.
 
 ghost use Rattle.std.specs.Prelude.{◌≡◌};
-ghost use Rattle.rubis_replica.specs.Faults.{fault_of};
+ghost use Rattle.rubis_replica.specs.State.{fault_of};
 ghost use Rattle.rubis_replica.specs.declared.faults.Fault.TheVariants as Fault;
 
 use rubis_release::IntakeFault;

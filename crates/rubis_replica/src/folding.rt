@@ -1,13 +1,13 @@
-//! The shards of a batch as jobs, for a crew that folds them.
+//! A batch of an intake's log, and the parts of a board as jobs, for a crew whose helpers fold it on the shards that they take there.
 
+use rubis_board::{Board, Pass};
 use rubis_crew::Job;
-use rubis_pieces::{Done, follow};
+use rubis_pieces::Done;
 use rubis_release::Intake;
-use rubis_schema::Items;
-use rubis_shard::{PartHomes, Shard, Share};
-use rubis_workers::Gate;
+use rubis_shard::PartHomes;
+use rubis_workers::{FollowBatch, Gate, TeamJob, Teller, work};
 use std::alloc::Global;
-use std::sync::Arc;
+use std::sync::{Arc, Wait};
 
 /// The messages of a log after message `from`, up to message `upto`.
 #[derive(Clone, Copy)]
@@ -34,36 +34,53 @@ impl Drop for SharedBatch {
     }
 }
 
-/// A shard, the batch whose parts are to be folded on it, and the gate that is told before they are.
-pub struct Folding<G: Gate + Drop> {
-    pub(crate) shard: Shard,
+/// A helper's part of a board: with it the helper takes shards there and folds the batch on each, until none is left, and tells the gate of each
+/// before. `room` is for what it makes of them.
+pub struct Part<G: Gate + Drop> {
+    pub(crate) board: Board,
     pub(crate) batch: Arc<SharedBatch, Global>,
     pub(crate) gate: Arc<G, Global>,
+    pub(crate) pass: Pass,
+    pub(crate) room: Vec<Done>,
 }
 
-impl<G: Gate + Drop> Drop for Folding<G> {
+impl<G: Gate + Drop> Drop for Part<G> {
     // Proved here, once: a derived drop is proved anew in each crate that lets a job go.
     fn drop(self) {
-        let Folding {
-            shard: _,
+        let Part {
+            board: _,
             batch: _,
             gate: _,
+            pass: _,
+            room: _,
         } = self;
     }
 }
 
-impl SharedBatch {
-    ghost use Rattle.std.specs.Prelude.{◌≡◌};
-    ghost use Rattle.rubis_replica.specs.Folding.{FitsBatch, FollowsBatch, IsFoldedOn};
+/// What came of a part: its pass, and what was done with each of the shards that it took.
+#[derive(Drop)]
+pub struct PartDone {
+    pub pass: Pass,
+    pub list: Vec<Done>,
+}
 
-    // Folds on a shard its parts of the batch, as far as memory goes. Returns how many of the messages are done.
-    fn follow(&self, shard: &mut Shard) -> usize
-        requires { FitsBatch self.now shard.old }
-        ensures { FollowsBatch self.now shard.old result shard.new }
+impl SharedBatch {
+    ghost use Rattle.std.specs.Prelude.{◌≡◌, ◌+◌};
+    ghost use Rattle.rubis_replica.specs.Folding.{IsSpan, messages_of};
+
+    /// What is done with each shard.
+    pub fn task(&self) -> FollowBatch<'_>
+        requires { IsSpan self.now.intake.state.log self.now.span }
+        ensures batch { result.batch.now ≡ messages_of self.now }
+        ensures homes { result.homes.now ≡ self.now.homes.items }
+        ensures first { result.first ≡ self.now.span.from + 1 }
     {
         let Span { from, upto } = self.span;
-        let messages = &self.intake.log()[from..upto];
-        follow(shard, messages, &self.homes, from as u32 + 1)
+        FollowBatch {
+            batch: &self.intake.log()[from..upto],
+            homes: &self.homes,
+            first: from as u32 + 1,
+        }
     }
 
     /// The intake whose log it shared.
@@ -77,35 +94,50 @@ impl SharedBatch {
         } = self;
         intake
     }
+}
 
-    /// Folds on a shard its parts of the batch, as far as memory goes.
-    pub fn fold(&self, mut shard: Shard) -> Done
-        requires { FitsBatch self.now shard }
-        ensures { IsFoldedOn self.now shard result }
+impl<G: Gate + Drop> Part<G> {
+    ghost use Rattle.std.specs.Prelude.{◌≡◌};
+
+    /// What comes of it where no helper takes it: its pass as it was, and nothing done.
+    pub(crate) fn untaken(self) -> PartDone
+        ensures pass { result.pass ≡ self.pass }
+        ensures list { result.list ≡ self.room }
     {
-        let number = shard.number();
-        let done = self.follow(&mut shard);
-        let effects = Items::new(*self.homes.allocator());
-        Done {
-            shard,
-            share: Share { number, effects },
-            done,
-        }
+        let Part {
+            board: _,
+            batch: _,
+            gate: _,
+            pass,
+            room,
+        } = self;
+        PartDone { pass, list: room }
     }
 }
 
-impl<G: Gate + Drop> Job for Folding<G> {
-    type Output = Done;
+impl<G: Gate + Drop> Job for Part<G> {
+    type Output = PartDone;
 
     ghost use Rattle.rubis_replica.specs.Folding.{HasFolded, IsFoldable};
 
-    ghost Fits = { λ job. IsFoldable job };
+    ghost Fits = { λ part. IsFoldable part };
 
-    ghost Worked = { λ job done. HasFolded job done };
+    ghost Worked = { λ part done. HasFolded part done };
 
-    fn work(self) -> Done {
-        let Folding { shard, batch, gate } = self;
-        gate.taken(shard.number());
-        batch.fold(shard)
+    fn work<R: Wait>(self, rt: &R) -> PartDone {
+        let Part {
+            board,
+            batch,
+            gate,
+            pass,
+            room,
+        } = self;
+        let job = TeamJob {
+            board: &board,
+            task: &batch.task(),
+            gate: &Teller { gate: &*gate },
+        };
+        let (pass, list) = work(rt, &job, pass, room);
+        PartDone { pass, list }
     }
 }

@@ -5,9 +5,8 @@ ghost use Rattle.rubis_schema.specs.declared.limits.TheConstants.{KEEP_MAX, WORK
 ghost use Rattle.rubis_message.specs.Message.{sites_of};
 ghost use Rattle.rubis_model.specs.Listings.{log_rows, misfit_rows, table_rows};
 ghost use Rattle.rubis_workers.specs.Shard.{HoldsLog, union};
-ghost use Rattle.rubis_replica.specs.Arrivals.{IsStop, TakesFirst};
-ghost use Rattle.rubis_replica.specs.Follow.{CanFollow, ComesTo, FollowsLog, GoesOnTo, IsTriedTo};
-ghost use Rattle.rubis_replica.specs.Progress.{HasBegun, IsAhead, IsBetween, is_behind, left_of, resting_at};
+ghost use Rattle.rubis_replica.specs.State.{IsStop, TakesFirst};
+ghost use Rattle.rubis_replica.specs.Follow.{CanFollow, ComesTo, FollowsLog, GoesOnTo, IsTriedTo, HasBegun, IsAhead, IsBetween, is_behind, left_of, resting_at};
 ghost use Rattle.rubis_replica.specs.Counts.{IsCount};
 
 use crate::arriving::{Arrived, take_all};

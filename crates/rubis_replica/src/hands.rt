@@ -1,143 +1,194 @@
-//! Helpers that stay for a run, and a batch that they fold on the shards of a set.
+//! Helpers that stay for a run, and a batch that they and the caller's thread fold on the shards of a board.
 
-ghost use Rattle.std.specs.Prelude.{◌≡◌, [], length, true, IfErr, IfOk, IfSome, IfNone};
+ghost use Rattle.std.specs.Prelude.{◌≡◌, ◌+◌, ◌<◌, ◌≤◌, [], length, true, vec_len, IfSome, IfNone};
 ghost use Rattle.std.specs.Arc.{arc_value};
 ghost use Rattle.std.specs.List.{All};
-ghost use Rattle.rubis_crew.specs.States.{ComesBack, new_helper, new_lead};
-ghost use Rattle.rubis_replica.specs.Folding.{AreFolded, AreOut, FitsBatch, FitsSet, GoesOn, HasFolded, HasRoomFor, IsGiven, IsIdle};
+ghost use Rattle.rubis_crew.specs.States.{new_helper, new_lead};
+ghost use Rattle.rubis_workers.specs.Work.{IsRoom};
+ghost use Rattle.rubis_workers.specs.Logs.{WereFolded};
+ghost use Rattle.rubis_replica.specs.Folding.{AreOut, CanShare, FitsSet, HasWorked, IsIdle, ReturnsPart};
 
-use crate::folding::{Folding, SharedBatch};
-use rubis_crew::{Back, Crew, Helper, Job, Lead};
-use rubis_pieces::{CountedShards, Done, Places, gather_counted};
-use rubis_schema::Items;
+use crate::folding::{Part, PartDone, SharedBatch};
+use rubis_board::{Board, Pass};
+use rubis_crew::{Crew, Helper, Lead};
+use rubis_pieces::{CountedShards, Done};
+use rubis_schema::{Items, WORKERS_MAX};
 use rubis_shard::Shard;
-use rubis_workers::Gate;
+use rubis_workers::{
+    Gate, ShardBoard, TeamJob, Teamwork, Teller, gather_shards, joined, open_shards, work,
+};
 use std::alloc::Global;
 use std::sync::{Arc, Wait};
 use std::thread;
 
-/// A crew to which shards are given to be folded, and the permission to give them. Between two calls none is given.
+/// A crew to which parts of a board are given, and the permission to give them. Between two calls none is given.
 pub struct Hands<'a, G: Gate + Drop> {
-    crew: &'a Crew<Folding<G>>,
-    lead: Lead<Folding<G>>,
+    crew: &'a Crew<Part<G>>,
+    lead: Lead<Part<G>>,
     ghost same: { lead.crew ≡ crew.now.id },
     ghost none: { length lead.given ≡ 0 },
 }
 
-// A shard with what a helper needs to fold a batch on it. It comes back where the batch or the gate has too many owners.
-fn job_of<G: Gate + Drop>(
-    batch: &Arc<SharedBatch, Global>,
-    gate: &Arc<G, Global>,
-    shard: Shard,
-) -> Result<Folding<G>, Shard>
-    ensures shard { IfOk result (λ job. job.shard ≡ shard) }
-    ensures batch { IfOk result (λ job. arc_value job.batch ≡ arc_value batch.now) }
-    ensures back { IfErr result (λ back. back ≡ shard) }
-{
-    let (Ok(batch), Ok(gate)) = (Arc::try_clone(batch), Arc::try_clone(gate)) else {
-        return Err(shard);
-    };
-    Ok(Folding { shard, batch, gate })
+// The board of a batch, and what those who work at it need.
+struct BoardWork<'a, G> {
+    board: &'a Board,
+    batch: &'a Arc<SharedBatch, Global>,
+    gate: &'a Arc<G, Global>,
 }
 
-// Gives a shard, on which a batch is to be folded. Where it can't be given the caller's thread folds at once.
+impl<'a, G> Drop for BoardWork<'a, G> {
+    fn drop(self) {
+        let BoardWork {
+            board: _,
+            batch: _,
+            gate: _,
+        } = self;
+    }
+}
+
+// Gives a part of the board, one of those that the pass has. Where it can't be given the pass keeps it.
 fn give<G: Gate + Drop, R: Wait>(
     rt: &R,
-    crew: &Crew<Folding<G>>,
-    lead: &mut Lead<Folding<G>>,
-    batch: &Arc<SharedBatch, Global>,
-    gate: &Arc<G, Global>,
-    shard: Shard,
-) -> Option<Done>
-    requires crew { lead.old.crew ≡ crew.now.id }
-    requires fits { FitsBatch (arc_value batch.now) shard }
-    ensures { IsGiven (arc_value batch.now) shard lead.old result lead.new }
+    crew: &Crew<Part<G>>,
+    lead: &mut Lead<Part<G>>,
+    job: &BoardWork<'_, G>,
+    pass: Pass,
+    room: Vec<Done>,
+) -> Pass
+    requires pass { CanShare job.now.board.now (arc_value job.now.batch.now) pass × (1 < pass.parts) × IsRoom (length pass.posted) room }
+    requires out { AreOut crew.now.id job.now.board.now (arc_value job.now.batch.now) pass lead.old }
+    ensures pass { CanShare job.now.board.now (arc_value job.now.batch.now) result × (result.posted ≡ pass.posted) × (pass.parts ≤ result.parts + 1) }
+    ensures out { AreOut crew.now.id job.now.board.now (arc_value job.now.batch.now) result lead.new
+        × (result.parts + length lead.new.given ≡ pass.parts + length lead.old.given) }
 {
-    match job_of(batch, gate, shard) {
-        Ok(job) => match crew.give(rt, lead, job) {
-            Ok(_) => None,
-            Err(job) => Some(job.work()),
-        },
-        Err(shard) => {
-            gate.taken(shard.number());
-            Some(batch.fold(shard))
-        }
+    let (Some(board), Ok(batch), Ok(gate)) = (
+        job.board.share(),
+        Arc::try_clone(job.batch),
+        Arc::try_clone(job.gate),
+    ) else {
+        return pass;
+    };
+    let (mine, pass) = job.board.split(pass);
+    let part = Part {
+        board,
+        batch,
+        gate,
+        pass,
+        room,
+    };
+    match crew.give(rt, lead, part) {
+        Ok(_) => mine,
+        Err(part) => job.board.join(mine, part.untaken().pass),
     }
 }
 
-// Gives all shards of a set, the last one first. What the caller's thread folds at once goes into the list.
+// Gives a part of the board with each of these rooms.
 fn give_all<G: Gate + Drop, R: Wait>(
     rt: &R,
-    crew: &Crew<Folding<G>>,
-    lead: &mut Lead<Folding<G>>,
-    batch: &Arc<SharedBatch, Global>,
-    gate: &Arc<G, Global>,
-    mut shards: Vec<Shard>,
-    list: &mut Vec<Done>,
-)
+    crew: &Crew<Part<G>>,
+    lead: &mut Lead<Part<G>>,
+    job: &BoardWork<'_, G>,
+    mut pass: Pass,
+    mut rooms: Vec<Vec<Done>>,
+) -> Pass
     requires lead { IsIdle crew.now.id lead.old }
-    requires fits { All (FitsBatch (arc_value batch.now)) shards.items }
-    requires room { (list.old.items ≡ []) × HasRoomFor (length shards.items) list.old }
-    ensures { AreOut crew.now.id (arc_value batch.now) shards.items [] lead.new list.new }
+    requires pass { CanShare job.now.board.now (arc_value job.now.batch.now) pass × (vec_len rooms < pass.parts) × All (IsRoom (length pass.posted)) rooms.items }
+    ensures pass { CanShare job.now.board.now (arc_value job.now.batch.now) result × (result.posted ≡ pass.posted) }
+    ensures out { AreOut crew.now.id job.now.board.now (arc_value job.now.batch.now) result lead.new × (result.parts + length lead.new.given ≡ pass.parts) }
 {
-    for _ in 0..shards.len() {
-        let Some(shard) = shards.pop() else {
+    for _ in 0..rooms.len() {
+        let Some(room) = rooms.pop() else {
             unreachable!()
         };
-        match give(rt, crew, lead, batch, gate, shard) {
-            Some(done) => list.push_reserved(done),
-            None => {}
-        }
+        pass = give(rt, crew, lead, job, pass, room);
     }
+    pass
 }
 
-// What came of a shard that was given: of the first that no helper has taken, on which the caller's thread folds, or else of one that
-// came back.
+// What came of a part that was given: of the first that no helper has taken nothing, or else of one that came back.
 fn next_back<G: Gate + Drop, R: Wait>(
     rt: &R,
-    crew: &Crew<Folding<G>>,
-    lead: &mut Lead<Folding<G>>,
-) -> Option<Back<Done>>
+    crew: &Crew<Part<G>>,
+    lead: &mut Lead<Part<G>>,
+) -> Option<PartDone>
     requires crew { lead.old.crew ≡ crew.now.id }
-    ensures back { IfSome result (λ back. ComesBack HasFolded lead.old back lead.new) }
+    ensures back { IfSome result (λ done. ReturnsPart lead.old done lead.new) }
     ensures none { IfNone result (lead.new ≡ lead.old) }
 {
-    match crew.work(rt, lead) {
-        Some(back) => Some(back),
-        None => crew.take_back(rt, lead),
-    }
+    let Some(given) = crew.take_unworked(rt, lead) else {
+        let back = crew.take_back(rt, lead)?;
+        return Some(back.result);
+    };
+    Some(given.job.untaken())
 }
 
-// Puts what comes of the shards that are given into the list, until none is.
+// Takes back what came of the parts that were given, until all are back.
 fn take_all<G: Gate + Drop, R: Wait>(
     rt: &R,
-    crew: &Crew<Folding<G>>,
-    lead: &mut Lead<Folding<G>>,
-    list: &mut Vec<Done>,
-)
-    requires crew { lead.old.crew ≡ crew.now.id }
-    requires room { HasRoomFor (length lead.old.given) list.old }
-    ensures none { lead.new.given ≡ [] }
-    ensures list { GoesOn lead.old list.old.items lead.new list.new.items }
+    crew: &Crew<Part<G>>,
+    lead: &mut Lead<Part<G>>,
+    job: &BoardWork<'_, G>,
+    mut team: Teamwork<()>,
+) -> Teamwork<()>
+    requires out { AreOut crew.now.id job.now.board.now (arc_value job.now.batch.now) team.pass lead.old }
+    requires worked { HasWorked (arc_value job.now.batch.now) team }
+    ensures back { IsIdle crew.now.id lead.new × (result.pass.board ≡ team.pass.board) × (result.pass.posted ≡ team.pass.posted)
+        × (result.pass.parts ≡ team.pass.parts + length lead.old.given) }
+    ensures worked { HasWorked (arc_value job.now.batch.now) result }
 {
     for _ in rt.forever() {
         if lead.out() == 0 {
-            return;
+            return team;
         }
         match next_back(rt, crew, lead) {
-            Some(back) => list.push_reserved(back.result),
+            Some(done) => {
+                let PartDone { pass, list } = done;
+                team = joined(job.board, team, pass, list);
+            }
             None => thread::yield_now(),
         }
     }
     unreachable!()
 }
 
+// Works at a board until no shard is left there, with a helper for each further room.
+fn fan_out<G: Gate + Drop, R: Wait>(
+    rt: &R,
+    crew: &Crew<Part<G>>,
+    lead: &mut Lead<Part<G>>,
+    job: &BoardWork<'_, G>,
+    pass: Pass,
+    room: Vec<Done>,
+    rooms: Vec<Vec<Done>>,
+) -> Teamwork<()>
+    requires pass { IsIdle crew.now.id lead.old × CanShare job.now.board.now (arc_value job.now.batch.now) pass }
+    requires parts { vec_len rooms < pass.parts }
+    requires rooms { IsRoom (length pass.posted) room × All (IsRoom (length pass.posted)) rooms.items }
+    ensures { IsIdle crew.now.id lead.new × (result.pass.board ≡ pass.board) × (result.pass.posted ≡ pass.posted) × (result.pass.parts ≡ pass.parts)
+        × HasWorked (arc_value job.now.batch.now) result }
+{
+    let pass = give_all(rt, crew, lead, job, pass, rooms);
+    let mine = TeamJob {
+        board: job.board,
+        task: &job.batch.task(),
+        gate: &Teller { gate: &**job.gate },
+    };
+    let (pass, list) = work(rt, &mine, pass, room);
+    let team = Teamwork {
+        pass,
+        list,
+        others: 0,
+        answer: (),
+    };
+    take_all(rt, crew, lead, job, team)
+}
+
 // Folds a batch on the shards of a set, by the crew and the caller's thread, as far as memory goes. Where there is no room to begin, the
 // shards come back.
 fn fold_all<G: Gate + Drop, R: Wait>(
     rt: &R,
-    crew: &Crew<Folding<G>>,
-    lead: &mut Lead<Folding<G>>,
+    crew: &Crew<Part<G>>,
+    lead: &mut Lead<Part<G>>,
     batch: &Arc<SharedBatch, Global>,
     gate: &Arc<G, Global>,
     shards: Vec<Shard>,
@@ -145,43 +196,58 @@ fn fold_all<G: Gate + Drop, R: Wait>(
     requires lead { IsIdle crew.now.id lead.old }
     requires set { FitsSet (arc_value batch.now) shards.items }
     ensures lead { IsIdle crew.now.id lead.new }
-    ensures folded { AreFolded (arc_value batch.now) shards.items result }
+    ensures folded { WereFolded (arc_value batch.now).intake.state.log (arc_value batch.now).span.from (arc_value batch.now).span.upto shards.items result }
 {
     let alloc = *shards.allocator();
-    let many = shards.len();
-    let (Ok(places), Ok(mut list), Ok(dones)) = (
-        Places::new(alloc, many),
-        Vec::with_capacity(alloc, many),
-        Vec::with_capacity(alloc, many),
-    ) else {
-        return Err(shards.into());
-    };
-    give_all(rt, crew, lead, batch, gate, shards, &mut list);
-    take_all(rt, crew, lead, &mut list);
-    match gather_counted(list, places, dones) {
-        Ok(counted) => Ok(counted),
-        Err(_) => unreachable!(),
-    }
+    let most = usize::from(WORKERS_MAX).min(shards.len());
+    let workers = crew.helpers().min(most - 1) + 1;
+    let ShardBoard {
+        board,
+        pass,
+        mine,
+        others,
+        places,
+        dones,
+    } = open_shards(rt, alloc, shards, workers)?;
+    let Teamwork {
+        pass,
+        list,
+        others: _,
+        answer: (),
+    } = fan_out(
+        rt,
+        crew,
+        lead,
+        &BoardWork {
+            board: &board,
+            batch,
+            gate,
+        },
+        pass,
+        mine,
+        others,
+    );
+    Ok(gather_shards(board, pass, list, places, dones))
 }
 
 impl<'a, G: Gate + Drop> Hands<'a, G> {
     /// Those of a crew to which nothing was given.
-    pub fn new(crew: &'a Crew<Folding<G>>, lead: Lead<Folding<G>>) -> Hands<'a, G>
+    pub fn new(crew: &'a Crew<Part<G>>, lead: Lead<Part<G>>) -> Hands<'a, G>
         requires { lead ≡ new_lead crew.now.id }
         ensures { result.lead ≡ new_lead crew.now.id }
     {
         Hands { crew, lead }
     }
 
-    /// The crew to which shards are given.
-    pub fn crew(&self) -> &'a Crew<Folding<G>>
+    /// The crew to which parts of boards are given.
+    pub fn crew(&self) -> &'a Crew<Part<G>>
         ensures { result.now.id ≡ self.now.lead.crew }
     {
         self.crew
     }
 
     /// What the first helper needs.
-    pub fn helper(&mut self) -> Helper<Folding<G>>
+    pub fn helper(&mut self) -> Helper<Part<G>>
         ensures helper { result ≡ new_helper self.old.lead.crew }
         ensures same { self.new.lead ≡ self.old.lead }
     {
@@ -199,7 +265,7 @@ impl<'a, G: Gate + Drop> Hands<'a, G> {
     ) -> Result<CountedShards, Items<Shard>>
         requires set { FitsSet (arc_value batch.now) shards.items }
         ensures crew { self.new.lead.crew ≡ self.old.lead.crew }
-        ensures folded { AreFolded (arc_value batch.now) shards.items result }
+        ensures folded { WereFolded (arc_value batch.now).intake.state.log (arc_value batch.now).span.from (arc_value batch.now).span.upto shards.items result }
     {
         fold_all(rt, self.crew, &mut self.lead, batch, gate, shards)
     }
@@ -212,7 +278,7 @@ impl<'a, G: Gate + Drop> Hands<'a, G> {
     }
 
     /// Gives the permission back.
-    pub fn into_lead(self) -> Lead<Folding<G>>
+    pub fn into_lead(self) -> Lead<Part<G>>
         ensures { result ≡ self.entry.lead }
     {
         let Hands { crew: _, lead } = self;

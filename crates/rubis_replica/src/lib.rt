@@ -15,7 +15,7 @@ mod tries;
 pub use arriving::Arrived;
 pub use config::Config;
 pub use faults::Fault;
-pub use folding::Folding;
+pub use folding::Part;
 pub use follower::Follower;
 pub use hands::Hands;
 pub use progress::{Progress, Stage};

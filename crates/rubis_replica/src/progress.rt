@@ -1,7 +1,7 @@
 //! How far tables are in the log that they follow.
 
 ghost use Rattle.std.specs.Prelude.{◌≡◌};
-ghost use Rattle.rubis_replica.specs.Progress.{end_of, left_of, resting_at};
+ghost use Rattle.rubis_replica.specs.Follow.{end_of, left_of, resting_at};
 
 /// How many messages are applied, those of a begun batch aside, and what is with the batch after them.
 #[derive(Clone, Copy, PartialEq, Eq)]

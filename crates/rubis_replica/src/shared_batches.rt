@@ -7,9 +7,9 @@ ghost use Rattle.rubis_replica.specs.Folding.{CanApply, IsApplied, IsBatch, IsSh
 
 use crate::folding::{SharedBatch, Span};
 use crate::hands::Hands;
-use rubis_pieces::{CountedShards, homes_of};
+use rubis_pieces::homes_of;
 use rubis_release::Intake;
-use rubis_workers::{Gate, LogBatch, Tables, Workers, again, apply_alone, stop_all, stop_each};
+use rubis_workers::{Gate, LogBatch, Tables, Workers, apply_alone, put_back, stop_all};
 use std::alloc::{AllocError, Global};
 use std::sync::{Arc, Wait};
 use std::thread;
@@ -72,23 +72,15 @@ fn apply_shared<G: Gate + Drop, R: Wait>(
     ensures applied { IsApplied (arc_value batch.now).intake.state.log (arc_value batch.now).span tables.old stops.old tables.new stops.new result }
     ensures crew { hands.new.lead.crew ≡ hands.old.lead.crew }
 {
-    let Span { from, upto } = batch.span;
-    stop_all(stops, tables.len(), from);
-    match hands.fold(rt, batch, gate, tables.take()) {
-        Ok(folded) => {
-            let CountedShards { shards, dones } = folded;
-            *tables = again(shards);
-            if stop_each(stops, dones.as_slice(), from, upto - from) {
-                Ok(())
-            } else {
-                Err(AllocError)
-            }
-        }
-        Err(back) => {
-            *tables = again(back);
-            Err(AllocError)
-        }
-    }
+    let folded = hands.fold(rt, batch, gate, tables.take());
+    let shared: &SharedBatch = batch;
+    let Span { from, upto } = shared.span;
+    let messages = LogBatch {
+        log: shared.intake.log(),
+        from,
+        upto,
+    };
+    put_back(tables, &messages, folded, stops)
 }
 
 /// Applies messages of an intake's log to tables, as far as memory goes, by helpers and the caller's thread, or by the latter alone where

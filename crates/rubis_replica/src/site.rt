@@ -4,14 +4,11 @@ ghost use Rattle.std.specs.Prelude.{◌≡◌, ◌≤◌, ◌<◌, ◌⊎◌, []
 ghost use Rattle.rubis_shadow.specs.Shadows.{IsAsk};
 ghost use Rattle.rubis_message.specs.Message.{sites_of};
 ghost use Rattle.rubis_model.specs.Log.{cores, fold_of};
-ghost use Rattle.rubis_model.specs.Runs.{listed, listing_rows};
-ghost use Rattle.rubis_model.specs.Site.{arrived, asked, opening_at, passed, rows_at, took};
-ghost use Rattle.rubis_release.specs.Answers.{IsAdmitted};
-ghost use Rattle.rubis_replica.specs.Arrivals.{IsStop, TakesFirst};
-ghost use Rattle.rubis_replica.specs.Progress.{BatchGoesOn, IsAhead, IsBatched, IsProgress, end_of, is_behind, left_of, resting_at};
-ghost use Rattle.rubis_replica.specs.Setup.{setup_place};
-ghost use Rattle.rubis_replica.specs.State.{AddsRows, AnswersAsTheStep, IsCutFault, IsReadFault, IsReadyFor, IsRefreshed, Lists};
-ghost use Rattle.rubis_replica.specs.State.{NeedsNoTables, TakesIn, WaitsBehind, pending, with_all_applied};
+ghost use Rattle.rubis_model.specs.Site.{listed, listing_rows, arrived, asked, opening_at, passed, rows_at, took};
+ghost use Rattle.rubis_release.specs.Release.{IsAdmitted};
+ghost use Rattle.rubis_replica.specs.State.{IsStop, TakesFirst, setup_place, AddsRows, AnswersAsTheStep, IsCutFault, IsReadFault, IsReadyFor, IsRefreshed};
+ghost use Rattle.rubis_replica.specs.State.{Lists, NeedsNoTables, TakesIn, WaitsBehind, pending, with_all_applied};
+ghost use Rattle.rubis_replica.specs.Follow.{BatchGoesOn, IsAhead, IsBatched, IsProgress, end_of, is_behind, left_of, resting_at};
 
 use crate::arriving::{Arrived, take_all};
 use crate::config::Config;

@@ -1,21 +1,31 @@
 -- What a single field is read as: each value from its own text, and from no other.
-use Rattle.std.proofs.Common.{◌≡◌, ℕ, ◌<◌, ◌≤◌, ◌^◌, Bool, true, false, ◌&&◌, cond, List, ◌∷◌, ◌++◌, refl, ap, subst, ◌∙◌, arith, decimal}
+use Rattle.std.proofs.Common.{◌≢◌, ◌≤◌, ◌<◌, ◌^◌, ℕ, length, decimal, subst, arith, ◌≡◌, Bool, true, false, ◌&&◌, cond, List, ◌∷◌, ◌++◌, refl, ap, ◌∙◌}
+use Rattle.std.specs.List.{All}
+use Rattle.std.specs.Int.{IsInRange}
+use Rattle.std.proofs.lemmas.List.Elements.{All-from_get_or}
+use Rattle.std.proofs.lemmas.Fmt.{length-decimal-le, decimal_nonempty}
+use Rattle.rubis_numbers.proofs.Decimals.{decimal_at}
 use Rattle.std.specs.Prelude.{◌==◌, ◌+◌, ◌-◌, nat_lt, ℤ, pos, negsuc, unsigned_abs, IsTrue, slice_index, drop, [], option_map, Option, Some, None, Decides}
 use Rattle.std.proofs.lemmas.Bool.Decides.{Decides-eqb, Decides-ltb, Decides-and}
-use Rattle.std.proofs.lemmas.Fmt.{decimal_nonempty}
 use Rattle.std.proofs.lemmas.Option.{cond_some, same_Some}
 use Rattle.std.proofs.lemmas.Bool.{ne_eqb}
 use Rattle.rubis_numbers.specs.Numbers.{IsField, ◌>>=◌, below_zero_of, number_of, only_if, rating_of}
 use Rattle.rubis_numbers.specs.declared.numbers.TheConstants.{RATING_MAX}
-use Rattle.rubis_numbers.proofs.Decimals.{decimal_at}
 use Rattle.rubis_numbers.proofs.NumberLaws.{number_is, passed, there}
-use Rattle.rubis_schema.specs.FieldForms.{cut_at, id_of, name_of, nick_of, text_of}
+use Rattle.rubis_schema.specs.FieldForms.{cut_at, id_of, name_of, nick_of, text_of, IsName, IsNick, IsText, is_name, is_nick, is_text}
 use Rattle.rubis_schema.specs.Ids.{IsId, id_text, int_text}
-use Rattle.rubis_schema.specs.Texts.{IsName, IsNick, IsText, is_name, is_nick, is_text}
 use Rattle.rubis_schema.specs.declared.ids.Id.{Id}
 use Rattle.rubis_schema.specs.declared.limits.TheConstants.{SEQ_MAX}
-use Rattle.rubis_schema.proofs.IdTexts.{decimal_free}
 use Rattle.rubis_schema.proofs.Marks.{cut_back, cut_only}
+
+-- a number's text has no byte but digits
+pub decimal_free : (n mark : ℕ) → n < 2 ^ 64 → ¬ (IsInRange 48 57 mark) → All (λ b. b ≢ mark) (decimal n)
+decimal_free n mark h none = All-from_get_or (λ b. b ≢ mark) (decimal n) 0 (λ i lt e. none (subst (λ b. IsInRange 48 57 b) e (decimal_at n i h lt)))
+
+pub decimal_short : (n : ℕ) → n < 2 ^ 32 → length (decimal n) ≤ 10
+decimal_short n h = length-decimal-le 10 n (omega arith) (omega (arith, h)) (omega (arith, h))
+
+-- ---- what a single field is read as: each value from its own text, and from no other
 
 -- ---- what is read in steps
 

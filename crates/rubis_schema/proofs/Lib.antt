@@ -1,11 +1,8 @@
 pub mod Nicknames
-pub mod FieldFacts
+pub mod PlainRows
 pub mod Marks
 pub mod Before
-pub mod IdTexts
 pub mod FieldLaws
-pub mod PlainTexts
 pub mod Words
 pub mod NumberTexts
 pub mod NumberForms
-pub mod PlainRows

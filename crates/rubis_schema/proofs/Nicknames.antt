@@ -1,7 +1,7 @@
 -- A nickname with zeros after it.
 use Rattle.std.proofs.Common.{◌≡◌, ℕ, ◌-◌, List, ◌++◌, length, take, replicate, ap, sym, subst, ◌∙◌}
 use Rattle.std.proofs.Math.Seq.{take-append_seam}
-use Rattle.rubis_schema.specs.Texts.{IsNick, IsPadded, padded}
+use Rattle.rubis_schema.specs.FieldForms.{IsNick, IsPadded, padded}
 use Rattle.rubis_schema.specs.declared.limits.TheConstants.{NICK_MAX}
 
 pub nick_padded : (text copied rest : List ℕ) → IsNick text → copied ≡ text → rest ≡ replicate (NICK_MAX - length text) 0 →

@@ -3,9 +3,8 @@ use Rattle.std.proofs.Common.{◌≡◌, Bool, true, false, refl, sym, ap, ◌�
 use Rattle.std.specs.Prelude.{Decides, ◌&&◌, nat_eq}
 use Rattle.std.proofs.lemmas.Bool.Decides.{Decides-eqb}
 use Rattle.std.specs.Cmp.{IsEquivalence}
-pub use Rattle.rubis_schema.specs.IdKeys.{same_id_key}
-use Rattle.rubis_schema.specs.IdKeys.{key_in, row_key, table_place}
-use Rattle.rubis_schema.specs.Keys.{key_eq}
+pub use Rattle.rubis_schema.specs.Keys.{same_id_key}
+use Rattle.rubis_schema.specs.Keys.{key_in, row_key, table_place, key_eq}
 use Rattle.rubis_schema.specs.KeyLaws.{key_eq_equiv}
 use Rattle.rubis_schema.specs.declared.id_keys.IdKey.{IdKey}
 use Rattle.rubis_schema.specs.declared.id_keys.IdTable.{IdTable}

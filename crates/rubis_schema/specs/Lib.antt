@@ -1,5 +1,4 @@
 pub mod Ids
-pub mod Texts
 pub mod FieldForms
 pub mod Keys
 pub mod KeyLaws
@@ -7,13 +6,5 @@ pub mod Refusals
 pub mod Tables
 pub mod FieldList
 pub mod Lending
-pub mod IdKeys
 pub mod IdKeyLaws
-pub mod KeyHashes
-pub mod NickKeys
-pub mod Categories
-pub mod Adding
-pub mod Members
-pub mod PlainRows
 pub mod NumberForms
-pub mod SpareRoom

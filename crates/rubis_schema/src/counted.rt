@@ -25,7 +25,7 @@ impl<S: Drop> Counted<S> {
 
 impl<S: RowSink + Drop> RowSink for Counted<S> {
     ghost use Rattle.std.specs.Prelude.{◌≡◌, ◌+◌, length};
-    ghost use Rattle.rubis_schema.specs.Adding.{counted_more, counted_none};
+    ghost use Rattle.rubis_schema.specs.Tables.{counted_more, counted_none};
 
     ghost adds = { λ rows old new. S.adds rows old.rows new.rows × (new.count ≡ old.count + length rows) };
 
@@ -45,7 +45,7 @@ impl<S: RowSink + Drop> RowSink for Counted<S> {
 
 impl<S: SharedSink> SharedSink for Counted<S> {
     ghost use Rattle.std.specs.Prelude.{◌≡◌, length};
-    ghost use Rattle.rubis_schema.specs.Adding.{count_held};
+    ghost use Rattle.rubis_schema.specs.Tables.{count_held};
 
     ghost holds = { λ rows s. S.holds rows s.rows × (s.count ≡ length rows) };
 

@@ -1,7 +1,7 @@
 //! Keys of rows as one word, for maps.
 
 ghost use Rattle.std.specs.Prelude.{◌≡◌, ◌<◌, ◌+◌, ◌*◌};
-ghost use Rattle.rubis_schema.specs.IdKeys.{row_key, same_id_key, table_place};
+ghost use Rattle.rubis_schema.specs.Keys.{row_key, same_id_key, table_place};
 
 use crate::ids::Id;
 use crate::row_keys::RowKey;
@@ -74,7 +74,7 @@ impl IdKey {
 }
 
 impl PartialEq for IdKey {
-    ghost use Rattle.rubis_schema.specs.IdKeys.{same_id_key};
+    ghost use Rattle.rubis_schema.specs.Keys.{same_id_key};
     ghost use Rattle.rubis_schema.specs.IdKeyLaws.{same_id_key_equiv};
     ghost use Rattle.std.specs.Cmp.{partial_equiv_from_equiv};
 
@@ -99,7 +99,7 @@ impl Eq for IdKey {
 impl Hash for IdKey {
     ghost use Rattle.std.specs.Hash.{same_Alike};
     ghost use Rattle.std.specs.Hash as fed;
-    ghost use Rattle.rubis_schema.specs.IdKeys.{key_word};
+    ghost use Rattle.rubis_schema.specs.Keys.{key_word};
     ghost use Rattle.rubis_schema.specs.IdKeyLaws.{Decides-same_id_key};
 
     ghost hash_input = { λ k. fed.u64 (key_word k) };

@@ -24,7 +24,7 @@ pub struct Id {
 impl Hash for Id {
     ghost use Rattle.std.specs.Hash.{same_Alike};
     ghost use Rattle.std.specs.Hash as fed;
-    ghost use Rattle.rubis_schema.specs.IdKeys.{id_word};
+    ghost use Rattle.rubis_schema.specs.Keys.{id_word};
     ghost use Rattle.rubis_schema.specs.KeyLaws.{Decides-same_id};
 
     ghost hash_input = { λ i. fed.u64 (id_word i) };

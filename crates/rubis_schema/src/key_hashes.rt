@@ -2,8 +2,8 @@
 
 ghost use Rattle.std.specs.Prelude.{◌≡◌, ◌≤◌, slice_index};
 ghost use Rattle.std.specs.Int.{from_le_bytes, w64};
-ghost use Rattle.rubis_schema.specs.KeyHashes.{fixed_hashes};
-ghost use Rattle.rubis_schema.specs.NickKeys as model;
+ghost use Rattle.rubis_schema.specs.Keys.{fixed_hashes};
+ghost use Rattle.rubis_schema.specs.Keys as model;
 
 use std::hash::{BuildHasher, Hasher};
 use std::random::RandomSource;
@@ -123,7 +123,7 @@ fn joined_product(a: u64, b: u64) -> u64
 }
 
 impl Hasher for NickHasher {
-    ghost use Rattle.rubis_schema.specs.NickKeys.{with_bytes};
+    ghost use Rattle.rubis_schema.specs.Keys.{with_bytes};
 
     ghost write = { with_bytes };
 
@@ -134,7 +134,7 @@ impl Hasher for NickHasher {
         self.state
     }
 
-    #[tactic(auto, unfolding(crate::specs::NickKeys::with_bytes))]
+    #[tactic(auto, unfolding(crate::specs::Keys::with_bytes))]
     #[inline(always)]
     fn write(&mut self, bytes: &[u8]) {
         let first = word_at(bytes, 0).wrapping_add(self.keys.first);
@@ -145,7 +145,7 @@ impl Hasher for NickHasher {
 }
 
 impl Hasher for KeyHasher {
-    ghost use Rattle.rubis_schema.specs.KeyHashes.{written};
+    ghost use Rattle.rubis_schema.specs.Keys.{written};
 
     ghost write = { written };
 
@@ -156,7 +156,7 @@ impl Hasher for KeyHasher {
         self.state
     }
 
-    #[tactic(auto, unfolding(crate::specs::KeyHashes::written))]
+    #[tactic(auto, unfolding(crate::specs::Keys::written))]
     #[inline(always)]
     fn write(&mut self, bytes: &[u8]) {
         self.state = (self.state ^ word_of(bytes)).wrapping_mul(self.multiplier);
@@ -171,7 +171,7 @@ impl Hasher for KeyHasher {
 impl BuildHasher for KeyHashes {
     type Hasher = KeyHasher;
 
-    ghost use Rattle.rubis_schema.specs.KeyHashes.{key_hasher};
+    ghost use Rattle.rubis_schema.specs.Keys.{key_hasher};
 
     ghost build_hasher = { key_hasher };
 
@@ -187,7 +187,7 @@ impl BuildHasher for KeyHashes {
 impl BuildHasher for NickHashes {
     type Hasher = NickHasher;
 
-    ghost use Rattle.rubis_schema.specs.NickKeys.{nick_hasher};
+    ghost use Rattle.rubis_schema.specs.Keys.{nick_hasher};
 
     ghost build_hasher = { nick_hasher };
 

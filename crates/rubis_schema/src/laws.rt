@@ -2,9 +2,8 @@
 
 ghost use Rattle.std.specs.Prelude.{ℕ, ◌<◌, ◌≤◌, ◌^◌, decimal, unsigned_abs};
 ghost use Rattle.rubis_numbers.specs.Numbers.{IsField, number_of, rating_of};
-ghost use Rattle.rubis_schema.specs.FieldForms.{id_of, name_of, nick_of, text_of};
+ghost use Rattle.rubis_schema.specs.FieldForms.{id_of, name_of, nick_of, text_of, IsName, IsNick, IsText};
 ghost use Rattle.rubis_schema.specs.Ids.{IsId, id_text, int_text};
-ghost use Rattle.rubis_schema.specs.Texts.{IsName, IsNick, IsText};
 
 use rubis_numbers::RATING_MAX;
 

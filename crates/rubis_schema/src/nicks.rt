@@ -2,8 +2,7 @@
 
 ghost use Rattle.std.specs.Prelude.{◌≡◌};
 ghost use Rattle.std.specs.List.{list_all};
-ghost use Rattle.rubis_schema.specs.FieldForms.{nick_of};
-ghost use Rattle.rubis_schema.specs.Texts.{IsNick, is_nick, is_nick_byte, is_small_letter};
+ghost use Rattle.rubis_schema.specs.FieldForms.{nick_of, IsNick, is_nick, is_nick_byte, is_small_letter};
 
 use crate::limits::NICK_MAX;
 use std::cmp::Ordering;
@@ -21,7 +20,7 @@ pub struct Nick {
 
 impl Model for Nick {
     ghost use Rattle.std.specs.Prelude.{List, ℕ, ◌≡◌, take, length};
-    ghost use Rattle.rubis_schema.specs.Texts.{IsNick, padded, IsPadded};
+    ghost use Rattle.rubis_schema.specs.FieldForms.{IsNick, padded, IsPadded};
 
     ghost Value = { List ℕ };
 
@@ -31,7 +30,7 @@ impl Model for Nick {
 
     ghost inverse = { λ n. record { bytes = padded n; len = length n } };
 
-    ghost use Rattle.rubis_schema.specs.Texts.{padded_take, length_take_padded};
+    ghost use Rattle.rubis_schema.specs.FieldForms.{padded_take, length_take_padded};
 
     ghost inverse_ok = { λ a h. λ i. record { bytes = padded_take a.bytes a.len h i; len = length_take_padded a.bytes a.len h i } };
 }
@@ -113,7 +112,7 @@ impl Hash for Nick {
     ghost use Rattle.std.specs.Prelude.{[], ◌∷◌};
     ghost use Rattle.std.specs.Hash.{same_Alike};
     ghost use Rattle.std.specs.Cmp.Lexicographic.{bytes_decides};
-    ghost use Rattle.rubis_schema.specs.Texts.{padded};
+    ghost use Rattle.rubis_schema.specs.FieldForms.{padded};
 
     ghost hash_input = { λ n. padded n ∷ [] };
 

@@ -2,7 +2,7 @@
 
 ghost use Rattle.std.specs.Prelude.{◌≡◌, ◌+◌, ◌/◌, ◌%◌, ◌<◌, ◌≤◌, ◌++◌, ◌∷◌, [], decimal, length};
 ghost use Rattle.std.specs.Vec.{vec_capacity, vec_len};
-ghost use Rattle.rubis_schema.specs.SpareRoom.{Appends};
+ghost use Rattle.rubis_schema.specs.FieldList.{Appends};
 
 use crate::limits::NUMBERS_TEXT_MAX;
 

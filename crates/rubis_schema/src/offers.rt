@@ -1,7 +1,7 @@
 //! What a seller offers, and the name that an item's row shares with it.
 
 ghost use Rattle.std.specs.Prelude.{◌≡◌, IfOk};
-ghost use Rattle.rubis_schema.specs.Texts.{IsName};
+ghost use Rattle.rubis_schema.specs.FieldForms.{IsName};
 
 use crate::ids::Id;
 use crate::shared::Shared;

@@ -21,8 +21,8 @@ pub struct PlainRow {
 }
 
 impl Model for PlainRow {
-    ghost use Rattle.rubis_schema.specs.PlainRows as model;
-    ghost use Rattle.rubis_schema.specs.PlainRows.{IsPlainText, row_of_text};
+    ghost use Rattle.rubis_schema.specs.FieldList as model;
+    ghost use Rattle.rubis_schema.specs.FieldList.{IsPlainText, row_of_text};
     ghost use Rattle.rubis_schema.specs.declared.limits.TheConstants.{PLAIN_ROW_MAX};
 
     ghost Value = { model.PlainRow };

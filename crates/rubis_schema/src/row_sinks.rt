@@ -38,7 +38,7 @@ pub trait SharedSink: RowSink + Drop + Send {
 
 impl RowSink for Items<Fields> {
     ghost use Rattle.std.specs.Prelude.{◌≡◌, ◌++◌};
-    ghost use Rattle.rubis_schema.specs.Adding.{added_more, added_none};
+    ghost use Rattle.rubis_schema.specs.Tables.{added_more, added_none};
 
     ghost adds = { λ rows old new. new ≡ old ++ rows };
 
@@ -54,7 +54,7 @@ impl RowSink for Items<Fields> {
 
 impl SharedSink for Items<Fields> {
     ghost use Rattle.std.specs.Prelude.{◌≡◌};
-    ghost use Rattle.rubis_schema.specs.Adding.{held_more};
+    ghost use Rattle.rubis_schema.specs.Tables.{held_more};
 
     ghost holds = { λ rows items. items ≡ rows };
 

@@ -1,7 +1,7 @@
 //! The rows of the seven tables.
 
 ghost use Rattle.std.specs.Prelude.{◌≡◌, IfOk};
-ghost use Rattle.rubis_schema.specs.Categories.{shows_nothing};
+ghost use Rattle.rubis_schema.specs.Tables.{shows_nothing};
 
 use crate::boxed::Boxed;
 use crate::ids::Id;

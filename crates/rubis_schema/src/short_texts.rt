@@ -79,7 +79,7 @@ impl<const N: usize> ShortText<N> {
     }
 
     /// Puts the digits of a number first, none of which calls for quotes.
-    #[tactic(auto, using(crate::proofs::PlainTexts::decimal_plain))]
+    #[tactic(auto, using(crate::proofs::PlainRows::decimal_plain))]
     #[inline(always)]
     pub fn put_number(&mut self, number: u32)
         requires { length self.old + 10 ≤ N }
@@ -91,7 +91,7 @@ impl<const N: usize> ShortText<N> {
     }
 
     /// Puts the digits of a number of 64 bits first, none of which calls for quotes.
-    #[tactic(auto, using(crate::proofs::PlainTexts::decimal_plain))]
+    #[tactic(auto, using(crate::proofs::PlainRows::decimal_plain))]
     #[inline(always)]
     pub fn put_long(&mut self, number: u64)
         requires { length self.old + NUMBER_TEXT_MAX ≤ N }

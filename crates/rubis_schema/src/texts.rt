@@ -2,8 +2,7 @@
 
 ghost use Rattle.std.specs.Prelude.{◌≡◌, IfOk};
 ghost use Rattle.std.specs.List.{list_all};
-ghost use Rattle.rubis_schema.specs.FieldForms.{name_of, text_of};
-ghost use Rattle.rubis_schema.specs.Texts.{IsName, IsText, is_name, is_printable, is_text};
+ghost use Rattle.rubis_schema.specs.FieldForms.{name_of, text_of, IsName, IsText, is_name, is_printable, is_text};
 
 use crate::limits::{NAME_MAX, TEXT_MAX};
 use std::alloc::{AllocError, Global};
@@ -24,7 +23,7 @@ impl Drop for Name {
 
 impl Model for Name {
     ghost use Rattle.std.specs.Prelude.{List, ℕ};
-    ghost use Rattle.rubis_schema.specs.Texts.{IsName};
+    ghost use Rattle.rubis_schema.specs.FieldForms.{IsName};
 
     ghost Value = { List ℕ };
 
@@ -48,7 +47,7 @@ impl Drop for Text {
 
 impl Model for Text {
     ghost use Rattle.std.specs.Prelude.{List, ℕ};
-    ghost use Rattle.rubis_schema.specs.Texts.{IsText};
+    ghost use Rattle.rubis_schema.specs.FieldForms.{IsText};
 
     ghost Value = { List ℕ };
 

@@ -8,20 +8,19 @@ use Rattle.rubis_message.specs.Inputs.{input_of}
 use Rattle.rubis_message.specs.declared.inputs.Input.{Input}
 use Rattle.rubis_message.specs.declared.inputs.Input.TheVariants.{Asked}
 use Rattle.rubis_model.specs.Processes.{site_after}
-use Rattle.rubis_replica.specs.Arrivals.{after_all}
-use Rattle.rubis_model.specs.Runs.{input_step}
+use Rattle.rubis_replica.specs.State.{after_all}
+use Rattle.rubis_model.specs.Site.{input_step}
 use Rattle.rubis_engine.specs.Accounts.{Account, AnswersRecord, Keeps, LeadsAlike}
 use Rattle.rubis_engine.specs.declared.service.Course.TheVariants.{GoesOn}
-use Rattle.rubis_engine.proofs.AnswerFacts.{answers-waiting, breaks-unwritten}
+use Rattle.rubis_engine.proofs.RunFacts.{answers-waiting, breaks-unwritten}
 use Rattle.rubis_script.specs.Desks.{KeepsSetup, LeadsSite, TakesHeld, TakesNext, WritesNext, WritesPrefixFrom, left_at}
-use Rattle.rubis_script.specs.Drains.{WritesFront, WritesOff, listed_behind}
+use Rattle.rubis_script.specs.Windows.{WritesFront, WritesOff, listed_behind}
 use Rattle.rubis_script.specs.Headline.{Settles, StepsOn}
 use Rattle.rubis_script.specs.Inputs.{IsAnswered}
 use Rattle.rubis_script.specs.SiteRuns.{site_account, told_by}
 use Rattle.rubis_script.specs.declared.desk.Desk.{Desk}
-use Rattle.rubis_script.proofs.DrainFacts.{listed_front, listed_goes}
+use Rattle.rubis_script.proofs.WindowFacts.{listed_front, listed_goes, flush_goes, told-held, told-kept}
 use Rattle.rubis_script.proofs.LeadFacts.{flush_steps}
-use Rattle.rubis_script.proofs.WindowFacts.{flush_goes, told-held, told-kept}
 
 -- ---- the messages that it holds, as they are named otherwise
 

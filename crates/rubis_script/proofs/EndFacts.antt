@@ -3,9 +3,8 @@ use Rattle.std.proofs.Common.{◌≡◌, ◌∙◌, [], ℕ, List, Option, ap, r
 use Rattle.std.specs.Prelude.{IfSome, Result, Ok, Err, Some, None}
 use Rattle.std.specs.Io.KnownBytes.{Appends}
 use Rattle.rubis_model.specs.Processes.{site_after}
-use Rattle.rubis_model.specs.Runs.{answers}
-use Rattle.rubis_replica.specs.Arrivals.{after_all}
-use Rattle.rubis_replica.specs.State.{SiteState}
+use Rattle.rubis_model.specs.Site.{answers}
+use Rattle.rubis_replica.specs.State.{after_all, SiteState}
 use Rattle.rubis_engine.specs.Accounts.{Account, Ending}
 use Rattle.rubis_engine.specs.Accounts.Ending.{AtEnd, Cut}
 use Rattle.rubis_engine.specs.Progress.{WrotePrefix}
@@ -15,7 +14,7 @@ use Rattle.rubis_engine.specs.declared.fault.RunFault.{RunFault}
 use Rattle.rubis_engine.specs.declared.fault.RunFault.TheVariants as fault
 use Rattle.rubis_reading.specs.Chunked.{HasAll, HasCome, HasPending}
 use Rattle.rubis_reading.specs.declared.chunks.Chunks.{Chunks}
-use Rattle.rubis_serving.specs.Whole.{EndsLed}
+use Rattle.rubis_serving.specs.Serving.{EndsLed}
 use Rattle.rubis_script.specs.Desks.{LeadsSite, left_at}
 use Rattle.rubis_script.specs.Headline.{HasAnswered}
 use Rattle.rubis_script.specs.Runs.{EndsWhole}

@@ -8,13 +8,11 @@ use Rattle.rubis_message.specs.declared.requests.Request.TheVariants as request
 use Rattle.rubis_message.specs.declared.tokens.Packet.{Packet}
 use Rattle.rubis_message.specs.declared.tokens.Packet.TheVariants as packet
 use Rattle.rubis_message.proofs.Records.{packet_is, request_is}
-use Rattle.rubis_model.specs.Answers.{passed_rows, took_rows}
+use Rattle.rubis_model.specs.Site.{passed_rows, took_rows, answers, input_step, Place, Replica, opening_at}
 use Rattle.rubis_model.specs.Processes.{IsLogOfProcess, Reading, answers_of, site_after, state_of}
 use Rattle.rubis_message.specs.Inputs.{input_of}
-use Rattle.rubis_model.specs.Runs.{answers, input_step}
 use Rattle.rubis_message.specs.declared.inputs.Input.TheVariants.{Asked, Came}
-use Rattle.rubis_model.specs.Site.{Place, Replica, opening_at}
-use Rattle.rubis_replica.specs.Progress.{resting_at}
+use Rattle.rubis_replica.specs.Follow.{resting_at}
 use Rattle.rubis_replica.specs.State.{SiteState}
 use Rattle.rubis_engine.specs.Text.{input_records, rows_text}
 use Rattle.rubis_engine.specs.declared.fault.Count.{Count}

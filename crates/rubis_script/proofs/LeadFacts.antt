@@ -1,25 +1,37 @@
--- Where records lead a site, one after the other.
-use Rattle.std.proofs.Common.{◌≡◌, ◌∙◌, ◌+◌, ◌++◌, ◌∷◌, [], ℕ, List, Option, Some, None, ap, append-nil, refl}
-use Rattle.std.proofs.Common.{subst, sym, take}
+-- Where records lead a site, one after the other, and what the end of a run says of it.
+use Rattle.std.proofs.Common.{◌∙◌, ◌+◌, ◌++◌, ◌∷◌, [], ap, append_assoc, arith, length, sym, ◌≡◌, ℕ, List, Option, Some, None, append-nil, refl, subst, take}
+use Rattle.rubis_message.specs.Inputs.{input_of}
+use Rattle.rubis_model.specs.Site.{answers, input_step, Place, Replica, arrived, opening_at}
+use Rattle.rubis_script.specs.Headline.{ReplaysGoOn, after_records, AnswersAll, AnswersFirst, HasAnswered, OfRead, Settles, StandsAsProcess, StepsOn}
+use Rattle.rubis_script.specs.Headline.{WritesAsProcess}
 use Rattle.std.specs.Prelude.{IfSome, Result, Ok, Err}
 use Rattle.std.specs.Io.KnownBytes.{Appends}
 use Rattle.rubis_message.specs.Message.{Message}
 use Rattle.rubis_message.specs.declared.tokens.Packet.TheVariants.{Msg}
 use Rattle.rubis_model.specs.Processes.{process, site_after}
 use Rattle.rubis_message.specs.declared.inputs.Input.{Input}
-use Rattle.rubis_model.specs.Runs.{answers, input_step}
 use Rattle.rubis_message.specs.declared.inputs.Input.TheVariants.{Came}
-use Rattle.rubis_model.specs.Site.{Place, Replica, arrived, opening_at}
-use Rattle.rubis_replica.specs.Arrivals.{TakesFirst, after_all}
-use Rattle.rubis_replica.specs.State.{SiteState}
+use Rattle.rubis_replica.specs.State.{TakesFirst, after_all, SiteState}
 use Rattle.rubis_engine.specs.Accounts.Ending.{AtEnd}
 use Rattle.rubis_engine.specs.Progress.{IsRun, WrotePrefix}
 use Rattle.rubis_engine.specs.Text.{input_records, rows_text}
 use Rattle.rubis_engine.specs.declared.fault.Count.{Count}
 use Rattle.rubis_engine.specs.declared.fault.RunFault.{RunFault}
 use Rattle.rubis_engine.specs.declared.fault.RunFault.TheVariants as fault
-use Rattle.rubis_script.specs.Headline.{AnswersAll, AnswersFirst, HasAnswered, OfRead, Settles, StandsAsProcess, StepsOn, WritesAsProcess}
 use Rattle.rubis_script.specs.SiteRuns.{told_by}
+
+pub replays_go_on : ReplaysGoOn
+unfolding answers after_records
+replays_go_on p s n [] more = ap (λ k. answers p s k more) (omega arith)
+replays_go_on p s n (fields ∷ rest) more =
+    let step = input_step p s n (input_of p.sites fields) in
+    let shown = answers p step.0 (n + 1) rest in
+    let left = after_records p step.0 (n + 1) rest in
+    ap (λ t. step.1 ++ t) (replays_go_on p step.0 (n + 1) rest more)
+    ∙ sym (append_assoc step.1 shown (answers p left (n + 1 + length rest) more))
+    ∙ ap (λ k. (step.1 ++ shown) ++ answers p left k more) (omega arith)
+
+-- ---- where records lead a site, one after the other
 
 -- ---- messages that are held
 

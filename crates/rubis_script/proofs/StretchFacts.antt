@@ -1,32 +1,111 @@
--- How a run goes on by records that were read ahead.
-use Rattle.std.proofs.Common.{◌≡◌, ◌∙◌, ◌+◌, ◌++◌, ◌∷◌, zero, suc, [], ℕ, All, List, Option, ap, append-nil, append_assoc, arith, length, length-append}
-use Rattle.std.proofs.Common.{refl, subst, sym}
+-- A run whose text is read by helpers, and how it goes on by records that were read ahead.
+use Rattle.std.proofs.Common.{◌≡◌, ◌∙◌, ◌+◌, ◌-◌, ◌++◌, ℕ, List, Option, ap, drop, subst, sym, take, ◌∷◌, zero, suc, [], All, append-nil, arith, length}
+use Rattle.std.proofs.Common.{length-append, refl}
+use Rattle.std.specs.Prelude.{Err, IfNone, IfOk, None, Ok, OnOk, Result, Some}
+use Rattle.rubis_model.specs.Processes.{site_after}
+use Rattle.rubis_replica.specs.State.{after_all}
+use Rattle.rubis_engine.specs.declared.fault.Count.{Count}
+use Rattle.rubis_engine.specs.declared.fault.RunFault.{RunFault}
+use Rattle.rubis_reading.specs.Chunked.{IsChunk, held_text}
+use Rattle.rubis_reading.specs.Readings.{AreOf, AreRead, KeepFor, TakesFirst, AreInputs, FitWindow, FitsWindow, all_came, flat, of_stretch}
+use Rattle.rubis_reading.specs.declared.chunks.Chunks.{Chunks}
+use Rattle.rubis_reading.specs.declared.pieces.Pieces.{Pieces}
+use Rattle.rubis_reading.specs.declared.pieces.ReadPiece.{ReadPiece}
+use Rattle.rubis_reading.specs.declared.stretches.Stretch.{Stretch}
+use Rattle.rubis_serving.specs.Serving.{At, Finishes, Turns, Goes, Tears}
+use Rattle.rubis_serving.specs.Writers.{are_outlets}
+use Rattle.rubis_serving.proofs.GoFacts.{goes-kept, goes-as, goes-more, goes-none, goes-one, goes-tears, tears-as, tears-none, tears-sooner}
+use Rattle.rubis_serving.proofs.ServedFacts.{moves-kept, turns-on}
+use Rattle.rubis_script.specs.Desks.{IsFolded, KeepsSetup, left_at, setup_of, TakesHeld, WritesNext, WritesPrefixFrom}
+use Rattle.rubis_script.specs.Runs.{by_desk, AreHeld, BreaksAhead, GoesAhead, IsSound}
+use Rattle.rubis_script.specs.Windows.{held_by, window_rows}
+use Rattle.rubis_script.specs.declared.desk.Desk.{Desk}
 use Rattle.rubis_message.specs.Message.{Message, sites_of}
 use Rattle.rubis_message.specs.Inputs.{FitsIn, IsInput}
 use Rattle.rubis_message.specs.declared.inputs.Input.{Input}
 use Rattle.rubis_message.specs.declared.inputs.Input.TheVariants.{Came}
 use Rattle.rubis_message.specs.declared.tokens.Packet.TheVariants.{Msg}
-use Rattle.rubis_model.specs.Processes.{site_after}
-use Rattle.rubis_model.specs.Runs.{answers}
-use Rattle.rubis_replica.specs.Arrivals.{after_all}
-use Rattle.rubis_engine.specs.Accounts.Ending.{AtEnd}
-use Rattle.rubis_engine.specs.Progress.{IsWrittenOrWaits, WrotePrefix}
+use Rattle.rubis_model.specs.Site.{answers}
 use Rattle.rubis_engine.specs.Text.{input_records, rows_text}
-use Rattle.rubis_reading.specs.Inputs.{AreInputs}
-use Rattle.rubis_reading.specs.Readings.{AreRead}
-use Rattle.rubis_reading.specs.Runs.{FitWindow, FitsWindow, all_came, flat, of_stretch}
-use Rattle.rubis_reading.specs.declared.stretches.Stretch.{Stretch}
-use Rattle.rubis_reading.proofs.AheadFacts.{all-fit}
-use Rattle.rubis_reading.proofs.RunFacts.{came-length}
-use Rattle.rubis_serving.specs.Serving.{OfEachPiece, Stands}
-use Rattle.rubis_serving.specs.declared.pieces.Served.{Served}
-use Rattle.rubis_serving.proofs.StandFacts.{stands-front, stands-kept, stands-out, stands-prefix, stands-step, stands-steps, stands-waited}
-use Rattle.rubis_script.specs.Desks.{KeepsSetup, LeadsSite, TakesHeld, WritesNext, WritesPrefixFrom, left_at}
-use Rattle.rubis_script.specs.Runs.{BreaksAhead, GoesAhead, IsSound, StandsAhead}
-use Rattle.rubis_script.specs.Windows.{window_rows}
-use Rattle.rubis_script.specs.declared.desk.Desk.{Desk}
+use Rattle.rubis_reading.proofs.PieceFacts.{all-fit, came-length}
+use Rattle.rubis_serving.specs.Outlets.{IsOutlet, writes, writes_front}
 use Rattle.rubis_script.proofs.DeskFacts.{leads-on, leads-settled}
 use Rattle.rubis_script.proofs.WindowFacts.{leads_all, rows_all}
+
+pub kept-more : (old mid new : Pieces) → KeepFor old mid → KeepFor mid new → KeepFor old new
+kept-more old mid new one two = (two.0 ∙ one.0, two.1 ∙ one.1, two.2 ∙ one.2)
+
+-- the desk is set up as it was
+pub held-on : {R T : Type 0} (chunks chunks2 : Chunks R) (d d2 : Desk T) (old new : Pieces) → AreHeld chunks d old → KeepFor old new → KeepsSetup d d2
+    → AreOf (held_text chunks2) new → AreHeld chunks2 d2 new
+held-on chunks chunks2 d d2 old new held keeps setup pieces =
+    record {
+      pieces = pieces;
+      sites = keeps.1 ∙ held.sites ∙ sym (ap (λ p. p.sites) setup.0);
+      window = keeps.2 ∙ held.window ∙ sym (ap (λ p. p.window) setup.1);
+    }
+
+-- what was read is read as for this desk
+pub read-held : {R T : Type 0} (chunks : Chunks R) (d : Desk T) (old new : Pieces) (text : List ℕ) (list : List Stretch) → AreHeld chunks d old
+    → KeepFor old new → AreRead new.sites new.window text list → AreRead d.site.place.sites d.plan.window text list
+read-held chunks d old new text list held keeps is =
+    subst (λ k. AreRead k d.plan.window text list) (keeps.1 ∙ held.sites)
+    (subst (λ k. AreRead new.sites k text list) (keeps.2 ∙ held.window) is)
+
+pub read-on : {T : Type 0} (d d2 : Desk T) (text : List ℕ) (list : List Stretch) → KeepsSetup d d2
+    → AreRead d.site.place.sites d.plan.window text list → AreRead d2.site.place.sites d2.plan.window text list
+read-on d d2 text list setup is =
+    subst (λ p. AreRead p.sites d2.plan.window text list) (sym setup.0) (subst (λ q. AreRead d.site.place.sites q.window text list) (sym setup.1) is)
+
+-- a piece was taken off
+pub takes-one : (text : List ℕ) (o : Option ReadPiece) (p : ReadPiece) (s : Pieces) → TakesFirst text o s → o ≡ Some p
+    → IsChunk p.many text × AreRead s.sites s.window (take p.many text) p.list.items × AreOf (drop (p.many - 1) text) s
+takes-one text o p s h is = subst (λ x. TakesFirst text x s) is h
+
+-- there was none
+pub takes-none : (text : List ℕ) (o : Option ReadPiece) (s : Pieces) → TakesFirst text o s → o ≡ None → (other : List ℕ) → AreOf other s
+takes-none text o s h is = subst (λ x. TakesFirst text x s) is h
+
+-- what holds whether the run goes on or not
+pub if-on : (P : Type 0) (r : Result (Option Count) RunFault) → P → IfOk r (λ over. IfNone over P)
+if-on P (Ok None) so = so
+if-on P (Ok (Some count)) so = tt
+if-on P (Err e) so = tt
+
+pub held-after : {Q : Type 0} (P : Type 0) (r : Result (Option Count) RunFault) → (Q → P) → OnOk r Q → IfOk r (λ over. IfNone over P)
+held-after P (Ok None) so h = so h
+held-after P (Ok (Some count)) so h = tt
+held-after P (Err e) so h = tt
+
+-- a desk that is set up as it was
+pub as-setup : {T : Type 0} (d d2 : Desk T) → setup_of d2 ≡ setup_of d → KeepsSetup d d2
+as-setup d d2 same = (ap (λ p. p.0) same, ap (λ p. p.1) same)
+
+-- what it leaves, as it is named otherwise
+pub ends-at : {R T W : Type 0} (contents : W → Option (List ℕ)) (limit : ℕ) (rem : R → Option (List ℕ)) (chunks c1 c2 : Chunks R) (x y1 y2 : At (Desk T) W)
+    (result : Result Count RunFault) → c1 ≡ c2 → y1 ≡ y2 → Finishes (by_desk contents) limit rem chunks x c1 y1 result
+    → Finishes (by_desk contents) limit rem chunks x c2 y2 result
+ends-at contents limit rem chunks c1 c2 x y1 y2 result c_is y_is h =
+    subst (λ y. Finishes (by_desk contents) limit rem chunks x c2 y result) y_is (subst (λ c. Finishes (by_desk contents) limit rem chunks x c y1 result) c_is h)
+
+-- messages are folded, and the run goes on from there
+pub folded-turns : {R T W : Type 0} (contents : W → Option (List ℕ)) (limit : ℕ) (rem : R → Option (List ℕ)) (chunks chunks2 : Chunks R) (x : At (Desk T) W)
+    (d2 : Desk T) (y : At (Desk T) W) (result : Result (Option Count) RunFault) → IsFolded x.service d2
+    → Turns (by_desk contents) limit rem chunks (record x { service = d2 }) chunks2 y result → Turns (by_desk contents) limit rem chunks x chunks2 y result
+folded-turns contents limit rem chunks chunks2 x d2 y result f h =
+    let d = x.service in
+    let place = f.setup.0 in
+    let state = f.state in
+    let (held, number) = f.held in
+    let n = x.answered + 1 in
+    let same : left_at d n ≡ left_at d2 n = λ i. held_by (record { place = sym place i; state = sym state i; progress = d.site.progress; batch = d.site.batch })
+    (sym held i) (sym number i) n in
+    turns-on (are_outlets contents) limit chunks2 y result
+    (moves-kept (λ rows h. h) (λ input h. h) (goes-kept (are_outlets contents) d2 x.sink
+    (λ more. (λ ending. ap (λ a. x.sink ++ a.text ending more) same, ap (λ a. a.read more) same))
+    (λ k more last (none, at, is). (none, at ∙ place, is ∙ (λ i. site_after (place i) (after_all (place i) (state i) (held i)) k more))))) h
+
+-- ---- how a run goes on by records that were read ahead
 
 -- ---- records and what they were read as
 
@@ -105,113 +184,95 @@ sound-read d ahead list text is (parsed, fits) =
       read,
     )
 
--- ---- one record
+-- ---- records that are answered
 
-pub goes-next : {T : Type 0} (d d2 : Desk T) (run run2 : Served) (p : Input) (before after : Option (List ℕ)) → KeepsSetup d d2
-    → WritesNext p (run.answered + 1) d d2 run.reply.sink run2.reply.sink before after → run2.answered ≡ run.answered + 1
-    → GoesAhead (p ∷ []) [] d run before d2 run2 after
-goes-next d d2 run run2 p before after setup next count left first old records later h =
-    let (fields, more, parts, one, others) = first_read d.site.place.sites h.rows p left h.inputs in
-    let wrote = next.text fields one.means in
-    let sink = run2.reply.sink in
-    let n = run.answered + 1 in
-    record {
-      rows = more;
-      inputs = subst (λ q. AreInputs q.sites more left) (sym setup.0) others;
-      stands = subst (λ k. Stands left_at LeadsSite first d2 old after sink k records (more ++ later)) (sym count)
-          (stands-out left_at LeadsSite first d2 old before after wrote.out sink n records (more ++ later) wrote.appended
-          (stands-step left_at LeadsSite first d d2 old before run.reply.sink (wrote.out ++ sink) run.answered records (more ++ later) fields wrote.answers
-          (leads-on d d2 n fields p one.means next.leads)
-          (subst (λ rows. Stands left_at LeadsSite first d old before run.reply.sink run.answered records (rows ++ later)) parts h.stands)));
-    }
+laws : {W : Type 0} (contents : W → Option (List ℕ)) → IsOutlet (writes contents) (writes_front contents)
+laws contents = are_outlets contents
 
-pub breaks-next : {T : Type 0} (d : Desk T) (run : Served) (p : Input) (before after : Option (List ℕ))
-    → WritesPrefixFrom p (run.answered + 1) d run.reply.sink before after → BreaksAhead (p ∷ []) d run before after
-breaks-next d run p before after breaks left first old records later h =
-    let (fields, more, parts, one, others) = first_read d.site.place.sites h.rows p left h.inputs in
-    stands-front left_at LeadsSite first d old before after run.reply.sink run.answered records (fields ∷ (more ++ later))
-    (breaks fields one.means (more ++ later))
-    (subst (λ rows. Stands left_at LeadsSite first d old before run.reply.sink run.answered records (rows ++ later)) parts h.stands)
+pub ahead-none : {T W : Type 0} (contents : W → Option (List ℕ)) (x : At (Desk T) W) → GoesAhead contents [] x x
+ahead-none contents x rows inputs = goes-as (sym (none_read x.service.site.place.sites rows inputs)) (goes-none (laws contents) x)
+
+pub ahead-more : {T W : Type 0} (contents : W → Option (List ℕ)) (ps qs : List Input) {x y z : At (Desk T) W} → KeepsSetup x.service y.service
+    → GoesAhead contents ps x y → GoesAhead contents qs y z → GoesAhead contents (ps ++ qs) x z
+ahead-more contents ps qs {x} {y} setup f g rows inputs =
+    let (front, back, parts, one, two) = split_read x.service.site.place.sites rows ps qs inputs in
+    goes-as (sym parts) (goes-more (laws contents) (f front one) (g back (subst (λ p. AreInputs p.sites back qs) (sym setup.0) two)))
+
+-- what waited was put
+pub ahead-put : {T W : Type 0} (contents : W → Option (List ℕ)) (ps : List Input) {x y z : At (Desk T) W} → GoesAhead contents ps x y
+    → Goes (by_desk contents) [] y z → GoesAhead contents ps x z
+ahead-put contents ps f g rows inputs = goes-as (append-nil rows) (goes-more (laws contents) (f rows inputs) g)
+
+pub breaks-put : {T W : Type 0} (contents : W → Option (List ℕ)) (ps : List Input) {x y : At (Desk T) W} {after : W} → GoesAhead contents ps x y
+    → Tears (by_desk contents) [] y after → BreaksAhead contents ps x after
+breaks-put contents ps {after = after} f g rows inputs = tears-as (append-nil rows) (goes-tears (laws contents) after (f rows inputs) g)
+
+-- of those that came first the writer failed, or of those that come later
+pub breaks-sooner : {T W : Type 0} (contents : W → Option (List ℕ)) (ps qs : List Input) {x : At (Desk T) W} {after : W} → BreaksAhead contents ps x after
+    → BreaksAhead contents (ps ++ qs) x after
+breaks-sooner contents ps qs {x} f rows inputs =
+    let (front, back, parts, one, two) = split_read x.service.site.place.sites rows ps qs inputs in
+    tears-as (sym parts) (tears-sooner front (f front one) back)
+
+pub breaks-later : {T W : Type 0} (contents : W → Option (List ℕ)) (ps qs : List Input) {x y : At (Desk T) W} (after : W) → KeepsSetup x.service y.service
+    → GoesAhead contents ps x y → BreaksAhead contents qs y after → BreaksAhead contents (ps ++ qs) x after
+breaks-later contents ps qs {x} after setup f g rows inputs =
+    let (front, back, parts, one, two) = split_read x.service.site.place.sites rows ps qs inputs in
+    tears-as (sym parts) (goes-tears (laws contents) after (f front one) (g back (subst (λ p. AreInputs p.sites back qs) (sym setup.0) two)))
 
 -- nothing was written
-pub breaks-none : {T : Type 0} (ps : List Input) (d : Desk T) (run : Served) (now : Option (List ℕ)) → BreaksAhead ps d run now now
-breaks-none ps d run now left first old records later h =
-    stands-prefix left_at LeadsSite first d old now now run.reply.sink run.answered records (h.rows ++ later) refl h.stands
+pub breaks-none : {T W : Type 0} (contents : W → Option (List ℕ)) (ps : List Input) (x : At (Desk T) W) → BreaksAhead contents ps x x.outlet
+breaks-none contents ps x rows inputs = tears-none (laws contents) rows x
+
+-- ---- one record
+
+pub goes-next : {T W : Type 0} (contents : W → Option (List ℕ)) (x : At (Desk T) W) (d2 : Desk T) (sink2 : List ℕ) (after : W) (p : Input)
+    → WritesNext p (x.answered + 1) x.service d2 x.sink sink2 (contents x.outlet) (contents after)
+    → GoesAhead contents (p ∷ []) x (record { service = d2; outlet = after; sink = sink2; answered = x.answered + 1 })
+goes-next contents x d2 sink2 after p next rows inputs =
+    let sites = x.service.site.place.sites in
+    let (fields, more, parts, one, others) = first_read sites rows p [] inputs in
+    let wrote = next.text fields one.means in
+    goes-as (sym (parts ∙ ap (λ r. fields ∷ r) (none_read sites more others)))
+    (goes-one (laws contents) d2 sink2 after fields (record { out = wrote.out; put = wrote.appended; answers = wrote.answers })
+    (leads-on x.service d2 (x.answered + 1) fields p one.means next.leads))
+
+pub breaks-next : {T W : Type 0} (contents : W → Option (List ℕ)) (x : At (Desk T) W) (after : W) (p : Input)
+    → WritesPrefixFrom p (x.answered + 1) x.service x.sink (contents x.outlet) (contents after) → BreaksAhead contents (p ∷ []) x after
+breaks-next contents x after p breaks rows inputs =
+    let sites = x.service.site.place.sites in
+    let (fields, more, parts, one, others) = first_read sites rows p [] inputs in
+    tears-as (sym (parts ∙ ap (λ r. fields ∷ r) (none_read sites more others))) (record { torn = breaks fields one.means })
 
 -- ---- messages that came together: those that were held are taken in, and these are held
 
-pub goes-messages : {T : Type 0} (d mid d2 : Desk T) (run run2 : Served) (ms : List Message) (now : Option (List ℕ)) → KeepsSetup d mid
-    → TakesHeld d mid run.reply.sink run2.reply.sink → mid.window.items ≡ [] → d2.site.place ≡ mid.site.place → d2.site.state ≡ mid.site.state
-    → d2.window.items ≡ ms → d2.first ≡ run.answered + 1 → run2.answered ≡ run.answered + length ms → GoesAhead (all_came ms) [] d run now d2 run2 now
-goes-messages d mid d2 run run2 ms now setup held none place state items number count left first old records later h =
-    let sites = d.site.place.sites in
+pub goes-messages : {T W : Type 0} (contents : W → Option (List ℕ)) (x : At (Desk T) W) (mid d2 : Desk T) (sink2 : List ℕ) (count : ℕ) (ms : List Message)
+    → KeepsSetup x.service mid → TakesHeld x.service mid x.sink sink2 → mid.window.items ≡ [] → d2.site.place ≡ mid.site.place
+    → d2.site.state ≡ mid.site.state → d2.window.items ≡ ms → d2.first ≡ x.answered + 1 → count ≡ x.answered + length ms
+    → GoesAhead contents (all_came ms) x (record { service = d2; outlet = x.outlet; sink = sink2; answered = count })
+goes-messages contents x mid d2 sink2 count ms setup held none place state items number many rows inputs =
     let p = mid.site.place in
     let s = mid.site.state in
-    let n = run.answered + 1 in
-    let sink = run2.reply.sink in
-    let (front, back, parts, came, others) = split_read sites h.rows (all_came ms) left h.inputs in
-    let here : AreInputs p.sites front (all_came ms) = subst (λ q. AreInputs q.sites front (all_came ms)) (sym setup.0) came in
-    let long : length front ≡ length ms = length_read sites front (all_came ms) came ∙ came-length ms in
-    let k = run.answered + length front + 1 in
-    let whole : h.rows ++ later ≡ front ++ (back ++ later) = ap (λ r. r ++ later) parts ∙ append_assoc front back later in
-    let kept = stands-kept left_at LeadsSite first d mid old now run.reply.sink sink run.answered records (front ++ (back ++ later)) (held.text n)
-    (leads-settled d mid held.leads)
-    (subst (λ rows. Stands left_at LeadsSite first d old now run.reply.sink run.answered records rows) whole h.stands) in
-    let rows : (more : List (List (List ℕ))) → window_rows p s mid.first mid.window.items ++ answers p (after_all p s mid.window.items) n (front ++ more)
+    let n = x.answered + 1 in
+    let k = count + 1 in
+    let here : AreInputs p.sites rows (all_came ms) = subst (λ q. AreInputs q.sites rows (all_came ms)) (sym setup.0) inputs in
+    let long : length rows ≡ length ms = length_read p.sites rows (all_came ms) here ∙ came-length ms in
+    let text : (more : List (List (List ℕ))) → window_rows p s mid.first mid.window.items ++ answers p (after_all p s mid.window.items) n (rows ++ more)
     ≡ window_rows d2.site.place d2.site.state d2.first d2.window.items ++ answers d2.site.place (after_all d2.site.place d2.site.state d2.window.items) k more =
-    λ more. (λ i. window_rows p s mid.first (none i) ++ answers p (after_all p s (none i)) n (front ++ more))
-    ∙ rows_all p s n n k [] ms front more (omega arith) (omega arith) here
+    λ more. (λ i. window_rows p s mid.first (none i) ++ answers p (after_all p s (none i)) n (rows ++ more))
+    ∙ rows_all p s n n k [] ms rows more (omega arith) (omega (arith, many, long)) here
     ∙ (λ i. window_rows (sym place i) (sym state i) (sym number i) (sym items i)
     ++ answers (sym place i) (after_all (sym place i) (sym state i) (sym items i)) k more) in
     let led : (more : List (List (List ℕ))) → site_after d2.site.place (after_all d2.site.place d2.site.state d2.window.items) k more
-    ≡ site_after p (after_all p s mid.window.items) n (front ++ more) =
+    ≡ site_after p (after_all p s mid.window.items) n (rows ++ more) =
     λ more. (λ i. site_after (place i) (after_all (place i) (state i) (items i)) k more)
-    ∙ sym (leads_all p s n k [] ms front more (omega arith) here)
-    ∙ (λ i. site_after p (after_all p s (sym none i)) n (front ++ more)) in
-    record {
-      rows = back;
-      inputs = subst (λ q. AreInputs q.sites back left) (sym (place ∙ setup.0)) others;
-      stands = subst (λ j. Stands left_at LeadsSite first d2 old now sink j records (back ++ later))
-          (let all : run.answered + length front ≡ run2.answered = omega (arith, long, count) in all)
-          (stands-steps left_at LeadsSite first mid d2 old now sink sink run.answered records front (back ++ later)
-          (λ ending more. ap (λ r. sink ++ rows_text r) (rows more)) (λ more. length-append front more)
-          (λ more last (held, at, is). (held, at ∙ place, is ∙ led more)) kept);
-    }
-
--- ---- what waits is written out
-
-pub waited-ahead : {T : Type 0} (ps : List Input) (d : Desk T) (run run2 : Served) (now now2 : Option (List ℕ)) (first : Desk T) (old : Option (List ℕ))
-    (records later : List (List (List ℕ))) → run2.answered ≡ run.answered → IsWrittenOrWaits run.reply.sink run2.reply.sink now now2
-    → StandsAhead ps d run now first old records later → StandsAhead ps d run2 now2 first old records later
-waited-ahead ps d run run2 now now2 first old records later count out h = record {
-  rows = h.rows;
-  inputs = h.inputs;
-  stands = subst (λ k. Stands left_at LeadsSite first d old now2 run2.reply.sink k records (h.rows ++ later)) (sym count)
-      (stands-waited left_at LeadsSite first d old now now2 run.reply.sink run2.reply.sink run.answered records (h.rows ++ later) out h.stands);
-}
-
--- ---- all of a piece
-
--- they are all the records of a text
-pub piece-goes : {T : Type 0} (text : List ℕ) (ps : List Input) (d d2 : Desk T) (run run2 : Served) (before after : Option (List ℕ))
-    → AreInputs d.site.place.sites (input_records text) ps → GoesAhead ps [] d run before d2 run2 after
-    → OfEachPiece left_at LeadsSite text d run before
-    (λ first old records rest. Stands left_at LeadsSite first d2 old after run2.reply.sink run2.answered records rest)
-piece-goes text ps d d2 run run2 before after parsed goes first old records rest stands =
-    let h = goes [] first old records rest (record {
-      rows = input_records text;
-      inputs = subst (λ l. AreInputs d.site.place.sites (input_records text) l) (sym (append-nil ps)) parsed;
-      stands = stands;
-    }) in
-    subst (λ rows. Stands left_at LeadsSite first d2 old after run2.reply.sink run2.answered records (rows ++ rest))
-    (none_read d2.site.place.sites h.rows h.inputs) h.stands
-
-pub piece-breaks : {T : Type 0} (text : List ℕ) (ps : List Input) (d : Desk T) (run : Served) (before after : Option (List ℕ))
-    → AreInputs d.site.place.sites (input_records text) ps → BreaksAhead ps d run before after
-    → OfEachPiece left_at LeadsSite text d run before (λ first old records rest. WrotePrefix ((left_at first 1).text AtEnd) old after records)
-piece-breaks text ps d run before after parsed breaks first old records rest stands =
-    breaks [] first old records rest (record {
-      rows = input_records text;
-      inputs = subst (λ l. AreInputs d.site.place.sites (input_records text) l) (sym (append-nil ps)) parsed;
-      stands = stands;
+    ∙ sym (leads_all p s n k [] ms rows more (omega (arith, many, long)) here)
+    ∙ (λ i. site_after p (after_all p s (sym none i)) n (rows ++ more)) in
+    goes-more (laws contents) (goes-kept (laws contents) mid sink2 (held.text n) (leads-settled x.service mid held.leads)) (record {
+      text = [];
+      put = (laws contents).none x.outlet;
+      told = λ ending more. ap (λ r. sink2 ++ rows_text r) (text more);
+      count = omega (arith, many, long);
+      read = λ more. length-append rows more;
+      led = λ more last (none, at, is). (none, at ∙ place, is ∙ led more);
     })

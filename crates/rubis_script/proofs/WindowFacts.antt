@@ -1,27 +1,75 @@
--- What holding messages leaves to be written, and what taking them in writes.
-use Rattle.std.proofs.Common.{◌≡◌, ◌∙◌, ◌≤◌, ◌+◌, ◌++◌, ◌∷◌, [], ℕ, List, ap, append_assoc, arith, length, length-append, refl, subst, sym}
-use Rattle.std.proofs.lemmas.List.{append-nil}
+-- What a site answers to a record and to those after it, what writing a text out in part comes to, and what holding messages leaves to be written.
+use Rattle.std.proofs.Common.{◌≡◌, ◌+◌, ◌-◌, ◌++◌, ◌∷◌, ℕ, Bool, List, Err, Ok, Result, false, true, length, refl, ap, ◌∙◌, subst, sym, ◌≤◌, [], append_assoc}
+use Rattle.std.proofs.Common.{arith, length-append, Option, Some, None, append-nil, inl, inr}
+use Rattle.std.specs.Prelude.{cond}
+use Rattle.rubis_schema.specs.declared.refusals.Refusal.{Refusal}
+use Rattle.rubis_schema.specs.declared.refusals.Refusal.TheVariants.{Full, NotOurs}
 use Rattle.rubis_message.specs.Message.{Message}
+use Rattle.rubis_message.specs.declared.answers.Arrival.{Arrival}
+use Rattle.rubis_message.specs.declared.answers.Arrival.TheVariants as arrival
 use Rattle.rubis_message.specs.declared.tokens.Packet.TheVariants.{Msg}
-use Rattle.rubis_model.specs.Answers.{arrived_rows}
+use Rattle.rubis_model.specs.Site.{arrived_rows, answers, input_step, Place, Replica, after_came, arrival_of, arrived, is_full, is_repeat, not_ours}
 use Rattle.rubis_message.specs.Inputs.{input_of}
+use Rattle.rubis_message.specs.declared.inputs.Input.TheVariants.{Came, Asked}
+use Rattle.rubis_replica.specs.State.{AnswersAsTheStep, SiteState, TakesFirst, after_all, answers_to}
+use Rattle.rubis_replica.specs.declared.faults.Fault.{Fault}
+use Rattle.rubis_script.specs.Inputs.{IsAnswered, IsRefusedBy}
+use Rattle.rubis_engine.specs.Text.{rows_text}
+use Rattle.rubis_engine.proofs.TextFacts.{text-goes}
 use Rattle.rubis_model.specs.Processes.{site_after}
-use Rattle.rubis_model.specs.Runs.{answers, input_step}
-use Rattle.rubis_message.specs.declared.inputs.Input.TheVariants.{Came}
-use Rattle.rubis_model.specs.Site.{Place, Replica, arrived}
-use Rattle.rubis_replica.specs.Arrivals.{TakesFirst, after_all, answers_to}
-use Rattle.rubis_replica.specs.State.{SiteState}
 use Rattle.rubis_engine.specs.Accounts.{Account, AnswersRecord, Keeps}
 use Rattle.rubis_engine.specs.declared.service.Course.TheVariants.{GoesOn}
-use Rattle.rubis_reading.specs.Inputs.{AreInputs}
-use Rattle.rubis_reading.specs.Runs.{all_came}
-use Rattle.rubis_script.specs.Inputs.{IsAnswered}
+use Rattle.rubis_reading.specs.Readings.{AreInputs, all_came}
 use Rattle.rubis_script.specs.SiteRuns.{told_by}
-use Rattle.rubis_engine.specs.Text.{rows_text}
-use Rattle.rubis_script.specs.Windows.{arrivals_rows, held_by, window_rows}
+use Rattle.rubis_script.specs.Windows.{arrivals_rows, held_by, window_rows, WritesFront, WritesOff, listed_behind}
 use Rattle.rubis_script.proofs.LeadFacts.{after_more}
-use Rattle.rubis_script.proofs.SiteAnswers.{site_goes}
-use Rattle.rubis_engine.proofs.TextFacts.{text-goes}
+use Rattle.std.specs.Io.KnownBytes.{Appends}
+use Rattle.rubis_schema.specs.declared.listings.Listing.{Listing}
+use Rattle.rubis_message.specs.declared.requests.Request.TheVariants as request
+use Rattle.rubis_engine.specs.Progress.{BreaksOff, AppendsFront, IsWrittenOrWaits}
+use Rattle.rubis_engine.proofs.RunFacts.{front-longer}
+use Rattle.rubis_engine.specs.Accounts.Ending.{AtEnd}
+use Rattle.rubis_engine.specs.Rows.{more_written}
+
+goes_on : (p : Place) (s : Replica) (n : ℕ) (fields : List (List ℕ)) (more : List (List (List ℕ)))
+    → let step = input_step p s n (input_of p.sites fields) in answers p s n (fields ∷ more) ≡ step.1 ++ answers p step.0 (n + 1) more
+unfolding answers
+goes_on p s n fields more = refl
+
+pub site_goes : (old new : SiteState) (n : ℕ) (fields : List (List ℕ)) (sink sink2 : List ℕ)
+    → new.place ≡ old.place → IsAnswered n (input_of old.place.sites fields) old new sink sink2
+    → (more : List (List (List ℕ))) → sink ++ rows_text (answers old.place old.state n (fields ∷ more)) ≡ sink2
+    ++ rows_text (answers new.place new.state (n + 1) more)
+site_goes old new n fields sink sink2 place answered more =
+    let step = input_step old.place old.state n (input_of old.place.sites fields) in
+    ap (λ rows. sink ++ rows_text rows) (goes_on old.place old.state n fields more)
+    ∙ text-goes sink sink2 step.1 (answers old.place step.0 (n + 1) more) answered.1
+    ∙ (λ i. sink2 ++ rows_text (answers (sym place i) (sym answered.0 i) (n + 1) more))
+
+-- a message that is refused changes nothing
+abbrev arrived_as : Bool → Bool → Bool → Replica → Replica → Arrival → Replica × Result Arrival Refusal
+arrived_as ours again full s s2 a = cond ours (s, Err NotOurs) (cond again (s, Ok arrival.Repeat) (cond full (s, Err Full) (s2, Ok a)))
+
+arrived_stays : (ours again full : Bool) (s s2 : Replica) (a : Arrival) (r : Refusal)
+    → (arrived_as ours again full s s2 a).1 ≡ Err r → (arrived_as ours again full s s2 a).0 ≡ s
+arrived_stays true again full s s2 a r e = refl
+arrived_stays false true full s s2 a r e = refl
+arrived_stays false false true s s2 a r e = refl
+arrived_stays false false false s s2 a r e = absurd cc
+
+pub arrived_refused : (old new : SiteState) (n : ℕ) (m : Message) (fault : Fault) (before after : List ℕ)
+    → AnswersAsTheStep old new (arrived old.place old.state m) (Err fault) → IsRefusedBy n fault before after
+    → IsAnswered n (Came (Msg m)) old new before after
+arrived_refused old new n m fault before after step (r, is, text) =
+    let p = old.place in
+    let s = old.state in
+    let told : (new.state ≡ s) × ((arrived p s m).1 ≡ Err r) = subst (λ f. AnswersAsTheStep old new (arrived p s m) (Err f)) is step in (
+      told.0 ∙ sym (arrived_stays (not_ours p s m) (is_repeat s m) (is_full p.keep s) s (after_came s m)
+          (arrival_of (length (after_came s m).log - length s.log)) r told.1),
+      text ∙ ap (λ a. before ++ rows_text (arrived_rows n a)) (sym told.1),
+    )
+
+-- ---- what holding messages leaves to be written, and what taking them in writes
 
 -- ---- a message more is held
 
@@ -155,3 +203,89 @@ told-kept all s window first n sink sink2 none keeps = subst (λ (a : Account). 
 pub told-held : (all : Account) (s : SiteState) (window : List Message) (first n : ℕ) (sink sink2 : List ℕ) → window ≡ []
     → Keeps all (held_by s window first n) sink sink2 → Keeps all (told_by s n) sink sink2
 told-held all s window first n sink sink2 none keeps = subst (λ (a : Account). Keeps all a sink sink2) (held-told s window first n none) keeps
+
+-- ---- what writing a text out in part comes to
+
+pub appends_none : (o : Option (List ℕ)) → Appends o o []
+appends_none None = tt
+appends_none (Some text) = sym (append-nil text)
+
+pub appends_more : (a b c : Option (List ℕ)) (xs ys : List ℕ) → Appends a b xs → Appends b c ys → Appends a c (xs ++ ys)
+appends_more None b c xs ys f g = tt
+appends_more (Some x) None c xs ys f g = absurd f
+appends_more (Some x) (Some y) None xs ys f g = absurd g
+appends_more (Some x) (Some y) (Some z) xs ys f g = g ∙ ap (λ (t : List ℕ). t ++ ys) f ∙ append_assoc x xs ys
+
+-- nothing was written
+pub off_none : (text : List ℕ) (now now2 : Option (List ℕ)) → now2 ≡ now → WritesOff text text now now2
+off_none text now now2 same = record {
+  out = [];
+  appended = subst (λ o. Appends now o []) (sym same) (appends_none now);
+  parts = refl;
+}
+
+pub front_none : (text : List ℕ) (now now2 : Option (List ℕ)) → now2 ≡ now → WritesFront text now now2
+front_none text now now2 same = (text, off_none text now now2 same)
+
+-- all was written
+pub off_all : (text left : List ℕ) (now now2 : Option (List ℕ)) → Appends now now2 text → left ≡ [] → WritesOff text left now now2
+off_all text left now now2 out none = record {
+  out = text;
+  appended = out;
+  parts = sym (ap (λ l. text ++ l) none ∙ append-nil text);
+}
+
+-- a prefix of it was written
+pub off_front : (text : List ℕ) (now now2 : Option (List ℕ)) → (front : AppendsFront now now2 text) → WritesOff text front.1 now now2
+off_front text now now2 front = record { out = front.0; appended = front.2; parts = sym front.3 }
+
+-- it was written, or waits
+pub off_waited : (text left : List ℕ) (now now2 : Option (List ℕ)) → IsWrittenOrWaits text left now now2 → WritesOff text left now now2
+off_waited text left now now2 (inl (out, none)) = off_all text left now now2 out none
+off_waited text left now now2 (inr (same, waits)) = subst (λ l. WritesOff text l now now2) (sym waits) (off_none text now now2 same)
+
+-- more was written after it
+pub off_more : (text mid left : List ℕ) (old now now2 : Option (List ℕ)) → WritesOff text mid old now → WritesOff mid left now now2 →
+    WritesOff text left old now2
+off_more text mid left old now now2 first second = record {
+  out = first.out ++ second.out;
+  appended = appends_more old now now2 first.out second.out first.appended second.appended;
+  parts = first.parts ∙ ap (λ t. first.out ++ t) second.parts ∙ sym (append_assoc first.out second.out left);
+}
+
+-- ---- a listing is the answer to record n
+
+-- the messages that were held are taken in, and the record is answered
+pub listed_goes : (old mid new : SiteState) (w w2 : List Message) (first first2 n : ℕ) (l : Listing) (fields : List (List ℕ)) (sink sink2 : List ℕ)
+    → Keeps (held_by old w first n) (told_by mid n) sink sink2 → new.place ≡ mid.place → new.state ≡ mid.state → w2 ≡ []
+    → input_of mid.place.sites fields ≡ Asked (request.List l)
+    → AnswersRecord GoesOn (held_by old w first n) (held_by new w2 first2 (n + 1)) sink (listed_behind sink2 mid n l) fields
+listed_goes old mid new w w2 first first2 n l fields sink sink2 keeps place state none input =
+    flush_goes old mid new w w2 first first2 n fields sink sink2 (listed_behind sink2 mid n l) keeps place
+    (subst (λ i. IsAnswered n i mid new sink2 (listed_behind sink2 mid n l)) (sym input) (state, refl)) none
+
+-- the front of the answer was written
+pub listed_front : (old mid : SiteState) (w : List Message) (first n : ℕ) (l : Listing) (fields : List (List ℕ)) (sink sink2 : List ℕ)
+    (now now2 : Option (List ℕ)) → Keeps (held_by old w first n) (told_by mid n) sink sink2 → input_of mid.place.sites fields ≡ Asked (request.List l)
+    → WritesFront (listed_behind sink2 mid n l) now now2 → BreaksOff (held_by old w first n) sink fields now now2
+listed_front old mid w first n l fields sink sink2 now now2 keeps input (left, off) more =
+    let answers = listed_goes old mid mid w [] first first n l fields sink sink2 keeps refl refl refl input in
+    subst (AppendsFront now now2) (sym ((answers more).0 AtEnd))
+    (front-longer now now2 (listed_behind sink2 mid n l) ((held_by mid [] first (n + 1)).text AtEnd more) (off.out, left, off.appended, sym off.parts))
+
+-- ---- the rows of a listing
+
+-- some first rows were added, and text was written out
+pub rows_part : (sink sink2 sink3 : List ℕ) (rows first left : List (List (List ℕ))) (now now2 : Option (List ℕ)) → rows ≡ first ++ left
+    → sink2 ≡ sink ++ rows_text first → WritesOff sink2 sink3 now now2 → WritesOff (sink ++ rows_text rows) (sink3 ++ rows_text left) now now2
+rows_part sink sink2 sink3 rows first left now now2 split added off = record {
+  out = off.out;
+  appended = off.appended;
+  parts = ap (λ rs. sink ++ rows_text rs) split ∙ sym (more_written first left sink sink2 (sink2 ++ rows_text left) added refl)
+      ∙ ap (λ t. t ++ rows_text left) off.parts ∙ append_assoc off.out sink3 (rows_text left);
+}
+
+pub rows_end : (text sink : List ℕ) (rows : List (List (List ℕ))) (now now2 : Option (List ℕ)) → rows ≡ [] → WritesOff text (sink ++ rows_text rows) now now2
+    → WritesOff text sink now now2
+rows_end text sink rows now now2 none off =
+    subst (λ t. WritesOff text t now now2) (ap (λ rs. sink ++ rows_text rs) none ∙ append-nil sink) off

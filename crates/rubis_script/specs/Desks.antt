@@ -4,9 +4,9 @@ use Rattle.rubis_message.specs.Inputs.{input_of}
 use Rattle.rubis_message.specs.declared.inputs.Input.{Input}
 use Rattle.rubis_model.specs.Processes.{site_after}
 use Rattle.rubis_model.specs.Site.{Place}
-use Rattle.rubis_replica.specs.Arrivals.{after_all}
+use Rattle.rubis_replica.specs.State.{after_all}
 use Rattle.rubis_engine.specs.Accounts.{Account, AnswersRecord, Keeps}
-use Rattle.rubis_engine.specs.Answers.{BreaksOff, WritesRecord}
+use Rattle.rubis_engine.specs.Progress.{BreaksOff, WritesRecord}
 use Rattle.rubis_engine.specs.declared.service.Course.TheVariants.{GoesOn}
 use Rattle.rubis_script.specs.Headline.{Settles, StepsOn}
 use Rattle.rubis_script.specs.Windows.{held_by}

@@ -1,17 +1,29 @@
--- What a run of one site says of it: what the site answers to the records that it reads, and the state in which they leave it.
-use Rattle.std.specs.Prelude.{◌≡◌, ◌≤◌, ◌<◌, ℕ, ⊤, IfSome, List, Option, None, Result, Ok, Err, length, take}
+-- What a run of one site says of it: what the site answers to the records that it reads, also where it is built again by replaying them.
+use Rattle.std.specs.Prelude.{◌≡◌, ◌+◌, ◌++◌, ◌∷◌, [], ℕ, List, length, ◌≤◌, ◌<◌, ⊤, IfSome, Option, None, Result, Ok, Err, take}
+use Rattle.rubis_message.specs.Inputs.{input_of}
+use Rattle.rubis_model.specs.Site.{answers, input_step, Place, Replica}
 use Rattle.std.specs.Io.KnownBytes.{Appends}
 use Rattle.rubis_message.specs.Message.{Message}
 use Rattle.rubis_model.specs.Processes.{IsLogOfProcess, Reading, answers_of, read_by, site_after, state_of}
 use Rattle.rubis_message.specs.declared.inputs.Input.{Input}
-use Rattle.rubis_model.specs.Runs.{answers, input_step}
-use Rattle.rubis_model.specs.Site.{Place, Replica}
-use Rattle.rubis_replica.specs.Arrivals.{after_all}
-use Rattle.rubis_replica.specs.State.{SiteState}
+use Rattle.rubis_replica.specs.State.{after_all, SiteState}
 use Rattle.rubis_engine.specs.Text.{input_records, rows_text}
 use Rattle.rubis_engine.specs.declared.fault.Count.{Count}
 use Rattle.rubis_engine.specs.declared.fault.RunFault.{RunFault}
 use Rattle.rubis_engine.specs.declared.fault.RunFault.TheVariants.{Memory, Read, TooLong, Write}
+
+-- the site after these records, the first of which has number n
+unfoldable pub after_records : Place → Replica → ℕ → List (List (List ℕ)) → Replica
+after_records p s n [] = s
+after_records p s n (fields ∷ rest) = after_records p (input_step p s n (input_of p.sites fields)).0 (n + 1) rest
+
+-- what a site answers to some records and then to more is what it answers to the first, and after that what the site in which
+-- they leave it answers to the others, with numbers that go on
+abbrev pub ReplaysGoOn : Type 0
+ReplaysGoOn = (p : Place) (s : Replica) (n : ℕ) (records more : List (List (List ℕ)))
+    → answers p s n (records ++ more) ≡ answers p s n records ++ answers p (after_records p s n records) (n + length records) more
+
+-- ---- what a run of one site says of it: what the site answers to the records that it reads, and the state in which they leave it
 
 -- of the records that a run answers this holds, by how it ends: of all records at the end of the input, of the first `limit` where
 -- there are more, of some first ones where the reader failed. Where memory ran out or the writer failed, nothing is said

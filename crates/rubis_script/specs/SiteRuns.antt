@@ -1,7 +1,6 @@
 -- What a site makes of its records.
 use Rattle.std.specs.Prelude.{ℕ, length}
-use Rattle.rubis_model.specs.Runs.{answers}
-use Rattle.rubis_model.specs.Site.{Place, Replica, opening_at}
+use Rattle.rubis_model.specs.Site.{answers, Place, Replica, opening_at}
 use Rattle.rubis_replica.specs.State.{SiteState}
 use Rattle.rubis_engine.specs.Accounts.{Account}
 use Rattle.rubis_engine.specs.Text.{rows_text}

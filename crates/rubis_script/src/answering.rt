@@ -1,16 +1,17 @@
 //! The desk answers records that were read ahead.
 
-ghost use Rattle.std.specs.Prelude.{◌≡◌, ◌<◌, ◌+◌, ◌^◌, [], All, length};
+ghost use Rattle.std.specs.Prelude.{◌≡◌, ◌<◌, ◌+◌, ◌^◌, All, length};
 ghost use Rattle.rubis_message.specs.Inputs.{FitsIn};
-ghost use Rattle.rubis_reading.specs.Runs.{FitsWindow, flat, of_stretch};
-ghost use Rattle.rubis_engine.specs.Endings.{ByEnd};
+ghost use Rattle.rubis_reading.specs.Readings.{FitsWindow, flat, of_stretch};
+ghost use Rattle.rubis_engine.specs.Progress.{ByEnd};
 ghost use Rattle.rubis_script.specs.Desks.{KeepsSetup};
+ghost use Rattle.rubis_serving.specs.Serving.{at};
 ghost use Rattle.rubis_script.specs.Runs.{BreaksAhead, GoesAhead, IsSound};
 
 use crate::desk::Desk;
 use rubis_engine::RunFault;
 use rubis_reading::{Ahead, Stretch};
-use rubis_serving::Served;
+use rubis_serving::{Outlet, Served};
 use std::io::Write;
 use std::sync::Wait;
 use std::thread::Threads;
@@ -28,9 +29,9 @@ fn answer_stretch<T: Threads + Wait + Sync, W: Write>(
     requires room { run.old.answered + length (of_stretch stretch) + 1 < 2 ^ 64 }
     ensures same { KeepsSetup desk.old desk.new }
     ensures answered { ByEnd result
-        (λ _. GoesAhead (of_stretch stretch) [] desk.old run.old (W.contents writer.old) desk.new run.new (W.contents writer.new)
+        (λ _. GoesAhead W.contents (of_stretch stretch) (at desk.old run.old writer.old) (at desk.new run.new writer.new)
         × (run.new.answered ≡ run.old.answered + length (of_stretch stretch))) ⊥ ⊥
-        (BreaksAhead (of_stretch stretch) desk.old run.old (W.contents writer.old) (W.contents writer.new)) }
+        (BreaksAhead W.contents (of_stretch stretch) (at desk.old run.old writer.old) writer.new) }
 {
     let first = run.answered + 1;
     run.reply.number = first;
@@ -66,13 +67,13 @@ pub(crate) fn answer_all<T: Threads + Wait + Sync, W: Write>(
     requires room { run.old.answered + length (flat ahead.old) + 1 < 2 ^ 64 }
     ensures same { KeepsSetup desk.old desk.new }
     ensures answered { ByEnd result
-        (λ _. GoesAhead (flat ahead.old) [] desk.old run.old (W.contents writer.old) desk.new run.new (W.contents writer.new)
+        (λ _. GoesAhead W.contents (flat ahead.old) (at desk.old run.old writer.old) (at desk.new run.new writer.new)
         × (run.new.answered ≡ run.old.answered + length (flat ahead.old))) ⊥ ⊥
-        (BreaksAhead (flat ahead.old) desk.old run.old (W.contents writer.old) (W.contents writer.new)) }
+        (BreaksAhead W.contents (flat ahead.old) (at desk.old run.old writer.old) writer.new) }
 {
     'stretches: while let Some(stretch) = ahead.next_stretch() {
         answer_stretch(desk, run, stretch, writer)?;
-        run.reply.sink.drain_full(writer)?;
+        writer.put_full(&mut run.reply.sink)?;
     }
     Ok(())
 }

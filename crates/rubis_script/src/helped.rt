@@ -3,11 +3,11 @@
 ghost use Rattle.std.specs.Prelude.{◌≡◌, ◌≤◌, ◌<◌, ◌-◌, OnOk, drop, take};
 ghost use Rattle.std.specs.Thread.{IsSync};
 ghost use Rattle.rubis_crew.specs.Both.{IsAt};
-ghost use Rattle.rubis_script.specs.Helped.{AreHeld, AreOver, StayHeld, StayWith};
+ghost use Rattle.rubis_script.specs.Runs.{AreHeld, AreOver, StayHeld, StayWith, by_desk};
 ghost use Rattle.rubis_reading.specs.Chunked.{IsChunk, held_text};
 ghost use Rattle.rubis_reading.specs.Readings.{AreRead};
-ghost use Rattle.rubis_script.specs.Desks.{IsFolded, KeepsSetup, LeadsSite, left_at};
-ghost use Rattle.rubis_serving.specs.Serving.{Finishes, Turns};
+ghost use Rattle.rubis_script.specs.Desks.{IsFolded, KeepsSetup};
+ghost use Rattle.rubis_serving.specs.Serving.{Finishes, Turns, at};
 
 use crate::answering::answer_all;
 use crate::desk::Desk;
@@ -25,8 +25,8 @@ use std::thread::{Threads, join_mut};
 // How many pieces are given at a time, at most.
 const PIECES: usize = 16;
 
-// How many shards are given at a time, at most: there are no more.
-const SHARDS: usize = 256;
+// How many parts of a board are given at a time, at most: it has no more.
+const PARTS: usize = 16;
 
 // How long a piece is at most that the caller's thread reads and answers alone.
 const PIECE_ALONE: usize = 65_536;
@@ -68,8 +68,8 @@ fn answer_read<T: Threads + Wait + Sync, R: Read, W: Write>(
     requires read { AreRead desk.old.site.place.sites desk.old.plan.window (take piece.many (held_text chunks.old)) piece.list.items }
     requires within { run.old.answered ≤ limit }
     ensures same { KeepsSetup desk.old desk.new }
-    ensures turns { Turns left_at LeadsSite limit R.remaining chunks.old desk.old run.old (W.contents writer.old)
-        chunks.new desk.new run.new (W.contents writer.new) result }
+    ensures turns { Turns (by_desk W.contents) limit R.remaining chunks.old (at desk.old run.old writer.old)
+        chunks.new (at desk.new run.new writer.new) result }
     ensures held { OnOk result (held_text chunks.new ≡ drop (piece.many - 1) (held_text chunks.old)) }
 {
     let ReadPiece { many, list } = piece;
@@ -95,8 +95,8 @@ fn helped_turn<T: Threads + Wait + Sync, R: Read, W: Write>(
 ) -> Result<Option<Count>, RunFault>
     requires held { AreHeld chunks.old desk.old helpers.old.pieces }
     requires within { run.old.answered ≤ limit }
-    ensures turns { Turns left_at LeadsSite limit R.remaining chunks.old desk.old run.old (W.contents writer.old)
-        chunks.new desk.new run.new (W.contents writer.new) result }
+    ensures turns { Turns (by_desk W.contents) limit R.remaining chunks.old (at desk.old run.old writer.old)
+        chunks.new (at desk.new run.new writer.new) result }
     ensures held { StayHeld helpers.old chunks.new desk.new helpers.new result }
 {
     helpers.pieces.give_all(rt, chunks.held())?;
@@ -119,8 +119,8 @@ fn serve<T: Threads + Wait + Sync, R: Read, W: Write>(
 ) -> Result<Count, RunFault>
     requires held { AreHeld chunks.old desk.old helpers.old.pieces }
     requires within { run.old.answered ≤ limit }
-    ensures run { Finishes left_at LeadsSite limit R.remaining chunks.old desk.old run.old (W.contents writer.old)
-        chunks.new desk.new run.new (W.contents writer.new) result }
+    ensures run { Finishes (by_desk W.contents) limit R.remaining chunks.old (at desk.old run.old writer.old)
+        chunks.new (at desk.new run.new writer.new) result }
     ensures crews { StayWith helpers.old helpers.new }
 {
     for _ in rt.forever() {
@@ -143,8 +143,8 @@ fn serve_to_end<T: Threads + Wait + Sync, R: Read, W: Write>(
 ) -> Result<Count, RunFault>
     requires held { AreHeld chunks.old desk.old helpers.old.pieces }
     requires within { run.old.answered ≤ limit }
-    ensures run { Finishes left_at LeadsSite limit R.remaining chunks.old desk.old run.old (W.contents writer.old)
-        chunks.new desk.new run.new (W.contents writer.new) result }
+    ensures run { Finishes (by_desk W.contents) limit R.remaining chunks.old (at desk.old run.old writer.old)
+        chunks.new (at desk.new run.new writer.new) result }
     ensures over { AreOver helpers.old helpers.new }
 {
     let served = serve(rt, helpers, chunks, desk, run, writer, limit);
@@ -166,8 +166,8 @@ fn serve_beside<F: FnMut() + Send, T: Threads + Wait + Sync, R: Read, W: Write>(
 ) -> Result<Count, RunFault>
     requires stay { F.pre stay.old }
     requires held { AreHeld chunks.old desk.old helpers.old.pieces × (run.old.answered ≤ limit) }
-    ensures run { Finishes left_at LeadsSite limit R.remaining chunks.old desk.old run.old (W.contents writer.old)
-        chunks.new desk.new run.new (W.contents writer.new) result }
+    ensures run { Finishes (by_desk W.contents) limit R.remaining chunks.old (at desk.old run.old writer.old)
+        chunks.new (at desk.new run.new writer.new) result }
     ensures over { AreOver helpers.old helpers.new }
 {
     let ((), served) = join_mut(
@@ -175,8 +175,8 @@ fn serve_beside<F: FnMut() + Send, T: Threads + Wait + Sync, R: Read, W: Write>(
         stay,
         &mut || -> Result<Count, RunFault>
             requires { IsSync T.row × AreHeld chunks.now desk.now helpers.now.pieces × (run.now.answered ≤ limit) }
-            ensures { Finishes left_at LeadsSite limit R.remaining chunks.entry.now desk.entry.now run.entry.now (W.contents writer.entry.now)
-                chunks.exit.now desk.exit.now run.exit.now (W.contents writer.exit.now) result
+            ensures { Finishes (by_desk W.contents) limit R.remaining chunks.entry.now (at desk.entry.now run.entry.now writer.entry.now)
+                chunks.exit.now (at desk.exit.now run.exit.now writer.exit.now) result
                 × AreOver helpers.entry.now helpers.exit.now }
         { serve_to_end(rt, helpers, chunks, desk, run, writer, limit) },
     );
@@ -195,8 +195,8 @@ fn serve_helped<T: Threads + Wait + Sync, R: Read, W: Write>(
 ) -> Result<Count, RunFault>
     requires held { AreHeld chunks.old desk.old helpers.old.pieces }
     requires within { run.old.answered ≤ limit }
-    ensures run { Finishes left_at LeadsSite limit R.remaining chunks.old desk.old run.old (W.contents writer.old)
-        chunks.new desk.new run.new (W.contents writer.new) result }
+    ensures run { Finishes (by_desk W.contents) limit R.remaining chunks.old (at desk.old run.old writer.old)
+        chunks.new (at desk.new run.new writer.new) result }
     ensures over { AreOver helpers.old helpers.new }
 {
     let folding = helpers.hands.crew();
@@ -229,12 +229,12 @@ pub(crate) fn run_helped<T: Threads + Wait + Sync, R: Read, W: Write>(
 ) -> Result<Count, RunFault>
     requires some { 0 < desk.old.plan.helpers }
     requires within { run.old.answered ≤ limit }
-    ensures { Finishes left_at LeadsSite limit R.remaining chunks.old desk.old run.old (W.contents writer.old)
-        chunks.new desk.new run.new (W.contents writer.new) result }
+    ensures { Finishes (by_desk W.contents) limit R.remaining chunks.old (at desk.old run.old writer.old)
+        chunks.new (at desk.new run.new writer.new) result }
 {
     let alloc = run.alloc;
     let (reading, mut lead) = Crew::new(rt, alloc, PIECES, usize::from(desk.plan.helpers))?;
-    let Ok((folding, shards)) = Crew::beside(rt, alloc, SHARDS, &reading) else {
+    let Ok((folding, parts)) = Crew::beside(rt, alloc, PARTS, &reading) else {
         reading.end(rt, &mut lead);
         reading.close(lead);
         return Err(RunFault::Memory);
@@ -242,7 +242,7 @@ pub(crate) fn run_helped<T: Threads + Wait + Sync, R: Read, W: Write>(
     let pieces = Pieces::new(alloc, &reading, lead, desk.sites(), desk.plan.window);
     let mut helpers = Helpers {
         pieces,
-        hands: Hands::new(&folding, shards),
+        hands: Hands::new(&folding, parts),
         folded: 0,
     };
     let served = serve_helped(rt, &mut helpers, chunks, desk, run, writer, limit);
@@ -251,8 +251,8 @@ pub(crate) fn run_helped<T: Threads + Wait + Sync, R: Read, W: Write>(
         hands,
         folded: _,
     } = helpers;
-    let (lead, shards) = (pieces.into_lead(), hands.into_lead());
+    let (lead, parts) = (pieces.into_lead(), hands.into_lead());
     reading.close(lead);
-    folding.close(shards);
+    folding.close(parts);
     served
 }

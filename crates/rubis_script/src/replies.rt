@@ -3,9 +3,9 @@
 ghost use Rattle.std.specs.Prelude.{◌≡◌, ◌≤◌, ◌+◌, ◌∷◌, ◌++◌, [], ℕ, List, Ok, OnOk, decimal};
 ghost use Rattle.rubis_message.specs.Grammar.{message_record};
 ghost use Rattle.rubis_message.specs.declared.answers.Arrival.TheVariants.{Released};
-ghost use Rattle.rubis_model.specs.Answers.{arrived_rows, asked_rows, listed_rows, passed_rows, refused_row, reply, send_row, took_rows};
+ghost use Rattle.rubis_model.specs.Site.{arrived_rows, asked_rows, listed_rows, passed_rows, refused_row, reply, send_row, took_rows};
 ghost use Rattle.rubis_script.specs.declared.replies.TheConstants.{REPLY_ROOM};
-ghost use Rattle.rubis_script.specs.Replies.{HasRows, IsWord};
+ghost use Rattle.rubis_script.specs.Windows.{HasRows, IsWord};
 ghost use Rattle.rubis_engine.specs.Text.{rows_text};
 
 use rubis_engine::{Draft, PlainSink, Sink};

@@ -2,8 +2,8 @@
 
 ghost use Rattle.std.specs.Prelude.{◌++◌};
 ghost use Rattle.rubis_engine.specs.Text.{rows_text};
-ghost use Rattle.rubis_script.specs.Drains.{WritesFront, WritesOff};
-ghost use Rattle.rubis_engine.specs.Endings.{ByEnd};
+ghost use Rattle.rubis_script.specs.Windows.{WritesFront, WritesOff};
+ghost use Rattle.rubis_engine.specs.Progress.{ByEnd};
 
 use rubis_engine::{RunFault, Sink};
 use rubis_replica::ListingRows;

@@ -3,7 +3,7 @@
 ghost use Rattle.std.specs.Prelude.{◌≡◌};
 ghost use Rattle.rubis_engine.specs.Progress.{IsRun};
 ghost use Rattle.rubis_model.specs.Site.{opening_at};
-ghost use Rattle.rubis_replica.specs.Setup.{setup_place};
+ghost use Rattle.rubis_replica.specs.State.{setup_place};
 ghost use Rattle.rubis_schema.specs.declared.limits.TheConstants.{RECORDS_MAX};
 ghost use Rattle.rubis_script.specs.Headline.{OfRead, WritesAsProcess};
 ghost use Rattle.rubis_script.specs.SiteRuns.{answers_of};

@@ -1,2 +1,2 @@
-pub mod StandFacts
+pub mod GoFacts
 pub mod ServedFacts

@@ -1,216 +1,230 @@
--- How a run goes on by a piece of its text, and how it ends.
-use Rattle.std.proofs.Common.{◌≡◌, ◌∙◌, ◌<◌, ◌+◌, ◌++◌, ◌∷◌, [], ℕ, List, Option, ap, append-nil, arith, false, length, length-append, subst, sym, take}
-use Rattle.std.proofs.Common.{refl, true}
-use Rattle.std.specs.Prelude.{IfSome, MatchOption, None, Some, Result, Ok, Err}
+-- How a run goes on by pieces of its text, and how it ends.
+use Rattle.std.proofs.Common.{◌≡◌, ◌∙◌, ◌+◌, ◌++◌, ◌∷◌, [], ℕ, List, Option, ap, append-nil, append_assoc, arith, length, length-append, refl, subst, sym, take}
+use Rattle.std.proofs.Common.{true}
+use Rattle.std.specs.Prelude.{IfSome, IsErr, IsErrAnd, None, Some, Result, Ok, Err}
+use Rattle.std.specs.Io.KnownBytes.{Appends}
+use Rattle.std.proofs.Math.Seq.{take-append_seam}
 use Rattle.rubis_engine.specs.Accounts.{Account}
-use Rattle.rubis_engine.specs.Accounts.Ending.{AtEnd}
-use Rattle.rubis_engine.specs.Progress.{IsRun, WritesFrontOf, WrotePrefix}
+use Rattle.rubis_engine.specs.Accounts.Ending.{AtEnd, Cut}
+use Rattle.rubis_engine.specs.Progress.{IsRun}
 use Rattle.rubis_engine.specs.Reading.{Advances, Gives, fields_now}
 use Rattle.rubis_engine.specs.Text.{input_records}
+use Rattle.rubis_engine.specs.declared.record_list.Records.{Records}
 use Rattle.rubis_engine.specs.declared.fault.Count.{Count}
 use Rattle.rubis_engine.specs.declared.fault.RunFault.{RunFault}
 use Rattle.rubis_engine.specs.declared.fault.RunFault.TheVariants as fault
-use Rattle.rubis_engine.specs.declared.record_list.Records.{Records}
-use Rattle.rubis_engine.proofs.EndFacts.{ends_so}
-use Rattle.rubis_reading.specs.Chunked.{CameWhole, FailsShort, HasAll, HasCome, HasPending, IsChunk, IsLast, KeepsCome, KeepsPending, TakesOff, held_text}
-use Rattle.rubis_reading.specs.Streams.{EndsNoRecord}
+use Rattle.rubis_engine.proofs.RunFacts.{ends_on, ends_so}
+use Rattle.rubis_reading.specs.Chunked.{HasAll, HasCome, HasPending, IsChunk, IsLast, KeepsCome, KeepsPending, TakesOff, held_text}
 use Rattle.rubis_reading.specs.declared.chunks.Chunks.{Chunks}
 use Rattle.rubis_reading.proofs.ChunkFacts.{come-rest, pending-front}
-use Rattle.rubis_serving.specs.Serving.{Finishes, HasServed, HasYet, OfEachPiece, OfEachServed, Settles, Stands}
-use Rattle.rubis_serving.specs.Whole.{AnswersFirst, AnswersJust, EndsLed, EndsWhole}
+use Rattle.rubis_serving.specs.Outlets.{IsOutlet, writes, writes_front}
+use Rattle.rubis_serving.specs.Serving.{At, Closes, Fills, Finishes, Goes, IsOver, IsSettled, MovesOn, Serving, Stalls, Stops, Turns, at, coming, serving}
+use Rattle.rubis_serving.specs.Serving.{still, AnswersFirst, AnswersJust, EndsLed, EndsWhole}
 use Rattle.rubis_serving.specs.declared.pieces.Served.{Served}
-use Rattle.rubis_serving.proofs.StandFacts.{stands-cut, stands-drained, stands-front, stands-prefix, stands-starts, stands-too_long}
+use Rattle.rubis_serving.proofs.GoFacts.{goes-closes, goes-fills, goes-more, goes-none, goes-torn, match_so}
 
--- what follows in each case
-pub match_so : {A : Type 0} {P P2 : Type 0} {Q Q2 : A → Type 0} (o : Option A) → (P → P2) → ((x : A) → Q x → Q2 x) → MatchOption o P Q
-    → MatchOption o P2 Q2
-match_so None f g h = f h
-match_so (Some x) f g h = g x h
+-- ---- the records of a piece
 
-module _ {S : Type 0} (account : S → ℕ → Account) (leads : S → ℕ → List (List (List ℕ)) → S → Type 0) where
-  -- what was held back is answered, and all that waited was written out
-  settled : (first s s2 : S) (old now now2 : Option (List ℕ)) (sink sink2 : List ℕ) (answered : ℕ) (records later : List (List (List ℕ)))
-      → Settles account leads s s2 sink sink2 now now2 → Stands account leads first s old now sink answered records later
-      → Stands account leads first s2 old now2 sink2 answered records later
-  settled first s s2 old now now2 sink sink2 answered records later settles h =
-      subst (λ t. Stands account leads first s2 old now2 t answered records later) (sym settles.empty)
-      (stands-drained account leads first s s2 old now now2 sink answered records later (settles.drained (answered + 1)) settles.alike h)
+-- there is another, behind those that are answered
+pub given-one : {R : Type 0} (rem : R → Option (List ℕ)) (piece piece2 : Records R) {rows : List (List (List ℕ))}
+    (done : List (List (List ℕ))) {left : List (List (List ℕ))} {fields : List (List ℕ)} → Advances rem piece piece2 true → fields ≡ fields_now piece2 → rows ≡ done ++ left → Gives rem piece left
+    → (rest : List (List (List ℕ))) × (rows ≡ done ++ fields ∷ rest) × Gives rem piece2 rest
+given-one rem piece piece2 done {left = left} takes is parts gives =
+    let (rest, split, more) = takes left gives in
+    (rest, parts ∙ ap (λ l. done ++ l) (split ∙ ap (λ f. f ∷ rest) (sym is)), more)
 
-  -- ---- a reader of a piece
+-- what holds of the records of a chunk, whatever follows them, holds of all that are to come
+pub chunk-each : {R : Type 0} (rem : R → Option (List ℕ)) (chunks : Chunks R) (many : ℕ) (text : List ℕ) (holds : List (List (List ℕ)) → Type 0)
+    → IsChunk many (held_text chunks) → text ≡ take many (held_text chunks) → ((more : List (List (List ℕ))) → holds (input_records text ++ more))
+    → (later : List (List (List ℕ))) → HasPending rem chunks later → holds later
+chunk-each rem chunks many text holds chunk is each later pending =
+    let (rest, split) = pending-front rem chunks many later chunk pending in
+    subst holds (sym (split ∙ ap (λ t. input_records t ++ rest) (sym is))) (each rest)
 
-  -- there is another record
-  pub yet-one : {R : Type 0} (rem : R → Option (List ℕ)) (piece piece2 : Records R) (first s : S) (old now : Option (List ℕ)) (sink : List ℕ)
-      (answered : ℕ) (records rest : List (List (List ℕ))) (fields : List (List ℕ)) → Advances rem piece piece2 true → fields ≡ fields_now piece2
-      → HasYet account leads rem piece first s old now sink answered records rest
-      → (left : List (List (List ℕ))) × Gives rem piece2 left × Stands account leads first s old now sink answered records (fields ∷ (left ++ rest))
-  yet-one rem piece piece2 first s old now sink answered records rest fields takes is h =
-      let (left, split, gives) = takes h.rows h.gives in (
-        left,
-        gives,
-        subst (λ f. Stands account leads first s old now sink answered records (f ∷ (left ++ rest))) (sym is)
-            (subst (λ rows. Stands account leads first s old now sink answered records (rows ++ rest)) split h.stands),
-      )
+-- what holds of the records of the rest does
+pub last-each : {R : Type 0} (rem : R → Option (List ℕ)) (chunks : Chunks R) (text : List ℕ) (holds : List (List (List ℕ)) → Type 0)
+    → IsLast rem chunks → text ≡ held_text chunks → holds (input_records text ++ []) → (later : List (List (List ℕ))) → HasPending rem chunks later
+    → holds later
+last-each rem chunks text holds last is one later pending =
+    subst holds (append-nil (input_records text) ∙ ap input_records is ∙ sym (last later pending)) one
 
-  -- there is none
-  pub yet-none : {R : Type 0} (rem : R → Option (List ℕ)) (piece piece2 : Records R) (first s : S) (old now : Option (List ℕ)) (sink : List ℕ)
-      (answered : ℕ) (records rest : List (List (List ℕ))) → Advances rem piece piece2 false
-      → HasYet account leads rem piece first s old now sink answered records rest → Stands account leads first s old now sink answered records rest
-  yet-none rem piece piece2 first s old now sink answered records rest takes h =
-      subst (λ rows. Stands account leads first s old now sink answered records (rows ++ rest)) (takes h.rows h.gives) h.stands
+-- ---- a run moves on
 
-  -- nothing more was written
-  pub yet-prefix : {R : Type 0} (rem : R → Option (List ℕ)) (piece : Records R) (first s : S) (old now now2 : Option (List ℕ)) (sink : List ℕ)
-      (answered : ℕ) (records rest : List (List (List ℕ))) → now2 ≡ now → HasYet account leads rem piece first s old now sink answered records rest
-      → WrotePrefix ((account first 1).text AtEnd) old now2 records
-  yet-prefix rem piece first s old now now2 sink answered records rest same h =
-      stands-prefix account leads first s old now now2 sink answered records (h.rows ++ rest) same h.stands
-
-  -- there is another one, and as many as are taken were answered
-  pub yet-too_long : {R : Type 0} (rem : R → Option (List ℕ)) (piece piece2 : Records R) (first s s2 : S)
-      (old now now2 : Option (List ℕ)) (sink sink2 : List ℕ) (answered limit : ℕ) (records rest : List (List (List ℕ)))
-      → Advances rem piece piece2 true → answered ≡ limit → Settles account leads s s2 sink sink2 now now2
-      → ((number : ℕ) (fields : List (List ℕ)) (more : List (List (List ℕ))) → 0 < (account s2 number).read (fields ∷ more))
-      → HasYet account leads rem piece first s old now sink answered records rest → AnswersFirst account leads limit first s2 old now2 records
-  yet-too_long rem piece piece2 first s s2 old now now2 sink sink2 answered limit records rest takes last settles some h =
-      let (left, gives, one) = yet-one rem piece piece2 first s old now sink answered records rest (fields_now piece2) takes refl h in
-      let later = left ++ rest in
-      stands-too_long account leads first s2 old now2 sink2 answered limit records later (fields_now piece2) settles.empty
-      (settles.none (answered + 1)) (some (answered + 1) (fields_now piece2) later) (settles.rests (answered + 1)) last
-      (settled first s s2 old now now2 sink sink2 answered records (fields_now piece2 ∷ later) settles one)
-
-  -- ---- between pieces
-
-  -- everything that came was answered and written out, and the reader was asked for more
-  pub served-settled : {R : Type 0} (rem : R → Option (List ℕ)) (chunks chunks2 : Chunks R) (first s s2 : S)
-      (old now now2 : Option (List ℕ)) (sink sink2 : List ℕ) (answered : ℕ) (input : List ℕ) → Settles account leads s s2 sink sink2 now now2
-      → KeepsPending rem chunks chunks2 → KeepsCome rem chunks chunks2 → HasServed account leads rem chunks first s old now sink answered input
-      → HasServed account leads rem chunks2 first s2 old now2 sink2 answered input
-  served-settled rem chunks chunks2 first s s2 old now now2 sink sink2 answered input settles keeps came h = record {
-    later = h.later;
-    stands = settled first s s2 old now now2 sink sink2 answered (input_records input) h.later settles h.stands;
-    pending = keeps h.later h.pending;
-    come = came input h.come;
+module _ {S O : Type 0} {k : Serving S O} where
+  -- by no records
+  pub moves-kept : {R : Type 0} {rem : R → Option (List ℕ)} {chunks chunks2 : Chunks R} {x y : At S O} → KeepsPending rem chunks chunks2
+      → KeepsCome rem chunks chunks2 → Goes k [] x y → MovesOn k rem chunks x chunks2 y
+  moves-kept keeps came goes = record {
+    takes = λ later pending. record { rows = []; rest = later; parts = refl; pending = keeps later pending; goes = goes };
+    come = came;
   }
 
-  -- as many records were answered as came whole
-  served-count : {R : Type 0} (rem : R → Option (List ℕ)) (chunks : Chunks R) (first s : S) (old now : Option (List ℕ)) (sink : List ℕ)
-      (answered : ℕ) (input : List ℕ) → (h : HasServed account leads rem chunks first s old now sink answered input)
-      → answered ≡ length (input_records h.come.front)
-  served-count rem chunks first s old now sink answered input h =
-      let stands = h.stands in
-      let parts = ap length stands.parts ∙ length-append stands.done h.later in
-      let came = come-rest rem chunks input h.later h.pending h.come in
-      omega (arith, parts, came, stands.count)
+  -- by a chunk, which is handed on
+  pub moves-taken : {R : Type 0} {rem : R → Option (List ℕ)} {chunks chunks2 : Chunks R} (text : List ℕ) {chunk : List ℕ} {x y : At S O} → text ≡ chunk
+      → TakesOff rem chunks chunks2 chunk → KeepsCome rem chunks chunks2 → Goes k (input_records text) x y → MovesOn k rem chunks x chunks2 y
+  moves-taken text is off came goes = record {
+    takes = λ later pending.
+        let (rest, split, left) = off later pending in
+        record {
+          rows = input_records text;
+          rest = rest;
+          parts = split ∙ ap (λ t. input_records t ++ rest) (sym is);
+          pending = left;
+          goes = goes;
+        };
+    come = came;
+  }
 
-  -- the reader failed where everything that came was answered and written out
-  pub served-cut : {R : Type 0} (rem : R → Option (List ℕ)) (chunks chunks2 : Chunks R) (first s s2 : S)
-      (old now now2 : Option (List ℕ)) (sink sink2 : List ℕ) (answered : ℕ) (input : List ℕ) → Settles account leads s s2 sink sink2 now now2
-      → FailsShort rem chunks chunks2 → EndsNoRecord (held_text chunks)
-      → HasServed account leads rem chunks first s old now sink answered input
-      → AnswersJust account leads answered first s2 old now2 (input_records input) × CameWhole rem chunks2 input answered
-  served-cut rem chunks chunks2 first s s2 old now now2 sink sink2 answered input settles failed short h =
-      let h2 = served-settled rem chunks chunks2 first s s2 old now now2 sink sink2 answered input settles failed.pending failed.come h in (
-        stands-cut account leads first s2 old now2 sink2 answered (input_records input) h2.later settles.empty (settles.none (answered + 1))
-            (settles.rests (answered + 1)) h2.stands,
-        record { come = h2.come; count = served-count rem chunks2 first s2 old now2 sink2 answered input h2; none = failed.none short },
+module _ {S O : Type 0} {k : Serving S O} (laws : IsOutlet k.puts k.tears) where
+  pub moves-none : {R : Type 0} (rem : R → Option (List ℕ)) (chunks : Chunks R) (x : At S O) → MovesOn k rem chunks x chunks x
+  moves-none rem chunks x = moves-kept (λ rows h. h) (λ input h. h) (goes-none laws x)
+
+  pub moves-more : {R : Type 0} {rem : R → Option (List ℕ)} {chunks chunks2 chunks3 : Chunks R} {x y z : At S O} → MovesOn k rem chunks x chunks2 y
+      → MovesOn k rem chunks2 y chunks3 z → MovesOn k rem chunks x chunks3 z
+  moves-more m n = record {
+    takes = λ later pending.
+        let one = m.takes later pending in
+        let two = n.takes one.rest one.pending in
+        record {
+          rows = one.rows ++ two.rows;
+          rest = two.rest;
+          parts = one.parts ∙ ap (λ r. one.rows ++ r) two.parts ∙ sym (append_assoc one.rows two.rows two.rest);
+          pending = two.pending;
+          goes = goes-more laws one.goes two.goes;
+        };
+    come = λ input come. n.come input (m.come input come);
+  }
+
+  pub over-on : {R : Type 0} {limit : ℕ} {rem : R → Option (List ℕ)} {chunks chunks2 : Chunks R} {x y : At S O} (z : At S O) (count : Count)
+      → MovesOn k rem chunks x chunks2 y → IsOver k limit rem chunks2 y z count → IsOver k limit rem chunks x z count
+  over-on {limit = limit} {x = x} z count m over later pending =
+      let one = m.takes later pending in
+      subst (λ r. Closes k limit r x z.service z.outlet count.records) (sym one.parts) (goes-closes laws one.goes (over one.rest one.pending))
+
+  -- ---- how it ends then
+
+  fills-on : {R : Type 0} (limit : ℕ) {rem : R → Option (List ℕ)} {chunks chunks2 : Chunks R} {x y : At S O} (z : At S O) → MovesOn k rem chunks x chunks2 y
+      → ((later : List (List (List ℕ))) → HasPending rem chunks2 later → Fills k limit later y z)
+      → (later : List (List (List ℕ))) → HasPending rem chunks later → Fills k limit later x z
+  fills-on limit {x = x} z m long later pending =
+      let one = m.takes later pending in
+      subst (λ r. Fills k limit r x z) (sym one.parts) (goes-fills laws one.goes (long one.rest one.pending))
+
+  stalls-on : {R : Type 0} {rem : R → Option (List ℕ)} {chunks chunks2 chunks3 : Chunks R} {x y z : At S O} → MovesOn k rem chunks x chunks2 y
+      → Stalls k rem chunks2 y chunks3 z → Stalls k rem chunks x chunks3 z
+  stalls-on m s = record { moves = moves-more m s.moves; settled = s.settled; none = s.none }
+
+  torn-on : {R : Type 0} {rem : R → Option (List ℕ)} {chunks chunks2 : Chunks R} {x y : At S O} (outlet : O) → MovesOn k rem chunks x chunks2 y
+      → ((later : List (List (List ℕ))) → HasPending rem chunks2 later → k.tears (coming k y AtEnd later) y.outlet outlet)
+      → (later : List (List (List ℕ))) → HasPending rem chunks later → k.tears (coming k x AtEnd later) x.outlet outlet
+  torn-on {x = x} outlet m torn later pending =
+      let one = m.takes later pending in
+      subst (λ r. k.tears (coming k x AtEnd r) x.outlet outlet) (sym one.parts) (goes-torn laws outlet one.rest one.goes (torn one.rest one.pending))
+
+  -- nothing was put since
+  pub torn-none : {R : Type 0} {rem : R → Option (List ℕ)} {chunks chunks2 : Chunks R} {x y : At S O} → MovesOn k rem chunks x chunks2 y
+      → (later : List (List (List ℕ))) → HasPending rem chunks later → k.tears (coming k x AtEnd later) x.outlet y.outlet
+  torn-none {y = y} m = torn-on y.outlet m (λ later pending. laws.torn_none (coming k y AtEnd later) y.outlet)
+
+  -- a fault is handed on
+  pub stops-on : {T U R : Type 0} (limit : ℕ) {rem : R → Option (List ℕ)} {chunks chunks2 : Chunks R} (chunks3 : Chunks R) {x y : At S O} (z : At S O)
+      (done : T → Type 0) (done2 : U → Type 0) (result : Result U RunFault) (e : RunFault) → IsErr result × IsErrAnd result (λ f. f ≡ e)
+      → MovesOn k rem chunks x chunks2 y → Stops k {T = T} limit rem chunks2 y chunks3 z done (Err e) → Stops k limit rem chunks x chunks3 z done2 result
+  stops-on limit chunks3 z done done2 result e handed m stops =
+      ends_on done done2 result e handed (fills-on limit z m) (stalls-on m) (torn-on z.outlet m) stops
+
+  -- it went on by nothing that comes
+  pub turns-on : {R : Type 0} (limit : ℕ) {rem : R → Option (List ℕ)} {chunks : Chunks R} (chunks2 : Chunks R) {x y : At S O} (z : At S O)
+      (result : Result (Option Count) RunFault) → MovesOn k rem chunks x chunks y → Turns k limit rem chunks y chunks2 z result
+      → Turns k limit rem chunks x chunks2 z result
+  turns-on limit chunks2 z result m turns =
+      ends_so result (λ over goes. match_so over (λ (moves, within, nearer). (moves-more m moves, within, nearer)) (λ count. over-on z count m) goes)
+      (fills-on limit z m) (stalls-on m) (torn-on z.outlet m) turns
+
+-- ---- a run from its beginning
+
+module _ {S W : Type 0} (account : S → ℕ → Account) (leads : S → ℕ → List (List (List ℕ)) → S → Type 0) (contents : W → Option (List ℕ)) where
+  abbrev by : Serving S W
+  by = serving account leads (writes contents) (writes_front contents)
+
+  abbrev from : S → W → At S W
+  from s w = record { service = s; outlet = w; sink = []; answered = 0 }
+
+  -- it was cut short behind these records
+  cut-just : (s : S) (w : W) (y : At S W) (rows rest : List (List (List ℕ))) → Goes by rows (from s w) y → IsSettled by y
+      → AnswersJust account leads y.answered s y.service (contents w) (contents y.outlet) (rows ++ rest)
+  cut-just s w y rows rest f settled =
+      let all = account s 1 in
+      let count : y.answered ≡ length rows = omega (arith, f.count) in
+      let front : take y.answered (rows ++ rest) ≡ rows =
+      ap (λ n. take n (rows ++ rest)) count ∙ take-append_seam rows rest in
+      let size = length-append rows rest in
+      let text : all.text Cut rows ≡ f.text =
+      ap (all.text Cut) (sym (append-nil rows)) ∙ f.told Cut [] ∙ ap (λ t. f.text ++ (t ++ (still by y).text Cut [])) settled.empty
+      ∙ ap (λ t. f.text ++ t) settled.none ∙ append-nil f.text in
+      let same : all.text Cut (take y.answered (rows ++ rest)) ≡ f.text = ap (all.text Cut) front ∙ text in (
+        record {
+          within = omega (arith, size, f.count);
+          appended = subst (λ (t : List ℕ). Appends (contents w) (contents y.outlet) t) (sym same) f.put;
+          left = λ ending to_come. ap (λ d. all.text ending (d ++ to_come)) front ∙ f.told ending to_come
+              ∙ ap (λ t. f.text ++ (t ++ (still by y).text ending to_come)) settled.empty ∙ ap (λ t. t ++ (still by y).text ending to_come) (sym same);
+          counted = λ to_come.
+              let read = ap (λ d. all.read (d ++ to_come)) front ∙ f.read to_come in
+              omega (arith, read, f.count);
+        },
+        subst (λ r. leads s 1 r y.service) (append-nil rows ∙ sym front) (f.led [] y.service settled.rests),
       )
 
-  -- nothing was written since
-  pub served-written : {R : Type 0} (rem : R → Option (List ℕ)) (chunks : Chunks R) (first s s2 : S)
-      (old now now2 : Option (List ℕ)) (sink sink2 : List ℕ) (answered : ℕ) (input : List ℕ) → Settles account leads s s2 sink sink2 now now2
-      → HasServed account leads rem chunks first s old now sink answered input
-      → WrotePrefix ((account first 1).text AtEnd) old now2 (input_records input)
-  served-written rem chunks first s s2 old now now2 sink sink2 answered input settles h =
-      stands-prefix account leads first s2 old now2 now2 sink2 answered (input_records input) h.later refl
-      (settled first s s2 old now now2 sink sink2 answered (input_records input) h.later settles h.stands)
-
-  -- nothing more was written
-  pub served-prefix : {R : Type 0} (rem : R → Option (List ℕ)) (chunks : Chunks R) (first s : S) (old now now2 : Option (List ℕ)) (sink : List ℕ)
-      (answered : ℕ) (input : List ℕ) → now2 ≡ now → HasServed account leads rem chunks first s old now sink answered input
-      → WrotePrefix ((account first 1).text AtEnd) old now2 (input_records input)
-  served-prefix rem chunks first s old now now2 sink answered input same h =
-      stands-prefix account leads first s old now now2 sink answered (input_records input) h.later same h.stands
-
-  -- what waited was written in part
-  pub served-front : {R : Type 0} (rem : R → Option (List ℕ)) (chunks : Chunks R) (first s : S) (old now now2 : Option (List ℕ))
-      (sink : List ℕ) (answered : ℕ) (input : List ℕ) → WritesFrontOf (account s) sink now now2
-      → HasServed account leads rem chunks first s old now sink answered input
-      → WrotePrefix ((account first 1).text AtEnd) old now2 (input_records input)
-  served-front rem chunks first s old now now2 sink answered input front h =
-      stands-front account leads first s old now now2 sink answered (input_records input) h.later (front (answered + 1) h.later) h.stands
-
-  -- ---- a piece
-
-  -- a chunk was answered, and is handed on
-  pub served-taken : {R : Type 0} (rem : R → Option (List ℕ)) (chunks chunks2 : Chunks R) (text chunk : List ℕ) (s s2 : S)
-      (run run2 : Served) (now now2 : Option (List ℕ)) (first : S) (old : Option (List ℕ)) (input : List ℕ) → text ≡ chunk
-      → TakesOff rem chunks chunks2 chunk → KeepsCome rem chunks chunks2
-      → OfEachPiece account leads text s run now (λ first old records rest.
-      Stands account leads first s2 old now2 run2.reply.sink run2.answered records rest)
-      → HasServed account leads rem chunks first s old now run.reply.sink run.answered input
-      → HasServed account leads rem chunks2 first s2 old now2 run2.reply.sink run2.answered input
-  served-taken rem chunks chunks2 text chunk s s2 run run2 now now2 first old input is off came each h =
-      let (rest, split, pending) = off h.later h.pending in
-      record {
-        later = rest;
-        stands = each first old (input_records input) rest
-            (subst (λ rows. Stands account leads first s old now run.reply.sink run.answered (input_records input) rows)
-            (split ∙ ap (λ t. input_records t ++ rest) (sym is)) h.stands);
-        pending = pending;
-        come = came input h.come;
-      }
-
-  -- what is held is the rest
-  pub served-last : {R : Type 0} (rem : R → Option (List ℕ)) (chunks : Chunks R) (text : List ℕ) (first s : S) (old now : Option (List ℕ))
-      (sink : List ℕ) (answered : ℕ) (input : List ℕ) → IsLast rem chunks → text ≡ held_text chunks
-      → HasServed account leads rem chunks first s old now sink answered input
-      → Stands account leads first s old now sink answered (input_records input) (input_records text ++ [])
-  served-last rem chunks text first s old now sink answered input last is h =
-      subst (λ rows. Stands account leads first s old now sink answered (input_records input) rows)
-      (last h.later h.pending ∙ ap input_records (sym is) ∙ sym (append-nil (input_records text))) h.stands
-
-  -- of every run that has the records of a chunk to come next that holds
-  pub chunk-each : {R : Type 0} (rem : R → Option (List ℕ)) (chunks : Chunks R) (many : ℕ) (text : List ℕ) (s : S) (run : Served)
-      (now : Option (List ℕ)) (holds : S → Option (List ℕ) → List (List (List ℕ)) → Type 0) → IsChunk many (held_text chunks)
-      → text ≡ take many (held_text chunks) → OfEachPiece account leads text s run now (λ first old records rest. holds first old records)
-      → OfEachServed account leads rem chunks s run now (λ first old input. holds first old (input_records input))
-  chunk-each rem chunks many text s run now holds chunk is each first old input h =
-      let (rest, split) = pending-front rem chunks many h.later chunk h.pending in
-      each first old (input_records input) rest
-      (subst (λ rows. Stands account leads first s old now run.reply.sink run.answered (input_records input) rows)
-      (split ∙ ap (λ t. input_records t ++ rest) (sym is)) h.stands)
-
-  -- and of every run that has the rest to come
-  pub last-each : {R : Type 0} (rem : R → Option (List ℕ)) (chunks : Chunks R) (text : List ℕ) (s : S) (run : Served)
-      (now : Option (List ℕ)) (holds : S → Option (List ℕ) → List (List (List ℕ)) → Type 0) → IsLast rem chunks → text ≡ held_text chunks
-      → OfEachPiece account leads text s run now (λ first old records rest. holds first old records)
-      → OfEachServed account leads rem chunks s run now (λ first old input. holds first old (input_records input))
-  last-each rem chunks text s run now holds last is each first old input h =
-      each first old (input_records input) []
-      (served-last rem chunks text first s old now run.reply.sink run.answered input last is h)
-
-  -- ---- a run from its beginning
+  first-all : (limit : ℕ) (s : S) (w : W) (y : At S W) (records : List (List (List ℕ))) → Fills by limit records (from s w) y
+      → AnswersFirst account leads limit s y.service (contents w) (contents y.outlet) records
+  first-all limit s w y records h =
+      let all = account s 1 in
+      let cut = subst (λ r. AnswersJust account leads y.answered s y.service (contents w) (contents y.outlet) r) (sym h.parts)
+      (cut-just s w y h.front (h.next ∷ h.rest) h.goes h.settled) in
+      let size = ap length h.parts ∙ length-append h.front (h.next ∷ h.rest) in
+      let read : all.read records ≡ length h.front + (still by y).read (h.next ∷ h.rest) = ap all.read h.parts ∙ h.goes.read (h.next ∷ h.rest) in
+      let some = h.some h.rest in (
+        (
+          subst (λ n. Appends (contents w) (contents y.outlet) (all.text Cut (take n records))) h.full cut.0.appended,
+          omega (arith, size, h.goes.count, h.full),
+          omega (arith, read, some, h.goes.count, h.full),
+        ),
+        subst (λ n. leads s 1 (take n records) y.service) h.full cut.1,
+      )
 
   -- a run that has answered nothing so far ends so
-  pub ends_led : {R : Type 0} (rem : R → Option (List ℕ)) (chunks chunks2 : Chunks R) (s s2 : S) (run run2 : Served) (limit : ℕ)
-      (input : List ℕ) (old now : Option (List ℕ)) (result : Result Count RunFault) → HasAll rem chunks input → run.reply.sink ≡ [] → run.answered ≡ 0
-      → Finishes account leads limit rem chunks s run old chunks2 s2 run2 now result → EndsLed account leads rem chunks2 limit s s2 old now input result
-  ends_led rem chunks chunks2 s s2 run run2 limit input old now result (pending, come) empty none ends =
-      let starts : HasServed account leads rem chunks s s old old run.reply.sink run.answered input = record {
-        later = input_records input;
-        stands = stands-starts account leads s old run.reply.sink run.answered (input_records input) empty none;
-        pending = pending;
-        come = come;
-      } in
-      ends_so result (λ count all. all s old input starts) (λ long. long s old input starts)
-      (λ whole. let h = whole s old input starts in (run2.answered, h.0, h.1)) (λ prefix. prefix s old input starts) ends
+  pub ends_led : {R : Type 0} (rem : R → Option (List ℕ)) (chunks chunks2 : Chunks R) (s s2 : S) (run run2 : Served) (w w2 : W) (limit : ℕ)
+      (input : List ℕ) (result : Result Count RunFault) → HasAll rem chunks input → run.reply.sink ≡ [] → run.answered ≡ 0
+      → Finishes by limit rem chunks (at s run w) chunks2 (at s2 run2 w2) result → EndsLed account leads rem chunks2 limit s s2 (contents w) (contents w2) input result
+  ends_led rem chunks chunks2 s s2 run run2 w w2 limit input result (pending, come) empty none ends =
+      let y = at s2 run2 w2 in
+      let records = input_records input in
+      let starts : at s run w ≡ from s w = λ i. record { service = s; outlet = w; sink = empty i; answered = none i } in
+      ends_so result
+      (λ count over.
+      let h = over records pending in
+      let read = h.read in
+      ((h.put, omega (arith, read), h.within), h.led))
+      (λ long. first-all limit s w y records (long records pending))
+      (λ h.
+      let one = h.moves.takes records pending in
+      let come2 = h.moves.come input come in
+      let size = ap length one.parts ∙ length-append one.rows one.rest in
+      let came = come-rest rem chunks2 input one.rest one.pending come2 in (
+        y.answered,
+        subst (λ r. AnswersJust account leads y.answered s s2 (contents w) (contents w2) r) (sym one.parts) (cut-just s w y one.rows one.rest one.goes h.settled),
+        record { come = come2; count = omega (arith, size, came, one.goes.count); none = h.none },
+      ))
+      (λ torn. torn records pending)
+      (subst (λ x. Finishes by limit rem chunks x chunks2 y result) starts ends)
 
-  -- what it says of the text
-  pub led_whole : {R : Type 0} (rem : R → Option (List ℕ)) (chunks : Chunks R) (limit : ℕ) (s s2 : S) (old now : Option (List ℕ)) (input : List ℕ)
-      (result : Result Count RunFault) → EndsLed account leads rem chunks limit s s2 old now input result
-      → EndsWhole rem chunks (account s 1) (account s2) limit old now input result
-  led_whole rem chunks limit s s2 old now input result ends =
-      ends_so result (λ count all. all.0) (λ long. long.0) (λ (k, just, came). (k, just.0, came)) (λ prefix. prefix) ends
+-- ---- what it says of the text
+
+pub led_whole : {S R : Type 0} (account : S → ℕ → Account) (leads : S → ℕ → List (List (List ℕ)) → S → Type 0) (rem : R → Option (List ℕ)) (chunks : Chunks R) (limit : ℕ) (s s2 : S) (old now : Option (List ℕ)) (input : List ℕ)
+    (result : Result Count RunFault) → EndsLed account leads rem chunks limit s s2 old now input result
+    → EndsWhole rem chunks (account s 1) (account s2) limit old now input result
+led_whole account leads rem chunks limit s s2 old now input result ends =
+    ends_so result (λ count all. all.0) (λ long. long.0) (λ (k, just, came). (k, just.0, came)) (λ prefix. prefix) ends
 
 -- in fewer words
 pub whole_run : {R : Type 0} (rem : R → Option (List ℕ)) (chunks : Chunks R) (all : Account) (left : ℕ → Account) (limit : ℕ) (input : List ℕ)

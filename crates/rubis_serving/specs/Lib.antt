@@ -1,2 +1,3 @@
-pub mod Whole
+pub mod Outlets
+pub mod Writers
 pub mod Serving

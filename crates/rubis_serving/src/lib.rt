@@ -2,8 +2,10 @@
 //! the reader is asked for more.
 #![tactic(auto)]
 
+mod outlets;
 mod pieces;
 mod run;
 
-pub use pieces::{BLOCK, Served};
-pub use run::{answer_front, run_service, turn};
+pub use outlets::Outlet;
+pub use pieces::{BLOCK, Served, settle};
+pub use run::{answer_front, answer_piece, run_service, turn};

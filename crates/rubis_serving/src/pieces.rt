@@ -1,20 +1,18 @@
 //! What a run has answered so far, and what it does between pieces of its text and at its end.
 
-ghost use Rattle.std.specs.Prelude.{◌≡◌, [], false};
+ghost use Rattle.std.specs.Prelude.{◌≡◌, [], false, ℕ, List};
 ghost use Rattle.std.specs.Int.{from_bool};
 ghost use Rattle.rubis_engine.specs.Accounts.Ending.{AtEnd};
-ghost use Rattle.rubis_engine.specs.Progress.{WritesFrontOf, WrotePrefix};
-ghost use Rattle.rubis_engine.specs.Text.{input_records};
-ghost use Rattle.rubis_reading.specs.Chunked.{ComesNearer, IsLast, held_text};
+ghost use Rattle.rubis_engine.specs.Progress.{ByEnd};
+ghost use Rattle.rubis_reading.specs.Chunked.{ComesNearer, HasPending, IsLast, held_text};
 ghost use Rattle.rubis_reading.specs.Streams.{EndsNoRecord};
-ghost use Rattle.rubis_engine.specs.Endings.{ByEnd};
-ghost use Rattle.rubis_serving.specs.Serving.{AnswersWhole, MovesOn, OfEachLast, OfEachServed, Settles};
-ghost use Rattle.rubis_serving.specs.Whole.{AnswersAll};
+ghost use Rattle.rubis_serving.specs.Serving.{Closes, Goes, IsSettled, MovesOn, Stalls, Tears, at, coming, serving};
 
-use rubis_engine::{Count, Reply, RunFault, Service, Sink};
+use crate::outlets::Outlet;
+use rubis_engine::{Count, Reply, RunFault, Service};
 use rubis_reading::{ChunkFault, Chunks};
 use std::alloc::Global;
-use std::io::{Read, Write};
+use std::io::Read;
 
 /// How many bytes a reader is asked for at a time. Each chunk has a reader of CSV of its own, which takes as long to make as some twenty
 /// records of an audit to read, so a chunk that is at hand is long.
@@ -43,53 +41,51 @@ impl Served {
     }
 }
 
-/// Has a service answer what it holds back, and writes out all that waits.
+/// Has a service answer what it holds back, and puts all that waits.
 ///
 /// # Errors
 ///
-/// `Write` where the writer failed, and `Memory` if memory ran out: a prefix of the text was written then.
-pub(crate) fn settle<S: Service, W: Write>(
+/// `Write` if some of it couldn't be put, and `Memory` if memory ran out.
+pub fn settle<S: Service, O: Outlet>(
     service: &mut S,
-    reply: &mut Reply,
-    writer: &mut W,
+    run: &mut Served,
+    outlet: &mut O,
 ) -> Result<(), RunFault>
     requires { S.shares }
     ensures same { S.setup service.new ≡ S.setup service.old }
-    ensures settled { ByEnd result
-        (λ _. Settles S.account S.leads service.old service.new reply.old.sink reply.new.sink (W.contents writer.old) (W.contents writer.new))
-        ⊥ ⊥ (WritesFrontOf (S.account service.old) reply.old.sink (W.contents writer.old) (W.contents writer.new)) }
+    ensures settled { let k = serving S.account S.leads O.puts O.tears in ByEnd result
+        (λ _. Goes k [] (at service.old run.old outlet.old) (at service.new run.new outlet.new) × IsSettled k (at service.new run.new outlet.new))
+        ⊥ ⊥ (Tears k [] (at service.old run.old outlet.old) outlet.new) }
 {
-    service.answer_held(reply)?;
-    reply.sink.close(writer)
+    service.answer_held(&mut run.reply)?;
+    outlet.put_all(&mut run.reply.sink)
 }
 
-/// Answers and writes out all that came, and only then asks the reader for more: no record ends in what is held. Whether any came. If not,
-/// what is held is the rest.
+/// Answers and puts all that came, and only then asks the reader for more: no record ends in what is held. Whether any came. If not, what is
+/// held is the rest.
 ///
 /// # Errors
 ///
-/// `Read` if the reader failed: the records that came whole are answered then. `Write` where the writer failed, and `Memory` if memory
-/// ran out: a prefix of the text was written then.
-pub(crate) fn ask_for_more<S: Service, R: Read, W: Write>(
+/// `Read` if the reader failed: the records that came whole are answered then. `Write` if some of the text couldn't be put, and `Memory` if
+/// memory ran out.
+pub(crate) fn ask_for_more<S: Service, R: Read, O: Outlet>(
     chunks: &mut Chunks<R>,
     service: &mut S,
     run: &mut Served,
-    writer: &mut W,
+    outlet: &mut O,
 ) -> Result<bool, RunFault>
     requires none { EndsNoRecord (held_text chunks.old) }
     requires shares { S.shares }
     ensures same { S.setup service.new ≡ S.setup service.old }
-    ensures more { ByEnd result
-        (λ more. MovesOn S.account S.leads R.remaining chunks.old service.old run.old (W.contents writer.old)
-        chunks.new service.new run.new (W.contents writer.new) × (run.new.answered ≡ run.old.answered)
+    ensures more { let k = serving S.account S.leads O.puts O.tears in
+        let x = at service.old run.old outlet.old in
+        let y = at service.new run.new outlet.new in ByEnd result
+        (λ more. MovesOn k R.remaining chunks.old x chunks.new y × (run.new.answered ≡ run.old.answered)
         × (more ≡ false → IsLast R.remaining chunks.new) × ComesNearer (from_bool more) R.remaining chunks.old chunks.new)
-        ⊥
-        (AnswersWhole S.account S.leads R.remaining chunks.old service.old run.old (W.contents writer.old)
-        chunks.new service.new run.new (W.contents writer.new))
-        (OfEachServed S.account S.leads R.remaining chunks.old service.old run.old (W.contents writer.old) (λ first old input.
-        WrotePrefix ((S.account first 1).text AtEnd) old (W.contents writer.new) (input_records input))) }
+        ⊥ (Stalls k R.remaining chunks.old x chunks.new y)
+        ((later : List (List (List ℕ))) → HasPending R.remaining chunks.old later → O.tears (coming k x AtEnd later) outlet.old outlet.new) }
 {
-    settle(service, &mut run.reply, writer)?;
+    settle(service, run, outlet)?;
     match chunks.fill(&run.reply.sink) {
         Ok(more) => Ok(more),
         Err(ChunkFault::Read) => Err(RunFault::Read),
@@ -97,27 +93,25 @@ pub(crate) fn ask_for_more<S: Service, R: Read, W: Write>(
     }
 }
 
-/// Ends a run whose records are all answered: has the service give its last answers, and writes out all that waits.
+/// Ends a run whose records are all answered: has the service give its last answers, and puts all that waits.
 ///
 /// # Errors
 ///
-/// `Write` where the writer failed, and `Memory` if memory ran out: a prefix of the text was written then.
-pub(crate) fn end<S: Service, W: Write>(
+/// `Write` if some of it couldn't be put, and `Memory` if memory ran out.
+pub(crate) fn end<S: Service, O: Outlet>(
     service: &mut S,
     run: &mut Served,
-    writer: &mut W,
+    outlet: &mut O,
 ) -> Result<Count, RunFault>
     requires { S.shares }
     ensures same { S.setup service.new ≡ S.setup service.old }
-    ensures ended { ByEnd result
-        (λ count. OfEachLast S.account S.leads service.old run.old (W.contents writer.old) (λ first old records.
-        AnswersAll S.account S.leads run.old.answered first service.new old (W.contents writer.new) records count.records))
-        ⊥ ⊥
-        (OfEachLast S.account S.leads service.old run.old (W.contents writer.old) (λ first old records.
-        WrotePrefix ((S.account first 1).text AtEnd) old (W.contents writer.new) records)) }
+    ensures ended { let k = serving S.account S.leads O.puts O.tears in
+        let x = at service.old run.old outlet.old in ByEnd result
+        (λ count. Closes k run.old.answered [] x service.new outlet.new count.records)
+        ⊥ ⊥ (O.tears (coming k x AtEnd []) outlet.old outlet.new) }
 {
     service.answer_end(&mut run.reply)?;
-    run.reply.sink.close(writer)?;
+    outlet.put_all(&mut run.reply.sink)?;
     Ok(Count {
         records: run.answered,
     })

@@ -1,11 +1,13 @@
 //! A run of a service over the chunks of a text.
 
-ghost use Rattle.std.specs.Prelude.{◌≡◌, ◌≤◌, ◌<◌, ◌+◌, ◌-◌, ◌^◌, ℕ, List, OnOk, drop};
+ghost use Rattle.std.specs.Prelude.{◌≡◌, ◌≤◌, ◌<◌, ◌+◌, ◌-◌, ◌∷◌, ◌^◌, [], ℕ, List, OnOk, drop};
+ghost use Rattle.rubis_engine.specs.Progress.{ByEnd};
 ghost use Rattle.rubis_engine.specs.Reading.{Gives};
+ghost use Rattle.rubis_engine.specs.Text.{input_records};
 ghost use Rattle.rubis_reading.specs.Chunked.{HasAll, IsChunk, IsLast, held_text};
-ghost use Rattle.rubis_serving.specs.Serving.{Finishes, OfEachNext, OfEachPiece, OfEachYet, PieceEnds, RecordEnds, Turns};
-ghost use Rattle.rubis_serving.specs.Whole.{EndsLed};
+ghost use Rattle.rubis_serving.specs.Serving.{AreAnswered, Finishes, RecordsEnd, Tears, Turns, at, serving, EndsLed};
 
+use crate::outlets::Outlet;
 use crate::pieces::{Served, ask_for_more, end, settle};
 use rubis_engine::{Count, Course, InputRecord, Records, RunFault, Service};
 use rubis_reading::Chunks;
@@ -19,30 +21,31 @@ const PAST_ALL_PIECES: RunFault = RunFault::Memory;
 
 // Answers a record. `None` if the run goes on, otherwise how many records were read.
 #[inline(always)]
-fn answer_record<S: Service, W: Write>(
+fn answer_record<S: Service, O: Outlet>(
     fields: &InputRecord,
     service: &mut S,
     run: &mut Served,
-    writer: &mut W,
+    outlet: &mut O,
 ) -> Result<Option<Count>, RunFault>
     requires room { run.old.answered + 1 < 2 ^ 64 }
     requires shares { S.shares }
     ensures same { S.setup service.new ≡ S.setup service.old }
-    ensures answered { RecordEnds S.account S.leads (run.old.answered + 1) service.new run.new
-        (OfEachNext S.account S.leads fields.now service.old run.old (W.contents writer.old)) (W.contents writer.new) result }
+    ensures answered { let k = serving S.account S.leads O.puts O.tears in
+        let x = at service.old run.old outlet.old in ByEnd result
+        (AreAnswered k (run.old.answered + 1) (fields.now ∷ []) x (at service.new run.new outlet.new)) ⊥ ⊥ (Tears k (fields.now ∷ []) x outlet.new) }
 {
     run.reply.number = run.answered + 1;
-    let course = service.answer(fields, &mut run.reply, writer)?;
+    let course = outlet.answer(service, fields, &mut run.reply)?;
     run.answered += 1;
     match course {
         Course::Ends => {
-            run.reply.sink.close(writer)?;
+            outlet.put_all(&mut run.reply.sink)?;
             Ok(Some(Count {
                 records: run.answered,
             }))
         }
         Course::GoesOn => {
-            run.reply.sink.drain_full(writer)?;
+            outlet.put_full(&mut run.reply.sink)?;
             Ok(None)
         }
     }
@@ -50,19 +53,19 @@ fn answer_record<S: Service, W: Write>(
 
 // Answers the records of a piece of text until one ends the run, unless that makes more than `limit` of them: the first `limit` are
 // answered then. `None` if the run goes on, otherwise how many records were read.
-fn answer_records<S: Service, R: Read, W: Write>(
+fn answer_records<S: Service, R: Read, O: Outlet>(
     piece: &mut Records<R>,
     service: &mut S,
     run: &mut Served,
-    writer: &mut W,
+    outlet: &mut O,
     limit: u64,
 ) -> Result<Option<Count>, RunFault>
     requires within { run.old.answered ≤ limit }
     requires known { (rows : List (List (List ℕ))) × Gives R.remaining piece.old rows }
     requires shares { S.shares }
     ensures same { S.setup service.new ≡ S.setup service.old }
-    ensures answered { PieceEnds S.account S.leads limit service.new run.new
-        (OfEachYet S.account S.leads R.remaining piece.old service.old run.old (W.contents writer.old)) (W.contents writer.new) result }
+    ensures answered { (rows : List (List (List ℕ))) → Gives R.remaining piece.old rows
+        → RecordsEnd (serving S.account S.leads O.puts O.tears) limit rows (at service.old run.old outlet.old) (at service.new run.new outlet.new) result }
 {
     'records: loop {
         let Ok(found) = piece.advance() else {
@@ -72,53 +75,58 @@ fn answer_records<S: Service, R: Read, W: Write>(
             return Ok(None);
         }
         if run.answered >= limit {
-            settle(service, &mut run.reply, writer)?;
+            settle(service, run, outlet)?;
             return Err(RunFault::TooLong);
         }
-        if let Some(count) = answer_record(piece.fields(), service, run, writer)? {
+        if let Some(count) = answer_record(piece.fields(), service, run, outlet)? {
             return Ok(Some(count));
         }
     }
 }
 
-// The same of the records of a text.
+/// Answers the records of a text until one ends the run, up to `limit` of all. `None` if the run goes on, otherwise how many records were
+/// read.
+///
+/// # Errors
+///
+/// Those of `turn`, but for `Read`.
 #[inline(never)]
-fn answer_piece<S: Service, W: Write>(
+pub fn answer_piece<S: Service, O: Outlet>(
     text: &[u8],
     service: &mut S,
     run: &mut Served,
-    writer: &mut W,
+    outlet: &mut O,
     limit: u64,
 ) -> Result<Option<Count>, RunFault>
     requires within { run.old.answered ≤ limit }
     requires shares { S.shares }
     ensures same { S.setup service.new ≡ S.setup service.old }
-    ensures answered { PieceEnds S.account S.leads limit service.new run.new
-        (OfEachPiece S.account S.leads text.now service.old run.old (W.contents writer.old)) (W.contents writer.new) result }
+    ensures answered { RecordsEnd (serving S.account S.leads O.puts O.tears) limit (input_records text.now)
+        (at service.old run.old outlet.old) (at service.new run.new outlet.new) result }
 {
     let mut piece = Records::new(run.alloc, text);
-    answer_records(&mut piece, service, run, writer, limit)
+    answer_records(&mut piece, service, run, outlet, limit)
 }
 
 // Answers what is held, which is the rest of the text, and ends the run.
-fn finish<S: Service, R: Read, W: Write>(
+fn finish<S: Service, R: Read, O: Outlet>(
     chunks: &Chunks<R>,
     service: &mut S,
     run: &mut Served,
-    writer: &mut W,
+    outlet: &mut O,
     limit: u64,
 ) -> Result<Count, RunFault>
     requires within { run.old.answered ≤ limit }
     requires last { IsLast R.remaining chunks.now }
     requires shares { S.shares }
     ensures same { S.setup service.new ≡ S.setup service.old }
-    ensures ended { Finishes S.account S.leads limit R.remaining chunks.now service.old run.old (W.contents writer.old)
-        chunks.now service.new run.new (W.contents writer.new) result }
+    ensures ended { Finishes (serving S.account S.leads O.puts O.tears) limit R.remaining chunks.now
+        (at service.old run.old outlet.old) chunks.now (at service.new run.new outlet.new) result }
 {
-    if let Some(count) = answer_piece(chunks.held(), service, run, writer, limit)? {
+    if let Some(count) = answer_piece(chunks.held(), service, run, outlet, limit)? {
         return Ok(count);
     }
-    end(service, run, writer)
+    end(service, run, outlet)
 }
 
 /// Answers the records of the first `many` bytes that are held, and hands these on. `None` if the run goes on, otherwise how many records
@@ -127,11 +135,11 @@ fn finish<S: Service, R: Read, W: Write>(
 /// # Errors
 ///
 /// Those of `turn`, but for `Read`.
-pub fn answer_front<S: Service, R: Read, W: Write>(
+pub fn answer_front<S: Service, R: Read, O: Outlet>(
     chunks: &mut Chunks<R>,
     service: &mut S,
     run: &mut Served,
-    writer: &mut W,
+    outlet: &mut O,
     many: usize,
     limit: u64,
 ) -> Result<Option<Count>, RunFault>
@@ -139,12 +147,12 @@ pub fn answer_front<S: Service, R: Read, W: Write>(
     requires within { run.old.answered ≤ limit }
     requires shares { S.shares }
     ensures same { S.setup service.new ≡ S.setup service.old }
-    ensures turns { Turns S.account S.leads limit R.remaining chunks.old service.old run.old (W.contents writer.old)
-        chunks.new service.new run.new (W.contents writer.new) result }
+    ensures turns { Turns (serving S.account S.leads O.puts O.tears) limit R.remaining chunks.old
+        (at service.old run.old outlet.old) chunks.new (at service.new run.new outlet.new) result }
     ensures held { OnOk result (held_text chunks.new ≡ drop (many - 1) (held_text chunks.old)) }
 {
     let (text, _) = chunks.held().split_at(many);
-    let over = answer_piece(text, service, run, writer, limit)?;
+    let over = answer_piece(text, service, run, outlet, limit)?;
     chunks.pass(many);
     Ok(over)
 }
@@ -159,46 +167,46 @@ pub fn answer_front<S: Service, R: Read, W: Write>(
 /// `Read` if the reader failed: the records that came whole are answered then, as if there were no more. `Write` if the writer failed,
 /// and `Memory` if memory ran out: what was written is a prefix of the whole text. `TooLong` if the text has more than `limit` records
 /// and none of the first `limit` ends the run: these are answered then.
-pub fn turn<S: Service, R: Read, W: Write>(
+pub fn turn<S: Service, R: Read, O: Outlet>(
     chunks: &mut Chunks<R>,
     service: &mut S,
     run: &mut Served,
-    writer: &mut W,
+    outlet: &mut O,
     most: usize,
     limit: u64,
 ) -> Result<Option<Count>, RunFault>
     requires within { run.old.answered ≤ limit }
     requires shares { S.shares }
     ensures same { S.setup service.new ≡ S.setup service.old }
-    ensures turns { Turns S.account S.leads limit R.remaining chunks.old service.old run.old (W.contents writer.old)
-        chunks.new service.new run.new (W.contents writer.new) result }
+    ensures turns { Turns (serving S.account S.leads O.puts O.tears) limit R.remaining chunks.old
+        (at service.old run.old outlet.old) chunks.new (at service.new run.new outlet.new) result }
 {
     let many = chunks.whole(most);
     if many > 1 {
-        return answer_front(chunks, service, run, writer, many, limit);
+        return answer_front(chunks, service, run, outlet, many, limit);
     }
-    if ask_for_more(chunks, service, run, writer)? {
+    if ask_for_more(chunks, service, run, outlet)? {
         return Ok(None);
     }
-    let count = finish(chunks, service, run, writer, limit)?;
+    let count = finish(chunks, service, run, outlet, limit)?;
     Ok(Some(count))
 }
 
 // Answers records until there are no more or one ends the run, or up to `limit` of them.
-fn serve<S: Service, R: Read, W: Write>(
+fn serve<S: Service, R: Read, O: Outlet>(
     chunks: &mut Chunks<R>,
     service: &mut S,
     run: &mut Served,
-    writer: &mut W,
+    outlet: &mut O,
     limit: u64,
 ) -> Result<Count, RunFault>
     requires within { run.old.answered ≤ limit }
     requires shares { S.shares }
-    ensures { Finishes S.account S.leads limit R.remaining chunks.old service.old run.old (W.contents writer.old)
-        chunks.new service.new run.new (W.contents writer.new) result }
+    ensures { Finishes (serving S.account S.leads O.puts O.tears) limit R.remaining chunks.old
+        (at service.old run.old outlet.old) chunks.new (at service.new run.new outlet.new) result }
 {
     'pieces: for _ in 0..u64::MAX {
-        if let Some(count) = turn(chunks, service, run, writer, usize::MAX, limit)? {
+        if let Some(count) = turn(chunks, service, run, outlet, usize::MAX, limit)? {
             return Ok(count);
         }
     }

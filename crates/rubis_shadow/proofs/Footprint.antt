@@ -1,13 +1,29 @@
 -- The keys of a shadow's parts, place by place.
-use Rattle.std.proofs.Common.{◌≡◌, ◌≤◌, List, [], ◌∷◌, ◌++◌, length, map, refl, ◌∙◌, arith}
-use Rattle.std.specs.Option.{option_to_list}
-use Rattle.std.specs.Prelude.{Option, option_map, slice_get}
+use Rattle.std.proofs.Common.{◌≡◌, ℕ, ◌+◌, ◌≤◌, List, ◌∷◌, drop, length, ap, ◌∙◌, arith, [], ◌++◌, map, refl}
+use Rattle.std.specs.Prelude.{Some, slice_get, Option, option_map}
+use Rattle.std.proofs.lemmas.List.{drop_more}
+use Rattle.std.proofs.lemmas.Option.{slice_get_within, get_or_from_slice_get}
 use Rattle.rubis_schema.specs.declared.ids.Id.{Id}
-use Rattle.rubis_schema.specs.declared.row_keys.RowKey.{RowKey}
-use Rattle.rubis_shadow.specs.Shadows.{footprint_of, key_of, parts}
+use Rattle.rubis_shadow.specs.Shadows.{parts, footprint_of, key_of}
 use Rattle.rubis_shadow.specs.declared.keyed_change.Effect.{Effect}
+use Rattle.rubis_shadow.specs.declared.parts.TheConstants.{PARTS_MAX}
 use Rattle.rubis_shadow.specs.declared.shadows.Shadow.{Shadow}
-use Rattle.rubis_shadow.proofs.Lists.{few_parts}
+use Rattle.rubis_shadow.specs.declared.shadows.Shadow.TheVariants.{User}
+use Rattle.std.specs.Option.{option_to_list}
+use Rattle.rubis_schema.specs.declared.row_keys.RowKey.{RowKey}
+
+pub drop_from : {X : Type 0} (xs : List X) (i : ℕ) (x : X) → slice_get xs i ≡ Some x → drop i xs ≡ x ∷ drop (i + 1) xs
+drop_from xs i x e = drop_more xs i x (slice_get_within xs i x e) ∙ ap (λ y. y ∷ drop (i + 1) xs) (get_or_from_slice_get xs i x x e)
+
+pub few_parts : (id : Id) (red : ℕ) (s : Shadow) → length (parts id red s) ≤ PARTS_MAX
+few_parts id red (User n) = omega arith
+few_parts id red s = omega arith
+
+-- one more part was given than before
+pub one_more : (id : Id) (red : ℕ) (s : Shadow) (given : ℕ) (part : Effect) → slice_get (parts id red s) given ≡ Some part → given + 1 ≤ PARTS_MAX
+one_more id red s given part e = omega (arith, slice_get_within (parts id red s) given part e, few_parts id red s)
+
+-- ---- the keys of a shadow's parts, place by place
 
 abbrev pub keys_of : Option RowKey → Option RowKey → Option RowKey → List RowKey
 keys_of a b c = option_to_list a ++ (option_to_list b ++ option_to_list c)

@@ -17,9 +17,8 @@ use Rattle.rubis_schema.specs.declared.rows.Sale.{Sale}
 use Rattle.rubis_schema.specs.declared.rows.Sale.TheVariants.{Open, Ended}
 use Rattle.rubis_schema.specs.declared.rows.ItemRow.{ItemRow}
 use Rattle.rubis_shadow.specs.Changes.{Done, change_row, after_part, with_row, better, if_open, misfits_as, removed}
-use Rattle.rubis_shadow.specs.Limits.{RowInLimits, AllInLimits}
+use Rattle.rubis_shadow.specs.Tables.{RowInLimits, AllInLimits, categories_from, new_category, opening}
 use Rattle.rubis_shadow.specs.Shadows.{InLimits, parts}
-use Rattle.rubis_shadow.specs.Tables.{categories_from, new_category, opening}
 use Rattle.rubis_shadow.specs.declared.changes.Change.{Change}
 use Rattle.rubis_shadow.specs.declared.changes.Change.TheVariants.{Insert, BidTaken, Sold, End, NickFreed}
 use Rattle.rubis_shadow.specs.declared.keyed_change.Effect.{Effect}

@@ -1,7 +1,5 @@
-pub mod Lists
 pub mod Footprint
 pub mod Rows
-pub mod Categories
 pub mod InLimits
 pub mod Entries
 pub mod Listed

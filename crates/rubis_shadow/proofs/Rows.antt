@@ -1,5 +1,8 @@
--- Entries of a map as tables, and what one change does to them.
-use Rattle.std.proofs.Common.{◌≡◌, rules, refl, sym, ap, ◌∙◌, List, [], ◌∷◌, Bool, true, false, cond}
+-- Entries of a map as tables, in key order, and what one change does to them.
+use Rattle.std.proofs.Common.{◌≡◌, ℕ, ◌+◌, ◌-◌, ◌<◌, ◌≤◌, suc, ◌∷◌, refl, ap, ◌∙◌, arith, rules, sym, List, [], Bool, true, false, cond}
+use Rattle.rubis_schema.specs.declared.limits.TheConstants.{CATEGORIES}
+use Rattle.rubis_schema.specs.declared.row_keys.RowKey.TheVariants as key
+use Rattle.rubis_shadow.specs.Tables.{categories_from, new_category}
 use Rattle.std.specs.Bool.{MatchBool}
 use Rattle.std.specs.Prelude.{Some, None, Option, is_none}
 use Rattle.std.specs.Ordering.{eq_by_cmp}
@@ -17,6 +20,19 @@ use Rattle.rubis_shadow.specs.declared.changes.Change.TheVariants.{Insert}
 use Rattle.rubis_shadow.specs.declared.changes.MisfitKind.TheVariants.{RowThere, NoRow}
 use Rattle.rubis_shadow.specs.declared.keyed_change.Effect.{Effect}
 use Rattle.rubis_shadow.specs.declared.changes.MisfitKind.{MisfitKind}
+
+first_of : (k n : ℕ) → categories_from k (suc n) ≡ (key.Cat k, new_category) ∷ categories_from (k + 1) n
+unfolding categories_from
+first_of k n = refl
+
+pub categories_more : (k : ℕ) → 0 < k → k ≤ CATEGORIES → categories_from (k - 1) (CATEGORIES - (k - 1))
+    ≡ (key.Cat (k - 1), new_category) ∷ categories_from k (CATEGORIES - k)
+categories_more k low high =
+    let more : CATEGORIES - (k - 1) ≡ suc (CATEGORIES - k) = omega arith in
+    let next : k - 1 + 1 ≡ k = omega arith in
+    ap (categories_from (k - 1)) more ∙ first_of (k - 1) (CATEGORIES - k) ∙ ap (λ j. (key.Cat (k - 1), new_category) ∷ categories_from j (CATEGORIES - k)) next
+
+-- ---- entries of a map as tables, and what one change does to them
 
 -- a list of entries as tables
 abbrev pub tables_of : List (RowKey × Row) → Tables

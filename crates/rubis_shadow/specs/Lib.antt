@@ -3,5 +3,3 @@ pub mod Shadows
 pub mod Tables
 pub mod Freed
 pub mod Changes
-pub mod Limits
-pub mod BoxedRows

@@ -6,7 +6,7 @@ ghost use Rattle.rubis_shadow.specs.declared.shadows.Shadow.TheVariants as Shado
 ghost use Rattle.rubis_shadow.specs.Shadows.{key_of, new_item, new_user, parts, refers_of, winner_key};
 ghost use Rattle.rubis_shadow.specs.Changes.{change_of};
 ghost use Rattle.rubis_shadow.specs.Freed.{FreesOnlyNicks, FreesOnlyNicks-prop};
-ghost use Rattle.rubis_shadow.specs.BoxedRows.{HasBoxedRow, boxed_row_in};
+ghost use Rattle.rubis_shadow.specs.Tables.{HasBoxedRow, boxed_row_in};
 ghost use Rattle.rubis_schema.specs.declared.rows.Row.TheVariants as rows;
 
 use crate::changes::Change;

@@ -3,8 +3,7 @@ use Rattle.std.proofs.Common.{◌≡◌, ℕ, Bool, true, false, cond, List, [],
 use Rattle.std.specs.Prelude.{filter}
 use Rattle.std.specs.FinMap as map
 use Rattle.std.proofs.lemmas.List.Elements.{filter-append}
-use Rattle.rubis_schema.specs.IdKeys.{row_key}
-use Rattle.rubis_schema.specs.Keys.{holds}
+use Rattle.rubis_schema.specs.Keys.{row_key, holds}
 use Rattle.rubis_schema.specs.declared.id_keys.IdKey.{IdKey}
 use Rattle.rubis_schema.specs.declared.id_keys.IdTable.TheVariants as ids
 use Rattle.rubis_schema.specs.declared.row_keys.RowKey.{RowKey}
@@ -13,7 +12,7 @@ use Rattle.rubis_schema.specs.declared.row_keys.Table.TheVariants as table
 use Rattle.rubis_schema.specs.declared.rows.Row.{Row}
 use Rattle.rubis_shard.specs.Listed.{categories_among, categories_of, shown_among, shows}
 use Rattle.rubis_shard.specs.Rows.{entries_of, kept_of}
-use Rattle.rubis_shard.specs.Written.{written}
+use Rattle.rubis_shard.specs.Chains.{written}
 use Rattle.rubis_shard.specs.declared.row_map.Rows.{Rows}
 use Rattle.rubis_shard.proofs.InMaps.{Entries}
 use Rattle.rubis_shard.proofs.Openings.{none_there}

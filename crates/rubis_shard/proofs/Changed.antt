@@ -5,7 +5,7 @@ use Rattle.std.specs.FinMap as map
 use Rattle.std.specs.List.{AllByRecursion}
 use Rattle.std.specs.Map.{lookup}
 use Rattle.indexmap.specs.IndexMap.{insert_entry}
-use Rattle.rubis_schema.specs.IdKeys.{row_key, same_id_key}
+use Rattle.rubis_schema.specs.Keys.{row_key, same_id_key}
 use Rattle.rubis_schema.specs.declared.id_keys.IdKey.{IdKey}
 use Rattle.rubis_schema.specs.Tables.{Tables}
 use Rattle.rubis_schema.specs.declared.row_keys.RowKey.{RowKey}
@@ -23,9 +23,8 @@ use Rattle.rubis_shadow.specs.declared.keyed_change.Effect.{Effect}
 use Rattle.rubis_shadow.specs.declared.changes.Fate.{Fate}
 use Rattle.rubis_shadow.specs.declared.changes.MisfitKind.TheVariants.{StockShort}
 use Rattle.rubis_shadow.proofs.Rows.{after_alter, misfit_alter, after_none, misfit_none, remove_none, not_insert, none_of, row_stays}
-use Rattle.rubis_shard.specs.Chains.{chains_of, IsLinkedSoFar}
+use Rattle.rubis_shard.specs.Chains.{chains_of, IsLinkedSoFar, written}
 use Rattle.rubis_shard.specs.Rows.{no_row, IsAltered, IsChanged}
-use Rattle.rubis_shard.specs.Written.{written}
 use Rattle.rubis_shard.specs.declared.chains.Chains.{Chains}
 use Rattle.rubis_shard.proofs.InMaps.{all_set, new_last}
 use Rattle.rubis_shard.proofs.Linking.{chain_stays, chains_pushed, chains_set, linked_more}

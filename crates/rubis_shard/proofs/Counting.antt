@@ -14,11 +14,11 @@ use Rattle.rubis_schema.specs.declared.row_keys.RowKey.{RowKey}
 use Rattle.rubis_schema.specs.declared.row_keys.RowKey.TheVariants as key
 use Rattle.rubis_schema.specs.declared.rows.Row.{Row}
 use Rattle.rubis_shadow.proofs.Rows.{tables_of, get_tables_of}
-use Rattle.rubis_shard.specs.Counted.{is_recorded, recorded_from, recorded_of}
+use Rattle.rubis_shard.specs.Listed.{is_recorded, recorded_from, recorded_of}
 use Rattle.rubis_shard.specs.Holdings.{AreInOrder, union}
 use Rattle.rubis_shard.specs.Rows.{entries_of as entries_in, kept_of}
 use Rattle.rubis_shard.specs.States.{ShardState}
-use Rattle.rubis_shard.specs.Written.{written}
+use Rattle.rubis_shard.specs.Chains.{written}
 use Rattle.rubis_shard.specs.declared.row_map.Rows.{Rows}
 use Rattle.rubis_shard.proofs.Listing.{all_distinct}
 use Rattle.rubis_shard.proofs.Openings.{none_there}

@@ -3,16 +3,14 @@ use Rattle.std.proofs.Common.{◌≡◌, Bool, true, false, List, [], ◌∷◌,
 use Rattle.std.specs.List.{AllByRecursion, IsDistinct}
 use Rattle.std.specs.Map.{keys_of}
 use Rattle.rubis_schema.specs.IdKeyLaws.{same_id_key, same_as_row_keys}
-use Rattle.rubis_schema.specs.IdKeys.{row_key}
-use Rattle.rubis_schema.specs.Keys.{key_eq}
+use Rattle.rubis_schema.specs.Keys.{row_key, key_eq}
 use Rattle.rubis_schema.specs.declared.id_keys.IdKey.{IdKey}
 use Rattle.rubis_schema.specs.declared.row_keys.RowKey.{RowKey}
 use Rattle.rubis_schema.specs.declared.row_keys.RowKey.TheVariants as key
 use Rattle.rubis_schema.specs.declared.rows.Row.{Row}
 use Rattle.std.specs.Prelude.{bytes_eq, nat_eq}
-use Rattle.rubis_shard.specs.MapKeys.{is_user, AreOthers, AreUsers}
+use Rattle.rubis_shard.specs.Chains.{is_user, AreOthers, AreUsers, written}
 use Rattle.rubis_shard.specs.Rows.{entries_of}
-use Rattle.rubis_shard.specs.Written.{written}
 use Rattle.rubis_shard.specs.declared.row_map.Rows.{Rows}
 use Rattle.rubis_shard.proofs.InMaps.{Entries, nick_of_key, cat_of_key, user_apart}
 

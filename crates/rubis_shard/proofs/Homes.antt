@@ -1,6 +1,5 @@
 -- One message folded on the shards of a set, home by home.
-use Rattle.std.proofs.Common.{◌≡◌, ℕ, zero, suc, ◌+◌, ◌<◌, ◌≤◌, List, [], ◌∷◌, length, get_or, set, refl, sym, ap, ◌∙◌, subst}
-use Rattle.std.proofs.Common.{arith, cond, length-set, ⊎_elim}
+use Rattle.std.proofs.Common.{◌≡◌, ℕ, zero, suc, ◌+◌, ◌<◌, ◌≤◌, List, [], ◌∷◌, length, get_or, set, refl, sym, ap, ◌∙◌, subst, arith, cond, length-set, ⊎_elim}
 use Rattle.std.specs.Prelude.{None, Option, Some, slice_get, Result, Ok, Err, OnOk, OnErr}
 use Rattle.std.proofs.lemmas.Bool.{cases_eq, cases_lt}
 use Rattle.std.proofs.lemmas.List.{append-nil, set-get_or}
@@ -9,18 +8,16 @@ use Rattle.rubis_schema.specs.Keys.{home}
 use Rattle.rubis_schema.specs.declared.ids.Id.{Id}
 use Rattle.rubis_shadow.specs.declared.keyed_change.Effect.{Effect}
 use Rattle.rubis_shadow.specs.declared.numbered.Numbered.{Numbered}
-use Rattle.rubis_shadow.proofs.Lists.{few_parts}
+use Rattle.rubis_shadow.proofs.Footprint.{few_parts}
 use Rattle.rubis_model.specs.Log.{Core, Folded, fold_on, number_parts, parts_of, share}
 use Rattle.rubis_model.specs.Shares.{part_of}
 use Rattle.rubis_shard.specs.States.{ShardState, with_parts}
-use Rattle.rubis_shard.specs.Holdings.{home_or, shard_of_log, parts_at, AreInOrder, FoldsOn, TakesOn}
-use Rattle.rubis_shard.specs.Messages.{FoldsFrom, emptied, list_of}
-use Rattle.rubis_shard.specs.PartHomes.{NoneAt}
+use Rattle.rubis_shard.specs.Holdings.{home_or, shard_of_log, parts_at, AreInOrder, FoldsOn, TakesOn, FoldsFrom, emptied, list_of, NoneAt}
 use Rattle.rubis_shard.specs.declared.part_homes.PartHomes.{PartHomes}
 use Rattle.rubis_shard.proofs.Folds.{not_equal}
 use Rattle.rubis_shard.proofs.Logs.{shard_with_share}
 use Rattle.rubis_shard.proofs.Parts.{none_of_all, own_after}
-use Rattle.rubis_shard.proofs.Items.{written_here, written_elsewhere}
+use Rattle.rubis_shard.proofs.Picked.{written_here, written_elsewhere}
 
 set_twice : {X : Type 0} (xs : List X) (i : ℕ) (x y : X) → set (set xs i y) i x ≡ set xs i x
 set_twice [] i x y = refl

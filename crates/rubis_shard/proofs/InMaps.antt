@@ -5,10 +5,9 @@ use Rattle.std.proofs.lemmas.Bool.{false≢true}
 use Rattle.std.specs.List.{AllByRecursion}
 use Rattle.std.specs.Map.{lookup, set_value}
 use Rattle.rubis_schema.specs.IdKeyLaws.{same_id_key, same_as_row_keys}
-use Rattle.rubis_schema.specs.IdKeys.{row_key}
+use Rattle.rubis_schema.specs.Keys.{row_key, key_eq}
 use Rattle.indexmap.specs.IndexMap.{insert_entry}
 use Rattle.rubis_schema.specs.KeyLaws.{Decides-key_eq}
-use Rattle.rubis_schema.specs.Keys.{key_eq}
 use Rattle.rubis_schema.specs.Tables.{Tables}
 use Rattle.rubis_schema.specs.declared.id_keys.IdKey.{IdKey}
 use Rattle.rubis_schema.specs.declared.id_keys.IdTable.TheVariants as table
@@ -18,8 +17,7 @@ use Rattle.rubis_schema.specs.declared.rows.Row.{Row}
 use Rattle.rubis_shadow.proofs.Rows.{tables_of, get_tables_of, tables_of_update, tables_of_remove}
 use Rattle.rubis_shadow.specs.Changes.{with_row}
 use Rattle.rubis_shadow.specs.Freed.{IsNick}
-use Rattle.rubis_shard.specs.MapKeys.{is_user, key_at, AreOthers, AreUsers, IsPlaced}
-use Rattle.rubis_shard.specs.Written.{written}
+use Rattle.rubis_shard.specs.Chains.{is_user, key_at, AreOthers, AreUsers, IsPlaced, written}
 use Rattle.rubis_shard.specs.declared.map_keys.MapPlace.{MapPlace}
 use Rattle.rubis_shard.specs.declared.map_keys.MapPlace.TheVariants as place
 use Rattle.rubis_shard.specs.declared.row_map.Rows.{Rows}

@@ -1,6 +1,6 @@
 pub mod Openings
 pub mod Folds
-pub mod Items
+pub mod Picked
 pub mod InMaps
 pub mod Logs
 pub mod Unions
@@ -8,15 +8,11 @@ pub mod Parts
 pub mod Homes
 pub mod Single
 pub mod Listing
-pub mod Picked
 pub mod Counting
 pub mod Linking
-pub mod Walking
 pub mod Distinct
 pub mod Categories
 pub mod OneTable
-pub mod Shown
 pub mod Shuffled
-pub mod ListedKeys
 pub mod Changed
 pub mod Grouped

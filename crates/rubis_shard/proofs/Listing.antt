@@ -1,6 +1,5 @@
 -- The rows of one table, shard by shard, put in key order, are those of the union.
-use Rattle.std.proofs.Common.{◌≡◌, ℕ, ◌+◌, ◌<◌, ◌≤◌, Bool, true, false, cond, refl, sym, ap, ◌∙◌, subst, arith, List, [], ◌∷◌}
-use Rattle.std.proofs.Common.{◌++◌, length}
+use Rattle.std.proofs.Common.{◌≡◌, ℕ, ◌+◌, ◌<◌, ◌≤◌, Bool, true, false, cond, refl, sym, ap, ◌∙◌, subst, arith, List, [], ◌∷◌, ◌++◌, length}
 use Rattle.std.specs.Prelude.{T, None, ◌&&◌, nat_eq, filter, flat_map}
 use Rattle.std.specs.List.{AllByRecursion, IsDistinct}
 use Rattle.std.specs.List.Sorted.{IsPermutation, IsSortedByKey}
@@ -22,8 +21,7 @@ use Rattle.rubis_shadow.specs.Tables.{rows_of}
 use Rattle.rubis_shadow.proofs.Entries.{first_of}
 use Rattle.rubis_shadow.proofs.Listed.{rows_listed}
 use Rattle.rubis_model.specs.Shares.{part_of}
-use Rattle.rubis_model.proofs.Commute.{same_tables}
-use Rattle.rubis_model.proofs.Shares.{get-part_of}
+use Rattle.rubis_model.proofs.Shares.{same_tables, get-part_of}
 use Rattle.rubis_shard.specs.States.{ShardState}
 use Rattle.rubis_shard.specs.Holdings.{AreInOrder, union}
 use Rattle.rubis_shard.proofs.Unions.{AreFrom, entries_of, from_rest, from_first}

@@ -5,8 +5,7 @@ use Rattle.std.specs.List.{AllByRecursion}
 use Rattle.std.proofs.lemmas.Bool.{false≢true}
 use Rattle.std.proofs.lemmas.List.{append-nil, take-append-drop}
 use Rattle.std.proofs.lemmas.List.Elements.{filter-append}
-use Rattle.rubis_schema.specs.IdKeys.{row_key}
-use Rattle.rubis_schema.specs.Keys.{holds}
+use Rattle.rubis_schema.specs.Keys.{row_key, holds}
 use Rattle.rubis_schema.specs.declared.id_keys.IdKey.{IdKey}
 use Rattle.rubis_schema.specs.declared.id_keys.IdTable.{IdTable}
 use Rattle.rubis_schema.specs.declared.id_keys.IdTable.TheVariants as table
@@ -17,11 +16,9 @@ use Rattle.rubis_schema.specs.declared.row_keys.Table.{Table}
 use Rattle.rubis_schema.specs.declared.row_keys.Table.TheVariants as tables
 use Rattle.rubis_schema.specs.declared.rows.Row.{Row}
 use Rattle.rubis_model.specs.Listings.{is_of}
-use Rattle.rubis_shard.specs.Listed.{listed_among}
-use Rattle.rubis_shard.specs.ListedRows.{table_with}
-use Rattle.rubis_shard.specs.MapKeys.{is_user, AreOthers, AreUsers}
+use Rattle.rubis_shard.specs.Listed.{listed_among, table_with}
+use Rattle.rubis_shard.specs.Chains.{is_user, AreOthers, AreUsers, written}
 use Rattle.rubis_shard.specs.Rows.{entries_of, kept_of, rows_with}
-use Rattle.rubis_shard.specs.Written.{written}
 use Rattle.rubis_shard.specs.declared.row_map.Rows.{Rows}
 use Rattle.rubis_shard.proofs.InMaps.{Entries}
 

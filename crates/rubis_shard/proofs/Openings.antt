@@ -13,12 +13,11 @@ use Rattle.rubis_schema.specs.declared.rows.Row.{Row}
 use Rattle.rubis_shadow.specs.Tables.{categories_from, new_category, rows_of}
 use Rattle.rubis_shadow.proofs.Rows.{get_tables_of}
 use Rattle.rubis_model.specs.Shares.{part_of}
-use Rattle.rubis_model.proofs.Commute.{same_tables}
-use Rattle.rubis_model.proofs.Shares.{get-part_of, part_with_row}
+use Rattle.rubis_model.proofs.Shares.{same_tables, get-part_of, part_with_row}
 use Rattle.rubis_shard.specs.Listed.{listed_of, picked_by}
-use Rattle.rubis_shard.specs.Stores.{held_in, nothing_held}
+use Rattle.rubis_shard.specs.States.{held_in, nothing_held}
 use Rattle.rubis_shard.specs.declared.shard_store.Store.{Store}
-use Rattle.rubis_shard.proofs.Items.{no_items}
+use Rattle.rubis_shard.proofs.Picked.{no_items}
 use Rattle.std.proofs.lemmas.Bool.Decides.{Decides-eqb}
 
 other_number : (a b : ℕ) → ¬ (a ≡ b) → nat_eq a b ≡ false

@@ -7,13 +7,11 @@ use Rattle.rubis_schema.specs.declared.ids.Id.{Id}
 use Rattle.rubis_shadow.specs.declared.numbered.Numbered.{Numbered}
 use Rattle.rubis_shadow.specs.declared.keyed_change.Effect.{Effect}
 use Rattle.rubis_shadow.specs.declared.parts.TheConstants.{PARTS_MAX}
-use Rattle.rubis_shadow.proofs.Lists.{few_parts}
+use Rattle.rubis_shadow.proofs.Footprint.{few_parts}
 use Rattle.rubis_model.specs.Log.{Folded, fold_on, number_parts, parts_of}
 use Rattle.rubis_model.specs.Shares.{part_of}
 use Rattle.rubis_model.proofs.Shares.{fold_on_is, share_tables, tables_after}
-use Rattle.rubis_shard.specs.Holdings.{parts_at}
-use Rattle.rubis_shard.specs.Entries.{core_of, numbered_of}
-use Rattle.rubis_shard.specs.Messages.{at_place, list_of}
+use Rattle.rubis_shard.specs.Holdings.{parts_at, core_of, numbered_of, at_place, list_of}
 use Rattle.rubis_shard.specs.declared.entries.LogEntry.{LogEntry}
 use Rattle.rubis_shard.proofs.Openings.{part_twice}
 

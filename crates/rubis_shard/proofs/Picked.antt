@@ -1,24 +1,36 @@
 -- The rows that match a listing, put in key order.
-use Rattle.std.proofs.Common.{◌≡◌, Bool, true, false, cond, T, ◌&&◌, refl, sym, ap, ◌∙◌, subst, List, [], ◌∷◌, ◌++◌, length, ℕ, ◌+◌, ◌<◌, take}
-use Rattle.std.specs.Prelude.{None, Some, Option, filter, flat_map, slice_index_or}
+use Rattle.std.proofs.Common.{◌≡◌, ℕ, zero, suc, ◌+◌, ◌<◌, List, [], ◌∷◌, ◌++◌, length, set, refl, sym, ap, ◌∙◌, arith, length-set, get_or-set_same}
+use Rattle.std.proofs.Common.{get_or-set_other, ⊎_elim, inl, inr, ◌*◌, ◌^◌, ◌≤◌, Bool, true, false, cond, T, ◌&&◌, subst, take, map as each, Bor}
+use Rattle.std.specs.Prelude.{slice_get, Some, ◌⊎◌, None, Option, filter, flat_map, slice_index_or}
+use Rattle.std.proofs.lemmas.Option.{slice_get-get_or}
+use Rattle.std.specs.Cmp.{nat_cmp_is}
+use Rattle.std.specs.Cmp.Lexicographic.{slice_cmp}
+use Rattle.std.specs.Ordering.{nat_cmp, ordering_then, is_lt}
+use Rattle.std.specs.declared.cmp.Ordering.{Ordering}
+use Rattle.std.specs.declared.cmp.Ordering.TheVariants.{Less, Equal, Greater}
+use Rattle.std.proofs.lemmas.Bool.{cases_order}
+use Rattle.rubis_schema.specs.Keys.{key_order, holds, key_eq}
+use Rattle.rubis_schema.specs.declared.row_keys.RowKey.{RowKey}
+use Rattle.rubis_schema.specs.declared.row_keys.RowKey.TheVariants as key
+use Rattle.rubis_shard.specs.Listed.{key_number, key_place, key_seq, key_site, listed_key, place_of, FitsKey, IsListed, categories_among, categories_of}
+use Rattle.rubis_shard.specs.Listed.{listed_among, listed_of, picked_by, shows, table_with}
+use Rattle.rubis_shard.specs.declared.listed_rows.ListedTable.{ListedTable}
+use Rattle.rubis_shard.specs.declared.listed_rows.ListedTable.TheVariants as listed
 use Rattle.std.specs.List.{AllByRecursion, IsDistinct}
 use Rattle.std.specs.List.Sorted.{IsPermutation, IsSortedByKey}
 use Rattle.std.specs.Map.{keys_of, lookup}
-use Rattle.std.specs.Ordering.{is_lt}
 use Rattle.std.specs.FinMap as map
 use Rattle.std.specs.FinMap.Entries.{below_all, is_sorted}
 use Rattle.std.proofs.lemmas.Grind.{flat_map-append}
-use Rattle.std.proofs.lemmas.List.{append-nil, take_more}
+use Rattle.std.proofs.lemmas.List.{append-nil, take_more, get_or-map, length-map}
 use Rattle.std.proofs.lemmas.List.Elements.{filter-append}
 use Rattle.std.proofs.lemmas.List.Sorted.{IsPermutation-append_left, IsPermutation-append_right, IsPermutation-sym, IsPermutation-trans}
 use Rattle.std.proofs.lemmas.Map.Made.{IsDistinct-keys_filter}
-use Rattle.rubis_schema.specs.Keys.{holds, key_eq, key_order}
 use Rattle.rubis_schema.specs.KeyLaws.{Decides-key_eq}
 use Rattle.rubis_schema.specs.declared.id_keys.IdTable.{IdTable}
 use Rattle.rubis_schema.specs.Tables.{Tables}
 use Rattle.rubis_schema.specs.declared.listings.Listing.{Listing}
 use Rattle.rubis_schema.specs.declared.listings.Listing.TheVariants as listing
-use Rattle.rubis_schema.specs.declared.row_keys.RowKey.{RowKey}
 use Rattle.rubis_schema.specs.declared.row_keys.Table.{Table}
 use Rattle.rubis_schema.specs.declared.row_keys.Table.TheVariants as table
 use Rattle.rubis_schema.specs.declared.rows.Row.{Row}
@@ -28,10 +40,8 @@ use Rattle.rubis_shadow.proofs.Listed.{rows_listed}
 use Rattle.rubis_shadow.proofs.Rows.{tables_of, get_tables_of, lookup_find}
 use Rattle.rubis_model.specs.Listings.{is_of}
 use Rattle.rubis_model.specs.Shares.{part_of}
-use Rattle.rubis_model.proofs.Commute.{same_tables}
+use Rattle.rubis_model.proofs.Shares.{same_tables}
 use Rattle.rubis_shard.specs.Holdings.{AreInOrder, union}
-use Rattle.rubis_shard.specs.Listed.{categories_among, categories_of, listed_among, listed_of, picked_by, shows}
-use Rattle.rubis_shard.specs.ListedRows.{table_with}
 use Rattle.rubis_shard.specs.Rows.{entries_of as entries_in, kept_of, rows_with, tables_in}
 use Rattle.rubis_shard.specs.declared.row_map.Rows.{Rows}
 use Rattle.rubis_shard.proofs.OneTable.{ids_listed}
@@ -39,6 +49,100 @@ use Rattle.rubis_shard.specs.States.{ShardState, HoldsOwnRows}
 use Rattle.rubis_shard.proofs.Listing.{all_distinct, both, sorted_distinct}
 use Rattle.rubis_shard.proofs.Shuffled.{shuffled}
 use Rattle.rubis_shard.proofs.Unions.{entries_of, from_first}
+use Rattle.rubis_shard.specs.Chains.{shown}
+
+pub below_or_last : (k n : ℕ) → k < n + 1 → (k < n) ⊎ (k ≡ n)
+below_or_last zero zero l = inr refl
+below_or_last zero (suc n) l = inl (omega arith)
+below_or_last (suc k) zero l = absurd (omega arith)
+below_or_last (suc k) (suc n) l = ⊎_elim (λ b. inl (omega arith)) (λ e. inr (omega arith)) (below_or_last k n (omega arith))
+
+pub no_items : {X : Type 0} (xs : List X) → length xs ≡ 0 → xs ≡ []
+no_items [] e = refl
+no_items (x ∷ xs) e = absurd (omega arith)
+
+-- ---- one more, last
+pub push_before : {X : Type 0} (xs : List X) (x : X) (k : ℕ) → k < length xs → slice_get (xs ++ x ∷ []) k ≡ slice_get xs k
+push_before [] x k l = absurd (omega arith)
+push_before (y ∷ xs) x zero l = refl
+push_before (y ∷ xs) x (suc k) l = push_before xs x k (omega arith)
+
+pub push_last : {X : Type 0} (xs : List X) (x : X) → slice_get (xs ++ x ∷ []) (length xs) ≡ Some x
+push_last [] x = refl
+push_last (y ∷ xs) x = push_last xs x
+
+-- a list with each place as the function says, and one more
+pub each_more : {X : Type 0} (f : ℕ → X) (xs ys : List X) (n : ℕ) (x : X) → ys ≡ xs ++ x ∷ [] → length xs ≡ n → x ≡ f n
+    → ((k : ℕ) → k < n → slice_get xs k ≡ Some (f k)) → (k : ℕ) → k < n + 1 → slice_get ys k ≡ Some (f k)
+each_more f xs ys n x more many is each k l = ap (λ zs. slice_get zs k) more ∙ ⊎_elim
+    (λ b. push_before xs x k (omega arith) ∙ each k b)
+    (λ e. ap (slice_get (xs ++ x ∷ [])) (e ∙ sym many) ∙ push_last xs x ∙ ap Some (is ∙ ap f (sym e)))
+    (below_or_last k n l)
+
+-- ---- one written
+pub written_here : {X : Type 0} (xs : List X) (i : ℕ) (x : X) → i < length xs → slice_get (set xs i x) i ≡ Some x
+written_here xs i x l = slice_get-get_or (set xs i x) i x (let w = length-set xs i x in omega (arith, w, l))
+    ∙ ap Some (get_or-set_same xs i x x l)
+
+pub written_elsewhere : {X : Type 0} (xs : List X) (i k : ℕ) (x : X) → ¬ (k ≡ i) → k < length xs
+    → slice_get (set xs i x) k ≡ slice_get xs k
+written_elsewhere xs i k x other l =
+    slice_get-get_or (set xs i x) k x (let w = length-set xs i x in omega (arith, w, l))
+    ∙ ap Some (get_or-set_other xs i k x x other) ∙ sym (slice_get-get_or xs k x l)
+
+-- ---- the order of the keys that listings show is that of their numbers
+
+-- ---- the order of numbers of three digits, digit by digit
+digit : (a b : ℕ) (o r : Ordering) → (a ≡ b) ⊎ ((a < b) ⊎ (b < a)) → (a ≡ b → o ≡ r) → (a < b → o ≡ Less) → (b < a → o ≡ Greater)
+    → o ≡ ordering_then (nat_cmp a b) r
+digit a b o r (inl e) same less greater = same e ∙ ap (λ x. ordering_then x r) (nat_cmp_is a b Equal e)
+digit a b o r (inr (inl l)) same less greater = less l ∙ ap (λ x. ordering_then x r) (nat_cmp_is a b Less l)
+digit a b o r (inr (inr g)) same less greater = greater g ∙ ap (λ x. ordering_then x r) (nat_cmp_is a b Greater g)
+
+compared : (p s n q t m : ℕ) → (s ≤ 255) × (n ≤ 4294967295) → (t ≤ 255) × (m ≤ 4294967295)
+    → nat_cmp (p * 2 ^ 40 + s * 2 ^ 32 + n) (q * 2 ^ 40 + t * 2 ^ 32 + m) ≡ slice_cmp nat_cmp (p ∷ s ∷ n ∷ []) (q ∷ t ∷ m ∷ [])
+compared p s n q t m few many =
+    let a = p * 2 ^ 40 + s * 2 ^ 32 + n in
+    let b = q * 2 ^ 40 + t * 2 ^ 32 + m in
+    let below : a < b → nat_cmp a b ≡ Less = λ l. sym (nat_cmp_is a b Less l) in
+    let above : b < a → nat_cmp a b ≡ Greater = λ g. sym (nat_cmp_is a b Greater g) in
+    digit p q _ _ (cases_order p q)
+    (λ e. digit s t _ _ (cases_order s t)
+    (λ f. digit n m _ _ (cases_order n m)
+    (λ g. sym (nat_cmp_is a b Equal (omega (arith, e, f, g))))
+    (λ l. below (omega (arith, e, f, l)))
+    (λ l. above (omega (arith, e, f, l))))
+    (λ l. below (omega (arith, e, l, few, many)))
+    (λ l. above (omega (arith, e, l, few, many))))
+    (λ l. below (omega (arith, l, few, many)))
+    (λ l. above (omega (arith, l, few, many)))
+
+-- ---- the keys that listings show
+limits : (k : RowKey) → IsListed k → (key_site k ≤ 255) × (key_seq k ≤ 4294967295)
+limits (key.Nick n) h = absurd h
+limits k h = h
+
+by_digits : (k l : RowKey) → IsListed k → IsListed l
+    → slice_cmp nat_cmp (key_place k ∷ key_site k ∷ key_seq k ∷ []) (key_place l ∷ key_site l ∷ key_seq l ∷ []) ≡ key_order k l
+unfolding key_order
+by_digits (key.Nick n) l h g = absurd h
+by_digits k (key.Nick n) h g = absurd g
+by_digits k l h g = refl
+
+pub ordered : (k l : RowKey) → IsListed k → IsListed l → nat_cmp (key_number k) (key_number l) ≡ key_order k l
+ordered k l h g =
+    compared (key_place k) (key_site k) (key_seq k) (key_place l) (key_site l) (key_seq l) (limits k h) (limits l g) ∙ by_digits k l h g
+
+-- ---- their parts
+pub numbered : (t : ListedTable) (s n : ℕ) → FitsKey t s n → place_of t * 2 ^ 40 + s * 2 ^ 32 + n ≡ key_number (listed_key t s n)
+numbered listed.Cat s n fits = ap (λ m. 5 * 2 ^ 40 + m * 2 ^ 32 + n) fits.0
+numbered t s n fits = refl
+
+pub is_listed : (t : ListedTable) (s n : ℕ) → s ≤ 255 → n ≤ 4294967295 → IsListed (listed_key t s n)
+is_listed listed.Cat s n few many = (omega arith, many)
+is_listed t s n few many = (few, many)
+
+-- ---- the rows that match a listing, put in key order
 
 abbrev pub Entries : Type 0
 Entries = List (RowKey × Row)
@@ -250,3 +354,20 @@ pub shuffled_more : (before found after more new : Entries) → IsPermutation be
     → IsPermutation (found ++ after) new → IsPermutation more new
 shuffled_more before found after more new moved is added =
     subst (λ es. IsPermutation es new) (sym is) (IsPermutation-trans _ (found ++ after) _ (IsPermutation-append_left after before found moved) added)
+
+-- ---- keys with rows that are lent, in key order
+
+abbrev pub Lent : Type 0
+Lent = RowKey × Bor Row
+
+pub shown_in_order : (xs : List Lent) → IsSortedByKey (λ x. x.0) key_order xs → IsSortedByKey first_of key_order (each shown xs)
+shown_in_order [] sorted k d low high = absurd (omega arith)
+shown_in_order (x ∷ xs) sorted k d low high =
+    let many = length-map (x ∷ xs) shown in
+    let within : k + 1 < length (x ∷ xs) = omega arith in
+    let first = get_or-map shown (x ∷ xs) k x d (omega arith) in
+    let second = get_or-map shown (x ∷ xs) (k + 1) x d within in
+    let es = each shown (x ∷ xs) in
+    ap (λ e. is_lt (key_order e.0 (slice_index_or es k d).0)) second
+    ∙ ap (λ e. is_lt (key_order (slice_index_or (x ∷ xs) (k + 1) x).0 e.0)) first
+    ∙ sorted k x low within

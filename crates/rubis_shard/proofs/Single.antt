@@ -9,8 +9,7 @@ use Rattle.rubis_schema.specs.declared.row_keys.RowKey.{RowKey}
 use Rattle.rubis_schema.specs.declared.row_keys.RowKey.TheVariants as key
 use Rattle.rubis_shadow.specs.declared.numbered.Numbered.{Numbered}
 use Rattle.rubis_model.specs.Shares.{part_of}
-use Rattle.rubis_model.proofs.Commute.{same_tables}
-use Rattle.rubis_model.proofs.Shares.{get-part_of}
+use Rattle.rubis_model.proofs.Shares.{same_tables, get-part_of}
 use Rattle.rubis_shard.specs.Holdings.{parts_at}
 
 pub home_of_one : (k : RowKey) → home 1 k ≡ 0

@@ -1,19 +1,59 @@
--- Rows in chains, each linked to the one before it in its chain.
-use Rattle.std.specs.Prelude.{ℕ, zero, suc, ◌≡◌, ◌<◌, ◌≤◌, Bool, false, List, length, get_or, take, map as each, Option, Some, None, cond, slice_index}
+-- Rows in chains, each linked to the one before it in its chain, and their keys as keys of the maps.
+use Rattle.std.specs.Prelude.{◌≡◌, Bool, true, false, List, ⊤, map as each, ℕ, zero, suc, ◌<◌, ◌≤◌, length, get_or, take, Option, Some, None, cond, slice_index}
+use Rattle.std.specs.List.{AllByRecursion}
+use Rattle.rubis_schema.specs.Keys.{row_key, same_id_key}
+use Rattle.rubis_schema.specs.declared.id_keys.IdKey.{IdKey}
+use Rattle.rubis_schema.specs.declared.row_keys.RowKey.{RowKey}
+use Rattle.rubis_schema.specs.declared.row_keys.RowKey.TheVariants as key
+use Rattle.rubis_schema.specs.declared.rows.Row.{Row}
+use Rattle.rubis_shard.specs.declared.map_keys.MapPlace.{MapPlace}
+use Rattle.rubis_shard.specs.declared.map_keys.MapPlace.TheVariants as place
+use Rattle.std.specs.Borrow.{Bor}
 use Rattle.std.specs.Map.{lookup}
 use Rattle.std.specs.Option.{unwrap_or}
-use Rattle.rubis_schema.specs.IdKeys.{same_id_key}
-use Rattle.rubis_schema.specs.declared.id_keys.IdKey.{IdKey}
 use Rattle.rubis_schema.specs.declared.id_keys.IdTable.{IdTable}
 use Rattle.rubis_schema.specs.declared.id_keys.IdTable.TheVariants as table
 use Rattle.rubis_schema.specs.declared.ids.Id.{Id}
 use Rattle.rubis_schema.specs.declared.listings.Listing.{Listing}
 use Rattle.rubis_schema.specs.declared.listings.Listing.TheVariants as listing
-use Rattle.rubis_schema.specs.declared.row_keys.RowKey.{RowKey}
-use Rattle.rubis_schema.specs.declared.row_keys.RowKey.TheVariants as key
-use Rattle.rubis_schema.specs.declared.rows.Row.{Row}
 use Rattle.rubis_schema.specs.declared.rows.Row.TheVariants as row
 use Rattle.rubis_shard.specs.declared.chains.Chains.{Chains}
+
+abbrev pub key_at : MapPlace → RowKey
+key_at (place.User k) = row_key k
+key_at (place.Other k) = row_key k
+key_at (place.Nick n) = key.Nick n
+key_at (place.Cat k) = key.Cat k
+
+-- the key of a user
+abbrev pub is_user : RowKey → Bool
+is_user (key.User i) = true
+is_user k = false
+
+-- a key of rows with ids stands where its map is
+abbrev pub IsPlaced : MapPlace → Type 0
+IsPlaced (place.User k) = is_user (row_key k) ≡ true
+IsPlaced (place.Other k) = is_user (row_key k) ≡ false
+IsPlaced p = ⊤
+
+-- all are rows of users
+abbrev pub AreUsers : List (IdKey × Row) → Type 0
+AreUsers es = AllByRecursion (λ e. is_user (row_key e.0) ≡ true) es
+
+-- none of them is
+abbrev pub AreOthers : List (IdKey × Row) → Type 0
+AreOthers es = AllByRecursion (λ e. is_user (row_key e.0) ≡ false) es
+
+-- ---- the entries of a map, with their keys as keys of rows
+
+abbrev pub written : {K : Type 0} → (K → RowKey) → List (K × Row) → List (RowKey × Row)
+written f es = each (λ e. (f e.0, e.1)) es
+
+-- a key and a row that is lent
+abbrev pub shown : RowKey × Bor Row → RowKey × Row
+shown e = (e.0, e.1.now)
+
+-- ---- rows in chains, each linked to the one before it in its chain
 
 -- the chain of the rows of a table that are listed by that id
 abbrev pub chain_by : IdTable → Id → IdKey

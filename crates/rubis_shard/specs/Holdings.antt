@@ -1,14 +1,17 @@
--- What the shards of a set hold together, and what they hold of a log.
-use Rattle.std.specs.Prelude.{ℕ, ◌≡◌, ◌+◌, ◌<◌, List, [], ◌∷◌, ◌++◌, Option, Some, None, length, filter, flat_map, nat_eq, slice_get}
+-- What the shards of a set hold together and of a log, and one message folded on them, each part at its home.
+use Rattle.std.specs.Prelude.{ℕ, ◌≡◌, ◌+◌, ◌<◌, List, [], ◌∷◌, ◌++◌, Option, Some, None, length, filter, flat_map, nat_eq, slice_get, ◌≤◌}
 use Rattle.std.specs.FinMap as map
 use Rattle.rubis_schema.specs.Keys.{home}
 use Rattle.rubis_schema.specs.Tables.{Tables}
 use Rattle.rubis_shadow.specs.declared.keyed_change.Effect.{Effect}
 use Rattle.rubis_shadow.specs.declared.numbered.Misfit.{Misfit}
 use Rattle.rubis_shadow.specs.declared.numbered.Numbered.{Numbered}
-use Rattle.rubis_model.specs.Log.{Core, share}
+use Rattle.rubis_model.specs.Log.{Core, share, number_parts, parts_of}
 use Rattle.rubis_model.specs.Shares.{part_of}
-use Rattle.rubis_shard.specs.States.{ShardState, opening_shard, with_parts}
+use Rattle.rubis_shard.specs.States.{ShardState, opening_shard, with_parts, nothing_held}
+use Rattle.rubis_shard.specs.declared.entries.LogEntry.{LogEntry}
+use Rattle.std.specs.List.{AllZip}
+use Rattle.rubis_shard.specs.declared.part_homes.PartHomes.{PartHomes}
 
 -- shard k of a log: its share of the log, folded on the opening rows
 abbrev pub shard_of_log : ℕ → List Core → ℕ → ShardState
@@ -61,3 +64,51 @@ TakesOn m entry old new = (shards : ℕ) (log : List Core) → entry ≡ length 
 abbrev pub home_or : ℕ → Option Effect → ℕ
 home_or shards None = shards
 home_or shards (Some e) = home shards e.key
+
+-- ---- a message as an entry of a log
+
+-- what the tables know of its message
+abbrev pub core_of : LogEntry → Core
+core_of entry = record { id = entry.id; red = entry.red; shadow = entry.shadow.now }
+
+-- all its parts
+abbrev pub numbered_of : LogEntry → List Numbered
+numbered_of entry = number_parts entry.number 1 entry.id (parts_of (core_of entry))
+
+-- ---- the homes of the parts of messages, as they are kept beside a batch
+
+-- those of one message: the home of each of its parts, or the number of shards where there is none
+pub record AreHomesOf (shards : ℕ) (m : Core) (h : PartHomes) : Type 0 where
+  pub first : h.first ≡ home_or shards (slice_get (parts_of m) 0)
+  pub second : h.second ≡ home_or shards (slice_get (parts_of m) 1)
+  pub third : h.third ≡ home_or shards (slice_get (parts_of m) 2)
+
+-- no part of a message with these homes belongs to that shard
+abbrev pub NoneAt : ℕ → PartHomes → Type 0
+NoneAt number h = (shards entry : ℕ) (m : Core) → number < shards → AreHomesOf shards m h
+    → parts_at shards number (number_parts entry 1 m.id (parts_of m)) ≡ []
+
+-- those of each message of a batch
+abbrev pub AreHomes : ℕ → List Core → List PartHomes → Type 0
+AreHomes shards batch homes = AllZip (AreHomesOf shards) batch homes
+
+-- ---- one message folded on the shards of a set, each part at its home
+
+-- the shard without its rows and misfits
+abbrev pub emptied : ShardState → ShardState
+emptied s = record { number = s.number; shards = s.shards; folded = nothing_held }
+
+abbrev pub list_of : {X : Type 0} → Option X → List X
+list_of None = []
+list_of (Some x) = x ∷ []
+
+-- the entry's part at a place, from 0, if there is one
+abbrev pub at_place : LogEntry → ℕ → List Numbered
+at_place entry place = number_parts entry.number (place + 1) entry.id (list_of (slice_get (parts_of (core_of entry)) place))
+
+-- each shard from a number on has its parts folded on, and the shards before it are as they were
+pub record FoldsFrom (from : ℕ) (old : List ShardState) (ns : List Numbered) (new : List ShardState) : Type 0 where
+  pub many : length new ≡ length old
+  pub before : (k : ℕ) → k < from → slice_get new k ≡ slice_get old k
+  pub behind : (k : ℕ) (s : ShardState) → from ≤ k → slice_get old k ≡ Some s
+      → slice_get new k ≡ Some (with_parts s (parts_at (length old) k ns))

@@ -1,16 +1,7 @@
 pub mod States
 pub mod Chains
-pub mod Written
-pub mod MapKeys
 pub mod Rows
-pub mod Stores
-pub mod StateCode
 pub mod Holdings
 pub mod Laws
-pub mod Messages
 pub mod Listed
-pub mod ListedRows
-pub mod Counted
-pub mod Entries
 pub mod Groups
-pub mod PartHomes

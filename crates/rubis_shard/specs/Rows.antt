@@ -3,7 +3,7 @@ use Rattle.std.specs.Prelude.{◌≡◌, ℕ, ◌≤◌, Bool, true, cond, List,
 use Rattle.std.specs.FinMap as map
 use Rattle.std.specs.Map.{lookup, set_value}
 use Rattle.indexmap.specs.IndexMap.{spare}
-use Rattle.rubis_schema.specs.IdKeys.{row_key}
+use Rattle.rubis_schema.specs.Keys.{row_key}
 use Rattle.rubis_schema.specs.Tables.{Tables}
 use Rattle.rubis_schema.specs.declared.id_keys.IdTable.{IdTable}
 use Rattle.rubis_schema.specs.declared.id_keys.IdTable.TheVariants as table
@@ -14,7 +14,7 @@ use Rattle.rubis_shadow.specs.Changes.{change_row}
 use Rattle.rubis_shadow.specs.declared.changes.Change.{Change}
 use Rattle.rubis_shadow.specs.declared.changes.Fate.{Fate}
 use Rattle.rubis_shadow.specs.declared.changes.MisfitKind.TheVariants.{NoRow}
-use Rattle.rubis_shard.specs.Written.{written}
+use Rattle.rubis_shard.specs.Chains.{written}
 use Rattle.rubis_shard.specs.declared.row_map.LinkedRows.{LinkedRows}
 use Rattle.rubis_shard.specs.declared.row_map.Rows.{Rows}
 

@@ -1,12 +1,11 @@
 //! Rows in chains, so that a listing of rows that belong together needn't look at the others.
 
 ghost use Rattle.std.specs.Prelude.{◌≡◌, ◌<◌, ◌++◌, ◌∷◌, [], None, Some, cond, List, IfOk, OnOk, OnErr, length, slice_index};
-ghost use Rattle.rubis_schema.specs.IdKeys.{row_key, same_id_key};
+ghost use Rattle.rubis_schema.specs.Keys.{row_key, same_id_key};
 ghost use Rattle.rubis_schema.specs.declared.id_keys.IdKey.{IdKey};
 ghost use Rattle.indexmap.specs.IndexMap.{get};
-ghost use Rattle.rubis_shard.specs.Chains.{chains_of, is_in, last_noted, IsLinkedSoFar, Links};
+ghost use Rattle.rubis_shard.specs.Chains.{chains_of, is_in, last_noted, IsLinkedSoFar, Links, written};
 ghost use Rattle.rubis_shard.specs.Chains as model;
-ghost use Rattle.rubis_shard.specs.Written.{written};
 
 use indexmap::IndexMap;
 use rubis_schema::{IdKey, IdTable, KeyHashes, Listing, Row};

@@ -2,9 +2,9 @@
 
 ghost use Rattle.std.specs.Prelude.{◌≡◌, ◌+◌, ◌≤◌, ◌&&◌, IfSome, length};
 ghost use Rattle.std.specs.FinMap as map;
-ghost use Rattle.rubis_shard.specs.Counted.{has_record, is_recorded, number_of, recorded_from};
+ghost use Rattle.rubis_shard.specs.Listed.{has_record, is_recorded, number_of, recorded_from};
 ghost use Rattle.rubis_shard.specs.Rows.{tables_in};
-ghost use Rattle.rubis_shard.specs.Written.{written};
+ghost use Rattle.rubis_shard.specs.Chains.{written};
 
 use crate::map_keys::MapKey;
 use crate::row_map::Rows;

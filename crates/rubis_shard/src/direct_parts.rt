@@ -3,9 +3,8 @@
 ghost use Rattle.std.specs.Prelude.{◌≡◌, ◌<◌};
 ghost use Rattle.rubis_shadow.specs.declared.shadows.Shadow.TheVariants as Shadow;
 ghost use Rattle.rubis_model.specs.Log.{fold_on};
-ghost use Rattle.rubis_shard.specs.Entries.{numbered_of};
-ghost use Rattle.rubis_shard.specs.Holdings.{parts_at};
-ghost use Rattle.rubis_shard.specs.Stores.{held_by, HasRoom};
+ghost use Rattle.rubis_shard.specs.Holdings.{numbered_of, parts_at};
+ghost use Rattle.rubis_shard.specs.States.{held_by, HasRoom};
 
 use crate::effects::{bought, sold};
 use crate::message_parts::MessageParts;

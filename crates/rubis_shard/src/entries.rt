@@ -20,7 +20,7 @@ pub struct LogEntry<'a> {
 }
 
 impl<'a> LogEntry<'a> {
-    ghost use Rattle.rubis_shard.specs.Entries.{core_of};
+    ghost use Rattle.rubis_shard.specs.Holdings.{core_of};
 
     /// The message as the entry of that number.
     #[inline(always)]

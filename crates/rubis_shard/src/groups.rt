@@ -2,7 +2,7 @@
 
 ghost use Rattle.std.specs.Prelude.{◌≡◌};
 ghost use Rattle.rubis_shard.specs.Groups.{listing_of, table_of};
-ghost use Rattle.rubis_shard.specs.ListedRows.{table_with};
+ghost use Rattle.rubis_shard.specs.Listed.{table_with};
 
 use rubis_schema::{Id, IdTable, Listing};
 

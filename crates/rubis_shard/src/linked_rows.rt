@@ -2,7 +2,7 @@
 
 ghost use Rattle.std.specs.Prelude.{◌≡◌, ◌+◌, ◌<◌, ◌≤◌, [], Some, None, is_none, cond, true, false, OnOk};
 ghost use Rattle.indexmap.specs.IndexMap.{get, insert_entry, spare};
-ghost use Rattle.rubis_schema.specs.IdKeys.{row_key, same_id_key};
+ghost use Rattle.rubis_schema.specs.Keys.{row_key, same_id_key};
 ghost use Rattle.rubis_schema.specs.declared.id_keys.IdKey.{IdKey};
 ghost use Rattle.rubis_schema.specs.declared.rows.Row.{Row};
 ghost use Rattle.rubis_shadow.specs.Freed.{FreesOnlyNicks};

@@ -1,10 +1,9 @@
 //! A row with its key, as a listing keeps it.
 
 ghost use Rattle.std.specs.Prelude.{◌≡◌};
-ghost use Rattle.rubis_schema.specs.IdKeys.{row_key};
-ghost use Rattle.rubis_schema.specs.Keys.{key_order};
+ghost use Rattle.rubis_schema.specs.Keys.{row_key, key_order};
 ghost use Rattle.rubis_schema.specs.declared.row_keys.RowKey.TheVariants as key;
-ghost use Rattle.rubis_shard.specs.ListedRows.{key_number, listed_with, place_of, IsListed};
+ghost use Rattle.rubis_shard.specs.Listed.{key_number, listed_with, place_of, IsListed};
 
 use rubis_schema::{Id, IdKey, IdTable, Row, RowKey};
 use std::cmp::Ordering;
@@ -65,7 +64,7 @@ pub struct ListedRow<'a> {
 impl<'a> Model for ListedRow<'a> {
     ghost use Rattle.rubis_schema.specs.declared.row_keys.RowKey.{RowKey};
     ghost use Rattle.rubis_schema.specs.declared.rows.Row.{Row};
-    ghost use Rattle.rubis_shard.specs.ListedRows.{listed_key, FitsKey};
+    ghost use Rattle.rubis_shard.specs.Listed.{listed_key, FitsKey};
 
     ghost Value = { RowKey × Row };
 

@@ -2,7 +2,7 @@
 
 ghost use Rattle.std.specs.Prelude.{◌≡◌};
 ghost use Rattle.rubis_schema.specs.declared.row_keys.RowKey.{RowKey};
-ghost use Rattle.rubis_shard.specs.MapKeys.{key_at, IsPlaced};
+ghost use Rattle.rubis_shard.specs.Chains.{key_at, IsPlaced};
 
 use rubis_schema::{IdKey, IdTable, Nick, RowKey};
 use std::hash::Hash;
@@ -18,7 +18,7 @@ pub trait MapKey: Eq + Hash {
 }
 
 impl MapKey for IdKey {
-    ghost use Rattle.rubis_schema.specs.IdKeys as keys;
+    ghost use Rattle.rubis_schema.specs.Keys as keys;
 
     ghost row_key = { keys.row_key };
 

@@ -2,8 +2,7 @@
 
 ghost use Rattle.std.specs.Prelude.{◌≡◌, slice_get};
 ghost use Rattle.rubis_model.specs.Log.{parts_of};
-ghost use Rattle.rubis_shard.specs.Entries.{core_of};
-ghost use Rattle.rubis_shard.specs.Holdings.{home_or};
+ghost use Rattle.rubis_shard.specs.Holdings.{core_of, home_or};
 
 use crate::entries::LogEntry;
 

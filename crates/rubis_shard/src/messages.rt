@@ -1,13 +1,10 @@
 //! The parts of a message that are a shard's own, folded from where the message lies.
 
 ghost use Rattle.std.specs.Prelude.{◌≡◌, ℕ, ◌+◌, ◌<◌, ◌≤◌, [], length, slice_get, IfOk, OnOk, OnErr};
-ghost use Rattle.rubis_shadow.specs.BoxedRows.{HasBoxedRow};
+ghost use Rattle.rubis_shadow.specs.Tables.{HasBoxedRow};
 ghost use Rattle.rubis_model.specs.Log.{fold_on, parts_of};
-ghost use Rattle.rubis_shard.specs.Entries.{core_of, numbered_of};
-ghost use Rattle.rubis_shard.specs.Holdings.{home_or, parts_at, AreInOrder};
-ghost use Rattle.rubis_shard.specs.Messages.{at_place, FoldsFrom};
-ghost use Rattle.rubis_shard.specs.PartHomes.{AreHomesOf};
-ghost use Rattle.rubis_shard.specs.Stores.{held_by, HasRoom};
+ghost use Rattle.rubis_shard.specs.Holdings.{core_of, numbered_of, home_or, parts_at, AreInOrder, at_place, FoldsFrom, AreHomesOf};
+ghost use Rattle.rubis_shard.specs.States.{held_by, HasRoom};
 
 use crate::entries::LogEntry;
 use crate::message_parts::MessageParts;

@@ -3,7 +3,7 @@
 ghost use Rattle.std.specs.Prelude.{◌≡◌, OnOk, length, map as each};
 ghost use Rattle.std.specs.List.Sorted.{IsPermutation, IsSortedByKey};
 ghost use Rattle.rubis_schema.specs.Keys.{key_order};
-ghost use Rattle.rubis_shard.specs.Written.{shown};
+ghost use Rattle.rubis_shard.specs.Chains.{shown};
 
 use crate::listed_rows::ListedRow;
 use rubis_schema::{Row, RowKey, key_cmp};

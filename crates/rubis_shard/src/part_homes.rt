@@ -1,8 +1,7 @@
 //! The homes of the parts of a message, a byte each.
 
 ghost use Rattle.std.specs.Prelude.{◌≡◌, ◌≤◌, ◌<◌, false};
-ghost use Rattle.rubis_shard.specs.Entries.{core_of};
-ghost use Rattle.rubis_shard.specs.PartHomes.{AreHomesOf, NoneAt};
+ghost use Rattle.rubis_shard.specs.Holdings.{core_of, AreHomesOf, NoneAt};
 
 use crate::entries::LogEntry;
 use crate::messages::home_at;

@@ -2,15 +2,12 @@
 
 ghost use Rattle.std.specs.Prelude.{◌≡◌, ◌++◌, ◌&&◌, ◌∷◌, [], Some, IfOk, OnOk, drop};
 ghost use Rattle.std.specs.List.Sorted.{IsPermutation};
-ghost use Rattle.rubis_schema.specs.IdKeys.{row_key};
-ghost use Rattle.rubis_schema.specs.Keys.{holds};
+ghost use Rattle.rubis_schema.specs.Keys.{row_key, holds};
 ghost use Rattle.rubis_schema.specs.declared.row_keys.RowKey.TheVariants as key;
 ghost use Rattle.rubis_model.specs.Listings.{is_of};
-ghost use Rattle.rubis_shard.specs.Chains.{chain_with};
-ghost use Rattle.rubis_shard.specs.Listed.{categories_of, listed_among, listed_of, shown_among, shows};
-ghost use Rattle.rubis_shard.specs.ListedRows.{table_with};
+ghost use Rattle.rubis_shard.specs.Chains.{chain_with, written};
+ghost use Rattle.rubis_shard.specs.Listed.{categories_of, listed_among, listed_of, shown_among, shows, table_with};
 ghost use Rattle.rubis_shard.specs.Rows.{kept_of, linked_of, tables_in};
-ghost use Rattle.rubis_shard.specs.Written.{written};
 
 use crate::chains::chain_with;
 use crate::listed_rows::ListedRow;

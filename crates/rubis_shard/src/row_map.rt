@@ -1,10 +1,8 @@
 //! The maps of a shard from keys to rows, and the chains of rows that are listed together.
 
 ghost use Rattle.std.proofs.Props.{props};
-ghost use Rattle.rubis_schema.specs.IdKeys.{row_key};
-ghost use Rattle.rubis_shard.specs.Chains.{chains_of, IsLinkedSoFar};
-ghost use Rattle.rubis_shard.specs.MapKeys.{AreOthers, AreUsers};
-ghost use Rattle.rubis_shard.specs.Written.{written};
+ghost use Rattle.rubis_schema.specs.Keys.{row_key};
+ghost use Rattle.rubis_shard.specs.Chains.{chains_of, IsLinkedSoFar, AreOthers, AreUsers, written};
 
 use crate::chains::Chains;
 use indexmap::IndexMap;

@@ -3,7 +3,7 @@
 ghost use Rattle.std.specs.Bool.{MatchBool};
 ghost use Rattle.std.specs.Prelude.{◌≡◌, [], length};
 ghost use Rattle.rubis_model.specs.Listings.{is_of, row_record};
-ghost use Rattle.rubis_shard.specs.Counted.{has_record};
+ghost use Rattle.rubis_shard.specs.Listed.{has_record};
 
 use rubis_schema::{Listing, Row, RowKey};
 

@@ -5,21 +5,14 @@ ghost use Rattle.std.specs.List.{All};
 ghost use Rattle.std.specs.List.Sorted.{IsPermutation};
 ghost use Rattle.std.specs.FinMap as map;
 ghost use Rattle.std.specs.Map.{keys_of};
-ghost use Rattle.rubis_shadow.specs.Tables.{opening, rows_of};
+ghost use Rattle.rubis_shadow.specs.Tables.{opening, rows_of, HasBoxedRow};
 ghost use Rattle.rubis_model.specs.Shares.{part_of};
 ghost use Rattle.rubis_model.specs.Log.{parts_of};
-ghost use Rattle.rubis_shard.specs.Counted.{recorded_of};
-ghost use Rattle.rubis_shard.specs.Listed.{categories_of, listed_of};
-ghost use Rattle.rubis_shard.specs.ListedRows.{table_with};
-ghost use Rattle.rubis_shard.specs.States.{opening_shard, with_parts, IsHomeOf, HoldsOwnRows};
-ghost use Rattle.rubis_shard.specs.Entries.{core_of, numbered_of};
-ghost use Rattle.rubis_shard.specs.Messages.{emptied};
-ghost use Rattle.rubis_shard.specs.Holdings.{parts_at};
-ghost use Rattle.rubis_shadow.specs.BoxedRows.{HasBoxedRow};
-ghost use Rattle.rubis_shard.specs.PartHomes.{AreHomesOf};
+ghost use Rattle.rubis_shard.specs.Listed.{recorded_of, categories_of, listed_of, table_with};
+ghost use Rattle.rubis_shard.specs.States.{opening_shard, with_parts, IsHomeOf, HoldsOwnRows, held_by, HasRoom};
+ghost use Rattle.rubis_shard.specs.Holdings.{core_of, numbered_of, emptied, parts_at, AreHomesOf};
 ghost use Rattle.rubis_shard.specs.Rows.{tables_in};
-ghost use Rattle.rubis_shard.specs.Stores.{held_by, HasRoom};
-ghost use Rattle.rubis_shard.specs.Written.{shown};
+ghost use Rattle.rubis_shard.specs.Chains.{shown};
 
 use crate::counts::{count_recorded, most_recorded};
 use crate::entries::LogEntry;
@@ -66,9 +59,7 @@ impl Drop for Shard {
 impl Model for Shard {
     ghost use Rattle.std.specs.Prelude.{◌≡◌};
     ghost use Rattle.rubis_model.specs.Shares.{part_of};
-    ghost use Rattle.rubis_shard.specs.States.{ShardState};
-    ghost use Rattle.rubis_shard.specs.StateCode.{shard_state_code};
-    ghost use Rattle.rubis_shard.specs.Stores.{held_in};
+    ghost use Rattle.rubis_shard.specs.States.{ShardState, shard_state_code, held_in};
 
     ghost Value = { ShardState };
 

@@ -3,7 +3,7 @@
 ghost use Rattle.std.specs.Prelude.{◌≡◌, ℕ, ◌+◌, [], OnOk};
 ghost use Rattle.rubis_model.specs.Log.{step};
 ghost use Rattle.rubis_shard.specs.Rows.{tables_in};
-ghost use Rattle.rubis_shard.specs.Stores.{held_by, HasRoom};
+ghost use Rattle.rubis_shard.specs.States.{held_by, HasRoom};
 ghost use Rattle.std.specs.FinMap as map;
 
 use crate::entries::LogEntry;

@@ -5,7 +5,7 @@ ghost use Rattle.rubis_schema.specs.declared.listings.Listing.TheVariants as Sho
 ghost use Rattle.rubis_shadow.specs.Tables.{rows_of};
 ghost use Rattle.rubis_shard.specs.Listed.{listed_among};
 ghost use Rattle.rubis_shard.specs.Rows.{entries_of, tables_in};
-ghost use Rattle.rubis_shard.specs.Written.{shown, written};
+ghost use Rattle.rubis_shard.specs.Chains.{shown, written};
 
 use crate::map_keys::MapKey;
 use crate::orders::put_rows_in_order;

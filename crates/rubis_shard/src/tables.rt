@@ -4,13 +4,10 @@ ghost use Rattle.std.specs.Prelude.{◌≡◌, ◌+◌, ◌<◌, ◌≤◌, [], 
 ghost use Rattle.std.specs.FinMap as map;
 ghost use Rattle.rubis_schema.specs.Keys.{home};
 ghost use Rattle.rubis_shadow.specs.Tables.{rows_of};
-ghost use Rattle.rubis_shard.specs.Holdings.{AreInOrder, FoldsAtHome, FoldsOn, HoldsLog, IsSet, TakesOn, parts_at, union};
-ghost use Rattle.rubis_shard.specs.Entries.{core_of, numbered_of};
+ghost use Rattle.rubis_shard.specs.Holdings.{AreInOrder, FoldsAtHome, FoldsOn, HoldsLog, IsSet, TakesOn, parts_at, union, core_of, numbered_of};
 ghost use Rattle.rubis_shard.specs.Groups.{group_of};
-ghost use Rattle.rubis_shard.specs.Counted.{number_of, recorded_from};
-ghost use Rattle.rubis_shard.specs.Listed.{categories_of, listed_of};
-ghost use Rattle.rubis_shard.specs.ListedRows.{table_with};
-ghost use Rattle.rubis_shard.specs.Written.{shown};
+ghost use Rattle.rubis_shard.specs.Listed.{number_of, recorded_from, categories_of, listed_of, table_with};
+ghost use Rattle.rubis_shard.specs.Chains.{shown};
 
 use crate::chains::chain_with;
 use crate::counts::number_of;
@@ -44,8 +41,7 @@ impl Drop for Tables {
 impl Model for Tables {
     ghost use Rattle.std.specs.Prelude.{List};
     ghost use Rattle.std.specs.Coded.{coded_list};
-    ghost use Rattle.rubis_shard.specs.States.{ShardState};
-    ghost use Rattle.rubis_shard.specs.StateCode.{shard_state_code};
+    ghost use Rattle.rubis_shard.specs.States.{ShardState, shard_state_code};
     ghost use Rattle.rubis_shard.specs.Holdings.{AreInOrder};
 
     ghost Value = { List ShardState };

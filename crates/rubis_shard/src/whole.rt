@@ -3,8 +3,8 @@
 ghost use Rattle.std.specs.Prelude.{◌≡◌, OnOk, OnErr};
 ghost use Rattle.rubis_shadow.specs.declared.shadows.Shadow.TheVariants as Shadow;
 ghost use Rattle.rubis_model.specs.Log.{fold_on};
-ghost use Rattle.rubis_shard.specs.Entries.{numbered_of};
-ghost use Rattle.rubis_shard.specs.Stores.{held_by, HasRoom};
+ghost use Rattle.rubis_shard.specs.Holdings.{numbered_of};
+ghost use Rattle.rubis_shard.specs.States.{held_by, HasRoom};
 
 use crate::effects::{bought, sold};
 use crate::entries::LogEntry;

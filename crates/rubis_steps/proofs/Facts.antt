@@ -1,12 +1,13 @@
 -- Lists of asks and packets.
-use Rattle.std.proofs.Common.{◌≡◌, ◌∙◌, ◌++◌, ◌∷◌, ◌+◌, ◌<◌, [], ℕ, Bool, true, false, cond, eqb, List, refl, sym, ap, subst, append_assoc, arith, max, drop, get_or, length}
+use Rattle.std.proofs.Common.{◌≡◌, ◌∙◌, ◌++◌, ◌∷◌, ◌+◌, ◌<◌, [], ℕ, Bool, true, false, cond, eqb, List, refl, sym, ap, subst, append_assoc, arith, max, drop}
+use Rattle.std.proofs.Common.{get_or, length}
 use Rattle.std.specs.Prelude.{zero, suc, Result, Ok, Err, OnOk}
 use Rattle.std.proofs.lemmas.List.{at_drop_more}
 use Rattle.rubis_carrier.specs.declared.values.ShopPacket.{ShopPacket}
 use Rattle.rubis_carrier.specs.declared.values.ShopPacket.TheVariants.{Message, Pass}
-use Rattle.rubis_carrier.specs.Packets.{highest, passed, taken}
+use Rattle.rubis_carrier.specs.Shops.{highest, passed, taken}
 use Rattle.rubis_carrier.specs.Events.{times}
-use Rattle.rubis_steps.specs.Parts.{number_in, passed_in, taken_in}
+use Rattle.rubis_steps.specs.Views.{number_in, passed_in, taken_in}
 
 -- what holds where a result is Ok
 pub on_ok : {T E A B : Type 0} (r : Result T E) → (A → B) → OnOk r A → OnOk r B

@@ -8,17 +8,15 @@ use Rattle.std.proofs.lemmas.List.{drop-set-lt, drop_more, get_or-map, get_or_pa
 use Rattle.std.proofs.lemmas.Grind.{drop_more_same}
 use Rattle.rubis_carrier.specs.declared.values.ShopPacket.{ShopPacket}
 use Rattle.rubis_carrier.specs.declared.values.ShopRequest.{ShopRequest}
-use Rattle.rubis_carrier.specs.Shops.{Folder, empty, folder, folder_in, put, put_folder, put_stream, request_in, stream_in, with_folder, with_stream}
-use Rattle.rubis_carrier.specs.Events.{forgotten, of_others, opened, opening}
+use Rattle.rubis_carrier.specs.Shops.{Folder, empty, folder, folder_in, put, put_folder, put_stream, request_in, stream_in, with_folder, with_stream, sender}
+use Rattle.rubis_carrier.specs.Events.{forgotten, of_others, opened, opening, are_reached, has_packet, is_offered, reaches_all}
 use Rattle.rubis_carrier.specs.declared.values.Carrier.TheVariants.{Files}
-use Rattle.rubis_carrier.specs.Packets.{sender}
-use Rattle.rubis_carrier.specs.Tests.{are_reached, has_packet, is_offered, reaches_all}
-use Rattle.rubis_steps.specs.Parts.{folders_reached, in_own_folder, is_found, streams_reached}
-use Rattle.rubis_carrier.proofs.PutFacts.{forget_in}
+use Rattle.rubis_steps.specs.Views.{folders_reached, in_own_folder, is_found, streams_reached, folder_at, folder_of, folders_of, packets_of, shop_of, stream_at}
+use Rattle.rubis_steps.specs.Views.{streams_of}
+use Rattle.rubis_carrier.proofs.PacketFacts.{forget_in}
 use Rattle.rubis_steps.specs.declared.folders.Folder.{Folder as CodeFolder}
 use Rattle.rubis_steps.specs.declared.shops.Shop.{Shop as CodeShop}
 use Rattle.rubis_steps.specs.Answers.{IsListed, IsStreamListed}
-use Rattle.rubis_steps.specs.Views.{folder_at, folder_of, folders_of, packets_of, shop_of, stream_at, streams_of}
 
 -- ---- any list by number
 

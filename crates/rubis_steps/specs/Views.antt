@@ -1,14 +1,52 @@
 -- What the code holds, as the model has it.
-use Rattle.std.specs.Prelude.{ℕ, List, [], ◌∷◌, ◌++◌, map, take, true}
+use Rattle.std.specs.Prelude.{ℕ, ◌==◌, ◌&&◌, ◌||◌, Bool, List, cond, [], ◌∷◌, ◌++◌, map, take, true}
 use Rattle.std.specs.Global.{Vec}
+use Rattle.std.specs.List.{list_all, list_any}
+use Rattle.rubis_carrier.specs.declared.values.ShopPacket.{ShopPacket}
+use Rattle.rubis_carrier.specs.declared.values.ShopPacket.TheVariants.{Message, Pass}
+use Rattle.rubis_carrier.specs.Shops.{sender, Folder, Shop, empty, folder, stream}
+use Rattle.rubis_carrier.specs.Events.{are_reached, has_packet, accepting, answering, closed, giving, keeping, next_pass, replaced, stopped, unknown, without}
+use Rattle.rubis_steps.specs.declared.folders.Folder.{Folder as CodeFolder}
 use Rattle.rubis_carrier.specs.declared.values.ShopEvent.{ShopEvent}
 use Rattle.rubis_carrier.specs.declared.values.ShopEvent.TheVariants.{Accepts, Closes, Finds, Gives, GoesOn, IsKilled, IsLost, LosesEnd, MachineStarts, Passes}
 use Rattle.rubis_carrier.specs.declared.values.ShopEvent.TheVariants.{Reads, Refuses, Serves, TellsNothing}
-use Rattle.rubis_carrier.specs.declared.values.ShopPacket.{ShopPacket}
-use Rattle.rubis_carrier.specs.Shops.{Folder, Shop, empty, folder, stream}
-use Rattle.rubis_carrier.specs.Events.{accepting, answering, closed, giving, keeping, next_pass, replaced, stopped, unknown, without}
-use Rattle.rubis_steps.specs.declared.folders.Folder.{Folder as CodeFolder}
 use Rattle.rubis_steps.specs.declared.shops.Shop.{Shop as CodeShop}
+
+-- the number that a packet gives, the turn that it brings, or that it passes on, if it is of that site; or else 0
+abbrev pub number_in : ℕ → ShopPacket → ℕ
+number_in i (Message j n r) = cond (j == i) n 0
+number_in i (Pass j t k a) = 0
+
+abbrev pub taken_in : ℕ → ShopPacket → ℕ
+taken_in i (Message j n r) = 0
+taken_in i (Pass j t k a) = cond (k == i) t 0
+
+abbrev pub passed_in : ℕ → ShopPacket → ℕ
+passed_in i (Message j n r) = 0
+passed_in i (Pass j t k a) = cond (j == i) t 0
+
+-- in all folders, and in all streams
+abbrev pub folders_reached : ℕ → ℕ → ℕ → List CodeFolder → Bool
+folders_reached i number turn fs = list_all (λ f. are_reached i number turn f.kept.items) fs
+
+abbrev pub streams_reached : ℕ → ℕ → ℕ → List (Vec ShopPacket) → Bool
+streams_reached i number turn xs = list_all (λ v. are_reached i number turn v.items) xs
+
+-- in some folder, or in some stream
+abbrev pub in_folders : ShopPacket → List CodeFolder → Bool
+in_folders x fs = list_any (λ f. has_packet x f.kept.items) fs
+
+abbrev pub in_streams : ShopPacket → List (Vec ShopPacket) → Bool
+in_streams x xs = list_any (λ v. has_packet x v.items) xs
+
+abbrev pub is_found : ShopPacket → List CodeFolder → List (Vec ShopPacket) → Bool
+is_found x fs xs = in_folders x fs || in_streams x xs
+
+-- in some folder of its sender
+abbrev pub in_own_folder : ShopPacket → List CodeFolder → Bool
+in_own_folder x fs = list_any (λ f. (f.site == sender x) && has_packet x f.kept.items) fs
+
+-- ---- what the code holds, as the model has it
 
 abbrev pub folder_of : CodeFolder → Folder
 folder_of f = record {

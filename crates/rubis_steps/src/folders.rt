@@ -2,8 +2,7 @@
 
 ghost use Rattle.std.specs.Prelude.{◌≡◌, ◌+◌, IfOk, OnOk};
 ghost use Rattle.rubis_carrier.specs.Shops.{empty};
-ghost use Rattle.rubis_carrier.specs.Events.{accepting, answering, forgotten, giving, keeping, next_pass, opened, started, stopped, unknown};
-ghost use Rattle.rubis_carrier.specs.Tests.{holds};
+ghost use Rattle.rubis_carrier.specs.Events.{accepting, answering, forgotten, giving, keeping, next_pass, opened, started, stopped, unknown, holds};
 ghost use Rattle.rubis_steps.specs.Views.{changed, folder_of};
 
 use crate::faults::DeciderFault;

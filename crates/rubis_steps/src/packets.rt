@@ -1,9 +1,9 @@
 //! Packets, and what a list of them says of a site.
 
 ghost use Rattle.std.specs.Prelude.{◌≡◌, IfOk};
-ghost use Rattle.rubis_carrier.specs.Packets.{highest, last_turn, own, passed, sender, taken};
-ghost use Rattle.rubis_carrier.specs.Tests.{are_own, are_reached, has_packets, is_reached};
-ghost use Rattle.rubis_steps.specs.Parts.{number_in, passed_in, taken_in};
+ghost use Rattle.rubis_carrier.specs.Shops.{highest, last_turn, own, passed, sender, taken};
+ghost use Rattle.rubis_carrier.specs.Events.{are_own, are_reached, has_packets, is_reached};
+ghost use Rattle.rubis_steps.specs.Views.{number_in, passed_in, taken_in};
 
 use crate::faults::DeciderFault;
 use rubis_carrier::ShopPacket;

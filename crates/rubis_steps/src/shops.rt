@@ -3,13 +3,12 @@
 ghost use Rattle.std.specs.Fn.{FnReturnsAt};
 ghost use Rattle.std.specs.Prelude.{◌≡◌, ◌==◌, ◌+◌, IfOk, OnOk, map};
 ghost use Rattle.rubis_carrier.specs.Shops.{empty, request, start, with_folder};
-ghost use Rattle.rubis_carrier.specs.Events.{after, first, forgotten, opening, opening_uncompared, replaced};
+ghost use Rattle.rubis_carrier.specs.Events.{after, first, forgotten, opening, opening_uncompared, replaced, is_alone, is_compared, is_offered, is_placed};
+ghost use Rattle.rubis_carrier.specs.Events.{is_somewhere, may, may_open, may_serve, may_tell_published};
 ghost use Rattle.rubis_carrier.specs.declared.values.ShopEvent.TheVariants.{Arrives, Passes, Starts, StreamLosesEnd, WritesAnew};
-ghost use Rattle.rubis_carrier.specs.Tests.{is_alone, is_compared, is_offered, is_placed, is_somewhere, may, may_open, may_serve};
-ghost use Rattle.rubis_carrier.specs.Tests.{may_tell_published};
-ghost use Rattle.rubis_steps.specs.Views.{changed, folder_at, folder_of, folders_of, shop_of, stream_at};
+ghost use Rattle.rubis_steps.specs.Views.{changed, folder_at, folder_of, folders_of, shop_of, stream_at, folders_reached, in_folders, in_own_folder};
+ghost use Rattle.rubis_steps.specs.Views.{in_streams, is_found, streams_reached};
 ghost use Rattle.rubis_steps.specs.Answers.{IsListed, IsStreamListed};
-ghost use Rattle.rubis_steps.specs.Parts.{folders_reached, in_folders, in_own_folder, in_streams, is_found, streams_reached};
 ghost use Rattle.rubis_steps.specs.declared.folders.Folder.{Folder as CodeFolder};
 
 use crate::faults::DeciderFault;

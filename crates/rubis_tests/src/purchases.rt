@@ -2,8 +2,7 @@
 
 ghost use Rattle.std.specs.Prelude.{◌<◌, IfOk, length};
 ghost use Rattle.std.specs.List.{All};
-ghost use Rattle.rubis_pieces.specs.Batches.{Belong};
-ghost use Rattle.rubis_pieces.specs.Work.{IsPiece};
+ghost use Rattle.rubis_pieces.specs.Batches.{Belong, IsPiece};
 ghost use Rattle.rubis_shard.specs.Holdings.{AreInOrder};
 
 use rubis_pieces::Piece;

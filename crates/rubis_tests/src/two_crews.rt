@@ -7,6 +7,7 @@ use crate::gates::is_set_in_time;
 use crate::rigs::Rig;
 use rubis_crew::{Both, Crew, Found, Helper, Job, Lead};
 use std::alloc::AllocError;
+use std::sync::Wait;
 use std::sync::atomic::{AtomicBool, Ordering};
 use std::test::Fail;
 use std::thread;
@@ -33,7 +34,7 @@ impl Job for Doubling {
 
     ghost Worked = { λ double result. result ≡ 2 * double.number };
 
-    fn work(self) -> u64 {
+    fn work<R: Wait>(self, _rt: &R) -> u64 {
         2 * u64::from(self.number)
     }
 }

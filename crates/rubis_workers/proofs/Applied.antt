@@ -1,17 +1,166 @@
 -- A batch of a log that was applied, whole or as far as memory went.
-use Rattle.std.proofs.Common.{◌≡◌, ℕ, zero, suc, ◌+◌, ◌-◌, ◌<◌, ◌≤◌, List, [], ◌∷◌, ◌++◌, length, take, drop, refl, sym, ap, ◌∙◌, subst, arith, ⊎_elim}
-use Rattle.std.specs.Prelude.{Some, map, slice_index, slice_range, Result, Ok, Err, OnOk, OnErr, true}
+use Rattle.std.proofs.Common.{◌≡◌, ℕ, zero, suc, ◌+◌, ◌-◌, ◌*◌, ◌<◌, ◌≤◌, List, [], ◌∷◌, ◌++◌, length, length-append, length-drop, get_or, take, drop, sym, ap}
+use Rattle.std.proofs.Common.{◌∙◌, arith, inl, inr, subst, refl, ⊎_elim}
+use Rattle.std.specs.Prelude.{slice_range, ◌⊎◌, All, Some, map, slice_index, Result, Ok, Err, OnOk, OnErr, true}
+use Rattle.std.specs.List.{flat_map}
+use Rattle.std.proofs.Math.Seq.{take-add}
+use Rattle.std.proofs.lemmas.Grind.{flat_map-append}
+use Rattle.std.proofs.lemmas.List.{drop-append-le, drop-drop, take-append-le, take_more, length-take-le, append-nil, get_or-drop, get_or-take, get_or_default}
+use Rattle.std.proofs.lemmas.List.{length-map, drop-map, get_or-map, length-take, take-map}
+use Rattle.rubis_schema.specs.declared.ids.Id.{Id}
+use Rattle.rubis_shadow.specs.Shadows.{parts}
+use Rattle.rubis_shadow.specs.declared.shadows.Shadow.{Shadow}
+use Rattle.rubis_shadow.specs.declared.shadows.Shadow.TheVariants.{User}
+use Rattle.rubis_shadow.proofs.Footprint.{few_parts as few_of_one}
+use Rattle.rubis_message.specs.Message.{Message, IsMessage, sites_of}
+use Rattle.rubis_model.specs.Log.{core, cores, parts_of, Core, Folded, fold_of, fold_on, before_any, number_parts, numbered_from, step}
+use Rattle.rubis_model.proofs.Settling.{cores_append}
+use Rattle.rubis_workers.specs.Logs.{parts_between, AreWithin, StaysWithin, AppliesTo, AppliesWhole}
+use Rattle.std.proofs.lemmas.List.Elements.{All-get_or}
+use Rattle.rubis_shadow.specs.Tables.{AllInLimits}
+use Rattle.rubis_shadow.specs.declared.keyed_change.Effect.{Effect}
+use Rattle.rubis_shadow.proofs.InLimits.{PartsInLimits, after_kept, first_within, parts_in_limits}
+use Rattle.rubis_model.proofs.Shares.{numbered_append}
+use Rattle.std.proofs.lemmas.List.Sums.{fold-append}
+use Rattle.rubis_shard.specs.Holdings.{HoldsLog, AreInOrder, IsSet, shard_of_log}
+use Rattle.rubis_shard.specs.States.{ShardState}
 use Rattle.std.specs.Result.{is_ok}
 use Rattle.std.proofs.lemmas.Bool.{cases_lt}
-use Rattle.std.proofs.lemmas.List.{drop-map, get_or-map, length-map, length-take, take-map}
 use Rattle.std.proofs.lemmas.Option.{slice_get_cases, slice_get_within}
-use Rattle.rubis_message.specs.Message.{Message}
-use Rattle.rubis_model.specs.Log.{Core, core, cores}
-use Rattle.rubis_shard.specs.Holdings.{AreInOrder, HoldsLog, IsSet, shard_of_log}
-use Rattle.rubis_shard.specs.States.{ShardState}
 use Rattle.rubis_pieces.specs.Following.{AreFollowed, HoldsTo}
-use Rattle.rubis_pieces.proofs.Behind.{follows_to}
-use Rattle.rubis_workers.specs.Logs.{AppliesTo, AppliesWhole, StaysWithin}
+use Rattle.rubis_pieces.proofs.Counting.{follows_to}
+
+-- ---- one message and the next
+
+-- the cores of one message more
+pub cores_more : (log : List Message) (n : ℕ) (m : Message) → n < length log → m ≡ get_or log n m → cores (take (n + 1) log) ≡ cores (take n log) ++ core m ∷ []
+cores_more log n m h e =
+    ap cores (take_more log n m h ∙ ap (λ x. take n log ++ x ∷ []) (sym e)) ∙ cores_append (take n log) (m ∷ [])
+
+some_parts : (id : Id) (red : ℕ) (x : Shadow) → 0 < length (parts id red x)
+some_parts id red (User n) = omega arith
+some_parts id red x = omega arith
+
+-- ---- between two places
+
+pub below_or : (a b : ℕ) → (a < b) ⊎ (b ≤ a)
+below_or a zero = inr (omega arith)
+below_or zero (suc b) = inl (omega arith)
+below_or (suc a) (suc b) = elim (below_or a b) [ inl h ↦ inl (omega (arith, h)) | inr h ↦ inr (omega (arith, h)) ]
+
+slices_meet : (log : List Message) (a b c : ℕ) → a ≤ b → b ≤ c → slice_range log a c ≡ slice_range log a b ++ slice_range log b c
+slices_meet log a b c h g =
+    let far : c - a ≡ (b - a) + (c - b) = omega (arith, h, g) in
+    let near : a + (b - a) ≡ b = omega (arith, h) in
+    ap (λ n. take n (drop a log)) far
+    ∙ take-add (b - a) (c - b) (drop a log)
+    ∙ ap (λ xs. take (b - a) (drop a log) ++ take (c - b) xs) (drop-drop (b - a) a log ∙ ap (λ n. drop n log) near)
+
+first_of : (xs : List Message) (n : ℕ) → 0 < length xs → 0 < n → 0 < length (flat_map parts_of (cores (take n xs)))
+first_of [] n h g = absurd (omega (arith, h))
+first_of (m ∷ xs) zero h g = absurd (omega (arith, g))
+first_of (m ∷ xs) (suc n) h g =
+    let rest = flat_map parts_of (cores (take n xs)) in
+    omega (arith, some_parts m.stamp.id m.stamp.red m.shadow, length-append (parts_of (core m)) rest)
+
+-- ---- a log that grows
+
+pub slice_inside : (a b : ℕ) (log more : List Message) → a ≤ b → b ≤ length log → slice_range (log ++ more) a b ≡ slice_range log a b
+slice_inside a b log more h g =
+    ap (take (b - a)) (drop-append-le a log more (omega (arith, h, g)))
+    ∙ take-append-le (b - a) (drop a log) more (omega (arith, g, h, length-drop a log))
+
+pub between_inside : (a b : ℕ) (log more : List Message) → a ≤ b → b ≤ length log → parts_between (log ++ more) a b ≡ parts_between log a b
+between_inside a b log more h g = ap (λ xs. flat_map parts_of (cores xs)) (slice_inside a b log more h g)
+
+-- ---- how many parts there are
+
+-- the parts of the messages up to one, and its own
+pub count_more : (log : List Message) (n count own : ℕ) (m : Message) → n < length log → m ≡ get_or log n m
+    → count ≡ length (flat_map parts_of (cores (take n log))) → own ≡ length (parts_of (core m))
+    → count + own ≡ length (flat_map parts_of (cores (take (n + 1) log)))
+count_more log n count own m h e c o =
+    let meets = ap (λ xs. length (flat_map parts_of xs)) (cores_more log n m h e) in
+    let split = flat_map-append parts_of (cores (take n log)) (core m ∷ []) in
+    omega (
+      arith,
+      c,
+      o,
+      meets,
+      ap length split,
+      length-append (flat_map parts_of (cores (take n log))) (flat_map parts_of (core m ∷ [])),
+      length-append (parts_of (core m)) [],
+    )
+
+three_parts : (id : Id) (red : ℕ) (x : Shadow) → length (parts id red x) ≤ 3
+three_parts id red x = few_of_one id red x
+
+few_parts : (xs : List Message) → length (flat_map parts_of (cores xs)) ≤ 3 * length xs
+few_parts [] = omega arith
+few_parts (m ∷ xs) =
+    let rest = flat_map parts_of (cores xs) in
+    omega (arith, three_parts m.stamp.id m.stamp.red m.shadow, few_parts xs, length-append (parts_of (core m)) rest)
+
+-- ---- one message more on the tables of a log
+
+-- the shards hold one message more
+pub next_held : (log : List Message) (n : ℕ) (m : Message) (old new : List ShardState) → n < length log → m ≡ get_or log n m
+    → ((shards : ℕ) (done : List Core) → n + 1 ≡ length done + 1 → HoldsLog shards done old → HoldsLog shards (done ++ core m ∷ []) new)
+    → length old ≡ length new → HoldsLog (length old) (cores (take n log)) old → HoldsLog (length new) (cores (take (n + 1) log)) new
+next_held log n m old new h e holds same held =
+    let count : n + 1 ≡ length (cores (take n log)) + 1 = omega (arith, h, length-map (take n log) core, length-take-le n log (omega (arith, h))) in
+    subst (λ k. HoldsLog k (cores (take (n + 1) log)) new) same
+    (subst (λ xs. HoldsLog (length old) xs new) (sym (cores_more log n m h e)) (holds (length old) (cores (take n log)) count held))
+
+-- ---- the limits
+
+parts_kept : (sites : ℕ) (entry part : ℕ) (id : Id) (es : List Effect) (f : Folded) → PartsInLimits sites es → AllInLimits sites f.tables
+    → AllInLimits sites (fold_on f (number_parts entry part id es)).tables
+parts_kept sites entry part id [] f p h = h
+parts_kept sites entry part id (e ∷ es) f p h =
+    let w = first_within sites e.change (PartsInLimits sites es) p in
+    parts_kept sites entry (part + 1) id es (step f (record { entry = entry; part = part; id = id; effect = e })) w.1 (after_kept sites f.tables e w.0 h)
+
+-- the tables of a log with one message more
+one_more : (log : List Core) (m : Core) → fold_of (log ++ m ∷ []) ≡ fold_on (fold_of log) (number_parts (1 + length log) 1 m.id (parts_of m))
+one_more log m =
+    ap (fold_on before_any) (numbered_append 1 log (m ∷ []))
+    ∙ fold-append step before_any (numbered_from 1 log) (numbered_from (1 + length log) (m ∷ []))
+    ∙ ap (fold_on (fold_of log)) (append-nil (number_parts (1 + length log) 1 m.id (parts_of m)))
+
+pub next_within : (sites : ℕ) (log : List Message) (n : ℕ) (m : Message) → n < length log → m ≡ get_or log n m → IsMessage m
+    → All (λ x. sites_of x ≡ sites) log → AreWithin sites log n → AreWithin sites log (n + 1)
+next_within sites log n m h e conditions all within =
+    let counts : sites_of m ≡ sites = subst (λ (x : Message). sites_of x ≡ sites) (sym e) (All-get_or (λ x. sites_of x ≡ sites) log n m h all) in
+    let limits = parts_in_limits (sites_of m) m.stamp.id m.stamp.red m.shadow conditions.id conditions.shadow in
+    let kept = parts_kept sites (1 + length (cores (take n log))) 1 m.stamp.id (parts_of (core m)) (fold_of (cores (take n log)))
+    (subst (λ k. PartsInLimits k (parts_of (core m))) counts limits) within in
+    subst (λ (f : Folded). AllInLimits sites f.tables) (sym (ap fold_of (cores_more log n m h e) ∙ one_more (cores (take n log)) (core m))) kept
+
+-- and of those that follow, up to a place
+rest_within : (sites : ℕ) (log : List Message) (n m k : ℕ) (d : Message) → k ≤ m → n + m ≤ length log → All IsMessage (take m (drop n log))
+    → All (λ x. sites_of x ≡ sites) log → AreWithin sites log n → AreWithin sites log (n + k)
+rest_within sites log n m ℕ.zero d on inside formed all within = subst (AreWithin sites log) (let e : n ≡ n + 0 = omega arith in e) within
+rest_within sites log n m (ℕ.suc k) d on inside formed all within =
+    let lt : n + k < length log = omega (arith, inside, on) in
+    let x = get_or log (n + k) d in
+    let same : n + k + 1 ≡ n + ℕ.suc k = omega arith in
+    let conditions : IsMessage x =
+    subst IsMessage (get_or-take m (drop n log) k d (omega (arith, on)) ∙ get_or-drop n log k d)
+    (All-get_or IsMessage (take m (drop n log)) k d (omega (arith, on, inside, length-take-le m (drop n log) (omega (arith, inside, length-drop n log))))
+    formed) in
+    subst (AreWithin sites log) same
+    (next_within sites log (n + k) x lt (get_or_default log (n + k) d x lt) conditions all
+    (rest_within sites log n m k d (omega (arith, on)) inside formed all within))
+
+pub log_within : (log : List Message) (n upto : ℕ) → n < upto → upto ≤ length log → All IsMessage (slice_range log n upto) → StaysWithin log n upto
+log_within [] n upto l within formed = absurd (omega (arith, l, within))
+log_within (m ∷ log) n upto l within formed = λ sites all first.
+    let all_of_it : n + (upto - n) ≡ upto = omega (arith, l) in
+    subst (AreWithin sites (m ∷ log)) all_of_it
+    (rest_within sites (m ∷ log) n (upto - n) (upto - n) m (omega arith) (omega (arith, l, within)) formed all first)
+
+-- ---- a batch of a log that was applied, whole or as far as memory went
 
 -- ---- stops, one more
 index_before : (xs : List ℕ) (x k : ℕ) → k < length xs → slice_index (xs ++ x ∷ []) k ≡ slice_index xs k

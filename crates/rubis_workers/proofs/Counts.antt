@@ -11,18 +11,15 @@ use Rattle.std.proofs.lemmas.Option.{slice_get-map, slice_get_cases, get_or_from
 use Rattle.rubis_model.specs.Log.{Core}
 use Rattle.rubis_shard.specs.States.{ShardState}
 use Rattle.rubis_shard.specs.Holdings.{AreInOrder}
-use Rattle.rubis_pieces.specs.Faults.{IsFault, numbers_of}
-use Rattle.rubis_pieces.specs.Gathered.{IsCounted, IsInOrder}
+use Rattle.rubis_pieces.specs.Batches.{IsFault, numbers_of, IsCounted, IsInOrder}
 use Rattle.rubis_pieces.specs.declared.gathers.CountedShards.{CountedShards}
 use Rattle.rubis_pieces.specs.declared.gathers.FaultKind.{FaultKind}
 use Rattle.rubis_pieces.specs.declared.pieces.Piece.{Piece}
 use Rattle.rubis_pieces.specs.declared.pieces.Done.{Done}
-use Rattle.rubis_pieces.proofs.Numbers.{no_fault_if_moved}
+use Rattle.rubis_pieces.proofs.Folded.{no_fault_if_moved, same_order}
 use Rattle.rubis_pieces.specs.Following.{AreFollowed, IsFollowed}
-use Rattle.rubis_pieces.proofs.Folded.{same_order}
-use Rattle.rubis_workers.specs.Following.{bare}
-use Rattle.rubis_workers.proofs.Lists.{one_posted, zip_length}
-use Rattle.rubis_workers.proofs.Moved.{moves_along}
+use Rattle.rubis_workers.specs.Work.{bare}
+use Rattle.rubis_workers.proofs.Folded.{one_posted, zip_length, moves_along}
 
 -- ---- posting
 pub bare_last : (all : List Piece) (left : List ShardState) (posted : List Piece) (s : ShardState)

@@ -1,8 +1,4 @@
-pub mod Between
-pub mod NextMessage
 pub mod Applied
-mod Lists
-mod Moved
 mod Folded
 pub mod Counts
 pub mod Shard

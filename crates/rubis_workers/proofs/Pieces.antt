@@ -1,3 +1,3 @@
 -- The words of batches and pieces, passed on.
-pub use Rattle.rubis_pieces.proofs.Behind.{behind_few, holds_none, holds_whole}
-pub use Rattle.rubis_pieces.proofs.Further.{fewer_behind}
+pub use Rattle.rubis_pieces.proofs.Counting.{behind_few, holds_none, holds_whole}
+pub use Rattle.rubis_pieces.proofs.Follows.{fewer_behind}

@@ -1,13 +1,15 @@
 -- A batch of a log, and what its application makes of the tables.
-use Rattle.std.specs.Prelude.{◌≡◌, ℕ, List, All, length, slice_range, take}
+use Rattle.std.specs.Prelude.{◌≡◌, ℕ, ◌+◌, ◌<◌, ◌≤◌, List, All, Err, Ok, Result, length, slice_range, take}
 use Rattle.std.specs.List.{flat_map}
-use Rattle.rubis_shadow.specs.Limits.{AllInLimits}
+use Rattle.rubis_shadow.specs.Tables.{AllInLimits}
 use Rattle.rubis_shadow.specs.declared.keyed_change.Effect.{Effect}
-use Rattle.rubis_message.specs.Message.{Message, sites_of}
+use Rattle.rubis_schema.specs.declared.limits.TheConstants.{KEEP_MAX}
+use Rattle.rubis_message.specs.Message.{IsMessage, Message, sites_of}
 use Rattle.rubis_model.specs.Log.{cores, fold_of, parts_of}
-use Rattle.rubis_shard.specs.Holdings.{HoldsLog}
+use Rattle.rubis_shard.specs.Holdings.{HoldsLog, IsSet}
 use Rattle.rubis_shard.specs.States.{ShardState}
-use Rattle.rubis_pieces.specs.Following.{HoldsTo, StopWithin}
+use Rattle.rubis_pieces.specs.Following.{AreFollowed, HoldsTo, StopWithin}
+use Rattle.rubis_pieces.specs.declared.gathers.CountedShards.{CountedShards}
 
 -- the parts of the messages after the first `from` of a log, up to message `upto`
 abbrev pub parts_between : List Message → ℕ → ℕ → List Effect
@@ -33,3 +35,19 @@ pub record AppliesTo (log : List Message) (from upto : ℕ) (old new : List Shar
   pub counts : length stops ≡ length old
   pub within : StopWithin from upto stops
   pub holds : HoldsLog (length old) (cores (take from log)) old → HoldsTo (length old) (cores log) stops new
+
+-- the messages are some of the log, and well formed
+pub record IsPending (log : List Message) (from upto : ℕ) : Type 0 where
+  pub few : length log ≤ KEEP_MAX
+  pub within : upto ≤ length log
+  pub pending : from < upto
+  pub conditions : All IsMessage (slice_range log from upto)
+
+-- they are folded on the shards of a set as far as memory went; or these are as they were
+abbrev pub AreFolded : List Message → ℕ → ℕ → List ShardState → Result CountedShards (List ShardState) → Type 0
+AreFolded log from upto ss (Ok c) = AreFollowed (from + 1) (cores (slice_range log from upto)) ss c.shards c.dones
+AreFolded log from upto ss (Err back) = back ≡ ss
+
+pub record WereFolded (log : List Message) (from upto : ℕ) (ss : List ShardState) (result : Result CountedShards (List ShardState)) : Type 0 where
+  pub set : IsSet ss
+  pub folded : AreFolded log from upto ss result

@@ -1,17 +1,18 @@
 //! Batches of a log, applied to tables as far as memory goes.
 
-ghost use Rattle.std.specs.Prelude.{◌≡◌, ℕ, ◌+◌, ◌<◌, ◌≤◌, length, map as each, slice_index, take, true, OnOk, OnErr};
+ghost use Rattle.std.specs.Prelude.{◌≡◌, ℕ, List, ◌+◌, ◌<◌, ◌≤◌, length, map as each, slice_index, take, true, OnOk, OnErr};
 ghost use Rattle.std.specs.Vec.{vec_capacity};
 ghost use Rattle.rubis_schema.specs.declared.limits.TheConstants.{KEEP_MAX, WORKERS_MAX};
 ghost use Rattle.rubis_shard.specs.Holdings.{IsSet};
-ghost use Rattle.rubis_workers.specs.Logs.{AppliesTo, AppliesWhole};
+ghost use Rattle.rubis_shard.specs.States.{ShardState};
+ghost use Rattle.rubis_workers.specs.Logs.{AppliesTo, AppliesWhole, IsPending, WereFolded};
 
 use crate::folding::apply_upto;
 use crate::following::{Followed, follow_by_team};
 use crate::gate::Gate;
 use crate::task::FollowBatch;
 use crate::workers::{LogBatch, TeamSetup, Workers};
-use rubis_pieces::homes_of;
+use rubis_pieces::{CountedShards, homes_of};
 use rubis_schema::Items;
 use rubis_shard::{Shard, Tables};
 use std::alloc::AllocError;
@@ -92,6 +93,41 @@ pub fn apply_alone<G: Gate>(
     Err(AllocError)
 }
 
+/// Puts the shards of tables back: those on which a batch of a log was folded, as far as memory went, or those for which there was no room to
+/// begin. On an error `stops` says how far each stands.
+pub fn put_back(
+    tables: &mut Tables,
+    batch: &LogBatch,
+    folded: Result<CountedShards, Items<Shard>>,
+    stops: &mut Vec<usize>,
+) -> Result<(), AllocError>
+    requires batch { IsPending batch.now.log.now batch.now.from batch.now.upto }
+    requires folded { (ss : List ShardState) × WereFolded batch.now.log.now batch.now.from batch.now.upto ss folded × (length ss ≤ vec_capacity stops.old) }
+    ensures ok { (ss : List ShardState) → WereFolded batch.now.log.now batch.now.from batch.now.upto ss folded
+        → OnOk result (AppliesWhole batch.now.log.now batch.now.from batch.now.upto ss tables.new) }
+    ensures err { (ss : List ShardState) → WereFolded batch.now.log.now batch.now.from batch.now.upto ss folded
+        → OnErr result (AppliesTo batch.now.log.now batch.now.from batch.now.upto ss tables.new stops.new.items) }
+    ensures room { vec_capacity stops.new ≡ vec_capacity stops.old }
+{
+    let LogBatch { log: _, from, upto } = *batch;
+    match folded {
+        Ok(counted) => {
+            let CountedShards { shards, dones } = counted;
+            *tables = again(shards);
+            if stop_each(stops, dones.as_slice(), from, upto - from) {
+                Ok(())
+            } else {
+                Err(AllocError)
+            }
+        }
+        Err(back) => {
+            stop_all(stops, back.len(), from);
+            *tables = again(back);
+            Err(AllocError)
+        }
+    }
+}
+
 // Applies a batch of a log by a team of at most that many threads, straight from its messages.
 fn apply_together<G: Gate, R: Threads + Wait + Sync>(
     rt: &R,
@@ -116,8 +152,10 @@ fn apply_together<G: Gate, R: Threads + Wait + Sync>(
     let LogBatch { log, from, upto } = *batch;
     let messages = &log[from..upto];
     let shards = tables.len();
-    stop_all(stops, shards, from);
-    let homes = homes_of(workers.alloc, messages, shards)?;
+    let Ok(homes) = homes_of(workers.alloc, messages, shards) else {
+        stop_all(stops, shards, from);
+        return Err(AllocError);
+    };
     let task = FollowBatch {
         batch: messages,
         homes: &homes,
@@ -128,29 +166,18 @@ fn apply_together<G: Gate, R: Threads + Wait + Sync>(
         gate: &*workers.gate,
         alloc: workers.alloc,
     };
-    let taken = tables.take();
-    let result = follow_by_team(rt, &setup, taken, &task);
-    match result {
+    match follow_by_team(rt, &setup, tables.take(), &task) {
         Ok(followed) => {
             let Followed {
-                shards: list,
-                dones,
+                counted,
                 team,
                 others,
             } = followed;
-            *tables = again(list);
             let each = (upto - from) / shards;
             workers.pace.learn(team - 1, each.saturating_mul(others));
-            if stop_each(stops, dones.as_slice(), from, upto - from) {
-                Ok(())
-            } else {
-                Err(AllocError)
-            }
+            put_back(tables, batch, Ok(counted), stops)
         }
-        Err(back) => {
-            *tables = again(back);
-            Err(AllocError)
-        }
+        Err(back) => put_back(tables, batch, Err(back), stops),
     }
 }
 

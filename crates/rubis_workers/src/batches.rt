@@ -4,8 +4,7 @@ ghost use Rattle.std.specs.Prelude.{◌≡◌, ◌<◌, ◌≤◌, [], length, v
 ghost use Rattle.std.specs.List.Sorted.{IsPermutation};
 ghost use Rattle.rubis_schema.specs.declared.limits.TheConstants.{WORKERS_MAX};
 ghost use Rattle.rubis_shard.specs.Holdings.{AreInOrder};
-ghost use Rattle.rubis_pieces.specs.Batches.{Belong};
-ghost use Rattle.rubis_pieces.specs.Work.{pieces_of};
+ghost use Rattle.rubis_pieces.specs.Batches.{Belong, pieces_of};
 ghost use Rattle.rubis_workers.specs.Work.{AreWorked, AppliesBatch};
 
 use crate::gate::Gate;

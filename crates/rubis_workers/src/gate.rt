@@ -14,12 +14,27 @@ pub struct Told {
     shard: usize,
 }
 
-impl Told {
-    /// Tells the gate of a shard.
-    pub fn tell<G: Gate>(gate: &G, shard: usize) -> Told
-        ensures { result.shard ≡ shard }
-    {
-        gate.taken(shard);
+/// What a worker tells of a shard. That it is shared among threads isn't said here: a job of a crew, which works by a trait's method, can't
+/// pass it on.
+pub trait Tells {
+    fn tell(&self, shard: usize) -> Told
+        ensures { result.shard ≡ shard };
+}
+
+/// A gate that is told.
+pub struct Teller<'a, G> {
+    pub gate: &'a G,
+}
+
+impl<'a, G> Drop for Teller<'a, G> {
+    fn drop(self) {
+        let Teller { gate: _ } = self;
+    }
+}
+
+impl<'a, G: Gate> Tells for Teller<'a, G> {
+    fn tell(&self, shard: usize) -> Told {
+        self.gate.taken(shard);
         Told { shard }
     }
 }

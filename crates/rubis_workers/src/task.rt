@@ -8,8 +8,8 @@ use rubis_message::Message;
 use rubis_pieces::{Done, Piece, fold_share, follow};
 use rubis_shard::PartHomes;
 
-/// What is done with each piece. It is lent to all workers.
-pub trait Task: Sync {
+/// What is done with each piece.
+pub trait Task {
     ghost use Rattle.rubis_pieces.specs.declared.pieces.Piece.{Piece};
     ghost use Rattle.rubis_pieces.specs.declared.pieces.Done.{Done};
 
@@ -28,7 +28,7 @@ pub trait Task: Sync {
 pub struct FoldShares;
 
 impl Task for FoldShares {
-    ghost use Rattle.rubis_pieces.specs.Work.{IsPiece, IsWorked};
+    ghost use Rattle.rubis_pieces.specs.Batches.{IsPiece, IsWorked};
 
     ghost Fits = { λ _ piece. IsPiece piece };
 
@@ -51,7 +51,7 @@ pub struct FollowBatch<'a> {
 impl<'a> Task for FollowBatch<'a> {
     ghost use Rattle.std.specs.Prelude.{◌+◌, ◌<◌, ◌≤◌, length};
     ghost use Rattle.rubis_model.specs.Log.{cores};
-    ghost use Rattle.rubis_shard.specs.PartHomes.{AreHomes};
+    ghost use Rattle.rubis_shard.specs.Holdings.{AreHomes};
     ghost use Rattle.rubis_pieces.specs.Following.{IsFollowed};
 
     ghost Fits = { λ f piece. (piece.shard.number < piece.shard.shards)

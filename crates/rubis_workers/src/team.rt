@@ -4,10 +4,10 @@ ghost use Rattle.std.specs.Prelude.{◌≡◌, ◌-◌, ◌<◌, ◌≤◌, ◌+
 ghost use Rattle.std.specs.List.{All, AllZip};
 ghost use Rattle.std.specs.Vec.{vec_capacity};
 ghost use Rattle.std.specs.Thread.{IsSync};
-ghost use Rattle.rubis_board.specs.Passes.{joined_pass};
+ghost use Rattle.rubis_board.specs.Rule.{joined_pass};
 ghost use Rattle.rubis_workers.specs.Work.{having, IsRoom};
 
-use crate::gate::{Gate, Told};
+use crate::gate::{Gate, Teller, Tells};
 use crate::task::Task;
 use rubis_board::{Board, Pass};
 use rubis_pieces::Done;
@@ -33,7 +33,7 @@ impl<'a, T, G> Drop for TeamJob<'a, T, G> {
 }
 
 /// One worker: takes pieces until none is left, and does the task of each.
-pub fn work<T: Task, G: Gate, R: Wait>(
+pub fn work<T: Task, G: Tells, R: Wait>(
     rt: &R,
     job: &TeamJob<T, G>,
     mut pass: Pass,
@@ -50,7 +50,7 @@ pub fn work<T: Task, G: Gate, R: Wait>(
         let Some(piece) = job.board.take(rt, &mut pass) else {
             break;
         };
-        let taken = Told::tell(job.gate, piece.shard.number());
+        let taken = job.gate.tell(piece.shard.number());
         room.push_reserved(job.task.work_on(piece, taken));
     }
     (pass, room)
@@ -67,8 +67,8 @@ pub struct Teamwork<A> {
     pub answer: A,
 }
 
-// What a team made of a board, with what one thread more did, which is none of the caller's.
-fn joined<A>(board: &Board, ours: Teamwork<A>, theirs: Pass, mut done: Vec<Done>) -> Teamwork<A>
+/// What a team made of a board, with what one thread more did, which is none of the caller's.
+pub fn joined<A>(board: &Board, ours: Teamwork<A>, theirs: Pass, mut done: Vec<Done>) -> Teamwork<A>
     requires boards { (ours.pass.board ≡ board.now) × (theirs.board ≡ board.now) }
     requires ours { length ours.list.items ≡ length ours.pass.taken }
     requires theirs { length done.items ≡ length theirs.taken }
@@ -102,7 +102,7 @@ fn joined<A>(board: &Board, ours: Teamwork<A>, theirs: Pass, mut done: Vec<Done>
 /// The caller's thread and one more for each further room: starts a thread for one, goes on with the others, and joins it.
 /// What a thread that can't be started was to do is done by the others. Once all others are started the caller's thread
 /// calls `first`, and then works too.
-pub fn fan_out<T: Task, G: Gate, R: Threads + Wait + Sync, A, F: FnOnce() -> A>(
+pub fn fan_out<T: Task + Sync, G: Gate, R: Threads + Wait + Sync, A, F: FnOnce() -> A>(
     rt: &R,
     job: &TeamJob<T, G>,
     pass: Pass,
@@ -123,9 +123,11 @@ pub fn fan_out<T: Task, G: Gate, R: Threads + Wait + Sync, A, F: FnOnce() -> A>(
     ensures alone { vec_len rooms ≡ 0 → result.others ≡ 0 }
     ensures answer { F.post first result.answer }
 {
+    let (board, task, gate) = (job.board, job.task, job.gate);
     let Some(theirs) = rooms.pop() else {
         let answer = first();
-        let (pass, list) = work(rt, job, pass, room);
+        let gate = &Teller { gate };
+        let (pass, list) = work(rt, &TeamJob { board, task, gate }, pass, room);
         return Teamwork {
             pass,
             list,
@@ -133,7 +135,6 @@ pub fn fan_out<T: Task, G: Gate, R: Threads + Wait + Sync, A, F: FnOnce() -> A>(
             answer,
         };
     };
-    let (board, task, gate) = (job.board, job.task, job.gate);
     let (mine, new) = board.split(pass);
     let ((new, theirs), ours) = thread::join(
         rt,
@@ -143,7 +144,18 @@ pub fn fan_out<T: Task, G: Gate, R: Threads + Wait + Sync, A, F: FnOnce() -> A>(
             requires room { (new.taken ≡ []) × (theirs.items ≡ []) × (length new.posted ≤ vec_capacity theirs) }
             ensures pass { result.0 ≡ having new result.0.taken true }
             ensures done { AllZip (T.Worked task.entry.now) result.0.taken result.1.items }
-        { work(rt, &TeamJob { board, task, gate }, new, theirs) },
+        {
+            work(
+                rt,
+                &TeamJob {
+                    board,
+                    task,
+                    gate: &Teller { gate },
+                },
+                new,
+                theirs,
+            )
+        },
         move || -> Teamwork<A>
             requires sync { IsSync R.row }
             requires board { mine.board ≡ board.now }

@@ -6,16 +6,16 @@ use Rattle.rubis_schema.specs.declared.refusals.Refusal.TheVariants as refusal
 use Rattle.rubis_message.specs.WorldReadings.{world_input}
 use Rattle.rubis_message.specs.declared.answers.Happened.{Happened}
 use Rattle.rubis_message.specs.declared.tokens.Packet.{Packet}
-use Rattle.rubis_model.specs.RecordedRuns.{world_after}
+use Rattle.rubis_model.specs.Processes.{world_after}
 use Rattle.rubis_model.specs.System.{Event, World, happens}
 use Rattle.rubis_model.specs.WorldRecords.{event_rows, refusal_row, told_at, world_answers, world_step}
-use Rattle.rubis_laws.proofs.Runs.Refusing.{refusals_change_nothing}
+use Rattle.rubis_laws.proofs.Runs.Written.{refusals_change_nothing}
 use Rattle.rubis_script.specs.Replica.fault_variants as fault
 use Rattle.rubis_engine.specs.Accounts.{AnswersRecord, LeadsOn}
 use Rattle.rubis_engine.specs.Text.{rows_text}
 use Rattle.rubis_engine.specs.declared.service.Course.TheVariants.{GoesOn}
 use Rattle.rubis_engine.proofs.TextFacts.{text-goes}
-use Rattle.rubis_world.specs.SitesWorlds.{ComesTo, Steps, WorldState}
+use Rattle.rubis_world.specs.Worlds.{ComesTo, Steps, WorldState}
 use Rattle.rubis_world.specs.declared.faults.WorldFault.{WorldFault}
 use Rattle.rubis_world.specs.declared.faults.WorldFault.TheVariants.{BadEvent, NoSuchPacket, Site, Memory}
 use Rattle.rubis_world.specs.Running.{IsRefused, IsTold, LeadsWorld, told_by_world}

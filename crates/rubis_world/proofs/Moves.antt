@@ -1,6 +1,20 @@
--- One site of several changes: what its step is in the world.
-use Rattle.std.proofs.Common.{◌≡◌, ℕ, ◌<◌, ◌≤◌, List, [], ◌∷◌, ◌++◌, length, length-append, get_or, set, refl, sym, ap, ◌∙◌, subst, ⊎_elim, arith}
-use Rattle.std.specs.Prelude.{map, slice_get, slice_set, IfSome, IsErr, Some, Result, Ok, Err}
+-- Every event keeps a world: one site of several changes, and the logs of all sites are logs of a run.
+use Rattle.std.proofs.Common.{◌≡◌, ℕ, ◌≤◌, length, arith, sym, subst, ◌<◌, List, [], ◌∷◌, ◌++◌, length-append, get_or, set, refl, ap, ◌∙◌, ⊎_elim, ◌+◌, zero}
+use Rattle.std.proofs.Common.{suc}
+use Rattle.std.specs.Prelude.{Result, Ok, Err, map, slice_get, slice_set, IfSome, IsErr, Some}
+use Rattle.rubis_message.specs.declared.answers.Happened.{Happened}
+use Rattle.rubis_model.specs.Laws.{InRun}
+use Rattle.rubis_model.specs.System.{AllDeliverable, Room, Sound, Event, IsEvent, World, happens, IsDeliverable, site, place, sends, takes, saying, sending}
+use Rattle.rubis_model.specs.System.{next_number, shown, packet_at}
+use Rattle.rubis_laws.proofs.Runs.Written.{event_deliverable}
+use Rattle.rubis_laws.proofs.Runs.SoundSteps.{event_keeps, event_sites, start_sites, start_sound, has_packet, same_sites, room_event, room_start}
+use Rattle.rubis_laws.proofs.Runs.EveryRun.{in_run, logged}
+use Rattle.rubis_script.specs.Replica.{IsCount, AnswersAsTheStep, IsReadFault, Lists, ListsTheLog, NeedsNoTables, SiteState, TakesIn, left_of, Fault}
+use Rattle.rubis_script.specs.Replica.{resting_at, setup_place}
+use Rattle.rubis_script.specs.Replica.fault_variants as fault
+use Rattle.rubis_world.specs.Worlds.{ComesTo, Steps, WorldState, opening_world, IsWorld, fault_at_site, AreAtPlaces, Asks, left_at, WorldSetup, setup_at}
+use Rattle.rubis_world.specs.declared.faults.WorldFault.{WorldFault}
+use Rattle.rubis_world.specs.declared.faults.WorldFault.TheVariants.{BadEvent, NoSuchPacket, Site, Memory}
 use Rattle.std.specs.Result.{IsErrAnd}
 use Rattle.std.proofs.lemmas.Bool.{cases_eq, cases_lt}
 use Rattle.std.proofs.lemmas.List.{get_or-map, get_or-set_other, get_or-set_same, length-map, length-set, map-set}
@@ -8,22 +22,71 @@ use Rattle.std.proofs.lemmas.Option.{slice_get-get_or, slice_get_past}
 use Rattle.rubis_schema.specs.declared.listings.Listing.{Listing}
 use Rattle.rubis_schema.specs.declared.listings.Listing.TheVariants as shown_listing
 use Rattle.rubis_schema.specs.declared.refusals.Refusal.{Refusal}
-use Rattle.rubis_message.specs.declared.answers.Happened.{Happened}
 use Rattle.rubis_message.specs.declared.answers.Happened.TheVariants as happened
 use Rattle.rubis_message.specs.declared.tokens.Packet.{Packet}
-use Rattle.rubis_model.specs.Site.{Place, Replica, opening_at}
-use Rattle.rubis_model.specs.Sound.{AllDeliverable, IsDeliverable}
-use Rattle.rubis_model.specs.System.{World, site, place, sends, takes, saying, sending, next_number, shown, packet_at}
+use Rattle.rubis_model.specs.Site.{Place, Replica, opening_at, listed, listing_rows, Has}
 use Rattle.rubis_model.specs.Log.{cores, fold_of}
-use Rattle.rubis_model.specs.Runs.{listed, listing_rows}
-use Rattle.rubis_laws.proofs.Runs.SoundSteps.{has_packet, same_sites}
-use Rattle.rubis_script.specs.Replica.{AnswersAsTheStep, IsReadFault, Lists, ListsTheLog, NeedsNoTables, SiteState, TakesIn, left_of}
-use Rattle.rubis_script.specs.Replica.{Fault}
-use Rattle.rubis_script.specs.Replica.fault_variants as fault
-use Rattle.rubis_world.specs.Faults.{fault_at_site}
-use Rattle.rubis_world.specs.SitesWorlds.{AreAtPlaces, Asks, ComesTo, Steps, WorldState, left_at}
-use Rattle.rubis_world.specs.declared.faults.WorldFault.{WorldFault}
 use Rattle.rubis_world.specs.declared.faults.WorldFault.TheVariants as world
+use Rattle.std.specs.List.{range_with_len}
+use Rattle.std.proofs.lemmas.List.FromFn.{get_or-map-range_with_len, length-map-range_with_len, map-range_with_len_more}
+use Rattle.rubis_message.specs.declared.answers.Verdict.TheVariants.{Agree}
+use Rattle.rubis_message.specs.declared.tokens.Packet.TheVariants as packet
+use Rattle.rubis_model.specs.Verdict.{verdict}
+use Rattle.rubis_model.specs.WorldRecords.{logs_of}
+use Rattle.rubis_model.proofs.Settling.{has_left}
+use Rattle.rubis_audit.specs.Walks.{HaveMessagesAmong}
+use Rattle.rubis_laws.proofs.Runs.Recorded.{are_logs, logs_agree}
+
+-- a world is one that the laws speak of
+pub told : (s : WorldState) → IsWorld s → InRun s.world
+told s h = in_run s.keep h.keep h.room h.sound
+
+-- what a world is kept by is how much it keeps and the world
+moved : (old new : WorldState) (w : World) → ComesTo old new w → IsWorld (record old { world = w }) → IsWorld new
+moved old new w t h = record {
+  sites = subst (λ (v : World). length v.sites ≤ 16) (sym t.1) h.sites;
+  keep = subst (λ n. n ≤ 1000000) (sym t.0) h.keep;
+  sound = subst Sound (sym t.1) h.sound;
+  room = subst (λ n. Room n new.world) (sym t.0) (subst (Room old.keep) (sym t.1) h.room);
+  deliverable = subst (λ (v : World). AllDeliverable (length v.sites) v.sent) (sym t.1) h.deliverable;
+}
+
+kept : (s : WorldState) (e : Event) → IsEvent (length s.world.sites) e → IsWorld s → IsWorld (record s { world = (happens s.keep s.world e).0 })
+kept s e a h = let same = event_sites s.keep s.world e in record {
+  sites = subst (λ n. n ≤ 16) (sym same) h.sites;
+  keep = h.keep;
+  sound = event_keeps s.keep h.keep s.world e a h.sound;
+  room = room_event s.keep s.world e h.room;
+  deliverable = subst (λ n. AllDeliverable n (happens s.keep s.world e).0.sent) (sym same)
+      (event_deliverable s.keep h.keep s.world e (omega (arith, h.sites)) a h.sound h.deliverable);
+}
+
+-- a call that stays at the world keeps it
+pub stayed : (old new : WorldState) → ComesTo old new old.world → IsWorld old → IsWorld new
+stayed old new t h = moved old new old.world t (record { sites = h.sites; keep = h.keep; sound = h.sound; room = h.room; deliverable = h.deliverable })
+
+-- what answers an event is a world again
+pub answered : (old new : WorldState) (e : Event) (result : Result Happened WorldFault) → IsEvent (length old.world.sites) e
+    → Steps old new (happens old.keep old.world e) result → IsWorld old → IsWorld new
+answered old new e (Ok x) a t h = moved old new (happens old.keep old.world e).0 t.0 (kept old e a h)
+answered old new e (Err BadEvent) a t h = subst IsWorld (sym t.0) h
+answered old new e (Err NoSuchPacket) a t h = subst IsWorld (sym t.0) h
+answered old new e (Err (Site (fault.Refused r))) a t h = stayed old new t.0 h
+answered old new e (Err (Site fault.Behind)) a t h = stayed old new t h
+answered old new e (Err (Site fault.Memory)) a t h = absurd t
+answered old new e (Err Memory) a t h = stayed old new t h
+
+-- the start
+pub begun : (s : WorldState) (sites keep : ℕ) → IsCount sites 16 × IsCount keep 1000000 → s ≡ opening_world keep sites → IsWorld s
+begun s sites keep limits e = subst IsWorld (sym e) (record {
+  sites = subst (λ n. n ≤ 16) (sym (start_sites sites)) limits.0.small;
+  keep = limits.1.small;
+  sound = start_sound sites limits.0.positive;
+  room = room_start keep sites;
+  deliverable = λ p h. absurd h;
+})
+
+-- ---- one site of several changes: what its step is in the world
 
 -- what the fields stand for
 abbrev pub world_of : List SiteState → List Packet → World
@@ -218,12 +281,6 @@ module _ (keep : ℕ) (sites : List SiteState) (sent : List Packet) (i : ℕ) (s
         (Ok (word answer))) view
         ((refl, (λ k. record { sites = come k; sent = sent })), ap (saying word) (said_there keep sites sent i s x inside read at step answer a))
 
--- ---- what comes by a packet
-pub is_below : (keep : ℕ) (sites : List SiteState) (sent : List Packet) (old : WorldState) → state_of keep sites sent ≡ old → (i j n : ℕ) → j < n → j ≡ i
-    → n ≡ length sites → i < length old.world.sites
-is_below keep sites sent old view i j n l e f = let g = length-map sites (λ (y : SiteState). y.state) in
-    subst (λ (w : WorldState). i < length w.world.sites) view (omega (arith, l, e, f, g))
-
 -- ---- when a site says that it is behind
 module _ (s x : SiteState) (f : Fault) (result : Result Happened WorldFault) (said : IsErr result × IsErrAnd result (λ g. g ≡ fault_at_site f)) where
   -- what the site says is what is told
@@ -274,3 +331,62 @@ module _ (s x : SiteState) (f : Fault) (result : Result Happened WorldFault) (sa
 pub is_deliverable : (sites : ℕ) (sent : List Packet) (k : ℕ) (p q : Packet) → AllDeliverable sites sent → packet_at sent k ≡ Some p → q ≡ p →
     IsDeliverable sites q
 is_deliverable sites sent k p q all e f = subst (IsDeliverable sites) (sym f) (all p (has_packet sent k p e))
+
+-- ---- sites with nothing done
+
+-- a site with nothing done
+abbrev pub fresh : WorldSetup → ℕ → SiteState
+fresh setup i = record { place = setup_place (setup_at setup i); state = opening_at i; progress = resting_at 0; batch = setup.batch }
+
+abbrev pub fresh_sites : WorldSetup → ℕ → List SiteState
+fresh_sites setup n = map (fresh setup) (range_with_len 0 n)
+
+pub one_more : (setup : WorldSetup) (sites sites' : List SiteState) (n : ℕ) (s : SiteState) → sites ≡ fresh_sites setup n → s ≡ fresh setup n
+    → sites' ≡ sites ++ s ∷ [] → sites' ≡ fresh_sites setup (n + 1)
+one_more setup sites sites' n s e f g =
+    g ∙ (λ k. e k ++ f k ∷ []) ∙ sym (map-range_with_len_more (fresh setup) 0 n n (omega arith))
+
+states : (setup : WorldSetup) (a n : ℕ) → map (λ (y : SiteState). y.state) (map (fresh setup) (range_with_len a n)) ≡ map opening_at (range_with_len a n)
+states setup a zero = refl
+states setup a (suc n) = ap (λ q. opening_at a ∷ q) (states setup (a + 1) n)
+
+lefts : (setup : WorldSetup) (a n : ℕ) → map (λ (y : SiteState). left_of y.progress) (map (fresh setup) (range_with_len a n))
+    ≡ map (λ i. 0) (range_with_len a n)
+lefts setup a zero = refl
+lefts setup a (suc n) = ap (λ q. 0 ∷ q) (lefts setup (a + 1) n)
+
+pub starts : (setup : WorldSetup) (sites : List SiteState) → sites ≡ fresh_sites setup setup.sites
+    → state_of setup.keep sites [] ≡ opening_world setup.keep setup.sites
+starts setup sites e =
+    let f = ap (map (λ (y : SiteState). y.state)) e ∙ states setup 0 setup.sites in
+    let l = ap (map (λ (y : SiteState). left_of y.progress)) e ∙ lefts setup 0 setup.sites in
+    (λ k. record { keep = setup.keep; world = record { sites = f k; sent = [] }; left = l k })
+
+fresh_at_places : (setup : WorldSetup) → AreAtPlaces setup.keep (fresh_sites setup setup.sites)
+fresh_at_places setup i =
+    let long = length-map-range_with_len (fresh setup) 0 setup.sites in
+    subst (λ n. IfSome (slice_get (fresh_sites setup setup.sites) i) (λ (s : SiteState). s.place ≡ record { site = i; sites = n; keep = setup.keep }))
+    (sym long)
+    (⊎_elim
+    (λ l. subst (λ o. IfSome o (λ (s : SiteState). s.place ≡ record { site = i; sites = setup.sites; keep = setup.keep }))
+    (sym (slice_get-get_or (fresh_sites setup setup.sites) i (fresh setup i) (omega (arith, l, long))))
+    (ap (λ (s : SiteState). s.place) (get_or-map-range_with_len (fresh setup) 0 setup.sites i i (fresh setup i) l (omega arith))))
+    (λ l. subst (λ o. IfSome o (λ (s : SiteState). s.place ≡ record { site = i; sites = setup.sites; keep = setup.keep }))
+    (sym (slice_get_past (fresh_sites setup setup.sites) i (omega (arith, l, long)))) tt)
+    (cases_lt i setup.sites))
+
+pub at_places : (setup : WorldSetup) (keep : ℕ) (sites : List SiteState) → sites ≡ fresh_sites setup setup.sites → keep ≡ setup.keep → AreAtPlaces keep sites
+at_places setup keep sites e k = subst (AreAtPlaces keep) (sym e) (subst (λ q. AreAtPlaces q (fresh_sites setup setup.sites)) (sym k) (fresh_at_places setup))
+
+-- ---- the logs of all sites are logs of a run
+
+-- each message of theirs counts all sites
+pub among : (s : WorldState) → IsWorld s → HaveMessagesAmong (length s.world.sites) (logs_of s.world)
+among s h log k m in_log =
+    let was = are_logs s.world log k in
+    let sent = logged s.world h.sound log.site m (subst (Has m) was.messages (has_left m log.messages was.later in_log)) in
+    (h.deliverable (packet.Msg m) sent).1
+
+-- so the auditor agrees
+pub agree : (s : WorldState) → IsWorld s → verdict (logs_of s.world) ≡ Agree
+agree s h = logs_agree h.sound

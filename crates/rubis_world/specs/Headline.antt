@@ -1,15 +1,15 @@
 -- What a run of several sites says of them: where its records lead, and that its text is that of a run.
 use Rattle.std.specs.Prelude.{ℕ, ⊤, IfSome, List, Option, Result, Ok, Err, take}
 use Rattle.std.specs.Io.KnownBytes.{Appends}
-use Rattle.rubis_model.specs.RecordedRuns.{IsTextOfARun}
+use Rattle.rubis_model.specs.Processes.{IsTextOfARun}
 use Rattle.rubis_engine.specs.Text.{input_records, rows_text}
 use Rattle.rubis_engine.specs.declared.fault.Count.{Count}
 use Rattle.rubis_engine.specs.declared.fault.RunFault.{RunFault}
 use Rattle.rubis_engine.specs.declared.fault.RunFault.TheVariants.{Memory, Read, TooLong, Write}
 use Rattle.rubis_reading.specs.declared.chunks.Chunks.{Chunks}
-use Rattle.rubis_serving.specs.Whole.{EndsLed}
+use Rattle.rubis_serving.specs.Serving.{EndsLed}
 use Rattle.rubis_world.specs.Running.{LeadsWorld, told_by_world}
-use Rattle.rubis_world.specs.SitesWorlds.{WorldState}
+use Rattle.rubis_world.specs.Worlds.{WorldState}
 
 -- these records lead from one state of the sites to the other
 abbrev pub Lead : List (List (List ℕ)) → WorldState → WorldState → Type 0

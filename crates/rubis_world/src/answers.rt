@@ -1,7 +1,7 @@
 //! The records that answer what happens at one of several sites.
 
 ghost use Rattle.std.specs.Prelude.{◌≡◌, ◌++◌, ◌∷◌, [], OnOk, Some, map};
-ghost use Rattle.rubis_model.specs.Answers.{refused_row};
+ghost use Rattle.rubis_model.specs.Site.{refused_row};
 ghost use Rattle.rubis_model.specs.WorldRecords.{happened_rows, refusal_row, sent_rows, site_row, world_row};
 ghost use Rattle.rubis_engine.specs.Text.{rows_text};
 
@@ -25,7 +25,7 @@ struct SiteRows<'a> {
 impl RowSink for SiteRows<'_> {
     ghost use Rattle.std.specs.Prelude.{◌≡◌, refl};
     ghost use Rattle.std.proofs.Common.{◌∙◌};
-    ghost use Rattle.rubis_world.specs.Telling.{text_grows_by, more_told, none_told};
+    ghost use Rattle.rubis_world.specs.Running.{text_grows_by, more_told, none_told};
 
     // The reference stays the same.
     ghost adds = { λ rows old new. (new.sink.ghost_name ≡ old.sink.ghost_name) × text_grows_by rows old.sink.now old.site new.sink.now new.site };

@@ -6,9 +6,8 @@ ghost use Rattle.rubis_model.specs.Verdict.{verdict};
 ghost use Rattle.rubis_model.specs.WorldRecords.{log_of, logs_of};
 ghost use Rattle.rubis_audit.specs.Walks.{HaveMessagesAmong};
 ghost use Rattle.rubis_script.specs.Replica.fault_variants as Fault;
-ghost use Rattle.rubis_world.specs.SitesWorlds.{ComesTo, left_at};
+ghost use Rattle.rubis_world.specs.Worlds.{ComesTo, left_at, IsCheckFault, SomeBehind};
 ghost use Rattle.rubis_world.specs.declared.faults.WorldFault.TheVariants as WorldFault;
-ghost use Rattle.rubis_world.specs.Worlds.{IsCheckFault, SomeBehind};
 
 use crate::faults::WorldFault;
 use crate::sites::Sites;

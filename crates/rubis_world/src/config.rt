@@ -4,7 +4,7 @@ ghost use Rattle.std.specs.Prelude.{◌≡◌, ◌<◌};
 ghost use Rattle.std.specs.Option.{SomeIff};
 ghost use Rattle.rubis_schema.specs.declared.limits.TheConstants.{KEEP_MAX, SITES_MAX};
 ghost use Rattle.rubis_script.specs.Replica.{IsCount};
-ghost use Rattle.rubis_world.specs.Setup.{IsWorldSetup, WorldSetup, setup_at};
+ghost use Rattle.rubis_world.specs.Worlds.{IsWorldSetup, WorldSetup, setup_at};
 
 use rubis_schema::Hashes;
 use rubis_script::Config;
@@ -21,7 +21,7 @@ pub struct WorldConfig {
 }
 
 impl Model for WorldConfig {
-    ghost use Rattle.rubis_world.specs.Setup.{WorldSetup, common_setup};
+    ghost use Rattle.rubis_world.specs.Worlds.{WorldSetup, common_setup};
 
     ghost Value = { WorldSetup };
 

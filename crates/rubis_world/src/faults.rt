@@ -1,7 +1,7 @@
 //! What ends a call of a world.
 
 ghost use Rattle.std.specs.Prelude.{◌≡◌};
-ghost use Rattle.rubis_world.specs.Faults.{fault_at_site};
+ghost use Rattle.rubis_world.specs.Worlds.{fault_at_site};
 ghost use Rattle.rubis_world.specs.declared.faults.WorldFault.TheVariants as WorldFault;
 
 use rubis_script::Fault;

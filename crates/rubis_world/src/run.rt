@@ -7,7 +7,7 @@ ghost use Rattle.rubis_schema.specs.declared.limits.TheConstants.{COUNTED_MAX, K
 ghost use Rattle.rubis_script.specs.Headline.{OfRead};
 ghost use Rattle.rubis_world.specs.Headline.{Lead, TellsARun, WorldEndsWhole};
 ghost use Rattle.rubis_world.specs.Running.{answers_of_world, told_by_world};
-ghost use Rattle.rubis_world.specs.SitesWorlds.{opening_world};
+ghost use Rattle.rubis_world.specs.Worlds.{opening_world};
 
 use crate::config::WorldConfig;
 use crate::desk::WorldDesk;

@@ -6,13 +6,11 @@ ghost use Rattle.rubis_shadow.specs.Shadows.{IsAsk};
 ghost use Rattle.rubis_message.specs.declared.requests.Request.TheVariants as Request;
 ghost use Rattle.rubis_message.specs.declared.tokens.Packet.{Packet as Sent};
 ghost use Rattle.rubis_message.specs.declared.tokens.Packet.TheVariants as Packet;
-ghost use Rattle.rubis_model.specs.Sound.{AllDeliverable, IsDeliverable};
-ghost use Rattle.rubis_model.specs.System.{IsEvent, coming, happens, packet_at, requested, start};
+ghost use Rattle.rubis_model.specs.System.{AllDeliverable, IsDeliverable, IsEvent, coming, happens, packet_at, requested, start, site as site_of};
 ghost use Rattle.rubis_model.specs.System.Event.{At, Deliver};
-ghost use Rattle.rubis_model.specs.System.{site as site_of};
 ghost use Rattle.rubis_script.specs.Replica.{IsCount};
 ghost use Rattle.rubis_script.specs.Replica.fault_variants as Fault;
-ghost use Rattle.rubis_world.specs.SitesWorlds.{Asks, IsUpToDate, Steps, StepsAlone, left_at, opening_world};
+ghost use Rattle.rubis_world.specs.Worlds.{Asks, IsUpToDate, Steps, StepsAlone, left_at, opening_world};
 ghost use Rattle.rubis_world.specs.declared.faults.WorldFault.TheVariants as WorldFault;
 
 use crate::config::WorldConfig;
@@ -57,7 +55,7 @@ pub struct Sites {
 impl Model for Sites {
     ghost use Rattle.std.specs.Prelude.{map};
     ghost use Rattle.rubis_script.specs.Replica.{SiteState, left_of};
-    ghost use Rattle.rubis_world.specs.SitesWorlds.{AreAtPlaces, WorldState};
+    ghost use Rattle.rubis_world.specs.Worlds.{AreAtPlaces, WorldState};
 
     ghost Value = { WorldState };
 

@@ -3,7 +3,7 @@
 ghost use Rattle.rubis_schema.specs.declared.limits.TheConstants.{RECORDS_MAX};
 ghost use Rattle.rubis_engine.specs.Progress.{IsRun};
 ghost use Rattle.rubis_script.specs.Replica.{setup_place};
-ghost use Rattle.rubis_world.specs.Waiting.{waiting_account};
+ghost use Rattle.rubis_world.specs.Running.{waiting_account};
 
 use rubis_audit::write_waits;
 use rubis_engine::{Count, RunFault, Sink};

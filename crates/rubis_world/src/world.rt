@@ -10,9 +10,8 @@ ghost use Rattle.rubis_model.specs.Verdict.{verdict};
 ghost use Rattle.rubis_model.specs.WorldRecords.{logs_of};
 ghost use Rattle.rubis_script.specs.Replica.{IsCount};
 ghost use Rattle.rubis_script.specs.Replica.fault_variants as Fault;
-ghost use Rattle.rubis_world.specs.SitesWorlds.{AnswersDelivery, AnswersRequest, ComesTo, left_at, opening_world};
+ghost use Rattle.rubis_world.specs.Worlds.{AnswersDelivery, AnswersRequest, ComesTo, left_at, opening_world, IsCheckFault};
 ghost use Rattle.rubis_world.specs.declared.faults.WorldFault.TheVariants as WorldFault;
-ghost use Rattle.rubis_world.specs.Worlds.{IsCheckFault};
 
 use crate::checks::check;
 use crate::config::WorldConfig;
@@ -35,8 +34,7 @@ pub struct World {
 }
 
 impl Model for World {
-    ghost use Rattle.rubis_world.specs.SitesWorlds.{WorldState};
-    ghost use Rattle.rubis_world.specs.Worlds.{IsWorld};
+    ghost use Rattle.rubis_world.specs.Worlds.{WorldState, IsWorld};
 
     ghost Value = { WorldState };
 

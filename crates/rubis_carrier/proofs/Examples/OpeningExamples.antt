@@ -1,17 +1,16 @@
 -- What a site has to know before it takes asks: each rule of `MayOpen` is needed. Where a step that it refuses is done all the same,
 -- allowed steps lead to where two messages of one site have one number.
 use Rattle.std.proofs.Common.{◌≡◌, inl, ◌++◌, ◌∷◌, [], ℕ, true, false, List, refl, subst}
-use Rattle.rubis_model.specs.Settle.{Has}
+use Rattle.rubis_model.specs.Site.{Has}
 use Rattle.rubis_carrier.specs.declared.values.Carrier.{Carrier}
 use Rattle.rubis_carrier.specs.declared.values.Carrier.TheVariants.{Files, Server}
-use Rattle.rubis_carrier.specs.Events.{AreSteps, after, opened, opening, replaced, run}
+use Rattle.rubis_carrier.specs.Events.{AreSteps, after, opened, opening, replaced, run, are_steps, may}
 use Rattle.rubis_carrier.specs.declared.values.ShopEvent.{ShopEvent}
 use Rattle.rubis_carrier.specs.declared.values.ShopEvent.TheVariants.{Accepts, Appends, Arrives, Closes, Fills, Gives, GoesOn, IsAsked, IsCopied, IsKilled}
 use Rattle.rubis_carrier.specs.declared.values.ShopEvent.TheVariants.{IsRaised, LosesEnd, Opens, OpensAlone, Reads, Sends, Serves, Starts, StreamLosesEnd}
 use Rattle.rubis_carrier.specs.Laws.{AreGivenOnce}
 use Rattle.rubis_carrier.specs.Shops.{IsNotAhead, MayOpen, Place, Shop, folder, start, there, with_folder}
 use Rattle.rubis_carrier.specs.Shops.Place.{InFolder, InStream}
-use Rattle.rubis_carrier.specs.Tests.{are_steps, may}
 use Rattle.rubis_carrier.proofs.Computed.{are_steps_true, may_not}
 use Rattle.rubis_carrier.proofs.Examples.ExampleRuns.{asked_once, asking, asking_at, first_message, not_the_same, opening_first, other_message}
 

@@ -1,14 +1,13 @@
 -- A standby takes over while the folder that it stands by for goes on: why a message is appended only at its place, and ok told only
 -- once it stands in the stream.
 use Rattle.std.proofs.Common.{◌≡◌, inl, inr, ◌++◌, ◌∷◌, [], false, List, refl}
-use Rattle.rubis_model.specs.Settle.{Has}
+use Rattle.rubis_model.specs.Site.{Has}
 use Rattle.rubis_carrier.specs.declared.values.Carrier.TheVariants.{Server}
 use Rattle.rubis_carrier.specs.declared.values.Notice.TheVariants.{Ok}
-use Rattle.rubis_carrier.specs.Events.{AreSteps, May, after, run}
+use Rattle.rubis_carrier.specs.Events.{AreSteps, May, after, run, may}
 use Rattle.rubis_carrier.specs.declared.values.ShopEvent.{ShopEvent}
 use Rattle.rubis_carrier.specs.declared.values.ShopEvent.TheVariants.{Appends, IsCopied, Opens, Starts, TakesOver, TellsOk, TellsPublished, Yields}
 use Rattle.rubis_carrier.specs.Shops.{Shop, start}
-use Rattle.rubis_carrier.specs.Tests.{may}
 use Rattle.rubis_carrier.proofs.Computed.{are_steps_true, may_not}
 use Rattle.rubis_carrier.proofs.Examples.ExampleRuns.{asking, asking_at, first_message, other_message}
 

@@ -1,6 +1,6 @@
 -- What an asker may be told, and what may be put in the place of what was kept: each rule is needed.
 use Rattle.std.proofs.Common.{◌≡◌, inl, ⊎_elim, ◌++◌, ◌∷◌, [], List, refl}
-use Rattle.rubis_model.specs.Settle.{Has}
+use Rattle.rubis_model.specs.Site.{Has}
 use Rattle.rubis_carrier.specs.declared.values.Carrier.TheVariants.{Files, Server}
 use Rattle.rubis_carrier.specs.declared.values.ShopPacket.TheVariants.{Message}
 use Rattle.rubis_carrier.specs.declared.values.Notice.TheVariants.{No, Ok}

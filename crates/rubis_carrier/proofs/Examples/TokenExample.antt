@@ -2,7 +2,7 @@
 use Rattle.std.proofs.lemmas.Bool.{and_parts, eqb-true}
 use Rattle.std.specs.Prelude.{◌==◌, ◌&&◌}
 use Rattle.std.proofs.Common.{◌≡◌, ◌∙◌, inr, ⊎_elim, ◌≤◌, ◌+◌, ◌++◌, ◌∷◌, [], ℕ, Bool, true, List, refl, sym, ap, subst, arith}
-use Rattle.rubis_model.specs.Settle.{Has}
+use Rattle.rubis_model.specs.Site.{Has}
 use Rattle.rubis_carrier.specs.declared.values.Carrier.TheVariants.{Server}
 use Rattle.rubis_carrier.specs.declared.values.ShopPacket.{ShopPacket}
 use Rattle.rubis_carrier.specs.declared.values.ShopPacket.TheVariants.{Message, Pass}
@@ -11,14 +11,12 @@ use Rattle.rubis_carrier.specs.declared.values.ShopEvent.{ShopEvent}
 use Rattle.rubis_carrier.specs.declared.values.ShopEvent.TheVariants.{Accepts, Appends, Gives, IsAsked, IsKilled, Opens, Passes, Reads, ServerLosesAll, Serves}
 use Rattle.rubis_carrier.specs.declared.values.ShopEvent.TheVariants.{Starts}
 use Rattle.rubis_carrier.specs.Laws.{CanHold}
-use Rattle.rubis_carrier.specs.Packets.{Holds, highest, taken}
-use Rattle.rubis_carrier.specs.Shops.{Folder, Place, Shop, folder, folder_in, put_folder, start, there}
+use Rattle.rubis_carrier.specs.Shops.{Holds, highest, taken, Folder, Place, Shop, folder, folder_in, put_folder, start, there}
 use Rattle.rubis_carrier.specs.Shops.Place.{InFolder, InStream, UnderWay}
 use Rattle.rubis_carrier.proofs.Changes.{IsNew, from_step}
 use Rattle.rubis_carrier.proofs.Computed.{are_steps_true}
 use Rattle.rubis_carrier.proofs.Examples.ExampleRuns.{asked_once, first_message}
-use Rattle.rubis_carrier.proofs.PacketFacts.{number_more, taken_message}
-use Rattle.rubis_carrier.proofs.PutFacts.{folder_cases}
+use Rattle.rubis_carrier.proofs.PacketFacts.{number_more, taken_message, folder_cases}
 
 -- ---- the run
 

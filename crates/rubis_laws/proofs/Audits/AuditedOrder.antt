@@ -1,21 +1,11 @@
 -- Logs that pass the checks together causally serialize one RedBlue order; and those of a sound world pass.
-use Rattle.std.proofs.Common.{◌≡◌, ℕ, ◌+◌, ◌<◌, ◌≤◌, zero, suc, List, [], ◌∷◌, refl, sym, ap, ◌∙◌, subst, inl, inr, ⊎_elim, arith}
-use Rattle.std.specs.Prelude.{reverse, ◌-◌, nat_lt}
-use Rattle.std.proofs.lemmas.Bool.{cases_eq, cases_order}
-use Rattle.std.proofs.lemmas.List.{reverse-reverse}
-use Rattle.rubis_shadow.specs.Shadows.{is_red}
-use Rattle.rubis_message.specs.Message.{Message, dep}
-use Rattle.rubis_model.specs.Checks.{IsLimited}
-use Rattle.rubis_model.specs.Order.{IsRedBlueOrder, Serializes, StandsBefore, Precedes, Released, StandsBefore}
-use Rattle.rubis_model.specs.Settle.{counted, reds, Has}
-use Rattle.rubis_model.specs.Sound.{CountedBy, Sound}
-use Rattle.rubis_model.specs.System.{World, site}
-use Rattle.rubis_model.specs.Laws.{Sent}
-use Rattle.rubis_model.specs.Logs.{Log}
-use Rattle.rubis_model.specs.Audit.{IsOrdered, AllOrdered, OneOf, Logged, AreFaultless}
-use Rattle.rubis_model.proofs.Pasts.{seq_within, found, found_red, red_within, made_at, dep_within}
+use Rattle.rubis_laws.proofs.Common.{◌≡◌, ℕ, ◌+◌, ◌<◌, ◌≤◌, zero, suc, List, [], ◌∷◌, refl, sym, ap, ◌∙◌, subst, inl, inr, ⊎_elim, arith, reverse, ◌-◌, nat_lt}
+use Rattle.rubis_laws.proofs.Common.{cases_eq, cases_order, reverse-reverse, is_red, Message, dep, IsLimited, Serializes, StandsBefore, Precedes, Released}
+use Rattle.rubis_laws.proofs.Common.{counted, reds, Has, CountedBy, Sound, World, site, Sent, Log, IsOrdered, AllOrdered, Logged, AreFaultless, seq_within}
+use Rattle.rubis_laws.proofs.Common.{found, found_red, red_within, made_at, dep_within, has_back, has_reverse}
+use Rattle.rubis_model.specs.System.{IsRedBlueOrder}
+use Rattle.rubis_model.specs.Audit.{OneOf}
 use Rattle.rubis_laws.proofs.Order.RunsInOrder.{Behind, before_from, behind_from, own, there, causal_back, distinct_back}
-use Rattle.rubis_model.proofs.Lists.{has_back, has_reverse}
 
 -- what the type of a message guarantees: it counts all of its origin before it, it has a red number if and only if it
 -- is red, and it is within the limits
@@ -25,9 +15,9 @@ pub record IsFormed (v : Message) : Type 0 where
   pub limits : IsLimited v.shadow
 
 -- ---- what the checks are
-checked_released : (i : ℕ) (past : List Message) → AllOrdered i past → Released past
-checked_released i [] c = tt
-checked_released i (v ∷ past) c = (c.0.ready, checked_released i past c.1)
+pub released_all : (i : ℕ) (past : List Message) → AllOrdered i past → Released past
+released_all i [] c = tt
+released_all i (v ∷ past) c = (c.0.ready, released_all i past c.1)
 
 checked_made : (i : ℕ) (past : List Message) → AllOrdered i past → CountedBy i past
 checked_made i [] c = tt
@@ -50,7 +40,7 @@ module _ {K : Type 0} (sites : K → ℕ) (log : K → List Message) (each : (k 
     (red_once : (u v : Message) → Back log u → Back log v → 0 < u.stamp.red → u.stamp.red ≡ v.stamp.red → u ≡ v)
     (o : (v : Message) → Back log v → v.stamp.id.seq ≡ dep v v.stamp.id.site + 1) where
   released : (k : K) → Released (reverse (log k))
-  released k = checked_released (sites k) (reverse (log k)) (each k)
+  released k = released_all (sites k) (reverse (log k)) (each k)
 
   least : (u : Message) → Back log u → 1 ≤ u.stamp.id.seq
   least u a = (seq_within (reverse (log a.0)) u (released a.0) a.1).0
@@ -79,7 +69,7 @@ module _ {K : Type 0} (sites : K → ℕ) (log : K → List Message) (each : (k 
       let t = entry_of (sites k) (reverse (log k)) y (each k) b in
       let s = o y (k, b) in
       let m = v.stamp.id.seq + n in
-      let r = checked_released (sites k) t.0 t.2 in
+      let r = released_all (sites k) t.0 t.2 in
       let l = (seq_within (reverse (log k)) v (released k) a).0 in
       let here : m ≤ counted y.stamp.id.site t.0 = omega (arith, t.1.ready.next) in
       let z = found t.0 y.stamp.id.site m r (omega arith) here in
@@ -93,13 +83,13 @@ module _ {K : Type 0} (sites : K → ℕ) (log : K → List Message) (each : (k 
   unfolding Behind
   closed k [] u v c on a h q = absurd h
   closed k (x ∷ past) u v c on a (inl e) q =
-      inl (e, there_before k past u x c.0 (checked_released (sites k) past c.1) (λ y m. on y (inr m)) a (k, on x (inl refl)) (subst (Precedes u) e q))
+      inl (e, there_before k past u x c.0 (released_all (sites k) past c.1) (λ y m. on y (inr m)) a (k, on x (inl refl)) (subst (Precedes u) e q))
   closed k (x ∷ past) u v c on a (inr h) q = inr (closed k past u v c.1 (λ y m. on y (inr m)) a h q)
 
   trans : (u v x : Message) → Back log u → Back log v → Back log x → Precedes u v → Precedes v x → Precedes u x
   trans u v x a b c q r =
       let t = entry_of (sites c.0) (reverse (log c.0)) x (each c.0) c.1 in
-      let rel = checked_released (sites c.0) t.0 t.2 in
+      let rel = released_all (sites c.0) t.0 t.2 in
       let v_in = there_before c.0 t.0 v x t.1 rel t.3 b c r in
       let l = least v b in
       let within : dep x v.stamp.id.site ≤ counted v.stamp.id.site t.0 =
@@ -117,7 +107,7 @@ module _ {K : Type 0} (sites : K → ℕ) (log : K → List Message) (each : (k 
   red_last m k v b l e =
       let t = entry_of (sites k) (reverse (log k)) v (each k) b in
       let here : m ≤ reds t.0 = let q = t.1.ready.number (omega arith) in omega arith in
-      let z = found_red t.0 m (checked_released (sites k) t.0 t.2) l here in
+      let z = found_red t.0 m (released_all (sites k) t.0 t.2) l here in
       (z.0, t.3 z.0 z.1, z.2, t.1.red_before z.0 z.1 (omega (arith, z.2)) (e ∙ ap (λ x. x + 1) (sym z.2)))
 
   red_chain : (n : ℕ) (k : K) (u v : Message) → Has u (reverse (log k)) → Has v (reverse (log k)) → 0 < u.stamp.red → v.stamp.red ≡ u.stamp.red + suc n
@@ -149,11 +139,8 @@ module _ {K : Type 0} (sites : K → ℕ) (log : K → List Message) (each : (k 
   back_serializes k = record {
     members = λ u h. (k, has_back u (log k) h);
     distinct = λ u h. distinct_back (reverse (log k)) u (released k) (behind_from u u (log k) h);
-    closed =
-        λ u v a h q. subst (StandsBefore u v) (reverse-reverse (log k))
-        (before_from u v (reverse (log k)) (closed k (reverse (log k)) u v (each k) (λ x m. m) a (has_back v (log k) h) q));
-    causal =
-        λ u v h e. causal_back (reverse (log k)) u v (released k) (checked_made (sites k) (reverse (log k)) (each k)) (behind_from u v (log k) h) e;
+    closed = λ u v a h q. subst (StandsBefore u v) (reverse-reverse (log k)) (before_from u v _ (closed k _ u v (each k) (λ x m. m) a (has_back v _ h) q));
+    causal = λ u v h e. causal_back _ u v (released k) (checked_made _ _ (each k)) (behind_from u v _ h) e;
   }
 
 -- ---- as they stand
@@ -161,33 +148,33 @@ module _ (logs : List Log) (f : AreFaultless logs) (formed : (v : Message) → L
   abbrev messages : OneOf logs → List Message
   messages k = k.0.messages
 
-  to_back : (u : Message) → Logged logs u → Back messages u
-  to_back u a = (a.0, has_back u a.0.0.messages a.1)
+  to_back : {u : Message} → Logged logs u → Back messages u
+  to_back {u} a = (a.0, has_back u a.0.0.messages a.1)
 
-  of_back : (u : Message) → Back messages u → Logged logs u
-  of_back u a = (a.0, has_reverse u a.0.0.messages a.1)
+  of_back : {u : Message} → Back messages u → Logged logs u
+  of_back {u} a = (a.0, has_reverse u a.0.0.messages a.1)
 
   back_clash : (u v : Message) → Back messages u → Back messages v → u.stamp.id.site ≡ v.stamp.id.site → u.stamp.id.seq ≡ v.stamp.id.seq → u ≡ v
-  back_clash u v a b = f.clash u v (of_back u a) (of_back v b)
+  back_clash u v a b = f.clash u v (of_back a) (of_back b)
 
   back_once : (u v : Message) → Back messages u → Back messages v → 0 < u.stamp.red → u.stamp.red ≡ v.stamp.red → u ≡ v
-  back_once u v a b = f.red_once u v (of_back u a) (of_back v b)
+  back_once u v a b = f.red_once u v (of_back a) (of_back b)
 
   back_own : (v : Message) → Back messages v → v.stamp.id.seq ≡ dep v v.stamp.id.site + 1
-  back_own v a = (formed v (of_back v a)).own
+  back_own v a = (formed v (of_back a)).own
 
   pub sound_order : IsRedBlueOrder (Logged logs)
   sound_order = let r = back_order (λ k. k.0.site) messages (λ k. f.ordered k.0 k.1) back_clash back_once back_own in record {
-    irreflexive = λ u a. r.irreflexive u (to_back u a);
-    transitive = λ u v x a b c. r.transitive u v x (to_back u a) (to_back v b) (to_back x c);
-    reds = λ u v a b. r.reds u v (to_back u a) (to_back v b);
+    irreflexive = λ u a. r.irreflexive u (to_back a);
+    transitive = λ u v x a b c. r.transitive u v x (to_back a) (to_back b) (to_back c);
+    reds = λ u v a b. r.reds u v (to_back a) (to_back b);
   }
 
   pub sound_log : (log : Log) → Has log logs → Serializes log.site (Logged logs) log.messages
   sound_log log h = let r = back_serializes (λ k. k.0.site) messages (λ k. f.ordered k.0 k.1) back_clash back_once back_own (log, h) in record {
     members = λ u g. ((log, h), g);
     distinct = r.distinct;
-    closed = λ u v a. r.closed u v (to_back u a);
+    closed = λ u v a. r.closed u v (to_back a);
     causal = r.causal;
   }
 

@@ -1,25 +1,14 @@
 -- The tests of an entry's stamp, and what they mean: of ids, of the order in its log, and of red numbers.
-use Rattle.std.proofs.Common.{ℕ, ◌≡◌, ◌+◌, ◌≤◌, ◌<◌, List, [], ◌∷◌, ◌++◌, true, false, ◌&&◌, cond, refl, sym, ap, ◌∙◌, subst, Option, Some, None, inl, inr}
-use Rattle.std.proofs.Common.{⊎_elim, arith}
-use Rattle.std.specs.Prelude.{◌||◌, ◌==◌, find, not, nat_lt, reverse}
-use Rattle.std.specs.List.{list_any, range_with_len}
-use Rattle.std.specs.Option.{option_map_or}
-use Rattle.std.proofs.lemmas.Bool.{true≢false, and_cases, and_parts, cases_Bool, cases_lt, eq-eqb, eqb-true, false_from_ne_true, le-leb, le-ltb, leb-true}
-use Rattle.std.proofs.lemmas.Bool.{ltb-false, ltb-true, lt-ltb, not-false, not-true, not_from_true, or_from, or_parts}
-use Rattle.std.proofs.lemmas.List.{get_or_past}
-use Rattle.rubis_schema.specs.KeyLaws.{Decides-same_id}
-use Rattle.rubis_schema.specs.Keys.{same_id}
-use Rattle.rubis_schema.specs.declared.ids.Id.{Id}
-use Rattle.rubis_shadow.specs.Shadows.{is_red}
-use Rattle.rubis_message.specs.Equal.{same_message, Decides-same_message}
-use Rattle.rubis_message.specs.Message.{Message, dep, sites_of}
-use Rattle.rubis_model.specs.Audit.{IsOrdered}
-use Rattle.rubis_model.specs.Order.{Precedes, Released}
-use Rattle.rubis_model.specs.Settle.{Has, counted, reds}
-use Rattle.rubis_model.specs.Verdict.{comes_before, clashes, clash, is_not_next, is_early, miscounts, forgets, out_of_order, last_red, takes_number, red_gap}
-use Rattle.rubis_model.proofs.Lists.{has_back, has_reverse}
-use Rattle.rubis_model.proofs.Pasts.{counted_no, red_within, reds_no, reds_yes}
-use Rattle.rubis_model.proofs.Settling.{counted_reverse, reds_reverse}
+use Rattle.rubis_laws.proofs.Common.{ℕ, ◌≡◌, ◌+◌, ◌≤◌, ◌<◌, List, [], ◌∷◌, ◌++◌, true, false, ◌&&◌, cond, refl, sym, ap, ◌∙◌, subst, Option, Some, None, inl}
+use Rattle.rubis_laws.proofs.Common.{inr, ⊎_elim, arith, ◌||◌, ◌==◌, find, not, nat_lt, reverse, list_any, range_with_len, option_map_or, true≢false, and_parts}
+use Rattle.rubis_laws.proofs.Common.{cases_lt, eq-eqb, eqb-true, false_from_ne_true, le-leb, le-ltb, leb-true, ltb-false, ltb-true, not-false, not_from_true}
+use Rattle.rubis_laws.proofs.Common.{or_from, or_parts, get_or_past, Decides-same_id, same_id, Id, is_red, same_message, Decides-same_message, Message, dep}
+use Rattle.rubis_laws.proofs.Common.{sites_of, IsOrdered, Precedes, Released, Has, counted, reds, comes_before, clashes, is_not_next, is_early, miscounts}
+use Rattle.rubis_laws.proofs.Common.{forgets, out_of_order, last_red, takes_number, red_gap, has_back, has_reverse, counted_no, red_within, counted_reverse}
+use Rattle.rubis_laws.proofs.Common.{reds_reverse}
+use Rattle.std.proofs.lemmas.Bool.{and_cases, cases_Bool, lt-ltb, not-true}
+use Rattle.rubis_model.specs.Verdict.{clash}
+use Rattle.rubis_model.proofs.Settling.{reds_no, reds_yes}
 use Rattle.rubis_laws.proofs.Audits.Tests.{below_none, has_none, none_below, none_has}
 
 -- ---- ids
@@ -29,19 +18,18 @@ Same u v = u.stamp.id.site ≡ v.stamp.id.site → u.stamp.id.seq ≡ v.stamp.id
 pub one_content : (others own : List Message) (v : Message) → clash others own v ≡ false → (u : Message) → Has u (others ++ own) → Same u v
 one_content others own v e u h s q = ⊎_elim
     (λ f. absurd (true≢false (sym ((Decides-same_id u.stamp.id v.stamp.id).1 (λ i. record { site = s i; seq = q i })) ∙ f)))
-    (λ f. (Decides-same_message u v).0 (not-false (same_message u v) f))
-    (and_cases (same_id u.stamp.id v.stamp.id) (not (same_message u v)) (has_none (clashes v) (others ++ own) e u h))
+    (λ f. (Decides-same_message u v).0 (not-false (same_message u v) f)) (and_cases _ _ (has_none _ _ e u h))
 
 pub no_clash : (others own : List Message) (v : Message) → ((u : Message) → Has u (others ++ own) → Same u v) → clash others own v ≡ false
-no_clash others own v h = none_has (clashes v) (others ++ own) (λ u k. false_from_ne_true (clashes v u) (λ e.
+no_clash others own v h = none_has (others ++ own) (λ u k. false_from_ne_true (clashes v u) (λ e.
     let t = and_parts (same_id u.stamp.id v.stamp.id) (not (same_message u v)) e in
     let i = (Decides-same_id u.stamp.id v.stamp.id).0 t.0 in
     let m = (Decides-same_message u v).1 (h u k (ap (λ (x : Id). x.site) i) (ap (λ (x : Id). x.seq) i)) in
     true≢false (sym m ∙ not-true (same_message u v) t.1)))
 
 -- ---- the order in a log
-same_number : (a b : ℕ) → not (a == b) ≡ false → a ≡ b
-same_number a b e = eqb-true a b (not-false (a == b) e)
+same_number : {a b : ℕ} → not (a == b) ≡ false → a ≡ b
+same_number {a} {b} e = eqb-true a b (not-false (a == b) e)
 
 pub number_same : {a b : ℕ} → a ≡ b → not (a == b) ≡ false
 number_same {a} {b} e = not_from_true (a == b) (eq-eqb a b e)
@@ -67,40 +55,31 @@ module _ (site : ℕ) (own : List Message) (v : Message) (e : out_of_order site 
   after_miscounts = or_parts (miscounts site own v) (list_any (forgets v) own) after_early.1
 
   pub next : v.stamp.id.seq ≡ counted v.stamp.id.site own + 1
-  next = same_number v.stamp.id.seq (counted v.stamp.id.site own + 1) after_next.0
+  next = same_number after_next.0
 
   within : (j : ℕ) → (j ≡ v.stamp.id.site → ⊥) → j < sites_of v → dep v j ≤ counted j own
-  within j n l = ⊎_elim
-      (λ f. absurd (n (same_number j v.stamp.id.site f)))
-      (λ f. ltb-false (counted j own) (dep v j) f)
-      (and_cases (not (j == v.stamp.id.site)) (nat_lt (counted j own) (dep v j))
-      (below_none (λ j. not (j == v.stamp.id.site) && nat_lt (counted j own) (dep v j)) (sites_of v) after_early.0 j l))
+  within j n l = ⊎_elim (λ f. absurd (n (same_number f))) (λ f. ltb-false (counted j own) (dep v j) f) (and_cases (not (j == v.stamp.id.site))
+      (nat_lt (counted j own) (dep v j)) (below_none (λ j. not (j == v.stamp.id.site) && nat_lt (counted j own) (dep v j)) after_early.0 l))
 
   pub released : (j : ℕ) → (j ≡ v.stamp.id.site → ⊥) → dep v j ≤ counted j own
   released j n = ⊎_elim (λ l. within j n l) (λ l. let z = nothing_past v j l in omega (arith, z)) (cases_lt j (sites_of v))
 
   pub made : v.stamp.id.site ≡ site → (j : ℕ) → dep v j ≡ counted j own
-  made o j = ⊎_elim
-      (λ f. absurd (true≢false (sym (eq-eqb v.stamp.id.site site o) ∙ f)))
-      (λ f. ⊎_elim (λ l. same_number (dep v j) (counted j own) (below_none (λ j. not (dep v j == counted j own)) (sites_of v) f j l))
-      (λ l. nothing_past v j l ∙ sym (counted_past own (sites_of v) j l (λ u h. (sites u h).1))) (cases_lt j (sites_of v)))
-      (and_cases (v.stamp.id.site == site) (list_any (λ j. not (dep v j == counted j own)) (range_with_len 0 (sites_of v))) after_miscounts.0)
+  made o j = ⊎_elim (λ f. absurd (true≢false (sym (eq-eqb v.stamp.id.site site o) ∙ f)))
+      (λ f. ⊎_elim (λ l. same_number (below_none (λ j. not (dep v j == counted j own)) f l))
+      (λ l. nothing_past v j l ∙ sym (counted_past own _ j l (λ u h. (sites u h).1))) (cases_lt j (sites_of v))) (and_cases _ _ after_miscounts.0)
 
   pub carries : (u : Message) → Has u own → u.stamp.id.seq ≡ dep v u.stamp.id.site → (j : ℕ) → dep u j ≤ dep v j
-  carries u h q j = ⊎_elim
-      (λ f. absurd (true≢false (sym (eq-eqb u.stamp.id.seq (dep v u.stamp.id.site) q) ∙ f)))
-      (λ f. ⊎_elim (λ l. ltb-false (dep v j) (dep u j) (below_none (λ j. nat_lt (dep v j) (dep u j)) (sites_of v) f j l))
+  carries u h q j = ⊎_elim (λ f. absurd (true≢false (sym (eq-eqb u.stamp.id.seq (dep v u.stamp.id.site) q) ∙ f)))
+      (λ f. ⊎_elim (λ l. ltb-false (dep v j) (dep u j) (below_none (λ j. nat_lt (dep v j) (dep u j)) {n = sites_of v} f {j = j} l))
       (λ l. let s = (sites u h).0 in let z = nothing_past u j (omega (arith, s, l)) in omega (arith, z)) (cases_lt j (sites_of v)))
-      (and_cases (u.stamp.id.seq == dep v u.stamp.id.site) (list_any (λ j. nat_lt (dep v j) (dep u j)) (range_with_len 0 (sites_of v)))
-      (has_none (forgets v) own after_miscounts.1 u h))
+      (and_cases _ _ (has_none _ own after_miscounts.1 u h))
 
 -- what is in order passes
 pub orderly : {site : ℕ} (own : List Message) {v : Message} → IsOrdered site (reverse own) v → out_of_order site own v ≡ false
-orderly {site} own {v} o =
-    or_from (is_not_next own v) _ (number_same (o.ready.next ∙ ap (λ n. n + 1) (counted_reverse v.stamp.id.site own)))
-    (or_from (is_early own v) _ (none_below (λ j. not (j == v.stamp.id.site) && nat_lt (counted j own) (dep v j)) (sites_of v) early)
-    (or_from (miscounts site own v) _ (false_from_ne_true (miscounts site own v) miscounted)
-    (none_has (forgets v) own (λ u h. false_from_ne_true (forgets v u) (forgot u h)))))
+orderly {site} own {v} o = or_from (is_not_next own v) _ (number_same (o.ready.next ∙ ap (λ n. n + 1) (counted_reverse v.stamp.id.site own)))
+    (or_from (is_early own v) _ (none_below (λ j. not (j == v.stamp.id.site) && nat_lt (counted j own) (dep v j)) (sites_of v) early) (or_from
+    (miscounts site own v) _ (false_from_ne_true (miscounts site own v) miscounted) (none_has own (λ u h. false_from_ne_true (forgets v u) (forgot u h)))))
   where
     early : (j : ℕ) → (not (j == v.stamp.id.site) && nat_lt (counted j own) (dep v j)) ≡ false
     early j = false_from_ne_true _ (λ e.
@@ -168,17 +147,15 @@ module _ (others own : List Message) (v : Message) (e : red_gap others own v ≡
   number_tests l = ⊎_elim (λ f. absurd (true≢false (sym (lt-ltb 0 v.stamp.red l) ∙ sym red ∙ f))) (λ f. f) (and_cases (is_red v.shadow) _ e)
 
   pub number : 0 < v.stamp.red → v.stamp.red ≡ reds own + 1
-  number l = same_number v.stamp.red (reds own + 1) (or_parts (not (v.stamp.red == reds own + 1)) _ (number_tests l)).0
+  number l = same_number (or_parts (not (v.stamp.red == reds own + 1)) _ (number_tests l)).0
 
   others_tests : 0 < v.stamp.red → (list_any (takes_number v) others ≡ false) × (option_map_or (λ u. not (comes_before u v)) (last_red own) false ≡ false)
   others_tests l = or_parts (list_any (takes_number v) others) _ (or_parts (not (v.stamp.red == reds own + 1)) _ (number_tests l)).1
 
   -- who has v's number in an earlier log has its id
   pub untaken : 0 < v.stamp.red → (u : Message) → Has u others → u.stamp.red ≡ v.stamp.red → u.stamp.id ≡ v.stamp.id
-  untaken l u h q = ⊎_elim
-      (λ f. absurd (true≢false (sym (eq-eqb u.stamp.red v.stamp.red q) ∙ f)))
-      (λ f. (Decides-same_id u.stamp.id v.stamp.id).0 (not-false (same_id u.stamp.id v.stamp.id) f))
-      (and_cases (u.stamp.red == v.stamp.red) (not (same_id u.stamp.id v.stamp.id)) (has_none (takes_number v) others (others_tests l).0 u h))
+  untaken l u h q = ⊎_elim (λ f. absurd (true≢false (sym (eq-eqb u.stamp.red v.stamp.red q) ∙ f)))
+      (λ f. (Decides-same_id u.stamp.id v.stamp.id).0 (not-false (same_id u.stamp.id v.stamp.id) f)) (and_cases _ _ (has_none _ _ (others_tests l).0 u h))
 
   pub red_before : Released (reverse own) → ((u : Message) → Has u own → Coloured u) → (u : Message) → Has u own → 0 < u.stamp.red
       → v.stamp.red ≡ u.stamp.red + 1 → Precedes u v
@@ -197,7 +174,7 @@ no_gap others own {v} red r c o once = false_from_ne_true (red_gap others own v)
     (not (v.stamp.red == reds own + 1) || (list_any (takes_number v) others || option_map_or (λ u. not (comes_before u v)) (last_red own) false)) e in
     let l = ltb-true 0 v.stamp.red (sym red ∙ t.0) in
     true≢false (sym t.1 ∙ or_from (not (v.stamp.red == reds own + 1)) _ (number_same (o.ready.number l ∙ ap (λ n. n + 1) (reds_reverse own)))
-    (or_from (list_any (takes_number v) others) _ (none_has (takes_number v) others (λ u h. false_from_ne_true (takes_number v u) (taken l u h)))
+    (or_from (list_any (takes_number v) others) _ (none_has {p = takes_number v} others (λ u h. false_from_ne_true (takes_number v u) (taken l u h)))
     (last l (last_red own) refl))))
   where
     taken : 0 < v.stamp.red → (u : Message) → Has u others → takes_number v u ≡ true → ⊥

@@ -1,46 +1,22 @@
 -- Worked examples of processes that read all messages, computed on the definitions.
-use Rattle.std.proofs.Common.{ℕ, ◌≡◌, ◌<◌, List, [], ◌∷◌, ◌++◌, refl, sym, ap, ◌∙◌, subst, arith, cond, Some, None, inl, inr, ⊎_elim, append-nil}
-use Rattle.std.specs.Prelude.{◌⊎◌, ◌==◌, codes}
-use Rattle.std.specs.Fmt.{digits}
-use Rattle.std.proofs.lemmas.Bool.{cases_eq}
-use Rattle.std.proofs.lemmas.Option.{same_Some}
-use Rattle.rubis_numbers.specs.Numbers.{number_of}
-use Rattle.rubis_schema.specs.FieldForms.{nick_of}
-use Rattle.rubis_shadow.specs.declared.shadows.Ask.TheVariants as ask
-use Rattle.rubis_shadow.specs.declared.shadows.Shadow.TheVariants as shadow
-use Rattle.rubis_generate.specs.Decision.{decision}
-use Rattle.rubis_generate.specs.Lookup.{Rows}
-use Rattle.rubis_message.specs.Counts.{deps_of}
-use Rattle.rubis_message.specs.Forms.{take_positive, take_site}
-use Rattle.rubis_message.specs.Message.{Message}
-use Rattle.rubis_message.specs.Readings.{packet_of, request_of, take_kind, take_message, take_packet, take_request, take_shadow, take_stamp, kind_of}
-use Rattle.rubis_message.specs.declared.tokens.Packet.{Packet}
-use Rattle.rubis_message.specs.declared.tokens.Packet.TheVariants as packet
-use Rattle.rubis_model.specs.Answers.{asked_rows, send_row}
-use Rattle.rubis_model.specs.Checks.{Checked}
-use Rattle.rubis_model.specs.Log.{cores, fold_of}
-use Rattle.rubis_model.specs.Meaning.{meaning_row}
-use Rattle.rubis_model.specs.Processes.{Carried, HasExactlySent, HasReadAll, IsSentMessage, KeepsAll, Reading, WasSent, answers_of, process, read_by}
-use Rattle.rubis_model.specs.Processes.{site_after, state_of}
-use Rattle.rubis_model.specs.Restarts.{AreReplayed, CarriedWithRestarts, Moment, recorded, state_since_start}
-use Rattle.rubis_model.specs.Restarts.Moment.{Reads, Replays, Restarts}
-use Rattle.rubis_message.specs.Inputs.{input_of}
-use Rattle.rubis_model.specs.Runs.{answers, input_step, output_of, told}
-use Rattle.rubis_model.specs.Settle.{Has}
-use Rattle.rubis_model.specs.Site.{Replica, generating, opening_at, rows_at, standing_of}
+use Rattle.rubis_laws.proofs.Common.{ℕ, ◌≡◌, ◌<◌, List, [], ◌∷◌, ◌++◌, refl, sym, ap, ◌∙◌, subst, arith, cond, Some, None, inl, inr, ⊎_elim, append-nil, ◌⊎◌}
+use Rattle.rubis_laws.proofs.Common.{◌==◌, codes, digits, cases_eq, same_Some, number_of, nick_of, decision, Rows, deps_of, take_positive, take_site, Message}
+use Rattle.rubis_laws.proofs.Common.{packet_of, request_of, take_kind, take_message, take_packet, take_request, take_shadow, take_stamp, kind_of, Packet}
+use Rattle.rubis_laws.proofs.Common.{asked_rows, send_row, Checked, cores, fold_of, meaning_row, Carried, HasExactlySent, HasReadAll, IsSentMessage, KeepsAll}
+use Rattle.rubis_laws.proofs.Common.{Reading, WasSent, answers_of, process, read_by, site_after, state_of, AreReplayed, CarriedWithRestarts, Moment, recorded}
+use Rattle.rubis_laws.proofs.Common.{state_since_start, Reads, Replays, Restarts, input_of, answers, input_step, output_of, told, Has, Replica, generating}
+use Rattle.rubis_laws.proofs.Common.{opening_at, rows_at, standing_of, Ask, Shadow}
 use Rattle.rubis_laws.proofs.Rows.FoldIsMeaning.{fold_is_meaning}
-use Rattle.rubis_laws.proofs.Processes.NewRecords.{new_records_are_read}
+use Rattle.rubis_laws.proofs.Processes.ProcessesConverging.{new_records_are_read, processes_converge, restarted_converge}
 use Rattle.rubis_laws.proofs.Examples.ProcessExamples.{ann_answers, ann_is_answered, ann_is_asked, ann_is_sent, bob_is_asked, most, no_packet_asked, not_some}
 use Rattle.rubis_laws.proofs.Examples.ProcessExamples.{reads}
 use Rattle.rubis_laws.proofs.Processes.AreARun.{output_one}
-use Rattle.rubis_laws.proofs.Processes.ProcessesConverging.{processes_converge, restarted_converge}
 use Rattle.rubis_laws.proofs.Processes.Restarts.{nothing_left_out, readings_are_moments, recordings_replay, split_append}
 
 -- one reading more is carried, if it is no packet or one that was sent
-pub carried_next : (sites : ℕ) (keep : ℕ → ℕ) (before : List Reading) (r : Reading) → Carried sites keep before
+pub carried_next : {sites : ℕ} (keep : ℕ → ℕ) {before : List Reading} (r : Reading) → Carried sites keep before
     → ((p : Packet) → packet_of sites r.fields ≡ Some p → WasSent sites keep before r.fields) → Carried sites keep (before ++ r ∷ [])
-carried_next sites keep before r carried sent first later x p e is =
-    ⊎_elim (λ k. earlier k.0 k.1 k.2) (λ k. now k.0 k.1 k.2) (split_append before (r ∷ []) first (x ∷ later) e)
+carried_next {sites} keep {before} r carried sent first later x p e is = ⊎_elim (λ k. earlier k.0 k.1 k.2) (λ k. now k.0 k.1 k.2) (split_append before first e)
   where
     this : first ≡ before → r ≡ x → WasSent sites keep first x.fields
     this f same = subst (λ l. WasSent sites keep l x.fields) (sym f) (subst (λ (y : Reading). WasSent sites keep before y.fields) same
@@ -62,10 +38,10 @@ none_carried sites keep (x ∷ before) later r p e is = absurd cc
 -- ---- site 0 is asked for two users
 
 abbrev pub ann : Message
-ann = record { stamp = record { id = record { site = 0; seq = 1 }; red = 1; deps = 0 ∷ 0 ∷ [] }; shadow = shadow.User (codes "ann") }
+ann = record { stamp = record { id = record { site = 0; seq = 1 }; red = 1; deps = 0 ∷ 0 ∷ [] }; shadow = Shadow.User (codes "ann") }
 
 abbrev bob : Message
-bob = record { stamp = record { id = record { site = 0; seq = 2 }; red = 2; deps = 1 ∷ 0 ∷ [] }; shadow = shadow.User (codes "bob") }
+bob = record { stamp = record { id = record { site = 0; seq = 2 }; red = 2; deps = 1 ∷ 0 ∷ [] }; shadow = Shadow.User (codes "bob") }
 
 abbrev bob_is_sent : List (List ℕ)
 bob_is_sent = codes "msg" ∷ codes "1" ∷ codes "0" ∷ codes "2" ∷ codes "2" ∷ codes "1:0" ∷ codes "user" ∷ codes "bob" ∷ []
@@ -74,7 +50,7 @@ abbrev after_ann : Replica
 after_ann = record { log = ann ∷ []; waiting = []; held = Some 1; last = 0 }
 
 abbrev ann_by : Rows → Replica
-ann_by rows = (generating (process 2 most 0) (opening_at 0) (decision rows (standing_of 1000000 (opening_at 0)) (ask.User (codes "ann")))).0
+ann_by rows = (generating (process 2 most 0) (opening_at 0) (decision rows (standing_of 1000000 (opening_at 0)) (Ask.User (codes "ann")))).0
 
 ann_is_read : site_after (process 2 most 0) (opening_at 0) 1 (ann_is_asked ∷ []) ≡ ann_by (rows_at [])
 unfolding request_of take_request take_kind kind_of nick_of
@@ -102,7 +78,7 @@ pub rows_of_ann : rows_at (ann ∷ []) ≡ meaning_row (cores (ann ∷ []))
 rows_of_ann = λ i key. (fold_is_meaning (cores (ann ∷ [])) ann_is_checked (omega arith)).0.rows key i
 
 abbrev bob_by : Rows → List (List (List ℕ))
-bob_by rows = (told (asked_rows 2) (generating (process 2 most 0) after_ann (decision rows (standing_of 1000000 after_ann) (ask.User (codes "bob"))))).1
+bob_by rows = (told (asked_rows 2) (generating (process 2 most 0) after_ann (decision rows (standing_of 1000000 after_ann) (Ask.User (codes "bob"))))).1
 
 bob_is_read : (input_step (process 2 most 0) after_ann 2 (input_of 2 bob_is_asked)).1 ≡ bob_by (rows_at (ann ∷ []))
 unfolding request_of take_request take_kind kind_of nick_of
@@ -124,11 +100,11 @@ both_are_answered =
 
 -- ---- what both messages are read as
 
-ann_is_it : packet_of 2 ann_is_sent ≡ Some (packet.Msg ann)
+ann_is_it : packet_of 2 ann_is_sent ≡ Some (Packet.Msg ann)
 unfolding packet_of take_packet take_message take_stamp take_site take_positive take_kind kind_of number_of deps_of take_shadow nick_of digits
 ann_is_it = refl
 
-bob_is_it : packet_of 2 bob_is_sent ≡ Some (packet.Msg bob)
+bob_is_it : packet_of 2 bob_is_sent ≡ Some (Packet.Msg bob)
 unfolding packet_of take_packet take_message take_stamp take_site take_positive take_kind kind_of number_of deps_of take_shadow nick_of digits
 bob_is_it = refl
 
@@ -140,8 +116,8 @@ no_packet_bob = refl
 module _ (readings : List Reading) (zero : answers_of 2 most readings 0 ≡ ann_answers ++ bob_answers)
     (one : (fields : List (List ℕ)) → Has (send_row fields) (answers_of 2 most readings 1) → ⊥)
     (reads_ann : Has ann_is_sent (read_by 1 readings)) (reads_bob : Has bob_is_sent (read_by 1 readings)) where
-  two_sent : (fields : List (List ℕ)) → WasSent 2 most readings fields → (fields ≡ ann_is_sent) ⊎ (fields ≡ bob_is_sent)
-  two_sent fields h = ⊎_elim (λ e. in_four (subst (Has (send_row fields)) zero (subst (λ i. Has (send_row fields) (answers_of 2 most readings i)) e h.2)))
+  two_sent : {fields : List (List ℕ)} → WasSent 2 most readings fields → (fields ≡ ann_is_sent) ⊎ (fields ≡ bob_is_sent)
+  two_sent {fields} h = ⊎_elim (λ e. in_four (subst (Has (send_row fields)) zero (subst (λ i. Has (send_row fields) (answers_of 2 most readings i)) e h.2)))
       (λ n. absurd (one fields (subst (λ i. Has (send_row fields) (answers_of 2 most readings i)) (other h.0 h.1 n) h.2))) (cases_eq h.0 0)
     where
       other : (i : ℕ) → i < 2 → (i ≡ 0 → ⊥) → i ≡ 1
@@ -157,26 +133,25 @@ module _ (readings : List Reading) (zero : answers_of 2 most readings 0 ≡ ann_
       in_four (inr (inr (inr (inl e)))) = inr (let q : fields ≡ bob_is_sent = cc in q)
       in_four (inr (inr (inr (inr k)))) = absurd k
 
-  are_these : (fields : List (List ℕ)) (m : Message) → packet_of 2 fields ≡ Some (packet.Msg m) → (fields ≡ ann_is_sent) ⊎ (fields ≡ bob_is_sent)
+  are_these : {fields : List (List ℕ)} (m : Message) → packet_of 2 fields ≡ Some (Packet.Msg m) → (fields ≡ ann_is_sent) ⊎ (fields ≡ bob_is_sent)
       → (m ≡ ann) ⊎ (m ≡ bob)
-  are_these fields m is (inl e) =
-      let q : packet.Msg m ≡ packet.Msg ann = same_Some (packet.Msg m) (packet.Msg ann) (sym is ∙ ap (packet_of 2) e ∙ ann_is_it) in
+  are_these m is (inl e) =
+      let q : Packet.Msg m ≡ Packet.Msg ann = same_Some (Packet.Msg m) (Packet.Msg ann) (sym is ∙ ap (packet_of 2) e ∙ ann_is_it) in
       inl (let z : m ≡ ann = cc in z)
-  are_these fields m is (inr e) =
-      let q : packet.Msg m ≡ packet.Msg bob = same_Some (packet.Msg m) (packet.Msg bob) (sym is ∙ ap (packet_of 2) e ∙ bob_is_it) in
+  are_these m is (inr e) =
+      let q : Packet.Msg m ≡ Packet.Msg bob = same_Some (Packet.Msg m) (Packet.Msg bob) (sym is ∙ ap (packet_of 2) e ∙ bob_is_it) in
       inr (let z : m ≡ bob = cc in z)
 
   zero_has_read : HasReadAll 2 most readings 0
   zero_has_read fields m h is =
-      inr (⊎_elim (λ e. ap (λ (x : Message). x.stamp.id.site) e) (λ e. ap (λ (x : Message). x.stamp.id.site) e) (are_these fields m is (two_sent fields h)))
+      inr (⊎_elim (λ e. ap (λ (x : Message). x.stamp.id.site) e) (λ e. ap (λ (x : Message). x.stamp.id.site) e) (are_these m is (two_sent h)))
 
   one_has_read : HasReadAll 2 most readings 1
-  one_has_read fields m h is =
-      inl (⊎_elim (λ e. subst (λ x. Has x (read_by 1 readings)) (sym e) reads_ann) (λ e. subst (λ x. Has x (read_by 1 readings)) (sym e) reads_bob)
-      (two_sent fields h))
+  one_has_read fields m h is = inl
+      (⊎_elim (λ e. subst (λ x. Has x (read_by 1 readings)) (sym e) reads_ann) (λ e. subst (λ x. Has x (read_by 1 readings)) (sym e) reads_bob) (two_sent h))
 
   keep_them : (i : ℕ) → KeepsAll 2 most readings i
-  keep_them i = (ann ∷ bob ∷ [], (λ m h. ⊎_elim (λ e. inl e) (λ e. inr (inl e)) (are_these h.0 m h.2 (two_sent h.0 h.1))), omega arith)
+  keep_them i = (ann ∷ bob ∷ [], (λ m h. ⊎_elim (λ e. inl e) (λ e. inr (inl e)) (are_these m h.2 (two_sent h.1))), omega arith)
 
 -- ---- the first message is lost, and is sent again
 
@@ -193,23 +168,20 @@ unfolding answers request_of take_request take_kind kind_of packet_of take_packe
 again_is_answered = refl
 
 again_is_carried : Carried 2 most lost_and_again
-again_is_carried =
-    carried_next 2 most (reads 0 ann_is_asked ∷ reads 0 bob_is_asked ∷ reads 1 bob_is_sent ∷ []) (reads 1 ann_is_sent)
-    (carried_next 2 most (reads 0 ann_is_asked ∷ reads 0 bob_is_asked ∷ []) (reads 1 bob_is_sent)
-    (carried_next 2 most (reads 0 ann_is_asked ∷ []) (reads 0 bob_is_asked)
-    (carried_next 2 most [] (reads 0 ann_is_asked) (none_carried 2 most) (λ p is. absurd (not_some (packet_of 2 ann_is_asked) no_packet_asked is)))
+again_is_carried = carried_next most (reads 1 ann_is_sent) (carried_next most (reads 1 bob_is_sent) (carried_next most (reads 0 bob_is_asked)
+    (carried_next most (reads 0 ann_is_asked) (none_carried 2 most) (λ p is. absurd (not_some (packet_of 2 ann_is_asked) no_packet_asked is)))
     (λ p is. absurd (not_some (packet_of 2 bob_is_asked) no_packet_bob is)))
     (λ p is. (0, omega arith, subst (Has (send_row bob_is_sent)) (sym both_are_answered) (inr (inr (inr (inl refl)))))))
     (λ p is. (0, omega arith, subst (Has (send_row ann_is_sent)) (sym both_are_answered) (inr (inl refl))))
 
-pub two_replies : (n k : List ℕ) (a b : List (List ℕ)) (fields : List (List ℕ)) → Has (send_row fields) ((codes "reply" ∷ n ∷ a) ∷ (codes "reply" ∷ k ∷ b) ∷ [])
+pub two_replies : (n k : List ℕ) (a b : List (List ℕ)) {fields : List (List ℕ)} → Has (send_row fields) ((codes "reply" ∷ n ∷ a) ∷ (codes "reply" ∷ k ∷ b) ∷ [])
     → ⊥
-two_replies n k a b fields (inl e) = absurd cc
-two_replies n k a b fields (inr (inl e)) = absurd cc
-two_replies n k a b fields (inr (inr h)) = h
+two_replies n k a b (inl e) = absurd cc
+two_replies n k a b (inr (inl e)) = absurd cc
+two_replies n k a b (inr (inr h)) = h
 
 again_sends_nothing : (fields : List (List ℕ)) → Has (send_row fields) (answers_of 2 most lost_and_again 1) → ⊥
-again_sends_nothing fields h = two_replies _ _ _ _ fields (subst (Has (send_row fields)) again_is_answered h)
+again_sends_nothing fields h = two_replies _ _ _ _ (subst (Has (send_row fields)) again_is_answered h)
 
 -- so both have the same tables
 again_converges : (fold_of (cores (state_of 2 most lost_and_again 0).log)).tables ≡ (fold_of (cores (state_of 2 most lost_and_again 1).log)).tables
@@ -274,7 +246,7 @@ Fine moments = AreReplayed 2 most moments × CarriedWithRestarts 2 most moments
 
 first_is_fine : Fine first_life
 first_is_fine = readings_are_moments 2 most (reads 0 ann_is_asked ∷ [])
-    (carried_next 2 most [] (reads 0 ann_is_asked) (none_carried 2 most) (λ p is. absurd (not_some (packet_of 2 ann_is_asked) no_packet_asked is)))
+    (carried_next most (reads 0 ann_is_asked) (none_carried 2 most) (λ p is. absurd (not_some (packet_of 2 ann_is_asked) no_packet_asked is)))
 
 second_is_fine : Fine second_life
 second_is_fine = recordings_replay 2 0 most first_life (ann_is_asked ∷ []) first_is_fine.0 first_is_fine.1
@@ -313,7 +285,7 @@ unfolding answers request_of take_request take_kind kind_of packet_of take_packe
 killed_is_answered = refl
 
 killed_sends_nothing : (fields : List (List ℕ)) → Has (send_row fields) (answers_of 2 most (recorded killed) 1) → ⊥
-killed_sends_nothing fields h = two_replies _ _ _ _ fields (subst (Has (send_row fields)) killed_is_answered h)
+killed_sends_nothing fields h = two_replies _ _ _ _ (subst (Has (send_row fields)) killed_is_answered h)
 
 -- at the end both have the same tables, by what they have read since their last starts
 killed_converges : (fold_of (cores (state_since_start 2 most killed 0).log)).tables ≡ (fold_of (cores (state_since_start 2 most killed 1).log)).tables

@@ -1,18 +1,6 @@
 -- Worked examples of what a log lacks, computed on the definitions; and that each premise is needed.
-use Rattle.std.proofs.Common.{◌≡◌, ℕ, List, [], ◌∷◌, Some, None, refl}
-use Rattle.std.specs.Prelude.{codes, Ok, Err}
-use Rattle.rubis_schema.specs.declared.ids.Id.{Id}
-use Rattle.rubis_schema.specs.declared.refusals.Refusal.TheVariants.{NotOurs}
-use Rattle.rubis_shadow.specs.declared.shadows.Shadow.{Shadow}
-use Rattle.rubis_shadow.specs.declared.shadows.Shadow.TheVariants as shadow
-use Rattle.rubis_message.specs.Message.{Message}
-use Rattle.rubis_message.specs.declared.answers.Arrival.TheVariants as arrival
-use Rattle.rubis_message.specs.declared.answers.Verdict.TheVariants.{Agree}
-use Rattle.rubis_model.specs.Arrivals.{after_all, answers_to}
-use Rattle.rubis_model.specs.Lack.{awaited, awaited_red, lacked, merged}
-use Rattle.rubis_model.specs.Logs.{Log}
-use Rattle.rubis_model.specs.Site.{Place, Replica, opening_at}
-use Rattle.rubis_model.specs.Verdict.{verdict}
+use Rattle.rubis_laws.proofs.Common.{◌≡◌, ℕ, List, [], ◌∷◌, Some, None, refl, codes, Ok, Err, Id, NotOurs, Shadow, Message, Agree, after_all, answers_to}
+use Rattle.rubis_laws.proofs.Common.{awaited, awaited_red, lacked, merged, Log, Place, Replica, opening_at, verdict, Arrival}
 
 abbrev id : ℕ → ℕ → Id
 id s q = record { site = s; seq = q }
@@ -25,17 +13,17 @@ log site messages = record { site = site; messages = messages; rows = None }
 
 -- site 0 makes a user and then a lamp, site 1 a chair of that user's
 abbrev ann : Message
-ann = message 0 1 1 (0 ∷ 0 ∷ []) (shadow.User (codes "ann"))
+ann = message 0 1 1 (0 ∷ 0 ∷ []) (Shadow.User (codes "ann"))
 
 abbrev lamp : Message
-lamp = message 0 2 0 (1 ∷ 0 ∷ []) (shadow.Item (record { seller = id 0 1; name = codes "lamp"; cat = 7; stock = 1; start = 100; price = 0 }))
+lamp = message 0 2 0 (1 ∷ 0 ∷ []) (Shadow.Item (record { seller = id 0 1; name = codes "lamp"; cat = 7; stock = 1; start = 100; price = 0 }))
 
 abbrev chair : Message
-chair = message 1 1 0 (1 ∷ 0 ∷ []) (shadow.Item (record { seller = id 0 1; name = codes "chair"; cat = 7; stock = 1; start = 100; price = 0 }))
+chair = message 1 1 0 (1 ∷ 0 ∷ []) (Shadow.Item (record { seller = id 0 1; name = codes "chair"; cat = 7; stock = 1; start = 100; price = 0 }))
 
 -- another user, made at site 0 after these
 abbrev bob : Message
-bob = message 0 3 2 (2 ∷ 0 ∷ []) (shadow.User (codes "bob"))
+bob = message 0 3 2 (2 ∷ 0 ∷ []) (Shadow.User (codes "bob"))
 
 abbrev logs : List Log
 logs = log 0 (ann ∷ lamp ∷ bob ∷ []) ∷ log 1 (ann ∷ chair ∷ []) ∷ log 2 [] ∷ []
@@ -62,7 +50,7 @@ abbrev replica : List Message → List Message → Replica
 replica log waiting = record { log = log; waiting = waiting; held = None; last = 0 }
 
 -- each is released as it arrives
-second_is_sent : answers_to (at 1) (replica (ann ∷ chair ∷ []) []) (lacked logs (ann ∷ chair ∷ [])) ≡ Ok (arrival.Released 1) ∷ Ok (arrival.Released 1) ∷ []
+second_is_sent : answers_to (at 1) (replica (ann ∷ chair ∷ []) []) (lacked logs (ann ∷ chair ∷ [])) ≡ Ok (Arrival.Released 1) ∷ Ok (Arrival.Released 1) ∷ []
 second_is_sent = refl
 
 second_has_all : after_all (at 1) (replica (ann ∷ chair ∷ []) []) (lacked logs (ann ∷ chair ∷ [])) ≡ replica (ann ∷ chair ∷ lamp ∷ bob ∷ []) []
@@ -71,15 +59,15 @@ second_has_all = refl
 -- ---- each premise is needed
 
 -- in another order they wait
-in_another_order : answers_to (at 1) (replica (ann ∷ chair ∷ []) []) (bob ∷ lamp ∷ []) ≡ Ok arrival.Held ∷ Ok (arrival.Released 2) ∷ []
+in_another_order : answers_to (at 1) (replica (ann ∷ chair ∷ []) []) (bob ∷ lamp ∷ []) ≡ Ok Arrival.Held ∷ Ok (Arrival.Released 2) ∷ []
 in_another_order = refl
 
 -- where bob's waited already, it is released with the one that it waited for, and is there when it comes again
-one_waits : answers_to (at 1) (replica (ann ∷ chair ∷ []) (bob ∷ [])) (lacked logs (ann ∷ chair ∷ [])) ≡ Ok (arrival.Released 2) ∷ Ok arrival.Repeat ∷ []
+one_waits : answers_to (at 1) (replica (ann ∷ chair ∷ []) (bob ∷ [])) (lacked logs (ann ∷ chair ∷ [])) ≡ Ok (Arrival.Released 2) ∷ Ok Arrival.Repeat ∷ []
 one_waits = refl
 
 -- a site that lost its own messages takes none of them back
-lost : answers_to (at 0) (opening_at 0) (lacked logs []) ≡ Err NotOurs ∷ Err NotOurs ∷ Err NotOurs ∷ Ok arrival.Held ∷ []
+lost : answers_to (at 0) (opening_at 0) (lacked logs []) ≡ Err NotOurs ∷ Err NotOurs ∷ Err NotOurs ∷ Ok Arrival.Held ∷ []
 lost = refl
 
 -- ---- what a message waits for

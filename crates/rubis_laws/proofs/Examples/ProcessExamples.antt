@@ -1,31 +1,13 @@
 -- Worked examples of processes, computed on the definitions.
-use Rattle.std.proofs.Common.{ℕ, ◌≡◌, ◌<◌, List, [], ◌∷◌, ◌++◌, length, length-append, refl, sym, ap, ◌∙◌, subst, arith, Option, Some, None, inl, inr, ⊎_elim}
-use Rattle.std.proofs.Common.{append-nil}
-use Rattle.std.specs.Prelude.{bytes_eq, codes, unwrap_or}
-use Rattle.std.specs.Fmt.{digits}
-use Rattle.std.proofs.lemmas.Bool.{cases_eq}
-use mathlib.Core.Bool.{true≢false}
-use Rattle.rubis_numbers.specs.Numbers.{number_of}
-use Rattle.rubis_schema.specs.FieldForms.{nick_of}
-use Rattle.rubis_shadow.specs.declared.shadows.Ask.TheVariants as ask
-use Rattle.rubis_generate.specs.Decision.{decision}
-use Rattle.rubis_generate.specs.Lookup.{Rows}
-use Rattle.rubis_message.specs.Counts.{deps_of}
-use Rattle.rubis_message.specs.Forms.{take_positive, take_site}
-use Rattle.rubis_message.specs.Readings.{packet_of, request_of, take_kind, take_listing, take_message, take_packet, take_request, take_shadow, take_shown}
-use Rattle.rubis_message.specs.Readings.{take_stamp, take_token, kind_of, shown_of}
-use Rattle.rubis_message.specs.Message.{Message}
-use Rattle.rubis_model.specs.Answers.{asked_rows}
-use Rattle.rubis_model.specs.Listings.{log_from}
-use Rattle.rubis_model.specs.Meaning.{as_user, meaning_row}
-use Rattle.rubis_model.specs.Processes.{AreProcesses, Carried, Reading, WasSent, answers_of, process, site_after, state_of}
-use Rattle.rubis_model.specs.Runs.{answers, told}
-use Rattle.rubis_model.specs.Restarts.{IsShortened, Moment, NeverStopped, has_read, recorded, without_restarts}
-use Rattle.rubis_model.specs.Restarts.Moment.{Reads, Replays, Restarts}
-use Rattle.rubis_model.specs.Settle.{Has}
-use Rattle.rubis_model.specs.Site.{Replica, generating, opening_at, rows_at, standing_of}
-use Rattle.rubis_model.specs.Sound.{OneToken}
-use Rattle.rubis_model.specs.System.{AreEvents, Event, run, site, start}
+use Rattle.rubis_laws.proofs.Common.{ℕ, ◌≡◌, ◌<◌, List, [], ◌∷◌, ◌++◌, length, length-append, refl, sym, ap, ◌∙◌, subst, arith, Option, Some, None, inl, inr}
+use Rattle.rubis_laws.proofs.Common.{⊎_elim, append-nil, bytes_eq, codes, unwrap_or, digits, cases_eq, true≢false, number_of, nick_of, decision, Rows, deps_of}
+use Rattle.rubis_laws.proofs.Common.{take_positive, take_site, packet_of, request_of, take_kind, take_message, take_packet, take_request, take_shadow}
+use Rattle.rubis_laws.proofs.Common.{take_stamp, kind_of, Message, asked_rows, log_from, as_user, meaning_row, AreProcesses, Carried, Reading, WasSent}
+use Rattle.rubis_laws.proofs.Common.{answers_of, process, site_after, state_of, answers, told, IsShortened, Moment, NeverStopped, has_read, recorded}
+use Rattle.rubis_laws.proofs.Common.{without_restarts, Reads, Replays, Restarts, Has, Replica, generating, opening_at, rows_at, standing_of, OneToken}
+use Rattle.rubis_laws.proofs.Common.{AreEvents, Event, run, site, start, Ask}
+use Rattle.rubis_message.specs.Readings.{take_listing, take_shown}
+use Rattle.rubis_message.specs.Readings.{take_token, shown_of}
 use Rattle.rubis_laws.proofs.Rows.FoldIsMeaning.{fold_is_meaning}
 use Rattle.rubis_laws.proofs.Processes.ProcessLaws.{state_grows}
 use Rattle.rubis_laws.proofs.Processes.AreARun.{processes_run}
@@ -53,7 +35,7 @@ ann_comes = reads 0 ann_is_asked ∷ reads 1 ann_is_sent ∷ reads 1 (codes "lis
 -- the answer of site 0, from the rows of its tables
 abbrev ann_by : Rows → List (List (List ℕ))
 ann_by rows = (told (asked_rows 1)
-    (generating (process 2 most 0) (opening_at 0) (decision rows (standing_of 1000000 (opening_at 0)) (ask.User (codes "ann"))))).1 ++ []
+    (generating (process 2 most 0) (opening_at 0) (decision rows (standing_of 1000000 (opening_at 0)) (Ask.User (codes "ann"))))).1 ++ []
 
 abbrev pub ann_answers : List (List (List ℕ))
 ann_answers = (codes "reply" ∷ codes "1" ∷ codes "ok" ∷ codes "0.1" ∷ []) ∷ (codes "send" ∷ ann_is_sent) ∷ []
@@ -142,7 +124,7 @@ held_by_zero = refl
 
 -- then both sites hold the token, as in no run
 forged_is_no_run : (events : List Event) → AreEvents 2 events → AreProcesses 2 most forged (run 1000000 events (start 2)) → ⊥
-forged_is_no_run events among are = at (sound_run 2 1000000 events (omega arith) (omega arith) among).token
+forged_is_no_run events among are = at (sound_run {n = 2} {keep = 1000000} events (omega arith) (omega arith) among).token
   where
     not_none : (i : ℕ) → i < 2 → (state_of 2 most forged i).held ≡ Some 0 → (site (run 1000000 events (start 2)) i).held ≡ None → ⊥
     not_none i l e f = not_some (site (run 1000000 events (start 2)) i).held f (ap (λ (s : Replica). s.held) (are.states i l) ∙ e)
@@ -172,7 +154,7 @@ first_nick (m ∷ log) = unwrap_or (as_user m.shadow) []
 
 -- site 0 after its first ask, from the rows of its tables
 abbrev asked_first : List ℕ → Rows → List ℕ
-asked_first name rows = first_nick (generating (process 2 most 0) (opening_at 0) (decision rows (standing_of 1000000 (opening_at 0)) (ask.User name))).0.log
+asked_first name rows = first_nick (generating (process 2 most 0) (opening_at 0) (decision rows (standing_of 1000000 (opening_at 0)) (Ask.User name))).0.log
 
 by_meaning : (name : List ℕ) → asked_first name (rows_at []) ≡ asked_first name (meaning_row [])
 by_meaning name = ap (asked_first name) (λ i key. (fold_is_meaning [] tt (omega arith)).0.rows key i)

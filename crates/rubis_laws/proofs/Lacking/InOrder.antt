@@ -1,34 +1,18 @@
 -- What a log lacks of others: going through these in order, each message is ready at once.
-use Rattle.std.proofs.Common.{◌≡◌, ◌∙◌, ℕ, ◌+◌, ◌≤◌, ◌<◌, Bool, true, false, List, [], ◌∷◌, ◌++◌, length, length-append, append_assoc, append-nil, refl, sym}
-use Rattle.std.proofs.Common.{ap, subst, inl, inr, ⊎_elim, arith}
-use Rattle.std.specs.Prelude.{◌≢◌, ◌⊎◌, ◌↔◌, cond, not, reverse, filter, map, ◌==◌, ◌-◌, ◌&&◌, nat_le, nat_lt, Option, Result, Ok, Err}
-use Rattle.std.specs.List.{list_any, flat_map}
-use Rattle.std.proofs.lemmas.Bool.{cases_lt, cond_both, or_cases, false_from_ne_true, true≢false}
-use Rattle.std.proofs.lemmas.Bool.Decides.{nat_tests}
-use Rattle.std.proofs.lemmas.List.{reverse-append}
-use Rattle.rubis_schema.specs.Keys.{same_id}
-use Rattle.rubis_schema.specs.declared.refusals.Refusal.{Refusal}
-use Rattle.rubis_schema.specs.declared.refusals.Refusal.TheVariants.{Full, NotOurs}
-use Rattle.rubis_message.specs.Message.{Message}
-use Rattle.rubis_message.specs.declared.answers.Arrival.{Arrival}
-use Rattle.rubis_message.specs.declared.answers.Arrival.TheVariants as arrival
-use Rattle.rubis_model.specs.Audit.{AreFaultless, Logged}
-use Rattle.rubis_model.specs.Arrivals.{after_all, answers_to}
-use Rattle.rubis_model.specs.Lack.{is_among, firsts, merged, lacked, completed, LacksTheRest, Completes, LackIsReleased}
-use Rattle.rubis_model.specs.Logs.{Log}
-use Rattle.rubis_model.specs.Order.{Released, StandsBefore}
-use Rattle.rubis_model.specs.Settle.{Has, Ready, counted, reds, settle}
-use Rattle.rubis_model.specs.Settle.Settles.{Rest, Release}
-use Rattle.rubis_model.specs.Site.{Place, Replica, is_repeat, after_came, arrival_of, arrived}
-use Rattle.rubis_model.proofs.Lists.{has_left, has_right, has_append, has_last, has_back, has_reverse, push_cases}
+use Rattle.std.proofs.lemmas.Bool.{lt-leb}
+use Rattle.rubis_laws.proofs.Common.{◌≡◌, ◌∙◌, ℕ, ◌≤◌, ◌<◌, Bool, true, false, List, [], ◌∷◌, ◌++◌, length, length-append, append_assoc, append-nil, refl, sym}
+use Rattle.rubis_laws.proofs.Common.{ap, subst, inl, inr, ⊎_elim, arith, ◌≢◌, ◌⊎◌, ◌↔◌, cond, not, reverse, filter, map, ◌==◌, ◌-◌, ◌&&◌, nat_lt, Option}
+use Rattle.rubis_laws.proofs.Common.{Result, Ok, Err, list_any, flat_map, cond_both, or_cases, false_from_ne_true, true≢false, nat_tests, reverse-append}
+use Rattle.rubis_laws.proofs.Common.{same_id, Refusal, Full, NotOurs, Message, Arrival, AreFaultless, Logged, after_all, answers_to, is_among, merged, lacked}
+use Rattle.rubis_laws.proofs.Common.{completed, Completes, Log, Released, StandsBefore, Has, Ready, counted, settle, Rest, Release, Place, Replica, is_repeat}
+use Rattle.rubis_laws.proofs.Common.{after_came, arrival_of, arrived, has_left, has_right, has_append, has_last, has_back, has_reverse, push_cases, clash}
+use Rattle.rubis_laws.proofs.Common.{reverse_push}
+use Rattle.rubis_model.specs.Lack.{firsts, LacksTheRest, LackIsReleased}
 use Rattle.rubis_model.proofs.OneOutcome.{settles_one}
-use Rattle.rubis_model.proofs.Pasts.{clash, found, found_red}
-use Rattle.rubis_model.proofs.Settling.{reverse_push}
-use Rattle.rubis_laws.proofs.Audits.Audited.{released_all}
-use Rattle.rubis_laws.proofs.Runs.Converging.{counted_most, reds_most, ready_forth}
-use Rattle.rubis_laws.proofs.Runs.Delivering.{by_id}
-use Rattle.rubis_laws.proofs.Runs.Resting.{unlisted}
+use Rattle.rubis_laws.proofs.Runs.Delivering.{ready_on, ready_forth, by_id}
+use Rattle.rubis_laws.proofs.Runs.Written.{unlisted}
 use Rattle.rubis_laws.proofs.Order.RunsInOrder.{behind_from, distinct_back}
+use Rattle.rubis_laws.proofs.Audits.AuditedOrder.{released_all}
 
 -- ---- lists
 pub released_drop : (newer older : List Message) → Released (newer ++ older) → Released older
@@ -37,8 +21,7 @@ released_drop (m ∷ newer) older r = released_drop newer older r.1
 
 pub released_apart : (newer older : List Message) (m : Message) → Released (newer ++ m ∷ older) → Has m newer → ⊥
 released_apart [] older m r h = h
-released_apart (y ∷ newer) older m r (inl e) =
-    clash y (newer ++ m ∷ older) m r (has_right m newer (m ∷ older) (inl refl)) (ap (λ (x : Message). x.stamp.id.site) (sym e))
+released_apart (y ∷ newer) older m r (inl e) = clash y _ m r (has_right m newer _ (inl refl)) (ap (λ (x : Message). x.stamp.id.site) (sym e))
     (ap (λ (x : Message). x.stamp.id.seq) (sym e))
 released_apart (y ∷ newer) older m r (inr h) = released_apart newer older m r.1 h
 
@@ -58,14 +41,12 @@ apart_front front rest m r h = released_apart (reverse rest) (reverse front) m (
 
 pub filter_in : {A : Type 0} (test : A → Bool) (x : A) (xs : List A) → Has x (filter test xs) → Has x xs × (test x ≡ true)
 filter_in test x [] h = absurd h
-filter_in {A} test x (y ∷ xs) h = cond_both (test y) (y ∷ filter test xs) (filter test xs) (λ (q : List A). Has x q → Has x (y ∷ xs) × (test x ≡ true))
-    (λ t k. ⊎_elim (λ e. (inl e, ap test e ∙ t)) (λ k. let f = filter_in test x xs k in (inr f.0, f.1)) k)
-    (λ _ k. let f = filter_in test x xs k in (inr f.0, f.1)) h
+filter_in {A} test x (y ∷ xs) h = cond_both _ _ _ (λ (q : List A). Has x q → Has x (y ∷ xs) × (test x ≡ true)) (λ t k. ⊎_elim (λ e. (inl e, ap test e ∙ t))
+    (λ k. let f = filter_in test x xs k in (inr f.0, f.1)) k) (λ _ k. let f = filter_in test x xs k in (inr f.0, f.1)) h
 
 pub in_filter : {A : Type 0} (test : A → Bool) (x : A) (xs : List A) → Has x xs → test x ≡ true → Has x (filter test xs)
 in_filter test x [] h t = absurd h
-in_filter {A} test x (y ∷ xs) h t = cond_both (test y) (y ∷ filter test xs) (filter test xs) (λ (q : List A). Has x q)
-    (λ _. ⊎_elim (λ e. inl e) (λ k. inr (in_filter test x xs k t)) h)
+in_filter {A} test x (y ∷ xs) h t = cond_both _ _ _ (λ (q : List A). Has x q) (λ _. ⊎_elim (λ e. inl e) (λ k. inr (in_filter test x xs k t)) h)
     (λ f. ⊎_elim (λ e. absurd (true≢false (sym t ∙ ap test e ∙ f))) (λ k. in_filter test x xs k t) h)
 
 pub before_right : (u v : Message) (xs ys : List Message) → StandsBefore u v ys → StandsBefore u v (xs ++ ys)
@@ -74,48 +55,19 @@ before_right u v (x ∷ xs) ys h = inr (before_right u v xs ys h)
 
 firsts_append : (before xs ys : List Message) → firsts before (xs ++ ys) ≡ firsts before xs ++ firsts (before ++ firsts before xs) ys
 firsts_append before [] ys = ap (λ q. firsts q ys) (sym (append-nil before))
-firsts_append before (m ∷ xs) ys =
-    cond_both (is_among before m) (firsts before xs) (m ∷ firsts (before ++ m ∷ []) xs)
-    (λ (q : List Message). cond (is_among before m) (firsts before (xs ++ ys)) (m ∷ firsts (before ++ m ∷ []) (xs ++ ys)) ≡ q ++ firsts (before ++ q) ys)
-    (λ t. ap (λ b. cond b (firsts before (xs ++ ys)) (m ∷ firsts (before ++ m ∷ []) (xs ++ ys))) t ∙ firsts_append before xs ys)
-    (λ t. ap (λ b. cond b (firsts before (xs ++ ys)) (m ∷ firsts (before ++ m ∷ []) (xs ++ ys))) t ∙ ap (λ q. m ∷ q) (firsts_append (before ++ m ∷ []) xs ys
-    ∙ ap (λ q. firsts (before ++ m ∷ []) xs ++ firsts q ys) (append_assoc before (m ∷ []) (firsts (before ++ m ∷ []) xs))))
+firsts_append before (m ∷ xs) ys = cond_both _ _ _ (λ (q : List Message). cond (is_among before m) (firsts before (xs ++ ys)) (m ∷ firsts (before ++ m ∷ [])
+    (xs ++ ys)) ≡ q ++ firsts (before ++ q) ys) (λ t. ap (λ b. cond b (firsts before (xs ++ ys)) (m ∷ firsts (before ++ m ∷ []) (xs ++ ys))) t ∙ firsts_append _
+    xs ys) (λ t. ap (λ b. cond b (firsts before (xs ++ ys)) (m ∷ firsts (before ++ m ∷ []) (xs ++ ys))) t ∙ ap (λ q. m ∷ q)
+    (firsts_append _ xs ys ∙ ap (λ q. firsts (before ++ m ∷ []) xs ++ firsts q ys) (append_assoc before (m ∷ []) (firsts (before ++ m ∷ []) xs))))
 
 -- ---- of messages of which an id and a red number is one's
 module _ (all : Message → Type 0) (ids : (u v : Message) → all u → all v → u.stamp.id.site ≡ v.stamp.id.site → u.stamp.id.seq ≡ v.stamp.id.seq → u ≡ v)
     (red_once : (u v : Message) → all u → all v → 0 < u.stamp.red → u.stamp.red ≡ v.stamp.red → u ≡ v) where
-  -- what was ready after some messages is ready after a log that has those, and not it
-  pub ready_on : (past log : List Message) (m : Message) → Released (m ∷ past) → Released log → ((x : Message) → Has x log → all x) → all m
-      → ((x : Message) → Has x past → Has x log) → (Has m log → ⊥) → Ready log m
-  ready_on past log m r rl on a within new = record {
-    next = ⊎_elim
-        (λ l. let c = counted_most past log r.1 rl within m.stamp.id.site in let e = r.0.next in omega arith)
-        (λ l. absurd (new (id_there l)))
-        (cases_lt (counted m.stamp.id.site log) m.stamp.id.seq);
-    released = λ j n. let c = counted_most past log r.1 rl within j in let d = r.0.released j n in omega arith;
-    number = λ p. ⊎_elim
-        (λ l. let c = reds_most past log r.1 rl within in let e = r.0.number p in omega arith)
-        (λ l. absurd (new (red_there p l)))
-        (cases_lt (reds log) m.stamp.red);
-  }
-    where
-      id_there : m.stamp.id.seq ≤ counted m.stamp.id.site log → Has m log
-      id_there l =
-          let e = r.0.next in
-          let f = found log m.stamp.id.site m.stamp.id.seq rl (omega arith) l in
-          subst (λ x. Has x log) (ids f.0 m (on f.0 f.1) a f.2 f.3) f.1
-
-      red_there : 0 < m.stamp.red → m.stamp.red ≤ reds log → Has m log
-      red_there p l =
-          let f = found_red log m.stamp.red rl p l in
-          let e = f.2 in
-          subst (λ x. Has x log) (red_once f.0 m (on f.0 f.1) a (omega arith) e) f.1
-
   -- one message at the end
   pub released_push : (front log : List Message) (m : Message) → Released (m ∷ reverse front) → Released (reverse log)
       → ((x : Message) → Has x log → all x) → all m → ((x : Message) → Has x front → Has x log) → (Has m log → ⊥) → Released (reverse (log ++ m ∷ []))
   released_push front log m rm rl on a within new = subst Released (sym (reverse_push log m)) (
-    ready_on (reverse front) (reverse log) m rm rl (λ x h. on x (has_reverse x log h)) a (λ x h. has_back x log (within x (has_reverse x front h)))
+    ready_on all ids red_once rm rl (λ x h. on x (has_reverse x log h)) a (λ x h. has_back x log (within x (has_reverse x front h)))
         (λ h. new (has_reverse m log h)),
     rl,
   )
@@ -208,8 +160,7 @@ module _ (all : Message → Type 0) (ids : (u v : Message) → all u → all v �
         fine = k.fine;
         old = λ x h. k.old x (g.old x h);
         new = λ x h. ⊎_elim (λ l. k.old x (g.new x l)) (λ l. k.new x l) (has_append x log.messages more h);
-        only = λ x h. ⊎_elim (λ l. ⊎_elim (λ b. inl b) (λ b. inr (has_left x log.messages more b)) (g.only x l)) (λ l. inr (has_right x log.messages more l))
-            (k.only x h);
+        only = λ x h. ⊎_elim (λ l. ⊎_elim (λ b. inl b) (λ b. inr (has_left x _ more b)) (g.only x l)) (λ l. inr (has_right x _ more l)) (k.only x h);
       })
 
   abbrev left : List Message → List Message → List Message
@@ -220,14 +171,12 @@ module _ (all : Message → Type 0) (ids : (u v : Message) → all u → all v �
       → ((x : Message) → Has x front → Has x log) → ((x : Message) → Has x rest → Has x log → Has x own) → Fine (log ++ left own rest)
 
   -- a log with those of a released list that it hasn't
-  pub fill : (own front rest log : List Message) → Fine (front ++ rest) → ((x : Message) → Has x rest → all x) → Fine log
+  pub fill : (own front rest : List Message) {log : List Message} → Fine (front ++ rest) → ((x : Message) → Has x rest → all x) → Fine log
       → ((x : Message) → Has x log → all x) → ((x : Message) → Has x own → all x) → ((x : Message) → Has x own → Has x log)
-      → ((x : Message) → Has x front → Has x log) → ((x : Message) → Has x rest → Has x log → Has x own)
-      → Fine (log ++ filter (λ m. not (is_among own m)) rest)
-  fill own front [] log r on rl ol oo keeps within new = subst Fine (sym (append-nil log)) rl
-  fill own front (m ∷ rest) log r on rl ol oo keeps within new = at
-      (λ log rl ol keeps within new. fill own (front ++ m ∷ []) rest log (fine_on front rest m r) (λ x k. on x (inr k)) rl ol oo keeps within new)
-      (is_among own m) refl
+      → ((x : Message) → Has x front → Has x log) → ((x : Message) → Has x rest → Has x log → Has x own) → Fine (log ++ filter (λ m. not (is_among own m)) rest)
+  fill own front [] {log} r on rl ol oo keeps within new = subst Fine (sym (append-nil log)) rl
+  fill own front (m ∷ rest) {log} r on rl ol oo keeps within new = at (λ log rl ol keeps within new. fill own (front ++ m ∷ []) rest {log = log}
+      (fine_on front rest m r) (λ x k. on x (inr k)) rl ol oo keeps within new) (is_among own m) refl
     where
       at : Fills own (front ++ m ∷ []) rest → (b : Bool) → is_among own m ≡ b
           → Fine (log ++ cond (not (is_among own m)) (m ∷ left own rest) (left own rest))
@@ -249,29 +198,27 @@ module _ (all : Message → Type 0) (ids : (u v : Message) → all u → all v �
 
 -- ---- a site at which nothing waits, and messages that it can release one after the other
 settle_one : {log : List Message} {m : Message} → Ready log m → settle 1 log (m ∷ []) ≡ (log ++ m ∷ [], [])
-settle_one {log} {m} r =
-    settles_one log (m ∷ []) (log ++ m ∷ []) [] (Release log [] [] (log ++ m ∷ []) [] m (λ x h. absurd h) r (Rest (log ++ m ∷ []) [] (λ x h. absurd h)))
+settle_one {log} {m} r = settles_one log _ _ [] (Release log [] [] (log ++ m ∷ []) [] m (λ x h. absurd h) r (Rest (log ++ m ∷ []) [] (λ x h. absurd h)))
 
 abbrev quiet : List Message → Option ℕ → ℕ → Replica
 quiet log held last = record { log = log; waiting = []; held = held; last = last }
 
-answer_released : {a b c : Bool} (s t : Replica) {n : ℕ} → a ≡ false → b ≡ false → c ≡ false → n ≡ 1
-    → cond {A = Replica × Result Arrival Refusal} a (s, Err NotOurs) (cond b (s, Ok arrival.Repeat) (cond c (s, Err Full) (t, Ok (arrival_of n)))) ≡
-    (t, Ok (arrival.Released 1))
-answer_released s t ea eb ec en = λ i. cond {A = Replica × Result Arrival Refusal} (ea i) (s, Err NotOurs)
-    (cond (eb i) (s, Ok arrival.Repeat) (cond (ec i) (s, Err Full) (t, Ok (arrival_of (en i)))))
+-- the answer where none of the tests holds
+pub is_answer : {a b c : Bool} (s t : Replica) (n : ℕ) → a ≡ false → b ≡ false → c ≡ false
+    → cond {A = Replica × Result Arrival Refusal} a (s, Err NotOurs) (cond b (s, Ok Arrival.Repeat) (cond c (s, Err Full) (t, Ok (arrival_of n)))) ≡
+    (t, Ok (arrival_of n))
+is_answer s t n ea eb ec = λ i. cond {A = Replica × Result Arrival Refusal} (ea i) (s, Err NotOurs)
+    (cond (eb i) (s, Ok Arrival.Repeat) (cond (ec i) (s, Err Full) (t, Ok (arrival_of n))))
 
 came_quiet : {log : List Message} (held : Option ℕ) (last : ℕ) {m : Message} → Ready log m
     → after_came (quiet log held last) m ≡ quiet (log ++ m ∷ []) held last
 came_quiet {log} held last r = ap (λ (p : List Message × List Message). record { log = p.0; waiting = p.1; held = held; last = last }) (settle_one r)
 
 arrives : (p : Place) (log : List Message) (held : Option ℕ) (last : ℕ) (m : Message) → Released (m ∷ reverse log) → m.stamp.id.site ≢ p.site
-    → length log < p.keep → arrived p (quiet log held last) m ≡ (quiet (log ++ m ∷ []) held last, Ok (arrival.Released 1))
-arrives p log held last m r other room =
-    answer_released (quiet log held last)
-    (after_came (quiet log held last) m) (not_of m.stamp.id.site p.site (nat_lt (counted p.site log) m.stamp.id.seq) other)
-    (false_from_ne_true (is_repeat (quiet log held last) m) (λ e. new (repeat_in e))) (short p.keep (length log) room)
-    (longer (ap (λ (s : Replica). length s.log) came)) ∙ ap (λ s. (s, Ok (arrival.Released 1))) came
+    → length log < p.keep → arrived p (quiet log held last) m ≡ (quiet (log ++ m ∷ []) held last, Ok (Arrival.Released 1))
+arrives p log held last m r other room = is_answer _ (after_came (quiet log held last) m) _
+    (not_of m.stamp.id.site p.site (nat_lt (counted p.site log) m.stamp.id.seq) other) (false_from_ne_true _ (λ e. new (repeat_in e)))
+    (lt-leb p.keep _ (omega (arith, room))) ∙ (λ j. (came j, Ok (arrival_of (longer (ap (λ (s : Replica). length s.log) came) j))))
   where
     came : after_came (quiet log held last) m ≡ quiet (log ++ m ∷ []) held last
     came = came_quiet held last (ready_forth log r.0)
@@ -287,14 +234,11 @@ arrives p log held last m r other room =
     not_of : (x y : ℕ) (b : Bool) → x ≢ y → ((x == y) && b) ≡ false
     not_of x y b n = grind (arith, nat_tests)
 
-    short : (keep n : ℕ) → n < keep → nat_le keep (n + 0) ≡ false
-    short keep n l = grind (arith, nat_tests)
-
     longer : length (after_came (quiet log held last) m).log ≡ length (log ++ m ∷ []) → length (after_came (quiet log held last) m).log - length log ≡ 1
     longer e = let a = length-append log (m ∷ []) in omega (arith, e, a)
 
 abbrev Ends : Place → List Message → Option ℕ → ℕ → List Message → Type 0
-Ends p log held last more = (answers_to p (quiet log held last) more ≡ map (λ m. Ok (arrival.Released 1)) more)
+Ends p log held last more = (answers_to p (quiet log held last) more ≡ map (λ m. Ok (Arrival.Released 1)) more)
     × (after_all p (quiet log held last) more ≡ quiet (log ++ more) held last)
 
 all_arrive : (p : Place) (log : List Message) (held : Option ℕ) (last : ℕ) (more : List Message) → Released (reverse (log ++ more))
@@ -304,7 +248,7 @@ all_arrive p log held last (m ∷ more) r others room =
     let one = arrives p log held last m (released_front log more m r) (others m (inl refl)) (let a = length-append log (m ∷ more) in omega (arith, a, room)) in
     let rest = all_arrive p (log ++ m ∷ []) held last more (released_on log more m r) (λ x h. others x (inr h))
     (subst (λ q. length q ≤ p.keep) (sym (append_assoc log (m ∷ []) more)) room) in (
-      (λ i. (one i).1 ∷ answers_to p (one i).0 more) ∙ ap (λ q. Ok (arrival.Released 1) ∷ q) rest.0,
+      (λ i. (one i).1 ∷ answers_to p (one i).0 more) ∙ ap (λ q. Ok (Arrival.Released 1) ∷ q) rest.0,
       ap (λ (q : Replica × Result Arrival Refusal). after_all p q.0 more) one ∙ rest.1 ∙ ap (λ q. quiet q held last) (append_assoc log (m ∷ []) more),
     )
 
@@ -328,8 +272,7 @@ in_flat (x ∷ logs) log m (inr h) k = has_right m x.messages (flat_map (λ (l :
 
 pub of_flat : (logs : List Log) (m : Message) → Has m (flat_map (λ (l : Log). l.messages) logs) → Logged logs m
 of_flat [] m h = absurd h
-of_flat (x ∷ logs) m h = ⊎_elim (λ k. ((x, inl refl), k)) (λ k. let f = of_flat logs m k in ((f.0.0, inr f.0.1), f.1))
-    (has_append m x.messages (flat_map (λ (l : Log). l.messages) logs) h)
+of_flat (x ∷ logs) m h = ⊎_elim (λ k. ((x, inl refl), k)) (λ k. let f = of_flat logs m k in ((f.0.0, inr f.0.1), f.1)) (has_append m _ _ h)
 
 module _ (logs : List Log) (f : AreFaultless logs) where
   pub log_released : (log : Log) → Has log logs → Released (reverse log.messages)
@@ -337,8 +280,7 @@ module _ (logs : List Log) (f : AreFaultless logs) where
 
   merged_grown : Grown (Logged logs) f.clash IsReleased released_prefix apart_front (push_released (Logged logs) f.clash f.red_once) []
       (flat_map (λ (l : Log). l.messages) logs) (merged logs)
-  merged_grown = go_logs (Logged logs) f.clash IsReleased released_prefix apart_front (push_released (Logged logs) f.clash f.red_once) logs []
-      (λ log h. (log_released log h, λ x k. ((log, h), k))) tt (λ x h. absurd h)
+  merged_grown = go_logs _ _ _ _ _ _ logs [] (λ log h. (log_released log h, λ x k. ((log, h), k))) tt (λ x h. absurd h)
 
   pub merged_released : Released (reverse (merged logs))
   merged_released = merged_grown.fine
@@ -349,8 +291,8 @@ module _ (logs : List Log) (f : AreFaultless logs) where
   pub in_merged : (m : Message) → Logged logs m → Has m (merged logs)
   in_merged m a = merged_grown.new m (in_flat logs a.0.0 m a.0.1 a.1)
 
-  pub of_lacked : (own : List Message) (m : Message) → Has m (lacked logs own) → Logged logs m × (Has m own → ⊥)
-  of_lacked own m h =
+  pub of_lacked : (own : List Message) {m : Message} → Has m (lacked logs own) → Logged logs m × (Has m own → ⊥)
+  of_lacked own {m} h =
       let k = filter_in (λ u. not (is_among own u)) m (merged logs) h in
       (of_merged m k.0, unlisted m own (is_not (is_among own m) k.1))
     where
@@ -358,38 +300,37 @@ module _ (logs : List Log) (f : AreFaultless logs) where
       is_not true e = sym e
       is_not false e = refl
 
-  pub in_lacked : (own : List Message) → ((x : Message) → Has x own → Logged logs x) → (m : Message) → Logged logs m → (Has m own → ⊥) → Has m (lacked logs own)
-  in_lacked own on m a n =
-      in_filter (λ u. not (is_among own u)) m (merged logs) (in_merged m a)
+  pub in_lacked : (own : List Message) → ((x : Message) → Has x own → Logged logs x) → {m : Message} → Logged logs m → (Has m own → ⊥) → Has m (lacked logs own)
+  in_lacked own on {m} a n = in_filter (λ u. not (is_among own u)) m (merged logs) (in_merged m a)
       (ap not (false_from_ne_true (is_among own m) (λ e. n (among_in (Logged logs) f.clash m own a on e))))
 
   module _ (own : List Message) (r : Released (reverse own)) (on : (x : Message) → Has x own → Logged logs x) where
     pub completed_released : Released (reverse (completed logs own))
     completed_released = fill (Logged logs) f.clash IsReleased released_prefix apart_front (push_released (Logged logs) f.clash f.red_once) own []
-        (merged logs) own merged_released of_merged r on on (λ x h. h) (λ x h. absurd h) (λ x h k. k)
+        (merged logs) merged_released of_merged r on on (λ x h. h) (λ x h. absurd h) (λ x h k. k)
 
     pub completed_all : (m : Message) → Has m (completed logs own) ↔ Logged logs m
     completed_all m = (
-      λ h. ⊎_elim (λ k. on m k) (λ k. (of_lacked own m k).0) (has_append m own (lacked logs own) h),
+      λ h. ⊎_elim (λ k. on m k) (λ k. (of_lacked own k).0) (has_append m own (lacked logs own) h),
       λ a. at (is_among own m) refl a,
     )
       where
         at : (b : Bool) → is_among own m ≡ b → Logged logs m → Has m (completed logs own)
         at true t a = has_left m own (lacked logs own) (among_in (Logged logs) f.clash m own a on t)
-        at false t a = has_right m own (lacked logs own) (in_lacked own on m a (unlisted m own t))
+        at false t a = has_right m own (lacked logs own) (in_lacked own on a (unlisted m own t))
 
-  pub completes : (p : Place) (s : Replica) → Released (reverse s.log) → ((x : Message) → Has x s.log → Logged logs x) → s.waiting ≡ []
+  pub completes : {p : Place} {s : Replica} → Released (reverse s.log) → ((x : Message) → Has x s.log → Logged logs x) → s.waiting ≡ []
       → ((m : Message) → Has m (lacked logs s.log) → m.stamp.id.site ≢ p.site) → length (completed logs s.log) ≤ p.keep → Completes logs p s
-  completes p s r on w others room =
+  completes {p} {s} r on w others room =
       let a = all_arrive p s.log s.held s.last (lacked logs s.log) (completed_released s.log r on) others room in record {
-        answers = subst (λ q. answers_to p (record s { waiting = q }) (lacked logs s.log) ≡ map (λ m. Ok (arrival.Released 1)) (lacked logs s.log)) (sym w) a.0;
+        answers = subst (λ q. answers_to p (record s { waiting = q }) (lacked logs s.log) ≡ map (λ m. Ok (Arrival.Released 1)) (lacked logs s.log)) (sym w) a.0;
         state = subst (λ q. after_all p (record s { waiting = q }) (lacked logs s.log) ≡ record s { log = completed logs s.log; waiting = q }) (sym w) a.1;
         all = completed_all s.log r on;
       }
 
 pub lacks_the_rest : LacksTheRest
 lacks_the_rest logs f log h = (
-  λ m. ((λ k. of_lacked logs f log.messages m k), (λ k. in_lacked logs f log.messages on m k.0 k.1)),
+  λ m. ((λ k. of_lacked logs f log.messages k), (λ k. in_lacked logs f log.messages on k.0 k.1)),
   λ m k. distinct_back (reverse (completed logs log.messages)) m (completed_released logs f log.messages (log_released logs f log h) on)
       (behind_from m m (completed logs log.messages) (before_right m m log.messages (lacked logs log.messages) k)),
 )
@@ -399,4 +340,4 @@ lacks_the_rest logs f log h = (
 
 pub lack_is_released : LackIsReleased
 lack_is_released logs f log h p s e w others room =
-    completes logs f p s (subst (λ q. Released (reverse q)) (sym e) (log_released logs f log h)) (λ x k. ((log, h), subst (Has x) e k)) w others room
+    completes logs f (subst (λ q. Released (reverse q)) (sym e) (log_released logs f log h)) (λ x k. ((log, h), subst (Has x) e k)) w others room

@@ -1,42 +1,25 @@
 -- The shadow of an ask that isn't refused fits the log whose rows it was decided against.
-use Rattle.std.proofs.Common.{ℕ, ◌≡◌, ◌+◌, ◌-◌, ◌≤◌, List, [], false, refl, sym, ap, ◌∙◌, subst, arith, Option, Some, None}
-use Rattle.std.specs.Prelude.{nat_lt, is_none, is_some, option_map, option_and_then, IsSome, IfSome, Ok}
-use Rattle.std.specs.Option.{option_map_or}
-use Rattle.std.proofs.lemmas.Bool.Decides.{nat_tests}
-use mathlib.Core.Bool.{true≢false}
-use Rattle.rubis_schema.specs.declared.ids.Id.{Id}
-use Rattle.rubis_schema.specs.declared.rows.Row.TheVariants as row
-use Rattle.rubis_schema.specs.declared.row_keys.RowKey.{RowKey}
-use Rattle.rubis_schema.specs.declared.row_keys.RowKey.TheVariants as key
-use Rattle.rubis_schema.specs.declared.rows.ItemRow.{ItemRow}
-use Rattle.rubis_schema.specs.declared.rows.UserRow.{UserRow}
-use Rattle.rubis_schema.specs.declared.offers.NewItem.{NewItem}
-use Rattle.rubis_schema.specs.declared.rows.Best.{Best}
-use Rattle.rubis_model.specs.Log.{Core}
-use Rattle.rubis_shadow.specs.declared.shadows.Shadow.{Shadow}
-use Rattle.rubis_generate.specs.declared.standing.Standing.{Standing}
-use Rattle.rubis_shadow.specs.declared.shadows.Ask.{Ask}
-use Rattle.rubis_model.specs.Meaning.{user_at, nick_at, item_at, user_row, item_row, meaning_row, close_of, best_bid, best_of, sale_after, named, total}
-use Rattle.rubis_model.specs.Meaning.{sold_of, supply}
-use Rattle.rubis_model.specs.Checks.{Fits}
+use Rattle.rubis_laws.proofs.Common.{ℕ, ◌≡◌, ◌+◌, ◌-◌, ◌≤◌, List, [], false, refl, sym, ap, ◌∙◌, subst, arith, Option, Some, None, nat_lt, is_none, is_some}
+use Rattle.rubis_laws.proofs.Common.{option_map, option_and_then, IsSome, IfSome, Ok, option_map_or, nat_tests, true≢false, Id, RowKey, ItemRow, UserRow}
+use Rattle.rubis_laws.proofs.Common.{NewItem, Best, Core, Shadow, Standing, Ask, user_at, nick_at, item_at, user_row, item_row, meaning_row, close_of, best_bid}
+use Rattle.rubis_laws.proofs.Common.{best_of, sale_after, named, total, sold_of, supply, Fits, Rows, user_in, item_in, is_ended, as_item_row, decision, of_item}
+use Rattle.rubis_laws.proofs.Common.{Holds, Row}
 use Rattle.rubis_laws.proofs.Rows.Nicks.{nick_user}
 use Rattle.rubis_laws.proofs.Order.FitsByKind.{Tells, decided_by_kind, from_kind}
-use Rattle.rubis_generate.specs.Lookup.{Rows, user_in, item_in, is_ended, as_item_row, as_user_row}
-use Rattle.rubis_generate.specs.Decision.{decision, of_item}
-use Rattle.rubis_model.specs.Invariants.{Holds}
+use Rattle.rubis_generate.specs.Decision.{as_user_row}
 
 module _ (t : Rows) (a : List Core) (rows : (q : RowKey) → t q ≡ meaning_row a q) where
-  get_item : (i : Id) → t (key.Item i) ≡ option_map (item_row a i) (item_at i a)
+  get_item : (i : Id) → t (RowKey.Item i) ≡ option_map (item_row a i) (item_at i a)
   unfolding meaning_row
-  get_item i = rows (key.Item i)
+  get_item i = rows (RowKey.Item i)
 
-  get_user : (i : Id) → t (key.User i) ≡ option_map (user_row a i) (nick_at i a)
+  get_user : (i : Id) → t (RowKey.User i) ≡ option_map (user_row a i) (nick_at i a)
   unfolding meaning_row
-  get_user i = rows (key.User i)
+  get_user i = rows (RowKey.User i)
 
-  get_nick : (n : List ℕ) → t (key.Nick n) ≡ option_map (λ (m : Core). row.Nick m.id) (named n a)
+  get_nick : (n : List ℕ) → t (RowKey.Nick n) ≡ option_map (λ (m : Core). Row.Nick m.id) (named n a)
   unfolding meaning_row
-  get_nick n = rows (key.Nick n)
+  get_nick n = rows (RowKey.Nick n)
 
   user_there : (i : Id) → is_none (user_in t i) ≡ false → IsSome (user_at i a)
   user_there i e = nick_user i a (at (nick_at i a) (sym (ap (λ g. is_none (option_and_then as_user_row g)) (get_user i)) ∙ e))
@@ -63,11 +46,11 @@ module _ (t : Rows) (a : List Core) (rows : (q : RowKey) → t q ≡ meaning_row
       at (Some n) q e = (n, q)
 
   -- what the tables hold of an item that is there
-  item_is : (i : Id) (n : NewItem) → item_at i a ≡ Some n → item_in t i ≡ option_and_then as_item_row (Some (item_row a i n))
-  item_is i n e = ap (option_and_then as_item_row) (get_item i ∙ ap (option_map (item_row a i)) e)
+  item_is : (i : Id) {n : NewItem} → item_at i a ≡ Some n → item_in t i ≡ option_and_then as_item_row (Some (item_row a i n))
+  item_is i e = ap (option_and_then as_item_row) (get_item i ∙ ap (option_map (item_row a i)) e)
 
   shut : (i : Id) (n : NewItem) → item_at i a ≡ Some n → of_item t i (λ r. is_ended r.sale) ≡ false → close_of i a ≡ None
-  shut i n e f = at (close_of i a) (sym (ap (λ o. option_map_or (λ (r : ItemRow). is_ended r.sale) o false) (item_is i n e)) ∙ f)
+  shut i n e f = at (close_of i a) (sym (ap (λ o. option_map_or (λ (r : ItemRow). is_ended r.sale) o false) (item_is i e)) ∙ f)
     where
       at : (o : Option Core) → is_ended (sale_after o) ≡ false → o ≡ None
       at None e = refl
@@ -76,7 +59,7 @@ module _ (t : Rows) (a : List Core) (rows : (q : RowKey) → t q ≡ meaning_row
   enough : (h : Holds a) (i : Id) (n : NewItem) (q : ℕ) → item_at i a ≡ Some n → of_item t i (λ r. nat_lt r.stock q) ≡ false
       → IfSome (item_at i a) (λ n. total (sold_of i) a + q ≤ supply a i n)
   enough h i n q e f =
-      let k : nat_lt (supply a i n - total (sold_of i) a) q ≡ false = sym (ap (λ o. option_map_or (λ (r : ItemRow). nat_lt r.stock q) o false) (item_is i n e))
+      let k : nat_lt (supply a i n - total (sold_of i) a) q ≡ false = sym (ap (λ o. option_map_or (λ (r : ItemRow). nat_lt r.stock q) o false) (item_is i e))
       ∙ f in
       let s : total (sold_of i) a ≤ supply a i n = subst (λ o. IfSome o (λ n. total (sold_of i) a ≤ supply a i n)) e (h.stock i) in
       subst (λ o. IfSome o (λ n. total (sold_of i) a + q ≤ supply a i n)) (sym e) (room _ _ _ k s)
@@ -84,10 +67,10 @@ module _ (t : Rows) (a : List Core) (rows : (q : RowKey) → t q ≡ meaning_row
       room : (st so q : ℕ) → nat_lt (st - so) q ≡ false → so ≤ st → so + q ≤ st
       room st so q k s = grind (arith, nat_tests)
 
-  nick_free : (n : List ℕ) → is_some (t (key.Nick n)) ≡ false → named n a ≡ None
+  nick_free : (n : List ℕ) → is_some (t (RowKey.Nick n)) ≡ false → named n a ≡ None
   nick_free n e = at (named n a) (sym (ap (λ g. is_some g) (get_nick n)) ∙ e)
     where
-      at : (o : Option Core) → is_some (option_map (λ (m : Core). row.Nick m.id) o) ≡ false → o ≡ None
+      at : (o : Option Core) → is_some (option_map (λ (m : Core). Row.Nick m.id) o) ≡ false → o ≡ None
       at None e = refl
       at (Some m) e = absurd (true≢false e)
 
@@ -103,9 +86,9 @@ module _ (t : Rows) (a : List Core) (rows : (q : RowKey) → t q ≡ meaning_row
     item = item_there;
     unended = shut;
     enough = enough h;
-    cat = λ i n e. ap (option_map (λ (n : NewItem). n.cat)) e ∙ ap Some (sym (ap (λ o. option_map_or (λ (r : ItemRow). r.cat) o 0) (item_is i n e)));
-    winner = λ i n e. ap (λ o. option_and_then (λ (r : ItemRow). option_map (λ (b : Best). b.bid) r.best) o) (item_is i n e) ∙ winner_is (best_bid i a);
+    cat = λ i n e. ap (option_map (λ (n : NewItem). n.cat)) e ∙ ap Some (sym (ap (λ o. option_map_or (λ (r : ItemRow). r.cat) o 0) (item_is i e)));
+    winner = λ i n e. ap (λ o. option_and_then (λ (r : ItemRow). option_map (λ (b : Best). b.bid) r.best) o) (item_is i e) ∙ winner_is (best_bid i a);
   }
 
   pub decided_fits : (s : Standing) (ask : Ask) (x : Shadow) → Holds a → decision t s ask ≡ Ok x → Fits a x
-  decided_fits s ask x h e = from_kind a x (decided_by_kind (tells h) s ask x e)
+  decided_fits s ask x h e = from_kind a (decided_by_kind (tells h) s ask e)

@@ -1,33 +1,16 @@
 -- Kind by kind: what it means that a shadow fits, where it is decided and where it is released, and what it then says of rows.
-use Rattle.std.proofs.Common.{ℕ, ◌≡◌, ◌+◌, ◌≤◌, List, [], ◌∷◌, true, false, cond, refl, sym, ap, ◌∙◌, subst, arith, Option, Some, None, inl, inr}
-use Rattle.std.specs.Prelude.{pos, unsigned_abs, ◌==◌, not, nat_lt, option_map, option_and_then, is_none, is_some, IfSome, IsSome, Ok}
-use Rattle.std.specs.List.{All}
-use Rattle.std.specs.Option.{option_eq, option_map_or, option_or}
-use Rattle.std.proofs.lemmas.Bool.{true≢false, eq-eqb, eqb-true, le-ltb, ltb-false, not-false, not_from_true, or_from, or_parts}
-use Rattle.std.proofs.lemmas.List.Elements.{All-cons, All-nil}
-use Rattle.rubis_schema.specs.KeyLaws.{Decides-same_id}
-use Rattle.rubis_schema.specs.Keys.{same_id}
-use Rattle.rubis_schema.specs.declared.ids.Id.{Id}
-use Rattle.rubis_schema.specs.declared.row_keys.RowKey.{RowKey}
-use Rattle.rubis_schema.specs.declared.row_keys.RowKey.TheVariants as key
-use Rattle.rubis_schema.specs.declared.rows.Best.{Best}
-use Rattle.rubis_schema.specs.declared.rows.ItemRow.{ItemRow}
-use Rattle.rubis_schema.specs.declared.rows.UserRow.{UserRow}
-use Rattle.rubis_shadow.specs.Shadows.{is_red, refers_of, winner_key}
-use Rattle.rubis_shadow.specs.declared.shadows.Ask.{Ask}
-use Rattle.rubis_shadow.specs.declared.shadows.Ask.TheVariants as ask
-use Rattle.rubis_schema.specs.declared.offers.NewItem.{NewItem}
-use Rattle.rubis_shadow.specs.declared.shadows.Shadow.{Shadow}
-use Rattle.rubis_shadow.specs.declared.shadows.Shadow.TheVariants.{User, Item, Bid, Buy, Close, Comment, Restock, Rename}
-use Rattle.rubis_generate.specs.Decision.{decision, is_due, of_item, order_of, shadow_of}
-use Rattle.rubis_generate.specs.Lookup.{Rows, is_ended, item_in, user_in}
-use Rattle.rubis_generate.specs.declared.standing.Standing.{Standing}
+use Rattle.rubis_laws.proofs.Common.{ℕ, ◌≡◌, ◌+◌, ◌≤◌, List, [], ◌∷◌, true, false, cond, refl, sym, ap, ◌∙◌, subst, arith, Option, Some, None, inl, inr, pos}
+use Rattle.rubis_laws.proofs.Common.{unsigned_abs, ◌==◌, not, nat_lt, option_map, option_and_then, is_none, is_some, IfSome, IsSome, Ok, All, option_map_or}
+use Rattle.rubis_laws.proofs.Common.{option_or, true≢false, eq-eqb, eqb-true, le-ltb, ltb-false, not-false, not_from_true, or_from, or_parts, All-cons, All-nil}
+use Rattle.rubis_laws.proofs.Common.{Decides-same_id, same_id, Id, RowKey, Best, ItemRow, UserRow, is_red, refers_of, winner_key, Ask, NewItem, Shadow, User}
+use Rattle.rubis_laws.proofs.Common.{Item, Bid, Buy, Close, Rename, decision, is_due, of_item, order_of, shadow_of, Rows, is_ended, item_in, user_in, Standing}
+use Rattle.rubis_laws.proofs.Common.{Fits, IsLimited, StandsIn, nick_taken, stock_short, wrong_category, wrong_winner, Core, as_bid, at_id, best_bid, bids_on}
+use Rattle.rubis_laws.proofs.Common.{bought_by, close_of, closes, higher, is_same_nick, item_at, lists_item_of, named, nick_at, rates, rating_for, renames}
+use Rattle.rubis_laws.proofs.Common.{restocked_of, sold_of, supply, total, user_at, when}
+use Rattle.std.specs.Option.{option_eq}
+use Rattle.rubis_shadow.specs.declared.shadows.Shadow.TheVariants.{Comment, Restock}
 use Rattle.rubis_message.specs.Equal.{Decides-winner}
-use Rattle.rubis_model.specs.Checks.{Fits, IsLimited, StandsIn, nick_taken, stock_short, wrong_category, wrong_winner}
-use Rattle.rubis_model.specs.Log.{Core}
-use Rattle.rubis_model.specs.Meaning.{as_bid, at_id, best_bid, bids_on, bought_by, close_of, closes, higher, is_same_nick, item_at, lists_item_of, named}
-use Rattle.rubis_model.specs.Meaning.{nick_at, rates, rating_for, renames, restocked_of, sold_of, supply, total, user_at, when}
-use Rattle.rubis_laws.proofs.Order.NotRefused.{neither, not_refused, only}
+use Rattle.rubis_laws.proofs.Order.NotRefused.{NoneHolds, neither, not_refused, only}
 use Rattle.rubis_laws.proofs.Rows.Nicks.{is_nick_at, is_nick_of, some_nick}
 use Rattle.rubis_laws.proofs.Rows.Choices.{IsChoice, choose_is, higher_ranks}
 use Rattle.rubis_laws.proofs.Rows.Sets.{Member, itself}
@@ -62,9 +45,8 @@ rest_stands (Some x) p h = refl
 
 pub stands_at : {X : Type 0} (f : Core → Option X) (a : List Core) (m : Core) → Member a m → IsSome (f m) → IsSome (at_id f m.id a)
 stands_at f [] m h s = absurd h
-stands_at f (x ∷ a) m (inl p) s =
-    (λ i. is_some (option_or (when (same_id m.id (p i).id) (f (p i))) (at_id f m.id a)))
-    ∙ (λ i. is_some (option_or (when (itself m.id i) (f m)) (at_id f m.id a))) ∙ first_stands (f m) (at_id f m.id a) s
+stands_at f (x ∷ a) m (inl p) s = (λ i. is_some (option_or (when (same_id m.id (p i).id) (f (p i))) (at_id f m.id a)))
+    ∙ (λ i. is_some (option_or (when (itself m.id i) (f m)) (at_id f m.id a))) ∙ first_stands (f m) _ s
 stands_at f (x ∷ a) m (inr h) s = rest_stands (when (same_id m.id x.id) (f x)) (at_id f m.id a) (stands_at f a m h s)
 
 -- a bid on an item makes a bid's row, whatever its red number
@@ -93,34 +75,34 @@ module _ (a : List Core) where
   right_cat cat None e = refl
   right_cat cat (Some n) e = let s : n.cat ≡ cat = cc in not_from_true (n.cat == cat) (eq-eqb n.cat cat s)
 
-  has_cat : (o : Option NewItem) (c : ℕ) → option_map (λ (n : NewItem). n.cat) o ≡ Some c → IsSome o
-  has_cat None c e = absurd cc
-  has_cat (Some n) c e = refl
+  has_cat : (o : Option NewItem) {c : ℕ} → option_map (λ (n : NewItem). n.cat) o ≡ Some c → IsSome o
+  has_cat None e = absurd cc
+  has_cat (Some n) e = refl
 
   -- ---- from the tests
   pub by_kind : (x : Shadow) → Fits a x → FitsByKind a x
   by_kind (User n) f = none_is (named n a) f.nick
-  by_kind (Item n) f = f.known 0 (key.User n.seller) (omega arith)
-  by_kind (Bid b) f = (f.known 0 (key.Item b.item) (omega arith), f.known 1 (key.User b.bidder) (omega arith), none_is (close_of b.item a) f.winner)
+  by_kind (Item n) f = f.known 0 (RowKey.User n.seller) (omega arith)
+  by_kind (Bid b) f = (f.known 0 (RowKey.Item b.item) (omega arith), f.known 1 (RowKey.User b.bidder) (omega arith), none_is (close_of b.item a) f.winner)
   by_kind (Buy p) f = (
-    f.known 0 (key.Item p.item) (omega arith),
-    f.known 1 (key.User p.buyer) (omega arith),
+    f.known 0 (RowKey.Item p.item) (omega arith),
+    f.known 1 (RowKey.User p.buyer) (omega arith),
     none_is (close_of p.item a) f.winner,
     enough p.item p.quantity (item_at p.item a) f.stock,
   )
   by_kind (Close c) f =
       let best = option_map (λ (m : Core). m.id) (best_bid c.item a) in
       let w = or_parts (is_some (close_of c.item a)) (not (option_eq same_id c.winner best)) f.winner in (
-        same_cat c.cat (item_at c.item a) (f.known 0 (key.Item c.item) (omega arith)) f.category,
+        same_cat c.cat (item_at c.item a) (f.known 0 (RowKey.Item c.item) (omega arith)) f.category,
         none_is (close_of c.item a) w.0,
         (Decides-winner c.winner best).0 (not-false (option_eq same_id c.winner best) w.1),
       )
   by_kind (Comment c) f =
-      (f.known 0 (key.Item c.item) (omega arith), f.known 1 (key.User c.from) (omega arith), f.known 2 (key.User c.to) (omega arith))
-  by_kind (Restock r) f = f.known 0 (key.Item r.item) (omega arith)
+      (f.known 0 (RowKey.Item c.item) (omega arith), f.known 1 (RowKey.User c.from) (omega arith), f.known 2 (RowKey.User c.to) (omega arith))
+  by_kind (Restock r) f = f.known 0 (RowKey.Item r.item) (omega arith)
   by_kind (Rename r) f =
       let w = or_parts (is_some (named r.to a)) (not (is_same_nick r.from (nick_at r.user a))) f.nick in
-      (is_nick_of r.from (nick_at r.user a) (not-false (is_same_nick r.from (nick_at r.user a)) w.1), none_is (named r.to a) w.0)
+      (is_nick_of {n = r.from} (nick_at r.user a) (not-false (is_same_nick r.from (nick_at r.user a)) w.1), none_is (named r.to a) w.0)
 
   -- ---- to the tests
   and_stands : (k : RowKey) (ks : List RowKey) → StandsIn a k → All (StandsIn a) ks → All (StandsIn a) (k ∷ ks)
@@ -129,25 +111,23 @@ module _ (a : List Core) where
   one_stands : (k : RowKey) → StandsIn a k → All (StandsIn a) (k ∷ [])
   one_stands k h = and_stands k [] h (All-nil (StandsIn a))
 
-  winner_stands : (j : Id) (o : Option Id) → o ≡ option_map (λ (m : Core). m.id) (best_bid j a) → All (StandsIn a) (winner_key o)
-  winner_stands j o e = subst (λ q. All (StandsIn a) (winner_key q)) (sym e) (at (best_bid j a) (choose_is higher_ranks (λ m. bids_on j m.shadow) a))
+  winner_stands : (j : Id) {o : Option Id} → o ≡ option_map (λ (m : Core). m.id) (best_bid j a) → All (StandsIn a) (winner_key o)
+  winner_stands j e = subst (λ q. All (StandsIn a) (winner_key q)) (sym e) (at (best_bid j a) (choose_is higher_ranks (λ m. bids_on j m.shadow) a))
     where
       at : (p : Option Core) → IsChoice higher (λ m. bids_on j m.shadow) a p → All (StandsIn a) (winner_key (option_map (λ (m : Core). m.id) p))
       at None h = All-nil (StandsIn a)
-      at (Some m) h = one_stands (key.Bid m.id) (stands_at (λ k. as_bid k.red k.shadow) a m h.there (a_bid m.red j m.shadow h.passes))
+      at (Some m) h = one_stands (RowKey.Bid m.id) (stands_at (λ k. as_bid k.red k.shadow) a m h.there (a_bid m.red j m.shadow h.passes))
 
   known_by : (x : Shadow) → FitsByKind a x → All (StandsIn a) (refers_of x)
   known_by (User n) f = All-nil (StandsIn a)
-  known_by (Item n) f = one_stands (key.User n.seller) f
-  known_by (Bid b) f = and_stands (key.Item b.item) (key.User b.bidder ∷ []) f.0 (one_stands (key.User b.bidder) f.1)
-  known_by (Buy p) f = and_stands (key.Item p.item) (key.User p.buyer ∷ []) f.0 (one_stands (key.User p.buyer) f.1)
-  known_by (Close c) f =
-      and_stands (key.Item c.item) (winner_key c.winner) (has_cat (item_at c.item a) c.cat f.0) (winner_stands c.item c.winner f.2)
-  known_by (Comment c) f =
-      and_stands (key.Item c.item) (key.User c.from ∷ key.User c.to ∷ []) f.0
-      (and_stands (key.User c.from) (key.User c.to ∷ []) f.1 (one_stands (key.User c.to) f.2))
-  known_by (Restock r) f = one_stands (key.Item r.item) f
-  known_by (Rename r) f = one_stands (key.User r.user) (some_nick r.user a f.0)
+  known_by (Item n) f = one_stands (RowKey.User n.seller) f
+  known_by (Bid b) f = and_stands (RowKey.Item b.item) (RowKey.User b.bidder ∷ []) f.0 (one_stands (RowKey.User b.bidder) f.1)
+  known_by (Buy p) f = and_stands (RowKey.Item p.item) (RowKey.User p.buyer ∷ []) f.0 (one_stands (RowKey.User p.buyer) f.1)
+  known_by (Close c) f = and_stands (RowKey.Item c.item) (winner_key c.winner) (has_cat (item_at c.item a) f.0) (winner_stands c.item f.2)
+  known_by (Comment c) f = and_stands _ (RowKey.User c.from ∷ RowKey.User c.to ∷ []) f.0
+      (and_stands (RowKey.User c.from) (RowKey.User c.to ∷ []) f.1 (one_stands (RowKey.User c.to) f.2))
+  known_by (Restock r) f = one_stands (RowKey.Item r.item) f
+  known_by (Rename r) f = one_stands (RowKey.User r.user) (some_nick r.user a f.0)
 
   right_category : (x : Shadow) → FitsByKind a x → wrong_category a x ≡ false
   right_category (Close c) f = right_cat c.cat (item_at c.item a) f.0
@@ -155,9 +135,7 @@ module _ (a : List Core) where
 
   nick_free : (x : Shadow) → FitsByKind a x → nick_taken a x ≡ false
   nick_free (User n) f = none_told f
-  nick_free (Rename r) f =
-      or_from (is_some (named r.to a)) (not (is_same_nick r.from (nick_at r.user a))) (none_told f.1)
-      (not_from_true (is_same_nick r.from (nick_at r.user a)) (is_nick_at f.0))
+  nick_free (Rename r) f = or_from _ _ (none_told f.1) (not_from_true _ (is_nick_at f.0))
   nick_free x f = refl
 
   stock_enough : (x : Shadow) → FitsByKind a x → stock_short a x ≡ false
@@ -173,8 +151,8 @@ module _ (a : List Core) where
       (not_from_true (option_eq same_id c.winner best) ((Decides-winner c.winner best).1 f.2))
   right_winner x f = refl
 
-  pub from_kind : (x : Shadow) → FitsByKind a x → Fits a x
-  from_kind x f = record {
+  pub from_kind : {x : Shadow} → FitsByKind a x → Fits a x
+  from_kind {x} f = record {
     known = known_by x f;
     category = right_category x f;
     nick = nick_free x f;
@@ -188,7 +166,7 @@ module _ (a : List Core) where
 pub record Tells (t : Rows) (a : List Core) : Type 0 where
   pub user : (i : Id) → is_none (user_in t i) ≡ false → IsSome (user_at i a)
   pub nick : (i : Id) → is_none (user_in t i) ≡ false → nick_at i a ≡ Some (option_map_or (λ (u : UserRow). u.nick) (user_in t i) [])
-  pub free : (n : List ℕ) → is_some (t (key.Nick n)) ≡ false → named n a ≡ None
+  pub free : (n : List ℕ) → is_some (t (RowKey.Nick n)) ≡ false → named n a ≡ None
   pub item : (i : Id) → is_none (item_in t i) ≡ false → (n : NewItem) × (item_at i a ≡ Some n)
   pub unended : (i : Id) (n : NewItem) → item_at i a ≡ Some n → of_item t i (λ r. is_ended r.sale) ≡ false → close_of i a ≡ None
   pub enough : (i : Id) (n : NewItem) (q : ℕ) → item_at i a ≡ Some n → of_item t i (λ r. nat_lt r.stock q) ≡ false
@@ -198,46 +176,43 @@ pub record Tells (t : Rows) (a : List Core) : Type 0 where
   pub winner : (i : Id) (n : NewItem) → item_at i a ≡ Some n
       → option_and_then (λ (r : ItemRow). option_map (λ (b : Best). b.bid) r.best) (item_in t i) ≡ option_map (λ (m : Core). m.id) (best_bid i a)
 
-pub decided_by_kind : {t : Rows} {a : List Core} → Tells t a → (s : Standing) (ask : Ask) (x : Shadow) → decision t s ask ≡ Ok x → FitsByKind a x
-decided_by_kind {t} {a} h s (ask.User n) x e =
-    let w = not_refused (is_due t s (ask.User n)) (order_of (ask.User n)) (shadow_of t (ask.User n)) e in
-    subst (FitsByKind a) w.1 (h.free n w.0.1.1.1.0)
-decided_by_kind {t} {a} h s (ask.Item n) x e =
-    let w = not_refused (is_due t s (ask.Item n)) (order_of (ask.Item n)) (shadow_of t (ask.Item n)) e in
-    subst (FitsByKind a) w.1 (h.user n.seller (only _ w.0.1.0))
-decided_by_kind {t} {a} h s (ask.Bid b) x e =
-    let w = not_refused (is_due t s (ask.Bid b)) (order_of (ask.Bid b)) (shadow_of t (ask.Bid b)) e in
-    let n = h.item b.item w.0.1.1.1.0 in
+-- no refusal holds of what is decided
+none_due : (t : Rows) (s : Standing) (ask : Ask) {x : Shadow} → decision t s ask ≡ Ok x → NoneHolds (is_due t s ask) (order_of ask) × (shadow_of t ask ≡ x)
+none_due t s ask e = not_refused (is_due t s ask) (order_of ask) (shadow_of t ask) e
+
+pub decided_by_kind : {t : Rows} {a : List Core} → Tells t a → (s : Standing) (ask : Ask) {x : Shadow} → decision t s ask ≡ Ok x → FitsByKind a x
+decided_by_kind {t} {a} h s (Ask.User n) e =
+    let w = none_due t s (Ask.User n) e in subst (FitsByKind a) w.1 (h.free n w.0.1.1.1.0)
+decided_by_kind {t} {a} h s (Ask.Item n) e =
+    let w = none_due t s (Ask.Item n) e in subst (FitsByKind a) w.1 (h.user n.seller (only _ w.0.1.0))
+decided_by_kind {t} {a} h s (Ask.Bid b) e =
+    let w = none_due t s (Ask.Bid b) e in let n = h.item b.item w.0.1.1.1.0 in
     subst (FitsByKind a) w.1 (ap is_some n.1, h.user b.bidder (only _ w.0.1.1.1.1.0), h.unended b.item n.0 n.1 w.0.1.1.1.1.1.0)
-decided_by_kind {t} {a} h s (ask.Buy p) x e =
-    let w = not_refused (is_due t s (ask.Buy p)) (order_of (ask.Buy p)) (shadow_of t (ask.Buy p)) e in
-    let n = h.item p.item w.0.1.1.1.0 in
+decided_by_kind {t} {a} h s (Ask.Buy p) e =
+    let w = none_due t s (Ask.Buy p) e in let n = h.item p.item w.0.1.1.1.0 in
     subst (FitsByKind a) w.1 (
       ap is_some n.1,
       h.user p.buyer (only _ w.0.1.1.1.1.0),
       h.unended p.item n.0 n.1 w.0.1.1.1.1.1.0,
       h.enough p.item n.0 p.quantity n.1 w.0.1.1.1.1.1.1.1.1.0,
     )
-decided_by_kind {t} {a} h s (ask.Close c) x e =
-    let w = not_refused (is_due t s (ask.Close c)) (order_of (ask.Close c)) (shadow_of t (ask.Close c)) e in
-    let n = h.item c.item w.0.1.1.1.0 in
+decided_by_kind {t} {a} h s (Ask.Close c) e =
+    let w = none_due t s (Ask.Close c) e in let n = h.item c.item w.0.1.1.1.0 in
     subst (FitsByKind a) w.1 (
       h.cat c.item n.0 n.1,
       h.unended c.item n.0 n.1 w.0.1.1.1.1.1.0,
       h.winner c.item n.0 n.1,
     )
-decided_by_kind {t} {a} h s (ask.Comment c) x e =
-    let w = not_refused (is_due t s (ask.Comment c)) (order_of (ask.Comment c)) (shadow_of t (ask.Comment c)) e in
-    let n = h.item c.item w.0.1.0 in
+decided_by_kind {t} {a} h s (Ask.Comment c) e =
+    let w = none_due t s (Ask.Comment c) e in let n = h.item c.item w.0.1.0 in
     let u = neither _ _ w.0.1.1.0 in
     subst (FitsByKind a) w.1 (ap is_some n.1, h.user c.from u.0, h.user c.to u.1)
-decided_by_kind {t} {a} h s (ask.Restock r) x e =
-    let w = not_refused (is_due t s (ask.Restock r)) (order_of (ask.Restock r)) (shadow_of t (ask.Restock r)) e in
-    let n = h.item r.item w.0.1.0 in
+decided_by_kind {t} {a} h s (Ask.Restock r) e =
+    let w = none_due t s (Ask.Restock r) e in let n = h.item r.item w.0.1.0 in
     subst (FitsByKind a) w.1 (ap is_some n.1)
-decided_by_kind {t} {a} h s (ask.Rename r) x e =
-    let w = not_refused (is_due t s (ask.Rename r)) (order_of (ask.Rename r)) (shadow_of t (ask.Rename r)) e in
-    subst (FitsByKind a) w.1 (h.nick r.user (only _ w.0.1.1.1.0), h.free r.nick (or_parts (is_some (t (key.Nick r.nick))) _ w.0.1.1.1.1.0).0)
+decided_by_kind {t} {a} h s (Ask.Rename r) e =
+    let w = none_due t s (Ask.Rename r) e in subst (FitsByKind a) w.1
+    (h.nick r.user (only _ w.0.1.1.1.0), h.free r.nick (or_parts (is_some (t (RowKey.Nick r.nick))) _ w.0.1.1.1.1.0).0)
 
 -- ---- where it is released
 
@@ -274,16 +249,14 @@ not_there (Some x) s e = absurd cc
 
 -- a test of two ids fails where one names a row and the other has none
 other_user : (u v : Id) (a : List Core) → user_at u a ≡ None → IsSome (user_at v a) → same_id u v ≡ false
-other_user u v a e s =
-    elim (same_id u v) as (λ b. same_id u v ≡ b → b ≡ false)
-    [ true ↦ λ h. absurd (not_there (user_at v a) s (subst (λ w. user_at w a ≡ None) ((Decides-same_id u v).0 h) e)) | false ↦ λ h. refl ] refl
+other_user u v a e s = elim (same_id u v) as (λ b. same_id u v ≡ b → b ≡ false)
+    [ true ↦ λ h. absurd (not_there _ s (subst (λ w. user_at w a ≡ None) ((Decides-same_id u v).0 h) e)) | false ↦ λ h. refl ] refl
 
 other_item : (u v : Id) (a : List Core) → item_at u a ≡ None → IsSome (item_at v a) → same_id u v ≡ false
-other_item u v a e s =
-    elim (same_id u v) as (λ b. same_id u v ≡ b → b ≡ false)
-    [ true ↦ λ h. absurd (not_there (item_at v a) s (subst (λ w. item_at w a ≡ None) ((Decides-same_id u v).0 h) e)) | false ↦ λ h. refl ] refl
+other_item u v a e s = elim (same_id u v) as (λ b. same_id u v ≡ b → b ≡ false)
+    [ true ↦ λ h. absurd (not_there _ s (subst (λ w. item_at w a ≡ None) ((Decides-same_id u v).0 h) e)) | false ↦ λ h. refl ] refl
 
-mapped_some : {X Y : Type 0} (f : X → Y) (o : Option X) {y : Y} → option_map f o ≡ Some y → IsSome o
+pub mapped_some : {X Y : Type 0} (f : X → Y) (o : Option X) {y : Y} → option_map f o ≡ Some y → IsSome o
 mapped_some f None e = absurd cc
 mapped_some f (Some x) e = refl
 
@@ -312,16 +285,14 @@ nothing_of_user u a (Comment c) f e =
       comments = other_user u c.to a e f.2;
       rename = refl;
     }
-nothing_of_user u a (Rename r) f e =
-    record { items = refl; bought = refl; rating = refl; comments = refl; rename = other_user u r.user a e (some_nick r.user a f.0) }
+nothing_of_user u a (Rename r) f e = record { items = refl; bought = refl; rating = refl; comments = refl; rename = other_user u _ a e (some_nick _ a f.0) }
 nothing_of_user u a x f e = record { items = refl; bought = refl; rating = refl; comments = refl; rename = refl }
 
 pub nothing_of_item : (i : Id) (a : List Core) (x : Shadow) → FitsByKind a x → item_at i a ≡ None → SaysNothingOfItem i x
 nothing_of_item i a (Bid b) f e = record { sold = refl; restocked = refl; bids = other_item i b.item a e f.0; close = refl }
 nothing_of_item i a (Buy p) f e = record { sold = ap (λ b. cond b p.quantity 0) (other_item i p.item a e f.0); restocked = refl; bids = refl; close = refl }
 nothing_of_item i a (Close c) f e = record { sold = refl; restocked = refl; bids = refl; close = other_item i c.item a e (mapped_some _ _ f.0) }
-nothing_of_item i a (Restock r) f e =
-    record { sold = refl; restocked = ap (λ b. cond b r.quantity 0) (other_item i r.item a e f); bids = refl; close = refl }
+nothing_of_item i a (Restock r) f e = record { sold = refl; restocked = ap (λ b. cond b r.quantity 0) (other_item i _ a e f); bids = refl; close = refl }
 nothing_of_item i a x f e = record { sold = refl; restocked = refl; bids = refl; close = refl }
 
 pub bought_in : (u : Id) (x : Shadow) → IsLimited x → bought_by u x ≤ 1000000

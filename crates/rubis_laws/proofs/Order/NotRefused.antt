@@ -1,10 +1,5 @@
 -- An ask that isn't refused: none of its refusals holds.
-use Rattle.std.proofs.Common.{◌≡◌, List, [], ◌∷◌, Bool, true, false, cond, refl, Some}
-use Rattle.std.specs.Prelude.{◌||◌, find, ⊤, Ok}
-use mathlib.Core.Bool.{true≢false}
-use Rattle.rubis_schema.specs.declared.refusals.Refusal.{Refusal}
-use Rattle.rubis_shadow.specs.declared.shadows.Shadow.{Shadow}
-use Rattle.rubis_generate.specs.Decision.{refused_or}
+use Rattle.rubis_laws.proofs.Common.{◌≡◌, List, [], ◌∷◌, Bool, true, false, cond, refl, Some, ◌||◌, find, ⊤, Ok, true≢false, Refusal, Shadow, refused_or}
 
 -- each of these refusals doesn't hold
 abbrev pub NoneHolds : (Refusal → Bool) → List Refusal → Type 0

@@ -1,23 +1,11 @@
 -- In a sound world all logs causally serialize one RedBlue order.
-use Rattle.std.proofs.Common.{◌≡◌, ℕ, ◌+◌, ◌≤◌, true, List, [], ◌∷◌, ◌++◌, refl, sym, ap, ◌∙◌, subst, inl, inr, ⊎_elim, arith}
-use Rattle.rubis_schema.specs.declared.refusals.Refusal.{Refusal}
-use Rattle.rubis_schema.specs.declared.refusals.Refusal.TheVariants.{NotOurs, Full}
-use Rattle.rubis_message.specs.declared.answers.Arrival.{Arrival}
-use Rattle.rubis_message.specs.declared.answers.Arrival.TheVariants as arrival
-use Rattle.std.specs.Prelude.{◌≢◌, ◌-◌, Bool, false, cond, length, Result, Ok, Err, ◌⊎◌, reverse, ◌==◌, nat_lt}
-use Rattle.std.proofs.lemmas.Bool.{cases_eq, cases_order, and_parts, eqb-true, ltb-true, false_from_ne_true, true≢false}
-use Rattle.std.proofs.lemmas.List.{reverse-append, reverse-reverse}
-use Rattle.rubis_message.specs.Message.{Message, dep}
-use Rattle.rubis_model.specs.Order.{Decided, Precedes, Released, Foundation, StandsBefore, Serializes}
-use Rattle.rubis_model.specs.Settle.{counted, Ready, Has}
-use Rattle.rubis_model.specs.Sound.{CountedBy, Sound}
-use Rattle.rubis_model.specs.System.{World, site, place}
-use Rattle.rubis_model.specs.Site.{Replica, not_ours, is_repeat, is_full, arrived, arrival_of, after_came}
-use Rattle.rubis_model.specs.Claims.{SerializeOneOrder}
-use Rattle.rubis_model.specs.Laws.{Sent, IsLogOf, InOrder}
-use Rattle.rubis_model.proofs.Pasts.{seq_within, found, once, made_at, dep_within, clash}
-use Rattle.rubis_model.proofs.Settling.{counted_reverse}
-use Rattle.rubis_model.proofs.Lists.{has_left, has_last, has_back}
+use Rattle.rubis_laws.proofs.Common.{◌≡◌, ℕ, ◌+◌, ◌≤◌, true, List, [], ◌∷◌, ◌++◌, refl, sym, ap, ◌∙◌, subst, inl, inr, ⊎_elim, arith, Refusal, NotOurs, Full}
+use Rattle.rubis_laws.proofs.Common.{Arrival, ◌≢◌, ◌-◌, Bool, false, cond, length, Result, Ok, Err, ◌⊎◌, reverse, ◌==◌, nat_lt, cases_eq, cases_order}
+use Rattle.rubis_laws.proofs.Common.{and_parts, eqb-true, ltb-true, false_from_ne_true, true≢false, reverse-append, reverse-reverse, Message, dep, Decided}
+use Rattle.rubis_laws.proofs.Common.{Precedes, Released, Foundation, StandsBefore, Serializes, counted, Ready, Has, CountedBy, Sound, World, site, place}
+use Rattle.rubis_laws.proofs.Common.{Replica, not_ours, is_repeat, is_full, arrived, arrival_of, after_came, SerializeOneOrder, Sent, IsLogOf, InOrder}
+use Rattle.rubis_laws.proofs.Common.{seq_within, found, made_at, dep_within, clash, counted_reverse, has_left, has_last, has_back}
+use Rattle.rubis_model.proofs.Settling.{once}
 
 -- ---- a log and the same, newest first
 unfoldable pub Behind : Message → Message → List Message → Type 0
@@ -62,10 +50,9 @@ behind_from u v (x ∷ log) (inl e) =
 behind_from u v (x ∷ log) (inr h) = subst (Behind u v) (sym (reverse-append (x ∷ []) log)) (behind_more u v x (reverse log) (behind_from u v log h))
 
 -- ---- ids
-pub unique : {w : World} (u v : Message) → Sound w → Sent w u → Sent w v → u.stamp.id.site ≡ v.stamp.id.site → u.stamp.id.seq ≡ v.stamp.id.seq → u ≡ v
-unique {w} u v s a b e f =
-    once (reverse (site w v.stamp.id.site).log) u v (s.good v.stamp.id.site).released (subst (λ q. Has u (reverse (site w q).log)) e (s.home.home u a))
-    (s.home.home v b) e f
+pub unique : {w : World} {u v : Message} → Sound w → Sent w u → Sent w v → u.stamp.id.site ≡ v.stamp.id.site → u.stamp.id.seq ≡ v.stamp.id.seq → u ≡ v
+unique {w} {u} {v} s a b e f = once (reverse (site w v.stamp.id.site).log) u v (s.good v.stamp.id.site).released
+    (subst (λ q. Has u (reverse (site w q).log)) e (s.home.home u a)) (s.home.home v b) e f
 
 positive : {w : World} (u : Message) → Sound w → Sent w u → 1 ≤ u.stamp.id.seq
 positive {w} u s a = (seq_within (reverse (site w u.stamp.id.site).log) u (s.good u.stamp.id.site).released (s.home.home u a)).0
@@ -81,7 +68,7 @@ pub there : (w : World) (past : List Message) (u : Message) → Sound w → Rele
     → u.stamp.id.seq ≤ counted u.stamp.id.site past → Has u past
 there w past u s r all a l =
     let f = found past u.stamp.id.site u.stamp.id.seq r (positive u s a) l in
-    subst (λ x. Has x past) (unique f.0 u s (all f.0 f.1) a f.2 f.3) f.1
+    subst (λ x. Has x past) (unique s (all f.0 f.1) a f.2 f.3) f.1
 
 -- a site saw all that precedes what it released
 pub seen : {w : World} {past : List Message} (u : Message) {v : Message} → Sound w → Ready past v → Sent w v → Precedes u v
@@ -91,9 +78,9 @@ seen {w} {past} u {v} s r b p = ⊎_elim (λ e. same e) (λ n. let k = r.release
     same : u.stamp.id.site ≡ v.stamp.id.site → u.stamp.id.seq ≤ counted u.stamp.id.site past
     same e = let k = own w v s b in let a = r.next in let c = ap (λ q. dep v q) e in let d = ap (λ q. counted q past) e in omega arith
 
-behind_head : {w : World} (past : List Message) (u : Message) {v x : Message} → Sound w → Released (x ∷ past) → ((y : Message) → Has y (x ∷ past) → Sent w y)
+behind_head : {w : World} {past : List Message} (u : Message) {v x : Message} → Sound w → Released (x ∷ past) → ((y : Message) → Has y (x ∷ past) → Sent w y)
     → Sent w u → v ≡ x → Precedes u v → Has u past
-behind_head {w} past u {x} s r all a e p =
+behind_head {w} {past} u {x} s r all a e p =
     let q : Precedes u x = subst (Precedes u) e p in
     there w past u s r.1 (λ y h. all y (inr h)) a (seen u s r.0 (all x (inl refl)) q)
 
@@ -101,7 +88,7 @@ behind_all : {w : World} (past : List Message) (u v : Message) → Sound w → R
     → Precedes u v → Behind u v past
 unfolding Behind
 behind_all [] u v s r all a h p = absurd h
-behind_all (x ∷ past) u v s r all a (inl e) p = inl (e, behind_head past u s r all a e p)
+behind_all (x ∷ past) u v s r all a (inl e) p = inl (e, behind_head u s r all a e p)
 behind_all (x ∷ past) u v s r all a (inr h) p = inr (behind_all past u v s r.1 (λ y k. all y (inr k)) a h p)
 
 pub causal_back : {i : ℕ} (past : List Message) (u v : Message) → Released past → CountedBy i past → Behind u v past → v.stamp.id.site ≡ i → Precedes u v
@@ -136,7 +123,7 @@ serializes {w} i s = record {
   causal = λ u v h o. causal_back (reverse (site w i).log) u v (s.good i).released (s.good i).made (behind_from u v (site w i).log h) o;
 }
 
-is_ours : (keep : ℕ) {w : World} (i : ℕ) (m : Message) → Sound w → Sent w m → not_ours (place keep w i) (site w i) m ≡ true → ⊥
+pub is_ours : (keep : ℕ) {w : World} (i : ℕ) (m : Message) → Sound w → Sent w m → not_ours (place keep w i) (site w i) m ≡ true → ⊥
 is_ours keep {w} i m s a e =
     let p = and_parts (m.stamp.id.site == i) (nat_lt (counted i (site w i).log) m.stamp.id.seq) e in
     let o : m.stamp.id.site ≡ i = eqb-true m.stamp.id.site i p.0 in
@@ -147,16 +134,15 @@ is_ours keep {w} i m s a e =
     omega arith
 
 -- the answer to a message is NotOurs only where that is tested
-answer_is : (b c d : Bool) (s t : Replica) (n : ℕ) → b ≡ false →
-    (cond {A = Replica × Result Arrival Refusal} b (s, Err NotOurs) (cond c (s, Ok arrival.Repeat) (cond d (s, Err Full) (t, Ok (arrival_of n))))).1 ≢ Err
-    NotOurs
-answer_is true c d s t n e = absurd (true≢false e)
-answer_is false true d s t n e = λ q. absurd cc
-answer_is false false true s t n e = λ q. absurd cc
-answer_is false false false s t n e = λ q. absurd cc
+answer_is : {b : Bool} (c d : Bool) (s t : Replica) (n : ℕ) → b ≡ false → (cond {A = Replica × Result Arrival Refusal} b (s, Err NotOurs)
+    (cond c (s, Ok Arrival.Repeat) (cond d (s, Err Full) (t, Ok (arrival_of n))))).1 ≢ Err NotOurs
+answer_is {b = true} c d s t n e = absurd (true≢false e)
+answer_is true d s t n e = λ q. absurd cc
+answer_is false true s t n e = λ q. absurd cc
+answer_is false false s t n e = λ q. absurd cc
 
 ours : (keep : ℕ) (w : World) (i : ℕ) (m : Message) → Sound w → Sent w m → (arrived (place keep w i) (site w i) m).1 ≢ Err NotOurs
-ours keep w i m s a = answer_is (not_ours (place keep w i) (site w i) m) (is_repeat (site w i) m) (is_full keep (site w i)) (site w i) (after_came (site w i) m)
+ours keep w i m s a = answer_is (is_repeat (site w i) m) (is_full keep (site w i)) (site w i) (after_came (site w i) m)
     (length (after_came (site w i) m).log - length (site w i).log) (false_from_ne_true (not_ours (place keep w i) (site w i) m) (is_ours keep i m s a))
 
 pub foundation : (w : World) (v : Message) → Sound w → Sent w v → Foundation (Sent w) v
@@ -185,7 +171,7 @@ foundation w v s b = record {
 
 serial : (w : World) → Sound w → SerializeOneOrder (Sent w) (IsLogOf w)
 serial w s = record {
-  ids = λ u v a b. unique u v s a b;
+  ids = λ u v a b. unique s a b;
   order = record {
     irreflexive = λ u a p. let o = own w u s a in omega arith;
     transitive = λ u v x a b c p q. transitive w u v x s b c p q;

@@ -1,64 +1,22 @@
 -- Processes whose packets are carried unchanged are a run.
-use Rattle.std.proofs.Common.{ℕ, ◌≡◌, ◌+◌, ◌≤◌, ◌<◌, suc, Bool, true, false, cond, List, [], ◌∷◌, ◌++◌, length, get_or, refl, sym, ap, ◌∙◌, subst, arith}
-use Rattle.std.proofs.Common.{Option, Some, None, inl, inr, ⊎_elim, append_assoc, append-nil}
-use Rattle.std.specs.Prelude.{◌⊎◌, ◌↔◌, ◌==◌, ◌-◌, IsSome, codes, decimal, filter, is_some, nat_le, nat_lt, slice_get, slice_set, Result, Ok, Err}
+use Rattle.std.proofs.lemmas.Bool.{lt-ltb}
+use Rattle.rubis_laws.proofs.Common.{ℕ, ◌≡◌, ◌+◌, ◌≤◌, ◌<◌, suc, Bool, true, false, cond, List, [], ◌∷◌, ◌++◌, length, get_or, refl, sym, ap, ◌∙◌, subst, arith}
+use Rattle.rubis_laws.proofs.Common.{Option, Some, None, inl, inr, ⊎_elim, append_assoc, append-nil, ◌⊎◌, ◌↔◌, ◌==◌, ◌-◌, IsSome, codes, decimal, filter}
+use Rattle.rubis_laws.proofs.Common.{is_some, nat_le, slice_get, slice_set, Result, Ok, Err, flat_map, cases_eq, cases_lt, cond_both, nat_tests, true≢false}
+use Rattle.rubis_laws.proofs.Common.{same_Some, length-set, get_or-set_same, get_or-set_other, get_or-map-range_with_len, Tables, COUNTED_MAX, Listing, Refusal}
+use Rattle.rubis_laws.proofs.Common.{BadEvent, BadRecord, Full, NotOurs, RowKey, Row, Ask, Misfit, Shadow, decision, refused_or, Rows, Standing, packet_record}
+use Rattle.rubis_laws.proofs.Common.{Message, packet_of, request_of, Arrival, Taken, Request, Packet, Token, packet_is, request_is, arrived_rows, asked_rows}
+use Rattle.rubis_laws.proofs.Common.{listed_rows, passed_rows, refused_row, send_row, took_rows, log_from, table_rows, Folded, AreProcesses, Carried, Reading}
+use Rattle.rubis_laws.proofs.Common.{WasSent, answers_of, process, read_by, site_after, state_of, IsWritten, input_by, input_of, Input, answers, input_step}
+use Rattle.rubis_laws.proofs.Common.{listing_rows, output_of, told, Asked, Came, Neither, Has, Place, Replica, after_came, arrival_of, arrived, asked}
+use Rattle.rubis_laws.proofs.Common.{generating, is_full, is_repeat, not_ours, opening_at, passed, rows_at, standing_of, took, Sound, AreEvents, Event, World}
+use Rattle.rubis_laws.proofs.Common.{coming, happens, packet_at, place, requested, run, sending, site, start, At, Deliver, has_append, has_left, has_right}
 use Rattle.std.specs.FinMap as map
-use Rattle.std.specs.List.{flat_map}
-use Rattle.std.proofs.lemmas.Bool.{cases_eq, cases_lt, cond_both}
-use Rattle.std.proofs.lemmas.Bool.Decides.{nat_tests}
-use mathlib.Core.Bool.{true≢false}
-use Rattle.std.proofs.lemmas.Option.{same_Some}
-use Rattle.std.proofs.lemmas.List.{length-set, get_or-set_same, get_or-set_other}
-use Rattle.std.proofs.lemmas.List.FromFn.{get_or-map-range_with_len}
-use Rattle.rubis_schema.specs.Categories.{shows_nothing}
+use Rattle.rubis_schema.specs.Tables.{shows_nothing}
 use Rattle.rubis_schema.specs.Refusals.{code_of, refusal_name}
-use Rattle.rubis_schema.specs.Tables.{Tables}
-use Rattle.rubis_schema.specs.declared.limits.TheConstants.{COUNTED_MAX}
-use Rattle.rubis_schema.specs.declared.listings.Listing.{Listing}
-use Rattle.rubis_schema.specs.declared.listings.Listing.TheVariants as listing
-use Rattle.rubis_schema.specs.declared.refusals.Refusal.{Refusal}
-use Rattle.rubis_schema.specs.declared.refusals.Refusal.TheVariants.{BadEvent, BadRecord, Full, NotOurs}
-use Rattle.rubis_schema.specs.declared.row_keys.RowKey.{RowKey}
-use Rattle.rubis_schema.specs.declared.row_keys.RowKey.TheVariants as key
-use Rattle.rubis_schema.specs.declared.rows.Row.{Row}
-use Rattle.rubis_schema.specs.declared.rows.Row.TheVariants as row
-use Rattle.rubis_shadow.specs.declared.shadows.Ask.{Ask}
-use Rattle.rubis_shadow.specs.declared.shadows.Ask.TheVariants as ask
-use Rattle.rubis_shadow.specs.declared.numbered.Misfit.{Misfit}
-use Rattle.rubis_shadow.specs.declared.shadows.Shadow.{Shadow}
-use Rattle.rubis_generate.specs.Decision.{decision, refused_or}
-use Rattle.rubis_generate.specs.Lookup.{Rows}
-use Rattle.rubis_generate.specs.declared.standing.Standing.{Standing}
-use Rattle.rubis_message.specs.Grammar.{packet_record}
-use Rattle.rubis_message.specs.Message.{Message}
-use Rattle.rubis_message.specs.Readings.{packet_of, request_of}
-use Rattle.rubis_message.specs.declared.answers.Arrival.{Arrival}
-use Rattle.rubis_message.specs.declared.answers.Arrival.TheVariants as arrival
-use Rattle.rubis_message.specs.declared.answers.Taken.{Taken}
-use Rattle.rubis_message.specs.declared.answers.Taken.TheVariants as taken
-use Rattle.rubis_message.specs.declared.requests.Request.{Request}
-use Rattle.rubis_message.specs.declared.requests.Request.TheVariants as request
-use Rattle.rubis_message.specs.declared.tokens.Packet.{Packet}
-use Rattle.rubis_message.specs.declared.tokens.Packet.TheVariants as packet
-use Rattle.rubis_message.specs.declared.tokens.Token.{Token}
-use Rattle.rubis_message.proofs.Records.{packet_is, request_is}
-use Rattle.rubis_model.specs.Answers.{arrived_rows, asked_rows, listed_rows, passed_rows, refused_row, reply, send_row, took_rows}
-use Rattle.rubis_model.specs.Listings.{category_record, is_of, log_from, misfit_rows, row_record, table_rows}
-use Rattle.rubis_model.specs.Log.{Folded, cores, fold_of}
-use Rattle.rubis_model.specs.Processes.{AreProcesses, Carried, IsSent, ProcessesAreARun, Reading, WasSent, answers_of, process, read_by, site_after, state_of}
-use Rattle.rubis_model.specs.RebuildRecords.{IsWritten}
-use Rattle.rubis_model.specs.Restarts.{AnswersStay}
-use Rattle.rubis_message.specs.Inputs.{input_by, input_of}
-use Rattle.rubis_message.specs.declared.inputs.Input.{Input}
-use Rattle.rubis_model.specs.Runs.{answers, input_step, listing_rows, output_of, told}
-use Rattle.rubis_message.specs.declared.inputs.Input.TheVariants.{Asked, Came, Neither}
-use Rattle.rubis_model.specs.Settle.{Has}
-use Rattle.rubis_model.specs.Site.{Place, Replica, after_came, arrival_of, arrived, asked, generating, is_full, is_repeat, not_ours, opening_at, passed}
-use Rattle.rubis_model.specs.Site.{rows_at, standing_of, took}
-use Rattle.rubis_model.specs.Sound.{Sound}
-use Rattle.rubis_model.specs.System.{AreEvents, Event, World, coming, happens, packet_at, place, requested, run, sending, site, start}
-use Rattle.rubis_model.specs.System.Event.{At, Deliver}
-use Rattle.rubis_model.proofs.Lists.{has_append, has_left, has_right}
+use Rattle.rubis_model.specs.Site.{reply}
+use Rattle.rubis_model.specs.Listings.{category_record, is_of, misfit_rows, row_record}
+use Rattle.rubis_model.specs.Processes.{IsSent, ProcessesAreARun, AnswersStay}
 use Rattle.rubis_laws.proofs.Runs.SoundSteps.{event_keeps, event_sites, same_sites, start_sites, start_sound}
 use Rattle.rubis_laws.proofs.Runs.Written.{AllPackets, event_written, written_event}
 
@@ -90,9 +48,7 @@ answer_one p s n fields = append-nil (input_step p s n (input_of p.sites fields)
 pub output_one : (p : Place) (records : List (List (List ℕ))) (fields : List (List ℕ))
     → output_of p (records ++ fields ∷ []) ≡ output_of p records ++
     (input_step p (site_after p (opening_at p.site) 1 records) (1 + length records) (input_of p.sites fields)).1
-output_one p records fields =
-    answers_stay p records (fields ∷ [])
-    ∙ ap (λ rows. output_of p records ++ rows) (answer_one p (site_after p (opening_at p.site) 1 records) (1 + length records) fields)
+output_one p records fields = answers_stay p records (fields ∷ []) ∙ ap (λ rows. output_of p records ++ rows) (answer_one p _ _ _)
 
 -- ---- what each process reads
 
@@ -111,15 +67,11 @@ is_itself e = grind (arith, nat_tests)
 pub is_other : (i j : ℕ) → (j ≡ i → ⊥) → (i == j) ≡ false
 is_other i j e = grind (arith, nat_tests)
 
-is_within : (i n : ℕ) → i < n → nat_lt i n ≡ true
-is_within i n l = grind (arith, nat_tests)
-
 pub read_here : (before : List Reading) (r : Reading) → read_by r.site (before ++ r ∷ []) ≡ read_by r.site before ++ r.fields ∷ []
 read_here before r = read_more r.site before (r ∷ []) ∙ ap (λ b. read_by r.site before ++ cond b (r.fields ∷ []) []) (is_itself refl)
 
-pub read_there : (i : ℕ) (before : List Reading) (r : Reading) → (i ≡ r.site → ⊥) → read_by i (before ++ r ∷ []) ≡ read_by i before
-read_there i before r n =
-    read_more i before (r ∷ []) ∙ ap (λ b. read_by i before ++ cond b (r.fields ∷ []) []) (is_other r.site i n) ∙ append-nil (read_by i before)
+pub read_there : {i : ℕ} (before : List Reading) (r : Reading) → (i ≡ r.site → ⊥) → read_by i (before ++ r ∷ []) ≡ read_by i before
+read_there {i} before r n = read_more i _ _ ∙ ap (λ b. read_by i before ++ cond b (r.fields ∷ []) []) (is_other _ i n) ∙ append-nil (read_by i before)
 
 -- ---- the packets that rows send
 
@@ -159,23 +111,23 @@ send_one n rest p fields = (to, back)
     back : (q : Packet) × Has q (p ∷ []) × (fields ≡ packet_record q) → Has (send_row fields) (reply n rest ∷ send_row (packet_record p) ∷ [])
     back q = ⊎_elim (λ e. inr (inl (ap send_row (q.2 ∙ ap packet_record e)))) (λ z. absurd z) q.1
 
-asked_sends : (n : ℕ) (r : Result Message Refusal) → Sends (asked_rows n r) (sending packet.Msg r)
-asked_sends n (Ok m) = send_one n _ (packet.Msg m)
+asked_sends : (n : ℕ) (r : Result Message Refusal) → Sends (asked_rows n r) (sending Packet.Msg r)
+asked_sends n (Ok m) = send_one n _ (Packet.Msg m)
 asked_sends n (Err r) = send_refused n r
 
-passed_sends : (n : ℕ) (r : Result Token Refusal) → Sends (passed_rows n r) (sending packet.Token r)
-passed_sends n (Ok t) = send_one n _ (packet.Token t)
+passed_sends : (n : ℕ) (r : Result Token Refusal) → Sends (passed_rows n r) (sending Packet.Token r)
+passed_sends n (Ok t) = send_one n _ (Packet.Token t)
 passed_sends n (Err r) = send_refused n r
 
 pub none_arrived : (n : ℕ) (r : Result Arrival Refusal) → NoneSent (arrived_rows n r)
-none_arrived n (Ok (arrival.Released k)) = none_replied n _
-none_arrived n (Ok arrival.Held) = none_replied n _
-none_arrived n (Ok arrival.Repeat) = none_replied n _
+none_arrived n (Ok (Arrival.Released k)) = none_replied n _
+none_arrived n (Ok Arrival.Held) = none_replied n _
+none_arrived n (Ok Arrival.Repeat) = none_replied n _
 none_arrived n (Err r) = none_replied n _
 
 pub none_taken : (n : ℕ) (r : Result Taken Refusal) → NoneSent (took_rows n r)
-none_taken n (Ok taken.Holding) = none_replied n _
-none_taken n (Ok taken.Repeat) = none_replied n _
+none_taken n (Ok Taken.Holding) = none_replied n _
+none_taken n (Ok Taken.Repeat) = none_replied n _
 none_taken n (Err r) = none_replied n _
 
 -- ---- the rows of a listing begin with `row`
@@ -184,28 +136,27 @@ abbrev pub BeginWithRow : List (List (List ℕ)) → Type 0
 BeginWithRow rows = (fields : List (List ℕ)) → Has fields rows → (rest : List (List ℕ)) × (fields ≡ codes "row" ∷ rest)
 
 row_at_key : (k : RowKey) (r : Row) → BeginWithRow (row_record k r)
-row_at_key (key.User id) (row.User u) fields (inl e) = (_, e)
-row_at_key (key.Item id) (row.Item u) fields (inl e) = (_, e)
-row_at_key (key.Bid id) (row.Bid u) fields (inl e) = (_, e)
-row_at_key (key.Purchase id) (row.Purchase u) fields (inl e) = (_, e)
-row_at_key (key.Comment id) (row.Comment u) fields (inl e) = (_, e)
-row_at_key (key.Cat k) (row.Cat c) fields h = at (shows_nothing c) h
+row_at_key (RowKey.User id) (Row.User u) fields (inl e) = (_, e)
+row_at_key (RowKey.Item id) (Row.Item u) fields (inl e) = (_, e)
+row_at_key (RowKey.Bid id) (Row.Bid u) fields (inl e) = (_, e)
+row_at_key (RowKey.Purchase id) (Row.Purchase u) fields (inl e) = (_, e)
+row_at_key (RowKey.Comment id) (Row.Comment u) fields (inl e) = (_, e)
+row_at_key (RowKey.Cat k) (Row.Cat c) fields h = at (shows_nothing c) h
   where
     at : (b : Bool) → Has fields (cond b [] (category_record k c ∷ [])) → (rest : List (List ℕ)) × (fields ≡ codes "row" ∷ rest)
     at true h = absurd h
     at false (inl e) = (_, e)
     at false (inr h) = absurd h
-row_at_key (key.User id) (row.User u) fields (inr h) = absurd h
-row_at_key (key.Item id) (row.Item u) fields (inr h) = absurd h
-row_at_key (key.Bid id) (row.Bid u) fields (inr h) = absurd h
-row_at_key (key.Purchase id) (row.Purchase u) fields (inr h) = absurd h
-row_at_key (key.Comment id) (row.Comment u) fields (inr h) = absurd h
+row_at_key (RowKey.User id) (Row.User u) fields (inr h) = absurd h
+row_at_key (RowKey.Item id) (Row.Item u) fields (inr h) = absurd h
+row_at_key (RowKey.Bid id) (Row.Bid u) fields (inr h) = absurd h
+row_at_key (RowKey.Purchase id) (Row.Purchase u) fields (inr h) = absurd h
+row_at_key (RowKey.Comment id) (Row.Comment u) fields (inr h) = absurd h
 row_at_key k r fields h = absurd h
 
 rows_of_entries : (es : List (RowKey × Row)) → BeginWithRow (flat_map (λ e. row_record e.0 e.1) es)
 rows_of_entries [] fields h = absurd h
-rows_of_entries (e ∷ es) fields h =
-    ⊎_elim (row_at_key e.0 e.1 fields) (rows_of_entries es fields) (has_append fields (row_record e.0 e.1) (flat_map (λ e. row_record e.0 e.1) es) h)
+rows_of_entries (e ∷ es) fields h = ⊎_elim (row_at_key e.0 e.1 fields) (rows_of_entries es fields) (has_append _ _ _ h)
 
 rows_of_tables : (l : Listing) (t : Tables) → BeginWithRow (table_rows l t)
 rows_of_tables l t = rows_of_entries (filter (λ e. is_of l e.0 e.1) (map.entries t))
@@ -222,15 +173,15 @@ rows_of_misfits (m ∷ ms) fields (inl e) = (_, e)
 rows_of_misfits (m ∷ ms) fields (inr h) = rows_of_misfits ms fields h
 
 pub rows_listed : (log : List Message) (f : Folded) (l : Listing) → BeginWithRow (listing_rows log f l)
-rows_listed log f listing.Log = rows_of_log log 1
-rows_listed log f listing.Misfits = rows_of_misfits f.misfits
-rows_listed log f listing.Users = rows_of_tables listing.Users f.tables
-rows_listed log f (listing.Items cat) = rows_of_tables (listing.Items cat) f.tables
-rows_listed log f (listing.Bids item) = rows_of_tables (listing.Bids item) f.tables
-rows_listed log f (listing.Purchases item) = rows_of_tables (listing.Purchases item) f.tables
-rows_listed log f (listing.Comments user) = rows_of_tables (listing.Comments user) f.tables
-rows_listed log f listing.Categories = rows_of_tables listing.Categories f.tables
-rows_listed log f listing.Tables = rows_of_tables listing.Tables f.tables
+rows_listed log f Listing.Log = rows_of_log log 1
+rows_listed log f Listing.Misfits = rows_of_misfits f.misfits
+rows_listed log f Listing.Users = rows_of_tables Listing.Users f.tables
+rows_listed log f (Listing.Items cat) = rows_of_tables (Listing.Items cat) f.tables
+rows_listed log f (Listing.Bids item) = rows_of_tables (Listing.Bids item) f.tables
+rows_listed log f (Listing.Purchases item) = rows_of_tables (Listing.Purchases item) f.tables
+rows_listed log f (Listing.Comments user) = rows_of_tables (Listing.Comments user) f.tables
+rows_listed log f Listing.Categories = rows_of_tables Listing.Categories f.tables
+rows_listed log f Listing.Tables = rows_of_tables Listing.Tables f.tables
 
 send_listed : (n : ℕ) (rows : List (List (List ℕ))) → BeginWithRow rows → Sends (listed_rows n (Ok rows)) []
 send_listed n rows begin =
@@ -256,7 +207,7 @@ first_due false o x e = absurd (true≢false (sym e))
 
 -- Full is the first of the refusals of any ask
 full_first : (t : Rows) (s : Standing) (a : Ask) → s.full ≡ true → decision t s a ≡ Err Full
-full_first t s (ask.User n) e = first_due s.full _ _ e
+full_first t s (Ask.User n) e = first_due s.full _ _ e
 full_first t s a e = first_due s.full _ _ e
 
 -- a site that isn't full isn't where it keeps more
@@ -272,49 +223,47 @@ module _ (keep : ℕ) (few : keep ≤ 1000000) (w : World) (i n : ℕ) where
   step_of x = input_step (place keep w i) (site w i) n x
 
   requested_steps : (q : Request) → Steps w i (step_of (Asked q)) w ⊎ Steps w i (step_of (Asked q)) (requested 1000000 w i q).0
-  requested_steps (request.Pass to) =
-      let a = (passed (place keep w i) (site w i) to).1 in inr (record { new = sending packet.Token a; sites = refl; sent = refl; rows = passed_sends n a })
-  requested_steps (request.List l) =
-      inl (steps_not w i (step_of (Asked (request.List l))) refl
-      (send_listed n (listing_rows (site w i).log (fold_of (cores (site w i).log)) l) (rows_listed (site w i).log (fold_of (cores (site w i).log)) l)))
-  requested_steps (request.Ask a) = at (is_full keep (site w i)) refl
+  requested_steps (Request.Pass to) =
+      let a = (passed (place keep w i) (site w i) to).1 in inr (record { new = sending Packet.Token a; sites = refl; sent = refl; rows = passed_sends n a })
+  requested_steps (Request.List l) = inl (steps_not w i _ refl (send_listed n _ (rows_listed _ _ l)))
+  requested_steps (Request.Ask a) = at (is_full keep (site w i)) refl
     where
-      at : (b : Bool) → is_full keep (site w i) ≡ b → Steps w i (step_of (Asked (request.Ask a))) w
-          ⊎ Steps w i (step_of (Asked (request.Ask a))) (requested 1000000 w i (request.Ask a)).0
+      at : (b : Bool) → is_full keep (site w i) ≡ b → Steps w i (step_of (Asked (Request.Ask a))) w
+          ⊎ Steps w i (step_of (Asked (Request.Ask a))) (requested 1000000 w i (Request.Ask a)).0
       at true e = inl (subst (λ d. Steps w i (told (asked_rows n) (generating (place keep w i) (site w i) d)) w)
           (sym (full_first (rows_at (site w i).log) (standing_of keep (site w i)) a e))
           (steps_not w i (told (asked_rows n) (generating (place keep w i) (site w i) (Err Full))) refl (send_refused n Full)))
       at false e = inr (subst
           (λ f. Steps w i (told (asked_rows n)
           (generating (place keep w i) (site w i) (decision (rows_at (site w i).log) (record (standing_of keep (site w i)) { full = f }) a)))
-          (requested 1000000 w i (request.Ask a)).0)
+          (requested 1000000 w i (Request.Ask a)).0)
           (not_full_more keep (site w i) few e ∙ sym e)
-          (let m = (asked (place 1000000 w i) (site w i) a).1 in record { new = sending packet.Msg m; sites = refl; sent = refl; rows = asked_sends n m }))
+          (let m = (asked (place 1000000 w i) (site w i) a).1 in record { new = sending Packet.Msg m; sites = refl; sent = refl; rows = asked_sends n m }))
 
   -- a full site takes no message in
   full_stays : (m : Message) → is_full keep (site w i) ≡ true → (arrived (place keep w i) (site w i) m).0 ≡ site w i
   full_stays m e =
       cond_both (not_ours (place keep w i) (site w i) m) (site w i, Err NotOurs) _ (λ (a : Replica × Result Arrival Refusal). a.0 ≡ site w i) (λ _. refl)
-      (λ _. cond_both (is_repeat (site w i) m) (site w i, Ok arrival.Repeat) _ (λ (a : Replica × Result Arrival Refusal). a.0 ≡ site w i) (λ _. refl)
+      (λ _. cond_both (is_repeat (site w i) m) (site w i, Ok Arrival.Repeat) _ (λ (a : Replica × Result Arrival Refusal). a.0 ≡ site w i) (λ _. refl)
       (λ _. cond_both (is_full keep (site w i)) (site w i, Err Full) _ (λ (a : Replica × Result Arrival Refusal). a.0 ≡ site w i) (λ _. refl)
       (λ n. absurd (true≢false (sym e ∙ n)))))
 
   coming_steps : (p : Packet) → Steps w i (step_of (Came p)) w ⊎ Steps w i (step_of (Came p)) (coming 1000000 w i (Some p)).0
-  coming_steps (packet.Token t) =
+  coming_steps (Packet.Token t) =
       inr (record {
         new = [];
         sites = refl;
         sent = sym (append-nil w.sent);
         rows = send_none (took_rows n (took (place keep w i) (site w i) t).1) (none_taken n (took (place keep w i) (site w i) t).1);
       })
-  coming_steps (packet.Msg m) = at (is_full keep (site w i)) refl
+  coming_steps (Packet.Msg m) = at (is_full keep (site w i)) refl
     where
-      at : (b : Bool) → is_full keep (site w i) ≡ b → Steps w i (step_of (Came (packet.Msg m))) w
-          ⊎ Steps w i (step_of (Came (packet.Msg m))) (coming 1000000 w i (Some (packet.Msg m))).0
-      at true e = inl (steps_not w i (step_of (Came (packet.Msg m))) (full_stays m e)
+      at : (b : Bool) → is_full keep (site w i) ≡ b → Steps w i (step_of (Came (Packet.Msg m))) w
+          ⊎ Steps w i (step_of (Came (Packet.Msg m))) (coming 1000000 w i (Some (Packet.Msg m))).0
+      at true e = inl (steps_not w i (step_of (Came (Packet.Msg m))) (full_stays m e)
           (send_none (arrived_rows n (arrived (place keep w i) (site w i) m).1) (none_arrived n (arrived (place keep w i) (site w i) m).1)))
-      at false e = inr (subst (λ (a : Replica × Result Arrival Refusal). Steps w i (told (arrived_rows n) a) (coming 1000000 w i (Some (packet.Msg m))).0)
-          (ap (λ b. cond (not_ours (place keep w i) (site w i) m) (site w i, Err NotOurs) (cond (is_repeat (site w i) m) (site w i, Ok arrival.Repeat)
+      at false e = inr (subst (λ (a : Replica × Result Arrival Refusal). Steps w i (told (arrived_rows n) a) (coming 1000000 w i (Some (Packet.Msg m))).0)
+          (ap (λ b. cond (not_ours (place keep w i) (site w i) m) (site w i, Err NotOurs) (cond (is_repeat (site w i) m) (site w i, Ok Arrival.Repeat)
           (cond b (site w i, Err Full) (after_came (site w i) m, Ok (arrival_of (length (after_came (site w i) m).log - length (site w i).log))))))
           (not_full_more keep (site w i) few e ∙ sym e))
           (record {
@@ -325,16 +274,13 @@ module _ (keep : ℕ) (few : keep ≤ 1000000) (w : World) (i n : ℕ) where
           }))
 
   asked_steps : (q : Request) → i < length w.sites → Steps w i (step_of (Asked q)) w ⊎ Steps w i (step_of (Asked q)) (happens 1000000 w (At i q)).0
-  asked_steps q l =
-      subst (λ b. Steps w i (step_of (Asked q)) w ⊎ Steps w i (step_of (Asked q)) (cond b (requested 1000000 w i q) (w, Err BadEvent)).0)
-      (sym (is_within i (length w.sites) l))
-      (requested_steps q)
+  asked_steps q l = subst (λ b. Steps w i (step_of (Asked q)) w ⊎ Steps w i (step_of (Asked q)) (cond b (requested 1000000 w i q) (w, Err BadEvent)).0)
+      (sym (lt-ltb i (length w.sites) l)) (requested_steps q)
 
   came_steps : (k : ℕ) (p : Packet) → i < length w.sites → packet_at w.sent k ≡ Some p
       → Steps w i (step_of (Came p)) w ⊎ Steps w i (step_of (Came p)) (happens 1000000 w (Deliver i k)).0
-  came_steps k p l e =
-      subst (λ b. Steps w i (step_of (Came p)) w ⊎ Steps w i (step_of (Came p)) (cond b (coming 1000000 w i (packet_at w.sent k)) (w, Err BadEvent)).0)
-      (sym (is_within i (length w.sites) l))
+  came_steps k p l e = subst (λ b. Steps w i (step_of (Came p)) w ⊎ Steps w i (step_of (Came p))
+      (cond b (coming 1000000 w i (packet_at w.sent k)) (w, Err BadEvent)).0) (sym (lt-ltb i (length w.sites) l))
       (subst (λ o. Steps w i (step_of (Came p)) w ⊎ Steps w i (step_of (Came p)) (coming 1000000 w i o).0) (sym e) (coming_steps p))
 
 -- ---- one reading more
@@ -351,18 +297,17 @@ module _ (sites : ℕ) (keep : ℕ → ℕ) (before : List Reading) (r : Reading
   step = input_step (process sites keep r.site) (state_of sites keep before r.site) number (input_of sites r.fields)
 
   pub state_here : state_of sites keep (before ++ r ∷ []) r.site ≡ step.0
-  state_here =
-      ap (site_after (process sites keep r.site) (opening_at r.site) 1) (read_here before r)
-      ∙ after_more (process sites keep r.site) records (r.fields ∷ []) (opening_at r.site) 1
+  state_here = ap (site_after (process sites keep r.site) (opening_at r.site) 1) (read_here _ r) ∙ after_more (process sites keep r.site) records
+      (r.fields ∷ []) (opening_at r.site) 1
 
-  pub state_there : (i : ℕ) → (i ≡ r.site → ⊥) → state_of sites keep (before ++ r ∷ []) i ≡ state_of sites keep before i
-  state_there i n = ap (site_after (process sites keep i) (opening_at i) 1) (read_there i before r n)
+  pub state_there : {i : ℕ} → (i ≡ r.site → ⊥) → state_of sites keep (before ++ r ∷ []) i ≡ state_of sites keep before i
+  state_there {i} n = ap (site_after (process sites keep i) (opening_at i) 1) (read_there before r n)
 
   pub answers_here : answers_of sites keep (before ++ r ∷ []) r.site ≡ answers_of sites keep before r.site ++ step.1
   answers_here = ap (output_of (process sites keep r.site)) (read_here before r) ∙ output_one (process sites keep r.site) records r.fields
 
-  pub answers_there : (i : ℕ) → (i ≡ r.site → ⊥) → answers_of sites keep (before ++ r ∷ []) i ≡ answers_of sites keep before i
-  answers_there i n = ap (output_of (process sites keep i)) (read_there i before r n)
+  pub answers_there : {i : ℕ} → (i ≡ r.site → ⊥) → answers_of sites keep (before ++ r ∷ []) i ≡ answers_of sites keep before i
+  answers_there {i} n = ap (output_of (process sites keep i)) (read_there before r n)
 
   -- what was sent stays sent
   stays_sent : (fields : List (List ℕ)) → WasSent sites keep before fields → WasSent sites keep (before ++ r ∷ []) fields
@@ -370,12 +315,10 @@ module _ (sites : ℕ) (keep : ℕ → ℕ) (before : List Reading) (r : Reading
     where
       here : h.0 ≡ r.site → Has (send_row fields) (answers_of sites keep (before ++ r ∷ []) h.0)
       here e = subst (λ j. Has (send_row fields) (answers_of sites keep (before ++ r ∷ []) j)) (sym e)
-          (subst (Has (send_row fields)) (sym answers_here)
-          (has_left (send_row fields) (answers_of sites keep before r.site) step.1
-          (subst (λ j. Has (send_row fields) (answers_of sites keep before j)) e h.2)))
+          (subst (Has (send_row fields)) (sym answers_here) (has_left _ _ _ (subst (λ j. Has (send_row fields) (answers_of sites keep before j)) e h.2)))
 
       there : (h.0 ≡ r.site → ⊥) → Has (send_row fields) (answers_of sites keep (before ++ r ∷ []) h.0)
-      there n = subst (Has (send_row fields)) (sym (answers_there h.0 n)) h.2
+      there n = subst (Has (send_row fields)) (sym (answers_there n)) h.2
 
   -- and nothing else is sent than what this process answers now
   pub sent_now : (fields : List (List ℕ)) → WasSent sites keep (before ++ r ∷ []) fields
@@ -390,7 +333,7 @@ module _ (sites : ℕ) (keep : ℕ → ℕ) (before : List Reading) (r : Reading
           (subst (Has (send_row fields)) answers_here (subst (λ j. Has (send_row fields) (answers_of sites keep (before ++ r ∷ []) j)) e h.2)))
 
       there : (h.0 ≡ r.site → ⊥) → WasSent sites keep before fields ⊎ ((r.site < sites) × Has (send_row fields) step.1)
-      there n = inl (h.0, h.1, subst (Has (send_row fields)) (answers_there h.0 n) h.2)
+      there n = inl (h.0, h.1, subst (Has (send_row fields)) (answers_there n) h.2)
 
   sent_here : (fields : List (List ℕ)) → Has (send_row fields) step.1 → Has (send_row fields) (answers_of sites keep (before ++ r ∷ []) r.site)
   sent_here fields h = subst (Has (send_row fields)) (sym answers_here) (has_right (send_row fields) (answers_of sites keep before r.site) step.1 h)
@@ -399,7 +342,7 @@ module _ (sites : ℕ) (keep : ℕ → ℕ) (before : List Reading) (r : Reading
   past : sites ≤ r.site → (w : World) → AreProcesses sites keep before w → AreProcesses sites keep (before ++ r ∷ []) w
   past out w are = record {
     count = are.count;
-    states = λ i l. are.states i l ∙ sym (state_there i (other i l));
+    states = λ i l. are.states i l ∙ sym (state_there (other i l));
     sent = λ p. (λ h. let q = (are.sent p).0 h in (q.0, stays_sent q.0 q.1, q.2), λ q. (are.sent p).1 (q.0, was_sent q.0 q.1, q.2));
     read = λ fields h. are.read fields (was_sent fields h);
   }
@@ -408,7 +351,7 @@ module _ (sites : ℕ) (keep : ℕ → ℕ) (before : List Reading) (r : Reading
       other i l e = absurd (omega (arith, l, e, out))
 
       was_sent : (fields : List (List ℕ)) → WasSent sites keep (before ++ r ∷ []) fields → WasSent sites keep before fields
-      was_sent fields h = (h.0, h.1, subst (Has (send_row fields)) (answers_there h.0 (other h.0 h.1)) h.2)
+      was_sent fields h = (h.0, h.1, subst (Has (send_row fields)) (answers_there (other h.0 h.1)) h.2)
 
   advance : sites ≤ COUNTED_MAX → r.site < sites → (w v : World) (x : Input) → input_of sites r.fields ≡ x → AllPackets sites v.sent →
       AreProcesses sites keep before w
@@ -430,7 +373,7 @@ module _ (sites : ℕ) (keep : ℕ → ℕ) (before : List Reading) (r : Reading
               (ap (λ s. get_or s r.site (opening_at 1)) t.sites ∙ get_or-set_same w.sites r.site _ (opening_at 1) inside ∙ ap (λ p. p.0) same ∙ sym state_here)
 
           there : (i ≡ r.site → ⊥) → site v i ≡ state_of sites keep (before ++ r ∷ []) i
-          there n = ap (λ s. get_or s i (opening_at 1)) t.sites ∙ get_or-set_other w.sites r.site i _ (opening_at 1) n ∙ are.states i k ∙ sym (state_there i n)
+          there n = ap (λ s. get_or s i (opening_at 1)) t.sites ∙ get_or-set_other w.sites r.site i _ (opening_at 1) n ∙ are.states i k ∙ sym (state_there n)
 
       rows : Sends step.1 t.new
       rows = subst (λ (p : Replica × List (List (List ℕ))). Sends p.1 t.new) same t.rows
@@ -510,14 +453,12 @@ module _ (sites : ℕ) (keep : ℕ → ℕ) (top : sites ≤ COUNTED_MAX) (small
               → Steps w r.site (input_step (place (keep r.site) w r.site) (site w r.site) (number sites keep before r) x) w
               ⊎ Steps w r.site (input_step (place (keep r.site) w r.site) (site w r.site) (number sites keep before r) x) (happens 1000000 w e).0
               → Next (before ++ r ∷ []) w
-          goes x is e written = ⊎_elim
-              (λ s. inl (advance sites keep before r top l w w x is (subst (λ k. AllPackets k w.sent) are.count t.written) are s))
+          goes x is e written = ⊎_elim (λ s. inl (advance sites keep _ r top l w w x is (subst (λ k. AllPackets k w.sent) are.count t.written) are s))
               (λ s. inr (
                 e,
                 written,
-                advance sites keep before r top l w _ x is
-                    (subst (λ k. AllPackets k (happens 1000000 w e).0.sent) (event_sites 1000000 w e ∙ are.count) (after_event w e are.count written t).written)
-                    are s,
+                advance sites keep _ r top l w _ x is (subst (λ k. AllPackets k (happens 1000000 w e).0.sent) (event_sites _ w e ∙ are.count)
+                    (after_event w e are.count written t).written) are s,
               ))
 
           at : (q : Option Request) (p : Option Packet) → request_of sites r.fields ≡ q → packet_of sites r.fields ≡ p → Next (before ++ r ∷ []) w
@@ -555,6 +496,5 @@ module _ (sites : ℕ) (keep : ℕ → ℕ) (top : sites ≤ COUNTED_MAX) (small
   }
 
 pub processes_run : ProcessesAreARun
-processes_run sites keep readings some top small carried =
-    read_all sites keep top small readings carried readings [] refl (start sites) (record { sound = start_sound sites some; written = λ p h. absurd h })
-    (at_start sites keep top small)
+processes_run sites keep readings some top small carried = read_all sites keep top small _ carried _ [] refl _
+    (record { sound = start_sound sites some; written = λ p h. absurd h }) (at_start sites keep top small)

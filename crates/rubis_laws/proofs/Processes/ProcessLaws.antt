@@ -1,40 +1,171 @@
--- What holds of processes whose packets are carried unchanged.
-use Rattle.std.proofs.Common.{ℕ, ◌≡◌, ◌+◌, zero, suc, List, [], ◌∷◌, ◌++◌, length, refl, sym, ap, ◌∙◌, subst, arith, Option, Some, None, append_assoc}
-use Rattle.std.proofs.Common.{append-nil}
-use Rattle.std.specs.Prelude.{◌==◌, ◌||◌, Contains, nat_le, not, Result, Ok, Err}
-use Rattle.std.proofs.lemmas.Bool.{cond_both}
-use Rattle.rubis_schema.specs.declared.ids.Id.{Id}
-use Rattle.rubis_schema.specs.declared.refusals.Refusal.{Refusal}
-use Rattle.rubis_schema.specs.declared.refusals.Refusal.TheVariants.{BadTarget, Full, LastTurn, NotForMe, NotOurs}
-use Rattle.rubis_shadow.specs.declared.shadows.Shadow.{Shadow}
-use Rattle.rubis_generate.specs.Decision.{decision}
-use Rattle.rubis_message.specs.Message.{Message}
-use Rattle.rubis_message.specs.declared.answers.Arrival.{Arrival}
-use Rattle.rubis_message.specs.declared.answers.Arrival.TheVariants as arrival
-use Rattle.rubis_message.specs.declared.answers.Taken.{Taken}
-use Rattle.rubis_message.specs.declared.answers.Taken.TheVariants as taken
-use Rattle.rubis_message.specs.declared.requests.Request.TheVariants as request
-use Rattle.rubis_message.specs.declared.tokens.Packet.TheVariants as packet
-use Rattle.rubis_message.specs.declared.tokens.Token.{Token}
-use Rattle.rubis_model.specs.Bids.{IsHighestBid}
-use Rattle.rubis_model.specs.Claims.{KeepInvariants, SerializeOneOrder}
-use Rattle.rubis_model.specs.Log.{cores, fold_of}
-use Rattle.rubis_model.specs.Logs.{Log}
-use Rattle.rubis_model.specs.Laws.{InRun, IsLogOf, Sent, WasLogOf}
-use Rattle.rubis_model.specs.Processes.{AreProcesses, IsLogOfProcess, IsSentMessage, ProcessesAgree, ProcessesAgreeOnTables, ProcessesAreInRun}
-use Rattle.rubis_model.specs.Processes.{ProcessesKeepInvariants, Reading, WasLogOfProcess, process, read_by, site_after, state_of}
-use Rattle.rubis_message.specs.Inputs.{input_of}
-use Rattle.rubis_message.specs.declared.inputs.Input.{Input}
-use Rattle.rubis_model.specs.Runs.{input_step}
-use Rattle.rubis_message.specs.declared.inputs.Input.TheVariants.{Asked, Came, Neither}
-use Rattle.rubis_model.specs.Settle.{Has, first_ready, settle}
-use Rattle.rubis_model.specs.Site.{Place, Replica, arrived, generating, is_full, is_repeat, made, not_ours, opening_at, passing, rows_at, settled, standing_of}
-use Rattle.rubis_model.specs.Site.{took}
-use Rattle.rubis_model.specs.System.{World, run, start}
-use Rattle.rubis_laws.proofs.Audits.Audited.{refers_more, run_faultless, run_formed}
-use Rattle.rubis_laws.proofs.Processes.AreARun.{after_more, processes_run, read_more}
-use Rattle.rubis_laws.proofs.Runs.EveryRun.{equal_tables, every_run, sound_run}
-use Rattle.rubis_laws.proofs.Audits.Verdicts.{faultless_agree}
+-- What holds of sites that are processes of their own.
+use Rattle.rubis_laws.proofs.Common.{ℕ, ◌≡◌, ◌≤◌, ◌<◌, Bool, true, false, cond, List, [], ◌∷◌, ◌++◌, refl, sym, ap, ◌∙◌, subst, arith, Option, Some, None, inl}
+use Rattle.rubis_laws.proofs.Common.{inr, ⊎_elim, append_assoc, append-nil, ◌==◌, ◌||◌, bytes_eq, codes, find, nat_le, not, Result, Ok, Err, cases_eq}
+use Rattle.rubis_laws.proofs.Common.{cond_both, true≢false, COUNTED_MAX, Listing, Refusal, BadRecord, BadTarget, LastTurn, NoToken, NotForMe, NotOurs, Ask}
+use Rattle.rubis_laws.proofs.Common.{Shadow, decision, is_due, order_of, refused_or, shadow_of, Rows, Standing, packet_of, request_of, Arrival, Taken, Request}
+use Rattle.rubis_laws.proofs.Common.{Packet, Token, arrived_rows, asked_rows, listed_rows, passed_rows, refused_row, took_rows, InOrder, cores, fold_of}
+use Rattle.rubis_laws.proofs.Common.{AreProcesses, Carried, Reading, WasSent, answers_of, process, state_of, input_by, answers, input_step, listing_rows, Has}
+use Rattle.rubis_laws.proofs.Common.{Place, Replica, arrived, generating, passing, rows_at, standing_of, took, token_for, World, run, start, has_append, ◌+◌}
+use Rattle.rubis_laws.proofs.Common.{zero, suc, length, Contains, Id, Full, Message, IsHighestBid, KeepInvariants, SerializeOneOrder, Log, InRun, IsLogOf, Sent}
+use Rattle.rubis_laws.proofs.Common.{WasLogOf, IsSentMessage, read_by, site_after, input_of, Input, Asked, Came, Neither, settle, is_full, is_repeat, made}
+use Rattle.rubis_laws.proofs.Common.{not_ours, opening_at, settled}
+use Rattle.rubis_model.specs.Processes.{ProcessesKnowTheirOwn, IsLogOfProcess, ProcessesAgree, ProcessesAgreeOnTables, ProcessesAreInRun}
+use Rattle.rubis_model.specs.Processes.{ProcessesKeepInvariants, WasLogOfProcess}
+use Rattle.rubis_laws.proofs.Processes.AreARun.{answers_here, answers_there, number, processes_run, rows_listed, step, after_more, read_more}
+use Rattle.rubis_laws.proofs.Runs.EveryRun.{every_order, equal_tables, every_run, sound_run}
+use Rattle.rubis_model.specs.Site.{first_ready}
+use Rattle.rubis_laws.proofs.Audits.Verdicts.{refers_more, run_faultless, run_formed, faultless_agree}
+
+-- ---- rows none of which is that refusal
+
+abbrev NotRefused : List (List (List ℕ)) → Type 0
+NotRefused rows = (k : ℕ) → Has (refused_row k NotOurs) rows → ⊥
+
+-- the name that the row of a refusal shows
+abbrev name_in : List (List ℕ) → List ℕ
+name_in (_ ∷ _ ∷ _ ∷ _ ∷ name ∷ rest) = name
+name_in row = []
+
+same_refusal : (n k : ℕ) (r : Refusal) → refused_row k NotOurs ≡ refused_row n r → r ≡ NotOurs
+same_refusal n k NotOurs e = refl
+same_refusal n k r e = absurd (true≢false (ap (λ row. bytes_eq (name_in row) (codes "NotOurs")) e))
+
+refused_other : (n : ℕ) (r : Refusal) → (r ≡ NotOurs → ⊥) → NotRefused (refused_row n r ∷ [])
+refused_other n r other k (inl e) = other (same_refusal n k r e)
+refused_other n r other k (inr h) = h
+
+-- ---- an ask
+
+find_is : {A : Type 0} (p : A → Bool) (xs : List A) {r : A} → find p xs ≡ Some r → p r ≡ true
+find_is p [] e = absurd cc
+find_is p (x ∷ xs) {r} e = at (p x) refl (find_is p xs) e
+  where
+    at : (b : Bool) → p x ≡ b → (find p xs ≡ Some r → p r ≡ true) → cond b (Some x) (find p xs) ≡ Some r → p r ≡ true
+    at true is more e = subst (λ y. p y ≡ true) (let q : x ≡ r = cc in q) is
+    at false is more e = more e
+
+due_other : (t : Rows) (s : Standing) (ask : Ask) (r : Refusal) → decision t s ask ≡ Err r → r ≡ NotOurs → ⊥
+due_other t s ask r e is = at (find (is_due t s ask) (order_of ask)) refl e
+  where
+    at : (o : Option Refusal) → find (is_due t s ask) (order_of ask) ≡ o → refused_or o (shadow_of t ask) ≡ Err r → ⊥
+    at None f e = absurd cc
+    at (Some q) f e =
+        let same : q ≡ NotOurs = (let z : q ≡ r = cc in z) ∙ is in
+        true≢false (sym (find_is (is_due t s ask) (order_of ask) f) ∙ ap (is_due t s ask) same)
+
+asked_own : (p : Place) (s : Replica) (n : ℕ) (a : Result Shadow Refusal) → ((r : Refusal) → a ≡ Err r → r ≡ NotOurs → ⊥)
+    → NotRefused (asked_rows n (generating p s a).1)
+asked_own p s n (Err r) other k h = refused_other n r (other r refl) k h
+asked_own p s n (Ok x) other k (inl e) = absurd cc
+asked_own p s n (Ok x) other k (inr (inl e)) = absurd cc
+asked_own p s n (Ok x) other k (inr (inr h)) = h
+
+-- ---- the other inputs
+
+passed_own : (p : Place) (s : Replica) (n to : ℕ) (o : Option ℕ) → NotRefused (passed_rows n (passing p s to o).1)
+passed_own p s n to None = refused_other n NoToken (λ e. absurd cc)
+passed_own p s n to (Some issued) =
+    cond_both (nat_le p.sites to || (to == p.site)) (s, Err BadTarget) _ (λ (a : Replica × Result Token Refusal). NotRefused (passed_rows n a.1))
+    (λ _. refused_other n BadTarget (λ e. absurd cc))
+    (λ _. cond_both (nat_le 1000000000 s.last) (s, Err LastTurn) _ (λ (a : Replica × Result Token Refusal). NotRefused (passed_rows n a.1))
+    (λ _. refused_other n LastTurn (λ e. absurd cc)) (λ _. sent))
+  where
+    sent : NotRefused (passed_rows n (Ok (token_for s to issued)))
+    sent k (inl e) = absurd cc
+    sent k (inr (inl e)) = absurd cc
+    sent k (inr (inr h)) = h
+
+listed_own : (s : Replica) (n : ℕ) (l : Listing) → NotRefused (listed_rows n (Ok (listing_rows s.log (fold_of (cores s.log)) l)))
+listed_own s n l k (inl e) = absurd cc
+listed_own s n l k (inr h) = let b = (rows_listed s.log (fold_of (cores s.log)) l (refused_row k NotOurs) h).1 in absurd cc
+
+arrived_own : (n : ℕ) (a : Result Arrival Refusal) → (a ≡ Err NotOurs → ⊥) → NotRefused (arrived_rows n a)
+arrived_own n (Err r) other k h = refused_other n r (λ e. other (ap Err e)) k h
+arrived_own n (Ok (Arrival.Released j)) other k (inl e) = absurd cc
+arrived_own n (Ok Arrival.Held) other k (inl e) = absurd cc
+arrived_own n (Ok Arrival.Repeat) other k (inl e) = absurd cc
+arrived_own n (Ok (Arrival.Released j)) other k (inr h) = h
+arrived_own n (Ok Arrival.Held) other k (inr h) = h
+arrived_own n (Ok Arrival.Repeat) other k (inr h) = h
+
+took_own : (p : Place) (s : Replica) (n : ℕ) (t : Token) → NotRefused (took_rows n (took p s t).1)
+took_own p s n t =
+    cond_both (not (t.to == p.site)) (s, Err NotForMe) _ (λ (a : Replica × Result Taken Refusal). NotRefused (took_rows n a.1))
+    (λ _. refused_other n NotForMe (λ e. absurd cc))
+    (λ _. cond_both (nat_le t.turn s.last) (s, Ok Taken.Repeat) _ (λ (a : Replica × Result Taken Refusal). NotRefused (took_rows n a.1)) (λ _. again)
+    (λ _. holding))
+  where
+    again : NotRefused (took_rows n (Ok Taken.Repeat))
+    again k (inl e) = absurd cc
+    again k (inr h) = h
+
+    holding : NotRefused (took_rows n (Ok Taken.Holding))
+    holding k (inl e) = absurd cc
+    holding k (inr h) = h
+
+-- ---- all readings
+
+-- what holds of the packets of all readings holds of the first ones
+pub carried_before : (sites : ℕ) (keep : ℕ → ℕ) {all : List Reading} (before later : List Reading) → all ≡ before ++ later → Carried sites keep all
+    → Carried sites keep before
+carried_before sites keep before later is carried first rest r p e =
+    carried first (rest ++ later) r p (is ∙ ap (λ l. l ++ later) e ∙ append_assoc first (r ∷ rest) later)
+
+module _ (sites : ℕ) (keep : ℕ → ℕ) (some : 1 ≤ sites) (top : sites ≤ COUNTED_MAX) (small : (i : ℕ) → keep i ≤ 1000000) where
+  own_step : (before : List Reading) (r : Reading) (w : World) → r.site < sites → AreProcesses sites keep before w → InOrder w
+      → ((p : Packet) → packet_of sites r.fields ≡ Some p → WasSent sites keep before r.fields) → NotRefused (step sites keep before r).1
+  own_step before r w l are order carried = at (request_of sites r.fields) (packet_of sites r.fields) refl
+    where
+      at : (q : Option Request) (o : Option Packet) → packet_of sites r.fields ≡ o
+          → NotRefused (input_step (process sites keep r.site) (state_of sites keep before r.site) (number sites keep before r) (input_by q o)).1
+      at (Some (Request.Ask a)) o is = asked_own (process sites keep r.site) (state_of sites keep before r.site) _
+          (decision (rows_at (state_of sites keep before r.site).log) (standing_of (keep r.site) (state_of sites keep before r.site)) a)
+          (due_other (rows_at (state_of sites keep before r.site).log) (standing_of (keep r.site) (state_of sites keep before r.site)) a)
+      at (Some (Request.Pass to)) o is = passed_own (process sites keep r.site) (state_of sites keep before r.site) _ to
+          (state_of sites keep before r.site).held
+      at (Some (Request.List l)) o is = listed_own (state_of sites keep before r.site) _ l
+      at None (Some (Packet.Msg m)) is =
+          let sent = (are.sent (Packet.Msg m)).1 (r.fields, carried (Packet.Msg m) is, is) in
+          arrived_own _ (arrived (process sites keep r.site) (state_of sites keep before r.site) m).1
+          (subst (λ (x : Place × Replica). (arrived x.0 x.1 m).1 ≡ Err NotOurs → ⊥)
+          (λ i. (record { site = r.site; sites = are.count i; keep = keep r.site }, are.states r.site l i)) (order.ours (keep r.site) r.site m sent))
+      at None (Some (Packet.Token t)) is = took_own (process sites keep r.site) (state_of sites keep before r.site) _ t
+      at None None is = refused_other _ BadRecord (λ e. absurd cc)
+
+  abbrev Own : List Reading → Type 0
+  Own readings = (i k : ℕ) → i < sites → Has (refused_row k NotOurs) (answers_of sites keep readings i) → ⊥
+
+  own_next : (before : List Reading) (r : Reading) → (r.site < sites → NotRefused (step sites keep before r).1) → Own before → Own (before ++ r ∷ [])
+  own_next before r now own i k l h = ⊎_elim here there (cases_eq i r.site)
+    where
+      here : i ≡ r.site → ⊥
+      here e =
+          let m = subst (λ j. j < sites) e l in
+          ⊎_elim (own r.site k m) (now m k)
+          (has_append (refused_row k NotOurs) (answers_of sites keep before r.site) (step sites keep before r).1
+          (subst (Has (refused_row k NotOurs)) (answers_here sites keep before r)
+          (subst (λ j. Has (refused_row k NotOurs) (answers_of sites keep (before ++ r ∷ []) j)) e h)))
+
+      there : (i ≡ r.site → ⊥) → ⊥
+      there n = own i k l (subst (Has (refused_row k NotOurs)) (answers_there sites keep before r {i = i} n) h)
+
+  own_all : (all : List Reading) → Carried sites keep all → (later before : List Reading) → all ≡ before ++ later → Own before → Own all
+  own_all all carried [] before is own = subst Own (sym (is ∙ append-nil before)) own
+  own_all all carried (r ∷ later) before is own =
+      let first = processes_run sites keep before some top small (carried_before sites keep before (r ∷ later) is carried) in
+      own_all all carried later (before ++ r ∷ []) (is ∙ sym (append_assoc before (r ∷ []) later))
+      (own_next before r (λ l. own_step before r (run 1000000 first.0 (start sites)) l first.2 (every_order sites 1000000 first.0 some (omega arith) first.1)
+      (λ p e. carried before later r p is e)) own)
+
+  own_none : Own []
+  unfolding answers
+  own_none i k l h = h
+
+pub processes_own : ProcessesKnowTheirOwn
+processes_own sites keep readings some top small carried i n l h =
+    own_all sites keep some top small readings carried readings [] refl (own_none sites keep some top small) i n l h
+
+-- ---- what holds of processes whose packets are carried unchanged
 
 -- ---- a log only grows
 
@@ -70,14 +201,14 @@ generating_grows p s (Ok x) = let r = settled_grows (record s { log = s.log ++ m
 pub arrived_grows : (p : Place) (s : Replica) (m : Message) → Grows s (arrived p s m).0
 arrived_grows p s m =
     cond_both (not_ours p s m) (s, Err NotOurs) _ (λ (a : Replica × Result Arrival Refusal). Grows s a.0) (λ _. grows_not s s refl)
-    (λ _. cond_both (is_repeat s m) (s, Ok arrival.Repeat) _ (λ (a : Replica × Result Arrival Refusal). Grows s a.0) (λ _. grows_not s s refl)
+    (λ _. cond_both (is_repeat s m) (s, Ok Arrival.Repeat) _ (λ (a : Replica × Result Arrival Refusal). Grows s a.0) (λ _. grows_not s s refl)
     (λ _. cond_both (is_full p.keep s) (s, Err Full) _ (λ (a : Replica × Result Arrival Refusal). Grows s a.0) (λ _. grows_not s s refl)
     (λ _. settled_grows (record s { waiting = s.waiting ++ m ∷ [] }))))
 
 pub took_grows : (p : Place) (s : Replica) (t : Token) → Grows s (took p s t).0
 took_grows p s t =
     cond_both (not (t.to == p.site)) (s, Err NotForMe) _ (λ (a : Replica × Result Taken Refusal). Grows s a.0) (λ _. grows_not s s refl)
-    (λ _. cond_both (nat_le t.turn s.last) (s, Ok taken.Repeat) _ (λ (a : Replica × Result Taken Refusal). Grows s a.0) (λ _. grows_not s s refl)
+    (λ _. cond_both (nat_le t.turn s.last) (s, Ok Taken.Repeat) _ (λ (a : Replica × Result Taken Refusal). Grows s a.0) (λ _. grows_not s s refl)
     (λ _. grows_not s (record s { held = Some t.issued; last = t.turn }) refl))
 
 pub passing_grows : (p : Place) (s : Replica) (to : ℕ) (o : Option ℕ) → Grows s (passing p s to o).0
@@ -88,11 +219,11 @@ passing_grows p s to (Some issued) =
     (λ _. grows_not s (record s { held = None }) refl))
 
 input_grows : (p : Place) (s : Replica) (n : ℕ) (x : Input) → Grows s (input_step p s n x).0
-input_grows p s n (Asked (request.Ask a)) = generating_grows p s (decision (rows_at s.log) (standing_of p.keep s) a)
-input_grows p s n (Asked (request.Pass to)) = passing_grows p s to s.held
-input_grows p s n (Asked (request.List l)) = grows_not s s refl
-input_grows p s n (Came (packet.Msg m)) = arrived_grows p s m
-input_grows p s n (Came (packet.Token t)) = took_grows p s t
+input_grows p s n (Asked (Request.Ask a)) = generating_grows p s (decision (rows_at s.log) (standing_of p.keep s) a)
+input_grows p s n (Asked (Request.Pass to)) = passing_grows p s to s.held
+input_grows p s n (Asked (Request.List l)) = grows_not s s refl
+input_grows p s n (Came (Packet.Msg m)) = arrived_grows p s m
+input_grows p s n (Came (Packet.Token t)) = took_grows p s t
 input_grows p s n Neither = grows_not s s refl
 
 after_grows : (p : Place) (records : List (List (List ℕ))) (s : Replica) (n : ℕ) → Grows s (site_after p s n records)
@@ -156,8 +287,8 @@ module _ (sites : ℕ) (keep : ℕ → ℕ) (readings : List Reading) (w : World
   pub claims_hold : InRun w → SerializeOneOrder (IsSentMessage sites keep readings) (IsLogOfProcess sites keep readings)
       × KeepInvariants (IsSentMessage sites keep readings) (IsLogOfProcess sites keep readings)
   claims_hold h =
-      let on = λ (m : Message). (are.sent (packet.Msg m)).0 in
-      let back = λ (m : Message). (are.sent (packet.Msg m)).1 in (
+      let on = λ (m : Message). (are.sent (Packet.Msg m)).0 in
+      let back = λ (m : Message). (are.sent (Packet.Msg m)).1 in (
         same_order (Sent w) (IsSentMessage sites keep readings) (IsLogOf w) (IsLogOfProcess sites keep readings) on back log_of_site h.in_order.serial,
         same_invariants (Sent w) (IsSentMessage sites keep readings) (IsLogOf w) (IsLogOfProcess sites keep readings) on back log_of_site h.invariants,
       )
@@ -186,7 +317,7 @@ pub processes_agree : ProcessesAgree
 processes_agree sites keep readings some top small carried logs were =
     let r = processes_run sites keep readings some top small carried in
     let w = run 1000000 r.0 (start sites) in
-    let s = sound_run sites 1000000 r.0 some (omega arith) r.1 in
+    let s = sound_run {n = sites} {keep = 1000000} r.0 some (omega arith) r.1 in
     let of = λ (log : Log) (h : Has log logs). was_log_of_site sites keep readings w r.2 log (were log h) in
     faultless_agree logs (run_faultless w s logs of) (run_formed w s logs of)
 

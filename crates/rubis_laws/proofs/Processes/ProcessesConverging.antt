@@ -1,45 +1,158 @@
--- Processes that have read all messages have released all of them, and have equal tables.
-use Rattle.std.proofs.Common.{ℕ, ◌≡◌, ◌≤◌, ◌<◌, false, List, [], ◌∷◌, ◌++◌, refl, sym, ap, ◌∙◌, subst, arith, Option, Some, None, inl, inr, ⊎_elim}
-use Rattle.std.proofs.Common.{append_assoc, append-nil}
-use Rattle.std.specs.Prelude.{◌||◌, ◌==◌, bytes_eq, codes, nat_le, Result, Ok, Err}
-use Rattle.std.proofs.lemmas.Bool.{cases_eq, cond_both}
-use mathlib.Core.Bool.{true≢false}
-use Rattle.rubis_schema.specs.declared.limits.TheConstants.{COUNTED_MAX}
-use Rattle.rubis_schema.specs.declared.refusals.Refusal.{Refusal}
-use Rattle.rubis_schema.specs.declared.refusals.Refusal.TheVariants.{BadTarget, LastTurn}
-use Rattle.rubis_shadow.specs.declared.shadows.Ask.TheVariants as ask
-use Rattle.rubis_shadow.specs.declared.shadows.Shadow.{Shadow}
-use Rattle.rubis_generate.specs.Decision.{decision}
-use Rattle.rubis_message.specs.Grammar.{request_record}
-use Rattle.rubis_message.specs.Message.{Message}
-use Rattle.rubis_message.specs.Readings.{packet_of, request_of}
-use Rattle.rubis_message.specs.declared.requests.Request.{Request}
-use Rattle.rubis_message.specs.declared.requests.Request.TheVariants as request
-use Rattle.rubis_message.specs.declared.tokens.Packet.TheVariants as packet
-use Rattle.rubis_message.specs.declared.tokens.Token.{Token}
-use Rattle.rubis_message.proofs.Records.{packet_is, request_is}
-use Rattle.rubis_model.specs.Convergence.{HasAll}
-use Rattle.rubis_model.specs.Laws.{Sent}
-use Rattle.rubis_model.specs.Log.{cores, fold_of}
-use Rattle.rubis_model.specs.Processes.{Carried, HasExactlySent, HasReadAll, KeepsAll, ProcessesConverge, Reading, WasSent, answers_of, process, read_by}
-use Rattle.rubis_model.specs.Processes.{state_of}
-use Rattle.rubis_model.specs.Restarts.{IsLevel, Moment, RestartedConverge, has_read, recorded, state_since_start}
-use Rattle.rubis_message.specs.Inputs.{input_by, input_of}
-use Rattle.rubis_message.specs.declared.inputs.Input.{Input}
-use Rattle.rubis_model.specs.Runs.{input_step, output_of}
-use Rattle.rubis_message.specs.declared.inputs.Input.TheVariants.{Asked, Came, Neither}
-use Rattle.rubis_model.specs.Settle.{Has}
-use Rattle.rubis_model.specs.Site.{Place, Replica, arrived, generating, issued_after, made, opening_at, passing, rows_at, standing_of}
-use Rattle.rubis_model.specs.Sound.{Sound}
-use Rattle.rubis_model.specs.System.{World, place, run, site, start}
-use Rattle.rubis_model.proofs.Lists.{contained, contains, has_left, has_reverse, push_cases}
-use Rattle.rubis_laws.proofs.Runs.Converging.{all_had_are_released, rests_run}
-use Rattle.rubis_laws.proofs.Runs.Delivering.{Had, arrived_keeps, had_among, settled_had, took_keeps}
-use Rattle.rubis_laws.proofs.Processes.OwnMessages.{carried_before}
-use Rattle.rubis_laws.proofs.Processes.ProcessLaws.{processes_same_tables}
-use Rattle.rubis_laws.proofs.Processes.AreARun.{answers_stay, number, processes_run, read_here, read_more, read_there, state_here, state_there, step}
-use Rattle.rubis_laws.proofs.Processes.Restarts.{restarts_change_nothing, short_state}
+-- Processes that read new records, and come to the same tables.
+use Rattle.rubis_laws.proofs.Common.{ℕ, ◌≡◌, cond, List, [], ◌∷◌, ◌++◌, refl, sym, ap, ◌∙◌, subst, Some, inl, inr, ⊎_elim, append-nil, ◌==◌, cases_eq}
+use Rattle.rubis_laws.proofs.Common.{packet_of, Packet, process, read_by, AreReplayed, CarriedWithRestarts, IsLevel, IsShortened, Moment, Replayed, WasEverSent}
+use Rattle.rubis_laws.proofs.Common.{has_read, recorded, Reads, Restarts, Replays, Place, Replica, opening_at, ◌≤◌, ◌<◌, false, arith, Option, None}
+use Rattle.rubis_laws.proofs.Common.{append_assoc, ◌||◌, bytes_eq, codes, nat_le, Result, Ok, Err, cond_both, true≢false, COUNTED_MAX, Refusal, BadTarget}
+use Rattle.rubis_laws.proofs.Common.{LastTurn, Shadow, decision, request_record, Message, request_of, Request, Token, packet_is, request_is, HasAll, Sent}
+use Rattle.rubis_laws.proofs.Common.{cores, fold_of, Carried, HasExactlySent, HasReadAll, KeepsAll, Reading, WasSent, answers_of, state_of, state_since_start}
+use Rattle.rubis_laws.proofs.Common.{input_by, input_of, Input, input_step, output_of, Asked, Came, Neither, Has, arrived, generating, issued_after, made}
+use Rattle.rubis_laws.proofs.Common.{passing, rows_at, standing_of, Sound, World, place, run, site, start, contained, contains, has_left, has_reverse}
+use Rattle.rubis_laws.proofs.Common.{push_cases, Ask}
+use Rattle.rubis_model.specs.Processes.{NewRecordsAreRead, ProcessesConverge, RestartedConverge}
+use Rattle.rubis_laws.proofs.Processes.AreARun.{is_itself, is_other, read_more, answers_stay, number, processes_run, read_here, read_there, state_here}
+use Rattle.rubis_laws.proofs.Processes.AreARun.{state_there, step}
+use Rattle.rubis_laws.proofs.Processes.Restarts.{read_on_more, recorded_more, split_append, restarts_change_nothing, short_state}
+use Rattle.rubis_laws.proofs.Runs.Delivering.{all_had_are_released, rests_run, Had, arrived_keeps, had_among, settled_had, took_keeps}
+use Rattle.rubis_laws.proofs.Processes.ProcessLaws.{carried_before, processes_same_tables}
 use Rattle.rubis_laws.proofs.Runs.EveryRun.{sound_run}
+
+-- what is shortened stays so with one record more after both
+short_more : (p : Place) (x : List (List ℕ)) (full short : List (List (List ℕ))) (s : Replica) → IsShortened p s short full
+    → IsShortened p s (short ++ x ∷ []) (full ++ x ∷ [])
+short_more p x [] short s e = inr ([], ap (λ l. l ++ x ∷ []) e, refl)
+short_more p x (z ∷ full) short s (inl h) = inl (h.0, short_more p x full short s h.1)
+short_more p x (z ∷ full) short s (inr h) = inr (h.0 ++ x ∷ [], ap (λ l. l ++ x ∷ []) h.1, short_more p x full h.0 _ h.2)
+
+module _ (sites j : ℕ) (keep : ℕ → ℕ) (moments : List Moment) (fields : List (List ℕ)) (replayed : AreReplayed sites keep moments)
+    (carried : CarriedWithRestarts sites keep moments) (level : IsLevel sites keep moments j)
+    (sent : (p : Packet) → packet_of sites fields ≡ Some p → WasEverSent sites keep moments fields) where
+  abbrev after : List Moment
+  after = moments ++ Reads j fields ∷ []
+
+  recorded_now : recorded after ≡ recorded moments ++ record { site = j; fields = fields } ∷ []
+  recorded_now = recorded_more moments (Reads j fields ∷ [])
+
+  -- what each process has read and recorded then
+  read_now : (i : ℕ) → has_read i after ≡ cond (j == i) (has_read i moments ++ fields ∷ []) (has_read i moments)
+  read_now i = read_on_more i [] moments (Reads j fields ∷ [])
+
+  kept_now : (i : ℕ) → read_by i (recorded after) ≡ read_by i (recorded moments) ++ cond (j == i) (fields ∷ []) []
+  kept_now i = ap (read_by i) recorded_now ∙ read_more i (recorded moments) (record { site = j; fields = fields } ∷ [])
+
+  still_level : IsLevel sites keep after j
+  still_level = subst (λ l. IsShortened (process sites keep j) (opening_at j) l (read_by j (recorded after)))
+      (sym (read_now j ∙ ap (λ b. cond b (has_read j moments ++ fields ∷ []) (has_read j moments)) (is_itself refl)))
+      (subst (λ l. IsShortened (process sites keep j) (opening_at j) (has_read j moments ++ fields ∷ []) l)
+      (sym (kept_now j ∙ ap (λ b. read_by j (recorded moments) ++ cond b (fields ∷ []) []) (is_itself refl))) (short_more _ _ _ _ _ level))
+
+  -- before it, where nobody but process j may read a new record
+  before_it : (i : ℕ) {before later : List Moment} → before ≡ moments → later ≡ Reads j fields ∷ [] → Replayed sites keep i before later
+  before_it i {before} {later} f g = ⊎_elim own other (cases_eq i j)
+    where
+      own : i ≡ j → Replayed sites keep i before later
+      own e = record {
+        first = read_by i (recorded before);
+        rest = [];
+        parts = sym (append-nil (read_by i (recorded before)));
+        again = subst (λ l. IsShortened (process sites keep i) (opening_at i) (has_read i l) (read_by i (recorded l))) (sym f)
+            (subst (λ k. IsLevel sites keep moments k) (sym e) level);
+        whole = λ x more q. refl;
+      }
+
+      reader : Moment → ℕ
+      reader (Reads k x) = k
+      reader (Restarts k) = k
+      reader (Replays k x) = k
+
+      other : (i ≡ j → ⊥) → Replayed sites keep i before later
+      other n = let r = replayed i before [] (sym (f) ∙ sym (append-nil before)) in record {
+        first = r.first;
+        rest = r.rest;
+        parts = r.parts;
+        again = r.again;
+        whole = λ x more q. let e : Reads j fields ≡ Reads i x = (let z : Reads j fields ∷ [] ≡ Reads i x ∷ more = sym g ∙ q in cc) in
+            absurd (n (sym (ap reader e)));
+      }
+
+  -- after it
+  after_it : (i : ℕ) {before later : List Moment} → before ≡ after → later ≡ [] → Replayed sites keep i before later
+  after_it i {before} {later} f g = ⊎_elim own other (cases_eq i j)
+    where
+      none : (x : List (List ℕ)) (more : List Moment) → later ≡ Reads i x ∷ more → {A : Type 0} → A
+      none x more q = let z : [] ≡ Reads i x ∷ more = sym g ∙ q in absurd cc
+
+      own : i ≡ j → Replayed sites keep i before later
+      own e = record {
+        first = read_by i (recorded before);
+        rest = [];
+        parts = sym (append-nil (read_by i (recorded before)));
+        again = subst (λ l. IsShortened (process sites keep i) (opening_at i) (has_read i l) (read_by i (recorded l))) (sym f)
+            (subst (λ k. IsLevel sites keep after k) (sym e) still_level);
+        whole = λ x more q. refl;
+      }
+
+      other : (i ≡ j → ⊥) → Replayed sites keep i before later
+      other n =
+          let r = replayed i moments [] (sym (append-nil moments)) in
+          let o = is_other j i n in record {
+            first = r.first;
+            rest = r.rest;
+            parts = ap (λ l. read_by i (recorded l)) f ∙ kept_now i ∙ ap (λ b. read_by i (recorded moments) ++ cond b (fields ∷ []) []) o
+                ∙ append-nil (read_by i (recorded moments)) ∙ r.parts;
+            again = subst (λ l. IsShortened (process sites keep i) (opening_at i) l r.first)
+                (sym (ap (has_read i) f ∙ read_now i ∙ ap (λ b. cond b (has_read i moments ++ fields ∷ []) (has_read i moments)) o)) r.again;
+            whole = λ x more q. none x more q;
+          }
+
+  still_replayed : AreReplayed sites keep after
+  still_replayed i before later e = ⊎_elim (λ k. earlier k.0 k.1 k.2) (λ k. at_it k.0 k.1 k.2) (split_append moments before e)
+    where
+      earlier : (c : List Moment) → moments ≡ before ++ c → later ≡ c ++ Reads j fields ∷ [] → Replayed sites keep i before later
+      earlier [] f g = before_it i (sym (f ∙ append-nil before)) g
+      earlier (z ∷ c) f g = let r = replayed i before (z ∷ c) f in record {
+        first = r.first;
+        rest = r.rest;
+        parts = r.parts;
+        again = r.again;
+        whole = λ x more q. let h : z ≡ Reads i x = (let y : z ∷ (c ++ Reads j fields ∷ []) ≡ Reads i x ∷ more = sym g ∙ q in cc) in
+            r.whole x c (ap (λ m. m ∷ c) h);
+      }
+
+      at_it : (c : List Moment) → before ≡ moments ++ c → Reads j fields ∷ [] ≡ c ++ later → Replayed sites keep i before later
+      at_it [] f g = before_it i (f ∙ append-nil moments) (sym g)
+      at_it (z ∷ []) f g =
+          let h : z ≡ Reads j fields = cc in
+          let k : later ≡ [] = cc in
+          after_it i (f ∙ ap (λ m. moments ++ m ∷ []) h) k
+      at_it (z ∷ y ∷ c) f g = absurd cc
+
+  still_carried : CarriedWithRestarts sites keep after
+  still_carried before later i x p e is = ⊎_elim (λ k. earlier k.0 k.1 k.2) (λ k. at_it k.0 k.1 k.2) (split_append moments before e)
+    where
+      now : (z : Moment) → z ≡ Reads i x → z ≡ Reads j fields → x ≡ fields
+      now z e f = let q : Reads i x ≡ Reads j fields = sym e ∙ f in cc
+
+      this : before ≡ moments → x ≡ fields → WasEverSent sites keep before x
+      this f same = subst (λ l. WasEverSent sites keep l x) (sym f)
+          (subst (WasEverSent sites keep moments) (sym same) (sent p (ap (packet_of sites) (sym same) ∙ is)))
+
+      earlier : (c : List Moment) → moments ≡ before ++ c → Reads i x ∷ later ≡ c ++ Reads j fields ∷ [] → WasEverSent sites keep before x
+      earlier [] f g = this (sym (f ∙ append-nil before)) (let q : Reads i x ≡ Reads j fields = cc in now (Reads i x) refl q)
+      earlier (z ∷ c) f g = let h : z ≡ Reads i x = cc in carried before c i x p (f ∙ (λ k. before ++ h k ∷ c)) is
+
+      at_it : (c : List Moment) → before ≡ moments ++ c → Reads j fields ∷ [] ≡ c ++ Reads i x ∷ later → WasEverSent sites keep before x
+      at_it [] f g = this (f ∙ append-nil moments) (let q : Reads i x ≡ Reads j fields = cc in now (Reads i x) refl q)
+      at_it (z ∷ []) f g = absurd cc
+      at_it (z ∷ y ∷ c) f g = absurd cc
+
+pub new_records_are_read : NewRecordsAreRead
+new_records_are_read sites j keep moments fields replayed carried level sent = (
+  still_replayed sites j keep moments fields replayed carried level sent,
+  still_carried sites j keep moments fields replayed carried level sent,
+  still_level sites j keep moments fields replayed carried level sent,
+)
+
+-- ---- processes that have read all messages have released all of them, and have equal tables
 
 -- ---- a site keeps what it has, whatever comes
 
@@ -56,11 +169,11 @@ passing_keeps p s to (Some issued) u h =
     (λ _. cond_both (nat_le 1000000000 s.last) (s, Err LastTurn) _ (λ (q : Replica × Result Token Refusal). Had q.0 u) (λ _. h) (λ _. h))
 
 input_keeps : (p : Place) (s : Replica) (n : ℕ) (x : Input) (u : Message) → Had s u → Had (input_step p s n x).0 u
-input_keeps p s n (Asked (request.Ask a)) u h = generating_keeps p s (decision (rows_at s.log) (standing_of p.keep s) a) u h
-input_keeps p s n (Asked (request.Pass to)) u h = passing_keeps p s to s.held u h
-input_keeps p s n (Asked (request.List l)) u h = h
-input_keeps p s n (Came (packet.Msg m)) u h = arrived_keeps p s m u h
-input_keeps p s n (Came (packet.Token t)) u h = took_keeps p s t u h
+input_keeps p s n (Asked (Request.Ask a)) u h = generating_keeps p s (decision (rows_at s.log) (standing_of p.keep s) a) u h
+input_keeps p s n (Asked (Request.Pass to)) u h = passing_keeps p s to s.held u h
+input_keeps p s n (Asked (Request.List l)) u h = h
+input_keeps p s n (Came (Packet.Msg m)) u h = arrived_keeps p s m u h
+input_keeps p s n (Came (Packet.Token t)) u h = took_keeps p s t u h
 input_keeps p s n Neither u h = h
 
 -- ---- no record is a message and a request
@@ -70,20 +183,20 @@ first_word [] = []
 first_word (word ∷ rest) = word
 
 asked_otherwise : (q : Request) → bytes_eq (first_word (request_record q)) (codes "msg") ≡ false
-asked_otherwise (request.Ask (ask.User n)) = refl
+asked_otherwise (Request.Ask (Ask.User n)) = refl
 asked_otherwise q = refl
 
 module _ (sites : ℕ) (top : sites ≤ COUNTED_MAX) where
-  not_both : (fields : List (List ℕ)) (m : Message) (q : Request) → packet_of sites fields ≡ Some (packet.Msg m) → request_of sites fields ≡ Some q → ⊥
+  not_both : (fields : List (List ℕ)) (m : Message) (q : Request) → packet_of sites fields ≡ Some (Packet.Msg m) → request_of sites fields ≡ Some q → ⊥
   not_both fields m q is asked =
       let a = ((request_is sites (omega (arith, top)) fields q).0 asked).1 in
-      let b = ((packet_is sites (omega (arith, top)) top fields (packet.Msg m)).0 is).1 in
+      let b = ((packet_is sites (omega (arith, top)) top fields (Packet.Msg m)).0 is).1 in
       true≢false (ap (λ f. bytes_eq (first_word f) (codes "msg")) (sym b ∙ a) ∙ asked_otherwise q)
 
-  message_came : (fields : List (List ℕ)) (m : Message) → packet_of sites fields ≡ Some (packet.Msg m) → input_of sites fields ≡ Came (packet.Msg m)
+  message_came : (fields : List (List ℕ)) (m : Message) → packet_of sites fields ≡ Some (Packet.Msg m) → input_of sites fields ≡ Came (Packet.Msg m)
   message_came fields m is = at (request_of sites fields) refl
     where
-      at : (o : Option Request) → request_of sites fields ≡ o → input_of sites fields ≡ Came (packet.Msg m)
+      at : (o : Option Request) → request_of sites fields ≡ o → input_of sites fields ≡ Came (Packet.Msg m)
       at (Some q) e = absurd (not_both fields m q is e)
       at None e = λ j. input_by (e j) (is j)
 
@@ -106,26 +219,25 @@ module _ (sites : ℕ) (keep : ℕ → ℕ) (some : 1 ≤ sites) (top : sites �
   -- each message that the process has read is in its log or waits there
   abbrev HasWhatItRead : List Reading → Type 0
   HasWhatItRead before =
-      (fields : List (List ℕ)) (m : Message) → packet_of sites fields ≡ Some (packet.Msg m) → Has fields (read_by i before) →
+      (fields : List (List ℕ)) (m : Message) → packet_of sites fields ≡ Some (Packet.Msg m) → Has fields (read_by i before) →
       Had (state_of sites keep before i) m
 
   -- a message that it reads now
   has_now : (before later : List Reading) (r : Reading) → all ≡ before ++ r ∷ later → r.site ≡ i → (m : Message) → packet_of sites r.fields
-      ≡ Some (packet.Msg m)
+      ≡ Some (Packet.Msg m)
       → Had (step sites keep before r).0 m
   has_now before later r is here m e =
       let q = processes_run sites keep before some top small (carried_before sites keep before (r ∷ later) is carried) in
       let w = run 1000000 q.0 (start sites) in
-      let s = sound_run sites 1000000 q.0 some (omega arith) q.1 in
-      let rest = rests_run sites 1000000 q.0 some (omega arith) q.1 in
-      let a : Sent w m = (q.2.sent (packet.Msg m)).1 (r.fields, carried before later r (packet.Msg m) is e, e) in
-      let covers : (x : Message) → Sent w x → Has x keeps.0 = λ x h. let k = (q.2.sent (packet.Msg x)).0 h in
+      let s = sound_run {n = sites} {keep = 1000000} q.0 some (omega arith) q.1 in
+      let rest = rests_run {n = sites} {keep = 1000000} q.0 some (omega arith) q.1 in
+      let a : Sent w m = (q.2.sent (Packet.Msg m)).1 (r.fields, carried before later r (Packet.Msg m) is e, e) in
+      let covers : (x : Message) → Sent w x → Has x keeps.0 = λ x h. let k = (q.2.sent (Packet.Msg x)).0 h in
       keeps.1 x (k.0, sent_later sites keep before (r ∷ later) k.0 is k.1, k.2) in
       let had : Had (arrived (place (keep i) w i) (site w i) m).0 m = had_among w s rest i m a (keep i) keeps.0 covers keeps.2 in
       let same : (arrived (place (keep i) w i) (site w i) m).0 ≡ (step sites keep before r).0 =
-      (λ j. (arrived (record { site = i; sites = q.2.count j; keep = keep i }) (q.2.states i within j) m).0)
-      ∙ (λ j. (input_step (process sites keep (sym here j)) (state_of sites keep before (sym here j)) (number sites keep before r)
-      (sym (message_came sites top r.fields m e) j)).0) in
+      (λ j. (arrived (record { site = i; sites = q.2.count j; keep = keep i }) (q.2.states i within j) m).0) ∙ (λ j. (input_step
+      (process sites keep (sym here j)) (state_of sites keep before (sym here j)) (number sites keep before r) (sym (message_came sites top _ m e) j)).0) in
       subst (λ (t : Replica). Had t m) same had
 
   has_next : (before later : List Reading) (r : Reading) → all ≡ before ++ r ∷ later → HasWhatItRead before → HasWhatItRead (before ++ r ∷ [])
@@ -145,7 +257,8 @@ module _ (sites : ℕ) (keep : ℕ → ℕ) (some : 1 ≤ sites) (top : sites �
           (push_cases fields r.fields (read_by i before) read))
 
       there : (i ≡ r.site → ⊥) → Had (state_of sites keep (before ++ r ∷ []) i) m
-      there n = subst (λ (t : Replica). Had t m) (sym (state_there sites keep before r i n)) (has fields m e (subst (Has fields) (read_there i before r n) h))
+      there n = subst (λ (t : Replica). Had t m) (sym (state_there sites keep before r {i = i} n))
+          (has fields m e (subst (Has fields) (read_there {i = i} before r n) h))
 
   has_all : (later before : List Reading) → all ≡ before ++ later → HasWhatItRead before → HasWhatItRead all
   has_all [] before is has = subst HasWhatItRead (sym (is ∙ append-nil before)) has
@@ -155,17 +268,17 @@ module _ (sites : ℕ) (keep : ℕ → ℕ) (some : 1 ≤ sites) (top : sites �
   has_exactly read =
       let q = processes_run sites keep all some top small carried in
       let w = run 1000000 q.0 (start sites) in
-      let s = sound_run sites 1000000 q.0 some (omega arith) q.1 in
+      let s = sound_run {n = sites} {keep = 1000000} q.0 some (omega arith) q.1 in
       let has : HasAll w i = λ m a.
-      let k = (q.2.sent (packet.Msg m)).0 a in
+      let k = (q.2.sent (Packet.Msg m)).0 a in
       ⊎_elim (λ h. subst (λ (t : Replica). Had t m) (sym (q.2.states i within)) (has_all all [] refl (λ fields x e h. absurd h) k.0 m k.2 h))
       (λ e. inl (subst (λ j. Has m (site w j).log) e (own w s m a))) (read k.0 m k.1 k.2) in
       let done = all_had_are_released sites 1000000 q.0 some (omega arith) q.1 i has in
       let same = q.2.states i within in record {
         none_waits = ap (λ (t : Replica). t.waiting) (sym same) ∙ done.none_waits;
         released = λ m. (
-          (λ a. subst (λ (t : Replica). Has m t.log) same ((done.released m).0 ((q.2.sent (packet.Msg m)).1 a))),
-          λ h. (q.2.sent (packet.Msg m)).0 ((done.released m).1 (subst (λ (t : Replica). Has m t.log) (sym same) h)),
+          (λ a. subst (λ (t : Replica). Has m t.log) same ((done.released m).0 ((q.2.sent (Packet.Msg m)).1 a))),
+          λ h. (q.2.sent (Packet.Msg m)).0 ((done.released m).1 (subst (λ (t : Replica). Has m t.log) (sym same) h)),
         );
       }
     where

@@ -1,63 +1,48 @@
 -- Processes that stop, and are restarted on their recordings, are processes that never stopped.
-use Rattle.std.proofs.Common.{ℕ, ◌≡◌, ◌+◌, ◌<◌, Bool, true, false, cond, List, [], ◌∷◌, ◌++◌, length, refl, sym, ap, ◌∙◌, subst, Some, inl, inr, ⊎_elim}
-use Rattle.std.proofs.Common.{append_assoc, append-nil}
-use Rattle.std.specs.Prelude.{◌⊎◌, ◌==◌, map, Result, Ok, Err}
-use Rattle.std.proofs.lemmas.Bool.{cases_eq}
-use Rattle.rubis_schema.specs.declared.refusals.Refusal.{Refusal}
-use Rattle.rubis_message.specs.Message.{Message}
-use Rattle.rubis_message.specs.Readings.{packet_of}
-use Rattle.rubis_message.specs.declared.requests.Request.TheVariants as request
-use Rattle.rubis_message.specs.declared.tokens.Packet.TheVariants as packet
-use Rattle.rubis_message.specs.declared.tokens.Token.{Token}
-use Rattle.rubis_model.specs.Answers.{asked_rows, passed_rows, send_row}
-use Rattle.rubis_model.specs.Processes.{Carried, Reading, WasSent, process, read_by, site_after, state_of}
-use Rattle.rubis_model.specs.Restarts.{AreReplayed, CarriedWithRestarts, IsShortened, Moment, NeverStopped, NothingIsLeftOut, ReadingsAreMoments}
-use Rattle.rubis_model.specs.Restarts.{RecordingsReplay, Replayed, RestartedAgree, RestartsChangeNothing, WasEverSent, has_read, read_on, recorded}
-use Rattle.rubis_model.specs.Restarts.{restarted_on, without_restarts}
-use Rattle.rubis_model.specs.Restarts.Moment.{Reads, Replays, Restarts}
-use Rattle.rubis_message.specs.Inputs.{input_of}
-use Rattle.rubis_message.specs.declared.inputs.Input.{Input}
-use Rattle.rubis_model.specs.Runs.{answers, input_step, output_of}
-use Rattle.rubis_message.specs.declared.inputs.Input.TheVariants.{Asked, Came, Neither}
-use Rattle.rubis_model.specs.Settle.{Has}
-use Rattle.rubis_model.specs.Site.{Place, Replica, arrived, asked, opening_at, passed, took}
-use Rattle.rubis_model.proofs.Lists.{has_append, has_left, has_right}
+use Rattle.rubis_laws.proofs.Common.{ℕ, ◌≡◌, ◌+◌, ◌<◌, Bool, true, false, cond, List, [], ◌∷◌, ◌++◌, length, refl, sym, ap, ◌∙◌, subst, Some, inl, inr, ⊎_elim}
+use Rattle.rubis_laws.proofs.Common.{append_assoc, append-nil, ◌⊎◌, ◌==◌, map, Result, Ok, Err, cases_eq, Refusal, Message, packet_of, Token, asked_rows}
+use Rattle.rubis_laws.proofs.Common.{passed_rows, send_row, Carried, Reading, WasSent, process, read_by, site_after, state_of, AreReplayed, CarriedWithRestarts}
+use Rattle.rubis_laws.proofs.Common.{IsShortened, Moment, NeverStopped, Replayed, WasEverSent, has_read, recorded, without_restarts, Reads, Replays, Restarts}
+use Rattle.rubis_laws.proofs.Common.{input_of, Input, answers, input_step, output_of, Asked, Came, Neither, Has, Place, Replica, arrived, asked, opening_at}
+use Rattle.rubis_laws.proofs.Common.{passed, took, has_append, has_left, has_right, Request, Packet}
+use Rattle.rubis_model.specs.Processes.{NothingIsLeftOut, ReadingsAreMoments, RecordingsReplay, RestartedAgree, RestartsChangeNothing, read_on, restarted_on}
 use Rattle.rubis_laws.proofs.Processes.ProcessLaws.{processes_agree}
 use Rattle.rubis_laws.proofs.Processes.AreARun.{answers_stay, is_itself, is_other, none_arrived, none_replied, none_taken, number, output_one, read_more}
 use Rattle.rubis_laws.proofs.Processes.AreARun.{sent_now, step}
 
 -- ---- lists
 
-nothing_in : {A : Type 0} (c d : List A) → c ++ d ≡ [] → (c ≡ []) × (d ≡ [])
-nothing_in [] d e = (refl, e)
-nothing_in (x ∷ c) d e = absurd cc
+nothing_in : {A : Type 0} (c : List A) {d : List A} → c ++ d ≡ [] → (c ≡ []) × (d ≡ [])
+nothing_in [] e = (refl, e)
+nothing_in (x ∷ c) e = absurd cc
 
-pub split_append : {A : Type 0} (xs ys c d : List A) → xs ++ ys ≡ c ++ d → ((e : List A) × (xs ≡ c ++ e) × (d ≡ e ++ ys)) ⊎
+pub split_append : {A : Type 0} (xs : List A) {ys : List A} (c : List A) {d : List A} → xs ++ ys ≡ c ++ d → ((e : List A) × (xs ≡ c ++ e) × (d ≡ e ++ ys)) ⊎
     ((e : List A) × (c ≡ xs ++ e) × (ys ≡ e ++ d))
-split_append xs ys [] d e = inl (xs, refl, sym e)
-split_append [] ys (z ∷ c) d e = inr (z ∷ c, refl, e)
-split_append (x ∷ xs) ys (z ∷ c) d e =
+split_append xs [] e = inl (xs, refl, sym e)
+split_append [] (z ∷ c) e = inr (z ∷ c, refl, e)
+split_append (x ∷ xs) {ys} (z ∷ c) {d} e =
     let q : xs ++ ys ≡ c ++ d = cc in
     let h : x ≡ z = cc in
-    ⊎_elim (λ k. inl (k.0, (λ i. h i ∷ k.1 i), k.2)) (λ k. inr (k.0, (λ i. sym h i ∷ k.1 i), k.2)) (split_append xs ys c d q)
+    ⊎_elim (λ k. inl (k.0, (λ i. h i ∷ k.1 i), k.2)) (λ k. inr (k.0, (λ i. sym h i ∷ k.1 i), k.2)) (split_append xs c q)
 
-split_map : {A B : Type 0} (f : A → B) (xs : List A) (c d : List B) → map f xs ≡ c ++ d → (a b : List A) × (xs ≡ a ++ b) × (c ≡ map f a) × (d ≡ map f b)
-split_map f xs [] d e = ([], xs, refl, refl, sym e)
-split_map f [] (z ∷ c) d e = absurd cc
-split_map f (x ∷ xs) (z ∷ c) d e =
+split_map : {A B : Type 0} {f : A → B} (xs : List A) (c : List B) {d : List B} → map f xs ≡ c ++ d → (a b : List A) × (xs ≡ a ++ b) × (c ≡ map f a)
+    × (d ≡ map f b)
+split_map xs [] e = ([], xs, refl, refl, sym e)
+split_map [] (z ∷ c) e = absurd cc
+split_map {f} (x ∷ xs) (z ∷ c) {d} e =
     let q : map f xs ≡ c ++ d = cc in
     let h : f x ≡ z = cc in
-    let w = split_map f xs c d q in
+    let w = split_map xs c q in
     (x ∷ w.0, w.1, (λ i. x ∷ w.2 i), (λ i. sym h i ∷ w.3 i), w.4)
 
 -- ---- the number of a record shows in its answer alone, and not in what is sent
 
-same_state : (p : Place) (s : Replica) (n m : ℕ) (x : Input) → (input_step p s n x).0 ≡ (input_step p s m x).0
-same_state p s n m (Asked (request.Ask a)) = refl
-same_state p s n m (Asked (request.Pass to)) = refl
-same_state p s n m (Asked (request.List l)) = refl
-same_state p s n m (Came (packet.Msg u)) = refl
-same_state p s n m (Came (packet.Token t)) = refl
+pub same_state : (p : Place) (s : Replica) (n m : ℕ) (x : Input) → (input_step p s n x).0 ≡ (input_step p s m x).0
+same_state p s n m (Asked (Request.Ask a)) = refl
+same_state p s n m (Asked (Request.Pass to)) = refl
+same_state p s n m (Asked (Request.List l)) = refl
+same_state p s n m (Came (Packet.Msg u)) = refl
+same_state p s n m (Came (Packet.Token t)) = refl
 same_state p s n m Neither = refl
 
 asked_same : (n m : ℕ) (r : Result Message Refusal) (fields : List (List ℕ)) → Has (send_row fields) (asked_rows n r) → Has (send_row fields) (asked_rows m r)
@@ -74,12 +59,12 @@ passed_same n m (Err r) fields (inr h) = absurd h
 
 same_sent : (p : Place) (s : Replica) (n m : ℕ) (x : Input) (fields : List (List ℕ)) → Has (send_row fields) (input_step p s n x).1
     → Has (send_row fields) (input_step p s m x).1
-same_sent p s n m (Asked (request.Ask a)) fields h = asked_same n m (asked p s a).1 fields h
-same_sent p s n m (Asked (request.Pass to)) fields h = passed_same n m (passed p s to).1 fields h
-same_sent p s n m (Asked (request.List l)) fields (inl e) = absurd cc
-same_sent p s n m (Asked (request.List l)) fields (inr h) = inr h
-same_sent p s n m (Came (packet.Msg u)) fields h = absurd (none_arrived n (arrived p s u).1 fields h)
-same_sent p s n m (Came (packet.Token t)) fields h = absurd (none_taken n (took p s t).1 fields h)
+same_sent p s n m (Asked (Request.Ask a)) fields h = asked_same n m (asked p s a).1 fields h
+same_sent p s n m (Asked (Request.Pass to)) fields h = passed_same n m (passed p s to).1 fields h
+same_sent p s n m (Asked (Request.List l)) fields (inl e) = absurd cc
+same_sent p s n m (Asked (Request.List l)) fields (inr h) = inr h
+same_sent p s n m (Came (Packet.Msg u)) fields h = absurd (none_arrived n (arrived p s u).1 fields h)
+same_sent p s n m (Came (Packet.Token t)) fields h = absurd (none_taken n (took p s t).1 fields h)
 same_sent p s n m Neither fields h = absurd (none_replied n _ fields h)
 
 -- ---- records without some that change nothing
@@ -91,32 +76,21 @@ module _ (p : Place) where
 
   pub short_state : (full short : List (List (List ℕ))) (s : Replica) (n m : ℕ) → IsShortened p s short full → site_after p s n short ≡ site_after p s m full
   short_state [] short s n m e = ap (site_after p s n) e
-  short_state (x ∷ full) short s n m (inl h) =
-      short_state full short s n (m + 1) h.1 ∙ ap (λ t. site_after p t (m + 1) full) (sym h.0 ∙ same_state p s 1 m (input_of p.sites x))
-  short_state (x ∷ full) short s n m (inr h) =
-      ap (site_after p s n) h.1
-      ∙ ap (λ t. site_after p t (n + 1) h.0) (same_state p s n 1 (input_of p.sites x))
-      ∙ short_state full h.0 (next s 1 x) (n + 1) (m + 1) h.2
-      ∙ ap (λ t. site_after p t (m + 1) full) (same_state p s 1 m (input_of p.sites x))
+  short_state (x ∷ full) short s n m (inl h) = short_state full short s n _ h.1 ∙ ap (λ t. site_after p t (m + 1) full) (sym h.0 ∙ same_state p s 1 m _)
+  short_state (x ∷ full) short s n m (inr h) = ap (site_after p s n) h.1 ∙ ap (λ t. site_after p t (n + 1) h.0) (same_state p s n 1 _) ∙ short_state full h.0 _
+      _ _ h.2 ∙ ap (λ t. site_after p t (m + 1) full) (same_state p s 1 m _)
 
   short_sent : (fields : List (List ℕ)) (full short : List (List (List ℕ))) (s : Replica) (n m : ℕ) → IsShortened p s short full →
       Has (send_row fields) (answers p s n short)
       → Has (send_row fields) (answers p s m full)
   unfolding answers
   short_sent fields [] short s n m e h = subst (λ l. Has (send_row fields) (answers p s n l)) e h
-  short_sent fields (x ∷ full) short s n m (inl k) h =
-      has_right (send_row fields) (input_step p s m (input_of p.sites x)).1 (answers p (next s m x) (m + 1) full)
-      (subst (λ t. Has (send_row fields) (answers p t (m + 1) full)) (sym k.0 ∙ same_state p s 1 m (input_of p.sites x))
-      (short_sent fields full short s n (m + 1) k.1 h))
-  short_sent fields (x ∷ full) short s n m (inr k) h = ⊎_elim
-      (λ l. has_left (send_row fields) (input_step p s m (input_of p.sites x)).1 (answers p (next s m x) (m + 1) full)
-      (same_sent p s n m (input_of p.sites x) fields l))
-      (λ r. has_right (send_row fields) (input_step p s m (input_of p.sites x)).1 (answers p (next s m x) (m + 1) full)
-      (subst (λ t. Has (send_row fields) (answers p t (m + 1) full)) (same_state p s 1 m (input_of p.sites x))
-      (short_sent fields full k.0 (next s 1 x) (n + 1) (m + 1) k.2
-      (subst (λ t. Has (send_row fields) (answers p t (n + 1) k.0)) (same_state p s n 1 (input_of p.sites x)) r))))
-      (has_append (send_row fields) (input_step p s n (input_of p.sites x)).1 (answers p (next s n x) (n + 1) k.0)
-      (subst (λ l. Has (send_row fields) (answers p s n l)) k.1 h))
+  short_sent fields (x ∷ full) short s n m (inl k) h = has_right _ _ _
+      (subst (λ t. Has (send_row fields) (answers p t (m + 1) full)) (sym k.0 ∙ same_state p s 1 m _) (short_sent _ full short s n _ k.1 h))
+  short_sent fields (x ∷ full) short s n m (inr k) h = ⊎_elim (λ l. has_left _ _ _ (same_sent p s n m _ _ l))
+      (λ r. has_right _ _ _ (subst (λ t. Has (send_row fields) (answers p t (m + 1) full)) (same_state p s 1 m _)
+      (short_sent _ full k.0 _ _ _ k.2 (subst (λ t. Has (send_row fields) (answers p t (n + 1) k.0)) (same_state p s n 1 _) r))))
+      (has_append _ _ _ (subst (λ l. Has (send_row fields) (answers p s n l)) k.1 h))
 
   -- nothing has to be left out
   whole_short : (full : List (List (List ℕ))) (s : Replica) → IsShortened p s full full
@@ -140,7 +114,7 @@ other_first i r rest records is w = (r ∷ w.0, w.1, ap (λ l. r ∷ l) w.2, ap 
 
 -- a prefix of all that it reads it has read at some moment
 read_first : (i : ℕ) (readings : List Reading) (records more : List (List (List ℕ))) → records ++ more ≡ read_by i readings → WasRead i readings records
-read_first i [] records more e = ([], [], refl, sym (nothing_in records more e).0)
+read_first i [] records more e = ([], [], refl, sym (nothing_in records e).0)
 read_first i (r ∷ rest) [] more e = ([], r ∷ rest, refl, refl)
 read_first i (r ∷ rest) (x ∷ records) more e = at (r.site == i) refl e (read_first i rest records more) (read_first i rest (x ∷ records) more)
   where
@@ -165,25 +139,14 @@ recorded_more (Replays i fields ∷ a) b = recorded_more a b
 -- when a reading was recorded
 recorded_where : (moments : List Moment) (first : List Reading) (r : Reading) (rest : List Reading) → recorded moments ≡ first ++ r ∷ rest
     → (before later : List Moment) × (moments ≡ before ++ Reads r.site r.fields ∷ later) × (recorded before ≡ first)
-recorded_where [] first r rest e = let z = (nothing_in first (r ∷ rest) (sym e)).1 in absurd cc
+recorded_where [] first r rest e = let z = (nothing_in first {d = r ∷ rest} (sym e)).1 in absurd cc
 recorded_where (Reads i fields ∷ moments) [] r rest e =
-    let h : record { site = i; fields = fields } ≡ r = ap (first_of r) e in ([], moments, (λ k. Reads (h k).site (h k).fields ∷ moments), refl)
-  where
-    first_of : Reading → List Reading → Reading
-    first_of d [] = d
-    first_of d (x ∷ xs) = x
+    let h : record { site = i; fields = fields } ≡ r = cc in ([], moments, (λ k. Reads (h k).site (h k).fields ∷ moments), refl)
 recorded_where (Reads i fields ∷ moments) (x ∷ first) r rest e =
-    let h : record { site = i; fields = fields } ≡ x = ap (first_of x) e in
-    let w = recorded_where moments first r rest (ap rest_of e) in
-    (Reads i fields ∷ w.0, w.1, ap (λ l. Reads i fields ∷ l) w.2, (λ k. h k ∷ w.3 k))
-  where
-    first_of : Reading → List Reading → Reading
-    first_of d [] = d
-    first_of d (x ∷ xs) = x
-
-    rest_of : List Reading → List Reading
-    rest_of [] = []
-    rest_of (x ∷ xs) = xs
+    let h : record { site = i; fields = fields } ≡ x = cc in
+    let q : recorded moments ≡ first ++ r ∷ rest = cc in
+    let w = recorded_where moments first r rest q in
+    (Reads i fields ∷ w.0, w.1, (λ k. Reads i fields ∷ w.2 k), (λ k. h k ∷ w.3 k))
 recorded_where (Restarts i ∷ moments) first r rest e =
     let w = recorded_where moments first r rest e in (Restarts i ∷ w.0, w.1, ap (λ l. Restarts i ∷ l) w.2, w.3)
 recorded_where (Replays i fields ∷ moments) first r rest e =
@@ -201,13 +164,12 @@ module _ (sites : ℕ) (keep : ℕ → ℕ) (moments : List Moment) (replayed : 
         w.0,
         w.1 ++ recorded later,
         ap recorded e ∙ recorded_more before later ∙ ap (λ l. l ++ recorded later) w.2 ∙ append_assoc w.0 w.1 (recorded later),
-        short_state (process sites keep i) r.first (has_read i before) (opening_at i) 1 1 r.again
-            ∙ ap (site_after (process sites keep i) (opening_at i) 1) (sym w.3),
+        short_state _ _ _ _ 1 1 r.again ∙ ap (site_after (process sites keep i) (opening_at i) 1) (sym w.3),
       )
 
-  sent_before : (done rest : List Moment) → moments ≡ done ++ rest → (fields : List (List ℕ)) → WasEverSent sites keep done fields
+  sent_before : {done : List Moment} (rest : List Moment) → moments ≡ done ++ rest → (fields : List (List ℕ)) → WasEverSent sites keep done fields
       → WasSent sites keep (recorded done) fields
-  sent_before done rest e fields w =
+  sent_before {done} rest e fields w =
       let p = process sites keep w.0 in
       let r = replayed w.0 w.2 (w.3 ++ rest) (e ∙ ap (λ l. l ++ rest) w.4 ∙ append_assoc w.2 w.3 rest) in
       let all : read_by w.0 (recorded done) ≡ r.first ++ (r.rest ++ read_by w.0 (recorded w.3)) =
@@ -223,7 +185,7 @@ module _ (sites : ℕ) (keep : ℕ → ℕ) (moments : List Moment) (replayed : 
   all_carried before later r p e is =
       let w = recorded_where moments before r later e in
       subst (λ l. WasSent sites keep l r.fields) w.3
-      (sent_before w.0 (Reads r.site r.fields ∷ w.1) w.2 r.fields (carried w.0 w.1 r.site r.fields p w.2 is))
+      (sent_before (Reads r.site r.fields ∷ w.1) w.2 r.fields (carried w.0 w.1 r.site r.fields p w.2 is))
 
   sent_longer : (a b : List Moment) (fields : List (List ℕ)) → WasEverSent sites keep a fields → WasEverSent sites keep (a ++ b) fields
   sent_longer a b fields w = (w.0, w.1, w.2, w.3 ++ b, ap (λ l. l ++ b) w.4 ∙ append_assoc w.2 w.3 b, w.5)
@@ -234,9 +196,8 @@ module _ (sites : ℕ) (keep : ℕ → ℕ) (moments : List Moment) (replayed : 
 
   sent_read : (done : List Moment) (j : ℕ) (x : List (List ℕ)) (rest : List Moment) → moments ≡ done ++ Reads j x ∷ rest → AllSent done →
       AllSent (done ++ Reads j x ∷ [])
-  sent_read done j x rest e sent fields h =
-      ⊎_elim (λ k. sent_longer done (Reads j x ∷ []) fields (sent fields k)) (λ k. new k.0 k.1)
-      (sent_now sites keep (recorded done) r fields (subst (λ l. WasSent sites keep l fields) (recorded_more done (Reads j x ∷ [])) h))
+  sent_read done j x rest e sent fields h = ⊎_elim (λ k. sent_longer done _ _ (sent fields k)) (λ k. new k.0 k.1)
+      (sent_now sites keep _ r _ (subst (λ l. WasSent sites keep l fields) (recorded_more done (Reads j x ∷ [])) h))
     where
       r : Reading
       r = record { site = j; fields = x }
@@ -266,18 +227,16 @@ module _ (sites : ℕ) (keep : ℕ → ℕ) (moments : List Moment) (replayed : 
           )
 
   -- a moment at which nothing is recorded
-  sent_still : (done : List Moment) (m : Moment) → recorded (m ∷ []) ≡ [] → AllSent done → AllSent (done ++ m ∷ [])
-  sent_still done m none sent fields h = sent_longer done (m ∷ []) fields
+  sent_still : {done : List Moment} (m : Moment) → recorded (m ∷ []) ≡ [] → AllSent done → AllSent (done ++ m ∷ [])
+  sent_still {done} m none sent fields h = sent_longer done (m ∷ []) fields
       (sent fields (subst (λ l. WasSent sites keep l fields) (recorded_more done (m ∷ []) ∙ ap (λ l. recorded done ++ l) none ∙ append-nil (recorded done)) h))
 
-  all_sent : (rest done : List Moment) → moments ≡ done ++ rest → AllSent done → AllSent moments
-  all_sent [] done e sent = subst AllSent (sym (e ∙ append-nil done)) sent
-  all_sent (Reads j x ∷ rest) done e sent = all_sent rest (done ++ Reads j x ∷ []) (e ∙ sym (append_assoc done (Reads j x ∷ []) rest))
+  all_sent : (rest : List Moment) {done : List Moment} → moments ≡ done ++ rest → AllSent done → AllSent moments
+  all_sent [] {done} e sent = subst AllSent (sym (e ∙ append-nil done)) sent
+  all_sent (Reads j x ∷ rest) {done} e sent = all_sent rest {done = done ++ Reads j x ∷ []} (e ∙ sym (append_assoc done (Reads j x ∷ []) rest))
       (sent_read done j x rest e sent)
-  all_sent (Restarts j ∷ rest) done e sent = all_sent rest (done ++ Restarts j ∷ []) (e ∙ sym (append_assoc done (Restarts j ∷ []) rest))
-      (sent_still done (Restarts j) refl sent)
-  all_sent (Replays j x ∷ rest) done e sent =
-      all_sent rest (done ++ Replays j x ∷ []) (e ∙ sym (append_assoc done (Replays j x ∷ []) rest)) (sent_still done (Replays j x) refl sent)
+  all_sent (Restarts j ∷ rest) {done} e sent = all_sent rest (e ∙ sym (append_assoc done (Restarts j ∷ []) rest)) (sent_still (Restarts j) refl sent)
+  all_sent (Replays j x ∷ rest) {done} e sent = all_sent rest (e ∙ sym (append_assoc done (Replays j x ∷ []) rest)) (sent_still (Replays j x) refl sent)
 
   none_sent : AllSent []
   unfolding answers
@@ -287,7 +246,7 @@ module _ (sites : ℕ) (keep : ℕ → ℕ) (moments : List Moment) (replayed : 
   never_stopped = record {
     carried = all_carried;
     states = states;
-    sent = λ fields. (sent_before moments [] (sym (append-nil moments)) fields, all_sent moments [] refl none_sent fields);
+    sent = λ fields. (sent_before [] (sym (append-nil moments)) fields, all_sent moments refl none_sent fields);
   }
 
 pub restarts_change_nothing : RestartsChangeNothing
@@ -326,7 +285,7 @@ readings_are_moments sites keep readings carried = (replayed, carried_on)
   where
     replayed : AreReplayed sites keep (without_restarts readings)
     replayed i before later e =
-        let w = split_map as_moment readings before later e in
+        let w = split_map {f = as_moment} readings before {d = later} e in
         record {
           first = read_by i w.0;
           rest = [];
@@ -338,7 +297,7 @@ readings_are_moments sites keep readings carried = (replayed, carried_on)
 
     carried_on : CarriedWithRestarts sites keep (without_restarts readings)
     carried_on before later i fields p e is =
-        let w = split_map as_moment readings before (Reads i fields ∷ later) e in
+        let w = split_map {f = as_moment} readings before {d = Reads i fields ∷ later} e in
         at w.0 w.1 w.2 w.3 w.4
       where
         at : (x y : List Reading) → readings ≡ x ++ y → before ≡ without_restarts x → Reads i fields ∷ later ≡ without_restarts y →
@@ -366,7 +325,7 @@ kept_first p {z} s x same w = (z ∷ w.0, w.1, ap (λ l. z ∷ l) w.2, inr (x, (
 -- a prefix of a shortened list is a prefix of the list, shortened
 short_first : (p : Place) (full : List (List (List ℕ))) {short : List (List (List ℕ))} (s : Replica) (x y : List (List (List ℕ))) → IsShortened p s short full
     → short ≡ x ++ y → (f g : List (List (List ℕ))) × (full ≡ f ++ g) × IsShortened p s x f
-short_first p [] s x y h e = ([], [], refl, (nothing_in x y (sym e ∙ h)).0)
+short_first p [] s x y h e = ([], [], refl, (nothing_in x (sym e ∙ h)).0)
 short_first p (z ∷ full) s x y (inl h) e =
     let w = short_first p full s x y h.1 e in (z ∷ w.0, w.1, ap (λ l. z ∷ l) w.2, inl (h.0, w.3))
 short_first p (z ∷ full) s [] y (inr h) e = ([], z ∷ full, refl, refl)
@@ -389,10 +348,10 @@ recorded_none : (j : ℕ) (records : List (List (List ℕ))) → recorded (map (
 recorded_none j [] = refl
 recorded_none j (x ∷ records) = recorded_none j records
 
-no_new : {P : Type 0} (j : ℕ) (records : List (List (List ℕ))) (i : ℕ) (fields : List (List ℕ)) {more : List Moment}
+no_new : {P : Type 0} (j : ℕ) (records : List (List (List ℕ))) {i : ℕ} {fields : List (List ℕ)} {more : List Moment}
     → map (Replays j) records ≡ Reads i fields ∷ more → P
-no_new j [] i fields e = absurd cc
-no_new j (x ∷ records) i fields e = absurd cc
+no_new j [] e = absurd cc
+no_new j (x ∷ records) e = absurd cc
 
 module _ (sites : ℕ) (keep : ℕ → ℕ) (j : ℕ) (moments : List Moment) (records : List (List (List ℕ))) (replayed : AreReplayed sites keep moments)
     (carried : CarriedWithRestarts sites keep moments) (short : IsShortened (process sites keep j) (opening_at j) records (read_by j (recorded moments))) where
@@ -413,9 +372,9 @@ module _ (sites : ℕ) (keep : ℕ → ℕ) (j : ℕ) (moments : List Moment) (r
         whole = λ fields more q. absurd (none i fields more q);
       }
 
-  while_read : (i : ℕ) (x y : List (List (List ℕ))) (later : List Moment) → records ≡ x ++ y → NothingNew later
+  while_read : (i : ℕ) (x y : List (List (List ℕ))) {later : List Moment} → records ≡ x ++ y → NothingNew later
       → Replayed sites keep i (moments ++ Restarts j ∷ map (Replays j) x) later
-  while_read i x y later e none = ⊎_elim own other (cases_eq i j)
+  while_read i x y {later} e none = ⊎_elim own other (cases_eq i j)
     where
       still : recorded (moments ++ Restarts j ∷ map (Replays j) x) ≡ recorded moments
       still = recorded_more moments (Restarts j ∷ map (Replays j) x) ∙ ap (λ l. recorded moments ++ l) (recorded_none j x) ∙ append-nil (recorded moments)
@@ -439,8 +398,7 @@ module _ (sites : ℕ) (keep : ℕ → ℕ) (j : ℕ) (moments : List Moment) (r
           ∙ ap (λ b. read_on i (cond b [] (has_read i moments)) (map (Replays j) x)) (is_other j i n) ∙ read_elsewhere i j n (has_read i moments) x) still none
 
   all_replayed : AreReplayed sites keep (restarted_on j records moments)
-  all_replayed i before later e = ⊎_elim (λ k. earlier k.0 k.1 k.2) (λ k. after k.0 k.1 k.2)
-      (split_append moments (Restarts j ∷ map (Replays j) records) before later e)
+  all_replayed i before later e = ⊎_elim (λ k. earlier k.0 k.1 k.2) (λ k. after k.0 k.1 k.2) (split_append moments before e)
     where
       earlier : (e : List Moment) → moments ≡ before ++ e → later ≡ e ++ Restarts j ∷ map (Replays j) records → Replayed sites keep i before later
       earlier e f g =
@@ -461,13 +419,12 @@ module _ (sites : ℕ) (keep : ℕ → ℕ) (j : ℕ) (moments : List Moment) (r
       after (z ∷ e) f g =
           let h : z ≡ Restarts j = cc in
           let k : map (Replays j) records ≡ e ++ later = cc in
-          let w = split_map (Replays j) records e later k in
+          let w = split_map records e k in
           subst (λ l. Replayed sites keep i l later) (sym (f ∙ (λ n. moments ++ h n ∷ w.3 n)))
-          (while_read i w.0 w.1 later w.2 (λ k fields more q. no_new j w.1 k fields (sym w.4 ∙ q)))
+          (while_read i w.0 w.1 w.2 (λ k fields more q. no_new j w.1 (sym w.4 ∙ q)))
 
   still_carried : CarriedWithRestarts sites keep (restarted_on j records moments)
-  still_carried before later i fields p e is = ⊎_elim (λ k. earlier k.0 k.1 k.2) (λ k. after k.0 k.2)
-      (split_append moments (Restarts j ∷ map (Replays j) records) before (Reads i fields ∷ later) e)
+  still_carried before later i fields p e is = ⊎_elim (λ k. earlier k.0 k.1 k.2) (λ k. after k.0 k.2) (split_append moments before e)
     where
       earlier : (e : List Moment) → moments ≡ before ++ e → Reads i fields ∷ later ≡ e ++ Restarts j ∷ map (Replays j) records →
           WasEverSent sites keep before fields
@@ -478,8 +435,8 @@ module _ (sites : ℕ) (keep : ℕ → ℕ) (j : ℕ) (moments : List Moment) (r
       after [] g = absurd cc
       after (z ∷ e) g =
           let k : map (Replays j) records ≡ e ++ Reads i fields ∷ later = cc in
-          let w = split_map (Replays j) records e (Reads i fields ∷ later) k in
-          no_new j w.1 i fields (sym w.4)
+          let w = split_map records e k in
+          no_new j w.1 (sym w.4)
 
 pub recordings_replay : RecordingsReplay
 recordings_replay sites j keep moments records replayed carried short =

@@ -1,74 +1,149 @@
--- The records that a fresh site is given are read as the inputs that rebuild it.
-use Rattle.std.proofs.Common.{◌≡◌, ◌∙◌, ℕ, ◌+◌, ◌≤◌, ◌<◌, Bool, true, false, cond, Option, Some, None, List, [], ◌∷◌, ◌++◌, length, refl, sym, ap, subst, inl}
-use Rattle.std.proofs.Common.{inr, ⊎_elim, arith}
-use Rattle.std.specs.Prelude.{⊤, ◌==◌, IsSome, is_some, ◌^◌, filter, map, Result, Ok, Err}
-use Rattle.std.specs.Option.{option_map_or, option_or}
-use Rattle.std.proofs.lemmas.Bool.{eqb-true, true≢false}
-use Rattle.rubis_schema.specs.Ids.{IsId}
-use Rattle.rubis_schema.specs.Keys.{same_id}
-use Rattle.rubis_schema.specs.KeyLaws.{Decides-same_id}
-use Rattle.rubis_schema.specs.declared.ids.Id.{Id}
-use Rattle.rubis_schema.specs.declared.limits.TheConstants.{COUNTED_MAX}
-use Rattle.rubis_schema.specs.declared.refusals.Refusal.{Refusal}
-use Rattle.rubis_schema.specs.declared.row_keys.RowKey.TheVariants as key
-use Rattle.rubis_shadow.specs.Shadows.{InLimits, is_red}
-use Rattle.rubis_schema.specs.declared.offers.NewItem.{NewItem}
-use Rattle.rubis_shadow.specs.declared.shadows.Shadow.{Shadow}
-use Rattle.rubis_shadow.specs.declared.shadows.Shadow.TheVariants as shadow
-use Rattle.rubis_generate.specs.Decision.{decision}
-use Rattle.rubis_message.specs.Grammar.{IsPacket, IsRequest, packet_record, request_record}
-use Rattle.rubis_message.specs.Message.{Message}
-use Rattle.rubis_message.specs.Readings.{packet_of, request_of}
-use Rattle.rubis_message.specs.declared.answers.Arrival.{Arrival}
-use Rattle.rubis_message.specs.declared.answers.Arrival.TheVariants as arrival
-use Rattle.rubis_message.specs.declared.answers.Happened.{Happened}
-use Rattle.rubis_message.specs.declared.answers.Taken.{Taken}
-use Rattle.rubis_message.specs.declared.answers.Taken.TheVariants as taken
-use Rattle.rubis_message.specs.declared.requests.Request.{Request}
-use Rattle.rubis_message.specs.declared.requests.Request.TheVariants as request
-use Rattle.rubis_message.specs.declared.tokens.Packet.{Packet}
-use Rattle.rubis_message.specs.declared.tokens.Packet.TheVariants as packet
-use Rattle.rubis_message.specs.declared.tokens.Token.{Token}
-use Rattle.rubis_message.proofs.Records.{apart, packet_is, request_is}
-use Rattle.rubis_model.specs.Answers.{arrived_rows, asked_rows, passed_rows, send_row, took_rows}
-use Rattle.rubis_model.specs.Laws.{Sent}
-use Rattle.rubis_model.specs.Log.{Core, cores}
-use Rattle.rubis_model.specs.Meaning.{as_item, item_at, when}
-use Rattle.rubis_model.specs.Processes.{site_after}
-use Rattle.rubis_model.specs.Rebuild.{Concerns, after_inputs, ask_of, inputs_before, inputs_for, inputs_to_rebuild, is_lacking, lacking, next_token, seller_in}
-use Rattle.rubis_model.specs.Rebuild.{sent_again, sent_by, sent_here, sent_on, sent_on_inputs, token_as, token_before}
-use Rattle.rubis_model.specs.RebuildRecords.{AreWritten, RecordsRebuild, input_record, is_send}
-use Rattle.rubis_model.specs.References.{IsMadeBy, Preceded}
-use Rattle.rubis_message.specs.Inputs.{input_by, input_of}
-use Rattle.rubis_message.specs.declared.inputs.Input.{Input}
-use Rattle.rubis_model.specs.Runs.{answers, input_step}
-use Rattle.rubis_message.specs.declared.inputs.Input.TheVariants.{Asked, Came, Neither}
-use Rattle.rubis_model.specs.Settle.{Has}
-use Rattle.rubis_model.specs.Site.{Place, Replica, arrived, asked, generating, opening_at, passed, rows_at, standing_of, took}
-use Rattle.rubis_model.specs.Arrivals.{after_all}
-use Rattle.rubis_model.specs.Sound.{Sound}
-use Rattle.rubis_model.specs.System.{AreEvents, Event, World, coming, happens, packet_at, place, requested, run, sending, site, start}
-use Rattle.rubis_model.specs.System.Event.{At, Deliver}
-use Rattle.rubis_model.proofs.Lists.{has_append, has_left, has_right}
+-- The records from which a lost site is made again.
+use Rattle.rubis_laws.proofs.Common.{◌≡◌, ◌∙◌, ℕ, Bool, true, false, cond, Option, Some, None, List, [], ◌∷◌, ◌++◌, refl, sym, ap, subst, inl, inr, ⊎_elim}
+use Rattle.rubis_laws.proofs.Common.{append_assoc, append-nil, map, is_red, Message, Request, Packet, Token, after_all, after_inputs, ask_of, holding}
+use Rattle.rubis_laws.proofs.Common.{inputs_before, inputs_for, inputs_to_rebuild, is_lacking, lacking, next_token, prepared, sent_again, sent_on}
+use Rattle.rubis_laws.proofs.Common.{sent_on_inputs, token_as, token_before, with_token, Input, input_step, Asked, Came, Has, Place, Replica, arrived}
+use Rattle.rubis_laws.proofs.Common.{has_append, ◌+◌, ◌≤◌, ◌<◌, length, arith, ⊤, ◌==◌, IsSome, is_some, ◌^◌, filter, Result, Ok, Err, option_map_or, option_or}
+use Rattle.rubis_laws.proofs.Common.{eqb-true, true≢false, IsId, same_id, Decides-same_id, Id, COUNTED_MAX, Refusal, InLimits, NewItem, Shadow, decision}
+use Rattle.rubis_laws.proofs.Common.{IsPacket, IsRequest, packet_record, request_record, packet_of, request_of, Arrival, Happened, Taken, packet_is, request_is}
+use Rattle.rubis_laws.proofs.Common.{arrived_rows, asked_rows, passed_rows, send_row, took_rows, Sent, Core, cores, as_item, item_at, when, site_after}
+use Rattle.rubis_laws.proofs.Common.{Concerns, seller_in, sent_by, sent_here, IsMadeBy, Preceded, input_by, input_of, answers, Neither, asked, generating}
+use Rattle.rubis_laws.proofs.Common.{opening_at, passed, rows_at, standing_of, took, Sound, AreEvents, Event, World, happens, place, requested, run, sending}
+use Rattle.rubis_laws.proofs.Common.{site, start, At, Deliver, has_right, RowKey}
+use Rattle.rubis_model.specs.Rebuild.{InputsRebuild, AreWritten, RecordsRebuild, input_record, is_send}
+use Rattle.rubis_laws.proofs.Rebuilding.Rebuilt.{filter_has, next_is, ask_in_limits, at_inside}
+use Rattle.rubis_message.proofs.Records.{apart}
 use Rattle.rubis_laws.proofs.Rows.Cores.{core_of, has_core}
-use Rattle.rubis_laws.proofs.Runs.Delivering.{coming_sent}
-use Rattle.rubis_laws.proofs.Order.Fitting.{found_at}
-use Rattle.rubis_laws.proofs.Runs.SoundSteps.{at_one, event_keeps, event_sites, start_sites, start_sound}
-use Rattle.rubis_laws.proofs.Rebuilding.AskedAgain.{ask_in_limits}
-use Rattle.rubis_laws.proofs.Rebuilding.TwoWorlds.{at_inside, filter_has}
-use Rattle.rubis_laws.proofs.Rebuilding.RebuildInputs.{inputs_rebuild}
-use Rattle.rubis_laws.proofs.Rebuilding.Rebuilt.{next_is}
+use Rattle.rubis_laws.proofs.Order.Deciding.{found_at}
+use Rattle.rubis_laws.proofs.Runs.SoundSteps.{event_keeps, event_sites, start_sites, start_sound}
 use Rattle.rubis_laws.proofs.Rebuilding.RebuiltSites.{sites_are_rebuilt}
 use Rattle.rubis_laws.proofs.Runs.EveryRun.{refers, sound_run}
 use Rattle.rubis_laws.proofs.Rows.Sets.{Member}
 use Rattle.rubis_laws.proofs.Runs.Written.{AllPackets, event_written, written_event}
+use Rattle.rubis_laws.proofs.Processes.Restarts.{same_state}
+use Rattle.rubis_laws.proofs.Runs.Delivering.{run_keeps_sent}
+
+after_append : (p : Place) (s : Replica) (xs ys : List Input) → after_inputs p s (xs ++ ys) ≡ after_inputs p (after_inputs p s xs) ys
+after_append p s [] ys = refl
+after_append p s (x ∷ xs) ys = after_append p (input_step p s 1 x).0 xs ys
+
+sent_append : (p : Place) (s : Replica) (xs ys : List Input) → sent_on_inputs p s (xs ++ ys) ≡ sent_on_inputs p s xs ++ sent_on_inputs p
+    (after_inputs p s xs) ys
+sent_append p s [] ys = refl
+sent_append p s (x ∷ xs) ys = ap (λ ps. sent_on p s x ++ ps) (sent_append p (input_step p s 1 x).0 xs ys)
+    ∙ sym (append_assoc (sent_on p s x) (sent_on_inputs p (input_step p s 1 x).0 xs) (sent_on_inputs p (after_inputs p (input_step p s 1 x).0 xs) ys))
+
+-- they lead to a state, and nothing is sent
+abbrev LeadTo : Place → Replica → List Input → Replica → Type 0
+LeadTo p s xs t = (after_inputs p s xs ≡ t) × (sent_on_inputs p s xs ≡ [])
+
+lead_on : (p : Place) (s : Replica) {t u : Replica} (xs ys : List Input) → LeadTo p s xs t → LeadTo p t ys u → LeadTo p s (xs ++ ys) u
+lead_on p s xs ys a b = (
+  after_append p s xs ys ∙ ap (λ r. after_inputs p r ys) a.0 ∙ b.0,
+  sent_append p s xs ys ∙ ap (λ ps. ps ++ sent_on_inputs p (after_inputs p s xs) ys) a.1 ∙ ap (λ r. sent_on_inputs p r ys) a.0 ∙ b.1,
+)
+
+messages_lead : (p : Place) (s : Replica) (us : List Message) → LeadTo p s (map (λ u. Came (Packet.Msg u)) us) (after_all p s us)
+messages_lead p s [] = (refl, refl)
+messages_lead p s (u ∷ us) = messages_lead p (arrived p s u).0 us
+
+token_leads : (p : Place) (s : Replica) (o : Option Token) → LeadTo p s (token_as o) (with_token p s o)
+token_leads p s None = (refl, refl)
+token_leads p s (Some t) = (refl, refl)
+
+either_leads : (p : Place) (s : Replica) {t u : Replica} (xs ys : List Input) (b : Bool) → LeadTo p s xs t → LeadTo p s ys u → LeadTo p s (cond b xs ys)
+    (cond b t u)
+either_leads p s xs ys true a c = a
+either_leads p s xs ys false a c = c
+
+holding_leads : (p : Place) (tokens : List Token) (s : Replica) → LeadTo p s (token_before p tokens s) (holding p tokens s)
+holding_leads p tokens s = either_leads p s [] _ _ (refl, refl) (token_leads p s _)
+
+prepared_leads : (p : Place) (tokens : List Token) (all : List Message) (s : Replica) (m : Message)
+    → LeadTo p s (inputs_before p tokens all s m) (prepared p tokens all s m)
+prepared_leads p tokens all s m =
+    let g = after_all p s (lacking p.site s.log m all) in
+    lead_on p s (map (λ u. Came (Packet.Msg u)) (lacking p.site s.log m all))
+    (cond (is_red m.shadow) (token_before p tokens g) []) (messages_lead p s (lacking p.site s.log m all))
+    (either_leads p g (token_before p tokens g) [] (is_red m.shadow) (holding_leads p tokens g) (refl, refl))
+
+-- then one more
+one_more : (p : Place) (s : Replica) {t : Replica} (xs : List Input) (x : Input) → LeadTo p s xs t
+    → (after_inputs p s (xs ++ x ∷ []) ≡ (input_step p t 1 x).0) × (sent_on_inputs p s (xs ++ x ∷ []) ≡ sent_on p t x)
+one_more p s xs x a = (
+  after_append p s xs (x ∷ []) ∙ ap (λ r. (input_step p r 1 x).0) a.0,
+  sent_append p s xs (x ∷ []) ∙ ap (λ ps. ps ++ sent_on_inputs p (after_inputs p s xs) (x ∷ [])) a.1 ∙ append-nil (sent_on p (after_inputs p s xs) x)
+      ∙ ap (λ r. sent_on p r x) a.0,
+)
+
+inputs_are : (p : Place) (tokens : List Token) (all : List Message) (s : Replica) (x : Packet)
+    → (after_inputs p s (inputs_for p tokens all s x) ≡ (sent_again p tokens all s x).0) ×
+    (sent_on_inputs p s (inputs_for p tokens all s x) ≡ (sent_again p tokens all s x).1)
+inputs_are p tokens all s (Packet.Msg m) =
+    one_more p s (inputs_before p tokens all s m) (Asked (Request.Ask (ask_of all m.shadow))) (prepared_leads p tokens all s m)
+inputs_are p tokens all s (Packet.Token t) = one_more p s (token_before p tokens s) (Asked (Request.Pass t.to)) (holding_leads p tokens s)
+
+-- ---- each packet was sent
+in_map : (x : Packet) (us : List Message) → Has (Came x) (map (λ u. Came (Packet.Msg u)) us) → (u : Message) × Has u us × (x ≡ Packet.Msg u)
+in_map x [] h = absurd h
+in_map x (u ∷ us) (inl e) = (u, inl refl, cc)
+in_map x (u ∷ us) (inr h) = let k = in_map x us h in (k.0, inr k.1, k.2)
+
+came_same : (x : Packet) (t : Token) → Came x ≡ Came (Packet.Token t) → Packet.Token t ≡ x
+came_same x t q = cc
+
+in_either : (x : Input) (xs ys : List Input) (b : Bool) (P : Type 0) → (Has x xs → P) → (Has x ys → P) → Has x (cond b xs ys) → P
+in_either x xs ys true P f g h = f h
+in_either x xs ys false P f g h = g h
+
+not_asked : (x : Packet) (r : Request) → Has (Came x) (Asked r ∷ []) → ⊥
+not_asked x r (inl e) = absurd (cc)
+not_asked x r (inr h) = h
+
+module _ (p : Place) (sent : List Packet) (all : List Message) (tokens : List Token) (were : (m : Message) → Has m all → Has (Packet.Msg m) sent)
+    (told : (t : Token) → Has t tokens → Has (Packet.Token t) sent) where
+  token_was : (last : ℕ) (x : Packet) (o : Option Token) → next_token p.site last tokens ≡ o → Has (Came x) (token_as o) → Has x sent
+  token_was last x None e h = absurd h
+  token_was last x (Some t) e (inl q) = subst (λ y. Has y sent) (came_same x t q) (told t (next_is p.site {last = last} tokens e).0)
+  token_was last x (Some t) e (inr q) = absurd q
+
+  before_was : (s : Replica) (x : Packet) → Has (Came x) (token_before p tokens s) → Has x sent
+  before_was s x = in_either _ [] _ _ _ (λ h. absurd h) (token_was _ x _ refl)
+
+  inputs_were : (s : Replica) (y : Packet) (x : Packet) → Has (Came x) (inputs_for p tokens all s y) → Has x sent
+  inputs_were s (Packet.Msg m) x h = ⊎_elim (λ k. ⊎_elim (λ q. let u = in_map x _ q in
+      subst (λ y. Has y sent) (sym u.2) (were u.0 (filter_has (is_lacking p.site s.log m) u.0 all u.1).0))
+      (in_either (Came x) (token_before p tokens (after_all p s (lacking p.site s.log m all))) [] (is_red m.shadow) (Has x sent)
+      (before_was (after_all p s (lacking p.site s.log m all)) x) (λ q. absurd q))
+      (has_append (Came x) (map (λ u. Came (Packet.Msg u)) (lacking p.site s.log m all))
+      (cond (is_red m.shadow) (token_before p tokens (after_all p s (lacking p.site s.log m all))) []) k))
+      (λ k. absurd (not_asked x (Request.Ask (ask_of all m.shadow)) k))
+      (has_append (Came x) (inputs_before p tokens all s m) (Asked (Request.Ask (ask_of all m.shadow)) ∷ []) h)
+  inputs_were s (Packet.Token t) x h = ⊎_elim (λ k. before_was s x k) (λ k. absurd (not_asked x _ k)) (has_append _ _ _ h)
+
+pub inputs_rebuild : InputsRebuild
+inputs_rebuild p sent all tokens s [] were told = (refl, refl, λ x h. absurd h)
+inputs_rebuild p sent all tokens s (y ∷ packets) were told =
+    let a = inputs_are p tokens all s y in
+    let t = (sent_again p tokens all s y).0 in
+    let k = inputs_rebuild p sent all tokens t packets were told in (
+      after_append p s (inputs_for p tokens all s y) (inputs_to_rebuild p tokens all t packets)
+          ∙ ap (λ r. after_inputs p r (inputs_to_rebuild p tokens all t packets)) a.0 ∙ k.0,
+      sent_append p s (inputs_for p tokens all s y) (inputs_to_rebuild p tokens all t packets)
+          ∙ ap (λ ps. ps ++ sent_on_inputs p (after_inputs p s (inputs_for p tokens all s y)) (inputs_to_rebuild p tokens all t packets)) a.1
+          ∙ ap (λ r. (sent_again p tokens all s y).1 ++ sent_on_inputs p r (inputs_to_rebuild p tokens all t packets)) a.0
+          ∙ ap (λ ps. (sent_again p tokens all s y).1 ++ ps) k.1,
+      λ x h. ⊎_elim (inputs_were p sent all _ were told s y x) (k.2 x) (has_append _ _ _ h),
+    )
+
+-- ---- the records that a fresh site is given are read as the inputs that rebuild it
 
 -- ---- inputs that are read back, and no listings
 
 abbrev IsGiven : ℕ → Input → Type 0
-IsGiven sites (Asked (request.Ask a)) = IsRequest sites (request.Ask a)
-IsGiven sites (Asked (request.Pass to)) = IsRequest sites (request.Pass to)
-IsGiven sites (Asked (request.List l)) = ⊥
+IsGiven sites (Asked (Request.Ask a)) = IsRequest sites (Request.Ask a)
+IsGiven sites (Asked (Request.Pass to)) = IsRequest sites (Request.Pass to)
+IsGiven sites (Asked (Request.List l)) = ⊥
 IsGiven sites (Came x) = IsPacket sites x
 IsGiven sites Neither = ⊥
 
@@ -88,8 +163,8 @@ module _ (sites : ℕ) (top : sites ≤ COUNTED_MAX) where
   small : sites < 2 ^ 8
   small = omega (arith, top)
 
-  asked_back : (r : Request) → IsRequest sites r → input_of sites (request_record r) ≡ Asked r
-  asked_back r h = ap (λ o. input_by o (packet_of sites (request_record r))) ((request_is sites small (request_record r) r).1 (h, refl))
+  asked_back : {r : Request} → IsRequest sites r → input_of sites (request_record r) ≡ Asked r
+  asked_back {r} h = ap (λ o. input_by o (packet_of sites (request_record r))) ((request_is sites small (request_record r) r).1 (h, refl))
 
   came_back : (x : Packet) → IsPacket sites x → input_of sites (packet_record x) ≡ Came x
   came_back x h = by (request_of sites (packet_record x)) refl
@@ -99,9 +174,9 @@ module _ (sites : ℕ) (top : sites ≤ COUNTED_MAX) where
       by (Some r) e = absurd (apart r x (sym ((request_is sites small (packet_record x) r).0 e).1))
 
   read_back : (x : Input) → IsGiven sites x → input_of sites (input_record x) ≡ x
-  read_back (Asked (request.Ask a)) h = asked_back (request.Ask a) h
-  read_back (Asked (request.Pass to)) h = asked_back (request.Pass to) h
-  read_back (Asked (request.List l)) h = absurd h
+  read_back (Asked (Request.Ask a)) h = asked_back h
+  read_back (Asked (Request.Pass to)) h = asked_back h
+  read_back (Asked (Request.List l)) h = absurd h
   read_back (Came x) h = came_back x h
   read_back Neither h = absurd h
 
@@ -110,15 +185,6 @@ module _ (sites : ℕ) (top : sites ≤ COUNTED_MAX) where
   all_read_back (x ∷ xs) h = ap (λ y. y ∷ map (input_of sites) (map input_record xs)) (read_back x h.0) ∙ ap (λ ys. x ∷ ys) (all_read_back xs h.1)
 
 -- ---- what a site makes of them
-
--- the number of a record is only for its answer
-same_state : (p : Place) (s : Replica) (k : ℕ) (x : Input) → (input_step p s k x).0 ≡ (input_step p s 1 x).0
-same_state p s k (Asked (request.Ask a)) = refl
-same_state p s k (Asked (request.Pass to)) = refl
-same_state p s k (Asked (request.List l)) = refl
-same_state p s k (Came (packet.Msg m)) = refl
-same_state p s k (Came (packet.Token t)) = refl
-same_state p s k Neither = refl
 
 -- the rows that send these packets
 abbrev send_rows : List Packet → List (List (List ℕ))
@@ -137,103 +203,83 @@ sends_append (x ∷ xs) ys = at (is_send x) (sends_append xs ys)
     at true e = ap (λ rows. x ∷ rows) e
     at false e = e
 
-asked_sends : (k : ℕ) (r : Result Message Refusal) → filter is_send (asked_rows k r) ≡ send_rows (sending packet.Msg r)
+asked_sends : (k : ℕ) (r : Result Message Refusal) → filter is_send (asked_rows k r) ≡ send_rows (sending Packet.Msg r)
 asked_sends k (Ok m) = refl
 asked_sends k (Err r) = refl
 
-passed_sends : (k : ℕ) (r : Result Token Refusal) → filter is_send (passed_rows k r) ≡ send_rows (sending packet.Token r)
+passed_sends : (k : ℕ) (r : Result Token Refusal) → filter is_send (passed_rows k r) ≡ send_rows (sending Packet.Token r)
 passed_sends k (Ok t) = refl
 passed_sends k (Err r) = refl
 
 arrived_sends : (k : ℕ) (r : Result Arrival Refusal) → filter is_send (arrived_rows k r) ≡ []
-arrived_sends k (Ok (arrival.Released n)) = refl
-arrived_sends k (Ok arrival.Held) = refl
-arrived_sends k (Ok arrival.Repeat) = refl
+arrived_sends k (Ok (Arrival.Released n)) = refl
+arrived_sends k (Ok Arrival.Held) = refl
+arrived_sends k (Ok Arrival.Repeat) = refl
 arrived_sends k (Err r) = refl
 
 took_sends : (k : ℕ) (r : Result Taken Refusal) → filter is_send (took_rows k r) ≡ []
-took_sends k (Ok taken.Holding) = refl
-took_sends k (Ok taken.Repeat) = refl
+took_sends k (Ok Taken.Holding) = refl
+took_sends k (Ok Taken.Repeat) = refl
 took_sends k (Err r) = refl
 
 step_sends : (p : Place) (s : Replica) (k : ℕ) (x : Input) → IsGiven p.sites x → filter is_send (input_step p s k x).1 ≡ send_rows (sent_on p s x)
-step_sends p s k (Asked (request.Ask a)) h = asked_sends k (asked p s a).1
-step_sends p s k (Asked (request.Pass to)) h = passed_sends k (passed p s to).1
-step_sends p s k (Asked (request.List l)) h = absurd h
-step_sends p s k (Came (packet.Msg m)) h = arrived_sends k (arrived p s m).1
-step_sends p s k (Came (packet.Token t)) h = took_sends k (took p s t).1
+step_sends p s k (Asked (Request.Ask a)) h = asked_sends k (asked p s a).1
+step_sends p s k (Asked (Request.Pass to)) h = passed_sends k (passed p s to).1
+step_sends p s k (Asked (Request.List l)) h = absurd h
+step_sends p s k (Came (Packet.Msg m)) h = arrived_sends k (arrived p s m).1
+step_sends p s k (Came (Packet.Token t)) h = took_sends k (took p s t).1
 step_sends p s k Neither h = absurd h
 
 module _ (p : Place) (top : p.sites ≤ COUNTED_MAX) where
   after_records : (xs : List Input) (s : Replica) (k : ℕ) → AreGiven p.sites xs → site_after p s k (map input_record xs) ≡ after_inputs p s xs
   after_records [] s k h = refl
-  after_records (x ∷ xs) s k h =
-      ap (λ y. site_after p (input_step p s k y).0 (k + 1) (map input_record xs)) (read_back p.sites top x h.0)
-      ∙ ap (λ r. site_after p r (k + 1) (map input_record xs)) (same_state p s k x)
-      ∙ after_records xs (input_step p s 1 x).0 (k + 1) h.1
+  after_records (x ∷ xs) s k h = ap (λ y. site_after p (input_step p s k y).0 (k + 1) (map input_record xs)) (read_back _ top x h.0) ∙ ap
+      (λ r. site_after p r (k + 1) (map input_record xs)) (same_state p s k 1 x) ∙ after_records xs _ _ h.1
 
   sent_by_records : (xs : List Input) (s : Replica) (k : ℕ) → AreGiven p.sites xs → filter is_send (answers p s k (map input_record xs))
       ≡ send_rows (sent_on_inputs p s xs)
   unfolding answers
   sent_by_records [] s k h = refl
-  sent_by_records (x ∷ xs) s k h =
-      ap (λ y. filter is_send ((input_step p s k y).1 ++ answers p (input_step p s k y).0 (k + 1) (map input_record xs))) (read_back p.sites top x h.0)
-      ∙ sends_append (input_step p s k x).1 (answers p (input_step p s k x).0 (k + 1) (map input_record xs))
-      ∙ ap (λ rows. rows ++ filter is_send (answers p (input_step p s k x).0 (k + 1) (map input_record xs))) (step_sends p s k x h.0)
-      ∙ ap (λ r. send_rows (sent_on p s x) ++ filter is_send (answers p r (k + 1) (map input_record xs))) (same_state p s k x)
-      ∙ ap (λ rows. send_rows (sent_on p s x) ++ rows) (sent_by_records xs (input_step p s 1 x).0 (k + 1) h.1)
-      ∙ sym (send_rows_append (sent_on p s x) (sent_on_inputs p (input_step p s 1 x).0 xs))
+  sent_by_records (x ∷ xs) s k h = ap (λ y. filter is_send ((input_step p s k y).1 ++ answers p (input_step p s k y).0 (k + 1) (map input_record xs)))
+      (read_back _ top x h.0) ∙ sends_append (input_step p s k x).1 (answers p (input_step p s k x).0 (k + 1) (map input_record xs)) ∙ ap
+      (λ rows. rows ++ filter is_send (answers p (input_step p s k x).0 (k + 1) (map input_record xs))) (step_sends p s k x h.0) ∙ ap
+      (λ r. send_rows (sent_on p s x) ++ filter is_send (answers p r (k + 1) (map input_record xs))) (same_state p s k 1 x) ∙ ap
+      (λ rows. send_rows (sent_on p s x) ++ rows) (sent_by_records xs _ _ h.1) ∙ sym (send_rows_append _ _)
 
 -- ---- what a site sends in a run stands there in the end, and its messages are its own
 
-requested_keeps : (keep : ℕ) (w : World) (i : ℕ) (q : Request) (x : Packet) → Has x w.sent → Has x (requested keep w i q).0.sent
-requested_keeps keep w i (request.Ask a) x h = has_left x w.sent _ h
-requested_keeps keep w i (request.Pass to) x h = has_left x w.sent _ h
-requested_keeps keep w i (request.List l) x h = h
-
-event_keeps_sent : (keep : ℕ) (w : World) (e : Event) (x : Packet) → Has x w.sent → Has x (happens keep w e).0.sent
-event_keeps_sent keep w (At i q) x h = at_one (λ v. Has x v.sent) w i (requested keep w i q) h (λ _. requested_keeps keep w i q x h)
-event_keeps_sent keep w (Deliver i k) x h =
-    at_one (λ v. Has x v.sent) w i (coming keep w i (packet_at w.sent k)) h (λ _. subst (Has x) (sym (coming_sent keep w i (packet_at w.sent k))) h)
-
-run_keeps_sent : (keep : ℕ) (es : List Event) (w : World) (x : Packet) → Has x w.sent → Has x (run keep es w).sent
-run_keeps_sent keep [] w x h = h
-run_keeps_sent keep (e ∷ es) w x h = run_keeps_sent keep es (happens keep w e).0 x (event_keeps_sent keep w e x h)
-
 -- a token, or a message of site i
 abbrev IsOf : ℕ → Packet → Type 0
-IsOf i (packet.Msg m) = m.stamp.id.site ≡ i
-IsOf i (packet.Token t) = ⊤
+IsOf i (Packet.Msg m) = m.stamp.id.site ≡ i
+IsOf i (Packet.Token t) = ⊤
 
-message_of : (p : Place) (s : Replica) (r : Result Shadow Refusal) (x : Packet) → Has x (sending packet.Msg (generating p s r).1) → IsOf p.site x
+message_of : (p : Place) (s : Replica) (r : Result Shadow Refusal) (x : Packet) → Has x (sending Packet.Msg (generating p s r).1) → IsOf p.site x
 message_of p s (Ok y) x (inl e) = subst (IsOf p.site) (sym e) refl
 message_of p s (Ok y) x (inr h) = absurd h
 message_of p s (Err r) x h = absurd h
 
-token_of : (i : ℕ) (r : Result Token Refusal) (x : Packet) → Has x (sending packet.Token r) → IsOf i x
+token_of : (i : ℕ) (r : Result Token Refusal) (x : Packet) → Has x (sending Packet.Token r) → IsOf i x
 token_of i (Ok t) x (inl e) = subst (IsOf i) (sym e) tt
 token_of i (Ok t) x (inr h) = absurd h
 token_of i (Err r) x h = absurd h
 
 here_of : (keep : ℕ) (w : World) (i : ℕ) (q : Request) (x : Packet) → Has x (sent_here keep w i q) → IsOf i x
-here_of keep w i (request.Ask a) x h = message_of (place keep w i) (site w i) (decision (rows_at (site w i).log) (standing_of keep (site w i)) a) x h
-here_of keep w i (request.Pass to) x h = token_of i (passed (place keep w i) (site w i) to).1 x h
-here_of keep w i (request.List l) x h = absurd h
+here_of keep w i (Request.Ask a) x h = message_of (place keep w i) (site w i) (decision (rows_at (site w i).log) (standing_of keep (site w i)) a) x h
+here_of keep w i (Request.Pass to) x h = token_of i (passed (place keep w i) (site w i) to).1 x h
+here_of keep w i (Request.List l) x h = absurd h
 
 here_sent : (keep : ℕ) (w : World) (i : ℕ) (q : Request) (x : Packet) → Has x (sent_here keep w i q) → Has x (requested keep w i q).0.sent
-here_sent keep w i (request.Ask a) x h = has_right x w.sent _ h
-here_sent keep w i (request.Pass to) x h = has_right x w.sent _ h
-here_sent keep w i (request.List l) x h = absurd h
+here_sent keep w i (Request.Ask a) x h = has_right x w.sent _ h
+here_sent keep w i (Request.Pass to) x h = has_right x w.sent _ h
+here_sent keep w i (Request.List l) x h = absurd h
 
 event_sends : (keep : ℕ) (w : World) (i : ℕ) (q : Request) (x : Packet) → i < length w.sites → Has x (sent_here keep w i q)
     → Has x (happens keep w (At i q)).0.sent
-event_sends keep w i q x l h =
-    subst (λ (step : World × Result Happened Refusal). Has x step.0.sent) (sym (at_inside w i (requested keep w i q) l)) (here_sent keep w i q x h)
+event_sends keep w i q x l h = subst (λ (step : World × Result Happened Refusal). Has x step.0.sent) (sym (at_inside w i _ l)) (here_sent keep w i q x h)
 
 sent_in_run : (keep i : ℕ) (es : List Event) (w : World) (x : Packet) → i < length w.sites → Has x (sent_by i keep es w) → Has x (run keep es w).sent × IsOf i x
 sent_in_run keep i [] w x l h = absurd h
-sent_in_run keep i (Deliver j k ∷ es) w x l h =
-    sent_in_run keep i es (happens keep w (Deliver j k)).0 x (subst (λ n. i < n) (sym (event_sites keep w (Deliver j k))) l) h
+sent_in_run keep i (Deliver j k ∷ es) w x l h = sent_in_run keep i es _ x (subst (λ n. i < n) (sym (event_sites keep w (Deliver j k))) l) h
 sent_in_run keep i (At j q ∷ es) w x l h =
     let v = (happens keep w (At j q)).0 in
     ⊎_elim (at (j == i) refl) (λ k. sent_in_run keep i es v x (subst (λ n. i < n) (sym (event_sites keep w (At j q))) l) k)
@@ -277,7 +323,7 @@ item_there {j} (y ∷ a) c h i f e = go (same_id j y.id) refl (as_item y.shadow)
     go false q o r ih (inr l) = ih l ((λ t. option_or (when (sym q t) (as_item y.shadow)) (item_at j a)) ∙ e)
 
 item_seller : (sites : ℕ) (x : Shadow) {n : NewItem} → as_item x ≡ Some n → InLimits sites x → IsId sites n.seller
-item_seller sites (shadow.Item k) {n} e h = subst (λ (z : NewItem). IsId sites z.seller) (let p : k ≡ n = cc in p) h.seller
+item_seller sites (Shadow.Item k) {n} e h = subst (λ (z : NewItem). IsId sites z.seller) (let p : k ≡ n = cc in p) h.seller
 item_seller sites x e h = absurd cc
 
 -- ---- the ask of each message can be said
@@ -285,9 +331,9 @@ item_seller sites x e h = absurd cc
 module _ (n keep i : ℕ) (few : keep ≤ 1000000) (w : World) (s : Sound w) (packets : AllPackets n w.sent) (all : List Message)
     (within : (m : Message) → Has m all → Sent w m) (whole : (m : Message) → Sent w m → Concerns i w m → Has m all) where
   limits : (m : Message) → Sent w m → InLimits n m.shadow
-  limits m h = let k = packets (packet.Msg m) h in subst (λ z. InLimits z m.shadow) k.1 k.0.shadow
+  limits m h = let k = packets (Packet.Msg m) h in subst (λ z. InLimits z m.shadow) k.1 k.0.shadow
 
-  seller_is : (v : Message) → Sent w v → v.stamp.id.site ≡ i → (j : Id) → Preceded (Sent w) v (IsMadeBy (key.Item j)) → IsId n (seller_in all j)
+  seller_is : (v : Message) → Sent w v → v.stamp.id.site ≡ i → (j : Id) → Preceded (Sent w) v (IsMadeBy (RowKey.Item j)) → IsId n (seller_in all j)
   seller_is v b o j p = at (item_at j (cores all)) refl
     where
       at : (k : Option NewItem) → item_at j (cores all) ≡ k → IsId n (option_map_or (λ (n : NewItem). n.seller) k (record { site = 0; seq = 0 }))
@@ -297,37 +343,34 @@ module _ (n keep i : ℕ) (few : keep ≤ 1000000) (w : World) (s : Sound w) (pa
           let u = core_of f.0 all f.1 in
           item_seller n u.0.shadow (ap (λ (c : Core). as_item c.shadow) u.2 ∙ f.3) (limits u.0 (within u.0 u.1))
 
-  can_ask : (v : Message) → Sent w v → v.stamp.id.site ≡ i → IsRequest n (request.Ask (ask_of all v.shadow))
-  can_ask v b o = ask_in_limits n all (λ k. Preceded (Sent w) v (IsMadeBy k)) (seller_is v b o) v.shadow (limits v b) (packets (packet.Msg v) b).2
-      (refers w s v b).0
+  can_ask : (v : Message) → Sent w v → v.stamp.id.site ≡ i → IsRequest n (Request.Ask (ask_of all v.shadow))
+  can_ask v b o = ask_in_limits all (λ k. Preceded (Sent w) v (IsMadeBy k)) (seller_is v b o) _ (limits v b) (packets (Packet.Msg v) b).2 (refers w s v b).0
 
   -- ---- and so each input
-  module _ (top : n ≤ COUNTED_MAX) (tokens : List Token) (told : (t : Token) → Has t tokens → Has (packet.Token t) w.sent) where
+  module _ (top : n ≤ COUNTED_MAX) (tokens : List Token) (told : (t : Token) → Has t tokens → Has (Packet.Token t) w.sent) where
     abbrev here : Place
     here = record { site = i; sites = n; keep = keep }
 
-    messages_given : (us : List Message) → ((u : Message) → Has u us → Sent w u) → AreGiven n (map (λ u. Came (packet.Msg u)) us)
+    messages_given : (us : List Message) → ((u : Message) → Has u us → Sent w u) → AreGiven n (map (λ u. Came (Packet.Msg u)) us)
     messages_given [] h = tt
-    messages_given (u ∷ us) h = (packets (packet.Msg u) (h u (inl refl)), messages_given us (λ x k. h x (inr k)))
+    messages_given (u ∷ us) h = (packets (Packet.Msg u) (h u (inl refl)), messages_given us (λ x k. h x (inr k)))
 
     token_given : (last : ℕ) (o : Option Token) → next_token i last tokens ≡ o → AreGiven n (token_as o)
     token_given last None e = tt
-    token_given last (Some t) e = (packets (packet.Token t) (told t (next_is i last tokens e).0), tt)
+    token_given last (Some t) e = (packets (Packet.Token t) (told t (next_is i {last = last} tokens e).0), tt)
 
     before_given : (r : Replica) → AreGiven n (token_before here tokens r)
     before_given r = given_either n (is_some r.held) [] (token_as (next_token i r.last tokens)) tt (token_given r.last (next_token i r.last tokens) refl)
 
     for_given : (r : Replica) (x : Packet) → Has x w.sent → IsOf i x → AreGiven n (inputs_for here tokens all r x)
-    for_given r (packet.Msg m) h o =
+    for_given r (Packet.Msg m) h o =
         let us = lacking i r.log m all in
-        given_append n (inputs_before here tokens all r m) (Asked (request.Ask (ask_of all m.shadow)) ∷ [])
-        (given_append n (map (λ u. Came (packet.Msg u)) us) (cond (is_red m.shadow) (token_before here tokens (after_all here r us)) [])
+        given_append n (inputs_before here tokens all r m) (Asked (Request.Ask (ask_of all m.shadow)) ∷ [])
+        (given_append n (map (λ u. Came (Packet.Msg u)) us) (cond (is_red m.shadow) (token_before here tokens (after_all here r us)) [])
         (messages_given us (λ u k. within u (filter_has (is_lacking i r.log m) u all k).0))
         (given_either n (is_red m.shadow) (token_before here tokens (after_all here r us)) [] (before_given (after_all here r us)) tt))
         (can_ask m h o, tt)
-    for_given r (packet.Token t) h o =
-        given_append n (token_before here tokens r) (Asked (request.Pass t.to) ∷ []) (before_given r)
-        (let l = (packets (packet.Token t) h).to in omega (arith, l, top), tt)
+    for_given r (Packet.Token t) h o = given_append n _ _ (before_given r) (let l = (packets (Packet.Token t) h).to in omega (arith, l, top), tt)
 
     all_given : (r : Replica) (xs : List Packet) → ((x : Packet) → Has x xs → Has x w.sent × IsOf i x) → AreGiven n (inputs_to_rebuild here tokens all r xs)
     all_given r [] h = tt
@@ -342,10 +385,9 @@ records_rebuild n keep i events all tokens top few inside are within whole told 
     let sent = sent_by i keep events (start n) in
     let some : 1 ≤ n = omega (arith, inside) in
     let count = start_sites n in
-    let s : Sound w = sound_run n keep events some few (are_events n events are) in
+    let s : Sound w = sound_run events some few (are_events n events are) in
     let packets : AllPackets n w.sent = subst (λ k. AllPackets k w.sent) count
-    (run_written keep few events (start n) (omega (arith, count, top)) (subst (λ k. AreWritten k events) (sym count) are) (start_sound n some)
-    (λ x h. absurd h)) in
+    (run_written keep few _ _ (omega (arith, count, top)) (subst (λ k. AreWritten k events) (sym count) are) (start_sound n some) (λ x h. absurd h)) in
     let inputs = inputs_to_rebuild p tokens all (opening_at i) sent in
     let given : AreGiven n inputs = all_given n keep i few w s packets all within whole top tokens told (opening_at i) sent
     (λ x h. sent_in_run keep i events (start n) x (subst (λ k. i < k) (sym count) inside) h) in

@@ -1,26 +1,11 @@
 -- What every checked log keeps: sums within the types, nothing said of a row that isn't there, red numbers that rise.
-use Rattle.std.proofs.Common.{ℕ, ◌≡◌, ◌+◌, ◌*◌, ◌≤◌, ◌<◌, List, [], ◌∷◌, ◌++◌, length, Bool, true, false, cond, refl, sym, ap, ◌∙◌, subst, arith, Option, Some}
-use Rattle.std.proofs.Common.{None, length-append}
-use Rattle.std.specs.Prelude.{ℤ, pos, ◌+ℤ◌, ◌&&◌, IfSome, unsigned_abs}
-use Rattle.std.specs.Option.{option_or}
-use Rattle.std.proofs.lemmas.Int.{ints}
-use Rattle.rubis_schema.specs.declared.ids.Id.{Id}
+use Rattle.rubis_laws.proofs.Common.{ℕ, ◌≡◌, ◌+◌, ◌*◌, ◌≤◌, ◌<◌, List, [], ◌∷◌, ◌++◌, length, Bool, true, false, cond, refl, sym, ap, ◌∙◌, subst, arith, Option}
+use Rattle.rubis_laws.proofs.Common.{Some, None, length-append, ℤ, pos, ◌+ℤ◌, ◌&&◌, IfSome, unsigned_abs, option_or, ints, Id, NewItem, NewRename, Shadow, User}
+use Rattle.rubis_laws.proofs.Common.{Item, Buy, Rename, Core, same_id, count, total, int_sum_by, choose, choice, user_at, item_at, as_user, as_item}
+use Rattle.rubis_laws.proofs.Common.{lists_item_of, bought_by, rates, rating_for, sold_of, restocked_of, bids_on, closes, when, supply, best_bid, close_of}
+use Rattle.rubis_laws.proofs.Common.{higher, earlier, later, last_rename, nick_at, renames, is_red, Follows, IsLimited, Decides-same_id, Unique}
 use Rattle.rubis_laws.proofs.Order.FitsByKind.{FitsByKind, bought_in, by_kind, nothing_of_item, nothing_of_user, rated_in, restocked_in, sold_in}
-use Rattle.rubis_laws.proofs.Rows.Heads.{Head, head_of, msg}
-use Rattle.rubis_schema.specs.declared.offers.NewItem.{NewItem}
-use Rattle.rubis_shadow.specs.Renames.{NewRename}
-use Rattle.rubis_shadow.specs.declared.shadows.Shadow.{Shadow}
-use Rattle.rubis_shadow.specs.declared.shadows.Shadow.TheVariants.{User, Item, Buy, Rename}
-use Rattle.rubis_model.specs.Log.{Core}
-use Rattle.rubis_schema.specs.Keys.{same_id}
-use Rattle.rubis_model.specs.Meaning.{count, total, int_sum_by, choose, choice, user_at, item_at, as_user, as_item, lists_item_of, bought_by, rates, rating_for}
-use Rattle.rubis_model.specs.Meaning.{sold_of, restocked_of, bids_on, closes, when, supply, best_bid, close_of, higher, earlier, later, last_rename, nick_at}
-use Rattle.rubis_model.specs.Meaning.{renames}
-use Rattle.rubis_shadow.specs.Shadows.{is_red}
-use Rattle.rubis_model.specs.Checks.{Follows, IsLimited}
-use Rattle.rubis_schema.specs.KeyLaws.{Decides-same_id}
-use Rattle.rubis_model.specs.Invariants.{Unique}
-use Rattle.rubis_laws.proofs.Rows.Pushes.{count_push, total_push, int_sum_push, choose_push, choice_not, at_id_push, at_id_push_not, none_at}
+use Rattle.rubis_laws.proofs.Rows.Sets.{Head, head_of, msg, count_push, total_push, int_sum_push, choose_push, choice_not, at_id_push, at_id_push_not, none_at}
 use Rattle.rubis_laws.proofs.Rows.Nicks.{keeps_nicks, last_push_not, nick_push_rename, nick_push_user, some_nick, unique_given, not_named}
 
 pub record NoneOfUser (u : Id) (a : List Core) : Type 0 where
@@ -132,22 +117,19 @@ user_gives {a} s k g f v =
     let none : user_at s.id a ≡ None = none_at (λ m. as_user m.shadow) s.id a f.new_id in
     nick_push_user v a s k none (g.no_user s.id none).rename
 
-red_above : {a : List Core} (s : Head) (x : Shadow) → Follows a (msg s x) → is_red x ≡ true → count is_red a < s.red
-red_above {a} s x f e = let r = f.next_red ∙ ap (λ b. cond b (count is_red a + 1) 0) e in omega (arith, r)
+red_above : {a : List Core} {s : Head} {x : Shadow} → Follows a (msg s x) → is_red x ≡ true → count is_red a < s.red
+red_above {a} f e = let r = f.next_red ∙ ap (λ b. cond b (count is_red a + 1) 0) e in omega (arith, r)
 
-pub rename_gives : {a : List Core} (s : Head) (r : NewRename) → Good a → Follows a (msg s (Rename r)) → (v : Id)
+pub rename_gives : {a : List Core} {s : Head} {r : NewRename} → Good a → Follows a (msg s (Rename r)) → (v : Id)
     → nick_at v (a ++ msg s (Rename r) ∷ []) ≡ cond (same_id v r.user) (Some r.to) (nick_at v a)
-rename_gives {a} s r g f v =
-    nick_push_rename (count is_red a) v a s r (some_nick r.user a (by_kind a (Rename r) f.fits).0) (red_above s (Rename r) f refl)
-    (g.reds later (λ m. renames v m.shadow))
+rename_gives {a} {s} {r} g f v = nick_push_rename v a s r (some_nick _ a (by_kind a _ f.fits).0) (red_above f refl) (g.reds later (λ m. renames v m.shadow))
 
-nicks_push : {a : List Core} (s : Head) (x : Shadow) → Good a → Follows a (msg s x) → Unique (λ u. nick_at u (a ++ msg s x ∷ []))
-nicks_push {a} s (User k) g f =
-    unique_given (λ u. nick_at u a) (λ u. nick_at u (a ++ msg s (User k) ∷ [])) s.id k (user_gives s k g f) g.nicks (not_named k a (by_kind a (User k) f.fits))
-nicks_push {a} s (Rename r) g f =
-    unique_given (λ u. nick_at u a) (λ u. nick_at u (a ++ msg s (Rename r) ∷ [])) r.user r.to (rename_gives s r g f) g.nicks
-    (not_named r.to a (by_kind a (Rename r) f.fits).1)
-nicks_push {a} s x g f = λ n u v p q. g.nicks n u v (sym (keeps_nicks u a (msg s x) refl) ∙ p) (sym (keeps_nicks v a (msg s x) refl) ∙ q)
+nicks_push : {a : List Core} {s : Head} (x : Shadow) → Good a → Follows a (msg s x) → Unique (λ u. nick_at u (a ++ msg s x ∷ []))
+nicks_push {a} {s} (User k) g f =
+    unique_given (λ u. nick_at u a) (λ u. nick_at u (a ++ msg s (User k) ∷ [])) s.id (user_gives s k g f) g.nicks (not_named a (by_kind a (User k) f.fits))
+nicks_push {a} {s} (Rename r) g f = unique_given (λ u. nick_at u a) (λ u. nick_at u (a ++ msg s (Rename r) ∷ [])) r.user (rename_gives g f) g.nicks
+    (not_named a (by_kind a (Rename r) f.fits).1)
+nicks_push {a} {s} x g f = λ n u v p q. g.nicks n u v (sym (keeps_nicks u a (msg s x) refl) ∙ p) (sym (keeps_nicks v a (msg s x) refl) ∙ q)
 
 -- ---- one more message
 
@@ -197,7 +179,7 @@ good_push {a} {m} g f = record {
       let l = length-append a (m ∷ []) in
       omega (arith, p, q, r, l);
   stock = stock_push (head_of m) m.shadow g (by_kind a m.shadow f.fits) f.limits;
-  nicks = nicks_push (head_of m) m.shadow g f;
+  nicks = nicks_push m.shadow g f;
   rating = λ u.
       let p = int_sum_push (λ n. rating_for u n.shadow) a m in
       let q = rated_in u m.shadow f.limits in

@@ -1,12 +1,8 @@
 -- The chosen message is one that passes and that none beats, so the order of the list doesn't matter.
-use Rattle.std.proofs.Common.{ℕ, ◌≡◌, List, [], ◌∷◌, ◌++◌, Bool, true, false, cond, refl, sym, ap, ◌∙◌, subst, arith, Option, Some, None, inl, ⊎_elim}
-use Rattle.std.specs.Prelude.{nat_lt, nat_eq, ◌&&◌, ◌||◌}
-use Rattle.std.proofs.lemmas.Bool.Decides.{nat_tests}
-use mathlib.Core.Bool.{true≢false}
-use Rattle.rubis_model.specs.Log.{Core}
-use Rattle.rubis_model.specs.Meaning.{choice, choose, earlier, later, higher, amount_of}
-use Rattle.rubis_laws.proofs.Rows.Pushes.{by_pushes, choose_push}
-use Rattle.rubis_laws.proofs.Rows.Sets.{Member, Same, member_append, member_left, member_right}
+use Rattle.std.proofs.lemmas.Bool.{le-ltb}
+use Rattle.rubis_laws.proofs.Common.{and_parts, ℕ, ◌≡◌, List, [], ◌∷◌, ◌++◌, Bool, true, false, cond, refl, sym, ap, ◌∙◌, subst, arith, Option, Some, None, inl}
+use Rattle.rubis_laws.proofs.Common.{⊎_elim, nat_lt, nat_eq, ◌&&◌, ◌||◌, nat_tests, true≢false, Core, choice, choose, earlier, later, higher, amount_of}
+use Rattle.rubis_laws.proofs.Rows.Sets.{by_pushes, choose_push, Member, Same, member_append, member_left, member_right}
 
 pub record Ranks (beats : Core → Core → Bool) : Type 0 where
   pub keeps : (n old m : Core) → beats n old ≡ false → beats m old ≡ true → beats n m ≡ false
@@ -15,11 +11,8 @@ pub record Ranks (beats : Core → Core → Bool) : Type 0 where
 lt_keeps : (n o m : ℕ) → nat_lt n o ≡ false → nat_lt m o ≡ true → nat_lt n m ≡ false
 lt_keeps n o m p q = grind (arith, nat_tests)
 
-lt_itself : (n : ℕ) → nat_lt n n ≡ false
-lt_itself n = grind (arith, nat_tests)
-
 pub earlier_ranks : Ranks earlier
-earlier_ranks = record { keeps = λ n old m. lt_keeps n.red old.red m.red; itself = λ m. lt_itself m.red }
+earlier_ranks = record { keeps = λ n old m. lt_keeps n.red old.red m.red; itself = λ m. le-ltb m.red m.red (omega arith) }
 
 abbrev above : ℕ → ℕ → ℕ → ℕ → Bool
 above a r b s = nat_lt b a || (nat_eq a b && nat_lt r s)
@@ -44,7 +37,7 @@ earlier_apart m n p q = at m.red n.red p q
     at a b p q = grind (arith, nat_tests)
 
 pub later_ranks : Ranks later
-later_ranks = record { keeps = λ n old m. gt_keeps n.red old.red m.red; itself = λ m. lt_itself m.red }
+later_ranks = record { keeps = λ n old m. gt_keeps n.red old.red m.red; itself = λ m. le-ltb m.red m.red (omega arith) }
   where
     gt_keeps : (n o m : ℕ) → nat_lt o n ≡ false → nat_lt o m ≡ true → nat_lt m n ≡ false
     gt_keeps n o m p q = grind (arith, nat_tests)
@@ -86,9 +79,9 @@ module _ {beats : Core → Core → Bool} (ranks : Ranks beats) (p : Core → Bo
   choice_is a m (Some old) ih = elim (p m && beats m old) as (λ b. (p m && beats m old) ≡ b → IsChoice beats p (a ++ m ∷ []) (cond b (Some m) (Some old))) [
     | true ↦ λ e. record {
       there = member_right a (m ∷ []) m (inl refl);
-      passes = (both _ _ e).0;
+      passes = (and_parts _ _ e).0;
       unbeaten =
-          λ n h q. last_of a m n (λ k. p k ≡ true → beats k m ≡ false) (λ l r. ranks.keeps n old m (ih.unbeaten n l r) (both _ _ e).1)
+          λ n h q. last_of a m n (λ k. p k ≡ true → beats k m ≡ false) (λ l r. ranks.keeps n old m (ih.unbeaten n l r) (and_parts _ _ e).1)
           (λ r. ranks.itself m) h q;
     }
     | false ↦ λ e. record {
@@ -98,10 +91,6 @@ module _ {beats : Core → Core → Bool} (ranks : Ranks beats) (p : Core → Bo
     }
   ] refl
     where
-      both : (x y : Bool) → (x && y) ≡ true → (x ≡ true) × (y ≡ true)
-      both true y e = (refl, e)
-      both false y e = absurd (true≢false (sym e))
-
       not_both : (x y : Bool) → x ≡ true → (x && y) ≡ false → y ≡ false
       not_both true y e f = f
       not_both false y e f = absurd (true≢false (sym e))

@@ -1,20 +1,11 @@
 -- A blue message and another one may follow a log in either order.
-use Rattle.std.proofs.Common.{ℕ, ◌≡◌, ◌+◌, List, [], ◌∷◌, ◌++◌, Bool, true, false, cond, length-append, refl, sym, ap, ◌∙◌, subst, arith, None, Some, inl, inr}
-use Rattle.std.proofs.Common.{⊎_elim, append_assoc}
-use Rattle.std.specs.Option.{option_or}
-use mathlib.Core.Bool.{true≢false}
-use Rattle.rubis_schema.specs.Keys.{same_id}
-use Rattle.rubis_schema.specs.KeyLaws.{Decides-same_id}
-use Rattle.rubis_shadow.specs.Shadows.{is_red}
-use Rattle.rubis_model.specs.Checks.{Checked, Follows, SameSet, has_id}
+use Rattle.rubis_laws.proofs.Common.{ℕ, ◌≡◌, ◌+◌, List, [], ◌∷◌, ◌++◌, Bool, true, false, cond, length-append, refl, sym, ap, ◌∙◌, subst, arith, None, Some}
+use Rattle.rubis_laws.proofs.Common.{inl, inr, ⊎_elim, append_assoc, option_or, true≢false, same_id, Decides-same_id, is_red, Checked, Follows, SameSet, has_id}
+use Rattle.rubis_laws.proofs.Common.{Core, count, when}
 use Rattle.rubis_model.specs.Commuting.{BlueMessagesCommute}
-use Rattle.rubis_model.specs.Log.{Core}
-use Rattle.rubis_model.specs.Meaning.{count, when}
 use Rattle.rubis_laws.proofs.Rows.EqualSets.{Apart, apart_push, checked_apart, equal_sets_equal_tables}
-use Rattle.rubis_laws.proofs.Order.Fitting.{fits_on}
-use Rattle.rubis_laws.proofs.Order.LogsChecked.{checked_end}
-use Rattle.rubis_laws.proofs.Rows.Pushes.{at_id_push, count_push}
-use Rattle.rubis_laws.proofs.Rows.Sets.{Member, contains_of, member_append, member_left, member_of, member_right}
+use Rattle.rubis_laws.proofs.Order.Deciding.{fits_on, checked_end}
+use Rattle.rubis_laws.proofs.Rows.Sets.{at_id_push, count_push, Member, contains_of, member_append, member_left, member_of, member_right}
 
 still_new : (log : List Core) (u v : Core) → has_id v.id log ≡ None → ¬ (u.id ≡ v.id) → has_id v.id (log ++ u ∷ []) ≡ None
 still_new log u v new other =
@@ -27,7 +18,7 @@ still_new log u v new other =
 module _ (log : List Core) (u v : Core) (checked : Checked log) (fu : Follows log u) (fv : Follows log v) (other : ¬ (u.id ≡ v.id))
     (blue : is_red u.shadow ≡ false) where
   apart : Apart log
-  apart = checked_apart log checked
+  apart = checked_apart checked
 
   -- the other one still follows after the blue one
   follows_blue : Follows (log ++ u ∷ []) v
@@ -36,7 +27,7 @@ module _ (log : List Core) (u v : Core) (checked : Checked log) (fu : Follows lo
       let same : count is_red (log ++ u ∷ []) ≡ count is_red log = omega (arith, count_push is_red log u, ap (λ b. cond {A = ℕ} b 1 0) blue) in record {
         new_id = still_new log u v fv.new_id other;
         next_red = fv.next_red ∙ ap (λ n. cond (is_red v.shadow) (n + 1) 0) (sym same);
-        fits = fits_on log (log ++ u ∷ []) (λ m h. member_left log (u ∷ []) m h) apart.ids after.ids after.reds v.shadow back fv.fits;
+        fits = fits_on log (log ++ u ∷ []) (λ m h. member_left log (u ∷ []) m h) apart.ids after.ids after.reds {x = v.shadow} back fv.fits;
         limits = fv.limits;
       }
     where
@@ -50,8 +41,7 @@ module _ (log : List Core) (u v : Core) (checked : Checked log) (fu : Follows lo
       let after = apart_push apart fv in record {
         new_id = still_new log v u fu.new_id (λ e. other (sym e));
         next_red = fu.next_red ∙ (λ i. cond (blue i) (count is_red log + 1) 0) ∙ (λ i. cond (sym blue i) (count is_red (log ++ v ∷ []) + 1) 0);
-        fits = fits_on log (log ++ v ∷ []) (λ m h. member_left log (v ∷ []) m h) apart.ids after.ids after.reds u.shadow
-            (λ e. absurd (true≢false (sym e ∙ blue))) fu.fits;
+        fits = fits_on log _ (λ m h. member_left log _ m h) apart.ids after.ids after.reds (λ e. absurd (true≢false (sym e ∙ blue))) fu.fits;
         limits = fu.limits;
       }
 
@@ -67,15 +57,14 @@ turned log u v m h = ⊎_elim (λ k. member_left log (v ∷ u ∷ []) m k)
 
 same_members : (log : List Core) (u v : Core) → SameSet (log ++ u ∷ v ∷ []) (log ++ v ∷ u ∷ [])
 same_members log u v m = (
-  (λ h. contains_of (log ++ v ∷ u ∷ []) m (turned log u v m (member_of (log ++ u ∷ v ∷ []) m h))),
-  λ h. contains_of (log ++ u ∷ v ∷ []) m (turned log v u m (member_of (log ++ v ∷ u ∷ []) m h)),
+  (λ h. contains_of (log ++ v ∷ u ∷ []) (turned log u v m (member_of (log ++ u ∷ v ∷ []) h))),
+  λ h. contains_of (log ++ u ∷ v ∷ []) (turned log v u m (member_of (log ++ v ∷ u ∷ []) h)),
 )
 
 pub blue_messages_commute : BlueMessagesCommute
 blue_messages_commute log u v checked fu fv other blue few = record {
   one = one_order log u v checked fu fv other blue;
   other = other_order log u v checked fu fv other blue;
-  tables = equal_sets_equal_tables (log ++ u ∷ v ∷ []) (log ++ v ∷ u ∷ []) (one_order log u v checked fu fv other blue)
-      (other_order log u v checked fu fv other blue)
+  tables = equal_sets_equal_tables _ _ (one_order log u v checked fu fv other blue) (other_order log u v checked fu fv other blue)
       (omega (arith, few, length-append log (u ∷ v ∷ []))) (omega (arith, few, length-append log (v ∷ u ∷ []))) (same_members log u v);
 }

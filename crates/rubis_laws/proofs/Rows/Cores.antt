@@ -1,14 +1,7 @@
 -- A list of messages and the list of their cores.
-use Rattle.std.proofs.Common.{◌≡◌, List, [], ◌∷◌, ◌++◌, refl, sym, ap, ◌∙◌, subst, inl, inr}
-use Rattle.std.specs.Prelude.{reverse}
-use Rattle.std.proofs.lemmas.List.{reverse-append}
-use Rattle.rubis_message.specs.Message.{Message}
-use Rattle.rubis_model.specs.Log.{Core, core, cores}
-use Rattle.rubis_model.specs.Settle.{Has}
-use Rattle.rubis_model.specs.Checks.{SameSet}
+use Rattle.rubis_laws.proofs.Common.{◌≡◌, List, [], ◌∷◌, ◌++◌, refl, sym, ap, ◌∙◌, subst, inl, inr, reverse, reverse-append, Message, Core, core, cores, Has}
+use Rattle.rubis_laws.proofs.Common.{SameSet, cores_push, contained, contains}
 use Rattle.rubis_laws.proofs.Rows.Sets.{Member, member_of, contains_of}
-use Rattle.rubis_model.proofs.CoreLists.{cores_push}
-use Rattle.rubis_model.proofs.Lists.{contained, contains}
 
 -- newest first
 pub back_push : (m : Message) (past : List Message) → cores (reverse (m ∷ past)) ≡ cores (reverse past) ++ core m ∷ []
@@ -33,6 +26,6 @@ same_half a b s c h =
 
 pub same_cores : (a b : List Message) → SameSet a b → SameSet (cores a) (cores b)
 same_cores a b s c = (
-  λ h. contains_of (cores b) c (same_half a b s c (member_of (cores a) c h)),
-  λ h. contains_of (cores a) c (same_half b a (λ m. ((s m).1, (s m).0)) c (member_of (cores b) c h)),
+  λ h. contains_of (cores b) {m = c} (same_half a b s c (member_of (cores a) {m = c} h)),
+  λ h. contains_of (cores a) (same_half b a (λ m. ((s m).1, (s m).0)) c (member_of (cores b) h)),
 )

@@ -1,27 +1,12 @@
 -- Checked logs with the same set fold to the same tables.
-use Rattle.std.proofs.Common.{ℕ, ◌≡◌, ◌+◌, ◌^◌, ◌≤◌, List, [], ◌∷◌, ◌++◌, length, true, false, cond, refl, sym, ap, ◌∙◌, subst, arith, Option, Some, None, inl}
-use Rattle.std.proofs.Common.{⊎_elim, append_assoc}
-use Rattle.std.specs.Prelude.{option_map, nat_lt, IsSome, pos, ◌-ℤ◌, ◌-◌, IsPermutation}
-use Rattle.std.specs.Option.{option_or}
-use mathlib.Core.Bool.{true≢false}
-use Rattle.rubis_schema.specs.declared.ids.Id.{Id}
-use Rattle.rubis_schema.specs.declared.offers.NewItem.{NewItem}
-use Rattle.rubis_shadow.specs.declared.shadows.Shadow.{Shadow}
-use Rattle.rubis_shadow.specs.declared.shadows.Shadow.TheVariants.{User, Bid, Close, Rename}
-use Rattle.rubis_model.specs.Log.{Core, fold_of}
-use Rattle.rubis_schema.specs.declared.rows.Row.TheVariants as row
-use Rattle.rubis_schema.specs.declared.row_keys.RowKey.{RowKey}
-use Rattle.rubis_schema.specs.declared.row_keys.RowKey.TheVariants as key
-use Rattle.rubis_schema.specs.Keys.{same_id}
-use Rattle.rubis_model.specs.Meaning.{when, as_user, as_item, as_bid, as_purchase, as_comment, lists_item_of, bought_by, rating_for, rates, sold_of}
-use Rattle.rubis_model.specs.Meaning.{restocked_of, bids_on, closes, last_rename, nick_after, nick_at, renames, is_same_nick, lists_in, closes_in, higher}
-use Rattle.rubis_model.specs.Meaning.{earlier, choose, count, user_row, item_row, best_of, sale_after, meaning_row, named}
-use Rattle.rubis_shadow.specs.Shadows.{is_red}
-use Rattle.rubis_model.specs.Checks.{Follows, has_id, CheckedFrom, Checked, SameSet}
-use Rattle.rubis_model.proofs.Commute.{same_tables}
-use Rattle.rubis_laws.proofs.Rows.Pushes.{count_push, at_id_push}
-use Rattle.rubis_laws.proofs.Rows.Sets.{Member, Same, OneEach, member_of, contains_of, member_append, not_member, turned, at_member, same_at, same_permutation}
-use Rattle.rubis_laws.proofs.Rows.Sets.{same_count, same_total, same_int_sum}
+use Rattle.rubis_laws.proofs.Common.{ℕ, ◌≡◌, ◌+◌, ◌^◌, ◌≤◌, List, [], ◌∷◌, ◌++◌, length, true, cond, refl, sym, ap, ◌∙◌, subst, arith, Option, Some, None, inl}
+use Rattle.rubis_laws.proofs.Common.{⊎_elim, append_assoc, option_map, nat_lt, IsSome, pos, ◌-ℤ◌, ◌-◌, IsPermutation, option_or, true≢false, Id, NewItem}
+use Rattle.rubis_laws.proofs.Common.{Shadow, User, Bid, Close, Rename, Core, fold_of, RowKey, same_id, when, as_user, as_item, as_bid, as_purchase, as_comment}
+use Rattle.rubis_laws.proofs.Common.{lists_item_of, bought_by, rating_for, rates, sold_of, restocked_of, bids_on, closes, last_rename, nick_after, nick_at}
+use Rattle.rubis_laws.proofs.Common.{renames, is_same_nick, lists_in, closes_in, higher, earlier, choose, count, user_row, item_row, best_of, sale_after}
+use Rattle.rubis_laws.proofs.Common.{meaning_row, named, is_red, Follows, has_id, CheckedFrom, Checked, SameSet, same_tables, Row}
+use Rattle.rubis_laws.proofs.Rows.Sets.{count_push, at_id_push, Member, Same, OneEach, member_of, contains_of, member_append, not_member, turned, at_member}
+use Rattle.rubis_laws.proofs.Rows.Sets.{same_at, same_permutation, same_count, same_total, same_int_sum}
 use Rattle.rubis_laws.proofs.Rows.Choices.{earlier_ranks, later_ranks, higher_ranks, earlier_apart, later_apart, higher_apart, same_choice}
 use Rattle.rubis_laws.proofs.Rows.CheckedLogs.{more_reds}
 use Rattle.rubis_laws.proofs.Rows.Nicks.{nick_user}
@@ -75,8 +60,8 @@ apart_from {a} (m ∷ rest) u c = subst Apart (append_assoc a (m ∷ []) rest) (
 pub no_apart : Apart []
 no_apart = record { ids = tt; low = λ m h. absurd h; reds = λ m n h. absurd h }
 
-pub checked_apart : (log : List Core) → Checked log → Apart log
-checked_apart log c = apart_from log no_apart c
+pub checked_apart : {log : List Core} → Checked log → Apart log
+checked_apart {log} c = apart_from log no_apart c
 
 -- ---- the meaning depends on the set alone
 
@@ -105,28 +90,25 @@ module _ (a b : List Core) (u : Apart a) (v : Apart b) (s : Same a b) where
   together = same_permutation a b u.ids v.ids s
 
   same_user_row : (i : Id) (n : List ℕ) → user_row a i n ≡ user_row b i n
-  same_user_row i n = λ j. row.User (record {
+  same_user_row i n = λ j. Row.User (record {
     nick = n;
-    items = same_count (lists_item_of i) a b together j;
-    bought = same_total (bought_by i) a b together j;
+    items = same_count (lists_item_of i) together j;
+    bought = same_total (bought_by i) together j;
     rating = same_int_sum (λ m. rating_for i m.shadow) a b together j;
-    comments = same_count (rates i) a b together j;
+    comments = same_count (rates i) together j;
   })
 
   pub same_best : (i : Id) → choose higher (λ m. bids_on i m.shadow) a ≡ choose higher (λ m. bids_on i m.shadow) b
-  same_best i =
-      same_choice higher_ranks (λ m. bids_on i m.shadow) a b s
-      (λ m n h l p q f g. u.reds m n h l (bid_red i m.shadow p) (bid_red i n.shadow q) (higher_apart m n f g))
+  same_best i = same_choice higher_ranks (λ m. bids_on i m.shadow) a b s
+      (λ m n h l p q f g. u.reds m n h l (bid_red i _ p) (bid_red i _ q) (higher_apart m n f g))
 
   pub same_close : (i : Id) → choose earlier (λ m. closes i m.shadow) a ≡ choose earlier (λ m. closes i m.shadow) b
-  same_close i =
-      same_choice earlier_ranks (λ m. closes i m.shadow) a b s
-      (λ m n h l p q f g. u.reds m n h l (close_red i m.shadow p) (close_red i n.shadow q) (earlier_apart m n f g))
+  same_close i = same_choice earlier_ranks (λ m. closes i m.shadow) a b s
+      (λ m n h l p q f g. u.reds m n h l (close_red i _ p) (close_red i _ q) (earlier_apart m n f g))
 
   same_rename : (i : Id) → last_rename i a ≡ last_rename i b
-  same_rename i =
-      same_choice later_ranks (λ m. renames i m.shadow) a b s
-      (λ m n h l p q f g. u.reds m n h l (rename_red i m.shadow p) (rename_red i n.shadow q) (later_apart m n f g))
+  same_rename i = same_choice later_ranks (λ m. renames i m.shadow) a b s
+      (λ m n h l p q f g. u.reds m n h l (rename_red i _ p) (rename_red i _ q) (later_apart m n f g))
 
   pub same_nick : (i : Id) → nick_at i a ≡ nick_at i b
   same_nick i = λ j. option_map (nick_after (same_rename i j)) (same_at (λ m. as_user m.shadow) i a b u.ids v.ids s j)
@@ -141,36 +123,36 @@ module _ (a b : List Core) (u : Apart a) (v : Apart b) (s : Same a b) where
       holder_red m h p = user_red m.shadow (subst IsSome (at_member (λ n. as_user n.shadow) a m u.ids h) (nick_user m.id a (some_is k (nick_at m.id a) p)))
 
   same_item_row : (i : Id) (n : NewItem) → item_row a i n ≡ item_row b i n
-  same_item_row i n = λ j. row.Item (record {
+  same_item_row i n = λ j. Row.Item (record {
     seller = n.seller;
     name = n.name;
     cat = n.cat;
-    stock = n.stock + same_total (restocked_of i) a b together j - same_total (sold_of i) a b together j;
-    sold = same_total (sold_of i) a b together j;
+    stock = n.stock + same_total (restocked_of i) together j - same_total (sold_of i) together j;
+    sold = same_total (sold_of i) together j;
     start = n.start;
     price = n.price;
-    bids = same_count (bids_on i) a b together j;
+    bids = same_count (bids_on i) together j;
     best = option_map best_of (same_best i j);
     sale = sale_after (same_close i j);
   })
 
   pub same_meaning : (q : RowKey) → meaning_row a q ≡ meaning_row b q
   unfolding meaning_row
-  same_meaning (key.User i) = λ j. option_map (λ n. same_user_row i n j) (same_nick i j)
-  same_meaning (key.Item i) = λ j. option_map (λ n. same_item_row i n j) (same_at (λ m. as_item m.shadow) i a b u.ids v.ids s j)
-  same_meaning (key.Bid i) = ap (option_map row.Bid) (same_at (λ m. as_bid m.red m.shadow) i a b u.ids v.ids s)
-  same_meaning (key.Purchase i) = ap (option_map row.Purchase) (same_at (λ m. as_purchase m.shadow) i a b u.ids v.ids s)
-  same_meaning (key.Comment i) = ap (option_map row.Comment) (same_at (λ m. as_comment m.shadow) i a b u.ids v.ids s)
-  same_meaning (key.Nick n) = ap (option_map (λ (m : Core). row.Nick m.id)) (same_named n)
-  same_meaning (key.Cat k) = λ j. when (nat_lt k 1000) (Some (row.Cat (record {
-    items = same_count (lists_in k) a b together j;
-    live = pos (same_count (lists_in k) a b together j) -ℤ pos (same_count (closes_in k) a b together j);
+  same_meaning (RowKey.User i) = λ j. option_map (λ n. same_user_row i n j) (same_nick i j)
+  same_meaning (RowKey.Item i) = λ j. option_map (λ n. same_item_row i n j) (same_at (λ m. as_item m.shadow) i a b u.ids v.ids s j)
+  same_meaning (RowKey.Bid i) = ap (option_map Row.Bid) (same_at (λ m. as_bid m.red m.shadow) i a b u.ids v.ids s)
+  same_meaning (RowKey.Purchase i) = ap (option_map Row.Purchase) (same_at (λ m. as_purchase m.shadow) i a b u.ids v.ids s)
+  same_meaning (RowKey.Comment i) = ap (option_map Row.Comment) (same_at (λ m. as_comment m.shadow) i a b u.ids v.ids s)
+  same_meaning (RowKey.Nick n) = ap (option_map (λ (m : Core). Row.Nick m.id)) (same_named n)
+  same_meaning (RowKey.Cat k) = λ j. when (nat_lt k 1000) (Some (Row.Cat (record {
+    items = same_count (lists_in k) together j;
+    live = pos (same_count (lists_in k) together j) -ℤ pos (same_count (closes_in k) together j);
   })))
 
 -- two checked logs with the same set have the same tables
 pub equal_sets_equal_tables : (a b : List Core) → Checked a → Checked b → length a ≤ 2 ^ 32 → length b ≤ 2 ^ 32 → SameSet a b
     → (fold_of a).tables ≡ (fold_of b).tables
 equal_sets_equal_tables a b c d h k s =
-    let same : Same a b = λ m. (λ l. member_of b m ((s m).0 (contains_of a m l)), λ l. member_of a m ((s m).1 (contains_of b m l))) in
-    same_tables _ _ (λ q. (fold_is_meaning a c h).0.rows q ∙ same_meaning a b (checked_apart a c) (checked_apart b d) same q
+    let same : Same a b = λ m. (λ l. member_of b ((s m).0 (contains_of a l)), λ l. member_of a ((s m).1 (contains_of b l))) in
+    same_tables _ _ (λ q. (fold_is_meaning a c h).0.rows q ∙ same_meaning a b (checked_apart c) (checked_apart d) same q
     ∙ sym ((fold_is_meaning b d k).0.rows q))

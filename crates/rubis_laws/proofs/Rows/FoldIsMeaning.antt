@@ -1,44 +1,26 @@
 -- The fold of a checked log has no misfit, and its tables are the meaning of the log's set.
-use Rattle.std.proofs.Common.{ℕ, ◌≡◌, ◌+◌, ◌-◌, ◌^◌, ◌≤◌, ◌<◌, List, [], ◌∷◌, ◌++◌, length, Bool, true, false, cond, refl, sym, ap, ◌∙◌, subst, arith, Option}
-use Rattle.std.proofs.Common.{Some, None, append_assoc, length-append}
-use Rattle.std.specs.Prelude.{ℤ, zero, suc, fold, option_map, nat_lt, nat_eq, nat_le, ◌&&◌, ◌||◌, IsSome, IfSome, ⊤}
-use Rattle.std.proofs.lemmas.Bool.Decides.{nat_tests}
+use Rattle.std.proofs.lemmas.Bool.{le-leb, lt-ltb}
+use Rattle.rubis_laws.proofs.Common.{ℕ, ◌≡◌, ◌+◌, ◌-◌, ◌^◌, ◌≤◌, ◌<◌, List, [], ◌∷◌, ◌++◌, length, Bool, true, false, cond, refl, sym, ap, ◌∙◌, subst, arith}
+use Rattle.rubis_laws.proofs.Common.{Option, Some, None, append_assoc, length-append, ℤ, zero, suc, fold, option_map, nat_lt, nat_eq, nat_le, ◌&&◌, ◌||◌}
+use Rattle.rubis_laws.proofs.Common.{IsSome, IfSome, ⊤, nat_tests, true≢false, Id, Shadow, Core, Folded, parts_of, number_parts, fold_of, fold_on, step}
+use Rattle.rubis_laws.proofs.Common.{NewItem, Effect, Change, Insert, ItemListed, Bought, Rated, CatListed, CatEnded, BidTaken, Sold, End, Restocked, Renamed}
+use Rattle.rubis_laws.proofs.Common.{Best, StockShort, Row, RowKey, key_eq, Tables, Misfit, change_row, fits_as, misfits_as, parts, opening, when, at_id}
+use Rattle.rubis_laws.proofs.Common.{user_at, item_at, nick_at, as_user, as_item, as_bid, as_purchase, as_comment, close_of, best_bid, sold_of, bids_on, supply}
+use Rattle.rubis_laws.proofs.Common.{total, count, user_row, item_row, category_row, meaning_row, IsMeaning, Follows, has_id, CheckedFrom, Checked, same_tables}
 use Rattle.std.proofs.lemmas.List.Sums.{fold-append}
-use mathlib.Core.Bool.{true≢false}
 use Rattle.std.specs.FinMap as map
 use Rattle.std.specs.Cmp.{Equal-is}
-use Rattle.rubis_schema.specs.declared.ids.Id.{Id}
-use Rattle.rubis_laws.proofs.Order.FitsByKind.{by_kind}
-use Rattle.rubis_laws.proofs.Rows.Heads.{Head, head_of, msg}
-use Rattle.rubis_shadow.specs.declared.shadows.Shadow.{Shadow}
-use Rattle.rubis_shadow.specs.declared.shadows.Shadow.TheVariants as shadow
-use Rattle.rubis_model.specs.Log.{Core, Folded, parts_of, noted, number_parts, numbered_from, fold_of, fold_on, step}
-use Rattle.rubis_schema.specs.declared.offers.NewItem.{NewItem}
-use Rattle.rubis_shadow.specs.declared.keyed_change.Effect.{Effect}
-use Rattle.rubis_shadow.specs.declared.changes.Change.{Change}
-use Rattle.rubis_shadow.specs.declared.changes.Change.TheVariants.{Insert, ItemListed, Bought, Rated, CatListed, CatEnded, BidTaken, Sold, End, Restocked}
-use Rattle.rubis_shadow.specs.declared.changes.Change.TheVariants.{Renamed}
-use Rattle.rubis_schema.specs.declared.rows.Best.{Best}
-use Rattle.rubis_shadow.specs.declared.changes.MisfitKind.TheVariants.{StockShort}
-use Rattle.rubis_schema.specs.declared.rows.Row.{Row}
-use Rattle.rubis_schema.specs.declared.rows.Row.TheVariants as row
-use Rattle.rubis_schema.specs.declared.row_keys.RowKey.{RowKey}
-use Rattle.rubis_schema.specs.declared.row_keys.RowKey.TheVariants as key
-use Rattle.rubis_schema.specs.Keys.{key_order, tied, key_eq}
-use Rattle.rubis_schema.specs.Tables.{Tables}
-use Rattle.rubis_shadow.specs.declared.numbered.Misfit.{Misfit}
-use Rattle.rubis_shadow.specs.Changes.{change_row, after_part, doing, misfit_of, fits_as, misfits_as}
-use Rattle.rubis_shadow.specs.Shadows.{parts}
-use Rattle.rubis_shadow.specs.Tables.{opening, categories_from, new_category}
-use Rattle.rubis_model.specs.Meaning.{when, at_id, user_at, item_at, nick_at, as_user, as_item, as_bid, as_purchase, as_comment, close_of, best_bid, sold_of}
-use Rattle.rubis_model.specs.Meaning.{bids_on, supply, total, count, user_row, item_row, category_row, meaning_row, IsMeaning}
-use Rattle.rubis_model.specs.Checks.{Follows, has_id, CheckedFrom, Checked}
+use Rattle.rubis_laws.proofs.Order.FitsByKind.{mapped_some, by_kind}
+use Rattle.rubis_laws.proofs.Rows.Sets.{Head, msg, none_at}
+use Rattle.rubis_model.specs.Log.{noted, numbered_from}
+use Rattle.rubis_schema.specs.Keys.{key_order}
+use Rattle.rubis_shadow.specs.Changes.{after_part, misfit_of}
+use Rattle.rubis_shadow.specs.Tables.{categories_from, new_category}
 use Rattle.rubis_schema.specs.KeyLaws.{key_total, tied-key_eq}
-use Rattle.rubis_model.proofs.Commute.{same_tables, get-with_row, doing_else}
-use Rattle.rubis_laws.proofs.Rows.Pushes.{none_at}
+use Rattle.rubis_model.proofs.Shares.{get-with_row, doing_else}
 use Rattle.rubis_laws.proofs.Rows.CheckedLogs.{Good, good_push, good_none}
 use Rattle.rubis_laws.proofs.Rows.RowsOfUser.{at_key, row_of_user}
-use Rattle.rubis_laws.proofs.Rows.RowsOfItem.{row_of_item, le_true, item_of}
+use Rattle.rubis_laws.proofs.Rows.RowsOfItem.{row_of_item, item_of}
 use Rattle.rubis_laws.proofs.Rows.OtherRows.{row_of_bid, row_of_purchase, row_of_comment, row_of_nick, row_of_cat, freed_fits}
 use Rattle.rubis_laws.proofs.Rows.Nicks.{nick_none, nick_some, some_nick}
 
@@ -57,10 +39,8 @@ one_key true c o p e = ap (λ x. (change_row c x).row) (e refl)
 one_key false c o p e = refl
 
 get-after : (t : Tables) (e : Effect) (q : RowKey) → map.get (after_part t e) q ≡ at_key q (map.get t q) e
-get-after t e q =
-    get-with_row t e.key (doing t e).row q
-    ∙ one_key (tied q e.key) e.change (map.get t e.key) (map.get t q) (λ h. map.get_tied key_total t q e.key ((Equal-is (key_order q e.key)).0 h))
-    ∙ ap (λ b. cond b (change_row e.change (map.get t q)).row (map.get t q)) (tied-key_eq q e.key)
+get-after t e q = get-with_row t e.key _ q ∙ one_key _ _ _ _ (λ h. map.get_tied key_total t q e.key ((Equal-is (key_order q e.key)).0 h)) ∙ ap
+    (λ b. cond b (change_row e.change (map.get t q)).row (map.get t q)) (tied-key_eq q e.key)
 
 pub get-effects_after : (t : Tables) (es : List Effect) (q : RowKey) → map.get (effects_after t es) q ≡ fold (at_key q) (map.get t q) es
 get-effects_after t [] q = refl
@@ -82,8 +62,7 @@ fit_two t e f n p q = (p, (ap (λ d. d.misfit) (doing_else t e f n) ∙ q, tt))
 
 fit_three : (t : Tables) (e f g : Effect) → ¬ (f.key ≡ e.key) → ¬ (g.key ≡ e.key) → ¬ (g.key ≡ f.key) → misfit_of t e ≡ None → misfit_of t f ≡ None
     → misfit_of t g ≡ None → AllFit t (e ∷ f ∷ g ∷ [])
-fit_three t e f g n k l p q r =
-    (p, (ap (λ d. d.misfit) (doing_else t e f n) ∙ q, (ap (λ d. d.misfit) (doing_else (after_part t e) f g l ∙ doing_else t e g k) ∙ r, tt)))
+fit_three t e f g n k l p q r = (p, (ap (λ d. d.misfit) (doing_else t e f n) ∙ q, (ap (λ d. d.misfit) (doing_else _ f g l ∙ doing_else t e g k) ∙ r, tt)))
 
 fits_at : (t : Tables) (a : List Core) (k : RowKey) (c : Change) → map.get t k ≡ meaning_row a k → (change_row c (meaning_row a k)).misfit ≡ None
     → (change_row c (map.get t k)).misfit ≡ None
@@ -97,12 +76,8 @@ some_of : {X : Type 0} (o : Option X) → IsSome o → (x : X) × (o ≡ Some x)
 some_of None s = absurd (true≢false (sym s))
 some_of (Some x) s = (x, refl)
 
-of_mapped : {X Y : Type 0} (f : X → Y) (o : Option X) {y : Y} → option_map f o ≡ Some y → IsSome o
-of_mapped f None e = absurd cc
-of_mapped f (Some x) e = refl
-
 user_fits : (a : List Core) (u : Id) (c : Change) → ((n : List ℕ) → (change_row c (Some (user_row a u n))).misfit ≡ None) → IsSome (user_at u a)
-    → (change_row c (meaning_row a (key.User u))).misfit ≡ None
+    → (change_row c (meaning_row a (RowKey.User u))).misfit ≡ None
 unfolding meaning_row
 user_fits a u c each s =
     let n = some_of (nick_at u a) (nick_some u a s) in
@@ -127,7 +102,7 @@ renamed_fits a u k n = refl
 item_fits : (a : List Core) (i : Id) (c : Change) → IsSome (item_at i a) → close_of i a ≡ None
     → ((n : NewItem) → item_at i a ≡ Some n →
     (change_row c (Some (item_of (supply a i) (total (sold_of i) a) (count (bids_on i) a) (best_bid i a) None n))).misfit ≡ None)
-    → (change_row c (meaning_row a (key.Item i))).misfit ≡ None
+    → (change_row c (meaning_row a (RowKey.Item i))).misfit ≡ None
 unfolding meaning_row
 item_fits a i c s shut each =
     let n = some_of (item_at i a) s in
@@ -146,23 +121,20 @@ end_fits e w s c best n = refl
 sold_fits : (q : ℕ) (w : NewItem → ℕ) (s c : ℕ) (best : Option Core) (n : NewItem) → s + q ≤ w n
     → (change_row (Sold q) (Some (item_of w s c best None n))).misfit ≡ None
 unfolding change_row
-sold_fits q w s c best n h = split (nat_le q (w n - s)) _ (le_true q (w n - s) (omega arith))
+sold_fits q w s c best n h = split (nat_le q (w n - s)) _ (le-leb q (w n - s) (omega arith))
   where
     split : (b : Bool) (r : Row) → b ≡ true → (cond b (fits_as r) (misfits_as StockShort (Some (item_of w s c best None n)))).misfit ≡ None
     split true r e = refl
     split false r e = absurd (true≢false (sym e))
 
-restocked_fits : (a : List Core) (i : Id) (q : ℕ) → IsSome (item_at i a) → (change_row (Restocked q) (meaning_row a (key.Item i))).misfit ≡ None
+restocked_fits : (a : List Core) (i : Id) (q : ℕ) → IsSome (item_at i a) → (change_row (Restocked q) (meaning_row a (RowKey.Item i))).misfit ≡ None
 unfolding meaning_row change_row
 restocked_fits a i q s = let n = some_of (item_at i a) s in ap (λ o. (change_row (Restocked q) (option_map (item_row a i) o)).misfit) n.1
 
-cat_fits : (a : List Core) (k : ℕ) (c : Change) → k < 1000 → (change_row c (Some (category_row a k))).misfit ≡ None
-    → (change_row c (meaning_row a (key.Cat k))).misfit ≡ None
+cat_fits : (a : List Core) {k : ℕ} (c : Change) → k < 1000 → (change_row c (Some (category_row a k))).misfit ≡ None
+    → (change_row c (meaning_row a (RowKey.Cat k))).misfit ≡ None
 unfolding meaning_row
-cat_fits a k c h each = ap (λ b. (change_row c (when b (Some (category_row a k)))).misfit) (lt_true k 1000 h) ∙ each
-  where
-    lt_true : (m n : ℕ) → m < n → nat_lt m n ≡ true
-    lt_true m n p = grind (arith, nat_tests)
+cat_fits a {k} c h each = ap (λ b. (change_row c (when b (Some (category_row a k)))).misfit) (lt-ltb k 1000 h) ∙ each
 
 cat_listed : (a : List Core) (k : ℕ) → (change_row CatListed (Some (category_row a k))).misfit ≡ None
 unfolding change_row
@@ -175,71 +147,59 @@ cat_ended a k = refl
 no_row : {X : Type 0} (f : Core → Option X) (wrap : X → Row) (i : Id) (a : List Core) → has_id i a ≡ None → option_map wrap (at_id f i a) ≡ None
 no_row f wrap i a e = ap (option_map wrap) (none_at f i a e)
 
-all_fit : (t : Tables) {a : List Core} (s : Head) (x : Shadow) → ((q : RowKey) → map.get t q ≡ meaning_row a q) → Good a → Follows a (msg s x)
+all_fit : (t : Tables) {a : List Core} {s : Head} (x : Shadow) → ((q : RowKey) → map.get t q ≡ meaning_row a q) → Good a → Follows a (msg s x)
     → AllFit t (parts s.id s.red x)
 unfolding meaning_row
-all_fit t {a} s (shadow.User n) r g f =
-    fit_two t _ _ (λ e. cc) (fits_at t a (key.User s.id) _ (r _)
-    (new_row a (key.User s.id) _ (ap (option_map (user_row a s.id)) (nick_none s.id a (none_at (λ m. as_user m.shadow) s.id a f.new_id)))))
-    (fits_at t a (key.Nick n) _ (r _) (new_row a (key.Nick n) _ (ap (option_map (λ (m : Core). row.Nick m.id)) (by_kind a (shadow.User n) f.fits))))
-all_fit t {a} s (shadow.Item n) r g f =
-    fit_three t _ _ _ (λ e. cc) (λ e. cc) (λ e. cc)
-    (fits_at t a (key.Item s.id) _ (r _) (new_row a (key.Item s.id) _ (ap (option_map (item_row a s.id)) (none_at (λ m. as_item m.shadow) s.id a f.new_id))))
-    (fits_at t a (key.User n.seller) _ (r _) (user_fits a n.seller _ (listed_fits a n.seller) (by_kind a (shadow.Item n) f.fits)))
-    (fits_at t a (key.Cat n.cat) _ (r _) (cat_fits a n.cat _ f.limits.1.cat (cat_listed a n.cat)))
-all_fit t {a} s (shadow.Bid b) r g f =
-    fit_two t _ _ (λ e. cc) (fits_at t a (key.Bid s.id) _ (r _) (new_row a (key.Bid s.id) _ (no_row (λ m. as_bid m.red m.shadow) row.Bid s.id a f.new_id)))
-    (fits_at t a (key.Item b.item) _ (r _) (item_fits a b.item _ (by_kind a (shadow.Bid b) f.fits).0 (by_kind a (shadow.Bid b) f.fits).2
+all_fit t {a} {s} (Shadow.User n) r g f = fit_two t _ _ (λ e. cc) (fits_at t a (RowKey.User s.id) _ (r _)
+    (new_row a (RowKey.User s.id) _ (ap (option_map (user_row a s.id)) (nick_none s.id a (none_at (λ m. as_user m.shadow) s.id a f.new_id)))))
+    (fits_at t a (RowKey.Nick n) _ (r _) (new_row a (RowKey.Nick n) _ (ap (option_map (λ (m : Core). Row.Nick m.id)) (by_kind a (Shadow.User n) f.fits))))
+all_fit t {a} {s} (Shadow.Item n) r g f = fit_three t _ _ _ (λ e. cc) (λ e. cc) (λ e. cc)
+    (fits_at t a _ _ (r _) (new_row a (RowKey.Item s.id) _ (ap (option_map (item_row a s.id)) (none_at (λ m. as_item m.shadow) s.id a f.new_id))))
+    (fits_at t a _ _ (r _) (user_fits a _ _ (listed_fits a _) (by_kind a _ f.fits))) (fits_at t a _ _ (r _) (cat_fits a _ f.limits.1.cat (cat_listed a n.cat)))
+all_fit t {a} {s} (Shadow.Bid b) r g f = fit_two t _ _ (λ e. cc) (fits_at t a _ _ (r _) (new_row a (RowKey.Bid s.id) _
+    (no_row (λ m. as_bid m.red m.shadow) Row.Bid s.id a f.new_id))) (fits_at t a _ _ (r _) (item_fits a _ _ (by_kind a _ f.fits).0 (by_kind a _ f.fits).2
     (λ n e. bid_fits _ (supply a b.item) (total (sold_of b.item) a) (count (bids_on b.item) a) (best_bid b.item a) n)))
-all_fit t {a} s (shadow.Buy p) r g f =
-    fit_three t _ _ _ (λ e. cc) (λ e. cc) (λ e. cc)
-    (fits_at t a (key.Purchase s.id) _ (r _) (new_row a (key.Purchase s.id) _ (no_row (λ m. as_purchase m.shadow) row.Purchase s.id a f.new_id)))
-    (fits_at t a (key.Item p.item) _ (r _) (item_fits a p.item _ (by_kind a (shadow.Buy p) f.fits).0 (by_kind a (shadow.Buy p) f.fits).2
-    (λ n e. sold_fits p.quantity (supply a p.item) (total (sold_of p.item) a) (count (bids_on p.item) a) (best_bid p.item a) n
-    (subst (λ o. IfSome o (λ n. total (sold_of p.item) a + p.quantity ≤ supply a p.item n)) e (by_kind a (shadow.Buy p) f.fits).3))))
-    (fits_at t a (key.User p.buyer) _ (r _) (user_fits a p.buyer _ (bought_fits a p.buyer p.quantity) (by_kind a (shadow.Buy p) f.fits).1))
-all_fit t {a} s (shadow.Close c) r g f =
-    fit_two t _ _ (λ e. cc) (fits_at t a (key.Item c.item) _ (r _)
-    (item_fits a c.item _ (of_mapped _ _ (by_kind a (shadow.Close c) f.fits).0) (by_kind a (shadow.Close c) f.fits).1
-    (λ n e. end_fits c.winner (supply a c.item) (total (sold_of c.item) a) (count (bids_on c.item) a) (best_bid c.item a) n)))
-    (fits_at t a (key.Cat c.cat) _ (r _) (cat_fits a c.cat _ f.limits.1.1 (cat_ended a c.cat)))
-all_fit t {a} s (shadow.Comment c) r g f =
-    fit_two t _ _ (λ e. cc)
-    (fits_at t a (key.Comment s.id) _ (r _) (new_row a (key.Comment s.id) _ (no_row (λ m. as_comment m.shadow) row.Comment s.id a f.new_id)))
-    (fits_at t a (key.User c.to) _ (r _) (user_fits a c.to _ (rated_fits a c.to c.rating) (by_kind a (shadow.Comment c) f.fits).2))
-all_fit t {a} s (shadow.Restock k) r g f =
-    (fits_at t a (key.Item k.item) _ (r _) (restocked_fits a k.item k.quantity (by_kind a (shadow.Restock k) f.fits)), tt)
-all_fit t {a} s (shadow.Rename k) r g f =
-    fit_three t _ _ _ (λ e. cc) (λ e. cc) (λ e. f.limits.1.1 (let w : k.from ≡ k.to = cc in w)) (fits_at t a (key.User k.user) _ (r _)
-    (user_fits a k.user _ (renamed_fits a k.user k.to) (some_nick k.user a (by_kind a (shadow.Rename k) f.fits).0)))
-    (fits_at t a (key.Nick k.from) _ (r _) (freed_fits a s k g f))
-    (fits_at t a (key.Nick k.to) _ (r _) (new_row a (key.Nick k.to) _ (ap (option_map (λ (m : Core). row.Nick m.id)) (by_kind a (shadow.Rename k) f.fits).1)))
+all_fit t {a} {s} (Shadow.Buy p) r g f = fit_three t _ _ _ (λ e. cc) (λ e. cc) (λ e. cc)
+    (fits_at t a _ _ (r _) (new_row a (RowKey.Purchase s.id) _ (no_row (λ m. as_purchase m.shadow) Row.Purchase s.id a f.new_id)))
+    (fits_at t a _ _ (r _) (item_fits a _ _ (by_kind a _ f.fits).0 (by_kind a _ f.fits).2 (λ n e. sold_fits _ (supply a p.item) _ (count (bids_on p.item) a)
+    (best_bid p.item a) n (subst (λ o. IfSome o (λ n. total (sold_of p.item) a + p.quantity ≤ supply a p.item n)) e (by_kind a _ f.fits).3))))
+    (fits_at t a _ _ (r _) (user_fits a _ _ (bought_fits a _ _) (by_kind a _ f.fits).1))
+all_fit t {a} (Shadow.Close c) r g f = fit_two t _ _ (λ e. cc) (fits_at t a _ _ (r _) (item_fits a _ _ (mapped_some _ _ (by_kind a _ f.fits).0)
+    (by_kind a _ f.fits).1 (λ n e. end_fits _ (supply a c.item) (total (sold_of c.item) a) (count (bids_on c.item) a) (best_bid c.item a) n)))
+    (fits_at t a _ _ (r _) (cat_fits a _ f.limits.1.1 (cat_ended a c.cat)))
+all_fit t {a} {s} (Shadow.Comment c) r g f = fit_two t _ _ (λ e. cc)
+    (fits_at t a (RowKey.Comment s.id) _ (r _) (new_row a (RowKey.Comment s.id) _ (no_row (λ m. as_comment m.shadow) Row.Comment s.id a f.new_id)))
+    (fits_at t a (RowKey.User c.to) _ (r _) (user_fits a c.to _ (rated_fits a c.to c.rating) (by_kind a (Shadow.Comment c) f.fits).2))
+all_fit t {a} (Shadow.Restock k) r g f = (fits_at t a _ _ (r _) (restocked_fits a _ _ (by_kind a _ f.fits)), tt)
+all_fit t {a} {s} (Shadow.Rename k) r g f = fit_three t _ _ _ (λ e. cc) (λ e. cc) (λ e. f.limits.1.1 (let w : k.from ≡ k.to = cc in w))
+    (fits_at t a _ _ (r _) (user_fits a _ _ (renamed_fits a _ k.to) (some_nick _ a (by_kind a _ f.fits).0))) (fits_at t a _ _ (r _) (freed_fits a s k g f))
+    (fits_at t a _ _ (r _) (new_row a (RowKey.Nick k.to) _ (ap (option_map (λ (m : Core). Row.Nick m.id)) (by_kind a _ f.fits).1)))
 
 -- ---- one more message
 
-rows_more : (t : Tables) {a : List Core} (s : Head) (x : Shadow) → ((q : RowKey) → map.get t q ≡ meaning_row a q) → Good a → Follows a (msg s x)
+rows_more : (t : Tables) {a : List Core} {s : Head} {x : Shadow} → ((q : RowKey) → map.get t q ≡ meaning_row a q) → Good a → Follows a (msg s x)
     → length a < 2 ^ 32 → (q : RowKey) → map.get (effects_after t (parts s.id s.red x)) q ≡ meaning_row (a ++ msg s x ∷ []) q
-rows_more t {a} s x r g f h q = get-effects_after t (parts s.id s.red x) q ∙ ap (λ o. fold (at_key q) o (parts s.id s.red x)) (r q) ∙ at q
+rows_more t {a} {s} {x} r g f h q = get-effects_after t (parts s.id s.red x) q ∙ ap (λ o. fold (at_key q) o (parts s.id s.red x)) (r q) ∙ at q
   where
     at : (q : RowKey) → fold (at_key q) (meaning_row a q) (parts s.id s.red x) ≡ meaning_row (a ++ msg s x ∷ []) q
-    at (key.User i) = row_of_user s x g f h i
-    at (key.Item i) = row_of_item s x g f h i
-    at (key.Bid i) = row_of_bid s x f i
-    at (key.Purchase i) = row_of_purchase s x f i
-    at (key.Comment i) = row_of_comment s x f i
-    at (key.Nick n) = row_of_nick s x g (good_push g f) f n
-    at (key.Cat k) = row_of_cat a s x h k
+    at (RowKey.User i) = row_of_user s x g f h i
+    at (RowKey.Item i) = row_of_item s x g f h i
+    at (RowKey.Bid i) = row_of_bid s x f i
+    at (RowKey.Purchase i) = row_of_purchase s x f i
+    at (RowKey.Comment i) = row_of_comment s x f i
+    at (RowKey.Nick n) = row_of_nick s x g (good_push g f) f n
+    at (RowKey.Cat k) = row_of_cat a s x h k
 
 -- ---- the opening tables
 
-found : (k j n : ℕ) → map.find key_order (key.Cat k) (categories_from j n) ≡ when (nat_le j k && nat_lt k (j + n)) (Some new_category)
+found : (k j n : ℕ) → map.find key_order (RowKey.Cat k) (categories_from j n) ≡ when (nat_le j k && nat_lt k (j + n)) (Some new_category)
 unfolding categories_from
 found k j zero = ap (λ b. when b (Some new_category)) (none_in j k)
   where
     none_in : (j k : ℕ) → false ≡ (nat_le j k && nat_lt k (j + 0))
     none_in j k = grind (arith, nat_tests)
 found k j (suc n) =
-    (λ i. cond (tied-key_eq (key.Cat k) (key.Cat j) i) (Some new_category) (found k (j + 1) n i))
+    (λ i. cond (tied-key_eq (RowKey.Cat k) (RowKey.Cat j) i) (Some new_category) (found k (j + 1) n i))
     ∙ split (nat_eq k j) (nat_le (j + 1) k && nat_lt k (j + 1 + n)) ∙ ap (λ b. when b (Some new_category)) (one_in j k n)
   where
     split : (b c : Bool) → cond b (Some new_category) (when c (Some new_category)) ≡ when (b || c) (Some new_category)
@@ -249,20 +209,20 @@ found k j (suc n) =
     one_in : (j k n : ℕ) → (nat_eq k j || (nat_le (j + 1) k && nat_lt k (j + 1 + n))) ≡ (nat_le j k && nat_lt k (j + suc n))
     one_in j k n = grind (arith, nat_tests)
 
-not_found : (q : RowKey) → ((k : ℕ) → key_eq q (key.Cat k) ≡ false) → (j n : ℕ) → map.find key_order q (categories_from j n) ≡ None
+not_found : (q : RowKey) → ((k : ℕ) → key_eq q (RowKey.Cat k) ≡ false) → (j n : ℕ) → map.find key_order q (categories_from j n) ≡ None
 unfolding categories_from
 not_found q other j zero = refl
-not_found q other j (suc n) = (λ i. cond ((tied-key_eq q (key.Cat j) ∙ other j) i) (Some new_category) (not_found q other (j + 1) n i))
+not_found q other j (suc n) = (λ i. cond ((tied-key_eq q (RowKey.Cat j) ∙ other j) i) (Some new_category) (not_found q other (j + 1) n i))
 
 opened_at : (q : RowKey) → map.find key_order q (categories_from 0 1000) ≡ meaning_row [] q
 unfolding meaning_row
-opened_at (key.User i) = not_found (key.User i) (λ k. refl) 0 1000
-opened_at (key.Item i) = not_found (key.Item i) (λ k. refl) 0 1000
-opened_at (key.Bid i) = not_found (key.Bid i) (λ k. refl) 0 1000
-opened_at (key.Purchase i) = not_found (key.Purchase i) (λ k. refl) 0 1000
-opened_at (key.Comment i) = not_found (key.Comment i) (λ k. refl) 0 1000
-opened_at (key.Nick i) = not_found (key.Nick i) (λ k. refl) 0 1000
-opened_at (key.Cat k) = found k 0 1000 ∙ ap (λ b. when b (Some new_category)) (below k)
+opened_at (RowKey.User i) = not_found (RowKey.User i) (λ k. refl) 0 1000
+opened_at (RowKey.Item i) = not_found (RowKey.Item i) (λ k. refl) 0 1000
+opened_at (RowKey.Bid i) = not_found (RowKey.Bid i) (λ k. refl) 0 1000
+opened_at (RowKey.Purchase i) = not_found (RowKey.Purchase i) (λ k. refl) 0 1000
+opened_at (RowKey.Comment i) = not_found (RowKey.Comment i) (λ k. refl) 0 1000
+opened_at (RowKey.Nick i) = not_found (RowKey.Nick i) (λ k. refl) 0 1000
+opened_at (RowKey.Cat k) = found k 0 1000 ∙ ap (λ b. when b (Some new_category)) (below k)
   where
     below : (k : ℕ) → (nat_le 0 k && nat_lt k 1000) ≡ nat_lt k 1000
     below k = grind (arith, nat_tests)
@@ -295,11 +255,10 @@ right_none = record { rows = opening_rows; clean = refl; good = good_none }
 
 right_push : {a : List Core} {m : Core} → Right a → Follows a m → length a < 2 ^ 32 → Right (a ++ m ∷ [])
 right_push {a} {m} r f h =
-    let together : fold_of (a ++ m ∷ []) ≡ record { tables = effects_after (fold_of a).tables (parts_of m); misfits = (fold_of a).misfits } =
-    fold_push_parts a m ∙ folded_fit (fold_of a).tables (fold_of a).misfits (1 + length a) 1 m.id (parts_of m)
-    (all_fit (fold_of a).tables (head_of m) m.shadow r.rows r.good f) in
+    let together : fold_of (a ++ m ∷ []) ≡ record { tables = effects_after (fold_of a).tables (parts_of m); misfits = (fold_of a).misfits } = fold_push_parts a
+    m ∙ folded_fit (fold_of a).tables (fold_of a).misfits (1 + length a) 1 m.id (parts_of m) (all_fit (fold_of a).tables m.shadow r.rows r.good f) in
     record {
-      rows = λ q. ap (λ (w : Folded). map.get w.tables q) together ∙ rows_more (fold_of a).tables (head_of m) m.shadow r.rows r.good f h q;
+      rows = λ q. ap (λ (w : Folded). map.get w.tables q) together ∙ rows_more (fold_of a).tables r.rows r.good f h q;
       clean = ap (λ (w : Folded). w.misfits) together ∙ r.clean;
       good = good_push r.good f;
     }

@@ -1,18 +1,10 @@
 -- How long a log is.
-use Rattle.std.proofs.Common.{ℕ, ◌≡◌, ◌+◌, ◌*◌, ◌^◌, ◌≤◌, ◌<◌, zero, suc, cond, List, [], ◌∷◌, length, refl, inl, inr, ⊎_elim, arith}
-use Rattle.std.specs.Prelude.{reverse, nat_lt, ◌==◌}
-use Rattle.std.proofs.lemmas.Bool.{cases_lt}
-use Rattle.std.proofs.lemmas.Bool.Decides.{nat_tests}
-use Rattle.std.proofs.lemmas.List.{length-reverse}
-use Rattle.rubis_message.specs.Message.{Message, IsMessage}
-use Rattle.rubis_model.specs.Settle.{counted, Has}
-use Rattle.rubis_model.specs.Order.{Released}
-use Rattle.rubis_model.proofs.Pasts.{found}
+use Rattle.rubis_laws.proofs.Common.{ℕ, ◌≡◌, ◌+◌, ◌*◌, ◌^◌, ◌≤◌, ◌<◌, zero, suc, cond, List, [], ◌∷◌, length, refl, inl, inr, ⊎_elim, arith, reverse, nat_lt}
+use Rattle.rubis_laws.proofs.Common.{◌==◌, cases_lt, nat_tests, length-reverse, Message, IsMessage, counted, Has, Released, found}
 
 -- no site has more messages than the greatest number
 counted_small : (past : List Message) (most j : ℕ) → Released past → ((v : Message) → Has v past → v.stamp.id.seq ≤ most) → counted j past ≤ most
-counted_small past most j r small = ⊎_elim
-    (λ l. let f = found past j (counted j past) r l (omega arith) in let k = small f.0 f.1 in let e = f.3 in omega (arith, k, e))
+counted_small past most j r small = ⊎_elim (λ l. let f = found past j _ r l (omega arith) in let k = small f.0 f.1 in let e = f.3 in omega (arith, k, e))
     (λ l. omega (arith, l)) (cases_lt 0 (counted j past))
 
 -- the messages of the first n sites

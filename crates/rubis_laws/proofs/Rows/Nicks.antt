@@ -1,25 +1,10 @@
 -- What one more message does to nicknames, and who has one.
-use Rattle.std.proofs.Common.{ℕ, ◌≡◌, ◌≤◌, ◌<◌, List, [], ◌∷◌, ◌++◌, Bool, true, false, cond, refl, sym, ap, ◌∙◌, subst, arith, Option, Some, None}
-use Rattle.std.specs.Prelude.{◌&&◌, nat_lt, option_map, IfSome, IsSome, is_some}
-use Rattle.std.proofs.lemmas.Bool.Decides.{nat_tests}
-use Rattle.std.specs.Option.{option_or}
-use Rattle.std.specs.Cmp.Lexicographic.{bytes_decides}
-use mathlib.Core.Bool.{true≢false}
-use Rattle.rubis_schema.specs.declared.ids.Id.{Id}
-use Rattle.rubis_laws.proofs.Rows.Heads.{Head, msg}
-use Rattle.rubis_shadow.specs.Renames.{NewRename}
-use Rattle.rubis_shadow.specs.declared.shadows.Shadow.{Shadow}
-use Rattle.rubis_shadow.specs.declared.shadows.Shadow.TheVariants.{User, Rename}
-use Rattle.rubis_model.specs.Log.{Core}
-use Rattle.rubis_schema.specs.declared.rows.Row.{Row}
-use Rattle.rubis_schema.specs.declared.rows.Row.TheVariants as row
-use Rattle.rubis_schema.specs.Keys.{same_id}
-use Rattle.rubis_model.specs.Meaning.{when, user_at, as_user, choice, choose, earlier, later, last_rename, nick_after, nick_at, renames, is_same_nick, named}
-use Rattle.rubis_model.specs.Checks.{has_id}
-use Rattle.rubis_model.specs.Invariants.{Unique}
-use Rattle.rubis_schema.specs.KeyLaws.{Decides-same_id}
-use Rattle.rubis_laws.proofs.Rows.Pushes.{choose_push, choice_not, or_none, at_id_push_not, at_id_push, none_at}
-use Rattle.rubis_laws.proofs.Rows.Sets.{Member, found_member}
+use Rattle.std.proofs.lemmas.Bool.{lt-ltb}
+use Rattle.rubis_laws.proofs.Common.{ℕ, ◌≡◌, ◌≤◌, ◌<◌, List, [], ◌∷◌, ◌++◌, Bool, true, false, cond, refl, sym, ap, ◌∙◌, subst, arith, Option, Some, None, ◌&&◌}
+use Rattle.rubis_laws.proofs.Common.{option_map, IfSome, IsSome, is_some, option_or, bytes_decides, true≢false, Id, NewRename, Shadow, User, Rename, Core, Row}
+use Rattle.rubis_laws.proofs.Common.{same_id, when, user_at, as_user, choice, choose, earlier, later, last_rename, nick_after, nick_at, renames, is_same_nick}
+use Rattle.rubis_laws.proofs.Common.{named, has_id, Unique, Decides-same_id}
+use Rattle.rubis_laws.proofs.Rows.Sets.{Head, msg, choose_push, choice_not, or_none, at_id_push_not, at_id_push, none_at, Member, found_member}
 use Rattle.rubis_laws.proofs.Rows.Choices.{earlier_ranks, choose_is, IsChoice}
 
 -- ---- one more message
@@ -28,21 +13,18 @@ use Rattle.rubis_laws.proofs.Rows.Choices.{earlier_ranks, choose_is, IsChoice}
 abbrev pub given : Bool → List ℕ → Option (List ℕ) → Option (List ℕ)
 given b k o = cond b (Some k) o
 
-lt_true : (m n : ℕ) → m < n → nat_lt m n ≡ true
-lt_true m n h = grind (arith, nat_tests)
-
 pub last_push_not : (u : Id) (a : List Core) (m : Core) → renames u m.shadow ≡ false → last_rename u (a ++ m ∷ []) ≡ last_rename u a
 last_push_not u a m e = choose_push later (λ n. renames u n.shadow) a m ∙ choice_not later (λ n. renames u n.shadow) _ m e
 
-last_choice : (n : ℕ) (u : Id) (o : Option Core) (m : Core) → renames u m.shadow ≡ true → n < m.red → IfSome o (λ x. x.red ≤ n)
+last_choice : {n : ℕ} (u : Id) (o : Option Core) (m : Core) → renames u m.shadow ≡ true → n < m.red → IfSome o (λ x. x.red ≤ n)
     → choice later (λ k. renames u k.shadow) o m ≡ Some m
-last_choice n u None m e l h = ap (λ b. cond b (Some m) None) e
-last_choice n u (Some old) m e l h = λ j. cond (e j && lt_true old.red m.red (omega (arith, l, h)) j) (Some m) (Some old)
+last_choice u None m e l h = ap (λ b. cond b (Some m) None) e
+last_choice u (Some old) m e l h = λ j. cond (e j && lt-ltb old.red m.red (omega (arith, l, h)) j) (Some m) (Some old)
 
 -- a rename with a greater red number is the last one
 last_push : (n : ℕ) (u : Id) (a : List Core) (m : Core) → renames u m.shadow ≡ true → n < m.red → IfSome (last_rename u a) (λ x. x.red ≤ n)
     → last_rename u (a ++ m ∷ []) ≡ Some m
-last_push n u a m e l h = choose_push later (λ k. renames u k.shadow) a m ∙ last_choice n u (last_rename u a) m e l h
+last_push n u a m e l h = choose_push later (λ k. renames u k.shadow) a m ∙ last_choice u (last_rename u a) m e l h
 
 -- it gives a user a nickname
 abbrev pub gives_nick : Shadow → Bool
@@ -50,11 +32,11 @@ gives_nick (User n) = true
 gives_nick (Rename r) = true
 gives_nick x = false
 
-no_user : (x : Shadow) → gives_nick x ≡ false → as_user x ≡ None
+pub no_user : (x : Shadow) → gives_nick x ≡ false → as_user x ≡ None
 no_user (User n) e = absurd (true≢false e)
 no_user x e = refl
 
-no_rename : (u : Id) (x : Shadow) → gives_nick x ≡ false → renames u x ≡ false
+pub no_rename : (u : Id) (x : Shadow) → gives_nick x ≡ false → renames u x ≡ false
 no_rename u (Rename r) e = absurd (true≢false e)
 no_rename u x e = refl
 
@@ -77,9 +59,9 @@ nick_push_user v a s k e r =
         (λ j. option_map (nick_after (r j)) (option_or (e j) (Some k)))
     at false h = ap (option_map (nick_after (last_rename v a))) (or_none (user_at v a))
 
-pub nick_push_rename : (n : ℕ) (v : Id) (a : List Core) (s : Head) (r : NewRename) → IsSome (user_at r.user a) → n < s.red
+pub nick_push_rename : {n : ℕ} (v : Id) (a : List Core) (s : Head) (r : NewRename) → IsSome (user_at r.user a) → n < s.red
     → IfSome (last_rename v a) (λ x. x.red ≤ n) → nick_at v (a ++ msg s (Rename r) ∷ []) ≡ given (same_id v r.user) r.to (nick_at v a)
-nick_push_rename n v a s r i l h = at (same_id v r.user) refl
+nick_push_rename {n} v a s r i l h = at (same_id v r.user) refl
   where
     mapped : (o : Option (List ℕ)) → IsSome o → option_map (nick_after (Some (msg s (Rename r)))) o ≡ Some r.to
     mapped None e = absurd (true≢false (sym e))
@@ -96,8 +78,8 @@ nick_push_rename n v a s r i l h = at (same_id v r.user) refl
 abbrev pub Free : List ℕ → (Id → Option (List ℕ)) → Type 0
 Free n o = (v : Id) → o v ≡ Some n → ⊥
 
-pub unique_given : (o p : Id → Option (List ℕ)) (w : Id) (n : List ℕ) → ((v : Id) → p v ≡ given (same_id v w) n (o v)) → Unique o → Free n o → Unique p
-unique_given o p w n e h f k u v a b = at (same_id u w) refl (same_id v w) refl (sym (e u) ∙ a) (sym (e v) ∙ b)
+pub unique_given : (o p : Id → Option (List ℕ)) (w : Id) {n : List ℕ} → ((v : Id) → p v ≡ given (same_id v w) n (o v)) → Unique o → Free n o → Unique p
+unique_given o p w {n} e h f k u v a b = at (same_id u w) refl (same_id v w) refl (sym (e u) ∙ a) (sym (e v) ∙ b)
   where
     at : (c : Bool) → same_id u w ≡ c → (d : Bool) → same_id v w ≡ d → given (same_id u w) n (o u) ≡ Some k → given (same_id v w) n (o v) ≡ Some k
         → u ≡ v
@@ -132,9 +114,9 @@ nick_some u a e = some_mapped (last_rename u a) (user_at u a) e
 pub nick_none : (u : Id) (a : List Core) → user_at u a ≡ None → nick_at u a ≡ None
 nick_none u a e = ap (option_map (nick_after (last_rename u a))) e
 
-pub is_nick_of : (n : List ℕ) (o : Option (List ℕ)) → is_same_nick n o ≡ true → o ≡ Some n
-is_nick_of n None e = absurd (true≢false (sym e))
-is_nick_of n (Some k) e = ap Some (sym ((bytes_decides n k).0 e))
+pub is_nick_of : {n : List ℕ} (o : Option (List ℕ)) → is_same_nick n o ≡ true → o ≡ Some n
+is_nick_of None e = absurd (true≢false (sym e))
+is_nick_of {n} (Some k) e = ap Some (sym ((bytes_decides n k).0 e))
 
 pub is_nick_at : {n : List ℕ} {o : Option (List ℕ)} → o ≡ Some n → is_same_nick n o ≡ true
 is_nick_at {n} e = ap (is_same_nick n) e ∙ (bytes_decides n n).1 refl
@@ -149,31 +131,29 @@ member_with v a s = at (has_id v a) refl
 abbrev pub has : List ℕ → List Core → Core → Bool
 has n a m = is_same_nick n (nick_at m.id a)
 
-pub not_named : (n : List ℕ) (a : List Core) → named n a ≡ None → Free n (λ v. nick_at v a)
-not_named n a e v h =
+pub not_named : {n : List ℕ} (a : List Core) → named n a ≡ None → Free n (λ v. nick_at v a)
+not_named {n} a e v h =
     let w = member_with v a (some_nick v a h) in
     true≢false (sym (is_nick_at (subst (λ u. nick_at u a ≡ Some n) w.2 h))
     ∙ subst (IsChoice earlier (has n a) a) e (choose_is earlier_ranks (has n a) a) w.0 w.1)
 
-pub named_none : (n : List ℕ) (a : List Core) → Free n (λ v. nick_at v a) → named n a ≡ None
-named_none n a f = at (named n a) (choose_is earlier_ranks (has n a) a)
+pub named_none : {n : List ℕ} (a : List Core) → Free n (λ v. nick_at v a) → named n a ≡ None
+named_none {n} a f = at (named n a) (choose_is earlier_ranks (has n a) a)
   where
     at : (o : Option Core) → IsChoice earlier (has n a) a o → o ≡ None
     at None h = refl
-    at (Some m) h = absurd (f m.id (is_nick_of n (nick_at m.id a) h.passes))
+    at (Some m) h = absurd (f m.id (is_nick_of (nick_at m.id a) h.passes))
 
 abbrev pub named_row : Option Core → Option Row
-named_row o = option_map (λ m. row.Nick m.id) o
+named_row o = option_map (λ m. Row.Nick m.id) o
 
-pub named_is : {n : List ℕ} (a : List Core) (u : Id) → Unique (λ v. nick_at v a) → nick_at u a ≡ Some n → named_row (named n a) ≡ Some (row.Nick u)
-named_is {n} a u h e = at (named n a) refl (choose_is earlier_ranks (has n a) a)
+pub named_is : {n : List ℕ} (a : List Core) {u : Id} → Unique (λ v. nick_at v a) → nick_at u a ≡ Some n → named_row (named n a) ≡ Some (Row.Nick u)
+named_is {n} a {u} h e = at (named n a) refl (choose_is earlier_ranks (has n a) a)
   where
-    at : (o : Option Core) → named n a ≡ o → IsChoice earlier (has n a) a o → named_row o ≡ Some (row.Nick u)
-    at None q k = absurd (not_named n a q u e)
-    at (Some m) q k = ap (λ i. Some (row.Nick i)) (h n m.id u (is_nick_of n (nick_at m.id a) k.passes) e)
+    at : (o : Option Core) → named n a ≡ o → IsChoice earlier (has n a) a o → named_row o ≡ Some (Row.Nick u)
+    at None q k = absurd (not_named {n = n} a q u e)
+    at (Some m) q k = ap (λ i. Some (Row.Nick i)) (h n m.id u (is_nick_of {n = n} (nick_at m.id a) k.passes) e)
 
 pub named_same : (n : List ℕ) (a : List Core) (m : Core) → ((v : Id) → is_same_nick n (nick_at v (a ++ m ∷ [])) ≡ is_same_nick n (nick_at v a))
     → nick_at m.id a ≡ None → named n (a ++ m ∷ []) ≡ named n a
-named_same n a m e h =
-    choose_push earlier (has n (a ++ m ∷ [])) a m ∙ choice_not earlier (has n (a ++ m ∷ [])) _ m (e m.id ∙ ap (is_same_nick n) h)
-    ∙ (λ j. choose earlier (λ k. e k.id j) a)
+named_same n a m e h = choose_push _ _ a m ∙ choice_not _ _ _ m (e m.id ∙ ap (is_same_nick n) h) ∙ (λ j. choose earlier (λ k. e k.id j) a)

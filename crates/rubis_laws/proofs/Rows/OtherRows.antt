@@ -1,32 +1,11 @@
 -- What a message's parts do to the rows of bids, purchases, comments, nicknames and categories.
-use Rattle.std.proofs.Common.{ℕ, ◌≡◌, ◌+◌, ◌^◌, ◌<◌, List, [], ◌∷◌, ◌++◌, length, Bool, true, false, cond, refl, sym, ap, ◌∙◌, subst, arith, Option, Some}
-use Rattle.std.proofs.Common.{None}
-use Rattle.std.specs.Prelude.{pos, negsuc, ◌+ℤ◌, ◌-ℤ◌, fold, option_map, unsigned_abs, nat_lt, nat_eq, bytes_eq}
-use Rattle.std.specs.Option.{option_or}
-use Rattle.std.proofs.lemmas.Int.{ints}
-use Rattle.std.specs.Cmp.Lexicographic.{bytes_decides}
-use mathlib.Core.Bool.{true≢false}
-use Rattle.rubis_schema.specs.declared.ids.Id.{Id}
+use Rattle.rubis_laws.proofs.Common.{ℕ, ◌≡◌, ◌+◌, ◌^◌, ◌<◌, List, [], ◌∷◌, ◌++◌, length, Bool, true, false, cond, refl, sym, ap, ◌∙◌, subst, arith, Option}
+use Rattle.rubis_laws.proofs.Common.{Some, None, pos, negsuc, ◌+ℤ◌, ◌-ℤ◌, fold, option_map, unsigned_abs, nat_lt, bytes_eq, option_or, ints, bytes_decides}
+use Rattle.rubis_laws.proofs.Common.{true≢false, Id, Shadow, Core, Row, Insert, CatListed, CatEnded, NickFreed, OtherUser, NewRename, same_id, change_row}
+use Rattle.rubis_laws.proofs.Common.{misfits_as, removed, parts, count, when, at_id, as_bid, as_purchase, as_comment, as_user, nick_at, is_same_nick, named}
+use Rattle.rubis_laws.proofs.Common.{lists_in, closes_in, category_row, meaning_row, Follows, has_id, Decides-same_id, count_by-le-length, RowKey}
 use Rattle.rubis_laws.proofs.Order.FitsByKind.{FitsByKind, by_kind}
-use Rattle.rubis_laws.proofs.Rows.Heads.{Head, msg}
-use Rattle.rubis_shadow.specs.declared.shadows.Shadow.{Shadow}
-use Rattle.rubis_shadow.specs.declared.shadows.Shadow.TheVariants as shadow
-use Rattle.rubis_model.specs.Log.{Core}
-use Rattle.rubis_schema.specs.declared.rows.Row.{Row}
-use Rattle.rubis_schema.specs.declared.rows.Row.TheVariants as row
-use Rattle.rubis_schema.specs.declared.row_keys.RowKey.TheVariants as key
-use Rattle.rubis_shadow.specs.declared.changes.Change.TheVariants.{Insert, CatListed, CatEnded, NickFreed}
-use Rattle.rubis_shadow.specs.declared.changes.MisfitKind.TheVariants.{OtherUser}
-use Rattle.rubis_shadow.specs.Renames.{NewRename}
-use Rattle.rubis_schema.specs.Keys.{same_id}
-use Rattle.rubis_shadow.specs.Changes.{change_row, misfits_as, removed}
-use Rattle.rubis_shadow.specs.Shadows.{parts}
-use Rattle.rubis_model.specs.Meaning.{count, when, at_id, as_bid, as_purchase, as_comment, as_user, nick_at, is_same_nick, named, lists_in, closes_in}
-use Rattle.rubis_model.specs.Meaning.{category_row, meaning_row}
-use Rattle.rubis_model.specs.Checks.{Follows, has_id}
-use Rattle.rubis_schema.specs.KeyLaws.{Decides-same_id}
-use Rattle.rubis_laws.proofs.Rows.Pushes.{count_push, or_none, at_id_push_not, at_id_push, none_at}
-use Rattle.std.proofs.lemmas.List.Sums.{count_by-le-length}
+use Rattle.rubis_laws.proofs.Rows.Sets.{Head, msg, plus_none, count_push, or_none, at_id_push_not, at_id_push, none_at}
 use Rattle.rubis_laws.proofs.Rows.CheckedLogs.{Good, rename_gives, user_gives}
 use Rattle.rubis_laws.proofs.Rows.Nicks.{Free, gives_nick, keeps_nicks, nick_none, not_named, named_none, named_is, named_same, named_row}
 use Rattle.rubis_laws.proofs.Rows.RowsOfUser.{at_key, small_sum, small_int}
@@ -47,22 +26,22 @@ module _ {X : Type 0} (f : Core → Option X) (wrap : X → Row) where
   one_more i a m x false e none h = ap (option_map wrap) (sym (at_id_push f i a m ∙ ap (λ b. option_or (at_id f i a) (when b (f m))) h ∙ or_none _))
 
 pub row_of_bid : {a : List Core} (s : Head) (x : Shadow) → Follows a (msg s x) → (i : Id)
-    → fold (at_key (key.Bid i)) (meaning_row a (key.Bid i)) (parts s.id s.red x) ≡ meaning_row (a ++ msg s x ∷ []) (key.Bid i)
+    → fold (at_key (RowKey.Bid i)) (meaning_row a (RowKey.Bid i)) (parts s.id s.red x) ≡ meaning_row (a ++ msg s x ∷ []) (RowKey.Bid i)
 unfolding meaning_row
-row_of_bid {a} s (shadow.Bid b) f i = one_more (λ m. as_bid m.red m.shadow) row.Bid i a (msg s (shadow.Bid b)) _ _ refl f.new_id refl
-row_of_bid {a} s x f i = same_rows (λ m. as_bid m.red m.shadow) row.Bid i a (msg s x) refl
+row_of_bid {a} s (Shadow.Bid b) f i = one_more (λ m. as_bid m.red m.shadow) Row.Bid i a (msg s (Shadow.Bid b)) _ _ refl f.new_id refl
+row_of_bid {a} s x f i = same_rows (λ m. as_bid m.red m.shadow) Row.Bid i a (msg s x) refl
 
 pub row_of_purchase : {a : List Core} (s : Head) (x : Shadow) → Follows a (msg s x) → (i : Id)
-    → fold (at_key (key.Purchase i)) (meaning_row a (key.Purchase i)) (parts s.id s.red x) ≡ meaning_row (a ++ msg s x ∷ []) (key.Purchase i)
+    → fold (at_key (RowKey.Purchase i)) (meaning_row a (RowKey.Purchase i)) (parts s.id s.red x) ≡ meaning_row (a ++ msg s x ∷ []) (RowKey.Purchase i)
 unfolding meaning_row
-row_of_purchase {a} s (shadow.Buy b) f i = one_more (λ m. as_purchase m.shadow) row.Purchase i a (msg s (shadow.Buy b)) _ _ refl f.new_id refl
-row_of_purchase {a} s x f i = same_rows (λ m. as_purchase m.shadow) row.Purchase i a (msg s x) refl
+row_of_purchase {a} s (Shadow.Buy b) f i = one_more (λ m. as_purchase m.shadow) Row.Purchase i a (msg s (Shadow.Buy b)) _ _ refl f.new_id refl
+row_of_purchase {a} s x f i = same_rows (λ m. as_purchase m.shadow) Row.Purchase i a (msg s x) refl
 
 pub row_of_comment : {a : List Core} (s : Head) (x : Shadow) → Follows a (msg s x) → (i : Id)
-    → fold (at_key (key.Comment i)) (meaning_row a (key.Comment i)) (parts s.id s.red x) ≡ meaning_row (a ++ msg s x ∷ []) (key.Comment i)
+    → fold (at_key (RowKey.Comment i)) (meaning_row a (RowKey.Comment i)) (parts s.id s.red x) ≡ meaning_row (a ++ msg s x ∷ []) (RowKey.Comment i)
 unfolding meaning_row
-row_of_comment {a} s (shadow.Comment b) f i = one_more (λ m. as_comment m.shadow) row.Comment i a (msg s (shadow.Comment b)) _ _ refl f.new_id refl
-row_of_comment {a} s x f i = same_rows (λ m. as_comment m.shadow) row.Comment i a (msg s x) refl
+row_of_comment {a} s (Shadow.Comment b) f i = one_more (λ m. as_comment m.shadow) Row.Comment i a (msg s (Shadow.Comment b)) _ _ refl f.new_id refl
+row_of_comment {a} s x f i = same_rows (λ m. as_comment m.shadow) Row.Comment i a (msg s x) refl
 
 -- ---- nicknames
 
@@ -78,37 +57,37 @@ not_given : (n k : List ℕ) (b : Bool) (o : Option (List ℕ)) → bytes_eq n k
 not_given n k true o e h = e ∙ sym (h refl)
 not_given n k false o e h = refl
 
-new_nick : {a : List Core} (s : Head) (k n : List ℕ) → Good a → Good (a ++ msg s (shadow.User k) ∷ []) → Follows a (msg s (shadow.User k)) → (b : Bool)
-    → bytes_eq n k ≡ b → cond b (change_row (Insert (row.Nick s.id)) (named_row (named n a))).row (named_row (named n a)) ≡ named_row
-    (named n (a ++ msg s (shadow.User k) ∷ []))
+new_nick : {a : List Core} (s : Head) (k n : List ℕ) → Good a → Good (a ++ msg s (Shadow.User k) ∷ []) → Follows a (msg s (Shadow.User k)) → (b : Bool)
+    → bytes_eq n k ≡ b → cond b (change_row (Insert (Row.Nick s.id)) (named_row (named n a))).row (named_row (named n a)) ≡ named_row
+    (named n (a ++ msg s (Shadow.User k) ∷ []))
 unfolding change_row
 new_nick {a} s k n g h f true e =
     let same : n ≡ k = (bytes_decides n k).0 e in
-    ap (λ o. (change_row (Insert (row.Nick s.id)) (named_row o)).row) (subst (λ w. named w a ≡ None) (sym same) (by_kind a (shadow.User k) f.fits))
-    ∙ sym (named_is (a ++ msg s (shadow.User k) ∷ []) s.id h.nicks
+    ap (λ o. (change_row (Insert (Row.Nick s.id)) (named_row o)).row) (subst (λ w. named w a ≡ None) (sym same) (by_kind a (Shadow.User k) f.fits))
+    ∙ sym (named_is (a ++ msg s (Shadow.User k) ∷ []) h.nicks
     (user_gives s k g f s.id ∙ ap (λ b. cond b (Some k) (nick_at s.id a)) ((Decides-same_id s.id s.id).1 refl) ∙ ap Some (sym same)))
 new_nick {a} s k n g h f false e =
     let none : nick_at s.id a ≡ None = nick_none s.id a (none_at (λ m. as_user m.shadow) s.id a f.new_id) in
-    ap named_row (sym (named_same n a (msg s (shadow.User k)) (λ v. ap (is_same_nick n) (user_gives s k g f v)
+    ap named_row (sym (named_same n a (msg s (Shadow.User k)) (λ v. ap (is_same_nick n) (user_gives s k g f v)
     ∙ not_given n k (same_id v s.id) (nick_at v a) e (λ t. ap (is_same_nick n) (subst (λ w. nick_at w a ≡ None) (sym ((Decides-same_id v s.id).0 t)) none)))
     none))
 
-module _ (a : List Core) (s : Head) (r : NewRename) (g : Good a) (f : Follows a (msg s (shadow.Rename r))) where
+module _ (a : List Core) (s : Head) (r : NewRename) (g : Good a) (f : Follows a (msg s (Shadow.Rename r))) where
   abbrev x : Core
-  x = msg s (shadow.Rename r)
+  x = msg s (Shadow.Rename r)
 
-  fit : FitsByKind a (shadow.Rename r)
-  fit = by_kind a (shadow.Rename r) f.fits
+  fit : FitsByKind a (Shadow.Rename r)
+  fit = by_kind a (Shadow.Rename r) f.fits
 
   -- who has the old nickname before
-  had : named_row (named r.from a) ≡ Some (row.Nick r.user)
-  had = named_is a r.user g.nicks fit.0
+  had : named_row (named r.from a) ≡ Some (Row.Nick r.user)
+  had = named_is a g.nicks fit.0
 
   two_nicks : ¬ (r.from ≡ r.to)
-  two_nicks e = not_named r.to a fit.1 r.user (fit.0 ∙ ap Some e)
+  two_nicks e = not_named a fit.1 r.user (fit.0 ∙ ap Some e)
 
   gone : Free r.from (λ v. nick_at v (a ++ x ∷ []))
-  gone v e = at (same_id v r.user) refl (sym (rename_gives s r g f v) ∙ e)
+  gone v e = at (same_id v r.user) refl (sym (rename_gives g f v) ∙ e)
     where
       at : (b : Bool) → same_id v r.user ≡ b → cond (same_id v r.user) (Some r.to) (nick_at v a) ≡ Some r.from → ⊥
       at true t p =
@@ -118,16 +97,16 @@ module _ (a : List Core) (s : Head) (r : NewRename) (g : Good a) (f : Follows a 
           let z : nick_at v a ≡ Some r.from = ap (λ b. cond b (Some r.to) (nick_at v a)) (sym t) ∙ p in
           true≢false (sym ((Decides-same_id v r.user).1 (g.nicks r.from v r.user z fit.0)) ∙ t)
 
-  freed : (change_row (NickFreed r.user) (Some (row.Nick r.user))).row ≡ None
+  freed : (change_row (NickFreed r.user) (Some (Row.Nick r.user))).row ≡ None
   unfolding change_row
-  freed = ap (λ b. (cond b removed (misfits_as OtherUser (Some (row.Nick r.user)))).row) ((Decides-same_id r.user r.user).1 refl)
+  freed = ap (λ b. (cond b removed (misfits_as OtherUser (Some (Row.Nick r.user)))).row) ((Decides-same_id r.user r.user).1 refl)
 
   pub freed_fits : (change_row (NickFreed r.user) (named_row (named r.from a))).misfit ≡ None
   unfolding change_row
   freed_fits = ap (λ o. (change_row (NickFreed r.user) o).misfit) had
-      ∙ ap (λ b. (cond b removed (misfits_as OtherUser (Some (row.Nick r.user)))).misfit) ((Decides-same_id r.user r.user).1 refl)
+      ∙ ap (λ b. (cond b removed (misfits_as OtherUser (Some (Row.Nick r.user)))).misfit) ((Decides-same_id r.user r.user).1 refl)
 
-  put : (change_row (Insert (row.Nick r.user)) None).row ≡ Some (row.Nick r.user)
+  put : (change_row (Insert (Row.Nick r.user)) None).row ≡ Some (Row.Nick r.user)
   unfolding change_row
   put = refl
 
@@ -135,38 +114,35 @@ module _ (a : List Core) (s : Head) (r : NewRename) (g : Good a) (f : Follows a 
   second b o = cond b (change_row (NickFreed r.user) o).row o
 
   abbrev third : Bool → Option Row → Option Row
-  third b o = cond b (change_row (Insert (row.Nick r.user)) o).row o
+  third b o = cond b (change_row (Insert (Row.Nick r.user)) o).row o
 
   pub renamed_nick : Good (a ++ x ∷ []) → (n : List ℕ) (b : Bool) → bytes_eq n r.from ≡ b → (c : Bool) → bytes_eq n r.to ≡ c →
       third c (second b (named_row (named n a))) ≡ named_row (named n (a ++ x ∷ []))
   renamed_nick h n true p true q = absurd (two_nicks (sym ((bytes_decides n r.from).0 p) ∙ (bytes_decides n r.to).0 q))
   renamed_nick h n true p false q =
       let same : n ≡ r.from = (bytes_decides n r.from).0 p in
-      ap (λ o. (change_row (NickFreed r.user) o).row) (subst (λ w. named_row (named w a) ≡ Some (row.Nick r.user)) (sym same) had) ∙ freed
-      ∙ ap named_row (sym (subst (λ w. named w (a ++ x ∷ []) ≡ None) (sym same) (named_none r.from (a ++ x ∷ []) gone)))
+      ap (λ o. (change_row (NickFreed r.user) o).row) (subst (λ w. named_row (named w a) ≡ Some (Row.Nick r.user)) (sym same) had) ∙ freed
+      ∙ ap named_row (sym (subst (λ w. named w (a ++ x ∷ []) ≡ None) (sym same) (named_none (a ++ x ∷ []) gone)))
   renamed_nick h n false p true q =
       let same : n ≡ r.to = (bytes_decides n r.to).0 q in
-      ap (λ o. (change_row (Insert (row.Nick r.user)) (named_row o)).row) (subst (λ w. named w a ≡ None) (sym same) fit.1) ∙ put
-      ∙ sym (named_is (a ++ x ∷ []) r.user h.nicks
-      (rename_gives s r g f r.user ∙ ap (λ b. cond b (Some r.to) (nick_at r.user a)) ((Decides-same_id r.user r.user).1 refl) ∙ ap Some (sym same)))
-  renamed_nick h n false p false q =
-      ap named_row (sym (named_same n a x
-      (λ v. ap (is_same_nick n) (rename_gives s r g f v)
-      ∙ not_given n r.to (same_id v r.user) (nick_at v a) q
-      (λ t. ap (is_same_nick n) (subst (λ w. nick_at w a ≡ Some r.from) (sym ((Decides-same_id v r.user).0 t)) fit.0) ∙ p))
+      ap (λ o. (change_row (Insert (Row.Nick r.user)) (named_row o)).row) (subst (λ w. named w a ≡ None) (sym same) fit.1) ∙ put
+      ∙ sym (named_is (a ++ x ∷ []) h.nicks
+      (rename_gives g f r.user ∙ ap (λ b. cond b (Some r.to) (nick_at r.user a)) ((Decides-same_id r.user r.user).1 refl) ∙ ap Some (sym same)))
+  renamed_nick h n false p false q = ap named_row (sym (named_same n a x (λ v. ap (is_same_nick n) (rename_gives {s = s} {r = r} g f v) ∙ not_given n r.to
+      (same_id v r.user) (nick_at v a) q (λ t. ap (is_same_nick n) (subst (λ w. nick_at w a ≡ Some r.from) (sym ((Decides-same_id v r.user).0 t)) fit.0) ∙ p))
       (nick_none s.id a (none_at (λ m. as_user m.shadow) s.id a f.new_id))))
 
 pub row_of_nick : {a : List Core} (s : Head) (x : Shadow) → Good a → Good (a ++ msg s x ∷ []) → Follows a (msg s x) → (n : List ℕ)
-    → fold (at_key (key.Nick n)) (meaning_row a (key.Nick n)) (parts s.id s.red x) ≡ meaning_row (a ++ msg s x ∷ []) (key.Nick n)
+    → fold (at_key (RowKey.Nick n)) (meaning_row a (RowKey.Nick n)) (parts s.id s.red x) ≡ meaning_row (a ++ msg s x ∷ []) (RowKey.Nick n)
 unfolding meaning_row
-row_of_nick s (shadow.User k) g h f n = new_nick s k n g h f _ refl
-row_of_nick {a} s (shadow.Rename r) g h f n = renamed_nick a s r g f h n _ refl _ refl
+row_of_nick s (Shadow.User k) g h f n = new_nick s k n g h f _ refl
+row_of_nick {a} s (Shadow.Rename r) g h f n = renamed_nick a s r g f h n _ refl _ refl
 row_of_nick {a} s x g h f n = other_nick n a (msg s x) f.new_id refl
 
 -- ---- categories
 
 abbrev cat_of : ℕ → ℕ → Row
-cat_of c e = row.Cat (record { items = c; live = pos c -ℤ pos e })
+cat_of c e = Row.Cat (record { items = c; live = pos c -ℤ pos e })
 
 abbrev grown : List Core → Shadow → ℕ → Row
 grown a x k = cat_of (count (lists_in k) a + cond (lists_in k x) 1 0) (count (closes_in k) a + cond (closes_in k x) 1 0)
@@ -174,26 +150,23 @@ grown a x k = cat_of (count (lists_in k) a + cond (lists_in k x) 1 0) (count (cl
 category_push : (a : List Core) (m : Core) (k : ℕ) → category_row (a ++ m ∷ []) k ≡ grown a m.shadow k
 category_push a m k = λ j. cat_of (count_push (lists_in k) a m j) (count_push (closes_in k) a m j)
 
-meaning_push : (a : List Core) (m : Core) (k : ℕ) → when (nat_lt k 1000) (Some (grown a m.shadow k)) ≡ meaning_row (a ++ m ∷ []) (key.Cat k)
+meaning_push : (a : List Core) (m : Core) (k : ℕ) → when (nat_lt k 1000) (Some (grown a m.shadow k)) ≡ meaning_row (a ++ m ∷ []) (RowKey.Cat k)
 unfolding meaning_row
 meaning_push a m k = ap (λ r. when (nat_lt k 1000) (Some r)) (sym (category_push a m k))
 
-zero_more : (x : ℕ) → x ≡ x + 0
-zero_more x = omega arith
-
 still : (t : Bool) (c e : ℕ) → when t (Some (cat_of c e)) ≡ when t (Some (cat_of (c + 0) (e + 0)))
-still t c e = λ j. when t (Some (cat_of (zero_more c j) (zero_more e j)))
+still t c e = λ j. when t (Some (cat_of (plus_none c j) (plus_none e j)))
 
 one_live : (c e : ℕ) → c < 2 ^ 61 → e < 2 ^ 61 → unsigned_abs (pos c -ℤ pos e +ℤ pos 1) < 2 ^ 63
 one_live c e p q = grind (arith, ints)
 
-one_ended : (c e : ℕ) → c < 2 ^ 61 → e < 2 ^ 61 → unsigned_abs (pos c -ℤ pos e +ℤ negsuc 0) < 2 ^ 63
-one_ended c e p q = grind (arith, ints)
+one_ended : {c e : ℕ} → c < 2 ^ 61 → e < 2 ^ 61 → unsigned_abs (pos c -ℤ pos e +ℤ negsuc 0) < 2 ^ 63
+one_ended p q = grind (arith, ints)
 
 listed : (t b : Bool) (c e : ℕ) → c < 2 ^ 61 → e < 2 ^ 61 → cond b (change_row CatListed (when t (Some (cat_of c e)))).row (when t (Some (cat_of c e))) ≡ when t
     (Some (cat_of (c + cond b 1 0) (e + 0)))
 unfolding change_row
-listed true true c e p q = λ j. Some (row.Cat (record { items = small_sum c 1 (omega arith) j; live = (small_int _ (one_live c e p q) ∙ sums) j }))
+listed true true c e p q = λ j. Some (Row.Cat (record { items = small_sum c 1 (omega arith) j; live = (small_int _ (one_live c e p q) ∙ sums) j }))
   where
     sums : pos c -ℤ pos e +ℤ pos 1 ≡ pos (c + 1) -ℤ pos (e + 0)
     sums = omega (arith, ints)
@@ -203,7 +176,7 @@ listed t false c e p q = still t c e
 ended : (t b : Bool) (c e : ℕ) → c < 2 ^ 61 → e < 2 ^ 61 → cond b (change_row CatEnded (when t (Some (cat_of c e)))).row (when t (Some (cat_of c e))) ≡ when t
     (Some (cat_of (c + 0) (e + cond b 1 0)))
 unfolding change_row
-ended true true c e p q = λ j. Some (row.Cat (record { items = zero_more c j; live = (small_int _ (one_ended c e p q) ∙ sums) j }))
+ended true true c e p q = λ j. Some (Row.Cat (record { items = plus_none c j; live = (small_int _ (one_ended p q) ∙ sums) j }))
   where
     sums : pos c -ℤ pos e +ℤ negsuc 0 ≡ pos (c + 0) -ℤ pos (e + 1)
     sums = omega (arith, ints)
@@ -214,10 +187,8 @@ small : (p : Shadow → Bool) (a : List Core) → length a < 2 ^ 32 → count p 
 small p a h = let l = count_by-le-length (λ (m : Core). p m.shadow) a in omega (arith, l, h)
 
 pub row_of_cat : (a : List Core) (s : Head) (x : Shadow) → length a < 2 ^ 32 → (k : ℕ)
-    → fold (at_key (key.Cat k)) (meaning_row a (key.Cat k)) (parts s.id s.red x) ≡ meaning_row (a ++ msg s x ∷ []) (key.Cat k)
+    → fold (at_key (RowKey.Cat k)) (meaning_row a (RowKey.Cat k)) (parts s.id s.red x) ≡ meaning_row (a ++ msg s x ∷ []) (RowKey.Cat k)
 unfolding meaning_row
-row_of_cat a s (shadow.Item n) h k =
-    listed (nat_lt k 1000) (nat_eq k n.cat) _ _ (small (lists_in k) a h) (small (closes_in k) a h) ∙ meaning_push a (msg s (shadow.Item n)) k
-row_of_cat a s (shadow.Close n) h k =
-    ended (nat_lt k 1000) (nat_eq k n.cat) _ _ (small (lists_in k) a h) (small (closes_in k) a h) ∙ meaning_push a (msg s (shadow.Close n)) k
+row_of_cat a s (Shadow.Item n) h k = listed _ _ _ _ (small _ a h) (small _ a h) ∙ meaning_push a _ k
+row_of_cat a s (Shadow.Close n) h k = ended _ _ _ _ (small _ a h) (small _ a h) ∙ meaning_push a _ k
 row_of_cat a s x h k = still (nat_lt k 1000) _ _ ∙ meaning_push a (msg s x) k

@@ -1,38 +1,20 @@
 -- What a message's parts do to a user's row is what it adds to the row's meaning.
-use Rattle.std.proofs.Common.{ℕ, ◌≡◌, ◌+◌, ◌-◌, ◌^◌, ◌<◌, List, [], ◌∷◌, ◌++◌, length, Bool, true, false, cond, refl, sym, ap, ◌∙◌, subst, arith, Option, Some}
-use Rattle.std.proofs.Common.{None}
-use Rattle.std.specs.Prelude.{ℤ, pos, negsuc, ◌+ℤ◌, fold, option_map, IsSome, is_some, unsigned_abs, min}
-use Rattle.std.proofs.lemmas.Int.{ints}
-use Rattle.rubis_schema.specs.declared.ids.Id.{Id}
-use mathlib.Core.Bool.{true≢false}
+use Rattle.rubis_laws.proofs.Common.{ℕ, ◌≡◌, ◌+◌, ◌-◌, ◌^◌, ◌<◌, List, [], ◌∷◌, ◌++◌, length, Bool, true, false, cond, refl, sym, ap, ◌∙◌, subst, arith, Option}
+use Rattle.rubis_laws.proofs.Common.{Some, None, ℤ, pos, negsuc, ◌+ℤ◌, fold, option_map, IsSome, is_some, unsigned_abs, min, ints, Id, true≢false, Shadow, Core}
+use Rattle.rubis_laws.proofs.Common.{Effect, Row, RowKey, Insert, ItemListed, Bought, Rated, Renamed, same_id, key_eq, change_row, parts, count, total}
+use Rattle.rubis_laws.proofs.Common.{int_sum_by, at_id, user_at, as_user, nick_at, lists_item_of, bought_by, rates, rating_for, user_row, meaning_row, Follows}
+use Rattle.rubis_laws.proofs.Common.{Decides-same_id, count_by-le-length}
 use Rattle.rubis_laws.proofs.Order.FitsByKind.{by_kind}
-use Rattle.rubis_laws.proofs.Rows.Heads.{Head, msg}
-use Rattle.rubis_shadow.specs.declared.shadows.Shadow.{Shadow}
-use Rattle.rubis_shadow.specs.declared.shadows.Shadow.TheVariants as shadow
-use Rattle.rubis_model.specs.Log.{Core}
-use Rattle.rubis_shadow.specs.declared.keyed_change.Effect.{Effect}
-use Rattle.rubis_schema.specs.declared.rows.Row.{Row}
-use Rattle.rubis_schema.specs.declared.rows.Row.TheVariants as row
-use Rattle.rubis_schema.specs.declared.row_keys.RowKey.{RowKey}
-use Rattle.rubis_schema.specs.declared.row_keys.RowKey.TheVariants as key
-use Rattle.rubis_shadow.specs.declared.changes.Change.TheVariants.{Insert, ItemListed, Bought, Rated, Renamed}
-use Rattle.rubis_schema.specs.Keys.{same_id, key_eq}
-use Rattle.rubis_shadow.specs.Changes.{change_row, saturated}
-use Rattle.rubis_shadow.specs.Shadows.{parts}
-use Rattle.rubis_model.specs.Meaning.{count, total, int_sum_by, at_id, user_at, as_user, nick_at, lists_item_of, bought_by, rates, rating_for, user_row}
-use Rattle.rubis_model.specs.Meaning.{meaning_row}
-use Rattle.rubis_model.specs.Checks.{Follows}
-use Rattle.rubis_schema.specs.KeyLaws.{Decides-same_id}
-use Rattle.rubis_laws.proofs.Rows.Pushes.{count_push, total_push, int_sum_push, none_at}
+use Rattle.rubis_laws.proofs.Rows.Sets.{Head, msg, count_push, total_push, int_sum_push, none_at}
+use Rattle.rubis_shadow.specs.Changes.{saturated}
 use Rattle.rubis_laws.proofs.Rows.CheckedLogs.{Good, abs_sum, rename_gives, user_gives}
 use Rattle.rubis_laws.proofs.Rows.Nicks.{gives_nick, keeps_nicks, nick_none}
-use Rattle.std.proofs.lemmas.List.Sums.{count_by-le-length}
 
 abbrev pub at_key : RowKey → Option Row → Effect → Option Row
 at_key q o e = cond (key_eq q e.key) (change_row e.change o).row o
 
 abbrev user_of : ℕ → ℕ → ℤ → ℕ → List ℕ → Row
-user_of c s r k n = row.User (record { nick = n; items = c; bought = s; rating = r; comments = k })
+user_of c s r k n = Row.User (record { nick = n; items = c; bought = s; rating = r; comments = k })
 
 same_user : {c d s t k l : ℕ} {r z : ℤ} (n : List ℕ) → c ≡ d → s ≡ t → r ≡ z → k ≡ l → user_of c s r k n ≡ user_of d t z l n
 same_user n a b e f = λ i. user_of (a i) (b i) (e i) (f i) n
@@ -53,11 +35,10 @@ grown a x u =
     (int_sum_by (λ m. rating_for u m.shadow) a +ℤ rating_for u x) (count (rates u) a + cond (rates u x) 1 0)
 
 user_row_push : (a : List Core) (m : Core) (u : Id) (n : List ℕ) → user_row (a ++ m ∷ []) u n ≡ grown a m.shadow u n
-user_row_push a m u n =
-    same_user n (count_push (lists_item_of u) a m) (total_push (bought_by u) a m) (int_sum_push (λ m. rating_for u m.shadow) a m) (count_push (rates u) a m)
+user_row_push a m u n = same_user n (count_push _ a m) (total_push _ a m) (int_sum_push (λ m. rating_for u m.shadow) a m) (count_push _ a m)
 
 user_meaning_push : (a : List Core) (m : Core) (u : Id) → gives_nick m.shadow ≡ false
-    → meaning_row (a ++ m ∷ []) (key.User u) ≡ option_map (grown a m.shadow u) (nick_at u a)
+    → meaning_row (a ++ m ∷ []) (RowKey.User u) ≡ option_map (grown a m.shadow u) (nick_at u a)
 unfolding meaning_row
 user_meaning_push a m u e = λ i. option_map (λ n. user_row_push a m u n i) (keeps_nicks u a m e i)
 
@@ -100,40 +81,35 @@ renamed true n c s k r (Some m) h = still c s k r (Some n)
 renamed false n c s k r o h = still c s k r o
 
 -- a new user's row
-inserted : {a : List Core} (s : Head) (n : List ℕ) (u : Id) (b : Bool) → same_id u s.id ≡ b → Good a → Follows a (msg s (shadow.User n))
-    → cond b (change_row (Insert (user_of 0 0 (pos 0) 0 n)) (meaning_row a (key.User u))).row (meaning_row a (key.User u)) ≡ meaning_row
-    (a ++ msg s (shadow.User n) ∷ []) (key.User u)
+inserted : {a : List Core} (s : Head) (n : List ℕ) (u : Id) (b : Bool) → same_id u s.id ≡ b → Good a → Follows a (msg s (Shadow.User n))
+    → cond b (change_row (Insert (user_of 0 0 (pos 0) 0 n)) (meaning_row a (RowKey.User u))).row (meaning_row a (RowKey.User u)) ≡ meaning_row
+    (a ++ msg s (Shadow.User n) ∷ []) (RowKey.User u)
 unfolding change_row meaning_row
 inserted {a} s n u true e g f =
     let none : user_at u a ≡ None = none_at (λ m. as_user m.shadow) u a (subst (λ w. at_id Some w a ≡ None) (sym ((Decides-same_id u s.id).0 e)) f.new_id) in
     let z = g.no_user u none in
-    let there : nick_at u (a ++ msg s (shadow.User n) ∷ []) ≡ Some n = user_gives s n g f u ∙ ap (λ b. cond b (Some n) (nick_at u a)) e in
+    let there : nick_at u (a ++ msg s (Shadow.User n) ∷ []) ≡ Some n = user_gives s n g f u ∙ ap (λ b. cond b (Some n) (nick_at u a)) e in
     ap (λ o. (change_row (Insert (user_of 0 0 (pos 0) 0 n)) (option_map (user_row a u) o)).row) (nick_none u a none)
     ∙ ap Some (same_user n (sym (ap (λ k. k + 0) z.items)) (sym (ap (λ k. k + 0) z.bought)) (sym (ap (λ k. k +ℤ pos 0) z.rating))
-    (sym (ap (λ k. k + 0) z.comments)) ∙ sym (user_row_push a (msg s (shadow.User n)) u n))
-    ∙ ap (option_map (user_row (a ++ msg s (shadow.User n) ∷ []) u)) (sym there)
-inserted {a} s n u false e g f =
-    still _ _ _ _ (nick_at u a) ∙ (λ i. option_map (λ k. sym (user_row_push a (msg s (shadow.User n)) u k) i) (nick_at u a))
-    ∙ ap (option_map (user_row (a ++ msg s (shadow.User n) ∷ []) u)) (sym (user_gives s n g f u ∙ ap (λ b. cond b (Some n) (nick_at u a)) e))
+    (sym (ap (λ k. k + 0) z.comments)) ∙ sym (user_row_push a (msg s (Shadow.User n)) u n))
+    ∙ ap (option_map (user_row (a ++ msg s (Shadow.User n) ∷ []) u)) (sym there)
+inserted {a} s n u false e g f = still _ _ _ _ _ ∙ (λ i. option_map (λ k. sym (user_row_push a (msg s (Shadow.User n)) u k) i) (nick_at u a)) ∙ ap
+    (option_map (user_row (a ++ msg s (Shadow.User n) ∷ []) u)) (sym (user_gives s n g f u ∙ ap (λ b. cond b (Some n) (nick_at u a)) e))
 
 pub count_small : (p : Shadow → Bool) (a : List Core) → length a < 2 ^ 32 → count p a < 2 ^ 62
 count_small p a h = let l = count_by-le-length (λ (m : Core). p m.shadow) a in omega (arith, l, h)
 
 pub row_of_user : {a : List Core} (s : Head) (x : Shadow) → Good a → Follows a (msg s x) → length a < 2 ^ 32 → (u : Id)
-    → fold (at_key (key.User u)) (meaning_row a (key.User u)) (parts s.id s.red x) ≡ meaning_row (a ++ msg s x ∷ []) (key.User u)
+    → fold (at_key (RowKey.User u)) (meaning_row a (RowKey.User u)) (parts s.id s.red x) ≡ meaning_row (a ++ msg s x ∷ []) (RowKey.User u)
 unfolding meaning_row
-row_of_user s (shadow.User n) g f h u = inserted s n u _ refl g f
-row_of_user {a} s (shadow.Item n) g f h u =
-    listed (same_id u n.seller) _ _ _ _ (nick_at u a) (count_small (lists_item_of u) a h) ∙ sym (user_meaning_push a (msg s (shadow.Item n)) u refl)
-row_of_user {a} s (shadow.Buy p) g f h u =
-    bought_more (same_id u p.buyer) p.quantity _ _ _ _ (nick_at u a) (let l = g.bought u in let q = f.limits.1.quantity.small in omega (arith, l, q, h))
-    ∙ sym (user_meaning_push a (msg s (shadow.Buy p)) u refl)
-row_of_user {a} s (shadow.Comment c) g f h u =
+row_of_user s (Shadow.User n) g f h u = inserted s n u _ refl g f
+row_of_user {a} s (Shadow.Item n) g f h u = listed _ _ _ _ _ _ (count_small _ a h) ∙ sym (user_meaning_push a _ u refl)
+row_of_user {a} s (Shadow.Buy p) g f h u = bought_more _ _ _ _ _ _ _ (let l = g.bought u in let q = f.limits.1.quantity.small in omega (arith, l, q, h)) ∙ sym
+    (user_meaning_push a _ u refl)
+row_of_user {a} s (Shadow.Comment c) g f h u =
     rated (same_id u c.to) c.rating _ _ _ _ (nick_at u a) (count_small (rates u) a h)
     (let l = g.rating u in let q = f.limits.1.rating in let t = abs_sum (int_sum_by (λ m. rating_for u m.shadow) a) c.rating in omega (arith, l, q, t, h))
-    ∙ sym (user_meaning_push a (msg s (shadow.Comment c)) u refl)
-row_of_user {a} s (shadow.Rename r) g f h u =
-    renamed (same_id u r.user) r.to _ _ _ _ (nick_at u a)
-    (λ e. subst (λ w. IsSome (nick_at w a)) (sym ((Decides-same_id u r.user).0 e)) (ap is_some (by_kind a (shadow.Rename r) f.fits).0))
-    ∙ (λ i. option_map (λ k. sym (user_row_push a (msg s (shadow.Rename r)) u k) i) (sym (rename_gives s r g f u) i))
+    ∙ sym (user_meaning_push a (msg s (Shadow.Comment c)) u refl)
+row_of_user {a} s (Shadow.Rename r) g f h u = renamed _ r.to _ _ _ _ _ (λ e. subst (λ w. IsSome (nick_at w a)) (sym ((Decides-same_id u r.user).0 e))
+    (ap is_some (by_kind a _ f.fits).0)) ∙ (λ i. option_map (λ k. sym (user_row_push a (msg s (Shadow.Rename r)) u k) i) (sym (rename_gives g f u) i))
 row_of_user {a} s x g f h u = still _ _ _ _ (nick_at u a) ∙ sym (user_meaning_push a (msg s x) u refl)

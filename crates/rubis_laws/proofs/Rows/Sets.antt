@@ -1,21 +1,91 @@
--- Logs with the same set have the same meaning.
-use Rattle.std.proofs.Common.{ℕ, ◌≡◌, ◌+◌, ◌<◌, List, [], ◌∷◌, ◌++◌, length, Bool, true, false, refl, sym, ap, ◌∙◌, subst, arith, Option, Some, None, inl, inr}
-use Rattle.std.proofs.Common.{⊎_elim, get_or}
-use Rattle.std.specs.Prelude.{pos, negsuc, ℤ, ◌+ℤ◌, ◌-ℤ◌, zero, suc, fold, ⊤, Contains, IsPermutation, ◌⊎◌, ◌↔◌, sum_by}
-use Rattle.std.specs.Option.{option_or}
-use Rattle.std.proofs.lemmas.Int.{ints}
-use Rattle.std.proofs.lemmas.List.Sums.{sum_by-cons}
-use Rattle.std.proofs.lemmas.List.Sorted.{IsPermutation-refl, IsPermutation-sym, IsPermutation-cons, IsPermutation-trans, IsPermutation-middle}
-use Rattle.std.proofs.lemmas.List.Sorted.{sum_by-IsPermutation}
-use mathlib.Core.Bool.{true≢false}
-use Rattle.rubis_schema.specs.declared.ids.Id.{Id}
-use Rattle.rubis_shadow.specs.declared.shadows.Shadow.{Shadow}
-use Rattle.rubis_model.specs.Log.{Core}
-use Rattle.rubis_schema.specs.Keys.{same_id}
-use Rattle.rubis_model.specs.Meaning.{when, at_id, count, total, int_sum_by}
-use Rattle.rubis_model.specs.Checks.{has_id}
-use Rattle.rubis_schema.specs.KeyLaws.{Decides-same_id}
-use Rattle.rubis_laws.proofs.Rows.Pushes.{none_at}
+-- Sets of messages, and what one message more changes of them.
+use Rattle.rubis_laws.proofs.Common.{ℕ, Id, Shadow, Core, arith, ◌≡◌, ◌+◌, List, [], ◌∷◌, ◌++◌, Bool, true, false, cond, refl, sym, ap, ◌∙◌, subst, Option}
+use Rattle.rubis_laws.proofs.Common.{Some, None, append_assoc, ℤ, pos, ◌+ℤ◌, ◌&&◌, option_or, fold_push, same_id, count, total, int_sum_by, choose, choice}
+use Rattle.rubis_laws.proofs.Common.{when, at_id, ◌<◌, length, inl, inr, ⊎_elim, get_or, negsuc, ◌-ℤ◌, zero, suc, fold, ⊤, Contains, IsPermutation, ◌⊎◌, ◌↔◌}
+use Rattle.rubis_laws.proofs.Common.{ints, sum_by-cons, IsPermutation-middle, true≢false, has_id, Decides-same_id}
+use Rattle.std.proofs.lemmas.List.Sums.{sum_by_push}
+use Rattle.rubis_model.specs.Meaning.{first}
+use Rattle.std.specs.Prelude.{sum_by}
+use Rattle.std.proofs.lemmas.List.Sorted.{IsPermutation-refl, IsPermutation-sym, IsPermutation-cons, IsPermutation-trans, sum_by-IsPermutation}
+
+pub record Head : Type 0 where
+  pub id : Id
+  pub red : ℕ
+
+abbrev pub head_of : Core → Head
+head_of m = record { id = m.id; red = m.red }
+
+abbrev pub msg : Head → Shadow → Core
+msg s x = record { id = s.id; red = s.red; shadow = x }
+
+-- ---- what one more message adds to sums, counts and choices
+
+-- every list is built by pushes
+pub by_pushes : {X : Type 0} (P : List X → Type 0) → P [] → ((xs : List X) (x : X) → P xs → P (xs ++ x ∷ [])) → (xs : List X) → P xs
+by_pushes {X} P none more xs = go [] xs none
+  where
+    go : (front back : List X) → P front → P (front ++ back)
+    go front [] h = subst P (search Rattle.std.proofs.Common.rules) h
+    go front (x ∷ back) h = subst P (append_assoc front (x ∷ []) back) (go (front ++ x ∷ []) back (more front x h))
+
+pub plus_none : (x : ℕ) → x ≡ x + 0
+plus_none x = omega arith
+
+pub count_push : (p : Shadow → Bool) (a : List Core) (m : Core) → count p (a ++ m ∷ []) ≡ count p a + cond (p m.shadow) 1 0
+count_push p a m = sum_by_push _ a m
+
+pub total_push : (f : Shadow → ℕ) (a : List Core) (m : Core) → total f (a ++ m ∷ []) ≡ total f a + f m.shadow
+total_push f a m = sum_by_push _ a m
+
+pub int_sum_push : (f : Core → ℤ) (a : List Core) (m : Core) → int_sum_by f (a ++ m ∷ []) ≡ int_sum_by f a +ℤ f m
+int_sum_push f a m = fold_push _ (pos 0) a m
+
+pub choose_push : (beats : Core → Core → Bool) (p : Core → Bool) (a : List Core) (m : Core)
+    → choose beats p (a ++ m ∷ []) ≡ choice beats p (choose beats p a) m
+choose_push beats p a m = fold_push (choice beats p) None a m
+
+-- one that doesn't pass is never chosen
+pub choice_not : (beats : Core → Core → Bool) (p : Core → Bool) (o : Option Core) (m : Core) → p m ≡ false → choice beats p o m ≡ o
+choice_not beats p None m e = ap (λ b. cond b (Some m) None) e
+choice_not beats p (Some x) m e = ap (λ b. cond (b && beats m x) (Some m) (Some x)) e
+
+pub or_none : {X : Type 0} (o : Option X) → option_or o None ≡ o
+or_none None = refl
+or_none (Some x) = refl
+
+or_assoc : {X : Type 0} (o p q : Option X) → option_or o (option_or p q) ≡ option_or (option_or o p) q
+or_assoc None p q = refl
+or_assoc (Some x) p q = refl
+
+pub first_push : {X : Type 0} (f : Core → Option X) (a : List Core) (m : Core) → first f (a ++ m ∷ []) ≡ option_or (first f a) (f m)
+first_push f [] m = or_none (f m)
+first_push f (x ∷ a) m = ap (option_or (f x)) (first_push f a m) ∙ or_assoc (f x) (first f a) (f m)
+
+pub when_none : {X : Type 0} (b : Bool) → when {X = X} b None ≡ None
+when_none true = refl
+when_none false = refl
+
+-- a message of another kind adds no row
+pub at_id_push_not : {X : Type 0} (f : Core → Option X) (i : Id) (a : List Core) (m : Core) → f m ≡ None → at_id f i (a ++ m ∷ []) ≡ at_id f i a
+at_id_push_not f i a m e = first_push _ a m ∙ ap (λ o. option_or (at_id f i a) (when (same_id i m.id) o)) e ∙ ap (option_or (at_id f i a)) (when_none _)
+    ∙ or_none _
+
+pub at_id_push : {X : Type 0} (f : Core → Option X) (i : Id) (a : List Core) (m : Core)
+    → at_id f i (a ++ m ∷ []) ≡ option_or (at_id f i a) (when (same_id i m.id) (f m))
+at_id_push f i a m = first_push _ a m
+
+-- where no message has the id, none of a kind has it
+none_at_first : {X : Type 0} (f : Core → Option X) (i : Id) (m : Core) (a : List Core) → (at_id Some i a ≡ None → at_id f i a ≡ None) → (b : Bool)
+    → same_id i m.id ≡ b → at_id Some i (m ∷ a) ≡ None → at_id f i (m ∷ a) ≡ None
+none_at_first f i m a ih true h e = absurd (let k : Some m ≡ None = ap (λ b. option_or (when b (Some m)) (at_id Some i a)) (sym h) ∙ e in cc)
+none_at_first f i m a ih false h e =
+    ap (λ b. option_or (when b (f m)) (at_id f i a)) h ∙ ih (ap (λ b. option_or (when b (Some m)) (at_id Some i a)) (sym h) ∙ e)
+
+pub none_at : {X : Type 0} (f : Core → Option X) (i : Id) (a : List Core) → at_id Some i a ≡ None → at_id f i a ≡ None
+none_at f i [] e = refl
+none_at f i (m ∷ a) e = none_at_first f i m a (none_at f i a) (same_id i m.id) refl e
+
+-- ---- logs with the same set have the same meaning
 
 -- ---- members
 
@@ -23,19 +93,19 @@ abbrev pub Member : List Core → Core → Type 0
 Member [] m = ⊥
 Member (x ∷ xs) m = (x ≡ m) ⊎ Member xs m
 
-pub member_of : (xs : List Core) (m : Core) → Contains xs m → Member xs m
-member_of xs m c = at xs c.0 c.1 c.2
+pub member_of : (xs : List Core) {m : Core} → Contains xs m → Member xs m
+member_of xs {m} c = at xs c.0 c.1 c.2
   where
     at : (xs : List Core) (k : ℕ) → k < length xs → get_or xs k m ≡ m → Member xs m
     at [] k h e = absurd (omega (arith, h))
     at (x ∷ xs) zero h e = inl e
     at (x ∷ xs) (suc k) h e = inr (at xs k (omega (arith, h)) e)
 
-pub contains_of : (xs : List Core) (m : Core) → Member xs m → Contains xs m
-contains_of [] m h = absurd h
-contains_of (x ∷ xs) m (inl e) = (0, omega arith, e)
-contains_of (x ∷ xs) m (inr h) =
-    let c = contains_of xs m h in
+pub contains_of : (xs : List Core) {m : Core} → Member xs m → Contains xs m
+contains_of [] h = absurd h
+contains_of (x ∷ xs) (inl e) = (0, omega arith, e)
+contains_of (x ∷ xs) {m} (inr h) =
+    let c = contains_of xs {m = m} h in
     (suc c.0, (let l = c.1 in omega (arith, l)), c.2)
 
 pub member_append : (xs ys : List Core) (m : Core) → Member (xs ++ ys) m → Member xs m ⊎ Member ys m
@@ -136,8 +206,7 @@ one_each_without [] ys x u = (u.1, apart ys x u.0)
 one_each_without (z ∷ xs) ys x u =
     let w = one_each_without xs ys x u.1 in (
       (none_without z.id xs ys x u.0, w.0),
-      λ h. ⊎_elim (λ p. true≢false
-          (sym (itself z.id) ∙ (λ i. same_id z.id (p i).id) ∙ not_member (xs ++ x ∷ ys) z.id x u.0 (member_right xs (x ∷ ys) x (inl refl)))) w.1 h,
+      λ h. ⊎_elim (λ p. true≢false (sym (itself z.id) ∙ (λ i. same_id z.id (p i).id) ∙ not_member _ z.id x u.0 (member_right xs _ x (inl refl)))) w.1 h,
     )
 
 pub split_at : (b : List Core) (x : Core) → Member b x → (xs : List Core) × (ys : List Core) × (b ≡ xs ++ x ∷ ys)
@@ -164,11 +233,11 @@ same_permutation (x ∷ a) b u v s =
 
 -- ---- sums
 
-pub same_count : (p : Shadow → Bool) (a b : List Core) → IsPermutation a b → count p a ≡ count p b
-same_count p a b h = sym (sum_by-IsPermutation _ a b h)
+pub same_count : (p : Shadow → Bool) {a b : List Core} → IsPermutation a b → count p a ≡ count p b
+same_count p {a} {b} h = sym (sum_by-IsPermutation _ a b h)
 
-pub same_total : (f : Shadow → ℕ) (a b : List Core) → IsPermutation a b → total f a ≡ total f b
-same_total f a b h = sym (sum_by-IsPermutation _ a b h)
+pub same_total : (f : Shadow → ℕ) {a b : List Core} → IsPermutation a b → total f a ≡ total f b
+same_total f {a} {b} h = sym (sum_by-IsPermutation _ a b h)
 
 abbrev above : ℤ → ℕ
 above (pos n) = n
@@ -184,10 +253,7 @@ one_int n m (negsuc k) = omega (arith, ints)
 
 int_sum_split : (f : Core → ℤ) (n m : ℕ) (a : List Core) → fold (λ s x. s +ℤ f x) (pos n -ℤ pos m) a ≡ pos (n + sum_by (λ x. above (f x)) a) -ℤ pos
     (m + sum_by (λ x. below (f x)) a)
-int_sum_split f n m [] = λ i. pos (zero_more n i) -ℤ pos (zero_more m i)
-  where
-    zero_more : (k : ℕ) → k ≡ k + 0
-    zero_more k = omega arith
+int_sum_split f n m [] = λ i. pos (plus_none n i) -ℤ pos (plus_none m i)
 int_sum_split f n m (x ∷ a) =
     ap (λ s. fold (λ s y. s +ℤ f y) s a) (one_int n m (f x)) ∙ int_sum_split f (n + above (f x)) (m + below (f x)) a
     ∙ (λ i. pos (more n (above (f x)) _ _ (sum_by-cons (λ y. above (f y)) x a) i) -ℤ pos (more m (below (f x)) _ _ (sum_by-cons (λ y. below (f y)) x a) i))

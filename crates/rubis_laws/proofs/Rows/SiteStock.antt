@@ -1,24 +1,12 @@
 -- What there was to sell of an item in a log that a site can have is far below the end of its type.
-use Rattle.std.proofs.Common.{ℕ, ◌≡◌, ◌+◌, ◌*◌, ◌^◌, ◌<◌, ◌≤◌, List, [], ◌∷◌, ◌++◌, Bool, true, false, length, length-append, refl, sym, ap, ◌∙◌, subst, arith}
-use Rattle.std.proofs.Common.{Option, Some, None}
-use Rattle.std.specs.Prelude.{IfSome}
-use Rattle.std.proofs.lemmas.List.Sums.{fold_push}
-use Rattle.rubis_schema.specs.Keys.{same_id}
-use Rattle.rubis_schema.specs.declared.ids.Id.{Id}
+use Rattle.rubis_laws.proofs.Common.{ℕ, ◌≡◌, ◌+◌, ◌*◌, ◌^◌, ◌<◌, ◌≤◌, List, [], ◌∷◌, ◌++◌, Bool, true, false, length, length-append, refl, sym, ap, ◌∙◌, subst}
+use Rattle.rubis_laws.proofs.Common.{arith, Option, Some, None, IfSome, fold_push, same_id, Id, InLimits, Shadow, Item, IsMessage, Message, supplied, supply_at}
+use Rattle.rubis_laws.proofs.Common.{core, cores, Has, cores_push, has_last, has_left}
 use Rattle.rubis_schema.specs.declared.limits.TheConstants.{QUANTITY_MAX}
-use Rattle.rubis_shadow.specs.Shadows.{InLimits}
-use Rattle.rubis_shadow.specs.declared.shadows.Shadow.{Shadow}
-use Rattle.rubis_shadow.specs.declared.shadows.Shadow.TheVariants.{Item}
-use Rattle.rubis_message.specs.Message.{IsMessage, Message}
-use Rattle.rubis_model.specs.Forged.{SitesKeepStock, supplied, supply_at}
-use Rattle.rubis_model.specs.Log.{core, cores}
-use Rattle.rubis_model.specs.Meaning.{restocked_of}
-use Rattle.rubis_model.specs.Settle.{Has}
-use Rattle.rubis_model.proofs.CoreLists.{cores_push}
-use Rattle.rubis_model.proofs.Lists.{has_last, has_left}
+use Rattle.rubis_model.specs.Forged.{SitesKeepStock}
 use Rattle.rubis_laws.proofs.Order.FitsByKind.{restocked_in}
 use Rattle.rubis_laws.proofs.Rows.Forged.{stock_is_kept}
-use Rattle.rubis_laws.proofs.Rows.Pushes.{by_pushes}
+use Rattle.rubis_laws.proofs.Rows.Sets.{by_pushes}
 
 -- at most a million for each message so far
 abbrev Few : ℕ → Option ℕ → Type 0
@@ -27,18 +15,18 @@ Few n o = IfSome o (λ s. s ≤ 1000000 * n)
 million : QUANTITY_MAX ≡ 1000000
 million = refl
 
-few_more : (n q s : ℕ) → s ≤ 1000000 * n → q ≤ QUANTITY_MAX → s + q ≤ 1000000 * (n + 1)
-few_more n q s l k = omega (arith, l, k, million)
+few_more : (n : ℕ) {q s : ℕ} → s ≤ 1000000 * n → q ≤ QUANTITY_MAX → s + q ≤ 1000000 * (n + 1)
+few_more n l k = omega (arith, l, k, million)
 
-few_first : (n q : ℕ) → q ≤ QUANTITY_MAX → q ≤ 1000000 * (n + 1)
-few_first n q k = omega (arith, k, million)
+few_first : (n : ℕ) {q : ℕ} → q ≤ QUANTITY_MAX → q ≤ 1000000 * (n + 1)
+few_first n k = omega (arith, k, million)
 
 -- what one more message within the limits adds
 few_next : (sites n : ℕ) (i : Id) (own : Bool) (o : Option ℕ) (x : Shadow) → InLimits sites x → Few n o → Few (n + 1) (supplied i own o x)
-few_next sites n i true None (Item k) l h = few_first n k.stock l.stock.small
+few_next sites n i true None (Item k) l h = few_first n l.stock.small
 few_next sites n i false None (Item k) l h = tt
 few_next sites n i own None x l h = tt
-few_next sites n i own (Some s) x l h = few_more n (restocked_of i x) s h (restocked_in i x (sites, l))
+few_next sites n i own (Some s) x l h = few_more n h (restocked_in i x (sites, l))
 
 abbrev FewIn : Id → List Message → Type 0
 FewIn i log = ((m : Message) → Has m log → IsMessage m) → Few (length log) (supply_at i (cores log))

@@ -1,19 +1,10 @@
 -- Stock is never exceeded, a nickname has one user, and a closed item's winner is its highest bid.
-use Rattle.std.proofs.Common.{◌≡◌, ◌+◌, List, [], ◌∷◌, ◌++◌, Bool, true, false, cond, refl, sym, ap, ◌∙◌, subst, Some, None, append_assoc}
-use Rattle.std.specs.Prelude.{option_map, IfSome}
-use Rattle.rubis_schema.specs.declared.ids.Id.{Id}
+use Rattle.rubis_laws.proofs.Common.{◌≡◌, List, [], ◌∷◌, ◌++◌, Bool, true, false, cond, refl, sym, ap, ◌∙◌, subst, Some, None, append_assoc, option_map, IfSome}
+use Rattle.rubis_laws.proofs.Common.{Id, Shadow, Bid, Close, Core, same_id, item_at, choice, best_bid, close_of, winner_of, bids_on, closes, higher, earlier}
+use Rattle.rubis_laws.proofs.Common.{Follows, CheckedFrom, Checked, Decides-same_id, Holds}
 use Rattle.rubis_laws.proofs.Order.FitsByKind.{FitsByKind, by_kind}
-use Rattle.rubis_laws.proofs.Rows.Heads.{Head, head_of, msg}
-use Rattle.rubis_shadow.specs.declared.shadows.Shadow.{Shadow}
-use Rattle.rubis_shadow.specs.declared.shadows.Shadow.TheVariants.{Bid, Close}
-use Rattle.rubis_model.specs.Log.{Core}
-use Rattle.rubis_schema.specs.Keys.{same_id}
-use Rattle.rubis_model.specs.Meaning.{item_at, choice, best_bid, close_of, winner_of, bids_on, closes, higher, earlier}
-use Rattle.rubis_model.specs.Checks.{Follows, CheckedFrom, Checked}
-use Rattle.rubis_schema.specs.KeyLaws.{Decides-same_id}
-use Rattle.rubis_laws.proofs.Rows.Pushes.{choose_push, choice_not}
+use Rattle.rubis_laws.proofs.Rows.Sets.{Head, head_of, msg, choose_push, choice_not}
 use Rattle.rubis_laws.proofs.Rows.CheckedLogs.{Good, good_push, good_none, if_some_map}
-use Rattle.rubis_model.specs.Invariants.{Holds}
 
 -- ---- winners
 still : (i : Id) (a : List Core) (m : Core) → bids_on i m.shadow ≡ false → closes i m.shadow ≡ false
@@ -32,10 +23,9 @@ winner_push a s (Bid b) f h i = at (same_id i b.item) refl
   where
     at : (t : Bool) → same_id i b.item ≡ t
         → IfSome (close_of i (a ++ msg s (Bid b) ∷ [])) (λ m. winner_of m.shadow ≡ option_map (λ (b : Core). b.id) (best_bid i (a ++ msg s (Bid b) ∷ [])))
-    at true e =
-        subst (λ o. IfSome o (λ m. winner_of m.shadow ≡ option_map (λ (b : Core). b.id) (best_bid i (a ++ msg s (Bid b) ∷ []))))
-        (sym (choose_push earlier (λ n. closes i n.shadow) a (msg s (Bid b)) ∙ choice_not earlier (λ n. closes i n.shadow) (close_of i a) (msg s (Bid b)) refl
-        ∙ subst (λ j. close_of j a ≡ None) (sym ((Decides-same_id i b.item).0 e)) f.2)) tt
+    at true e = subst (λ o. IfSome o (λ m. winner_of m.shadow ≡ option_map (λ (b : Core). b.id) (best_bid i (a ++ msg s (Bid b) ∷ []))))
+        (sym (choose_push _ (λ n. closes i n.shadow) a _ ∙ choice_not _ (λ n. closes i n.shadow) _ _ refl ∙ subst (λ j. close_of j a ≡ None)
+        (sym ((Decides-same_id i b.item).0 e)) f.2)) tt
     at false e = still i a (msg s (Bid b)) e refl (h i)
 winner_push a s (Close c) f h i = at (same_id i c.item) refl
   where

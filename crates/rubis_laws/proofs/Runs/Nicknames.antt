@@ -1,36 +1,20 @@
 -- Along the order of the red messages of a run no nickname has two users: that order is the red part of the log of the site
 -- that made the last of them.
-use Rattle.std.proofs.Common.{◌≡◌, ◌∙◌, ℕ, ◌+◌, ◌<◌, zero, suc, Bool, true, false, cond, List, [], ◌∷◌, ◌++◌, length, length-append, refl, sym, ap, subst, inl}
-use Rattle.std.proofs.Common.{inr, ⊎_elim, arith, None}
-use Rattle.std.specs.Prelude.{◌⊎◌, nat_lt, option_map, reverse}
-use Rattle.std.specs.Option.{option_or}
-use Rattle.std.proofs.lemmas.Bool.{ltb-true}
-use Rattle.std.proofs.lemmas.Bool.Decides.{nat_tests}
-use Rattle.std.proofs.lemmas.List.{length-reverse, reverse-append}
-use mathlib.Core.Bool.{true≢false}
-use Rattle.rubis_schema.specs.Keys.{same_id}
-use Rattle.rubis_schema.specs.declared.ids.Id.{Id}
-use Rattle.rubis_shadow.specs.Shadows.{is_red}
-use Rattle.rubis_shadow.specs.declared.shadows.Shadow.{Shadow}
-use Rattle.rubis_shadow.specs.declared.shadows.Shadow.TheVariants.{User, Rename}
-use Rattle.rubis_message.specs.Message.{Message}
-use Rattle.rubis_model.specs.Invariants.{Unique}
-use Rattle.rubis_model.specs.Laws.{Sent}
-use Rattle.rubis_model.specs.Log.{Core, core, cores}
-use Rattle.rubis_model.specs.Meaning.{as_user, choice, last_rename, later, nick_after, nick_at, renames, user_at, when}
-use Rattle.rubis_model.specs.Nicknames.{AreFirstReds, AreNumberedFrom, NicknamesAreUnique, RedsAreInOneOrder}
-use Rattle.rubis_model.specs.Order.{Released}
-use Rattle.rubis_model.specs.Settle.{Has, reds}
-use Rattle.rubis_model.specs.Sound.{Sound}
-use Rattle.rubis_model.specs.System.{World, site, run, start}
-use Rattle.rubis_model.proofs.Lists.{has_right, has_append, has_reverse}
+use Rattle.std.proofs.lemmas.Bool.{lt-ltb}
+use Rattle.rubis_laws.proofs.Common.{◌≡◌, ◌∙◌, ℕ, ◌+◌, ◌<◌, zero, suc, Bool, true, false, cond, List, [], ◌∷◌, ◌++◌, length, length-append, refl, sym, ap}
+use Rattle.rubis_laws.proofs.Common.{subst, inl, inr, ⊎_elim, arith, ◌⊎◌, nat_lt, option_map, reverse, option_or, ltb-true, length-reverse, reverse-append}
+use Rattle.rubis_laws.proofs.Common.{true≢false, same_id, Id, is_red, Shadow, User, Rename, Message, Unique, Sent, Core, core, cores, as_user, choice}
+use Rattle.rubis_laws.proofs.Common.{last_rename, later, nick_after, nick_at, renames, user_at, when, Released, Has, reds, Sound, World, site, run, start}
+use Rattle.rubis_laws.proofs.Common.{has_right, has_append, has_reverse}
+use Rattle.rubis_model.specs.Laws.{AreFirstReds, AreNumberedFrom, NicknamesAreUnique, RedsAreInOneOrder}
 use Rattle.rubis_laws.proofs.Rows.Cores.{back_push}
 use Rattle.rubis_laws.proofs.Runs.Delivering.{split_at}
 use Rattle.rubis_laws.proofs.Runs.Invariants.{checked_holds}
-use Rattle.rubis_laws.proofs.Order.LogsChecked.{checked_back, colour}
-use Rattle.rubis_laws.proofs.Rows.Nicks.{gives_nick, last_push_not}
-use Rattle.rubis_laws.proofs.Rows.Pushes.{at_id_push, at_id_push_not, choose_push}
+use Rattle.rubis_laws.proofs.Order.Deciding.{checked_back, colour}
+use Rattle.rubis_laws.proofs.Rows.Nicks.{no_user, no_rename, gives_nick, last_push_not}
+use Rattle.rubis_laws.proofs.Rows.Sets.{at_id_push, at_id_push_not, choose_push}
 use Rattle.rubis_laws.proofs.Runs.EveryRun.{every_order, sound_run}
+use Rattle.rubis_laws.proofs.Lacking.InOrder.{released_drop}
 
 -- ---- messages in the order of their red numbers
 
@@ -86,10 +70,8 @@ only_numbered (m ∷ past) r = at (nat_lt 0 m.stamp.red) refl (only_numbered pas
   where
     at : (b : Bool) → nat_lt 0 m.stamp.red ≡ b → AreNumberedFrom 0 (reverse (red_only past)) →
         AreNumberedFrom 0 (reverse (cond b (m ∷ red_only past) (red_only past)))
-    at true e rest =
-        subst (AreNumberedFrom 0) (sym (reverse-append (m ∷ []) (red_only past)))
-        (numbered_push 0 (reverse (red_only past)) m rest
-        (omega (arith, r.0.number (ltb-true 0 m.stamp.red e), only_many past, length-reverse (red_only past))))
+    at true e rest = subst (AreNumberedFrom 0) (sym (reverse-append (m ∷ []) (red_only past)))
+        (numbered_push 0 _ m rest (omega (arith, r.0.number (ltb-true 0 m.stamp.red e), only_many past, length-reverse (red_only past))))
     at false e rest = rest
 
 -- ---- blue ones give no nickname
@@ -98,14 +80,6 @@ blue_gives_none : (x : Shadow) → is_red x ≡ false → gives_nick x ≡ false
 blue_gives_none (User n) e = absurd (true≢false e)
 blue_gives_none (Rename r) e = absurd (true≢false e)
 blue_gives_none x e = refl
-
-no_user_in : (x : Shadow) → gives_nick x ≡ false → as_user x ≡ None
-no_user_in (User n) e = absurd (true≢false e)
-no_user_in x e = refl
-
-no_rename_in : (u : Id) (x : Shadow) → gives_nick x ≡ false → renames u x ≡ false
-no_rename_in u (Rename r) e = absurd (true≢false e)
-no_rename_in u x e = refl
 
 -- the two lists say the same of the user
 record SaySame (u : Id) (a b : List Core) : Type 0 where
@@ -122,8 +96,8 @@ say_push {u} {a} {b} m s = record {
 
 say_skip : {u : Id} {a b : List Core} (m : Core) → gives_nick m.shadow ≡ false → SaySame u a b → SaySame u (a ++ m ∷ []) b
 say_skip {u} {a} m e s = record {
-  given = at_id_push_not (λ n. as_user n.shadow) u a m (no_user_in m.shadow e) ∙ s.given;
-  renamed = last_push_not u a m (no_rename_in u m.shadow e) ∙ s.renamed;
+  given = at_id_push_not (λ n. as_user n.shadow) u a m (no_user m.shadow e) ∙ s.given;
+  renamed = last_push_not u a m (no_rename u m.shadow e) ∙ s.renamed;
 }
 
 reds_say : {w : World} (s : Sound w) (u : Id) (past : List Message) → ((m : Message) → Has m past → Sent w m)
@@ -144,13 +118,6 @@ reds_say {w} s u (m ∷ past) all = at (nat_lt 0 m.stamp.red) refl (reds_say s u
 
 -- ---- the law
 
-is_positive : (n : ℕ) → 0 < n → nat_lt 0 n ≡ true
-is_positive n l = grind (arith, nat_tests)
-
-released_rest : (front rest : List Message) → Released (front ++ rest) → Released rest
-released_rest [] rest r = r
-released_rest (m ∷ front) rest r = released_rest front rest r.1
-
 module _ (w : World) (s : Sound w) where
   unique_back : (past : List Message) → Released past → ((m : Message) → Has m past → Sent w m) → Unique (λ u. nick_at u (cores (reverse past)))
   unique_back past r all = (checked_holds (cores (reverse past)) (checked_back past s r all)).nicks
@@ -160,9 +127,9 @@ module _ (w : World) (s : Sound w) where
       → AreFirstReds w ms → m.stamp.red ≡ length ms → 0 < length ms → Unique (λ u. nick_at u (cores ms))
   unique_upto ms front back m r all first e some = λ n u v p q.
       let past = m ∷ back in
-      let rest = released_rest front past r in
+      let rest = released_drop front past r in
       let within : (x : Message) → Has x past → Sent w x = λ x h. all x (has_right x front past h) in
-      let red : nat_lt 0 m.stamp.red ≡ true = is_positive m.stamp.red (omega (arith, e, some)) in
+      let red : nat_lt 0 m.stamp.red ≡ true = lt-ltb 0 m.stamp.red (omega (arith, e, some)) in
       let counts : reds past ≡ reds back + 1 = ap (λ b. reds back + cond b 1 0) red in
       let many : length ms ≡ length (reverse (red_only past)) =
       omega (arith, e, rest.0.number (omega (arith, e, some)), counts, only_many past, length-reverse (red_only past)) in
@@ -183,7 +150,7 @@ module _ (w : World) (s : Sound w) where
       (omega (arith, last.2)) (omega arith)
 
 pub nicknames_are_unique : NicknamesAreUnique
-nicknames_are_unique n keep events some few a ms first = unique_first (run keep events (start n)) (sound_run n keep events some few a) ms first
+nicknames_are_unique n keep events some few a ms first = unique_first (run keep events (start n)) (sound_run events some few a) ms first
 
 pub reds_are_in_one_order : RedsAreInOneOrder
 reds_are_in_one_order n keep events some few a zero l = ([], record { sent = λ m h. absurd h; numbered = tt }, refl)

@@ -1,37 +1,20 @@
 -- The records of several sites are a run of them.
-use Rattle.std.proofs.Common.{ℕ, ◌≡◌, ◌+◌, ◌^◌, ◌<◌, ◌≤◌, List, [], ◌∷◌, ◌++◌, length, refl, sym, ap, ◌∙◌, subst, arith, Option, Some, None, ⊎_elim}
-use Rattle.std.proofs.Common.{append_assoc, append-nil}
-use Rattle.std.specs.Prelude.{IfSome, codes, map, option_and_then, take, unwrap_or}
-use Rattle.std.specs.List.{range_with_len}
-use Rattle.std.specs.Option.{option_or}
-use Rattle.std.proofs.lemmas.Option.{same_Some}
-use Rattle.rubis_schema.specs.declared.limits.TheConstants.{COUNTED_MAX, RECORDS_MAX}
-use Rattle.rubis_message.specs.Forms.{Form, followed_by, no_more, take_number, take_site, whole}
-use Rattle.rubis_message.specs.Readings.{request_of}
+use Rattle.rubis_laws.proofs.Common.{ℕ, ◌≡◌, ◌+◌, ◌^◌, ◌<◌, ◌≤◌, List, [], ◌∷◌, ◌++◌, length, refl, sym, ap, ◌∙◌, subst, arith, Option, Some, None, ⊎_elim}
+use Rattle.rubis_laws.proofs.Common.{append_assoc, append-nil, IfSome, codes, map, option_and_then, unwrap_or, range_with_len, option_or, same_Some}
+use Rattle.rubis_laws.proofs.Common.{COUNTED_MAX, followed_by, no_more, take_site, whole, request_of, Agree, Request, request_is, verdict_record, SameSet}
+use Rattle.rubis_laws.proofs.Common.{InRun, WasLogOf, tables_at, Log, Has, Sound, AreEvents, Event, World, happens, run, site, start, At, Deliver, verdict}
+use Rattle.std.specs.Prelude.{take}
+use Rattle.rubis_schema.specs.declared.limits.TheConstants.{RECORDS_MAX}
+use Rattle.rubis_message.specs.Readings.{Form, take_number}
 use Rattle.rubis_message.specs.WorldReadings.{IsWorldInput, asked_with, request_at, take_at, take_audit, take_delivery, take_word, world_input}
-use Rattle.rubis_message.specs.declared.answers.Verdict.TheVariants.{Agree}
-use Rattle.rubis_message.specs.declared.requests.Request.{Request}
-use Rattle.rubis_message.specs.declared.requests.Request.TheVariants as request
 use Rattle.rubis_message.specs.declared.world_inputs.WorldInput.{WorldInput}
 use Rattle.rubis_message.specs.declared.world_inputs.WorldInput.TheVariants.{Asked, Delivered, Audit, Neither}
 use Rattle.rubis_message.proofs.Forms.{given}
-use Rattle.rubis_message.proofs.Records.{request_is}
-use Rattle.rubis_model.specs.AuditRecords.{verdict_record}
-use Rattle.rubis_model.specs.Checks.{SameSet}
-use Rattle.rubis_model.specs.Laws.{InRun, WasLogOf, tables_at}
-use Rattle.rubis_model.specs.Logs.{Log}
-use Rattle.rubis_model.specs.RecordedRuns.{AnswersAreARun, AuditsAgree, RecordsAreARun, RecordsKeepInvariants, input_events, record_events, world_after}
-use Rattle.rubis_model.specs.RecordedRuns.{world_at}
-use Rattle.rubis_model.specs.Settle.{Has}
-use Rattle.rubis_model.specs.Sound.{Sound}
-use Rattle.rubis_model.specs.System.{AreEvents, Event, World, happens, run, site, start}
-use Rattle.rubis_model.specs.System.Event.{At, Deliver}
-use Rattle.rubis_model.specs.Verdict.{verdict}
+use Rattle.rubis_model.specs.Processes.{AnswersAreARun, AuditsAgree, RecordsAreARun, RecordsKeepInvariants, input_events, record_events, world_after, world_at}
 use Rattle.rubis_model.specs.WorldRecords.{log_of, logs_of, world_answers, world_output_of, world_step}
-use Rattle.rubis_laws.proofs.Audits.Audited.{run_faultless, run_formed}
-use Rattle.rubis_laws.proofs.Runs.SoundSteps.{event_sites, start_sites}
+use Rattle.rubis_laws.proofs.Audits.Verdicts.{run_faultless, run_formed, faultless_agree}
+use Rattle.rubis_laws.proofs.Runs.SoundSteps.{run_sites, event_sites, start_sites}
 use Rattle.rubis_laws.proofs.Runs.EveryRun.{equal_tables, every_run, sound_run}
-use Rattle.rubis_laws.proofs.Audits.Verdicts.{faultless_agree}
 
 -- ---- what is asked is within the limits
 
@@ -40,26 +23,26 @@ after_some : {A B : Type 0} (P : B → Type 0) (o : Option (A × List (List ℕ)
 after_some P None next y rest k e = absurd cc
 after_some P (Some p) next y rest k e = k p.0 p.1 e
 
-none_left : {A : Type 0} (P : A → Type 0) (y : A) {x : A} (left : List (List ℕ)) → P y → no_more (Some (y, left)) ≡ Some x → P x
-none_left P y {x} [] h e = subst P (same_Some y x e) h
-none_left P y (field ∷ rest) h e = absurd cc
+none_left : {A : Type 0} (P : A → Type 0) {y : A} {x : A} (left : List (List ℕ)) → P y → no_more (Some (y, left)) ≡ Some x → P x
+none_left P {y} {x} [] h e = subst P (same_Some y x e) h
+none_left P (field ∷ rest) h e = absurd cc
 
 read_whole : {A : Type 0} (P : A → Type 0) (o : Option (A × List (List ℕ))) {x : A} → ((y : A) (rest : List (List ℕ)) → o ≡ Some (y, rest) → P y)
     → no_more o ≡ Some x → P x
 read_whole P None k e = absurd cc
-read_whole P (Some p) k e = none_left P p.0 p.1 (k p.0 p.1 refl) e
+read_whole P (Some p) k e = none_left P p.1 (k p.0 p.1 refl) e
 
-delivery_limits : (sites : ℕ) (fields rest : List (List ℕ)) (x : WorldInput) → take_delivery sites fields ≡ Some (x, rest) → IsWorldInput sites x
+delivery_limits : (sites : ℕ) (fields : List (List ℕ)) {rest : List (List ℕ)} (x : WorldInput) → take_delivery sites fields ≡ Some (x, rest) → IsWorldInput
+    sites x
 unfolding take_delivery
-delivery_limits sites fields rest x e =
+delivery_limits sites fields {rest} x e =
     let P = IsWorldInput sites in
     after_some P (take_word (codes "deliver") fields) _ x rest (λ _ a f. after_some P (take_site sites a) _ x rest
     (λ i b g. after_some P (take_number RECORDS_MAX b) _ x rest (λ k c h. given (λ y _. P y) (Delivered i k) x c rest h tt) g) f) e
 
-audit_limits : (sites : ℕ) (fields rest : List (List ℕ)) (x : WorldInput) → take_audit fields ≡ Some (x, rest) → IsWorldInput sites x
+audit_limits : (sites : ℕ) (fields : List (List ℕ)) {rest : List (List ℕ)} (x : WorldInput) → take_audit fields ≡ Some (x, rest) → IsWorldInput sites x
 unfolding take_audit
-audit_limits sites fields rest x e =
-    after_some (IsWorldInput sites) (take_word (codes "audit") fields) _ x rest (λ _ a f. given (λ y _. IsWorldInput sites y) Audit x a rest f tt) e
+audit_limits sites fields {rest} x e = after_some (IsWorldInput sites) _ _ x rest (λ _ a f. given (λ y _. IsWorldInput sites y) Audit x a rest f tt) e
 
 request_limits : (sites : ℕ) → sites < 2 ^ 8 → (i : ℕ) (fields : List (List ℕ)) (o : Option Request) → request_of sites fields ≡ o
     → IsWorldInput sites (Asked i o)
@@ -68,18 +51,16 @@ request_limits sites few i fields (Some r) e = ((request_is sites few fields r).
 
 asked_limits : (sites : ℕ) → sites < 2 ^ 8 → (i : ℕ) (fields : List (List ℕ)) (x : WorldInput) → asked_with sites i fields ≡ Some x → IsWorldInput sites x
 asked_limits sites few i [] x e = absurd cc
-asked_limits sites few i (field ∷ rest) x e =
-    subst (IsWorldInput sites) (same_Some (Asked i (request_of sites (field ∷ rest))) x e)
-    (request_limits sites few i (field ∷ rest) (request_of sites (field ∷ rest)) refl)
+asked_limits sites few i (field ∷ rest) x e = subst (IsWorldInput sites) (same_Some _ x e) (request_limits sites few i _ _ refl)
 
 some_limits : (sites : ℕ) → sites < 2 ^ 8 → (o : Option (ℕ × List (List ℕ))) (x : WorldInput) → option_and_then (λ p. asked_with sites p.0 p.1) o ≡ Some x
     → IsWorldInput sites x
 some_limits sites few None x e = absurd cc
 some_limits sites few (Some p) x e = asked_limits sites few p.0 p.1 x e
 
-at_limits : (sites : ℕ) → sites < 2 ^ 8 → (fields : List (List ℕ)) (x : WorldInput) → request_at sites fields ≡ Some x → IsWorldInput sites x
+at_limits : {sites : ℕ} → sites < 2 ^ 8 → (fields : List (List ℕ)) (x : WorldInput) → request_at sites fields ≡ Some x → IsWorldInput sites x
 unfolding request_at
-at_limits sites few fields x e = some_limits sites few (take_at sites fields) x e
+at_limits {sites} few fields x e = some_limits sites few (take_at sites fields) x e
 
 if_found : {A : Type 0} (P : A → Type 0) (o : Option A) → ((x : A) → o ≡ Some x → P x) → IfSome o P
 if_found P None k = tt
@@ -96,14 +77,14 @@ input_limits : (sites : ℕ) → sites < 2 ^ 8 → (fields : List (List ℕ)) �
 input_limits sites few fields =
     let P = IsWorldInput sites in
     first_limits sites (request_at sites fields) (whole (take_delivery sites) fields) (whole take_audit fields)
-    (if_found P (request_at sites fields) (at_limits sites few fields))
-    (if_found P (whole (take_delivery sites) fields) (λ x. read_whole P (take_delivery sites fields) (λ y rest. delivery_limits sites fields rest y)))
-    (if_found P (whole take_audit fields) (λ x. read_whole P (take_audit fields) (λ y rest. audit_limits sites fields rest y)))
+    (if_found P (request_at sites fields) (at_limits few fields))
+    (if_found P (whole (take_delivery sites) fields) (λ x. read_whole P (take_delivery sites fields) (λ y rest. delivery_limits sites fields y)))
+    (if_found P (whole take_audit fields) (λ x. read_whole P (take_audit fields) (λ y rest. audit_limits sites fields y)))
 
 event_limits : (sites : ℕ) (input : WorldInput) (es : List Event) → IsWorldInput sites input → AreEvents sites es → AreEvents sites (input_events input ++ es)
-event_limits sites (Asked i (Some (request.Ask ask))) es h a = (h.0, a)
-event_limits sites (Asked i (Some (request.Pass to))) es h a = (tt, a)
-event_limits sites (Asked i (Some (request.List l))) es h a = (tt, a)
+event_limits sites (Asked i (Some (Request.Ask ask))) es h a = (h.0, a)
+event_limits sites (Asked i (Some (Request.Pass to))) es h a = (tt, a)
+event_limits sites (Asked i (Some (Request.List l))) es h a = (tt, a)
 event_limits sites (Asked i None) es h a = a
 event_limits sites (Delivered i k) es h a = (tt, a)
 event_limits sites Audit es h a = a
@@ -111,8 +92,7 @@ event_limits sites Neither es h a = a
 
 are_events : (sites : ℕ) → sites < 2 ^ 8 → (records : List (List (List ℕ))) → AreEvents sites (record_events sites records)
 are_events sites few [] = tt
-are_events sites few (fields ∷ rest) = event_limits sites (world_input sites fields) (record_events sites rest) (input_limits sites few fields)
-    (are_events sites few rest)
+are_events sites few (fields ∷ rest) = event_limits sites _ _ (input_limits sites few _) (are_events sites few rest)
 
 -- ---- the world after records is the run of their events
 
@@ -152,23 +132,18 @@ answers_more keep (fields ∷ rest) more w n =
     ap (λ rows. step.1 ++ rows) (answers_more keep rest more step.0 (n + 1)) ∙ sym (append_assoc step.1 (world_answers keep step.0 (n + 1) rest) _)
     ∙ ap (λ k. (step.1 ++ world_answers keep step.0 (n + 1) rest) ++ world_answers keep (world_after keep step.0 (n + 1) rest) k more) (omega arith)
 
-after_sites : (keep : ℕ) (es : List Event) (w : World) → length (run keep es w).sites ≡ length w.sites
-after_sites keep [] w = refl
-after_sites keep (e ∷ es) w = after_sites keep es (happens keep w e).0 ∙ event_sites keep w e
-
 world_sites : (keep : ℕ) (records : List (List (List ℕ))) (sites : ℕ) → sites ≤ COUNTED_MAX → length (world_after keep (start sites) 1 records).sites ≡ sites
 world_sites keep records sites few =
-    ap (λ (v : World). length v.sites) (records_run sites keep records few).1 ∙ after_sites keep (record_events sites records) (start sites) ∙ start_sites sites
+    ap (λ (v : World). length v.sites) (records_run sites keep records few).1 ∙ run_sites keep (record_events sites records) (start sites) ∙ start_sites sites
 
 told_last : (keep : ℕ) (w : World) (n : ℕ) (fields : List (List ℕ)) → world_answers keep w n (fields ∷ []) ≡
     (world_step keep w n (world_input (length w.sites) fields)).1
 unfolding world_answers
 told_last keep w n fields = append-nil _
 
-one_more : (sites keep : ℕ) (before : List (List (List ℕ))) (fields : List (List ℕ)) → sites ≤ COUNTED_MAX
-    → world_output_of sites keep (before ++ fields ∷ []) ≡ world_output_of sites keep before ++
-    (world_step keep (world_after keep (start sites) 1 before) (length before + 1) (world_input sites fields)).1
-one_more sites keep before fields few =
+one_more : {sites : ℕ} (keep : ℕ) (before : List (List (List ℕ))) (fields : List (List ℕ)) → sites ≤ COUNTED_MAX → world_output_of sites keep (before ++ fields
+    ∷ []) ≡ world_output_of sites keep before ++ (world_step keep (world_after keep (start sites) 1 before) (length before + 1) (world_input sites fields)).1
+one_more {sites} keep before fields few =
     let w = world_after keep (start sites) 1 before in
     answers_more keep before (fields ∷ []) (start sites) 1 ∙ ap (λ rows. world_output_of sites keep before ++ rows) (told_last keep w (1 + length before) fields
     ∙ ap (λ k. (world_step keep w k (world_input (length w.sites) fields)).1) (omega arith)
@@ -178,7 +153,7 @@ pub answers_are_a_run : AnswersAreARun
 answers_are_a_run sites keep records some few small = record {
   text = refl;
   events = λ k. records_run sites keep (take k records) few;
-  told = λ before later fields is. one_more sites keep before fields few;
+  told = λ before later fields is. one_more keep before fields few;
   claims = λ k. records_keep sites keep (take k records) some few small;
   agree = λ j k a b same.
       let e = records_run sites keep (take j records) few in
@@ -214,8 +189,8 @@ pub audits_agree : AuditsAgree
 audits_agree sites keep records fields some few small is =
     let r = records_run sites keep records few in
     let w = world_after keep (start sites) 1 records in
-    let sound : Sound w = subst Sound (sym r.1) (sound_run sites keep (record_events sites records) some small r.0) in
-    let count : length w.sites ≡ sites = ap (λ (v : World). length v.sites) r.1 ∙ after_sites keep (record_events sites records) (start sites)
+    let sound : Sound w = subst Sound (sym r.1) (sound_run (record_events sites records) some small r.0) in
+    let count : length w.sites ≡ sites = ap (λ (v : World). length v.sites) r.1 ∙ run_sites keep (record_events sites records) (start sites)
     ∙ start_sites sites in
     answers_more keep records (fields ∷ []) (start sites) 1
     ∙ ap (λ rows. world_output_of sites keep records ++ rows) (audit_told keep (1 + length records) fields sound (ap (λ k. world_input k fields) count ∙ is))

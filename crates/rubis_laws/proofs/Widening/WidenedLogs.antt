@@ -1,34 +1,19 @@
 -- Logs whose messages were widened have the same meaning and the same verdict.
-use Rattle.std.proofs.Common.{ℕ, ◌≡◌, ◌+◌, ◌-◌, ◌≤◌, ◌<◌, zero, suc, List, [], ◌∷◌, ◌++◌, length, Bool, true, false, ◌&&◌, cond, Option, Some, None, refl, sym}
-use Rattle.std.proofs.Common.{ap, ◌∙◌, subst, inl, inr, ⊎_elim, arith, get_or, append_assoc}
-use Rattle.std.specs.Prelude.{◌||◌, ◌==◌, not, nat_lt, nat_le, map, find, reverse, replicate, slice_index, option_map}
-use Rattle.std.specs.List.{list_any, range_with_len}
-use Rattle.std.specs.Option.{option_map_or, option_or}
-use Rattle.std.proofs.lemmas.Bool.{cases_lt, le-ltb, or_from}
+use Rattle.rubis_laws.proofs.Common.{ℕ, ◌≡◌, ◌+◌, ◌-◌, ◌≤◌, ◌<◌, zero, suc, List, [], ◌∷◌, ◌++◌, length, Bool, true, false, ◌&&◌, cond, Option, Some, None}
+use Rattle.rubis_laws.proofs.Common.{refl, sym, ap, ◌∙◌, subst, inl, inr, ⊎_elim, arith, get_or, append_assoc, ◌||◌, ◌==◌, not, nat_lt, nat_le, map, find}
+use Rattle.rubis_laws.proofs.Common.{reverse, option_map, list_any, range_with_len, option_map_or, option_or, cases_lt, le-ltb, or_from, get_or_past}
+use Rattle.rubis_laws.proofs.Common.{map-append, reverse-append, same_id, RowKey, refers_of, is_red, same_message, Decides-same_message, Message, IsMessage}
+use Rattle.rubis_laws.proofs.Common.{dep, sites_of, widened, sites_widened, widened_is, nick_taken, stock_short, wrong_category, wrong_winner, table_rows}
+use Rattle.rubis_laws.proofs.Common.{cores, core, fold_of, Log, IsMeaning, Has, counted, reds, comes_before, clashes, is_not_next, is_early, miscounts, forgets}
+use Rattle.rubis_laws.proofs.Common.{out_of_order, last_red, takes_number, red_gap, makes_row, is_known, wrong_reference, checks, first_of, same_rows}
+use Rattle.rubis_laws.proofs.Common.{wrong_rows, first_fault, found_or, verdict_from, widened_log, has_left, has_right, has_append, Listing}
+use Rattle.rubis_message.specs.declared.answers.Kind.{Kind}
+use Rattle.std.specs.Prelude.{replicate, slice_index}
 use Rattle.std.proofs.lemmas.Bool.Decides.{Decides-like, same_from_decides}
-use Rattle.std.proofs.lemmas.List.{append_cancel_right, get_or_append_left, get_or_past, length-map, map-append, reverse-append}
+use Rattle.std.proofs.lemmas.List.{append_cancel_right, get_or_append_left, length-map}
 use Rattle.std.proofs.Math.Seq.{get_or-append_right}
-use Rattle.rubis_schema.specs.Keys.{same_id}
-use Rattle.rubis_schema.specs.declared.listings.Listing.TheVariants as listing
-use Rattle.rubis_schema.specs.declared.row_keys.RowKey.{RowKey}
-use Rattle.rubis_schema.specs.declared.row_keys.RowKey.TheVariants as key
-use Rattle.rubis_shadow.specs.Shadows.{refers_of, is_red}
-use Rattle.rubis_message.specs.Equal.{same_message, Decides-same_message}
-use Rattle.rubis_message.specs.Message.{Message, IsMessage, dep, sites_of}
-use Rattle.rubis_message.specs.Widening.{widened}
-use Rattle.rubis_message.specs.declared.answers.Kind.TheVariants as kind
-use Rattle.rubis_message.proofs.Widening.{sites_widened, widened_is}
-use Rattle.rubis_model.specs.Checks.{nick_taken, stock_short, wrong_category, wrong_winner}
-use Rattle.rubis_model.specs.Listings.{table_rows}
-use Rattle.rubis_model.specs.Log.{cores, core, fold_of}
-use Rattle.rubis_model.specs.Logs.{Log}
-use Rattle.rubis_model.specs.Meaning.{IsMeaning}
-use Rattle.rubis_model.specs.Settle.{Has, counted, reds}
-use Rattle.rubis_model.specs.Verdict.{comes_before, at_some_site, clashes, clash, is_not_next, is_early, miscounts, forgets, out_of_order, last_red}
-use Rattle.rubis_model.specs.Verdict.{takes_number, red_gap, makes_row, is_known, wrong_reference, checks, first_of, same_rows, wrong_rows, first_fault}
-use Rattle.rubis_model.specs.Verdict.{found_or, verdict_from}
-use Rattle.rubis_model.specs.Widening.{widened_log, WidenedAreAmong, MeaningStays, VerdictStays}
-use Rattle.rubis_model.proofs.Lists.{has_left, has_right, has_append}
+use Rattle.rubis_model.specs.Verdict.{at_some_site, clash}
+use Rattle.rubis_model.specs.Widening.{WidenedAreAmong, MeaningStays, VerdictStays}
 use Rattle.rubis_laws.proofs.Audits.EntryOrder.{counted_past, nothing_past, number_same}
 
 -- ---- tests over lists and numbers
@@ -126,9 +111,7 @@ module _ (from to : ℕ) (up : from ≤ to) where
     among u h = ⊎_elim (there u) (here u) (has_append u others own h)
 
     clash_w : clash (map w others) (map w own) (w v) ≡ clash others own v
-    clash_w =
-        ap (list_any (clashes (w v))) (sym (map-append w others own))
-        ∙ any_map (clashes (w v)) (clashes v) w (others ++ own)
+    clash_w = ap (list_any (clashes (w v))) (sym (map-append w others own)) ∙ any_map _ _ w _
         (λ u h. ap (λ b. same_id u.stamp.id v.stamp.id && not b) (same_w u v ((among u h).counts ∙ sym this.counts)))
 
     -- ---- Order
@@ -139,11 +122,9 @@ module _ (from to : ℕ) (up : from ≤ to) where
     nothing u c j l = let e = c.counts in nothing_past u j (omega (arith, e, l))
 
     early_w : is_early (map w own) (w v) ≡ is_early own v
-    early_w = at_sites v this.counts
-        (λ j. not (j == v.stamp.id.site) && nat_lt (counted j (map w own)) (dep (w v) j))
-        (λ j. not (j == v.stamp.id.site) && nat_lt (counted j own) (dep v j))
-        (λ j i. not (j == v.stamp.id.site) && nat_lt (counted_w j own i) (dep_w v j i))
-        (λ j l. no_and (not (j == v.stamp.id.site)) (le-ltb (counted j own) (dep v j) (let z = nothing v this j l in omega (arith, z))))
+    early_w = at_sites v this.counts (λ j. not (j == v.stamp.id.site) && nat_lt (counted j (map w own)) (dep (w v) j))
+        (λ j. not (j == v.stamp.id.site) && nat_lt (counted j own) (dep v j)) (λ j i. not (j == v.stamp.id.site) && nat_lt (counted_w j own i) (dep_w v j i))
+        (λ j l. no_and _ (le-ltb (counted j own) (dep v j) (let z = nothing v this j l in omega (arith, z))))
 
     miscounts_w : (site : ℕ) → miscounts site (map w own) (w v) ≡ miscounts site own v
     unfolding AllCount
@@ -182,15 +163,14 @@ module _ (from to : ℕ) (up : from ≤ to) where
     behind_w (Some u) = ap not (before_w u v)
 
     gap_w : red_gap (map w others) (map w own) (w v) ≡ red_gap others own v
-    gap_w = λ i. is_red v.shadow && (not (v.stamp.red == reds_w own i + 1)
-        || (any_map (takes_number (w v)) (takes_number v) w others (λ u h. refl) i
-        || (ap (λ o. option_map_or (λ u. not (comes_before u (w v))) o false) last_w ∙ behind_w (last_red own)) i))
+    gap_w = λ i. is_red v.shadow && (not (v.stamp.red == reds_w own i + 1) ||
+        (any_map (takes_number (w v)) _ w others (λ u h. refl) i || (ap (λ o. option_map_or (λ u. not (comes_before u (w v))) o false) last_w ∙ behind_w _) i))
 
     -- ---- Refers
     makes_w : (k : RowKey) (u : Message) → makes_row k (w u) ≡ makes_row k u
-    makes_w (key.User i) u = refl
-    makes_w (key.Item i) u = refl
-    makes_w (key.Bid i) u = refl
+    makes_w (RowKey.User i) u = refl
+    makes_w (RowKey.Item i) u = refl
+    makes_w (RowKey.Bid i) u = refl
     makes_w k u = refl
 
     known_w : (k : RowKey) → is_known (map w own) (w v) k ≡ is_known own v k
@@ -202,13 +182,13 @@ module _ (from to : ℕ) (up : from ≤ to) where
     -- ---- all of them
     checks_w : (site : ℕ) → checks (map w others) site (map w own) (w v) ≡ checks others site own v
     checks_w site = λ i.
-        (kind.Clash, clash_w i)
-        ∷ (kind.Order, order_w site i)
-        ∷ (kind.RedGap, gap_w i)
-        ∷ (kind.Refers, reference_w i)
-        ∷ (kind.Nick, nick_taken (cores_w own i) v.shadow)
-        ∷ (kind.Stock, stock_short (cores_w own i) v.shadow)
-        ∷ (kind.Winner, wrong_winner (cores_w own i) v.shadow)
+        (Kind.Clash, clash_w i)
+        ∷ (Kind.Order, order_w site i)
+        ∷ (Kind.RedGap, gap_w i)
+        ∷ (Kind.Refers, reference_w i)
+        ∷ (Kind.Nick, nick_taken (cores_w own i) v.shadow)
+        ∷ (Kind.Stock, stock_short (cores_w own i) v.shadow)
+        ∷ (Kind.Winner, wrong_winner (cores_w own i) v.shadow)
         ∷ []
 
   fault_w : (others : List Message) (site : ℕ) (own rest : List Message) → AllCount from others → AllCount from (own ++ rest)
@@ -223,7 +203,7 @@ module _ (from to : ℕ) (up : from ≤ to) where
       λ i. option_or (option_map (λ k. (k, length-map own w i + 1)) (first_of (c i))) (further i)
 
   rows_w : (log : Log) → wrong_rows (widened_log to log) ≡ wrong_rows log
-  rows_w log = ap (λ c. option_map_or (λ rows. not (same_rows rows (table_rows listing.Tables (fold_of c).tables))) log.rows false) (cores_w log.messages)
+  rows_w log = ap (λ c. option_map_or (λ rows. not (same_rows rows (table_rows Listing.Tables (fold_of c).tables))) log.rows false) (cores_w log.messages)
 
   verdict_w : (k : ℕ) (others : List Message) (logs : List Log) → AllCount from others → ((log : Log) → Has log logs → AllCount from log.messages)
       → verdict_from k (map w others) (map (widened_log to) logs) ≡ verdict_from k others logs
@@ -235,7 +215,7 @@ module _ (from to : ℕ) (up : from ≤ to) where
       ap (λ l. verdict_from (k + 1) l (map (widened_log to) logs)) (sym (map-append w others log.messages))
       ∙ verdict_w (k + 1) (others ++ log.messages) logs (λ u h. ⊎_elim (there u) (here log (inl refl) u) (has_append u others log.messages h))
       (λ l h. here l (inr h)) in
-      λ i. found_or k (option_or (f i) (cond (rows_w log i) (Some (kind.Rows, 0)) None)) (further i)
+      λ i. found_or k (option_or (f i) (cond (rows_w log i) (Some (Kind.Rows, 0)) None)) (further i)
 
 pub verdict_stays : VerdictStays
 unfolding AllCount

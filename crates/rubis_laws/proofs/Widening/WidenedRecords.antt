@@ -1,19 +1,9 @@
 -- An audit of records whose messages were widened answers the same.
-use Rattle.std.proofs.Common.{ℕ, ◌≡◌, ◌+◌, ◌≤◌, List, [], ◌∷◌, ◌++◌, Option, Some, None, refl, sym, ap, ◌∙◌, arith}
-use Rattle.std.specs.Prelude.{map, reverse, option_and_then, option_map, Ok}
-use Rattle.std.specs.Option.{option_map_or}
-use Rattle.std.proofs.lemmas.List.{map-append, reverse-append}
-use Rattle.rubis_schema.specs.declared.limits.TheConstants.{COUNTED_MAX}
-use Rattle.rubis_message.specs.Widening.{widened}
-use Rattle.rubis_message.proofs.Widening.{sites_widened, widened_is}
-use Rattle.rubis_model.specs.Audit.{AreAmong}
-use Rattle.rubis_model.specs.AuditRecords.{Line, IsLine, line_of, line_record, with_line, logs_after, verdict_record, audit_record}
-use Rattle.rubis_model.specs.AuditRecords.Line.{Begin, Next, Claim}
-use Rattle.rubis_model.specs.Logs.{Log}
-use Rattle.rubis_model.specs.Verdict.{verdict}
-use Rattle.rubis_model.specs.Widening.{widened_log}
-use Rattle.rubis_model.specs.WidenedRecords.{widened_line, widened_record, AuditStays}
-use Rattle.rubis_model.proofs.Lists.{has_reverse}
+use Rattle.rubis_laws.proofs.Common.{ℕ, ◌≡◌, ◌+◌, ◌≤◌, List, [], ◌∷◌, ◌++◌, Option, Some, None, refl, sym, ap, ◌∙◌, arith, map, reverse, option_and_then}
+use Rattle.rubis_laws.proofs.Common.{option_map, Ok, option_map_or, map-append, reverse-append, COUNTED_MAX, widened, sites_widened, widened_is, AreAmong, Line}
+use Rattle.rubis_laws.proofs.Common.{IsLine, line_of, line_record, with_line, logs_after, verdict_record, audit_record, Begin, Next, Claim, Log, verdict}
+use Rattle.rubis_laws.proofs.Common.{widened_log, has_reverse}
+use Rattle.rubis_model.specs.Widening.{widened_line, widened_record, AuditStays}
 use Rattle.rubis_laws.proofs.Audits.AuditReadings.{AllAmong, after_line, line_only, logs_only, one_more}
 use Rattle.rubis_laws.proofs.Widening.WidenedLogs.{verdict_stays}
 
@@ -52,11 +42,9 @@ module _ (from to : ℕ) (up : from ≤ to) (few : to ≤ COUNTED_MAX) where
       step : (x : Line) (o : Option (List Log)) → line_of from fields ≡ Some x → with_line logs x ≡ o → after_line from n rest o ≡ Ok last → Rest (n + 1) rest
           → logs_after to n (ws logs) (map (widened_record from to) (fields ∷ rest)) ≡ Ok (ws last)
       step x None p q f ih = absurd cc
-      step x (Some more) p q f ih =
-          ap (λ o. logs_after to n (ws logs) (option_map_or (λ y. line_record (widened_line to y)) o fields ∷ map (widened_record from to) rest)) p
-          ∙ one_more to few (ws logs) (ws more) (widened_line to x) n (map (widened_record from to) rest)
-          (wide_is x (line_only from (omega (arith, up, few)) fields x p).0) (with_w logs x ∙ ap (option_map ws) q)
-          ∙ ih more last f
+      step x (Some more) p q f ih = ap
+          (λ o. logs_after to n (ws logs) (option_map_or (λ y. line_record (widened_line to y)) o fields ∷ map (widened_record from to) rest)) p ∙ one_more to
+          few _ _ _ n _ (wide_is x (line_only from (omega (arith, up, few)) _ x p).0) (with_w logs x ∙ ap (option_map ws) q) ∙ ih more last f
 
       line : (o : Option Line) → line_of from fields ≡ o → after_line from n rest (option_and_then (with_line logs) o) ≡ Ok last → Rest (n + 1) rest
           → logs_after to n (ws logs) (map (widened_record from to) (fields ∷ rest)) ≡ Ok (ws last)
@@ -72,7 +60,7 @@ module _ (from to : ℕ) (up : from ≤ to) (few : to ≤ COUNTED_MAX) where
 pub audit_stays : AuditStays
 unfolding Rest AllAmong
 audit_stays from to records logs up few e =
-    let all = (logs_only from (omega (arith, up, few)) records 1 [] logs (λ log h. absurd h) e).0 in
+    let all = (logs_only (omega (arith, up, few)) records 1 [] logs (λ log h. absurd h) e).0 in
     let among : AreAmong from (reverse logs) = λ v a. let m = (all a.0.0 (has_reverse a.0.0 logs a.0.1)).messages v a.1 in (m.0, m.1) in
     ap audit_record (logs_w from to up few records 1 [] logs e)
     ∙ ap (λ l. verdict_record (verdict l)) (reverse_ws from to up few logs)

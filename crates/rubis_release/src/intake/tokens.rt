@@ -2,7 +2,7 @@
 
 ghost use Rattle.std.specs.Prelude.{◌≡◌};
 ghost use Rattle.rubis_model.specs.Site.{took, passed};
-ghost use Rattle.rubis_release.specs.Answers.{token_held};
+ghost use Rattle.rubis_release.specs.Release.{token_held};
 
 use super::Intake;
 use rubis_message::{Taken, Token};

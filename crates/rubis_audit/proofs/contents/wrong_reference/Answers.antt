@@ -5,8 +5,8 @@ use Rattle.std.proofs.lemmas.Iterator.Consumers.{YieldsList-from_first}
 use Rattle.std.proofs.lemmas.Iterator.Search.{any_from_yields_List}
 use Rattle.rubis_schema.specs.declared.row_keys.RowKey.{RowKey}
 use Rattle.rubis_shadow.specs.Shadows.{refers_of}
-use Rattle.rubis_generate.specs.Lookup.{row_by_key}
-use Rattle.rubis_audit.specs.Contents.{known_in, wrong_category_in}
+use Rattle.rubis_generate.specs.Decision.{row_by_key}
+use Rattle.rubis_audit.specs.Walks.{known_in, wrong_category_in}
 use Rattle.rubis_audit.proofs.contents.wrong_reference.Goals as goal
 
 pub returns-then-any : goal.returns-then-any

@@ -1,6 +1,6 @@
 use Rattle.std.proofs.Common.{◌-◌, [], ◌∷◌, length, length-append, ap, ◌∙◌, arith, refl}
 use Rattle.rubis_message.specs.Counts.{deps_of}
-use Rattle.rubis_message.proofs.Counts.{no_mark_left, no_count_left, one_less, no_last_left, none_left}
+use Rattle.rubis_message.proofs.Fields.{no_mark_left, no_count_left, one_less, no_last_left, none_left}
 use Rattle.rubis_audit.proofs.counts.read_counts.Goals as goal
 
 pub returns-in_err-digits-clause-value : goal.returns-in_err-digits-clause-value

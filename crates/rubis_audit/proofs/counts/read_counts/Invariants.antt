@@ -1,6 +1,6 @@
 use Rattle.std.proofs.Common.{◌≡◌, ◌≤◌, ◌+◌, ◌-◌, length}
 use Rattle.rubis_message.specs.Counts.{deps_of}
-use Rattle.rubis_message.proofs.Counts.{then_left}
+use Rattle.rubis_message.proofs.Fields.{then_left}
 use Rattle.rubis_audit.proofs.counts.read_counts.Given as goal
 
 abbrev pub invariant-loop-site : goal.invariant-loop-site

@@ -1,6 +1,6 @@
 use Rattle.std.proofs.Common.{◌≡◌, ◌++◌, drop}
 use Rattle.std.specs.Prelude.{map}
-use Rattle.rubis_model.specs.LackRecords.{lack_row}
+use Rattle.rubis_model.specs.Lack.{lack_row}
 use Rattle.rubis_engine.specs.Text.{rows_text}
 use Rattle.rubis_audit.proofs.lacks.write_all_named.Given as goal
 

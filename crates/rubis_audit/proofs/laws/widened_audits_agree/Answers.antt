@@ -1,4 +1,4 @@
-use Rattle.rubis_audit.proofs.Widened.{audit_text_stays, text_back}
+use Rattle.rubis_audit.proofs.Placing.{audit_text_stays, text_back}
 use Rattle.rubis_audit.proofs.laws.widened_audits_agree.Goals as goal
 
 pub returns-clause-reads_back : goal.returns-clause-reads_back

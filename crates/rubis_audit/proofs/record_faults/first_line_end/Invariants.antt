@@ -1,5 +1,5 @@
 use Rattle.std.proofs.Common.{◌≡◌, ◌+◌, drop}
-use Rattle.rubis_audit.specs.RecordFaults.{line_end_from}
+use Rattle.rubis_audit.specs.Checking.{line_end_from}
 use Rattle.rubis_audit.proofs.record_faults.first_line_end.Given as goal
 
 -- what is left to look at

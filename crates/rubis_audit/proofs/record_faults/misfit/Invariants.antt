@@ -1,5 +1,5 @@
 use Rattle.std.proofs.Common.{◌≡◌, ◌+◌, drop}
-use Rattle.rubis_audit.specs.RecordFaults.{misfit}
+use Rattle.rubis_audit.specs.Checking.{misfit}
 use Rattle.rubis_audit.proofs.record_faults.misfit.Given as goal
 
 -- what is left to compare

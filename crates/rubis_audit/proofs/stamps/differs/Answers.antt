@@ -1,7 +1,7 @@
 use Rattle.std.proofs.Common.{◌≡◌, ◌∙◌, arith, ap, get_or, length, sym}
 use Rattle.std.specs.Prelude.{◌==◌, not, slice_index}
 use Rattle.rubis_message.specs.Message.{dep}
-use Rattle.rubis_audit.proofs.SiteTests.{no_site, other_at, some_site}
+use Rattle.rubis_audit.proofs.Judging.{no_site, other_at, some_site}
 use Rattle.rubis_audit.proofs.stamps.differs.Goals as goal
 
 pub returns-then-count-counts : goal.returns-then-count-counts

@@ -1,8 +1,7 @@
 use Rattle.std.proofs.Common.{◌≡◌, ℕ, ◌<◌, false, List}
 use Rattle.std.specs.Option.{option_map_or}
 use Rattle.rubis_message.specs.Message.{Message}
-use Rattle.rubis_audit.specs.Lookups.{by_message_id, exceeds, last_of}
-use Rattle.rubis_audit.specs.Seen.{Sees}
+use Rattle.rubis_audit.specs.Walks.{by_message_id, exceeds, last_of, Sees}
 use Rattle.rubis_audit.proofs.stamps.forgets.Given as goal
 
 abbrev pub invariant-loop-j : goal.invariant-loop-j

@@ -2,7 +2,7 @@ use Rattle.std.proofs.Common.{◌≡◌, ◌∙◌, ◌<◌, arith, ap, length, 
 use Rattle.std.specs.Prelude.{◌==◌, ◌&&◌, nat_lt, not, slice_index}
 use Rattle.rubis_schema.specs.declared.ids.Id.{Id}
 use Rattle.rubis_message.specs.Message.{dep}
-use Rattle.rubis_audit.proofs.SiteTests.{early_at, no_site, some_site}
+use Rattle.rubis_audit.proofs.Judging.{early_at, no_site, some_site}
 use Rattle.rubis_audit.proofs.stamps.is_early.Goals as goal
 
 pub returns-then-counts-from : goal.returns-then-counts-from

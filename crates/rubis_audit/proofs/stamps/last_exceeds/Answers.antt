@@ -1,5 +1,5 @@
 use Rattle.std.proofs.Common.{sym}
-use Rattle.rubis_audit.proofs.Repeats.{none_at_nought}
+use Rattle.rubis_audit.proofs.Judging.{none_at_nought}
 use Rattle.rubis_audit.proofs.stamps.last_exceeds.Goals as goal
 
 pub returns-then-last-eq0 : goal.returns-then-last-eq0

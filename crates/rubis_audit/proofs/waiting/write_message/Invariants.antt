@@ -2,7 +2,7 @@ use Rattle.std.proofs.Common.{◌≡◌, ◌++◌, List}
 use Rattle.rubis_message.specs.Message.{Message, sites_of}
 use Rattle.rubis_engine.specs.Text.{rows_text}
 use Rattle.rubis_release.specs.Release.{clock_of}
-use Rattle.rubis_audit.specs.Waits.{for_rows_from}
+use Rattle.rubis_audit.specs.Running.{for_rows_from}
 use Rattle.rubis_audit.proofs.waiting.write_message.Given as goal
 
 -- what was written, and the rows of the sites to come

@@ -3,11 +3,10 @@ use Rattle.std.specs.Prelude.{map}
 use Rattle.std.specs.List.{flat_map}
 use Rattle.std.proofs.lemmas.List.{append-nil, drop_all}
 use Rattle.rubis_message.specs.Message.{sites_of}
-use Rattle.rubis_model.specs.LackRecords.{waits_rows}
+use Rattle.rubis_model.specs.Lack.{waits_rows}
 use Rattle.rubis_engine.specs.Text.{rows_text}
 use Rattle.rubis_release.specs.Release.{clock_of}
-use Rattle.rubis_audit.proofs.Awaiting.{message_told}
-use Rattle.rubis_audit.proofs.Merging.{lent}
+use Rattle.rubis_audit.proofs.Merging.{message_told, lent}
 use Rattle.rubis_audit.proofs.waiting.write_messages.Goals as goal
 
 pub write_message-requires : goal.write_message-requires

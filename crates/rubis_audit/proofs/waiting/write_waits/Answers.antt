@@ -1,7 +1,7 @@
 use Rattle.std.proofs.Common.{◌∙◌, ◌++◌, ap, subst, sym}
 use Rattle.std.specs.Prelude.{map}
 use Rattle.std.specs.List.{flat_map}
-use Rattle.rubis_model.specs.LackRecords.{waits_rows}
+use Rattle.rubis_model.specs.Lack.{waits_rows}
 use Rattle.rubis_engine.specs.Text.{rows_text}
 use Rattle.rubis_engine.proofs.RowFacts.{on_ok}
 use Rattle.rubis_release.specs.Release.{AllAmong, clock_of}

@@ -1,5 +1,5 @@
 use Rattle.std.specs.Prelude.{map}
-use Rattle.rubis_audit.specs.Lacks.{IsMerged}
+use Rattle.rubis_audit.specs.Walks.{IsMerged}
 use Rattle.rubis_audit.proofs.walks_lacks.merge.Given as goal
 
 abbrev pub invariant-loop-at : goal.invariant-loop-at

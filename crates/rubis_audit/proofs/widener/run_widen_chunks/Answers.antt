@@ -1,7 +1,7 @@
 use Rattle.std.specs.Prelude.{⊤}
 use Rattle.rubis_schema.specs.declared.limits.TheConstants.{RECORDS_MAX}
-use Rattle.rubis_audit.specs.Places.{logs_at}
-use Rattle.rubis_audit.specs.Widening.{WidenerState, widening_from}
+use Rattle.rubis_audit.specs.Forms.{logs_at}
+use Rattle.rubis_audit.specs.Running.{WidenerState, widening_from}
 use Rattle.rubis_serving.proofs.ServedFacts.{led_whole}
 use Rattle.rubis_audit.proofs.widener.run_widen_chunks.Goals as goal
 

@@ -1,7 +1,5 @@
-use Rattle.rubis_board.proofs.Passing.{begins}
-use Rattle.rubis_board.proofs.Posts.{posts}
-use Rattle.rubis_board.proofs.Takes.{takes, marks}
-use Rattle.rubis_board.proofs.Joins.{forks, merges}
+use Rattle.rubis_board.proofs.Views.{begins, posts}
+use Rattle.rubis_board.proofs.Takes.{takes, marks, forks, merges}
 use Rattle.rubis_board.proofs.laws.every_step_keeps_the_rule.Goals as goal
 
 pub returns : goal.returns

@@ -1,7 +1,7 @@
 use Rattle.std.proofs.Common.{refl, [], ◌∷◌}
 use Rattle.rubis_board.specs.declared.rule.Item.TheVariants.{Work}
-use Rattle.rubis_board.proofs.Items.{content_append, content_marked}
-use Rattle.rubis_board.proofs.ManySteps.{moves}
+use Rattle.rubis_board.proofs.Views.{content_append, content_marked}
+use Rattle.rubis_board.proofs.Takes.{moves}
 use Rattle.rubis_board.proofs.laws.steps_move_the_posted.Goals as goal
 
 pub returns : goal.returns

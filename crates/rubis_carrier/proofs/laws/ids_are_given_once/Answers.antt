@@ -1,6 +1,6 @@
-use Rattle.rubis_carrier.proofs.Needed.{comparing_needed}
+use Rattle.rubis_carrier.proofs.Over.{comparing_needed}
 use Rattle.rubis_carrier.proofs.Sound.{ids_once}
-use Rattle.rubis_carrier.proofs.Whole.{given_again}
+use Rattle.rubis_carrier.proofs.Carrying.{given_again}
 use Rattle.rubis_carrier.proofs.laws.ids_are_given_once.Goals as goal
 
 pub returns : goal.returns

@@ -1,4 +1,4 @@
-use Rattle.rubis_carrier.proofs.Token.{comes_back, first_holds}
+use Rattle.rubis_carrier.proofs.Carrying.{comes_back, first_holds}
 use Rattle.rubis_carrier.proofs.laws.the_token_comes_back.Goals as goal
 
 pub returns : goal.returns

@@ -3,7 +3,7 @@ use Rattle.crossbeam_queue.specs.Fifo.{Pushes}
 use Rattle.crossbeam_queue.specs.Passes.{view, ruled_capacity}
 use Rattle.rubis_crew.specs.declared.results.ResultView.{ResultView}
 use Rattle.rubis_crew.specs.declared.results.Slip.{Slip}
-use Rattle.rubis_crew.specs.Results.{AreResults, HasPaid}
+use Rattle.rubis_crew.specs.Rule.{AreResults, HasPaid}
 use Rattle.rubis_crew.proofs.Paying.{pays}
 use Rattle.rubis_crew.proofs.crew.pay.Goals as goal
 

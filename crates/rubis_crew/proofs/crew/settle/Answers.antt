@@ -1,7 +1,7 @@
 use Rattle.std.proofs.Common.{ap, ◌∙◌}
 use Rattle.crossbeam_queue.specs.Passes.{view}
 use Rattle.rubis_crew.specs.declared.rule.JobView.{JobView}
-use Rattle.rubis_crew.proofs.Settling.{owns, settles}
+use Rattle.rubis_crew.proofs.Handing.{owns, settles}
 use Rattle.rubis_crew.proofs.crew.settle.Goals as goal
 
 pub learn_as-requires-clause-rule : goal.learn_as-requires-clause-rule

@@ -1,8 +1,6 @@
 use Rattle.rubis_crew.proofs.Giving.{begins, gives, says}
-use Rattle.rubis_crew.proofs.Handing.{shares, hands, receives}
+use Rattle.rubis_crew.proofs.Handing.{shares, hands, receives, settles, takes}
 use Rattle.rubis_crew.proofs.Paying.{results_begin, names, pays, collects, joins}
-use Rattle.rubis_crew.proofs.Settling.{settles}
-use Rattle.rubis_crew.proofs.Taking.{takes}
 use Rattle.rubis_crew.proofs.laws.every_step_keeps_the_rules.Goals as goal
 
 pub returns : goal.returns

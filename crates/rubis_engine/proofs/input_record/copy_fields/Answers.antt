@@ -1,6 +1,6 @@
 use Rattle.std.proofs.Common.{◌∙◌, ◌++◌, ◌∷◌, [], ap, sym}
 use Rattle.csv.specs.Records.{fields_of}
-use Rattle.rubis_engine.proofs.ListFacts.{field_at-slice_get, take-next, take-none}
+use Rattle.rubis_engine.proofs.RunFacts.{field_at-slice_get, take-next, take-none}
 use Rattle.rubis_engine.proofs.input_record.copy_fields.Goals.{in-Some+in_ok-push_read, in_default}
 use Rattle.rubis_engine.proofs.input_record.copy_fields.Goals as goal
 

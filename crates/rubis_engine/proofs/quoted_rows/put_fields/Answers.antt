@@ -1,6 +1,6 @@
 use Rattle.std.proofs.Common.{◌∙◌, ◌++◌, ◌∷◌, [], ap, append_assoc, subst, sym, take}
 use Rattle.rubis_engine.specs.Rows.{HasBegunRow}
-use Rattle.rubis_engine.proofs.ListFacts.{take-next, take-none}
+use Rattle.rubis_engine.proofs.RunFacts.{take-next, take-none}
 use Rattle.rubis_engine.proofs.quoted_rows.put_fields.Goals.{in-Some+in_ok-put_field, in_default}
 use Rattle.rubis_engine.proofs.quoted_rows.put_fields.Goals as goal
 

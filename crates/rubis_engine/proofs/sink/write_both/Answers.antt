@@ -1,5 +1,5 @@
 use Rattle.std.proofs.lemmas.Result.{on_err_weaker}
-use Rattle.rubis_engine.proofs.FrontFacts.{front-longer, front-second, on_err}
+use Rattle.rubis_engine.proofs.RunFacts.{front-longer, front-second, on_err}
 use Rattle.rubis_engine.proofs.sink.write_both.Goals as goal
 
 pub returns-in_err-write_text-clause-err : goal.returns-in_err-write_text-clause-err

@@ -1,4 +1,4 @@
-use Rattle.rubis_engine.proofs.FrontFacts.{front-kept, front-of, front-on, more-bound, on_err}
+use Rattle.rubis_engine.proofs.RunFacts.{front-kept, front-of, front-on, more-bound, on_err}
 use Rattle.rubis_engine.proofs.streams.write_front.Goals as goal
 
 pub returns-in_err-taken-clause-err : goal.returns-in_err-taken-clause-err

@@ -1,7 +1,7 @@
 use Rattle.std.proofs.Common.{◌≡◌, ◌∙◌, subst, sym}
 use Rattle.std.specs.List.{All}
 use Rattle.rubis_message.specs.Message.{Message, sites_of}
-use Rattle.rubis_model.specs.Logs.{Log}
+use Rattle.rubis_model.specs.Verdict.{Log}
 use Rattle.rubis_growths.proofs.Logs.{among_one}
 use Rattle.rubis_growths.proofs.audits.verdict_on.Goals as goal
 

@@ -1,5 +1,5 @@
 use Rattle.rubis_keep.proofs.DifferenceFacts.{only-fails}
-use Rattle.rubis_keep.proofs.EachFacts.{err-is}
+use Rattle.rubis_keep.proofs.HistoryFacts.{err-is}
 use Rattle.rubis_keep.proofs.FedFacts.{puts-none, puts-told}
 use Rattle.rubis_keep.proofs.answers.put.Goals as goal
 

@@ -1,7 +1,6 @@
 use Rattle.std.proofs.Common.{rules}
-use Rattle.rubis_engine.proofs.FrontFacts.{more-bound}
-use Rattle.rubis_keep.proofs.EachFacts.{err-is}
-use Rattle.rubis_keep.proofs.HistoryFacts.{match-err, tells-front, tells-grown, tells-none, tells-whole}
+use Rattle.rubis_engine.proofs.RunFacts.{more-bound}
+use Rattle.rubis_keep.proofs.HistoryFacts.{err-is, match-err, tells-front, tells-grown, tells-none, tells-whole}
 use Rattle.rubis_keep.proofs.answers.tell_all.Goals as goal
 
 pub loop-turn-init : goal.loop-turn-init

@@ -1,6 +1,5 @@
 use Rattle.std.proofs.Common.{◌≡◌, ℕ, List, take, true}
-use Rattle.rubis_keep.specs.Lines.{are_sound, begun_after}
-use Rattle.rubis_keep.specs.Places.{begun_bytes}
+use Rattle.rubis_keep.specs.Lines.{are_sound, begun_after, begun_bytes}
 use Rattle.rubis_keep.proofs.checking.check_bytes.Given as goal
 
 abbrev pub invariant-loop-byte : goal.invariant-loop-byte

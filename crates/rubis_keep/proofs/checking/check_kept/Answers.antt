@@ -1,7 +1,6 @@
 use Rattle.std.proofs.Common.{◌≡◌, ◌∙◌, ◌++◌, [], ap, rules, sym, take}
-use Rattle.rubis_keep.specs.Lines.{begun_after}
-use Rattle.rubis_keep.specs.Places.{begun_bytes}
-use Rattle.rubis_keep.proofs.FileFacts.{consumes-more}
+use Rattle.rubis_keep.specs.Lines.{begun_after, begun_bytes}
+use Rattle.rubis_keep.proofs.HistoryFacts.{consumes-more}
 use Rattle.rubis_keep.proofs.LineFacts.{begun-append}
 use Rattle.rubis_keep.proofs.SoundFacts.{sound-end, sound_more, unsound-read}
 use Rattle.rubis_keep.proofs.checking.check_kept.Goals as goal

@@ -1,7 +1,6 @@
 use Rattle.std.proofs.Common.{◌≡◌, [], ℕ, List, true}
 use Rattle.std.specs.Io.KnownBytes.{Consumes}
-use Rattle.rubis_keep.specs.Lines.{are_sound, begun_after}
-use Rattle.rubis_keep.specs.Places.{begun_bytes}
+use Rattle.rubis_keep.specs.Lines.{are_sound, begun_after, begun_bytes}
 use Rattle.rubis_keep.proofs.checking.check_kept.Given as goal
 
 abbrev pub invariant-loop-turn : goal.invariant-loop-turn

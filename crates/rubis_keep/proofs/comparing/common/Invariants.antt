@@ -1,5 +1,5 @@
 use Rattle.std.proofs.Common.{◌≡◌, ◌+◌, drop}
-use Rattle.rubis_keep.specs.Differences.{same_in}
+use Rattle.rubis_keep.specs.Faults.{same_in}
 use Rattle.rubis_keep.proofs.comparing.common.Given as goal
 
 abbrev pub invariant-loop-at : goal.invariant-loop-at

@@ -2,7 +2,7 @@ use Rattle.std.proofs.Common.{◌∙◌, drop, take, arith, subst, sym}
 use Rattle.std.proofs.lemmas.List.{length-take, take-append-le}
 use Rattle.std.specs.Io.KnownBytes.{Consumes}
 use Rattle.rubis_keep.proofs.DifferenceFacts.{has-difference, may-differ-more}
-use Rattle.rubis_keep.proofs.FileFacts.{consumes-front, differs-later, front-consumed}
+use Rattle.rubis_keep.proofs.HistoryFacts.{consumes-front, differs-later, front-consumed}
 use Rattle.rubis_keep.proofs.comparing.compare.Goals as goal
 
 pub returns-then-not-is_same-clause-differs : goal.returns-then-not-is_same-clause-differs

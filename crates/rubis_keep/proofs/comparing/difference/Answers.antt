@@ -1,6 +1,6 @@
 use Rattle.std.proofs.Common.{◌∙◌, ap, arith}
 use Rattle.std.proofs.lemmas.List.{take_rest}
-use Rattle.rubis_keep.specs.Differences.{ends_in, last_line, same_in}
+use Rattle.rubis_keep.specs.Faults.{ends_in, last_line, same_in}
 use Rattle.rubis_keep.proofs.DifferenceFacts.{is-difference, shown-of}
 use Rattle.rubis_keep.proofs.comparing.difference.Goals as goal
 

@@ -1,5 +1,5 @@
 use Rattle.std.proofs.Common.{◌≡◌, ◌≤◌, ◌+◌, drop}
-use Rattle.rubis_model.specs.Settle.{counted}
+use Rattle.rubis_model.specs.Site.{counted}
 use Rattle.rubis_keep.proofs.counts.count_of.Given as goal
 
 abbrev pub invariant-loop-message : goal.invariant-loop-message

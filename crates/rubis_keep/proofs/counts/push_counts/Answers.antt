@@ -1,5 +1,5 @@
 use Rattle.std.proofs.Common.{◌-◌, length, arith, ap, ◌∙◌, decimal, get_or}
-use Rattle.rubis_message.proofs.Counts.{plain_both, text_more}
+use Rattle.rubis_message.proofs.Fields.{plain_both, text_more}
 use Rattle.rubis_keep.proofs.counts.push_counts.Goals as goal
 use Rattle.rubis_keep.proofs.counts.push_counts.Goals.{then-site-counts, else-site-counts}
 

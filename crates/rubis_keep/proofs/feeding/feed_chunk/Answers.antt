@@ -1,6 +1,6 @@
 use Rattle.std.proofs.Common.{[], sym, ◌∙◌}
 use Rattle.rubis_engine.specs.Text.{input_records}
-use Rattle.rubis_keep.proofs.EachFacts.{ok-of-err}
+use Rattle.rubis_keep.proofs.HistoryFacts.{ok-of-err}
 use Rattle.rubis_keep.proofs.FedFacts.{feeds-empty, feeds-failed, feeds-on, no-more}
 use Rattle.rubis_keep.proofs.feeding.feed_chunk.Goals as goal
 

@@ -1,6 +1,6 @@
 use Rattle.std.proofs.Common.{ℕ, List}
 use Rattle.rubis_engine.specs.Reading.{Gives}
-use Rattle.rubis_keep.specs.Answering.{answering}
+use Rattle.rubis_keep.specs.Turns.{answering}
 use Rattle.rubis_keep.proofs.FedFacts.{HasFedGiven}
 use Rattle.rubis_keep.proofs.feeding.feed_records.Given as goal
 

@@ -1,7 +1,7 @@
 use Rattle.std.proofs.Common.{[], refl}
 use Rattle.rubis_engine.proofs.RunFacts.{on_ok}
 use Rattle.rubis_keep.specs.declared.fault.KeepFault.TheVariants as fault
-use Rattle.rubis_keep.proofs.EachFacts.{ok-of-err}
+use Rattle.rubis_keep.proofs.HistoryFacts.{ok-of-err}
 use Rattle.rubis_keep.proofs.FedFacts.{failed-here, feeds-failed, feeds-on, held-fed, put-fed, quiet}
 use Rattle.rubis_keep.proofs.feeding.finish.Goals as goal
 

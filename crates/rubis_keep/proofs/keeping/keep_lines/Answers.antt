@@ -1,5 +1,5 @@
 use Rattle.std.proofs.Common.{rules}
-use Rattle.rubis_engine.proofs.FrontFacts.{more-bound}
+use Rattle.rubis_engine.proofs.RunFacts.{more-bound}
 use Rattle.rubis_keep.proofs.HistoryFacts.{grows-front, grows-none, grows-still, kept-end}
 use Rattle.rubis_keep.proofs.keeping.keep_lines.Goals as goal
 

@@ -1,5 +1,5 @@
 use Rattle.std.proofs.Common.{◌∙◌, ap, drop, subst, take}
-use Rattle.rubis_keep.specs.Cuts.{CutsLines}
+use Rattle.rubis_keep.specs.Lines.{CutsLines}
 use Rattle.rubis_keep.proofs.LeftFacts.{came-or-ended, drop-none, left-end, left-taken, taken-some}
 use Rattle.rubis_keep.proofs.keeping.read_next.Goals as goal
 

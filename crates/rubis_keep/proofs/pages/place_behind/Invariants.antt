@@ -1,5 +1,5 @@
 use Rattle.std.proofs.Common.{◌≡◌, drop}
-use Rattle.rubis_keep.specs.Pages.{behind}
+use Rattle.rubis_keep.specs.Questions.{behind}
 use Rattle.rubis_keep.proofs.pages.place_behind.Given as goal
 
 abbrev pub invariant-loop-at : goal.invariant-loop-at

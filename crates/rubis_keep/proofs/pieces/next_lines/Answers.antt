@@ -1,8 +1,7 @@
 use Rattle.std.proofs.Common.{[], arith, inl, inr, rules}
 use Rattle.rubis_keep.specs.declared.fault.KeepFault.TheVariants as fault
-use Rattle.rubis_keep.proofs.EachFacts.{err-is}
+use Rattle.rubis_keep.proofs.HistoryFacts.{err-is, tells-none}
 use Rattle.rubis_keep.proofs.FedFacts.{stopped-failed}
-use Rattle.rubis_keep.proofs.HistoryFacts.{tells-none}
 use Rattle.rubis_keep.proofs.TurnFacts.{lines-answered, lines-torn, lines-unanswered, unread-torn}
 use Rattle.rubis_keep.proofs.pieces.next_lines.Goals as goal
 

@@ -1,5 +1,5 @@
 use Rattle.std.proofs.Common.{inr, refl}
-use Rattle.rubis_keep.proofs.EachFacts.{err-is}
+use Rattle.rubis_keep.proofs.HistoryFacts.{err-is}
 use Rattle.rubis_keep.proofs.TurnFacts.{turn-ends, turn-unreplied, unmoved-at}
 use Rattle.rubis_keep.proofs.pieces.next_piece.Goals as goal
 

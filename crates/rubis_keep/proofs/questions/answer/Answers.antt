@@ -1,6 +1,6 @@
 use Rattle.std.proofs.Common.{◌∙◌, ap, arith, sym}
 use Rattle.rubis_keep.specs.Lines.{closes}
-use Rattle.rubis_keep.proofs.QuestionFacts.{refused-bad, refused-open}
+use Rattle.rubis_keep.proofs.AskFacts.{refused-bad, refused-open}
 use Rattle.rubis_keep.proofs.questions.answer.Goals as goal
 
 pub returns-then-not-closes-clause-rows : goal.returns-then-not-closes-clause-rows

@@ -1,5 +1,5 @@
 use Rattle.std.proofs.Common.{refl}
-use Rattle.rubis_release.proofs.Counting.{counts_at, length_counts}
+use Rattle.rubis_release.proofs.Keeping.{counts_at, length_counts}
 use Rattle.rubis_keep.proofs.questions.own_count.Goals as goal
 
 pub count-requires : goal.count-requires

@@ -1,5 +1,5 @@
 use Rattle.std.proofs.Common.{rules}
-use Rattle.rubis_keep.proofs.QuestionFacts.{row-three}
+use Rattle.rubis_keep.proofs.AskFacts.{row-three}
 use Rattle.rubis_keep.proofs.questions.read_row.Goals as goal
 
 pub returns-else-ne : goal.returns-else-ne

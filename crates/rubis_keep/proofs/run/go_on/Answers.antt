@@ -1,6 +1,6 @@
 use Rattle.std.proofs.Common.{[], refl, rules}
-use Rattle.rubis_keep.proofs.EachFacts.{err-is}
-use Rattle.rubis_keep.proofs.StageFacts.{begun-again, fails-cut, fails-untold, goes-on}
+use Rattle.rubis_keep.proofs.HistoryFacts.{err-is}
+use Rattle.rubis_keep.proofs.RunFacts.{begun-again, fails-cut, fails-untold, goes-on}
 use Rattle.rubis_keep.proofs.run.go_on.Goals as goal
 
 -- what was kept could not be cut off

@@ -1,5 +1,5 @@
 use Rattle.std.proofs.Common.{ap, inl}
-use Rattle.rubis_keep.proofs.StageFacts.{replay-ends}
+use Rattle.rubis_keep.proofs.RunFacts.{replay-ends}
 use Rattle.rubis_keep.proofs.run.replay.Goals as goal
 
 -- what was kept is answered

@@ -1,7 +1,6 @@
 use Rattle.rubis_keep.specs.declared.fault.KeepFault.TheVariants as fault
-use Rattle.rubis_keep.proofs.EachFacts.{err-is}
-use Rattle.rubis_keep.proofs.HistoryFacts.{grows-none}
-use Rattle.rubis_keep.proofs.StageFacts.{runs-unstarted}
+use Rattle.rubis_keep.proofs.HistoryFacts.{err-is, grows-none}
+use Rattle.rubis_keep.proofs.RunFacts.{runs-unstarted}
 use Rattle.rubis_keep.proofs.run.run_kept.Goals as goal
 
 pub returns-in_err-unread : goal.returns-in_err-unread

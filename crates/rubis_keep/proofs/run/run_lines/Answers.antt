@@ -1,7 +1,6 @@
 use Rattle.std.proofs.Common.{inl, refl}
-use Rattle.rubis_keep.proofs.EachFacts.{err-is}
-use Rattle.rubis_keep.proofs.HistoryFacts.{grows-none}
-use Rattle.rubis_keep.proofs.StageFacts.{none-came, runs-end, runs-unreplayed, runs-unstarted}
+use Rattle.rubis_keep.proofs.HistoryFacts.{err-is, grows-none}
+use Rattle.rubis_keep.proofs.RunFacts.{none-came, runs-end, runs-unreplayed, runs-unstarted}
 use Rattle.rubis_keep.proofs.run.run_lines.Goals as goal
 
 pub returns-in_err-check_kept : goal.returns-in_err-check_kept

@@ -2,10 +2,8 @@ use Rattle.std.proofs.Common.{[], Some}
 use Rattle.rubis_model.specs.Site.{opening_at}
 use Rattle.rubis_script.specs.Replica.{setup_place}
 use Rattle.rubis_keep.specs.declared.fault.KeepFault.TheVariants as fault
-use Rattle.rubis_keep.proofs.EachFacts.{err-is, ok-of-err}
-use Rattle.rubis_keep.proofs.HistoryFacts.{grows-none}
-use Rattle.rubis_keep.proofs.RunFacts.{is-new, new-clerk, new-site, opened-at, runs-ended, runs-lived, runs-reply, runs-safe, runs-true}
-use Rattle.rubis_keep.proofs.StageFacts.{runs-unstarted}
+use Rattle.rubis_keep.proofs.HistoryFacts.{err-is, ok-of-err, grows-none}
+use Rattle.rubis_keep.proofs.RunFacts.{is-new, new-clerk, new-site, opened-at, runs-ended, runs-lived, runs-reply, runs-safe, runs-true, runs-unstarted}
 use Rattle.rubis_keep.proofs.site.keep_site.Goals as goal
 
 -- ---- there was no memory for the site: nothing happened

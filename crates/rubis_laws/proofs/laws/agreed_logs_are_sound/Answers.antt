@@ -1,5 +1,4 @@
-use Rattle.rubis_laws.proofs.Audits.Audited.{faultless_sound}
-use Rattle.rubis_laws.proofs.Audits.Verdicts.{agree_faultless}
+use Rattle.rubis_laws.proofs.Audits.Verdicts.{faultless_sound, agree_faultless}
 use Rattle.rubis_laws.proofs.laws.agreed_logs_are_sound.Goals as goal
 
 pub returns : goal.returns

@@ -1,5 +1,4 @@
-use Rattle.rubis_generate.specs.Lookup.{row_by_key}
-use Rattle.rubis_model.specs.Log.{fold_of}
+use Rattle.rubis_laws.proofs.Common.{row_by_key, fold_of}
 use Rattle.rubis_laws.proofs.Rows.FoldIsMeaning.{fold_is_meaning}
 use Rattle.rubis_laws.proofs.Runs.Invariants.{checked_holds}
 use Rattle.rubis_laws.proofs.Order.Decisions.{decided_fits}

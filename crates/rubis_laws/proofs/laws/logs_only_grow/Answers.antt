@@ -1,4 +1,4 @@
-use Rattle.rubis_laws.proofs.Runs.Growing.{logs_only_grow}
+use Rattle.rubis_laws.proofs.Runs.Delivering.{logs_only_grow}
 use Rattle.rubis_laws.proofs.laws.logs_only_grow.Goals as goal
 
 pub returns : goal.returns

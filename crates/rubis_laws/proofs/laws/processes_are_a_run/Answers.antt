@@ -1,5 +1,4 @@
-use Rattle.rubis_laws.proofs.Processes.OwnMessages.{processes_own}
-use Rattle.rubis_laws.proofs.Processes.ProcessLaws.{processes_agree, processes_in_run, processes_keep, processes_same_tables}
+use Rattle.rubis_laws.proofs.Processes.ProcessLaws.{processes_own, processes_agree, processes_in_run, processes_keep, processes_same_tables}
 use Rattle.rubis_laws.proofs.Processes.AreARun.{processes_run}
 use Rattle.rubis_laws.proofs.Processes.ProcessesConverging.{processes_converge}
 use Rattle.rubis_laws.proofs.laws.processes_are_a_run.Goals as goal

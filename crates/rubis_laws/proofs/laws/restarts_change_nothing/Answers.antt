@@ -1,7 +1,6 @@
 use Rattle.rubis_laws.proofs.Processes.AreARun.{answers_stay}
 use Rattle.rubis_laws.proofs.Processes.Restarts.{nothing_left_out, readings_are_moments, recordings_replay, restarted_agree, restarts_change_nothing}
-use Rattle.rubis_laws.proofs.Processes.ProcessesConverging.{restarted_converge}
-use Rattle.rubis_laws.proofs.Processes.NewRecords.{new_records_are_read}
+use Rattle.rubis_laws.proofs.Processes.ProcessesConverging.{restarted_converge, new_records_are_read}
 use Rattle.rubis_laws.proofs.laws.restarts_change_nothing.Goals as goal
 
 pub returns-clause-answers : goal.returns-clause-answers

@@ -1,6 +1,5 @@
-use Rattle.rubis_laws.proofs.Rebuilding.AskedAgain.{asks_are_read_off}
-use Rattle.rubis_laws.proofs.Rebuilding.RebuildRecords.{records_rebuild}
-use Rattle.rubis_laws.proofs.Rebuilding.RebuildInputs.{inputs_rebuild}
+use Rattle.rubis_laws.proofs.Rebuilding.Rebuilt.{asks_are_read_off}
+use Rattle.rubis_laws.proofs.Rebuilding.RebuildRecords.{records_rebuild, inputs_rebuild}
 use Rattle.rubis_laws.proofs.Rebuilding.RebuiltSites.{sites_are_rebuilt}
 use Rattle.rubis_laws.proofs.laws.sites_are_rebuilt.Goals as goal
 

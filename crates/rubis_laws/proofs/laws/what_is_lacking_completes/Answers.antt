@@ -1,6 +1,5 @@
 use Rattle.rubis_laws.proofs.Lacking.InOrder.{lack_is_released, lacks_the_rest}
-use Rattle.rubis_laws.proofs.Lacking.LackingRuns.{completed_tables_are_equal, lack_is_released_in_runs, one_round_converges}
-use Rattle.rubis_laws.proofs.Lacking.LackingWaiting.{lack_never_waits}
+use Rattle.rubis_laws.proofs.Lacking.LackingRuns.{completed_tables_are_equal, lack_is_released_in_runs, one_round_converges, lack_never_waits}
 use Rattle.rubis_laws.proofs.laws.what_is_lacking_completes.Goals as goal
 
 pub returns-clause-rest : goal.returns-clause-rest

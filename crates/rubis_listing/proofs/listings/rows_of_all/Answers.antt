@@ -6,7 +6,7 @@ use Rattle.rubis_schema.specs.declared.rows.Row.{Row}
 use Rattle.rubis_shadow.specs.Tables.{rows_of}
 use Rattle.rubis_model.specs.Listings.{records_of}
 use Rattle.rubis_shard.specs.Holdings.{union}
-use Rattle.rubis_listing.specs.ByTable.{tables_of}
+use Rattle.rubis_listing.specs.Parts.{tables_of}
 use Rattle.rubis_listing.proofs.ByTable.{all_by_table, rows_by_table}
 use Rattle.rubis_listing.proofs.Making.{collected_all, collected_more}
 use Rattle.rubis_listing.proofs.listings.rows_of_all.Goals as goal

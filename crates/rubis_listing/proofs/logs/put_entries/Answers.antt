@@ -1,7 +1,7 @@
 use Rattle.std.proofs.Common.{◌≡◌, ◌∷◌, [], ◌++◌, ◌∙◌, ap, sym, subst, ◌+◌, ◌<◌, ◌≤◌, length, rules}
 use Rattle.std.specs.Prelude.{slice_index_or, slice_range}
 use Rattle.rubis_model.specs.Listings.{log_from, log_record}
-use Rattle.rubis_listing.proofs.Entering.{entry_more, entries_end}
+use Rattle.rubis_listing.proofs.Making.{entry_more, entries_end}
 use Rattle.rubis_listing.proofs.logs.put_entries.Goals as goal
 
 pub loop-place-preserved : goal.loop-place-preserved

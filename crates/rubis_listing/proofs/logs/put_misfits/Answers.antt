@@ -1,6 +1,6 @@
 use Rattle.std.proofs.Common.{◌∷◌, [], ◌++◌, ◌∙◌, ap, sym, subst, drop, ◌+◌, ◌<◌, length, rules}
 use Rattle.rubis_model.specs.Listings.{misfit_rows}
-use Rattle.rubis_listing.proofs.Entering.{misfit_more}
+use Rattle.rubis_listing.proofs.Making.{misfit_more}
 use Rattle.rubis_listing.proofs.logs.put_misfits.Goals as goal
 
 pub loop-misfit-preserved : goal.loop-misfit-preserved

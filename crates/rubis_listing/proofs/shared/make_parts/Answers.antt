@@ -6,8 +6,7 @@ use denote.Param.Send.{arg_send, param_send}
 use Rattle.rayon.specs.Numbers.{nat_range}
 use Rattle.rayon.proofs.ToStd.{nat_range-All}
 use Rattle.rubis_listing.specs.Parts.{rows_of_part, size_of, AreParts}
-use Rattle.rubis_listing.proofs.Making.{each_made, if_made}
-use Rattle.rubis_listing.proofs.Ranges.{parts_from}
+use Rattle.rubis_listing.proofs.Making.{each_made, if_made, parts_from}
 use Rattle.rubis_listing.proofs.shared.make_parts.Goals as goal
 
 -- each part begins within the rows, and a sink may be made by another thread

@@ -2,7 +2,7 @@ use Rattle.std.proofs.Common.{rules, arith, ◌≡◌, ◌∷◌, ◌∙◌, [],
 use Rattle.std.specs.Vec.Iter.{into_iter_items, into_iter_len}
 use Rattle.std.proofs.lemmas.List.{nil_from_length}
 use Rattle.rubis_listing.specs.Parts.{behind, between, AreParts}
-use Rattle.rubis_listing.proofs.Ranges.{between_more, between_none}
+use Rattle.rubis_listing.proofs.Making.{between_more, between_none}
 use Rattle.rubis_listing.proofs.shared.put_shared.Goals as goal
 
 pub loop-part-preserved : goal.loop-part-preserved

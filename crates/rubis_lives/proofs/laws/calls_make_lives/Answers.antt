@@ -1,4 +1,4 @@
-use Rattle.rubis_lives.proofs.CallFacts.{calls-are-lives, raised-calls-raise, shortened-may-replace}
+use Rattle.rubis_lives.proofs.FolderFacts.{calls-are-lives, raised-calls-raise, shortened-may-replace}
 use Rattle.rubis_lives.proofs.laws.calls_make_lives.Goals as goal
 
 pub returns : goal.returns

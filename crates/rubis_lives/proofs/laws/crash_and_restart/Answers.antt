@@ -1,4 +1,4 @@
-use Rattle.rubis_lives.proofs.CrashFacts.{comes-back, differences-found, edits-found, ends-left, lives-left-too, questions-leave-nothing}
+use Rattle.rubis_lives.proofs.MomentFacts.{comes-back, differences-found, edits-found, ends-left, lives-left-too, questions-leave-nothing}
 use Rattle.rubis_lives.proofs.laws.crash_and_restart.Goals as goal
 
 pub returns : goal.returns

@@ -1,4 +1,4 @@
-use Rattle.rubis_lives.proofs.RefusedFacts.{begun-too-early, kept-too-early, shown-too-early, told-too-early}
+use Rattle.rubis_lives.proofs.MomentFacts.{begun-too-early, kept-too-early, shown-too-early, told-too-early}
 use Rattle.rubis_lives.proofs.laws.early_answers_are_unsafe.Goals as goal
 
 pub returns : goal.returns

@@ -1,6 +1,6 @@
 use Rattle.std.proofs.Common.{◌∙◌, ◌-◌, ◌∷◌, ◌++◌, ap, arith, decimal, drop, length, refl}
 use Rattle.rubis_message.specs.Grammar.{deps_text}
-use Rattle.rubis_message.proofs.Counts.{text_more}
+use Rattle.rubis_message.proofs.Fields.{text_more}
 use Rattle.rubis_message.proofs.row_writers.put_deps.Goals as goal
 
 pub loop-site-preserved : goal.loop-site-preserved

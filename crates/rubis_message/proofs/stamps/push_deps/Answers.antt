@@ -1,5 +1,5 @@
 use Rattle.std.proofs.Common.{◌-◌, ◌++◌, length, arith, ap, ◌∙◌, decimal}
-use Rattle.rubis_message.proofs.Counts.{plain_both, text_more}
+use Rattle.rubis_message.proofs.Fields.{plain_both, text_more}
 use Rattle.rubis_message.proofs.stamps.push_deps.Goals as goal
 use Rattle.rubis_message.proofs.stamps.push_deps.Goals.{then-site-sites, else-site-sites}
 

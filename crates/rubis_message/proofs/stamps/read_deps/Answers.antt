@@ -1,6 +1,6 @@
 use Rattle.std.proofs.Common.{◌-◌, [], ◌∷◌, length, length-append, ap, ◌∙◌, arith}
 use Rattle.std.specs.Prelude.{option_map}
-use Rattle.rubis_message.proofs.Counts.{no_first_left, first_less, no_last_left, none_left}
+use Rattle.rubis_message.proofs.Fields.{no_first_left, first_less, no_last_left, none_left}
 use Rattle.rubis_message.proofs.stamps.read_deps.Goals as goal
 
 pub returns-in_err-count-clause-value : goal.returns-in_err-count-clause-value

@@ -1,5 +1,5 @@
 use Rattle.std.proofs.Common.{◌∙◌, Some, None, rules, sym}
-use Rattle.rubis_message.proofs.Cursor.{asked_behind}
+use Rattle.rubis_message.proofs.Fields.{asked_behind}
 use Rattle.rubis_message.proofs.world_inputs.read_request_at.Goals as goal
 
 pub returns-in-Ok-clause-input : goal.returns-in-Ok-clause-input

@@ -1,8 +1,7 @@
 use Rattle.std.proofs.Common.{◌≡◌, rules, sym, ap, ◌∙◌, subst, get_or, arith}
 use Rattle.std.proofs.lemmas.List.{length-map}
 use Rattle.rubis_model.specs.Log.{core, cores}
-use Rattle.rubis_shard.specs.Entries.{core_of}
-use Rattle.rubis_shard.specs.PartHomes.{AreHomesOf}
+use Rattle.rubis_shard.specs.Holdings.{core_of, AreHomesOf}
 use Rattle.rubis_shard.specs.States.{ShardState}
 use Rattle.rubis_shard.specs.declared.part_homes.PartHomes.{PartHomes}
 use Rattle.rubis_shard.proofs.Folds.{of_ok}

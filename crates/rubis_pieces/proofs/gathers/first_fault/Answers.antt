@@ -2,9 +2,8 @@ use Rattle.std.proofs.Common.{rules, ◌≡◌, ◌<◌, ◌+◌, length, sym, a
 use Rattle.std.specs.Prelude.{slice_get, Some}
 use Rattle.std.proofs.lemmas.List.{length-map, length-set}
 use Rattle.rubis_pieces.specs.declared.pieces.Done.{Done}
-use Rattle.rubis_pieces.specs.Faults.{IsSoundTo, IsSeenTo, StandsBelow, numbers_of}
-use Rattle.rubis_pieces.proofs.Walk.{number_at, sound_more, seen_more, flag, seen_one_more, none_true, all_true, one_true_more}
-use Rattle.rubis_pieces.proofs.Walk.{one_flag_more}
+use Rattle.rubis_pieces.specs.Batches.{IsSoundTo, IsSeenTo, StandsBelow, numbers_of}
+use Rattle.rubis_pieces.proofs.Folded.{number_at, sound_more, seen_more, flag, seen_one_more, none_true, all_true, one_true_more, one_flag_more}
 use Rattle.rubis_pieces.proofs.gathers.first_fault.Goals as goal
 
 pub loop-done-preserved : goal.loop-done-preserved

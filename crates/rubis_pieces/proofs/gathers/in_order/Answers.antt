@@ -1,8 +1,8 @@
 use Rattle.std.proofs.Common.{rules, ◌≡◌, List, length, subst}
 use Rattle.std.proofs.lemmas.List.Sorted.{IsNonDecreasingBy-from_sort_by_key, length_permutation}
 use Rattle.rubis_pieces.specs.declared.pieces.Done.{Done}
-use Rattle.rubis_pieces.specs.Faults.{IsGatherable, numbers_of}
-use Rattle.rubis_pieces.proofs.Sorting.{in_order}
+use Rattle.rubis_pieces.specs.Batches.{IsGatherable, numbers_of}
+use Rattle.rubis_pieces.proofs.Folded.{in_order}
 use Rattle.rubis_pieces.proofs.gathers.in_order.Goals as goal
 
 pub returns-clause-order : goal.returns-clause-order

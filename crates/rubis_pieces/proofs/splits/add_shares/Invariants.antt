@@ -1,6 +1,6 @@
 use Rattle.std.proofs.Common.{◌≡◌, ◌≤◌, drop, length}
 use Rattle.std.specs.Vec.Iter.{into_iter_items}
-use Rattle.rubis_pieces.proofs.Joined.{AreAddedTo}
+use Rattle.rubis_pieces.proofs.Dealt.{AreAddedTo}
 use Rattle.rubis_pieces.proofs.splits.add_shares.Given as goal
 
 abbrev pub invariant-loop-share : goal.invariant-loop-share

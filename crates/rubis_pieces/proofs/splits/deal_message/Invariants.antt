@@ -1,6 +1,6 @@
 use Rattle.std.proofs.Common.{◌≡◌, length, take}
 use Rattle.rubis_model.specs.Log.{number_parts, parts_of}
-use Rattle.rubis_shard.specs.Entries.{core_of}
+use Rattle.rubis_shard.specs.Holdings.{core_of}
 use Rattle.rubis_pieces.proofs.Dealt.{IsDealtTo}
 use Rattle.rubis_pieces.proofs.splits.deal_message.Given as goal
 

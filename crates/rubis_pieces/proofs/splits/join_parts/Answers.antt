@@ -4,7 +4,7 @@ use Rattle.std.specs.Vec.Iter.{into_iter_items, into_iter_len}
 use Rattle.std.proofs.lemmas.List.{append-nil, nil_from_length}
 use Rattle.rubis_model.specs.Log.{Core, cores, numbered_from}
 use Rattle.rubis_model.proofs.Shares.{numbered_append}
-use Rattle.rubis_pieces.specs.Shares.{AreDealt, AreOfParts}
+use Rattle.rubis_pieces.specs.Batches.{AreDealt, AreOfParts}
 use Rattle.rubis_pieces.proofs.splits.join_parts.Goals as goal
 
 pub loop-part-init : goal.loop-part-init

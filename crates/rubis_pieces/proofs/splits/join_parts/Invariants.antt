@@ -1,7 +1,7 @@
 use Rattle.std.proofs.Common.{◌≡◌, ◌+◌, ◌++◌, List, length}
 use Rattle.std.specs.Vec.Iter.{into_iter_items}
 use Rattle.rubis_model.specs.Log.{Core, cores, numbered_from}
-use Rattle.rubis_pieces.specs.Shares.{AreDealt, AreOfParts}
+use Rattle.rubis_pieces.specs.Batches.{AreDealt, AreOfParts}
 use Rattle.rubis_pieces.proofs.splits.join_parts.Given as goal
 
 -- the messages before some have their parts in the list, and the parts to come are of the others

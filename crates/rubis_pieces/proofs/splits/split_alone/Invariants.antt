@@ -1,6 +1,6 @@
 use Rattle.std.proofs.Common.{◌≡◌, ◌+◌, take}
 use Rattle.rubis_model.specs.Log.{cores, numbered_from}
-use Rattle.rubis_pieces.specs.Shares.{AreDealt}
+use Rattle.rubis_pieces.specs.Batches.{AreDealt}
 use Rattle.rubis_pieces.proofs.splits.split_alone.Given as goal
 
 abbrev pub invariant-loop-message : goal.invariant-loop-message

@@ -7,9 +7,8 @@ use Rattle.rayon.specs.Numbers.{nat_range}
 use Rattle.rayon.proofs.ToStd.{nat_range-All}
 use Rattle.rubis_model.specs.Log.{core, cores}
 use Rattle.rubis_shard.specs.declared.shares.Share.{Share}
-use Rattle.rubis_pieces.specs.Shares.{AreOfParts, AreShares, part_of}
-use Rattle.rubis_pieces.proofs.Dealt.{if_ok}
-use Rattle.rubis_pieces.proofs.Joined.{each_made, parts_from}
+use Rattle.rubis_pieces.specs.Batches.{AreOfParts, AreShares, part_of}
+use Rattle.rubis_pieces.proofs.Dealt.{if_ok, each_made, parts_from}
 use Rattle.rubis_pieces.proofs.splits.split_parts.Goals as goal
 
 -- each part begins within the batch

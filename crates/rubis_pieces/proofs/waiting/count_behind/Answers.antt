@@ -1,5 +1,5 @@
 use Rattle.std.proofs.Common.{rules, length, arith}
-use Rattle.rubis_pieces.proofs.Tallies.{behind_turn}
+use Rattle.rubis_pieces.proofs.Counting.{behind_turn}
 use Rattle.rubis_pieces.proofs.waiting.count_behind.Goals as goal
 
 pub loop-place-preserved : goal.loop-place-preserved

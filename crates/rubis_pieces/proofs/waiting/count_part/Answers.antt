@@ -1,5 +1,5 @@
 use Rattle.std.proofs.Common.{length, arith}
-use Rattle.rubis_pieces.proofs.Tallies.{none_past}
+use Rattle.rubis_pieces.proofs.Counting.{none_past}
 use Rattle.rubis_pieces.proofs.waiting.count_part.Goals as goal
 
 pub returns-then-home-stops-clause-part : goal.returns-then-home-stops-clause-part

@@ -1,4 +1,4 @@
-use Rattle.rubis_pool_core.proofs.Teams.{follows_the_share, team_folds, team_goes_along, team_scheduled}
+use Rattle.rubis_pool_core.proofs.Threads.{follows_the_share, team_folds, team_goes_along, team_scheduled}
 use Rattle.rubis_pool_core.proofs.laws.every_team_is_scheduled.Goals as goal
 
 pub returns-clause-steps : goal.returns-clause-steps

@@ -1,6 +1,6 @@
 use Rattle.std.proofs.Common.{ap, sym, subst, take}
 use Rattle.rubis_pool_core.specs.Machine.{PoolOf}
-use Rattle.rubis_pool_core.specs.Schedules.{Accounted}
+use Rattle.rubis_pool_core.specs.Batches.{Accounted}
 use Rattle.rubis_pool_core.proofs.Accounts.{every}
 use Rattle.rubis_pool_core.proofs.schedules.run.Goals as goal
 

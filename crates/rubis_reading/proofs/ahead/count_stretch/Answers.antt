@@ -1,6 +1,6 @@
 use Rattle.std.proofs.Common.{ap, arith, length}
-use Rattle.rubis_reading.specs.Runs.{of_stretch}
-use Rattle.rubis_reading.proofs.RunFacts.{came-length}
+use Rattle.rubis_reading.specs.Readings.{of_stretch}
+use Rattle.rubis_reading.proofs.PieceFacts.{came-length}
 use Rattle.rubis_reading.proofs.ahead.count_stretch.Goals as goal
 
 pub returns-in-Messages : goal.returns-in-Messages

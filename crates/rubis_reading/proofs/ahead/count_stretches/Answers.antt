@@ -1,5 +1,5 @@
 use Rattle.std.proofs.Common.{◌≤◌, arith, length}
-use Rattle.rubis_reading.proofs.RunFacts.{counted-end, counted-flat}
+use Rattle.rubis_reading.proofs.PieceFacts.{counted-end, counted-flat}
 use Rattle.rubis_reading.proofs.ahead.count_stretches.Goals as goal
 
 pub returns : goal.returns

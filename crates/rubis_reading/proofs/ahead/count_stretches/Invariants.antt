@@ -1,5 +1,5 @@
 use Rattle.std.proofs.Common.{◌≡◌, ◌+◌, drop}
-use Rattle.rubis_reading.proofs.RunFacts.{counted}
+use Rattle.rubis_reading.proofs.PieceFacts.{counted}
 use Rattle.rubis_reading.proofs.ahead.count_stretches.Given as goal
 
 abbrev pub invariant-loop-run : goal.invariant-loop-run

@@ -1,5 +1,5 @@
 use Rattle.std.proofs.Common.{◌+◌}
-use Rattle.rubis_reading.specs.Standings.{state_of}
+use Rattle.rubis_reading.specs.Streams.{state_of}
 use Rattle.rubis_reading.proofs.EndFacts.{none-after, quoted-none}
 use Rattle.rubis_reading.proofs.QuoteFacts.{ends-from}
 use Rattle.rubis_reading.proofs.cuts.last_line.Goals as goal

@@ -2,8 +2,7 @@ use Rattle.std.proofs.Common.{◌≡◌, ◌∙◌, ◌≤◌, ◌<◌, ◌+◌,
 use Rattle.std.proofs.lemmas.List.{length-take-le}
 use Rattle.rubis_engine.proofs.RunFacts.{if_none}
 use Rattle.csv.specs.declared.parser.State.TheVariants as st
-use Rattle.rubis_reading.specs.Standings.{state_of}
-use Rattle.rubis_reading.specs.Streams.{EndsFrom, HasNoQuote, IsLike, NoEndAfter, stands}
+use Rattle.rubis_reading.specs.Streams.{state_of, EndsFrom, HasNoQuote, IsLike, NoEndAfter, stands}
 use Rattle.rubis_reading.proofs.EndFacts.{none-between, none-later}
 use Rattle.rubis_reading.proofs.QuoteFacts.{after-quote, first-none, first-some, front-ends, rest-ends}
 use Rattle.rubis_reading.proofs.LookFacts.{looked-rest}

@@ -1,7 +1,6 @@
 use Rattle.std.proofs.Common.{◌≤◌, ◌<◌, ◌-◌, ℕ, length, take}
 use Rattle.csv.specs.declared.parser.State.TheVariants as st
-use Rattle.rubis_reading.specs.Standings.{state_of}
-use Rattle.rubis_reading.specs.Streams.{EndsFrom, IsLike, stands}
+use Rattle.rubis_reading.specs.Streams.{state_of, EndsFrom, IsLike, stands}
 use Rattle.rubis_reading.proofs.cuts.look_on.Given as goal
 
 abbrev pub invariant-quotes : goal.invariant-quotes

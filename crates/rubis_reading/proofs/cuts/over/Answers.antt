@@ -1,6 +1,5 @@
 use Rattle.std.proofs.Common.{subst, sym}
-use Rattle.rubis_reading.specs.Standings.{state_of}
-use Rattle.rubis_reading.specs.Streams.{IsLike, stands}
+use Rattle.rubis_reading.specs.Streams.{state_of, IsLike, stands}
 use Rattle.rubis_reading.proofs.QuoteFacts.{none-length, over-none, over-quoted, over-run, some-length}
 use Rattle.rubis_reading.proofs.cuts.over.Goals as goal
 

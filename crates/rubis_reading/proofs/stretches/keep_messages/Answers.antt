@@ -1,7 +1,7 @@
 use Rattle.std.proofs.Common.{subst, sym}
 use Rattle.std.proofs.lemmas.Result.{on_ok_weaker}
-use Rattle.rubis_reading.proofs.RunFacts.{window-more}
-use Rattle.rubis_reading.specs.Runs.{FitWindow}
+use Rattle.rubis_reading.proofs.PieceFacts.{window-more}
+use Rattle.rubis_reading.specs.Readings.{FitWindow}
 use Rattle.rubis_reading.specs.declared.stretches.Stretch.TheVariants.{Messages}
 use Rattle.rubis_reading.proofs.stretches.keep_messages.Goals as goal
 

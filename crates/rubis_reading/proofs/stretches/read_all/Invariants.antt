@@ -1,8 +1,7 @@
-use Rattle.std.proofs.Common.{List, ℕ}
-use Rattle.std.proofs.Common.{◌++◌}
-use Rattle.rubis_reading.specs.Runs.{HaveWindow, all_came, flat}
+use Rattle.std.proofs.Common.{List, ℕ, ◌++◌}
+use Rattle.rubis_reading.specs.Readings.{HaveWindow, all_came, flat}
 use Rattle.rubis_engine.specs.Reading.{Gives, bytes_left}
-use Rattle.rubis_reading.proofs.InputFacts.{HasInputs}
+use Rattle.rubis_reading.proofs.PieceFacts.{HasInputs}
 use Rattle.rubis_reading.proofs.stretches.read_all.Given as goal
 
 abbrev pub invariant-steps : goal.invariant-steps

@@ -2,7 +2,7 @@ use Rattle.std.proofs.Common.{◌≡◌, length, sym, ap, ◌∙◌, subst, rule
 use Rattle.std.specs.Prelude.{filter, is_some}
 use Rattle.indexmap.proofs.CallerLemmas.{filter-RetainsPairs}
 use Rattle.rubis_release.specs.Waiting.{Slots, somes, HaveTheirIds, AreApart}
-use Rattle.rubis_release.proofs.Gaps.{somes_kept, own_kept, full_kept}
+use Rattle.rubis_release.proofs.Slots.{somes_kept, own_kept, full_kept}
 use Rattle.rubis_release.proofs.waiting.close.Goals as goal
 
 pub returns-then-none : goal.returns-then-none

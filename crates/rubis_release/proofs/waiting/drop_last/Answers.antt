@@ -2,7 +2,7 @@ use Rattle.std.proofs.Common.{◌≡◌, ◌+◌, ◌-◌, ◌≤◌, length, re
 use Rattle.std.specs.Prelude.{Option, Some, None, slice_get}
 use Rattle.rubis_message.specs.Message.{Message}
 use Rattle.rubis_release.specs.Waiting.{AreSlots, somes}
-use Rattle.rubis_release.proofs.Gaps.{without_last}
+use Rattle.rubis_release.proofs.Slots.{without_last}
 use Rattle.rubis_release.proofs.waiting.drop_last.Goals as goal
 
 left : (c : goal.After-truncate) → (somes c.truncate.new.self.entries ≡ somes c.args.slots.now.entries) × (1 ≤ c.args.gone)

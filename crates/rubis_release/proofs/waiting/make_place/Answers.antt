@@ -5,7 +5,7 @@ use Rattle.std.proofs.lemmas.List.{nil_from_length}
 use Rattle.rubis_schema.specs.Keys.{same_id}
 use Rattle.rubis_message.specs.Message.{Message}
 use Rattle.rubis_release.specs.Waiting.{somes}
-use Rattle.rubis_release.proofs.Gaps.{has_told, full_lookup, none_is}
+use Rattle.rubis_release.proofs.Slots.{has_told, full_lookup, none_is}
 use Rattle.rubis_release.proofs.waiting.make_place.Goals as goal
 use Rattle.rubis_release.proofs.waiting.make_place.Goals.{then-gone-eq0-via-then-gone-eq0, then-gone-eq0-via-else-gone-eq0+then-not-contains_key}
 

@@ -5,8 +5,7 @@ use Rattle.rubis_schema.specs.Keys.{same_id}
 use Rattle.rubis_schema.specs.declared.ids.Id.{Id}
 use Rattle.rubis_clock.specs.Clocks.{IsReady}
 use Rattle.rubis_message.specs.Message.{Message}
-use Rattle.rubis_release.proofs.Gaps.{un_some}
-use Rattle.rubis_release.proofs.Slots.{missing_none, found_none, found_first, key_passes, slot_has}
+use Rattle.rubis_release.proofs.Slots.{un_some, missing_none, found_none, found_first, key_passes, slot_has}
 use Rattle.rubis_release.proofs.waiting.ready_of.Goals as goal
 
 pub returns-in_default : goal.returns-in_default

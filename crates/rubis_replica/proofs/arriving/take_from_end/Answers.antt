@@ -3,8 +3,8 @@ use Rattle.std.specs.Prelude.{Some, reverse}
 use Rattle.std.proofs.lemmas.List.Elements.{All-pop}
 use Rattle.rubis_message.specs.Message.{sites_of}
 use Rattle.rubis_model.specs.Site.{Place, arrived}
-use Rattle.rubis_release.specs.Intake.{Intake}
-use Rattle.rubis_replica.specs.Arrivals.{TakesFirst}
+use Rattle.rubis_release.specs.Release.{Intake}
+use Rattle.rubis_replica.specs.State.{TakesFirst}
 use Rattle.rubis_replica.proofs.Comings.{last_first, refused_step, takes_next}
 use Rattle.rubis_replica.proofs.arriving.take_from_end.Goals as goal
 use Rattle.rubis_replica.proofs.arriving.take_from_end.Goals.{in-Ok, in-Err-Refused}

@@ -1,27 +1,48 @@
-use Rattle.std.proofs.Common.{rules, ◌≡◌, [], length, subst}
+use Rattle.std.proofs.Common.{◌+◌, map, sym, ap, subst}
 use Rattle.std.specs.Arc.{arc_value}
-use Rattle.rubis_pieces.specs.Faults.{IsFault, numbers_of}
-use Rattle.rubis_pieces.specs.Gathered.{IsCounted}
-use Rattle.rubis_replica.proofs.GivenOut.{all_are_followed, all_come_back, all_fit}
+use Rattle.std.specs.List.Sorted.{IsPermutation}
+use Rattle.rubis_board.specs.Rule.{PassState}
+use Rattle.rubis_workers.specs.Work.{bare}
+use Rattle.rubis_replica.specs.Folding.{cores_of}
+use Rattle.rubis_replica.proofs.GivenOut.{all_fit}
 use Rattle.rubis_replica.proofs.hands.fold_all.Goals as goal
 
-pub give_all-requires-clause-fits : goal.give_all-requires-clause-fits
-give_all-requires-clause-fits g c κs within = all_fit (arc_value c.args.batch.now) c.args.shards.items c.requires.set
+pub fan_out-pass-requires-clause-pass : goal.fan_out-pass-requires-clause-pass
+fan_out-pass-requires-clause-pass g c κs within =
+    let o = c.in_ok-board.ensures.opened in (
+      c.requires.lead,
+      record {
+        board_is = ap (λ (p : PassState). p.board) o.pass;
+        span = c.requires.set.batch.span;
+        pieces = all_fit (arc_value c.args.batch.now) c.args.shards.items c.in_ok-board.field-0.pass.posted c.requires.set o.posted;
+        taken = ap (λ (p : PassState). p.taken) o.pass;
+        seen_none = ap (λ (p : PassState). p.seen_none) o.pass;
+      },
+    )
 
-pub unreachable-requires : goal.unreachable-requires
-unreachable-requires g c =
-    let b = arc_value c.args.batch.now in
-    let ss = c.args.shards.items in
-    let many : c.in-Ok-Ok-Ok.places ≡ length ss = search rules in
-    all_come_back b ss c.take_all.new.lead c.take_all.new.list.items c.requires.set.set.order
-    (c.take_all.ensures.list.folding b ss [] c.give_all.ensures.folding) c.take_all.ensures.none c.in-Err.field-0.kind
-    (subst (λ n. IsFault n (numbers_of c.take_all.new.list.items) c.in-Err.field-0.kind) many c.in-Err.ensures.fault)
+pub gather_shards-requires-clause-followed : goal.gather_shards-requires-clause-followed
+gather_shards-requires-clause-followed g c =
+    let b = arc_value c.args.batch.now in (
+      b.span.from + 1,
+      cores_of b,
+      c.args.shards.items,
+      record {
+        order = c.requires.set.set.order;
+        posted = subst (IsPermutation (map bare c.args.shards.items)) (sym c.fan_out-pass.ensures.2) c.in_ok-board.ensures.opened.posted;
+        worked = c.fan_out-pass.ensures.4.worked;
+      },
+    )
 
 pub returns-clause-folded : goal.returns-clause-folded
 returns-clause-folded g c =
     let b = arc_value c.args.batch.now in
-    let ss = c.args.shards.items in
-    let many : c.in-Ok-Ok-Ok.places ≡ length ss = search rules in
-    all_are_followed b ss c.take_all.new.lead c.take_all.new.list.items c.requires.set.set.order
-    (c.take_all.ensures.list.folding b ss [] c.give_all.ensures.folding) c.take_all.ensures.none c.in-Ok.counted
-    (subst (λ n. IsCounted n c.take_all.new.list.items c.in-Ok.counted) many c.in-Ok.ensures.counted)
+    record {
+      set = c.requires.set.set;
+      folded =
+          c.gather_shards.ensures.shards (b.span.from + 1) (cores_of b) c.args.shards.items
+          (record {
+            order = c.requires.set.set.order;
+            posted = subst (IsPermutation (map bare c.args.shards.items)) (sym c.fan_out-pass.ensures.2) c.in_ok-board.ensures.opened.posted;
+            worked = c.fan_out-pass.ensures.4.worked;
+          });
+    }

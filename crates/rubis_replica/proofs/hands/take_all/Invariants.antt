@@ -1,11 +1,14 @@
-use Rattle.std.proofs.Common.{length}
-use Rattle.rubis_replica.specs.Folding.{GoesOn, HasRoomFor}
+use Rattle.std.proofs.Common.{◌≡◌, ◌+◌, length}
+use Rattle.std.specs.Arc.{arc_value}
+use Rattle.rubis_replica.specs.Folding.{AreOut, HasWorked}
 use Rattle.rubis_replica.proofs.hands.take_all.Given as goal
 
 abbrev pub invariant-loop : goal.invariant-loop
 invariant-loop g l = record {
   next : (goal.iterator-loop g).can_next l.iterator';
   ends : (goal.iterator-loop g).is_finite l.iterator';
-  goes : GoesOn l.fn.lead l.fn.list.items l.lead l.list.items;
-  room : HasRoomFor (length l.lead.given) l.list;
+  out : AreOut l.crew.id l.job.board.now (arc_value l.job.batch.now) l.team.pass l.lead;
+  worked : HasWorked (arc_value l.job.batch.now) l.team;
+  posted : l.team.pass.posted ≡ l.fn.team.pass.posted;
+  sum : l.team.pass.parts + length l.lead.given ≡ l.fn.team.pass.parts + length l.fn.lead.given;
 }

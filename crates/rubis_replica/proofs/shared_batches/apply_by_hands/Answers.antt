@@ -1,5 +1,5 @@
 use Rattle.std.proofs.Common.{◌∙◌, refl, arith}
-use Rattle.rubis_replica.proofs.SharedFacts.{none_is_applied}
+use Rattle.rubis_replica.proofs.GivenOut.{none_is_applied}
 use Rattle.rubis_replica.proofs.shared_batches.apply_by_hands.Goals as goal
 
 pub returns-in_default-clause-applied : goal.returns-in_default-clause-applied

@@ -1,6 +1,6 @@
 use Rattle.std.proofs.Common.{◌≡◌, ◌∙◌, ◌++◌, ◌∷◌, [], ap, rules, length}
 use Rattle.rubis_schema.specs.FieldList.{comma}
-use Rattle.rubis_schema.proofs.FieldFacts.{laid-more}
+use Rattle.rubis_schema.proofs.PlainRows.{laid-more}
 use Rattle.rubis_schema.proofs.field_list.add.Goals as goal
 
 pub returns-clause-laid : goal.returns-clause-laid

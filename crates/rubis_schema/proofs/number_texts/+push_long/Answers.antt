@@ -1,6 +1,6 @@
 use Rattle.std.proofs.Common.{◌∙◌, ◌+◌, ◌/◌, ◌%◌, ◌++◌, ◌∷◌, [], ℕ, List, decimal, ap, arith}
 use Rattle.std.specs.Vec.{vec_capacity, vec_len}
-use Rattle.rubis_schema.specs.SpareRoom.{Appends}
+use Rattle.rubis_schema.specs.FieldList.{Appends}
 use Rattle.rubis_schema.proofs.NumberTexts.{four_longer, four_more}
 use Rattle.rubis_schema.proofs.number_texts.+push_long.Goals as goal
 use Rattle.rubis_schema.proofs.number_texts.+push_long.Goals.{then-front-lt10000, else-front-lt10000}

@@ -1,15 +1,20 @@
-use Rattle.std.proofs.Common.{◌≡◌, ◌∙◌, ◌+◌, ◌++◌, [], ap, append_assoc, arith, length, length-append, refl, subst}
-use Rattle.rubis_engine.proofs.EndFacts.{ends_on, ends_write}
-use Rattle.rubis_engine.proofs.FrontFacts.{front-longer}
-use Rattle.rubis_reading.specs.Runs.{flat, of_stretch}
-use Rattle.rubis_script.specs.Desks.{LeadsSite, left_at}
-use Rattle.rubis_script.specs.Runs.{StandsAhead}
-use Rattle.rubis_serving.proofs.StandFacts.{stands-front}
-use Rattle.rubis_script.proofs.StretchFacts.{setup-on, sound-front, sound-kept, waited-ahead}
+use Rattle.std.proofs.Common.{◌≡◌, ◌∙◌, ◌+◌, ◌++◌, [], ap, append-nil, append_assoc, arith, length, length-append, refl, subst, sym}
+use Rattle.rubis_engine.proofs.RunFacts.{ends_on, ends_write}
+use Rattle.rubis_reading.specs.Readings.{flat, of_stretch}
+use Rattle.rubis_serving.specs.Serving.{at}
+use Rattle.rubis_serving.specs.Writers.{are_outlets}
+use Rattle.rubis_serving.proofs.GoFacts.{goes-put, tears-waiting}
+use Rattle.rubis_script.specs.Runs.{BreaksAhead, GoesAhead}
+use Rattle.rubis_script.proofs.StretchFacts.{ahead-more, ahead-none, ahead-put, breaks-later, breaks-put, breaks-sooner, setup-on, sound-front, sound-kept}
 use Rattle.rubis_script.proofs.answering.answer_all.Goals as goal
 
 pub stretches-init : goal.stretches-init
-stretches-init g c = record { sound = c.requires.sound; setup = (refl, refl); count = refl; goes = λ left first old records later h. h }
+stretches-init g c = record {
+  sound = c.requires.sound;
+  setup = (refl, refl);
+  count = refl;
+  goes = ([], refl, ahead-none g.W.Write.contents (at c.args.desk.now c.args.run.now c.args.writer.now));
+}
 
 pub answer_stretch-requires-clause-fits : goal.answer_stretch-requires-clause-fits
 answer_stretch-requires-clause-fits g c κs within =
@@ -31,29 +36,34 @@ returns-in_err-answer_stretch-clause-same g c =
 
 pub returns-in_err-answer_stretch-clause-answered : goal.returns-in_err-answer_stretch-clause-answered
 returns-in_err-answer_stretch-clause-answered g c =
+    let x = at c.args.desk.now c.args.run.now c.args.writer.now in
+    let after = c.answer_stretch.new.writer in
+    let contents = g.W.Write.contents in
+    let stretch = of_stretch c.in-Some.stretch in
+    let (done, parts, goes) = c.stretches.invariant.goes in
     ends_on _ _ c.from_residual.result c.in_err-answer_stretch.field-0.0 c.from_residual.ensures absurd absurd
-    (λ breaks left first old records later h.
-    breaks (flat c.next_stretch.new.self ++ left) first old records later
-    (subst (λ ps. StandsAhead ps c.stretches.desk c.stretches.run (g.W.Write.contents c.stretches.writer) first old records later)
-    (ap (λ l. flat l ++ left) c.in-Some.ensures.parts ∙ append_assoc (of_stretch c.in-Some.stretch) (flat c.next_stretch.new.self) left)
-    (c.stretches.invariant.goes left first old records later h))) c.in_err-answer_stretch.ensures.answered
+    (λ breaks. subst (λ ps. BreaksAhead contents ps x after) (sym (parts ∙ ap (λ l. done ++ flat l) c.in-Some.ensures.parts))
+    (breaks-later contents done (stretch ++ flat c.next_stretch.new.self) after c.stretches.invariant.setup goes
+    (breaks-sooner contents stretch (flat c.next_stretch.new.self) breaks))) c.in_err-answer_stretch.ensures.answered
 
-pub returns-in_err-drain_full-clause-same : goal.returns-in_err-drain_full-clause-same
-returns-in_err-drain_full-clause-same g c =
+pub returns-in_err-put_full-clause-same : goal.returns-in_err-put_full-clause-same
+returns-in_err-put_full-clause-same g c =
     setup-on c.args.desk.now c.stretches.desk c.answer_stretch.new.desk c.stretches.invariant.setup c.in_ok-answer_stretch.ensures.same
 
-pub returns-in_err-drain_full-clause-answered : goal.returns-in_err-drain_full-clause-answered
-returns-in_err-drain_full-clause-answered g c =
-    let run = c.answer_stretch.new.run in
-    ends_write _ _ _ c.from_residual-in_err-drain_full.result c.in_err-drain_full.field-0.0 c.from_residual-in_err-drain_full.ensures
-    c.in_err-drain_full.ensures.faults
-    (λ left first old records later h.
-    let stands = c.in_ok-answer_stretch.ensures.answered.0 (flat c.next_stretch.new.self ++ left) first old records later
-    (subst (λ ps. StandsAhead ps c.stretches.desk c.stretches.run (g.W.Write.contents c.stretches.writer) first old records later)
-    (ap (λ l. flat l ++ left) c.in-Some.ensures.parts ∙ append_assoc (of_stretch c.in-Some.stretch) (flat c.next_stretch.new.self) left)
-    (c.stretches.invariant.goes left first old records later h)) in
-    stands-front left_at LeadsSite first c.answer_stretch.new.desk old _ _ run.reply.sink run.answered records (stands.rows ++ later)
-    (front-longer _ _ _ _ c.in_err-drain_full.ensures.err) stands.stands)
+pub returns-in_err-put_full-clause-answered : goal.returns-in_err-put_full-clause-answered
+returns-in_err-put_full-clause-answered g c =
+    let x = at c.args.desk.now c.args.run.now c.args.writer.now in
+    let y = at c.answer_stretch.new.desk c.answer_stretch.new.run c.answer_stretch.new.writer in
+    let after = c.put_full.new.self in
+    let contents = g.W.Write.contents in
+    let stretch = of_stretch c.in-Some.stretch in
+    let (done, parts, goes) = c.stretches.invariant.goes in
+    ends_write _ _ _ c.from_residual-in_err-put_full.result c.in_err-put_full.field-0.0 c.from_residual-in_err-put_full.ensures
+    c.in_err-put_full.ensures.faults
+    (subst (λ ps. BreaksAhead contents ps x after) (sym (parts ∙ ap (λ l. done ++ flat l) c.in-Some.ensures.parts))
+    (breaks-later contents done (stretch ++ flat c.next_stretch.new.self) after c.stretches.invariant.setup goes
+    (breaks-sooner contents stretch (flat c.next_stretch.new.self)
+    (breaks-put contents stretch c.in_ok-answer_stretch.ensures.answered.0 (tears-waiting (are_outlets contents) y after c.in_err-put_full.ensures.err)))))
 
 pub stretches-preserved : goal.stretches-preserved
 stretches-preserved g c =
@@ -62,20 +72,22 @@ stretches-preserved g c =
     let d2 = c.answer_stretch.new.desk in
     let rest = c.next_stretch.new.self in
     let stretch = c.in-Some.stretch in
+    let contents = g.W.Write.contents in
     let front = sound-front d c.stretches.ahead rest stretch c.in-Some.ensures.parts i.sound in
-    let (goes, count) = c.in_ok-answer_stretch.ensures.answered in
+    let (next, count) = c.in_ok-answer_stretch.ensures.answered in
     let long = ap (λ l. length (flat l)) c.in-Some.ensures.parts ∙ length-append (of_stretch stretch) (flat rest) in
     let before = i.count in
+    let (done, parts, goes) = i.goes in
     record {
       sound = sound-kept d d2 rest c.in_ok-answer_stretch.ensures.same front.2;
       setup = setup-on c.args.desk.now d d2 i.setup c.in_ok-answer_stretch.ensures.same;
       count = omega (arith, long, count, before);
-      goes = λ left first old records later h.
-          waited-ahead (flat rest ++ left) d2 c.answer_stretch.new.run _ _ _ first old records later refl c.in_ok-drain_full.ensures.ok
-          (goes (flat rest ++ left) first old records later
-          (subst (λ ps. StandsAhead ps d c.stretches.run (g.W.Write.contents c.stretches.writer) first old records later)
-          (ap (λ l. flat l ++ left) c.in-Some.ensures.parts ∙ append_assoc (of_stretch stretch) (flat rest) left)
-          (i.goes left first old records later h)));
+      goes = (
+        done ++ of_stretch stretch,
+        parts ∙ ap (λ l. done ++ flat l) c.in-Some.ensures.parts ∙ sym (append_assoc done (of_stretch stretch) (flat rest)),
+        ahead-put contents (done ++ of_stretch stretch) (ahead-more contents done (of_stretch stretch) i.setup goes next)
+            (goes-put (are_outlets contents) c.put_full.new.sink c.put_full.new.self c.in_ok-put_full.ensures.ok),
+      );
     }
 
 pub returns-clause-answered : goal.returns-clause-answered
@@ -83,9 +95,10 @@ returns-clause-answered g c =
     let i = c.stretches.invariant in
     let none : flat c.stretches.ahead ≡ [] = ap flat c.in_default.ensures.none in
     let size = ap length none in
-    let count = i.count in (
-      λ left first old records later h. subst (λ ps. StandsAhead (ps ++ left) c.stretches.desk c.stretches.run (g.W.Write.contents c.stretches.writer) first old records later) none
-          (i.goes left first old records later h),
+    let count = i.count in
+    let (done, parts, goes) = i.goes in (
+      subst (λ ps. GoesAhead g.W.Write.contents ps (at c.args.desk.now c.args.run.now c.args.writer.now) (at c.stretches.desk c.stretches.run c.stretches.writer))
+          (sym (parts ∙ ap (λ l. done ++ l) none ∙ append-nil done)) goes,
       omega (arith, count, size),
     )
 

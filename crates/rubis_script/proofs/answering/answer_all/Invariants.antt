@@ -1,5 +1,7 @@
-use Rattle.std.proofs.Common.{◌≡◌, ◌+◌, length}
-use Rattle.rubis_reading.specs.Runs.{flat}
+use Rattle.std.proofs.Common.{◌≡◌, ◌+◌, ◌++◌, List, length}
+use Rattle.rubis_message.specs.declared.inputs.Input.{Input}
+use Rattle.rubis_reading.specs.Readings.{flat}
+use Rattle.rubis_serving.specs.Serving.{at}
 use Rattle.rubis_script.specs.Desks.{KeepsSetup}
 use Rattle.rubis_script.specs.Runs.{GoesAhead, IsSound}
 use Rattle.rubis_script.proofs.answering.answer_all.Given as goal
@@ -9,7 +11,8 @@ invariant-stretches g l = record {
   sound : IsSound l.desk l.ahead;
   setup : KeepsSetup l.fn.desk l.desk;
   count : l.run.answered + length (flat l.ahead) ≡ l.fn.run.answered + length (flat l.fn.ahead);
-  goes : GoesAhead (flat l.fn.ahead) (flat l.ahead) l.fn.desk l.fn.run (g.W.Write.contents l.fn.writer) l.desk l.run (g.W.Write.contents l.writer);
+  goes : (done : List Input) × (flat l.fn.ahead ≡ done ++ flat l.ahead)
+      × GoesAhead g.W.Write.contents done (at l.fn.desk l.fn.run l.fn.writer) (at l.desk l.run l.writer);
 }
 
 abbrev pub decreases-stretches : goal.decreases-stretches

@@ -1,16 +1,17 @@
 use Rattle.std.proofs.Common.{◌≡◌, ◌∙◌, ◌≤◌, ◌+◌, All, ap, arith, length, refl, subst, sym}
 use Rattle.rubis_message.specs.Inputs.{FitsIn}
 use Rattle.rubis_message.specs.Message.{sites_of}
-use Rattle.rubis_engine.proofs.EndFacts.{ends_memory, ends_on}
-use Rattle.rubis_reading.specs.Runs.{FitsWindow, of_stretch}
-use Rattle.rubis_reading.proofs.RunFacts.{came-length}
+use Rattle.rubis_engine.proofs.RunFacts.{ends_memory, ends_on}
+use Rattle.rubis_reading.specs.Readings.{FitsWindow, of_stretch}
+use Rattle.rubis_reading.proofs.PieceFacts.{came-length}
+use Rattle.rubis_serving.specs.Serving.{at}
 use Rattle.rubis_script.proofs.StretchFacts.{all-sites, breaks-next, breaks-none, goes-messages, goes-next}
 use Rattle.rubis_script.proofs.answering.answer_stretch.Goals as goal
 
 pub returns-in_err-flush-in-Messages-clause-answered : goal.returns-in_err-flush-in-Messages-clause-answered
 returns-in_err-flush-in-Messages-clause-answered g c =
     ends_memory _ _ _ c.from_residual.result c.from_residual.ensures
-    (breaks-none (of_stretch c.args.stretch) c.args.desk.now c.args.run.now (g.W.Write.contents c.args.writer.now))
+    (breaks-none g.W.Write.contents (of_stretch c.args.stretch) (at c.args.desk.now c.args.run.now c.args.writer.now))
 
 pub returns-in_ok-flush-in-Messages-clause-answered : goal.returns-in_ok-flush-in-Messages-clause-answered
 returns-in_ok-flush-in-Messages-clause-answered g c =
@@ -19,20 +20,21 @@ returns-in_ok-flush-in-Messages-clause-answered g c =
     let size : c.len-many.result ≡ length list.items = omega (arith, c.len-many.ensures, list.ok) in
     let count : c.args.run.now.answered + c.len-many.result ≡ c.args.run.now.answered + length list.items = ap (λ k. c.args.run.now.answered + k) size in
     rw c.in-Messages.is (
-      goes-messages c.args.desk.now c.flush.new.self _ c.args.run.now _ list.items (g.W.Write.contents c.args.writer.now) flushed.same flushed.flushed
-          flushed.empty refl refl refl refl count,
+      goes-messages g.W.Write.contents (at c.args.desk.now c.args.run.now c.args.writer.now) c.flush.new.self _ c.flush.new.reply.sink _ list.items
+          flushed.same flushed.flushed flushed.empty refl refl refl refl count,
       count ∙ ap (λ k. c.args.run.now.answered + k) (sym (came-length list.items)),
     )
 
 pub returns-in_err-take-in-One-clause-answered : goal.returns-in_err-take-in-One-clause-answered
 returns-in_err-take-in-One-clause-answered g c =
     ends_on _ _ c.from_residual-in_err-take-in-One.result c.in_err-take-in-One.field-0.0 c.from_residual-in_err-take-in-One.ensures absurd absurd
-    (λ breaks. rw c.in-One.is (breaks-next c.args.desk.now c.args.run.now c.in-One.read _ _ breaks)) c.in_err-take-in-One.ensures.takes
+    (λ breaks. rw c.in-One.is (breaks-next g.W.Write.contents (at c.args.desk.now c.args.run.now c.args.writer.now) c.take.new.writer c.in-One.read breaks)) c.in_err-take-in-One.ensures.takes
 
 pub returns-in_ok-take-in-One-clause-answered : goal.returns-in_ok-take-in-One-clause-answered
 returns-in_ok-take-in-One-clause-answered g c =
     rw c.in-One.is (
-      goes-next c.args.desk.now c.take.new.self c.args.run.now _ c.in-One.read _ _ c.in_ok-take-in-One.ensures.same c.in_ok-take-in-One.ensures.takes refl,
+      goes-next g.W.Write.contents (at c.args.desk.now c.args.run.now c.args.writer.now) c.take.new.self c.take.new.reply.sink c.take.new.writer c.in-One.read
+          c.in_ok-take-in-One.ensures.takes,
       refl,
     )
 

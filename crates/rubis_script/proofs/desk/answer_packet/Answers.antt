@@ -2,7 +2,7 @@ use Rattle.std.proofs.Common.{subst, sym}
 use Rattle.std.proofs.lemmas.Result.{on_ok_weaker}
 use Rattle.rubis_message.specs.declared.inputs.Input.TheVariants.{Came}
 use Rattle.rubis_script.specs.Inputs.{IsAnswered}
-use Rattle.rubis_script.proofs.SiteAnswers.{arrived_refused}
+use Rattle.rubis_script.proofs.WindowFacts.{arrived_refused}
 use Rattle.rubis_script.proofs.desk.answer_packet.Goals as goal
 
 pub returns-in-Err-clause-answered : goal.returns-in-Err-clause-answered

@@ -1,12 +1,11 @@
 use Rattle.std.proofs.Common.{◌∙◌, ap, refl, subst, sym, take}
 use Rattle.rubis_reading.specs.Chunked.{held_text}
 use Rattle.rubis_reading.specs.Readings.{AreOf}
-use Rattle.rubis_engine.proofs.EndFacts.{ends_memory}
-use Rattle.rubis_serving.proofs.ServedFacts.{served-prefix}
-use Rattle.rubis_script.specs.Desks.{LeadsSite, left_at}
-use Rattle.rubis_script.specs.Helped.{AreHeld}
-use Rattle.rubis_script.proofs.HelpFacts.{as-setup, folded-turns, held-after, held-on, if-on, kept-more, read-held, read-on, takes-none, takes-one}
-use Rattle.rubis_script.proofs.StretchFacts.{setup-on}
+use Rattle.rubis_engine.proofs.RunFacts.{ends_memory}
+use Rattle.rubis_serving.specs.Serving.{at}
+use Rattle.rubis_serving.specs.Writers.{are_outlets}
+use Rattle.rubis_script.specs.Runs.{AreHeld}
+use Rattle.rubis_script.proofs.StretchFacts.{as-setup, folded-turns, held-after, held-on, if-on, kept-more, read-held, read-on, takes-none, takes-one, setup-on}
 use Rattle.rubis_script.proofs.helped.helped_turn.Goals as goal
 
 pub give_all-requires : goal.give_all-requires
@@ -18,12 +17,12 @@ next-requires g c = (c.held.result.now, c.give_all.ensures.pieces)
 pub returns-in_err-give_all-clause-turns : goal.returns-in_err-give_all-clause-turns
 returns-in_err-give_all-clause-turns g c =
     ends_memory _ _ _ c.from_residual.result c.from_residual.ensures
-    (λ first old input h. served-prefix left_at LeadsSite g.R.Read.remaining c.args.chunks.now first c.args.desk.now old _ _ _ _ input refl h)
+    (λ later pending. (are_outlets g.W.Write.contents).torn_none _ c.args.writer.now)
 
 pub returns-in_err-piece-clause-turns : goal.returns-in_err-piece-clause-turns
 returns-in_err-piece-clause-turns g c =
     ends_memory _ _ _ c.from_residual-in_err-piece.result c.from_residual-in_err-piece.ensures
-    (λ first old input h. served-prefix left_at LeadsSite g.R.Read.remaining c.args.chunks.now first c.args.desk.now old _ _ _ _ input refl h)
+    (λ later pending. (are_outlets g.W.Write.contents).torn_none _ c.args.writer.now)
 
 pub returns-in_default-clause-held : goal.returns-in_default-clause-held
 returns-in_default-clause-held g c =
@@ -57,9 +56,9 @@ answer_read-requires-clause-read g c κs within =
 
 pub returns-clause-turns : goal.returns-clause-turns
 returns-clause-turns g c =
-    folded-turns c.args.limit g.R.Read.remaining c.args.chunks.now c.answer_read.new.chunks c.args.desk.now c.fold.new.desk c.answer_read.new.desk
-    c.args.run.now c.answer_read.new.run (g.W.Write.contents c.args.writer.now) (g.W.Write.contents c.answer_read.new.writer) c.answer_read.result
-    c.fold.ensures.folded c.answer_read.ensures.turns
+    folded-turns g.W.Write.contents c.args.limit g.R.Read.remaining c.args.chunks.now c.answer_read.new.chunks
+    (at c.args.desk.now c.args.run.now c.args.writer.now) c.fold.new.desk (at c.answer_read.new.desk c.answer_read.new.run c.answer_read.new.writer)
+    c.answer_read.result c.fold.ensures.folded c.answer_read.ensures.turns
 
 pub returns-clause-held : goal.returns-clause-held
 returns-clause-held g c =

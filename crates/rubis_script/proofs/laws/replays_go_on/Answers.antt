@@ -1,4 +1,4 @@
-use Rattle.rubis_script.proofs.ReplayFacts.{replays_go_on}
+use Rattle.rubis_script.proofs.LeadFacts.{replays_go_on}
 use Rattle.rubis_script.proofs.laws.replays_go_on.Goals as goal
 
 pub returns : goal.returns

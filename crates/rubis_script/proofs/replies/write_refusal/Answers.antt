@@ -1,5 +1,5 @@
 use Rattle.std.proofs.Common.{◌≡◌, ◌∷◌, [], rules, subst}
-use Rattle.rubis_model.specs.Answers.{refused_row}
+use Rattle.rubis_model.specs.Site.{refused_row}
 use Rattle.rubis_engine.proofs.RowFacts.{on_ok}
 use Rattle.rubis_script.proofs.replies.write_refusal.Goals as goal
 

@@ -1,6 +1,6 @@
 use Rattle.std.proofs.Common.{◌++◌}
 use Rattle.rubis_engine.specs.Text.{rows_text}
-use Rattle.rubis_script.specs.Drains.{WritesOff}
+use Rattle.rubis_script.specs.Windows.{WritesOff}
 use Rattle.rubis_script.proofs.rows_out.write_rows.Given as goal
 
 abbrev pub invariant-loop : goal.invariant-loop

@@ -23,5 +23,6 @@ returns g c input all =
     c.start.ensures.site
     (led_site g.R.Read.remaining c.run_helped.new.chunks c.args.limit c.start.new.self c.run_helped.new.desk old now input c.run_helped.result
     c.start.ensures.fresh
-    (ends_led left_at LeadsSite g.R.Read.remaining c.args.chunks.now c.run_helped.new.chunks c.start.new.self c.run_helped.new.desk c.new-run.result
-    c.run_helped.new.run c.args.limit input old now c.run_helped.result all c.new-run.ensures.empty c.new-run.ensures.none c.run_helped.ensures))
+    (ends_led left_at LeadsSite g.W.Write.contents g.R.Read.remaining c.args.chunks.now c.run_helped.new.chunks c.start.new.self c.run_helped.new.desk
+    c.new-run.result c.run_helped.new.run c.args.writer.now c.run_helped.new.writer c.args.limit input c.run_helped.result all c.new-run.ensures.empty
+    c.new-run.ensures.none c.run_helped.ensures))

@@ -1,33 +1,28 @@
-use Rattle.std.proofs.Common.{◌≡◌, refl, rules}
+use Rattle.std.proofs.Common.{◌≡◌, arith, refl, rules}
 use Rattle.rubis_reading.specs.declared.buffer.ChunkFault.TheVariants.{Read}
-use Rattle.rubis_engine.proofs.EndFacts.{ends_on}
-use Rattle.rubis_serving.proofs.ServedFacts.{served-cut, served-front, served-settled, served-written}
+use Rattle.rubis_engine.proofs.RunFacts.{ends_on}
+use Rattle.rubis_serving.proofs.GoFacts.{goes-torn}
+use Rattle.rubis_serving.proofs.ServedFacts.{moves-kept}
 use Rattle.rubis_serving.proofs.pieces.ask_for_more.Goals as goal
 
 pub returns-in_err-settle-clause-more : goal.returns-in_err-settle-clause-more
 returns-in_err-settle-clause-more g c =
-    ends_on _ _ c.from_residual.result c.in_err-settle.field-0.0 c.from_residual.ensures absurd absurd
-    (λ front first old input h. served-front g.S.Service.account g.S.Service.leads g.R.Read.remaining c.args.chunks.now first c.args.service.now old _ _
-    c.args.run.now.reply.sink c.args.run.now.answered input front h) c.in_err-settle.ensures.settled
+    ends_on _ _ c.from_residual.result c.in_err-settle.field-0.0 c.from_residual.ensures absurd absurd (λ torn later pending. torn.torn later)
+    c.in_err-settle.ensures.settled
 
 pub returns-in-Ok-clause-more : goal.returns-in-Ok-clause-more
-returns-in-Ok-clause-more g c = (
-  λ first old input h. served-settled g.S.Service.account g.S.Service.leads g.R.Read.remaining c.args.chunks.now c.fill.new.self first
-      c.args.service.now c.settle.new.service old _ _ c.args.run.now.reply.sink c.settle.new.reply.sink c.args.run.now.answered input
-      c.in_ok-settle.ensures.settled c.in-Ok.ensures.keeps c.in-Ok.ensures.come h,
-  refl,
-  c.in-Ok.ensures.last,
-  c.in-Ok.ensures.nearer,
-)
+returns-in-Ok-clause-more g c =
+    let goes = c.in_ok-settle.ensures.settled.0 in
+    let count = goes.count in
+    (moves-kept c.in-Ok.ensures.keeps c.in-Ok.ensures.come goes, omega (arith, count), c.in-Ok.ensures.last, c.in-Ok.ensures.nearer)
 
 pub returns-in-Err-Read-clause-more : goal.returns-in-Err-Read-clause-more
-returns-in-Err-Read-clause-more g c first old input h =
+returns-in-Err-Read-clause-more g c =
     let read : c.in-Err-Read.field-0 ≡ Read = search rules in
-    served-cut g.S.Service.account g.S.Service.leads g.R.Read.remaining c.args.chunks.now c.fill.new.self first c.args.service.now c.settle.new.service
-    old _ _ c.args.run.now.reply.sink c.settle.new.reply.sink c.args.run.now.answered input c.in_ok-settle.ensures.settled
-    (c.in-Err-Read.ensures.failed (rw read refl)) c.requires.none h
+    let failed = c.in-Err-Read.ensures.failed (rw read refl) in
+    let (goes, settled) = c.in_ok-settle.ensures.settled in
+    record { moves = moves-kept failed.pending failed.come goes; settled = settled; none = failed.none c.requires.none }
 
 pub returns-in-Err-Memory-clause-more : goal.returns-in-Err-Memory-clause-more
-returns-in-Err-Memory-clause-more g c first old input h =
-    served-written g.S.Service.account g.S.Service.leads g.R.Read.remaining c.args.chunks.now first c.args.service.now c.settle.new.service old _ _
-    c.args.run.now.reply.sink c.settle.new.reply.sink c.args.run.now.answered input c.in_ok-settle.ensures.settled h
+returns-in-Err-Memory-clause-more g c later pending =
+    goes-torn g.met.O.Outlet.laws c.settle.new.outlet later c.in_ok-settle.ensures.settled.0 (g.met.O.Outlet.laws.torn_none _ c.settle.new.outlet)

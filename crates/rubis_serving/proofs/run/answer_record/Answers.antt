@@ -1,62 +1,48 @@
-use Rattle.std.proofs.Common.{◌≡◌, ◌+◌, ◌++◌, ◌∷◌, arith}
-use Rattle.csv.proofs.WriteFacts.{appends-more}
+use Rattle.std.proofs.Common.{◌≡◌, arith, subst, sym}
 use Rattle.rubis_engine.specs.declared.service.Course.TheVariants as course
-use Rattle.rubis_engine.proofs.FrontFacts.{front-longer, front-second}
-use Rattle.rubis_engine.proofs.EndFacts.{ends_on, ends_write}
-use Rattle.rubis_serving.proofs.StandFacts.{stands-ended, stands-ended_front, stands-front, stands-out, stands-step, stands-waited}
+use Rattle.rubis_engine.proofs.RunFacts.{ends_on, ends_write}
+use Rattle.rubis_serving.proofs.GoFacts.{closes-one, goes-more, goes-one, goes-put, goes-tears, tears-waiting}
 use Rattle.rubis_serving.proofs.run.answer_record.Goals as goal
 
 pub returns-in_err-course-clause-answered : goal.returns-in_err-course-clause-answered
 returns-in_err-course-clause-answered g c =
-    ends_on _ _ c.from_residual.result c.in_err-course.field-0.0 c.from_residual.ensures absurd absurd
-    (λ breaks first old records later h. stands-front g.S.Service.account g.S.Service.leads first c.args.service.now old _ _ c.args.run.now.reply.sink
-    c.args.run.now.answered records (c.args.fields.now ∷ later) (breaks later) h) c.in_err-course.ensures.answer
+    ends_on _ _ c.from_residual.result c.in_err-course.field-0.0 c.from_residual.ensures absurd absurd (λ torn. record { torn = torn }) c.in_err-course.ensures.answer
 
-pub returns-in_err-close-in-Ends-clause-answered : goal.returns-in_err-close-in-Ends-clause-answered
-returns-in_err-close-in-Ends-clause-answered g c =
+pub returns-in_err-put_all-in-Ends-clause-answered : goal.returns-in_err-put_all-in-Ends-clause-answered
+returns-in_err-put_all-in-Ends-clause-answered g c =
+    let laws = g.met.O.Outlet.laws in
     let ends : c.in_ok-course.course ≡ course.Ends = c.in-Ends.is in
     let (wrote, leads) = rw ends at c.in_ok-course.ensures.answer in
-    ends_write _ _ _ c.from_residual-in_err-close-in-Ends.result c.in_err-close-in-Ends.field-0.0 c.from_residual-in_err-close-in-Ends.ensures
-    c.in_err-close-in-Ends.ensures.faults
-    (λ first old records later h. stands-ended_front g.S.Service.account g.S.Service.leads first c.args.service.now c.answer.new.self old _ _
-    c.args.run.now.reply.sink (wrote.out ++ c.answer.new.reply.sink) c.args.run.now.answered records later c.args.fields.now wrote.answers
-    (front-second _ _ _ wrote.out c.answer.new.reply.sink wrote.appended c.in_err-close-in-Ends.ensures.err) h)
+    ends_write _ _ _ c.from_residual-in_err-put_all-in-Ends.result c.in_err-put_all-in-Ends.field-0.0 c.from_residual-in_err-put_all-in-Ends.ensures
+    c.in_err-put_all-in-Ends.ensures.faults
+    (record {
+      torn = λ more. subst (λ t. g.O.Outlet.tears t c.args.outlet.now c.put_all.new.self) (sym (wrote.answers more).0)
+          (laws.torn_later wrote.out c.answer.new.reply.sink _ _ _ wrote.put c.in_err-put_all-in-Ends.ensures.err);
+    })
 
-pub returns-in_ok-close-in-Ends-clause-answered : goal.returns-in_ok-close-in-Ends-clause-answered
-returns-in_ok-close-in-Ends-clause-answered g c first old records later h =
+pub returns-in_ok-put_all-in-Ends-clause-answered : goal.returns-in_ok-put_all-in-Ends-clause-answered
+returns-in_ok-put_all-in-Ends-clause-answered g c =
     let ends : c.in_ok-course.course ≡ course.Ends = c.in-Ends.is in
     let (wrote, leads) = rw ends at c.in_ok-course.ensures.answer in
-    stands-ended g.S.Service.account g.S.Service.leads first c.args.service.now c.answer.new.self old _ _ c.args.run.now.reply.sink
-    (wrote.out ++ c.answer.new.reply.sink) c.args.run.now.answered records later c.args.fields.now wrote.answers leads
-    (appends-more _ _ _ wrote.out c.answer.new.reply.sink wrote.appended c.in_ok-close-in-Ends.ensures.ok) h
+    closes-one g.met.O.Outlet.laws c.answer.new.service c.answer.new.reply.sink c.answer.new.self c.put_all.new.self c.args.fields.now wrote leads
+    c.in_ok-put_all-in-Ends.ensures.ok
 
-pub returns-in_err-drain_full-in-GoesOn-clause-answered : goal.returns-in_err-drain_full-in-GoesOn-clause-answered
-returns-in_err-drain_full-in-GoesOn-clause-answered g c =
-    let account = g.S.Service.account in
-    let n = c.args.run.now.answered + 1 in
-    let sink = c.answer.new.reply.sink in
+pub returns-in_err-put_full-in-GoesOn-clause-answered : goal.returns-in_err-put_full-in-GoesOn-clause-answered
+returns-in_err-put_full-in-GoesOn-clause-answered g c =
+    let laws = g.met.O.Outlet.laws in
     let goes : c.in_ok-course.course ≡ course.GoesOn = c.in-GoesOn.is in
     let (wrote, leads) = rw goes at c.in_ok-course.ensures.answer in
-    ends_write _ _ _ c.from_residual-in_err-drain_full-in-GoesOn.result c.in_err-drain_full-in-GoesOn.field-0.0
-    c.from_residual-in_err-drain_full-in-GoesOn.ensures c.in_err-drain_full-in-GoesOn.ensures.faults
-    (λ first old records later h. stands-front account g.S.Service.leads first c.answer.new.self old _ _ sink n records later
-    (front-longer _ _ _ _ c.in_err-drain_full-in-GoesOn.ensures.err)
-    (stands-out account g.S.Service.leads first c.answer.new.self old _ _ wrote.out sink n records later wrote.appended
-    (stands-step account g.S.Service.leads first c.args.service.now c.answer.new.self old _ c.args.run.now.reply.sink
-    (wrote.out ++ sink) c.args.run.now.answered records later c.args.fields.now wrote.answers leads h)))
+    ends_write _ _ _ c.from_residual-in_err-put_full-in-GoesOn.result c.in_err-put_full-in-GoesOn.field-0.0
+    c.from_residual-in_err-put_full-in-GoesOn.ensures c.in_err-put_full-in-GoesOn.ensures.faults
+    (goes-tears laws c.put_full.new.self (goes-one laws c.answer.new.service c.answer.new.reply.sink c.answer.new.self c.args.fields.now wrote leads)
+    (tears-waiting laws _ c.put_full.new.self c.in_err-put_full-in-GoesOn.ensures.err))
 
-pub returns-in_ok-drain_full-in-GoesOn-clause-answered : goal.returns-in_ok-drain_full-in-GoesOn-clause-answered
-returns-in_ok-drain_full-in-GoesOn-clause-answered g c =
-    let account = g.S.Service.account in
-    let n = c.args.run.now.answered + 1 in
-    let sink = c.answer.new.reply.sink in
+pub returns-in_ok-put_full-in-GoesOn-clause-answered : goal.returns-in_ok-put_full-in-GoesOn-clause-answered
+returns-in_ok-put_full-in-GoesOn-clause-answered g c =
+    let laws = g.met.O.Outlet.laws in
     let goes : c.in_ok-course.course ≡ course.GoesOn = c.in-GoesOn.is in
     let (wrote, leads) = rw goes at c.in_ok-course.ensures.answer in (
       omega arith,
-      λ first old records later h.
-          stands-waited account g.S.Service.leads first c.answer.new.self old _ _ sink c.drain_full.new.self n records later
-          c.in_ok-drain_full-in-GoesOn.ensures.ok
-          (stands-out account g.S.Service.leads first c.answer.new.self old _ _ wrote.out sink n records later wrote.appended
-          (stands-step account g.S.Service.leads first c.args.service.now c.answer.new.self old _ c.args.run.now.reply.sink
-          (wrote.out ++ sink) c.args.run.now.answered records later c.args.fields.now wrote.answers leads h)),
+      goes-more laws (goes-one laws c.answer.new.service c.answer.new.reply.sink c.answer.new.self c.args.fields.now wrote leads)
+          (goes-put laws c.put_full.new.sink c.put_full.new.self c.in_ok-put_full-in-GoesOn.ensures.ok),
     )

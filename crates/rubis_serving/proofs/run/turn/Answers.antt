@@ -1,5 +1,6 @@
 use Rattle.std.proofs.Common.{arith}
-use Rattle.rubis_engine.proofs.EndFacts.{ends_on}
+use Rattle.rubis_serving.specs.Serving.{at}
+use Rattle.rubis_serving.proofs.ServedFacts.{over-on, stops-on}
 use Rattle.rubis_serving.proofs.run.turn.Goals as goal
 
 pub answer_front-requires-clause-chunk : goal.answer_front-requires-clause-chunk
@@ -14,11 +15,8 @@ finish-requires-clause-last g c = let (moves, same, last, nearer) = c.in_ok-ask_
 
 pub returns-in_err-count-clause-turns : goal.returns-in_err-count-clause-turns
 returns-in_err-count-clause-turns g c =
-    let (moves, same, last, nearer) = c.in_ok-ask_for_more.ensures.more in
-    ends_on _ _ c.from_residual-in_err-count.result c.in_err-count.field-0.0 c.from_residual-in_err-count.ensures
-    (λ long first old input h. long first old input (moves first old input h)) (λ whole first old input h. whole first old input (moves first old input h))
-    (λ prefix first old input h. prefix first old input (moves first old input h)) c.in_err-count.ensures.ended
+    stops-on g.met.O.Outlet.laws c.args.limit _ _ _ _ c.from_residual-in_err-count.result c.in_err-count.field-0.0 c.from_residual-in_err-count.ensures
+    c.in_ok-ask_for_more.ensures.more.0 c.in_err-count.ensures.ended
 
 pub returns-clause-turns : goal.returns-clause-turns
-returns-clause-turns g c first old input h =
-    let (moves, same, last, nearer) = c.in_ok-ask_for_more.ensures.more in c.in_ok-count.ensures.ended first old input (moves first old input h)
+returns-clause-turns g c = over-on g.met.O.Outlet.laws (at c.finish.new.service c.finish.new.run c.finish.new.outlet) c.in_ok-count.count c.in_ok-ask_for_more.ensures.more.0 c.in_ok-count.ensures.ended

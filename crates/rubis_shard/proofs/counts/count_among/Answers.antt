@@ -1,6 +1,6 @@
 use Rattle.std.proofs.Common.{◌≡◌, ◌+◌, true, false, List, length, sym, ap, ◌∙◌, arith}
-use Rattle.rubis_shard.specs.Counted.{recorded_from}
-use Rattle.rubis_shard.specs.Written.{written}
+use Rattle.rubis_shard.specs.Listed.{recorded_from}
+use Rattle.rubis_shard.specs.Chains.{written}
 use Rattle.rubis_shard.proofs.Counting.{count_step}
 use Rattle.rubis_shard.proofs.counts.count_among.Goals as goal
 

@@ -1,6 +1,6 @@
 use Rattle.std.proofs.Common.{◌≡◌, ◌+◌, length}
-use Rattle.rubis_shard.specs.Counted.{recorded_from}
-use Rattle.rubis_shard.specs.Written.{written}
+use Rattle.rubis_shard.specs.Listed.{recorded_from}
+use Rattle.rubis_shard.specs.Chains.{written}
 use Rattle.rubis_shard.proofs.counts.count_among.Given as goal
 
 abbrev pub invariant-loop-key : goal.invariant-loop-key

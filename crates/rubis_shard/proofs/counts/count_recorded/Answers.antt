@@ -1,8 +1,8 @@
 use Rattle.std.proofs.Common.{◌≡◌, ◌+◌, ◌≤◌, length, arith}
 use Rattle.rubis_schema.specs.declared.row_keys.RowKey.TheVariants as key
-use Rattle.rubis_shard.specs.Counted.{recorded_from}
+use Rattle.rubis_shard.specs.Listed.{recorded_from}
 use Rattle.rubis_shard.specs.Rows.{kept_of}
-use Rattle.rubis_shard.specs.Written.{written}
+use Rattle.rubis_shard.specs.Chains.{written}
 use Rattle.rubis_shard.proofs.Counting.{recorded_in}
 use Rattle.rubis_shard.proofs.counts.count_recorded.Goals as goal
 

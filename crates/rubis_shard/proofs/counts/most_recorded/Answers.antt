@@ -1,8 +1,8 @@
 use Rattle.std.proofs.Common.{ℕ, ◌≡◌, ◌+◌, ◌≤◌, length, arith}
 use Rattle.std.specs.FinMap as map
-use Rattle.rubis_schema.specs.IdKeys.{row_key}
+use Rattle.rubis_schema.specs.Keys.{row_key}
 use Rattle.rubis_schema.specs.declared.row_keys.RowKey.TheVariants as key
-use Rattle.rubis_shard.specs.Counted.{recorded_from}
+use Rattle.rubis_shard.specs.Listed.{recorded_from}
 use Rattle.rubis_shard.specs.Rows.{tables_in}
 use Rattle.rubis_shard.proofs.Counting.{few_recorded, if_some, recorded_in, some_is}
 use Rattle.rubis_shard.proofs.counts.most_recorded.Goals as goal

@@ -1,4 +1,4 @@
-use Rattle.rubis_model.proofs.Commute.{parts_commute}
+use Rattle.rubis_model.proofs.Shares.{parts_commute}
 use Rattle.rubis_shard.proofs.Logs.{set_of_log, batch_at_home}
 use Rattle.rubis_shard.proofs.Unions.{union_of_log}
 use Rattle.rubis_shard.proofs.laws.shards_hold_logs.Goals as goal

@@ -2,8 +2,7 @@ use Rattle.std.proofs.Common.{◌≡◌, ℕ, ◌<◌, ◌≤◌, [], List, leng
 use Rattle.std.specs.Prelude.{Some, slice_get}
 use Rattle.std.proofs.lemmas.Option.{slice_get_read}
 use Rattle.rubis_shard.specs.States.{ShardState, with_parts}
-use Rattle.rubis_shard.specs.Entries.{numbered_of}
-use Rattle.rubis_shard.specs.Holdings.{parts_at}
+use Rattle.rubis_shard.specs.Holdings.{numbered_of, parts_at}
 use Rattle.rubis_shard.proofs.Homes.{folds_last_ok, folds_none, if_ok}
 use Rattle.rubis_shard.proofs.Single.{all_parts}
 use Rattle.rubis_shard.proofs.messages.fold_parts.Goals as goal

@@ -5,8 +5,7 @@ use Rattle.rubis_schema.specs.declared.row_keys.RowKey.{RowKey}
 use Rattle.rubis_shadow.specs.Shadows.{key_of}
 use Rattle.rubis_shadow.specs.declared.keyed_change.Effect.{Effect}
 use Rattle.rubis_model.specs.Log.{parts_of}
-use Rattle.rubis_shard.specs.Entries.{core_of}
-use Rattle.rubis_shard.specs.Holdings.{home_or}
+use Rattle.rubis_shard.specs.Holdings.{core_of, home_or}
 use Rattle.rubis_shard.proofs.messages.home_at.Goals as goal
 
 -- the home of a key, or the number of shards

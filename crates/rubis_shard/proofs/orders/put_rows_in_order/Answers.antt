@@ -3,8 +3,8 @@ use Rattle.std.specs.Ordering.{is_lt}
 use Rattle.std.proofs.lemmas.List.Sorted.{IsPermutation-map, answers_always, ranks_by}
 use Rattle.rubis_schema.specs.Keys.{key_order}
 use Rattle.rubis_schema.specs.KeyLaws.{key_total}
-use Rattle.rubis_shard.specs.Written.{shown}
-use Rattle.rubis_shard.proofs.Shown.{Lent, shown_in_order}
+use Rattle.rubis_shard.specs.Chains.{shown}
+use Rattle.rubis_shard.proofs.Picked.{Lent, shown_in_order}
 use Rattle.rubis_shard.proofs.orders.put_rows_in_order.Goals as goal
 
 pub returns-clause-permutation : goal.returns-clause-permutation

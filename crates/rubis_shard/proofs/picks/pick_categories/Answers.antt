@@ -6,7 +6,7 @@ use Rattle.rubis_shard.specs.Listed.{categories_of}
 use Rattle.rubis_shard.specs.Rows.{tables_in}
 use Rattle.rubis_shard.proofs.Categories.{categories_shown}
 use Rattle.rubis_shard.proofs.Picked.{categories_behind}
-use Rattle.rubis_shard.proofs.Walking.{if_done}
+use Rattle.rubis_shard.proofs.Linking.{if_done}
 use Rattle.rubis_shard.proofs.picks.pick_categories.Goals as goal
 
 pub returns : goal.returns

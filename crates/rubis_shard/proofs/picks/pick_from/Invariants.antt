@@ -1,6 +1,5 @@
 use Rattle.std.proofs.Common.{◌≡◌, ◌++◌, drop}
-use Rattle.rubis_shard.specs.Listed.{listed_among}
-use Rattle.rubis_shard.specs.ListedRows.{table_with}
+use Rattle.rubis_shard.specs.Listed.{listed_among, table_with}
 use Rattle.rubis_shard.specs.Rows.{kept_of}
 use Rattle.rubis_shard.proofs.picks.pick_from.Given as goal
 

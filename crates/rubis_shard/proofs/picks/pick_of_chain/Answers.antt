@@ -4,18 +4,15 @@ use Rattle.std.specs.Map.Iter.{deref_pair}
 use Rattle.std.specs.List.Sorted.{IsPermutation}
 use Rattle.std.proofs.lemmas.List.{append-nil, length-map}
 use Rattle.std.proofs.lemmas.List.Sorted.{IsPermutation-append_right, IsPermutation-reverse, IsPermutation-sym}
-use Rattle.rubis_schema.specs.IdKeys.{row_key}
-use Rattle.rubis_schema.specs.Keys.{holds}
+use Rattle.rubis_schema.specs.Keys.{row_key, holds}
 use Rattle.rubis_schema.specs.declared.row_keys.RowKey.{RowKey}
 use Rattle.rubis_schema.specs.declared.rows.Row.{Row}
 use Rattle.rubis_model.specs.Listings.{is_of}
 use Rattle.rubis_shard.specs.Chains.{chain_of, chains_of, last_among, last_before}
-use Rattle.rubis_shard.specs.Listed.{listed_among}
-use Rattle.rubis_shard.specs.ListedRows.{table_with}
+use Rattle.rubis_shard.specs.Listed.{listed_among, table_with}
 use Rattle.rubis_shard.specs.Rows.{kept_of, linked_of}
-use Rattle.rubis_shard.proofs.Linking.{last_small}
+use Rattle.rubis_shard.proofs.Linking.{last_small, linked_chains, linked_few, linked_length, own_last, walk_from, walk_on}
 use Rattle.rubis_shard.proofs.OneTable.{listed_one, taken_at, written_at}
-use Rattle.rubis_shard.proofs.Walking.{linked_chains, linked_few, linked_length, own_last, walk_from, walk_on}
 use Rattle.rubis_shard.proofs.picks.pick_of_chain.Goals as goal
 
 pub loop-place-init : goal.loop-place-init

@@ -3,13 +3,12 @@ use Rattle.std.specs.List.Sorted.{IsPermutation}
 use Rattle.std.proofs.lemmas.List.Sorted.{IsPermutation-append_left, IsPermutation-refl}
 use Rattle.rubis_schema.specs.declared.row_keys.RowKey.{RowKey}
 use Rattle.rubis_schema.specs.declared.rows.Row.{Row}
-use Rattle.rubis_shard.specs.Listed.{listed_among, listed_of}
-use Rattle.rubis_shard.specs.ListedRows.{table_with}
+use Rattle.rubis_shard.specs.Listed.{listed_among, listed_of, table_with}
 use Rattle.rubis_shard.specs.Rows.{kept_of, tables_in}
 use Rattle.rubis_shard.specs.declared.row_map.LinkedRows.{LinkedRows}
 use Rattle.rubis_shard.proofs.OneTable.{pick_split}
 use Rattle.rubis_shard.proofs.Picked.{listed_behind}
-use Rattle.rubis_shard.proofs.Walking.{if_done}
+use Rattle.rubis_shard.proofs.Linking.{if_done}
 use Rattle.rubis_shard.proofs.picks.pick_rows.Goals as goal
 
 pub returns-in-None : goal.returns-in-None

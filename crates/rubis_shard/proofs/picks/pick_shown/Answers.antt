@@ -2,7 +2,7 @@ use Rattle.std.proofs.Common.{◌≡◌, true, false, ◌∷◌, [], ◌++◌, s
 use Rattle.std.proofs.lemmas.List.{append-nil}
 use Rattle.rubis_schema.specs.declared.row_keys.RowKey.TheVariants as key
 use Rattle.rubis_shard.specs.Listed.{shown_among}
-use Rattle.rubis_shard.specs.Written.{written}
+use Rattle.rubis_shard.specs.Chains.{written}
 use Rattle.rubis_shard.proofs.Categories.{shown_step}
 use Rattle.rubis_shard.proofs.InMaps.{Entries}
 use Rattle.rubis_shard.proofs.picks.pick_shown.Goals as goal

@@ -1,7 +1,7 @@
 use Rattle.std.proofs.Common.{◌≡◌, ◌++◌}
 use Rattle.rubis_schema.specs.declared.row_keys.RowKey.TheVariants as key
 use Rattle.rubis_shard.specs.Listed.{shown_among}
-use Rattle.rubis_shard.specs.Written.{written}
+use Rattle.rubis_shard.specs.Chains.{written}
 use Rattle.rubis_shard.proofs.picks.pick_shown.Given as goal
 
 abbrev pub invariant-loop-cat : goal.invariant-loop-cat

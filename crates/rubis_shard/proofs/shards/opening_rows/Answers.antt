@@ -6,8 +6,7 @@ use Rattle.rubis_schema.specs.Keys.{home}
 use Rattle.rubis_schema.specs.Tables.{Tables}
 use Rattle.rubis_schema.specs.declared.row_keys.RowKey.TheVariants as key
 use Rattle.rubis_shadow.specs.Tables.{categories_from, new_category, opening}
-use Rattle.rubis_shadow.proofs.Categories.{categories_more}
-use Rattle.rubis_shadow.proofs.Rows.{put_then}
+use Rattle.rubis_shadow.proofs.Rows.{categories_more, put_then}
 use Rattle.rubis_shard.specs.Rows.{tables_in}
 use Rattle.rubis_model.specs.Shares.{part_of}
 use Rattle.rubis_shard.proofs.Folds.{not_equal}

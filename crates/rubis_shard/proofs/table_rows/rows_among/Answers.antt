@@ -4,7 +4,7 @@ use Rattle.rubis_schema.specs.declared.row_keys.RowKey.{RowKey}
 use Rattle.rubis_schema.specs.declared.rows.Row.{Row}
 use Rattle.rubis_schema.specs.declared.listings.Listing.TheVariants as listing
 use Rattle.rubis_shard.specs.Listed.{listed_among}
-use Rattle.rubis_shard.specs.Written.{shown, written}
+use Rattle.rubis_shard.specs.Chains.{shown, written}
 use Rattle.rubis_shard.proofs.InMaps.{Entries}
 use Rattle.rubis_shard.proofs.OneTable.{walk_step}
 use Rattle.rubis_shard.proofs.table_rows.rows_among.Goals as goal

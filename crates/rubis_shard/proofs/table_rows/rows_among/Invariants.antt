@@ -1,7 +1,7 @@
 use Rattle.std.proofs.Common.{◌≡◌, ◌++◌, map as each}
 use Rattle.rubis_schema.specs.declared.listings.Listing.TheVariants as listing
 use Rattle.rubis_shard.specs.Listed.{listed_among}
-use Rattle.rubis_shard.specs.Written.{shown, written}
+use Rattle.rubis_shard.specs.Chains.{shown, written}
 use Rattle.rubis_shard.proofs.table_rows.rows_among.Given as goal
 
 abbrev pub invariant-loop-key : goal.invariant-loop-key

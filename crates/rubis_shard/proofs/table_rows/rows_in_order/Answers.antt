@@ -4,7 +4,7 @@ use Rattle.std.proofs.lemmas.List.{take_at}
 use Rattle.rubis_schema.specs.declared.listings.Listing.TheVariants as listing
 use Rattle.rubis_shard.specs.Listed.{listed_among}
 use Rattle.rubis_shard.specs.Rows.{entries_of, tables_in}
-use Rattle.rubis_shard.specs.Written.{shown}
+use Rattle.rubis_shard.specs.Chains.{shown}
 use Rattle.rubis_shard.proofs.Picked.{all_listed, picked_listed}
 use Rattle.rubis_shard.proofs.table_rows.rows_in_order.Goals as goal
 

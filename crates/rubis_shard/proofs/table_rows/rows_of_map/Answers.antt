@@ -5,7 +5,7 @@ use Rattle.rubis_schema.specs.declared.row_keys.RowKey.TheVariants as key
 use Rattle.rubis_schema.specs.declared.listings.Listing.TheVariants as listing
 use Rattle.rubis_shard.specs.Listed.{listed_among}
 use Rattle.rubis_shard.specs.Rows.{entries_of, kept_of}
-use Rattle.rubis_shard.specs.Written.{shown, written}
+use Rattle.rubis_shard.specs.Chains.{shown, written}
 use Rattle.rubis_shard.proofs.InMaps.{Entries}
 use Rattle.rubis_shard.proofs.OneTable.{nicks_listed, cats_listed, users_listed, others_listed}
 use Rattle.rubis_shard.proofs.table_rows.rows_of_map.Goals as goal

@@ -2,11 +2,10 @@ use Rattle.std.proofs.Common.{◌≡◌, ◌∙◌, ◌∷◌, ◌++◌, ◌+◌
 use Rattle.std.proofs.lemmas.List.{take_all, take_more}
 use Rattle.rubis_carrier.specs.declared.values.ShopEvent.{ShopEvent}
 use Rattle.rubis_carrier.specs.declared.values.ShopEvent.TheVariants.{Starts}
-use Rattle.rubis_carrier.specs.Events.{AreSteps, May, after, run}
+use Rattle.rubis_carrier.specs.Events.{AreSteps, May, after, run, may}
 use Rattle.rubis_carrier.specs.Shops.{start}
-use Rattle.rubis_carrier.specs.Tests.{may}
 use Rattle.rubis_carrier.proofs.Computed.{may_decides, may_not}
-use Rattle.rubis_carrier.proofs.Whole.{run_append, steps_append, steps_right}
+use Rattle.rubis_carrier.proofs.Carrying.{run_append, steps_append, steps_right}
 use Rattle.rubis_steps.proofs.deciding.decide.Goals as goal
 
 pub loop-at-init : goal.loop-at-init

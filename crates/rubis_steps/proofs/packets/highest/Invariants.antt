@@ -1,5 +1,5 @@
 use Rattle.std.proofs.Common.{◌≡◌, drop, max}
-use Rattle.rubis_carrier.specs.Packets.{highest}
+use Rattle.rubis_carrier.specs.Shops.{highest}
 use Rattle.rubis_steps.proofs.packets.highest.Given as goal
 
 abbrev pub invariant-loop-packet : goal.invariant-loop-packet

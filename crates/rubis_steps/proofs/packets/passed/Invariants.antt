@@ -1,5 +1,5 @@
 use Rattle.std.proofs.Common.{◌≡◌, drop, max}
-use Rattle.rubis_carrier.specs.Packets.{passed}
+use Rattle.rubis_carrier.specs.Shops.{passed}
 use Rattle.rubis_steps.proofs.packets.passed.Given as goal
 
 abbrev pub invariant-loop-packet : goal.invariant-loop-packet

@@ -1,5 +1,5 @@
 use Rattle.std.proofs.Common.{◌≡◌, drop, max}
-use Rattle.rubis_carrier.specs.Packets.{taken}
+use Rattle.rubis_carrier.specs.Shops.{taken}
 use Rattle.rubis_steps.proofs.packets.taken.Given as goal
 
 abbrev pub invariant-loop-packet : goal.invariant-loop-packet

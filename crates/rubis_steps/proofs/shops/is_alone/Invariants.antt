@@ -1,5 +1,5 @@
 use Rattle.std.proofs.Common.{◌≡◌, drop, map}
-use Rattle.rubis_carrier.specs.Tests.{is_alone}
+use Rattle.rubis_carrier.specs.Events.{is_alone}
 use Rattle.rubis_steps.specs.Views.{folder_of}
 use Rattle.rubis_steps.proofs.shops.is_alone.Given as goal
 

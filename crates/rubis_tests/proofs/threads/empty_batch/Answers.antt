@@ -1,7 +1,7 @@
 use Rattle.std.proofs.Common.{rules, ◌≡◌, List, [], length, sym, subst}
 use Rattle.rubis_shard.specs.States.{ShardState}
 use Rattle.rubis_shard.specs.Holdings.{AreInOrder}
-use Rattle.rubis_pieces.specs.Shares.{AreShares}
+use Rattle.rubis_pieces.specs.Batches.{AreShares}
 use Rattle.rubis_pieces.proofs.Folded.{belongs}
 use Rattle.rubis_tests.proofs.threads.empty_batch.Goals as goal
 

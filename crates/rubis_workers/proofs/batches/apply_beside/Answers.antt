@@ -1,13 +1,10 @@
 use Rattle.std.proofs.Common.{rules, ◌≡◌, length, sym, ap, subst, arith}
 use Rattle.std.specs.List.{All}
 use Rattle.std.proofs.lemmas.List.Sorted.{All-permutation}
-use Rattle.rubis_pieces.specs.Faults.{IsFault, numbers_of}
-use Rattle.rubis_pieces.specs.Gathered.{IsGathered}
-use Rattle.rubis_board.specs.Passes.{PassState}
-use Rattle.rubis_pieces.specs.Work.{IsPiece, pieces_of}
+use Rattle.rubis_pieces.specs.Batches.{IsFault, numbers_of, IsGathered, IsPiece, pieces_of}
+use Rattle.rubis_board.specs.Rule.{PassState}
 use Rattle.rubis_workers.specs.Work.{AreWorked}
-use Rattle.rubis_workers.proofs.Lists.{belong_length, all_pieces}
-use Rattle.rubis_workers.proofs.Folded.{all_taken, no_fault, gathered, applies}
+use Rattle.rubis_workers.proofs.Folded.{belong_length, all_pieces, all_taken, no_fault, gathered, applies}
 use Rattle.rubis_workers.proofs.batches.apply_beside.Goals as goal
 
 pub post_all-poster-requires-clause-many : goal.post_all-poster-requires-clause-many

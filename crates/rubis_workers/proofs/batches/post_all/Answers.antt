@@ -2,8 +2,8 @@ use Rattle.std.proofs.Common.{◌≡◌, [], ◌∷◌, ◌++◌, length, ap, �
 use Rattle.std.specs.List.Sorted.{IsPermutation}
 use Rattle.std.proofs.lemmas.List.{length-append}
 use Rattle.rubis_pieces.specs.declared.pieces.Piece.{Piece}
-use Rattle.rubis_pieces.specs.Work.{pieces_of}
-use Rattle.rubis_workers.proofs.Lists.{pieces_last, one_posted}
+use Rattle.rubis_pieces.specs.Batches.{pieces_of}
+use Rattle.rubis_workers.proofs.Folded.{pieces_last, one_posted}
 use Rattle.rubis_workers.proofs.batches.post_all.Goals as goal
 
 pub loop-preserved : goal.loop-preserved

@@ -2,7 +2,7 @@ use Rattle.std.proofs.Common.{◌≡◌, ◌∷◌, [], ◌++◌, length, sym, s
 use Rattle.rubis_model.specs.Log.{Core, cores}
 use Rattle.rubis_shard.specs.Holdings.{HoldsLog}
 use Rattle.rubis_workers.specs.Logs.{AreWithin}
-use Rattle.rubis_workers.proofs.NextMessage.{next_held, next_within}
+use Rattle.rubis_workers.proofs.Applied.{next_held, next_within}
 use Rattle.rubis_workers.proofs.folding.apply_upto.Goals as goal
 
 pub loop-place-preserved : goal.loop-place-preserved

@@ -3,7 +3,7 @@ use Rattle.std.proofs.lemmas.List.{get_or_default}
 use Rattle.rubis_message.specs.Message.{IsMessage}
 use Rattle.rubis_shadow.specs.Shadows.{parts}
 use Rattle.rubis_shadow.specs.declared.shadows.Shadow.{Shadow}
-use Rattle.rubis_workers.proofs.Between.{below_or, count_more}
+use Rattle.rubis_workers.proofs.Applied.{below_or, count_more}
 use Rattle.rubis_workers.proofs.folding.count_parts.Goals as goal
 
 pub loop-message-preserved : goal.loop-message-preserved

@@ -1,7 +1,7 @@
 use Rattle.std.proofs.Common.{length, ap, arith}
 use Rattle.std.proofs.lemmas.List.{length-append}
-use Rattle.rubis_board.specs.Passes.{PassState}
-use Rattle.rubis_workers.proofs.Lists.{part_length}
+use Rattle.rubis_board.specs.Rule.{PassState}
+use Rattle.rubis_workers.proofs.Folded.{part_length}
 use Rattle.rubis_workers.proofs.team.joined.Goals as goal
 
 pub unreachable-requires : goal.unreachable-requires

@@ -1,9 +1,9 @@
 use Rattle.std.proofs.Common.{[], ◌∷◌, ◌++◌, length, ap, ◌∙◌, sym, subst, arith}
 use Rattle.std.specs.List.{All, AllZip}
 use Rattle.std.proofs.lemmas.List.{length-append}
-use Rattle.rubis_board.specs.Passes.{PassState}
+use Rattle.rubis_board.specs.Rule.{PassState}
 use Rattle.rubis_workers.specs.Work.{having}
-use Rattle.rubis_workers.proofs.Lists.{part_length, last_is, zip_append, zip_length}
+use Rattle.rubis_workers.proofs.Folded.{part_length, last_is, zip_append, zip_length}
 use Rattle.rubis_workers.proofs.team.work.Goals as goal
 
 pub work_on-requires : goal.work_on-requires

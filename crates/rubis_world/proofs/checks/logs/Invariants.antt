@@ -2,7 +2,7 @@ use Rattle.std.proofs.Common.{◌≡◌}
 use Rattle.std.specs.Prelude.{map}
 use Rattle.std.specs.List.{range_with_len}
 use Rattle.rubis_model.specs.WorldRecords.{log_of}
-use Rattle.rubis_world.specs.SitesWorlds.{ComesTo}
+use Rattle.rubis_world.specs.Worlds.{ComesTo}
 use Rattle.rubis_world.proofs.checks.logs.Given as goal
 
 abbrev pub invariant-places : goal.invariant-places

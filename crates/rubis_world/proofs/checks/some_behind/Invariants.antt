@@ -1,5 +1,5 @@
 use Rattle.std.specs.Prelude.{◌≡◌, ℕ, ◌<◌}
-use Rattle.rubis_world.specs.SitesWorlds.{left_at}
+use Rattle.rubis_world.specs.Worlds.{left_at}
 use Rattle.rubis_world.proofs.checks.some_behind.Given as goal
 
 abbrev pub invariant-places : goal.invariant-places

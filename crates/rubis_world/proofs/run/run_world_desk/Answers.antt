@@ -1,9 +1,8 @@
 use Rattle.std.proofs.Common.{subst}
 use Rattle.rubis_engine.specs.Progress.{IsRun}
 use Rattle.rubis_world.specs.Running.{told_by_world}
-use Rattle.rubis_world.specs.SitesWorlds.{WorldState}
-use Rattle.rubis_world.proofs.Leading.{tells_a_run}
-use Rattle.rubis_world.proofs.StepFacts.{world_leads, world_run}
+use Rattle.rubis_world.specs.Worlds.{WorldState}
+use Rattle.rubis_world.proofs.Leading.{tells_a_run, world_leads, world_run}
 use Rattle.rubis_world.proofs.run.run_world_desk.Goals as goal
 
 pub returns-clause-run : goal.returns-clause-run

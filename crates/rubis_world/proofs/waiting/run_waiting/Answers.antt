@@ -2,7 +2,7 @@ use Rattle.std.specs.Prelude.{None}
 use Rattle.rubis_model.specs.Site.{opening_at}
 use Rattle.rubis_schema.specs.declared.limits.TheConstants.{RECORDS_MAX}
 use Rattle.rubis_script.specs.Replica.{setup_place}
-use Rattle.rubis_world.proofs.WaitingFacts.{ends_early}
+use Rattle.rubis_world.proofs.Leading.{ends_early}
 use Rattle.rubis_world.proofs.waiting.run_waiting.Goals as goal
 
 pub returns-in_err-count : goal.returns-in_err-count

@@ -3,8 +3,7 @@ use Rattle.std.specs.Prelude.{◌==◌}
 use Rattle.std.specs.Option.{option_or}
 use Rattle.std.proofs.lemmas.Result.{on_ok_weaker}
 use Rattle.rubis_schema.specs.Keys.{same_id}
-use Rattle.rubis_audit.proofs.Finding.{by_id_push, by_red_push}
-use Rattle.rubis_audit.proofs.Repeats.{more_formed, none_known, seen_known}
+use Rattle.rubis_audit.proofs.Judging.{by_id_push, by_red_push, more_formed, none_known, seen_known}
 use Rattle.rubis_audit.proofs.seen.Seen.note.Goals as goal
 
 pub returns : goal.returns

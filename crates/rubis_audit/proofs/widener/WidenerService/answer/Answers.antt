@@ -4,10 +4,9 @@ use Rattle.rubis_schema.specs.declared.limits.TheConstants.{COUNTED_MAX}
 use Rattle.rubis_laws.proofs.Audits.AuditReadings.{line_only}
 use Rattle.rubis_engine.specs.Accounts.{AnswersRecord}
 use Rattle.rubis_engine.specs.declared.service.Course.TheVariants.{Ends, GoesOn}
-use Rattle.rubis_engine.proofs.AnswerFacts.{answers-waiting}
-use Rattle.rubis_audit.specs.Lines.{line_as}
-use Rattle.rubis_audit.specs.Places.{logs_at}
-use Rattle.rubis_audit.specs.Widening.{WidenerState, widening_from}
+use Rattle.rubis_engine.proofs.RunFacts.{answers-waiting}
+use Rattle.rubis_audit.specs.Running.{line_as, WidenerState, widening_from}
+use Rattle.rubis_audit.specs.Forms.{logs_at}
 use Rattle.rubis_audit.proofs.Placing.{goes}
 use Rattle.rubis_audit.proofs.widener.WidenerService.answer.Goals as goal
 

@@ -1,6 +1,5 @@
 use Rattle.std.proofs.Common.{rules}
-use Rattle.rubis_board.proofs.Joins.{merges}
-use Rattle.rubis_board.proofs.Takes.{knows}
+use Rattle.rubis_board.proofs.Takes.{merges, knows}
 use Rattle.rubis_board.proofs.board.Board.join.Goals as goal
 
 pub absorb-requires-clause-rule : goal.absorb-requires-clause-rule

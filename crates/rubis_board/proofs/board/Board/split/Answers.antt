@@ -1,6 +1,6 @@
 use Rattle.std.proofs.Common.{◌<◌, ap, arith}
-use Rattle.rubis_board.proofs.Joins.{forks}
-use Rattle.rubis_board.specs.Passes.{PassState, known}
+use Rattle.rubis_board.proofs.Takes.{forks}
+use Rattle.rubis_board.specs.Rule.{PassState, known}
 use Rattle.rubis_board.proofs.board.Board.split.Goals as goal
 
 pub another-other-requires-clause-rule : goal.another-other-requires-clause-rule

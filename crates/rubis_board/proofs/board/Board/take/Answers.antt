@@ -1,7 +1,7 @@
 use Rattle.std.proofs.Common.{◌<◌, ap, arith}
 use Rattle.rubis_board.proofs.Takes.{takes, marks}
 use Rattle.rubis_board.specs.declared.rule.PassView.{PassView}
-use Rattle.rubis_board.specs.Passes.{known}
+use Rattle.rubis_board.specs.Rule.{known}
 use Rattle.rubis_board.proofs.board.Board.take.Goals as goal
 
 pub pop_as-requires-clause-rule : goal.pop_as-requires-clause-rule

@@ -1,5 +1,5 @@
 use Rattle.std.proofs.Common.{◌≡◌, ◌<◌, []}
-use Rattle.rubis_board.specs.Passes.{known, state_of}
+use Rattle.rubis_board.specs.Rule.{known, state_of}
 use Rattle.rubis_board.proofs.board.Board.take.Given as goal
 
 abbrev pub invariant-loop : goal.invariant-loop

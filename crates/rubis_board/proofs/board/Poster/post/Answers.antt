@@ -1,4 +1,4 @@
-use Rattle.rubis_board.proofs.Posts.{posts, full}
+use Rattle.rubis_board.proofs.Views.{posts, full}
 use Rattle.rubis_board.proofs.board.Poster.post.Goals as goal
 
 pub push_as-requires-clause-rule : goal.push_as-requires-clause-rule

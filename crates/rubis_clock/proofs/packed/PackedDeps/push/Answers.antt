@@ -1,5 +1,6 @@
-use Rattle.std.proofs.Common.{rules, cond, ◌≡◌, ◌<◌, ◌+◌, ◌*◌, ◌/◌, ◌%◌, ◌++◌, ◌∷◌, [], length, slice_index, slice_set, take, nat_eq, arith, sym, ap, ◌∙◌, subst}
-use Rattle.rubis_clock.specs.Packed.{counts_of}
+use Rattle.std.proofs.Common.{rules, cond, ◌≡◌, ◌<◌, ◌+◌, ◌*◌, ◌/◌, ◌%◌, ◌++◌, ◌∷◌, [], length, slice_index, slice_set, take, nat_eq, arith, sym, ap, ◌∙◌}
+use Rattle.std.proofs.Common.{subst}
+use Rattle.rubis_clock.specs.Counts.{counts_of}
 use Rattle.rubis_clock.proofs.TwoRows.{counts_more, length_used}
 use Rattle.rubis_clock.proofs.packed.PackedDeps.push.Goals as goal
 

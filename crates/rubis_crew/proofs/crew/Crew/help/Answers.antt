@@ -2,9 +2,7 @@ use Rattle.std.proofs.Common.{subst}
 use Rattle.crossbeam_queue.specs.Passes.{view}
 use Rattle.rubis_crew.specs.declared.rule.JobEntry.{JobEntry}
 use Rattle.rubis_crew.specs.Rule.{HasTaken}
-use Rattle.rubis_crew.proofs.Handing.{hands}
-use Rattle.rubis_crew.proofs.Helping.{helped}
-use Rattle.rubis_crew.proofs.Taking.{takes}
+use Rattle.rubis_crew.proofs.Handing.{hands, helped, takes}
 use Rattle.rubis_crew.proofs.crew.Crew.help.Goals as goal
 
 pub pop_as-requires-clause-rule : goal.pop_as-requires-clause-rule

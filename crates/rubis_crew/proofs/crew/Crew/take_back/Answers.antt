@@ -3,9 +3,8 @@ use Rattle.crossbeam_queue.specs.Passes.{view}
 use Rattle.rubis_crew.specs.declared.job.Given.{Given}
 use Rattle.rubis_crew.specs.declared.results.ResultView.{ResultView}
 use Rattle.rubis_crew.specs.declared.results.Slip.{Slip}
-use Rattle.rubis_crew.specs.Results.{BelongsTo}
-use Rattle.rubis_crew.proofs.Handing.{receives}
-use Rattle.rubis_crew.proofs.Leads.{after_receiving, still_leads}
+use Rattle.rubis_crew.specs.Rule.{BelongsTo}
+use Rattle.rubis_crew.proofs.Handing.{receives, after_receiving, still_leads}
 use Rattle.rubis_crew.proofs.Paying.{collects}
 use Rattle.rubis_crew.proofs.crew.Crew.take_back.Goals as goal
 

@@ -2,8 +2,7 @@ use Rattle.std.proofs.Common.{refl, subst}
 use Rattle.crossbeam_queue.specs.Passes.{view}
 use Rattle.rubis_crew.specs.declared.rule.JobEntry.{JobEntry}
 use Rattle.rubis_crew.specs.Rule.{HasTaken}
-use Rattle.rubis_crew.proofs.Leads.{after_taking, still_leads}
-use Rattle.rubis_crew.proofs.Taking.{takes}
+use Rattle.rubis_crew.proofs.Handing.{after_taking, still_leads, takes}
 use Rattle.rubis_crew.proofs.crew.Crew.take_unworked.Goals as goal
 
 pub pop_as-requires-clause-rule : goal.pop_as-requires-clause-rule

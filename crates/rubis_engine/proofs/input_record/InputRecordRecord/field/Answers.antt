@@ -1,6 +1,6 @@
 use Rattle.std.proofs.Common.{◌∙◌, ap, slice_get}
 use Rattle.csv.specs.Records.{fields_of}
-use Rattle.rubis_engine.proofs.ListFacts.{field_at-slice_get}
+use Rattle.rubis_engine.proofs.RunFacts.{field_at-slice_get}
 use Rattle.rubis_engine.proofs.input_record.InputRecordRecord.field.Goals as goal
 
 pub returns : goal.returns

@@ -2,10 +2,10 @@ use Rattle.std.proofs.Common.{◌≡◌, ◌&&◌, ◌∙◌, ◌++◌, ◌∷�
 use Rattle.std.proofs.lemmas.Bool.{ne_eqb}
 use Rattle.std.proofs.lemmas.List.{append-nil}
 use Rattle.rubis_keep.specs.Lines.{begun_after, is_question, is_sound, kept_record}
-use Rattle.rubis_keep.proofs.CutFacts.{cut-ended, cut-next, cut-none, cut-pushed, cut-stays}
-use Rattle.rubis_keep.proofs.lines.LineCutter.take.Goals.{then-len-le-LINE_MAX+in_ok-push, else-len-le-LINE_MAX}
-use Rattle.rubis_keep.proofs.lines.LineCutter.take.Goals.{else-asks-via-then-asks+else-eq, else-asks-via-else-asks}
-use Rattle.rubis_keep.proofs.lines.LineCutter.take.Goals.{then-is_sound+in_ok-extend_from_slice-2+in_ok-push-2, else-is_sound+in_ok-extend_from_slice-3}
+use Rattle.rubis_keep.proofs.SoundFacts.{cut-ended, cut-next, cut-none, cut-pushed, cut-stays}
+use Rattle.rubis_keep.proofs.lines.LineCutter.take.Goals.{then-len-le-LINE_MAX+in_ok-push, else-len-le-LINE_MAX, else-asks-via-then-asks+else-eq}
+use Rattle.rubis_keep.proofs.lines.LineCutter.take.Goals.{else-asks-via-else-asks, then-is_sound+in_ok-extend_from_slice-2+in_ok-push-2}
+use Rattle.rubis_keep.proofs.lines.LineCutter.take.Goals.{else-is_sound+in_ok-extend_from_slice-3}
 use Rattle.rubis_keep.proofs.lines.LineCutter.take.Goals as goal
 
 pub loop-byte-init : goal.loop-byte-init

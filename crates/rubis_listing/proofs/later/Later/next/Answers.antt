@@ -5,7 +5,7 @@ use Rattle.rubis_schema.specs.declared.row_keys.Table.{Table}
 use Rattle.rubis_shadow.specs.Tables.{rows_of}
 use Rattle.rubis_model.specs.Listings.{records_of}
 use Rattle.rubis_shard.specs.Holdings.{union}
-use Rattle.rubis_listing.specs.LaterTables.{rows_after}
+use Rattle.rubis_listing.specs.Parts.{rows_after}
 use Rattle.rubis_listing.proofs.ByTable.{left_after}
 use Rattle.rubis_listing.proofs.later.Later.next.Goals as goal
 

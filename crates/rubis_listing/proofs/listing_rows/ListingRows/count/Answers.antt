@@ -1,6 +1,6 @@
 use Rattle.std.proofs.Common.{ap, length, sym, ◌∙◌, arith}
 use Rattle.rubis_listing.specs.Parts.{rows_from}
-use Rattle.rubis_listing.proofs.LaterRows.{countable_some, length_none, length_some}
+use Rattle.rubis_listing.proofs.Making.{countable_some, length_none, length_some}
 use Rattle.rubis_listing.proofs.listing_rows.ListingRows.count.Goals as goal
 
 pub count-requires : goal.count-requires

@@ -1,11 +1,11 @@
 use Rattle.std.proofs.Common.{rules, ◌≡◌, ◌≤◌, ◌++◌, [], ap, length, ◌∙◌, arith}
 use Rattle.std.specs.FinMap as map
 use Rattle.rubis_model.specs.Listings.{log_from}
-use Rattle.rubis_shard.specs.Counted.{recorded_from}
+use Rattle.rubis_shard.specs.Listed.{recorded_from}
 use Rattle.rubis_shard.specs.Holdings.{union}
-use Rattle.rubis_listing.specs.LaterTables.{rows_from_table}
+use Rattle.rubis_listing.specs.Parts.{rows_from_table}
 use Rattle.rubis_listing.proofs.ByTable.{all_left, left_length}
-use Rattle.rubis_listing.proofs.Entering.{none}
+use Rattle.rubis_listing.proofs.Making.{none}
 use Rattle.rubis_listing.proofs.listing_rows.ListingRows.of_all.Goals as goal
 
 pub invariant_of-result : goal.invariant_of-result

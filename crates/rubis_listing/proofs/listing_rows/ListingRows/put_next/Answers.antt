@@ -1,10 +1,8 @@
 use Rattle.std.proofs.Common.{rules, arith, ◌≡◌, ◌≤◌, ◌∙◌, ◌+◌, ◌++◌, ap, sym}
 use Rattle.std.specs.Prelude.{None}
 use Rattle.rubis_model.specs.Listings.{log_from}
-use Rattle.rubis_listing.specs.LaterTables.{later_rows}
-use Rattle.rubis_listing.specs.Parts.{between, rows_from, size_of}
-use Rattle.rubis_listing.proofs.LaterRows.{countable_none, countable_rest, next_rows}
-use Rattle.rubis_listing.proofs.Ranges.{between_none}
+use Rattle.rubis_listing.specs.Parts.{later_rows, between, rows_from, size_of}
+use Rattle.rubis_listing.proofs.Making.{countable_none, countable_rest, next_rows, between_none}
 use Rattle.rubis_listing.proofs.listing_rows.ListingRows.put_next.Goals as goal
 
 pub invariant_of-self : goal.invariant_of-self

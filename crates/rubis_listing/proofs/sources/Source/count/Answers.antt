@@ -1,7 +1,7 @@
 use Rattle.std.proofs.Common.{rules, ◌≡◌, ◌-◌, ◌≤◌, ◌∙◌, ap, length, subst, sym}
 use Rattle.rubis_listing.specs.Parts.{rows_from, size_of}
 use Rattle.rubis_listing.specs.declared.sources.Source.{Source}
-use Rattle.rubis_listing.proofs.Ranges.{log_count, misfit_count}
+use Rattle.rubis_listing.proofs.Making.{log_count, misfit_count}
 use Rattle.rubis_listing.proofs.sources.Source.count.Goals as goal
 
 pub returns-in-Log : goal.returns-in-Log

@@ -1,5 +1,5 @@
 use Rattle.std.proofs.Common.{◌<◌, length, arith}
-use Rattle.rubis_message.proofs.Cursor.{more_left}
+use Rattle.rubis_message.proofs.Fields.{more_left}
 use Rattle.rubis_message.proofs.readers.Reader.end.Goals as goal
 
 pub returns-then-self-len : goal.returns-then-self-len

@@ -1,5 +1,5 @@
 use Rattle.std.proofs.Common.{◌<◌, length, arith}
-use Rattle.rubis_message.proofs.Cursor.{next_field}
+use Rattle.rubis_message.proofs.Fields.{next_field}
 use Rattle.rubis_message.proofs.readers.Reader.field.Goals as goal
 
 pub returns : goal.returns

@@ -1,5 +1,5 @@
 use Rattle.std.proofs.Common.{sym, ◌∙◌, arith}
-use Rattle.rubis_message.specs.Packed.{stamp_of}
+use Rattle.rubis_message.specs.Message.{stamp_of}
 use Rattle.rubis_message.proofs.Records.{message_meets}
 use Rattle.rubis_message.proofs.readers.Reader.message.Goals as goal
 

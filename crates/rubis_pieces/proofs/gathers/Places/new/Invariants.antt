@@ -1,6 +1,6 @@
 use Rattle.std.proofs.Common.{◌≡◌, ◌≤◌, length}
 use Rattle.std.specs.Vec.{vec_capacity}
-use Rattle.rubis_pieces.specs.Faults.{AllUnseen}
+use Rattle.rubis_pieces.specs.Batches.{AllUnseen}
 use Rattle.rubis_pieces.proofs.gathers.Places.new.Given as goal
 
 abbrev pub invariant-loop : goal.invariant-loop

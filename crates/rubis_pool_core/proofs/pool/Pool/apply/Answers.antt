@@ -1,7 +1,7 @@
 use Rattle.std.proofs.Common.{◌∙◌, ap}
 use Rattle.std.specs.Prelude.{Some}
 use Rattle.std.proofs.lemmas.Option.{slice_get_read}
-use Rattle.rubis_pool_core.proofs.Steps.{apply_none, apply_just, apply_is}
+use Rattle.rubis_pool_core.proofs.Accounts.{apply_none, apply_just, apply_is}
 use Rattle.rubis_pool_core.proofs.pool.Pool.apply.Goals as goal
 
 pub returns-in_default-clause-next : goal.returns-in_default-clause-next

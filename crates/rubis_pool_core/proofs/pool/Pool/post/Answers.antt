@@ -1,6 +1,6 @@
 use Rattle.std.proofs.Common.{◌∷◌, [], length, ap, arith}
 use Rattle.std.proofs.lemmas.List.{length-append}
-use Rattle.rubis_pool_core.proofs.Works.{one_more_piece}
+use Rattle.rubis_pool_core.proofs.Accounts.{one_more_piece}
 use Rattle.rubis_pool_core.proofs.pool.Pool.post.Goals as goal
 
 pub invariant_of-self : goal.invariant_of-self

@@ -1,7 +1,7 @@
 use Rattle.std.proofs.Common.{◌∷◌, suc, length, sym, ap, ◌∙◌, subst, arith}
 use Rattle.std.specs.List.{All}
-use Rattle.rubis_pieces.specs.Work.{IsPiece}
-use Rattle.rubis_pool_core.proofs.Steps.{free_slot, take_just, take_is}
+use Rattle.rubis_pieces.specs.Batches.{IsPiece}
+use Rattle.rubis_pool_core.proofs.Accounts.{free_slot, take_just, take_is}
 use Rattle.rubis_pool_core.proofs.pool.Pool.take.Goals as goal
 
 pub invariant_of-self-in-Some : goal.invariant_of-self-in-Some

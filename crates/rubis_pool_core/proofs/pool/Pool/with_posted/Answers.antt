@@ -2,7 +2,7 @@ use Rattle.std.proofs.Common.{◌≡◌, List, length, sym, ◌∙◌, arith}
 use Rattle.std.specs.Prelude.{None, replicate}
 use Rattle.rubis_pieces.specs.declared.pieces.Piece.{Piece}
 use Rattle.rubis_pool_core.specs.Machine.{opening_pool}
-use Rattle.rubis_pool_core.proofs.Steps.{all_posted}
+use Rattle.rubis_pool_core.proofs.Accounts.{all_posted}
 use Rattle.rubis_pool_core.proofs.pool.Pool.with_posted.Goals as goal
 
 pub returns : goal.returns

@@ -1,9 +1,10 @@
-use Rattle.std.proofs.Common.{rules, ◌≡◌, ◌<◌, ◌≤◌, ◌++◌, ◌∙◌, ◌+◌, ◌-◌, ℕ, List, ap, arith, drop, length, length-append, slice_range, subst, sym, take, false, true}
+use Rattle.std.proofs.Common.{rules, ◌≡◌, ◌<◌, ◌≤◌, ◌++◌, ◌∙◌, ◌+◌, ◌-◌, ℕ, List, ap, arith, drop, length, length-append, slice_range, subst, sym, take, false}
+use Rattle.std.proofs.Common.{true}
 use Rattle.std.specs.Prelude.{nat_lt}
 use Rattle.std.specs.Io.KnownBytes.{Consumes}
 use Rattle.std.proofs.lemmas.Bool.Decides.{nat_tests}
 use Rattle.std.proofs.lemmas.List.{take-append-le, with_items_is}
-use Rattle.rubis_reading.proofs.HeldFacts.{filled, unfilled, written-length}
+use Rattle.rubis_reading.proofs.ChunkFacts.{filled, unfilled, written-length}
 use Rattle.rubis_reading.proofs.buffer.Buffer.fill.Goals as goal
 
 pub returns-in-Ok-clause-given : goal.returns-in-Ok-clause-given

@@ -1,5 +1,5 @@
 use Rattle.std.proofs.Common.{◌≤◌, ◌∙◌, ℕ, List, ap, drop, length, subst, sym}
-use Rattle.rubis_reading.proofs.HeldFacts.{range-passed}
+use Rattle.rubis_reading.proofs.ChunkFacts.{range-passed}
 use Rattle.rubis_reading.proofs.buffer.Buffer.pass.Goals as goal
 
 pub returns : goal.returns

@@ -3,8 +3,7 @@ use Rattle.rubis_engine.proofs.RunFacts.{handed_on}
 use Rattle.rubis_reading.specs.declared.buffer.ChunkFault.TheVariants.{Read}
 use Rattle.csv.specs.Reading.{strip_bom}
 use Rattle.std.proofs.lemmas.Bool.Decides.{nat_tests}
-use Rattle.rubis_reading.specs.Looks.{HasLooked}
-use Rattle.rubis_reading.specs.Streams.{EndsNoRecord}
+use Rattle.rubis_reading.specs.Streams.{HasLooked, EndsNoRecord}
 use Rattle.rubis_reading.proofs.ChunkFacts.{filled-come, filled-keeps, filled-on, held-come, held-keeps, nearer-none, still-held}
 use Rattle.rubis_reading.proofs.LookFacts.{marked-more}
 use Rattle.rubis_reading.proofs.chunks.Chunks.fill.Goals as goal

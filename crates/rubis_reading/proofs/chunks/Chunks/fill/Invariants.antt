@@ -1,8 +1,7 @@
 use Rattle.std.proofs.Common.{◌++◌, ◌≤◌, ◌-◌, ◌^◌, ℕ, List, length}
 use Rattle.csv.specs.Reading.{strip_bom}
 use Rattle.rubis_reading.specs.Chunked.{ComesNearer, KeepsCome, KeepsPending, held_text}
-use Rattle.rubis_reading.specs.Streams.{EndsNoRecord}
-use Rattle.rubis_reading.specs.Looks.{HasLooked}
+use Rattle.rubis_reading.specs.Streams.{EndsNoRecord, HasLooked}
 use Rattle.rubis_reading.proofs.chunks.Chunks.fill.Given as goal
 
 abbrev pub invariant-asks : goal.invariant-asks

@@ -1,6 +1,5 @@
 use Rattle.std.proofs.Common.{ap, ◌∙◌}
-use Rattle.rubis_release.specs.Intake.{Intake}
-use Rattle.rubis_release.specs.Release.{clock_of}
+use Rattle.rubis_release.specs.Release.{Intake, clock_of}
 use Rattle.rubis_release.proofs.Intakes.{clock_is}
 use Rattle.rubis_release.proofs.intake.Intake.clock.Goals as goal
 

@@ -3,8 +3,7 @@ use Rattle.rubis_clock.specs.declared.stamps.Stamp.{Stamp}
 use Rattle.rubis_message.specs.Message.{Message, IsMessage}
 use Rattle.rubis_shadow.specs.Shadows.{InLimits}
 use Rattle.rubis_model.specs.Site.{made, after_made, is_full, is_current, issued_after}
-use Rattle.rubis_release.specs.Intake.{Intake, IsIntake}
-use Rattle.rubis_release.specs.Release.{IsAmong}
+use Rattle.rubis_release.specs.Release.{Intake, IsIntake, IsAmong}
 use Rattle.rubis_release.proofs.Intakes.{next_holds}
 use Rattle.rubis_release.proofs.Makes.{made_among, made_is_message, made_of, made_kept, made_is, held_for_blue, held_for_red}
 use Rattle.rubis_release.proofs.intake.Intake.generated.Goals as goal

@@ -5,8 +5,7 @@ use Rattle.rubis_schema.specs.Keys.{same_id}
 use Rattle.rubis_schema.specs.declared.ids.Id.{Id}
 use Rattle.rubis_message.specs.Message.{Message}
 use Rattle.rubis_model.specs.Site.{is_repeat}
-use Rattle.rubis_release.specs.Intake.{Intake}
-use Rattle.rubis_release.specs.Release.{IsAmong}
+use Rattle.rubis_release.specs.Release.{Intake, IsAmong}
 use Rattle.rubis_release.proofs.Intakes.{among_is, sites_of_clock, is_repeat_by_count}
 use Rattle.rubis_release.proofs.intake.Intake.is_repeat.Goals as goal
 

@@ -1,4 +1,4 @@
-use Rattle.rubis_release.proofs.Counting.{none_counted}
+use Rattle.rubis_release.proofs.Keeping.{none_counted}
 use Rattle.rubis_release.proofs.messages.Messages.new.Goals as goal
 
 pub invariant_of-result : goal.invariant_of-result

@@ -1,8 +1,7 @@
 use Rattle.std.proofs.Common.{List, [], ◌∷◌, ◌++◌, refl, ap, ◌∙◌, sym, subst, arith}
 use Rattle.rubis_message.specs.Message.{Message}
-use Rattle.rubis_release.specs.Release.{IsAmong}
-use Rattle.rubis_release.specs.Messages.{Messages}
-use Rattle.rubis_release.proofs.Counting.{counted_on}
+use Rattle.rubis_release.specs.Release.{IsAmong, Messages}
+use Rattle.rubis_release.proofs.Keeping.{counted_on}
 use Rattle.rubis_release.proofs.messages.Messages.release.Goals as goal
 
 pub invariant_of-self-2 : goal.invariant_of-self-2

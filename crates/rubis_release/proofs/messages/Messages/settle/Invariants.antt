@@ -1,7 +1,7 @@
 use Rattle.std.proofs.Common.{◌≡◌, List, length}
 use Rattle.rubis_message.specs.Message.{Message}
-use Rattle.rubis_model.specs.Settle.{Settles}
-use Rattle.rubis_release.specs.Messages.{AreCounted}
+use Rattle.rubis_model.specs.Site.{Settles}
+use Rattle.rubis_release.specs.Release.{AreCounted}
 use Rattle.rubis_release.proofs.messages.Messages.settle.Given as goal
 
 abbrev pub invariant-loop-message : goal.invariant-loop-message

@@ -2,11 +2,9 @@ use Rattle.std.proofs.Common.{◌∷◌, [], ◌++◌, length, ap, ◌∙◌, sy
 use mathlib.Core.Bool.{true≢false}
 use Rattle.std.proofs.lemmas.List.{length_push}
 use Rattle.rubis_clock.specs.Clocks.{IsReady, MessageCounts}
-use Rattle.rubis_model.specs.Settle.{Settles}
-use Rattle.rubis_release.specs.Release.{IsAmong, AllAmong, NoneReady, clock_of}
-use Rattle.rubis_release.specs.Messages.{Messages}
-use Rattle.rubis_release.proofs.Keeping.{among_more}
-use Rattle.rubis_release.proofs.Releasing.{comes_first_ok, waits_on}
+use Rattle.rubis_model.specs.Site.{Settles}
+use Rattle.rubis_release.specs.Release.{IsAmong, AllAmong, NoneReady, clock_of, Messages}
+use Rattle.rubis_release.proofs.Keeping.{among_more, comes_first_ok, waits_on}
 use Rattle.rubis_release.proofs.messages.Messages.take_in.Goals as goal
 
 pub returns-then-is_ready-clause-settles : goal.returns-then-is_ready-clause-settles

@@ -4,7 +4,7 @@ use Rattle.indexmap.specs.IndexMap.{get}
 use Rattle.rubis_schema.specs.Keys.{same_id}
 use Rattle.rubis_message.specs.Message.{Message}
 use Rattle.rubis_release.specs.Waiting.{is_there}
-use Rattle.rubis_release.proofs.Gaps.{has_told, nothing_waits}
+use Rattle.rubis_release.proofs.Slots.{has_told, nothing_waits}
 use Rattle.rubis_release.proofs.waiting.Waiting.has.Goals as goal
 
 pub returns-then-is_empty : goal.returns-then-is_empty

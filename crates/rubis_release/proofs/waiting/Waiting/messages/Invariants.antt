@@ -1,6 +1,6 @@
 use Rattle.std.proofs.Common.{◌≡◌, ◌++◌}
 use Rattle.std.specs.Prelude.{map}
-use Rattle.rubis_release.proofs.Listing.{messages_of}
+use Rattle.rubis_release.proofs.Slots.{messages_of}
 use Rattle.rubis_release.proofs.waiting.Waiting.messages.Given as goal
 
 -- those that were listed, and those of the slots to come

@@ -6,7 +6,7 @@ use Rattle.rubis_schema.specs.Keys.{same_id}
 use Rattle.rubis_schema.specs.declared.ids.Id.{Id}
 use Rattle.rubis_message.specs.Message.{Message}
 use Rattle.rubis_release.specs.Waiting.{AreApart, AreSlots, somes}
-use Rattle.rubis_release.proofs.Gaps.{new_last, slots_more, somes_append}
+use Rattle.rubis_release.proofs.Slots.{new_last, slots_more, somes_append}
 use Rattle.rubis_release.proofs.waiting.Waiting.push.Goals as goal
 
 pub make_place-self-inside-requires-clause-none : goal.make_place-self-inside-requires-clause-none

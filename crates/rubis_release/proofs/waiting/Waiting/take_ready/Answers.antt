@@ -4,7 +4,7 @@ use Rattle.indexmap.specs.IndexMap.{set_value_at}
 use Rattle.rubis_message.specs.Message.{Message}
 use Rattle.rubis_release.specs.Release.{AllAmong, NoneReady}
 use Rattle.rubis_release.specs.Waiting.{AreSlots, NoneTaken, TakesFirst, somes}
-use Rattle.rubis_release.proofs.Gaps.{nothing_waits, nothing_ready, none_of_slots, taken_first, slots_stay, values_at, un_some, no_some}
+use Rattle.rubis_release.proofs.Slots.{nothing_waits, nothing_ready, none_of_slots, taken_first, slots_stay, values_at, un_some, no_some}
 use Rattle.rubis_release.proofs.waiting.Waiting.take_ready.Goals as goal
 
 pub first_ready-requires-clause-among : goal.first_ready-requires-clause-among

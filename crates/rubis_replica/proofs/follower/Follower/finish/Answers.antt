@@ -2,8 +2,7 @@ use Rattle.std.proofs.Common.{true, ◌≡◌, ◌∙◌, ◌<◌, ◌≤◌, �
 use Rattle.std.specs.Prelude.{Err, slice_range}
 use Rattle.rubis_model.specs.Log.{cores}
 use Rattle.rubis_workers.specs.Pieces.{AreFurther, HoldsTo, StopWithin}
-use Rattle.rubis_replica.specs.Follow.{Follower, FollowsLog, GoesOnTo, HasStops}
-use Rattle.rubis_replica.specs.Progress.{end_of, left_of, resting_at}
+use Rattle.rubis_replica.specs.Follow.{Follower, FollowsLog, GoesOnTo, HasStops, end_of, left_of, resting_at}
 use Rattle.rubis_replica.specs.declared.progress.Stage.TheVariants.{Begun}
 use Rattle.rubis_workers.specs.Logs.{parts_between}
 use Rattle.rubis_replica.proofs.Standing.{begun_fewer, counted_by, follows_begun, follows_whole, left_fewer, stops_further, written_back}

@@ -1,6 +1,5 @@
 use Rattle.std.proofs.Common.{◌≡◌, ◌≤◌, ap, sym, subst}
-use Rattle.rubis_replica.specs.Follow.{Follower, FollowsLog}
-use Rattle.rubis_replica.specs.Progress.{left_of}
+use Rattle.rubis_replica.specs.Follow.{Follower, FollowsLog, left_of}
 use Rattle.rubis_replica.proofs.Standing.{comes_from, tried}
 use Rattle.rubis_replica.proofs.follower.Follower.follow_upto.Goals as goal
 

@@ -1,7 +1,6 @@
 use Rattle.std.proofs.Common.{◌≡◌, List, length, ap, sym, subst, arith, rules}
 use Rattle.rubis_message.specs.Message.{Message}
-use Rattle.rubis_replica.specs.Follow.{Follower, FollowsLog}
-use Rattle.rubis_replica.specs.Progress.{resting_at}
+use Rattle.rubis_replica.specs.Follow.{Follower, FollowsLog, resting_at}
 use Rattle.rubis_replica.specs.declared.progress.Progress.{Progress}
 use Rattle.rubis_replica.specs.declared.progress.Stage.TheVariants.{Keeping}
 use Rattle.rubis_replica.proofs.Comings.{follows_taken}

@@ -1,5 +1,5 @@
 use Rattle.std.proofs.Common.{ap}
-use Rattle.rubis_replica.proofs.Growing.{follows_arrived}
+use Rattle.rubis_replica.proofs.Standing.{follows_arrived}
 use Rattle.rubis_replica.proofs.site.Site.arrive.Goals as goal
 
 pub invariant_of-self-in-Released : goal.invariant_of-self-in-Released

@@ -1,5 +1,5 @@
 use Rattle.std.proofs.Common.{subst}
-use Rattle.rubis_replica.specs.Progress.{IsProgress}
+use Rattle.rubis_replica.specs.Follow.{IsProgress}
 use Rattle.rubis_replica.specs.State.{SiteState}
 use Rattle.rubis_replica.proofs.site.Site.is_behind.Goals as goal
 

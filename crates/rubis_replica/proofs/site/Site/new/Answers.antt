@@ -1,5 +1,5 @@
 use Rattle.std.proofs.Common.{ap}
-use Rattle.rubis_replica.proofs.Growing.{follows_opening}
+use Rattle.rubis_replica.proofs.Standing.{follows_opening}
 use Rattle.rubis_replica.proofs.site.Site.new.Goals as goal
 
 pub invariant_of-result : goal.invariant_of-result

@@ -1,5 +1,5 @@
 use Rattle.std.specs.Prelude.{Err}
-use Rattle.rubis_replica.proofs.Growing.{follows_passed}
+use Rattle.rubis_replica.proofs.Standing.{follows_passed}
 use Rattle.rubis_replica.proofs.site.Site.pass.Goals as goal
 
 pub invariant_of-self : goal.invariant_of-self

@@ -1,6 +1,6 @@
 use Rattle.std.proofs.Common.{◌<◌, ◌∙◌, length, sym, ap, arith}
 use Rattle.std.proofs.lemmas.Option.{slice_get_past}
-use Rattle.rubis_schema.proofs.FieldFacts.{piece-at, piece-within, pieces-length}
+use Rattle.rubis_schema.proofs.PlainRows.{piece-at, piece-within, pieces-length}
 use Rattle.rubis_schema.proofs.field_list.Fields.field.Goals as goal
 
 pub returns-then-place-len : goal.returns-then-place-len

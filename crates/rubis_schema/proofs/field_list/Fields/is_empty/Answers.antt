@@ -1,5 +1,5 @@
 use Rattle.std.proofs.Common.{◌∙◌, ◌==◌, ap, sym}
-use Rattle.rubis_schema.proofs.FieldFacts.{pieces-length}
+use Rattle.rubis_schema.proofs.PlainRows.{pieces-length}
 use Rattle.rubis_schema.proofs.field_list.Fields.is_empty.Goals as goal
 
 pub returns : goal.returns

@@ -2,7 +2,7 @@ use Rattle.std.proofs.Common.{◌≡◌, ◌∙◌, sym}
 use Rattle.std.specs.Cmp.Lexicographic.{bytes_decides}
 use mathlib.Core.Bool.{true≢false}
 use Rattle.rubis_schema.specs.FieldList.{pieces}
-use Rattle.rubis_schema.proofs.FieldFacts.{laid-fixed}
+use Rattle.rubis_schema.proofs.PlainRows.{laid-fixed}
 use Rattle.rubis_schema.proofs.field_list.Fields.is_same.Goals as goal
 
 pub returns-then-eq : goal.returns-then-eq

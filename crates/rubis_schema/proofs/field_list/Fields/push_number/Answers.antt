@@ -1,7 +1,6 @@
 use Rattle.std.proofs.Common.{◌≡◌, ◌∙◌, ◌++◌, ◌∷◌, [], ℕ, List, decimal, ap, rules, arith, length}
 use Rattle.rubis_schema.specs.FieldList.{comma, pieces}
-use Rattle.rubis_schema.proofs.FieldFacts.{laid-more}
-use Rattle.rubis_schema.proofs.PlainTexts.{decimal_plain, plain_more}
+use Rattle.rubis_schema.proofs.PlainRows.{laid-more, decimal_plain, plain_more}
 use Rattle.rubis_schema.proofs.NumberTexts.{at_most_twenty}
 use Rattle.rubis_schema.proofs.field_list.Fields.push_number.Goals as goal
 

@@ -1,7 +1,6 @@
 use Rattle.std.proofs.Common.{◌≡◌, ◌∙◌, ◌++◌, ◌∷◌, [], ap, rules, length}
 use Rattle.rubis_schema.specs.FieldList.{comma, pieces}
-use Rattle.rubis_schema.proofs.FieldFacts.{laid-more}
-use Rattle.rubis_schema.proofs.PlainTexts.{plain_more}
+use Rattle.rubis_schema.proofs.PlainRows.{laid-more, plain_more}
 use Rattle.rubis_schema.proofs.field_list.Fields.push_plain.Goals as goal
 
 pub invariant_of-self-2 : goal.invariant_of-self-2

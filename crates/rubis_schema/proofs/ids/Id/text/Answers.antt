@@ -1,6 +1,6 @@
 use Rattle.std.proofs.Common.{◌≡◌, rules}
 use Rattle.rubis_schema.specs.Ids.{id_text}
-use Rattle.rubis_schema.proofs.PlainTexts.{id_plain}
+use Rattle.rubis_schema.proofs.PlainRows.{id_plain}
 use Rattle.rubis_schema.proofs.ids.Id.text.Goals as goal
 
 pub returns-clause-plain : goal.returns-clause-plain

@@ -1,6 +1,6 @@
 use Rattle.std.proofs.Common.{ℕ, ◌*◌, ◌%◌, ◌^◌, sym, ap, arith}
 use Rattle.std.specs.Prelude.{bit_xor}
-use Rattle.rubis_schema.specs.KeyHashes.{written}
+use Rattle.rubis_schema.specs.Keys.{written}
 use Rattle.rubis_schema.specs.declared.key_hashes.KeyHasher.{KeyHasher}
 use Rattle.rubis_schema.proofs.Words.{word_read}
 use Rattle.rubis_schema.proofs.key_hashes.KeyHasherHasher.write_u64.Goals as goal

@@ -1,6 +1,6 @@
 use Rattle.std.proofs.Common.{length, rules}
 use Rattle.std.proofs.lemmas.List.{drop-replicate}
-use Rattle.rubis_schema.specs.Texts.{IsNick}
+use Rattle.rubis_schema.specs.FieldForms.{IsNick}
 use Rattle.rubis_schema.specs.declared.limits.TheConstants.{NICK_MAX}
 use Rattle.rubis_schema.proofs.Nicknames.{nick_padded}
 use Rattle.rubis_schema.proofs.nicks.Nick.read.Goals as goal

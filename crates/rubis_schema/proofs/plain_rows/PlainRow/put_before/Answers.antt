@@ -1,5 +1,5 @@
 use Rattle.std.proofs.Common.{◌∙◌, ◌≡◌, ◌≤◌, ◌∷◌, ◌++◌, [], ℕ, List, ap, append_assoc, arith, decimal, drop, length, length-append, refl, sym}
-use Rattle.rubis_schema.proofs.IdTexts.{decimal_short}
+use Rattle.rubis_schema.proofs.FieldLaws.{decimal_short}
 use Rattle.rubis_schema.specs.FieldList.{comma}
 use Rattle.rubis_schema.specs.declared.limits.TheConstants.{PLAIN_ROW_MAX}
 use Rattle.rubis_schema.proofs.PlainRows.{mark_behind_plain, row_with_more_in_first, some_more_in_first}

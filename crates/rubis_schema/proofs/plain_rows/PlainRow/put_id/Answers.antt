@@ -1,9 +1,8 @@
 use Rattle.std.proofs.Common.{◌∙◌, ◌≡◌, ◌≤◌, ◌+◌, ◌∷◌, ◌++◌, ap, append_assoc, arith, decimal, length, length-append, sym}
-use Rattle.rubis_schema.proofs.PlainTexts.{id_plain}
+use Rattle.rubis_schema.proofs.PlainRows.{id_plain, row_with_one_more}
 use Rattle.rubis_schema.specs.FieldList.{comma}
 use Rattle.rubis_schema.specs.Ids.{id_text}
 use Rattle.rubis_schema.specs.declared.limits.TheConstants.{PLAIN_ROW_MAX}
-use Rattle.rubis_schema.proofs.PlainRows.{row_with_one_more}
 use Rattle.rubis_schema.proofs.plain_rows.PlainRow.put_id.Goals as goal
 
 pub invariant_of-self : goal.invariant_of-self

@@ -1,5 +1,5 @@
 use Rattle.std.proofs.Common.{arith, ap, length, length-append, decimal}
-use Rattle.rubis_schema.proofs.IdTexts.{decimal_short}
+use Rattle.rubis_schema.proofs.FieldLaws.{decimal_short}
 use Rattle.rubis_schema.proofs.short_texts.ShortText.put_number.Goals as goal
 
 pub put_digits-requires : goal.put_digits-requires

@@ -1,5 +1,5 @@
 use Rattle.std.proofs.Common.{◌≡◌, ◌∙◌, ◌++◌, ap, arith, length, subst, sym}
-use Rattle.rubis_replica.specs.Arrivals.{TakesFirst}
+use Rattle.rubis_replica.specs.State.{TakesFirst}
 use Rattle.rubis_engine.proofs.RunFacts.{if_not_some}
 use Rattle.rubis_script.proofs.LeadFacts.{settles_all, taken_all}
 use Rattle.rubis_script.proofs.WindowFacts.{answers-few, flush_keeps, told-kept}

@@ -1,5 +1,4 @@
-use Rattle.rubis_engine.proofs.AnswerFacts.{breaks-unwritten}
-use Rattle.rubis_engine.proofs.EndFacts.{ends_memory, ends_on}
+use Rattle.rubis_engine.proofs.RunFacts.{breaks-unwritten, ends_memory, ends_on}
 use Rattle.rubis_script.specs.Desks.{left_at}
 use Rattle.rubis_script.proofs.DeskFacts.{leads-on}
 use Rattle.rubis_script.proofs.desk.DeskService.answer.Goals as goal

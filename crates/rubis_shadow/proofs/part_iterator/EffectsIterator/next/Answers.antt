@@ -1,5 +1,5 @@
 use Rattle.std.proofs.Common.{sym, ◌∙◌}
-use Rattle.rubis_shadow.proofs.Lists.{drop_from, one_more}
+use Rattle.rubis_shadow.proofs.Footprint.{drop_from, one_more}
 use Rattle.rubis_shadow.proofs.part_iterator.EffectsIterator.next.Goals as goal
 
 pub returns-clause-steps : goal.returns-clause-steps

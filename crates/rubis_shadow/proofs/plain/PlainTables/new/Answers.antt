@@ -4,8 +4,7 @@ use Rattle.rubis_schema.specs.declared.limits.TheConstants.{CATEGORIES}
 use Rattle.rubis_schema.specs.Tables.{Tables}
 use Rattle.rubis_schema.specs.declared.row_keys.RowKey.TheVariants as key
 use Rattle.rubis_shadow.specs.Tables.{categories_from, new_category, opening}
-use Rattle.rubis_shadow.proofs.Categories.{categories_more}
-use Rattle.rubis_shadow.proofs.Rows.{tables_of}
+use Rattle.rubis_shadow.proofs.Rows.{categories_more, tables_of}
 use Rattle.rubis_shadow.proofs.plain.PlainTables.new.Goals as goal
 
 pub loop-cat-init : goal.loop-cat-init

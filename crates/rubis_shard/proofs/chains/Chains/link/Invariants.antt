@@ -1,7 +1,6 @@
 use Rattle.std.proofs.Common.{◌≡◌, ◌≤◌, length, take}
-use Rattle.rubis_schema.specs.IdKeys.{row_key}
-use Rattle.rubis_shard.specs.Chains.{chains_of, Links}
-use Rattle.rubis_shard.specs.Written.{written}
+use Rattle.rubis_schema.specs.Keys.{row_key}
+use Rattle.rubis_shard.specs.Chains.{chains_of, Links, written}
 use Rattle.rubis_shard.proofs.chains.Chains.link.Given as goal
 
 abbrev pub invariant-loop-at : goal.invariant-loop-at

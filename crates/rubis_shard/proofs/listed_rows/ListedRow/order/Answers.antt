@@ -1,6 +1,6 @@
 use Rattle.std.proofs.Common.{◌∙◌}
 use Rattle.std.specs.Ordering.{nat_cmp}
-use Rattle.rubis_shard.proofs.ListedKeys.{ordered}
+use Rattle.rubis_shard.proofs.Picked.{ordered}
 use Rattle.rubis_shard.proofs.listed_rows.ListedRow.order.Goals as goal
 
 pub returns : goal.returns

@@ -2,7 +2,7 @@ use Rattle.std.proofs.Common.{length, arith}
 use Rattle.std.proofs.lemmas.List.{take_all}
 use Rattle.rubis_shard.specs.Rows.{kept_of}
 use Rattle.rubis_shard.proofs.OneTable.{written_length}
-use Rattle.rubis_shard.proofs.Walking.{if_done}
+use Rattle.rubis_shard.proofs.Linking.{if_done}
 use Rattle.rubis_shard.proofs.row_map.LinkedRows.link.Goals as goal
 
 pub returns-clause-all : goal.returns-clause-all

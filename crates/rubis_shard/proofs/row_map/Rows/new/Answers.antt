@@ -1,5 +1,5 @@
 use Rattle.std.proofs.Common.{sym, subst}
-use Rattle.rubis_shard.specs.MapKeys.{AreOthers, AreUsers}
+use Rattle.rubis_shard.specs.Chains.{AreOthers, AreUsers}
 use Rattle.rubis_shard.proofs.row_map.Rows.new.Goals as goal
 
 pub invariant_of-result : goal.invariant_of-result

@@ -2,9 +2,8 @@ use Rattle.std.proofs.Common.{◌≡◌, sym, ap, ◌∙◌, subst}
 use Rattle.std.specs.Prelude.{slice_get, Some}
 use Rattle.rubis_model.specs.Log.{step}
 use Rattle.rubis_model.specs.Shares.{part_of}
-use Rattle.rubis_shard.specs.States.{ShardState}
-use Rattle.rubis_shard.specs.Messages.{emptied}
-use Rattle.rubis_shard.specs.Stores.{held_by}
+use Rattle.rubis_shard.specs.States.{ShardState, held_by}
+use Rattle.rubis_shard.specs.Holdings.{emptied}
 use Rattle.rubis_shard.proofs.Folds.{part_kept, home_of_one, if_some, part_at}
 use Rattle.rubis_shard.proofs.shards.Shard.apply_next.Goals as goal
 

@@ -1,11 +1,8 @@
 use Rattle.std.proofs.Common.{◌≡◌, sym, ap, ◌∙◌, subst}
 use Rattle.rubis_model.specs.Log.{fold_on}
 use Rattle.rubis_model.specs.Shares.{part_of}
-use Rattle.rubis_shard.specs.States.{ShardState}
-use Rattle.rubis_shard.specs.Stores.{held_by}
-use Rattle.rubis_shard.specs.Holdings.{parts_at}
-use Rattle.rubis_shard.specs.Entries.{numbered_of}
-use Rattle.rubis_shard.specs.Messages.{emptied}
+use Rattle.rubis_shard.specs.States.{ShardState, held_by}
+use Rattle.rubis_shard.specs.Holdings.{parts_at, numbered_of, emptied}
 use Rattle.rubis_shard.proofs.Parts.{own_after}
 use Rattle.rubis_shard.proofs.shards.Shard.fold_message.Goals as goal
 

@@ -1,8 +1,7 @@
 use Rattle.std.proofs.Common.{◌≡◌, ap, ◌∙◌}
 use Rattle.rubis_model.specs.Shares.{part_of}
-use Rattle.rubis_shard.specs.States.{ShardState}
-use Rattle.rubis_shard.specs.Stores.{held_by}
-use Rattle.rubis_shard.specs.Messages.{emptied}
+use Rattle.rubis_shard.specs.States.{ShardState, held_by}
+use Rattle.rubis_shard.specs.Holdings.{emptied}
 use Rattle.rubis_shard.proofs.Single.{all_rows}
 use Rattle.rubis_shard.proofs.shards.Shard.fold_whole.Goals as goal
 

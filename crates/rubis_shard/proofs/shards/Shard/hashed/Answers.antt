@@ -2,7 +2,7 @@ use Rattle.std.proofs.Common.{◌≡◌, sym, ap, ◌∙◌}
 use Rattle.rubis_shadow.specs.Tables.{opening}
 use Rattle.rubis_model.specs.Log.{Folded}
 use Rattle.rubis_model.specs.Shares.{part_of}
-use Rattle.rubis_shard.specs.Stores.{held_by}
+use Rattle.rubis_shard.specs.States.{held_by}
 use Rattle.rubis_shard.specs.declared.shard_store.Store.{Store}
 use Rattle.rubis_shard.proofs.Openings.{part_twice}
 use Rattle.rubis_shard.proofs.shards.Shard.hashed.Goals as goal

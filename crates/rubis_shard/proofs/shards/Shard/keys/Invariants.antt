@@ -1,6 +1,6 @@
 use Rattle.std.proofs.Common.{◌≡◌, take, map as each}
 use Rattle.std.specs.Map.{keys_of}
-use Rattle.rubis_shard.specs.Written.{shown}
+use Rattle.rubis_shard.specs.Chains.{shown}
 use Rattle.rubis_shard.proofs.shards.Shard.keys.Given as goal
 
 abbrev pub invariant-loop-row : goal.invariant-loop-row

@@ -4,8 +4,7 @@ use Rattle.std.proofs.lemmas.List.{take_at}
 use Rattle.std.proofs.lemmas.List.Sorted.{IsPermutation-trans}
 use Rattle.rubis_schema.specs.declared.row_keys.RowKey.{RowKey}
 use Rattle.rubis_schema.specs.declared.rows.Row.{Row}
-use Rattle.rubis_shard.specs.Listed.{listed_of}
-use Rattle.rubis_shard.specs.ListedRows.{table_with}
+use Rattle.rubis_shard.specs.Listed.{listed_of, table_with}
 use Rattle.rubis_shard.proofs.Picked.{listed_again}
 use Rattle.rubis_shard.proofs.shards.Shard.listed.Goals as goal
 

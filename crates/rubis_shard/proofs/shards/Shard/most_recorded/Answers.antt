@@ -3,10 +3,9 @@ use Rattle.std.specs.Prelude.{Option}
 use Rattle.std.specs.FinMap as map
 use Rattle.rubis_schema.specs.Tables.{Tables}
 use Rattle.rubis_model.specs.Shares.{part_of}
-use Rattle.rubis_shard.specs.Counted.{recorded_from, recorded_of}
+use Rattle.rubis_shard.specs.Listed.{recorded_from, recorded_of}
 use Rattle.rubis_shard.specs.Rows.{tables_in}
-use Rattle.rubis_shard.specs.States.{ShardState}
-use Rattle.rubis_shard.specs.Stores.{held_by, held_in}
+use Rattle.rubis_shard.specs.States.{ShardState, held_by, held_in}
 use Rattle.rubis_shard.specs.declared.shard_store.Store.{Store}
 use Rattle.rubis_shard.proofs.Counting.{if_some, none_recorded}
 use Rattle.rubis_shard.proofs.shards.Shard.most_recorded.Goals as goal

@@ -5,10 +5,8 @@ use Rattle.std.proofs.lemmas.List.{append-nil}
 use Rattle.std.proofs.lemmas.List.Sorted.{IsPermutation-refl}
 use Rattle.rubis_schema.specs.declared.row_keys.RowKey.{RowKey}
 use Rattle.rubis_schema.specs.declared.rows.Row.{Row}
-use Rattle.rubis_shard.specs.Listed.{listed_of}
-use Rattle.rubis_shard.specs.ListedRows.{table_with}
-use Rattle.rubis_shard.specs.States.{ShardState}
-use Rattle.rubis_shard.specs.Stores.{held_in}
+use Rattle.rubis_shard.specs.Listed.{listed_of, table_with}
+use Rattle.rubis_shard.specs.States.{ShardState, held_in}
 use Rattle.rubis_shard.specs.declared.shard_store.Store.{Store}
 use Rattle.rubis_shard.proofs.Openings.{none_listed}
 use Rattle.rubis_shard.proofs.shards.Shard.pick.Goals as goal

@@ -6,8 +6,7 @@ use Rattle.std.proofs.lemmas.List.Sorted.{IsPermutation-refl}
 use Rattle.rubis_schema.specs.declared.row_keys.RowKey.{RowKey}
 use Rattle.rubis_schema.specs.declared.rows.Row.{Row}
 use Rattle.rubis_shard.specs.Listed.{categories_of}
-use Rattle.rubis_shard.specs.States.{ShardState}
-use Rattle.rubis_shard.specs.Stores.{held_in}
+use Rattle.rubis_shard.specs.States.{ShardState, held_in}
 use Rattle.rubis_shard.specs.declared.shard_store.Store.{Store}
 use Rattle.rubis_shard.proofs.Categories.{no_categories}
 use Rattle.rubis_shard.proofs.shards.Shard.pick_categories.Goals as goal

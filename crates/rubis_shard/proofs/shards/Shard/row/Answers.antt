@@ -2,8 +2,7 @@ use Rattle.std.proofs.Common.{sym, ap, ◌∙◌}
 use Rattle.std.specs.FinMap as map
 use Rattle.rubis_schema.specs.Keys.{key_order}
 use Rattle.std.specs.Prelude.{Option}
-use Rattle.rubis_shard.specs.States.{ShardState}
-use Rattle.rubis_shard.specs.Stores.{held_by, held_in}
+use Rattle.rubis_shard.specs.States.{ShardState, held_by, held_in}
 use Rattle.rubis_shard.specs.declared.shard_store.Store.{Store}
 use Rattle.rubis_shard.proofs.shards.Shard.row.Goals as goal
 

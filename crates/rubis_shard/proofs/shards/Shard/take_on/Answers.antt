@@ -1,7 +1,6 @@
 use Rattle.std.proofs.Common.{rules, ap, sym}
 use Rattle.rubis_shard.specs.States.{ShardState, with_parts}
-use Rattle.rubis_shard.specs.Entries.{core_of}
-use Rattle.rubis_shard.specs.PartHomes.{NoneAt}
+use Rattle.rubis_shard.specs.Holdings.{core_of, NoneAt}
 use Rattle.rubis_shard.proofs.shards.Shard.take_on.Goals as goal
 
 pub returns-then-not-has-clause-ok : goal.returns-then-not-has-clause-ok

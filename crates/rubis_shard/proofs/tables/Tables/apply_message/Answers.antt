@@ -2,9 +2,7 @@ use Rattle.std.proofs.Common.{◌≡◌, List, sym, subst, rules}
 use Rattle.std.specs.Prelude.{OnOk}
 use Rattle.std.proofs.lemmas.List.{take_at}
 use Rattle.rubis_shard.specs.States.{ShardState}
-use Rattle.rubis_shard.specs.Entries.{core_of, numbered_of}
-use Rattle.rubis_shard.specs.Holdings.{AreInOrder}
-use Rattle.rubis_shard.specs.Messages.{FoldsFrom}
+use Rattle.rubis_shard.specs.Holdings.{core_of, numbered_of, AreInOrder, FoldsFrom}
 use Rattle.rubis_shard.proofs.Homes.{order_kept, takes_on_ok}
 use Rattle.rubis_shard.proofs.tables.Tables.apply_message.Goals as goal
 

@@ -1,7 +1,7 @@
 use Rattle.std.proofs.Common.{rules, arith, ◌≡◌, ◌<◌, ◌≤◌, List, length, sym, ap, ◌∙◌}
 use Rattle.std.specs.Prelude.{slice_index_or}
 use Rattle.std.specs.FinMap as map
-use Rattle.rubis_shard.specs.Counted.{number_of, recorded_from, recorded_of}
+use Rattle.rubis_shard.specs.Listed.{number_of, recorded_from, recorded_of}
 use Rattle.rubis_shard.specs.Holdings.{union}
 use Rattle.rubis_shard.specs.States.{ShardState}
 use Rattle.rubis_shard.proofs.Counting.{recorded_by_shard, shards_end, shards_more, union_recorded}

@@ -1,7 +1,7 @@
 use Rattle.std.proofs.Common.{rules, arith, []}
 use Rattle.rubis_shard.specs.States.{opening_shard}
 use Rattle.rubis_shard.proofs.Logs.{order_of_log}
-use Rattle.rubis_shard.proofs.Items.{each_more}
+use Rattle.rubis_shard.proofs.Picked.{each_more}
 use Rattle.rubis_shard.proofs.tables.Tables.hashed.Goals as goal
 
 pub loop-number-preserved : goal.loop-number-preserved

@@ -7,8 +7,7 @@ use Rattle.rubis_schema.specs.declared.row_keys.RowKey.{RowKey}
 use Rattle.rubis_schema.specs.declared.rows.Row.{Row}
 use Rattle.rubis_shard.specs.States.{ShardState}
 use Rattle.rubis_shard.specs.Holdings.{union}
-use Rattle.rubis_shard.specs.Listed.{listed_of}
-use Rattle.rubis_shard.specs.ListedRows.{table_with}
+use Rattle.rubis_shard.specs.Listed.{listed_of, table_with}
 use Rattle.rubis_shard.proofs.Picked.{listed_by_shard, listed_one_more, shuffled_more, union_picked}
 use Rattle.rubis_shard.proofs.tables.Tables.listed.Goals as goal
 

@@ -1,6 +1,6 @@
 use Rattle.std.proofs.Common.{◌≡◌, List, ap, subst, ◌∙◌, map as each, arith}
 use Rattle.std.specs.List.Sorted.{IsPermutation}
-use Rattle.rubis_shard.specs.Written.{shown}
+use Rattle.rubis_shard.specs.Chains.{shown}
 use Rattle.std.proofs.lemmas.List.{take_all, take_at}
 use Rattle.rubis_shadow.specs.Tables.{rows_of}
 use Rattle.rubis_shard.specs.States.{ShardState}

@@ -1,5 +1,5 @@
 use Rattle.std.proofs.Common.{◌≡◌, take, map as each}
-use Rattle.rubis_shard.specs.Written.{shown}
+use Rattle.rubis_shard.specs.Chains.{shown}
 use Rattle.rubis_shard.proofs.Listing.{rows_by_shard}
 use Rattle.rubis_shard.proofs.tables.Tables.rows.Given as goal
 

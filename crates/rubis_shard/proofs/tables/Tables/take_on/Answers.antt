@@ -2,9 +2,7 @@ use Rattle.std.proofs.Common.{rules, ◌≡◌, List, length, set, refl, subst, 
 use Rattle.std.specs.Prelude.{Some, OnOk, slice_get}
 use Rattle.std.proofs.lemmas.Option.{slice_get_read}
 use Rattle.rubis_shard.specs.States.{ShardState}
-use Rattle.rubis_shard.specs.Holdings.{AreInOrder, FoldsOn, parts_at}
-use Rattle.rubis_shard.specs.Entries.{core_of, numbered_of}
-use Rattle.rubis_shard.specs.PartHomes.{AreHomesOf}
+use Rattle.rubis_shard.specs.Holdings.{AreInOrder, FoldsOn, parts_at, core_of, numbered_of, AreHomesOf}
 use Rattle.rubis_shard.proofs.Homes.{folds_one_ok, one_kept, order_set}
 use Rattle.rubis_shard.proofs.tables.Tables.take_on.Goals as goal
 

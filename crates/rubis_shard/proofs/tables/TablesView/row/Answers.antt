@@ -5,7 +5,7 @@ use Rattle.std.proofs.lemmas.Option.{slice_get_read}
 use Rattle.rubis_schema.specs.Keys.{home}
 use Rattle.rubis_shard.specs.States.{ShardState}
 use Rattle.rubis_shard.specs.Holdings.{union}
-use Rattle.rubis_shard.proofs.Items.{no_items}
+use Rattle.rubis_shard.proofs.Picked.{no_items}
 use Rattle.rubis_shard.proofs.Unions.{get-union, get-union-none}
 use Rattle.rubis_shard.proofs.tables.TablesView.row.Goals as goal
 

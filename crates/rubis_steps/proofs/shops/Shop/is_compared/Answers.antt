@@ -1,8 +1,7 @@
 use Rattle.std.proofs.Common.{◌≡◌, ◌∙◌, sym, ap, ap₂}
-use Rattle.rubis_carrier.specs.Packets.{highest, last_turn}
-use Rattle.rubis_carrier.specs.Tests.{reaches_all}
-use Rattle.rubis_steps.specs.Parts.{folders_reached, streams_reached}
-use Rattle.rubis_steps.specs.Views.{shop_of}
+use Rattle.rubis_carrier.specs.Shops.{highest, last_turn}
+use Rattle.rubis_carrier.specs.Events.{reaches_all}
+use Rattle.rubis_steps.specs.Views.{folders_reached, streams_reached, shop_of}
 use Rattle.rubis_steps.proofs.Leading.{compared_is, first_false, second}
 use Rattle.rubis_steps.proofs.shops.Shop.is_compared.Goals as goal
 

@@ -1,7 +1,6 @@
 use Rattle.std.proofs.Common.{◌∙◌, sym, ap}
-use Rattle.rubis_carrier.specs.Tests.{is_offered}
-use Rattle.rubis_steps.specs.Parts.{in_own_folder}
-use Rattle.rubis_steps.specs.Views.{shop_of}
+use Rattle.rubis_carrier.specs.Events.{is_offered}
+use Rattle.rubis_steps.specs.Views.{in_own_folder, shop_of}
 use Rattle.rubis_steps.proofs.Leading.{offered_is}
 use Rattle.rubis_steps.proofs.shops.Shop.is_offered.Goals as goal
 

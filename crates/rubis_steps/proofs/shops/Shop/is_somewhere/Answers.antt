@@ -1,7 +1,7 @@
 use Rattle.std.proofs.Common.{rules, ◌∙◌, sym, ap, ap₂}
 use Rattle.std.specs.Prelude.{◌||◌}
-use Rattle.rubis_carrier.specs.Tests.{has_packet}
-use Rattle.rubis_steps.specs.Parts.{is_found}
+use Rattle.rubis_carrier.specs.Events.{has_packet}
+use Rattle.rubis_steps.specs.Views.{is_found}
 use Rattle.rubis_steps.proofs.Leading.{found_is, none_first, some_first}
 use Rattle.rubis_steps.proofs.shops.Shop.is_somewhere.Goals as goal
 

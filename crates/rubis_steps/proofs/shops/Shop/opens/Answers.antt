@@ -1,7 +1,7 @@
 use Rattle.std.proofs.Common.{rules, ◌∙◌, ap, ap₂, map}
 use Rattle.std.specs.Prelude.{◌==◌, not}
 use Rattle.std.proofs.lemmas.Fn.{filter_same}
-use Rattle.rubis_carrier.specs.Packets.{sender}
+use Rattle.rubis_carrier.specs.Shops.{sender}
 use Rattle.rubis_carrier.specs.Events.{forgotten, of_others}
 use Rattle.rubis_steps.specs.Views.{folders_of, shop_of}
 use Rattle.rubis_steps.proofs.Leading.{opens_is}

@@ -1,6 +1,5 @@
 use Rattle.std.proofs.Common.{◌∙◌, ap}
-use Rattle.rubis_carrier.specs.Packets.{own}
-use Rattle.rubis_carrier.specs.Shops.{with_stream}
+use Rattle.rubis_carrier.specs.Shops.{own, with_stream}
 use Rattle.rubis_steps.specs.Views.{folder_at, shop_of}
 use Rattle.rubis_steps.proofs.Leading.{stream_replaced}
 use Rattle.rubis_steps.proofs.shops.Shop.writes_anew.Goals as goal

@@ -4,7 +4,7 @@ use Rattle.std.specs.Prelude.{◌++◌, ◌∷◌, ℕ, List, codes, map}
 use Rattle.std.specs.Option.{option_to_list}
 use Rattle.rubis_engine.specs.Text.{rows_text}
 use Rattle.rubis_engine.specs.declared.service.Course.TheVariants.{GoesOn}
-use Rattle.rubis_engine.proofs.AnswerFacts.{answers-waiting}
+use Rattle.rubis_engine.proofs.RunFacts.{answers-waiting}
 use Rattle.rubis_engine.proofs.TextFacts.{text-goes}
 use Rattle.rubis_tests.proofs.services.EchoService.answer.Goals as goal
 

@@ -1,7 +1,6 @@
 use Rattle.std.proofs.Common.{◌+◌}
 use Rattle.rubis_engine.specs.declared.service.Course.TheVariants.{GoesOn}
-use Rattle.rubis_engine.proofs.AnswerFacts.{answers-waiting, breaks-unwritten}
-use Rattle.rubis_engine.proofs.EndFacts.{ends_memory}
+use Rattle.rubis_engine.proofs.RunFacts.{answers-waiting, breaks-unwritten, ends_memory}
 use Rattle.rubis_world.specs.Running.{told_by_desk}
 use Rattle.rubis_world.proofs.Answering.{world_goes}
 use Rattle.rubis_world.proofs.desk.WorldDeskService.answer.Goals as goal

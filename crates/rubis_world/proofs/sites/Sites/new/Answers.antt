@@ -1,10 +1,7 @@
 use Rattle.std.proofs.Common.{rules, ◌≡◌, ap, ◌∙◌}
 use Rattle.rubis_model.specs.Site.{opening_at}
-use Rattle.rubis_script.specs.Replica.{resting_at}
-use Rattle.rubis_script.specs.Replica.{Setup, setup_place}
-use Rattle.rubis_script.specs.Replica.{SiteState}
-use Rattle.rubis_world.proofs.Beginning.{at_places, fresh_sites, one_more, starts}
-use Rattle.rubis_world.proofs.Moves.{state_of}
+use Rattle.rubis_script.specs.Replica.{resting_at, Setup, setup_place, SiteState}
+use Rattle.rubis_world.proofs.Moves.{at_places, fresh_sites, one_more, starts, state_of}
 use Rattle.rubis_world.proofs.sites.Sites.new.Goals as goal
 
 abbrev opened : Setup → SiteState

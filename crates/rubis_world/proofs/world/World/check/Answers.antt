@@ -1,7 +1,6 @@
 use Rattle.std.proofs.Common.{◌∙◌}
 use Rattle.rubis_engine.proofs.RunFacts.{if_ok_so}
-use Rattle.rubis_world.proofs.Checking.{agree, among}
-use Rattle.rubis_world.proofs.Keeping.{stayed, told}
+use Rattle.rubis_world.proofs.Moves.{agree, among, stayed, told}
 use Rattle.rubis_world.proofs.world.World.check.Goals as goal
 
 pub check-requires-clause-among : goal.check-requires-clause-among

@@ -1,5 +1,5 @@
 use Rattle.rubis_model.specs.System.Event.{Deliver}
-use Rattle.rubis_world.proofs.Keeping.{answered, told}
+use Rattle.rubis_world.proofs.Moves.{answered, told}
 use Rattle.rubis_world.proofs.world.World.deliver.Goals as goal
 
 pub invariant_of-self : goal.invariant_of-self

@@ -1,4 +1,4 @@
-use Rattle.rubis_world.proofs.Keeping.{begun, told}
+use Rattle.rubis_world.proofs.Moves.{begun, told}
 use Rattle.rubis_world.proofs.world.World.new.Goals as goal
 
 pub invariant_of-result : goal.invariant_of-result

@@ -1,7 +1,7 @@
 use Rattle.std.proofs.Common.{subst}
 use Rattle.rubis_model.specs.Laws.{InRun}
-use Rattle.rubis_world.specs.SitesWorlds.{WorldState}
-use Rattle.rubis_world.proofs.Keeping.{told}
+use Rattle.rubis_world.specs.Worlds.{WorldState}
+use Rattle.rubis_world.proofs.Moves.{told}
 use Rattle.rubis_world.proofs.world.World.packets.Goals as goal
 
 pub returns-clause-run : goal.returns-clause-run
