@@ -16,8 +16,8 @@ comes. Some things happen otherwise than the model has them, and are written as 
   it is no news, and written as unknown.
 - Where a second folder of a site opens, the first one is closed; if its process sends something all the same, it opens again just before,
   or goes on, if something has more of the site by then.
-- A folder that has lost passes, and whose site doesn't have the token, is made again with them before it starts, if nobody in reach knows
-  that the turns before went to it: the start learns of the turns from the others, and takes no token that it had before.
+- A folder that has lost passes, and whose site doesn't have the token, is made again with them before it starts: the start learns of them
+  from the others, and takes no token that it had before.
 - A folder that is made again has what was found, without passes that nobody has any more. Where it lacks what the old one had, the old one
   is lost first.
 
@@ -235,15 +235,13 @@ class Steps:
                 self._open(slot, None)
 
     def _learn_passes(self, slot: Slot, folder: "Folder") -> None:
-        """Where a folder has lost passes, its site doesn't have the token, and nobody in reach knows who gave it the turns before, the start
-        learns from the others only that there were these turns."""
+        """Where a folder has lost passes, and its site doesn't have the token, the start learns of them from the others."""
         if not slot.start:
             return
         taken, beyond, is_cut_off = slot.taken(), slot.behind(), self._is_cut_off(folder)
         step, had, passes = slot.start
-        places = [other.packets for other in self.slots if self._reaches(folder, other, is_cut_off)] + self.streams * (not is_cut_off)
-        given = {packet[2] for place in places for packet in place if packet[0] == "p" and packet[3] == slot.site}
-        lost = {packet: None for place in places for packet in beyond(place) if packet in self.passes[:passes] and packet[2] - 1 not in given}
+        places = [other.packets for other in self.slots if beyond(other.packets) and self._reaches(folder, other, is_cut_off)]
+        lost = {packet: None for place in places + self.streams * (not is_cut_off) for packet in beyond(place) if packet in self.passes[:passes]}
         is_without = slot.last("p") > taken or not taken and slot.site or folder.keeper and folder.keeper.site.issued is None
         if lost and is_without:
             self._put(slot, [*had, *lost], before=step)

@@ -237,11 +237,11 @@ class SimulatedSite(Site):
             if each.is_given:
                 self.shop.world.steps.gives(self.folder, self.keeper, each.record)
 
-    def fence(self, text: str, outlasts: bool = False, is_written: bool = False) -> None:
+    def fence(self, text: str, outlasts: bool = False) -> None:
         if not self.fenced_by:
             self.shop.world.note("fenced")
             self.shop.fenced.append((self.number, text))
-        super().fence(text, outlasts, is_written)
+        super().fence(text, outlasts)
 
     def write_keys(self, lines: bytes) -> None:
         file = self.folder.file("keys")
@@ -386,7 +386,7 @@ class Process:
         if not folder or not folder.is_there or "kept" not in folder.files:
             return None
         lines = folder.unchanged()
-        return list(packets_of(lines, origin, after)), tokens_of(lines, folder.lines("out"), origin)
+        return list(packets_of(lines, origin, after)), tokens_of(lines)
 
     def takes_over(self, site: int) -> None:
         """Puts the folder that was made in the place of a site elsewhere."""
@@ -641,7 +641,7 @@ class Supervisor(Process, Shop):
         site.keys.read(folder.lines("keys"), self.unix_time())
         has_all = answered is not None and "kept" in folder.files and len(folder.files["kept"].data) >= answered
         if folder.fenced:
-            site.fence(folder.fenced, outlasts=True, is_written=True)
+            site.fence(folder.fenced)
         self.begin_site(site, answered if has_all else None)
 
     def _opened(self, site: Site, answered: int) -> None:

@@ -114,7 +114,6 @@ class Ledger:
         self.holds_token = site == 0
         self.turn = 0               # of the token that it took or passed last
         self.issued = 0             # red numbers issued before the token came
-        self.gave = [(0, 0)] * sites    # the last two turns at which it passed the token on to each site
 
     @property
     def messages(self) -> int:
@@ -184,7 +183,6 @@ class Ledger:
                 self.red.add(packet.red)
         elif isinstance(packet, Token):
             self.holds_token, self.turn = False, packet.turn
-            self.gave[packet.to] = self.gave[packet.to][1], packet.turn
         return packet
 
     def _came(self, record: bytes) -> None:
@@ -220,12 +218,6 @@ def sends_of(out: Iterable[bytes]) -> list[tuple[Place, bytes]]:
     return sends
 
 
-def turns_to(site: int, packets: Iterable[bytes]) -> list[int]:
-    """The turns of the tokens for a site among packets."""
-    return [packet.turn for text in packets if isinstance(packet := packet_of(text), Token) and packet.to == site]
-
-
-def tokens_of(kept: Iterable[bytes], out: Iterable[bytes] = (), to: int = 0) -> list[bytes]:
-    """The tokens among the lines of a file `kept`, and those for one site in the file `out`; a torn last line is none."""
-    given = [line[5:-1] for line in out if line.startswith(b"send,token,") and line.endswith(b"\n")]
-    return [line[:-1] for line in kept if line.startswith(b"token,") and line.endswith(b"\n")] + [text for text in given if turns_to(to, [text])]
+def tokens_of(kept: Iterable[bytes]) -> list[bytes]:
+    """The tokens among the lines of a file `kept`; a torn last line is none."""
+    return [line[:-1] for line in kept if line.startswith(b"token,") and line.endswith(b"\n")]

@@ -1,6 +1,6 @@
 """May a site take asks? What is decided of what the others have of it."""
 
-from collections.abc import Callable, Collection, Iterable, Mapping
+from collections.abc import Callable, Iterable, Mapping
 from typing import Any
 
 from .ledger import Place
@@ -37,16 +37,13 @@ def why_behind(site: int, own: int, has: Mapping[int, int]) -> str | None:
     return f"site {other} has {has[other]} messages of it, and its folder has {own} (shop rebuild {site})" if has[other] > own else None
 
 
-def why_passed_on(site: int, last: int, holds: bool, turns: Mapping[int, int], gave: Mapping[int, Collection[int]]) -> str | None:
-    """Why a site can't go on whose folder had the token last at that turn, and holds it or has passed it on: it has passed on a later turn. A
-    token doesn't say who sent it. But whoever had it at a turn has passed it on by the time that another site has a later one: the site of a
-    folder that holds it, or one to which others gave it, at these turns among others."""
-    if not turns:
+def why_passed_on(site: int, held: int | None, turns: Mapping[int, int]) -> str | None:
+    """Why a site can't go on whose folder says that it holds the token, since that turn: another site has had a later one."""
+    if held is None or not turns:
         return None
     other = max(turns, key=lambda number: turns[number])
-    lost = min((turn for its in gave.values() for turn in its if last < turn < turns[other]), default=None)
-    what = f"holds that of turn {last}" if holds and turns[other] > last else f"doesn't know that it had that of turn {lost}" if lost else None
-    return f"site {other} has had the token of turn {turns[other]}, and its folder {what} (shop rebuild {site})" if what else None
+    return (f"site {other} has had the token of turn {turns[other]}, and its folder holds that of turn {held} (shop rebuild {site})"
+            if turns[other] > held else None)
 
 
 def why_other_count(over: str, there: int, here: int) -> str | None:

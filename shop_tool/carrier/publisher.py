@@ -4,11 +4,10 @@ import hashlib
 from collections.abc import Mapping
 from typing import TYPE_CHECKING, Any
 
-from .ledger import NOWHERE, Place, turns_to
+from .ledger import NOWHERE, Place
 from .lives import Standing, life_text, standing, takes_place, why_other
 from .opening import must_compare_all, must_hear_all, runs_elsewhere, strange_packet, why_other_count
 from .over_files import BATCH
-from .reader import tokens_in
 from .site import Site
 from .steps import (Adopt, Append, Entries, Owner, Packets, Page, PageOf, Rewrite, SayYields, SeeHere, SeeLife, SeenHere, Sites, State, Statuses, Steps,
                     StreamState, Wait)
@@ -188,11 +187,7 @@ class Publisher:
         site.silent = [other for other in range(shop.count) if other not in shop.sites and other not in statuses] if must_hear else []
         has = {other: greatest_said(status, site.number) for other, status in statuses.items()}
         turns = {other: status["turn"] for other, status in statuses.items()}
-        gave = {other: status.get("gave", {}).get(str(site.number), ()) for other, status in statuses.items()}
-        if not site.silent and site.answered is None:
-            for other in (other for other in range(shop.count) if other not in shop.sites):
-                gave[other] = [*gave.get(other, ()), *turns_to(site.number, (yield from tokens_in(other)))]
-        return (yield from shop.why_behind(site, has, turns, gave))
+        return (yield from shop.why_behind(site, has, turns))
 
     def _waited_for_others(self) -> Steps[bool]:
         """Whether a site elsewhere had to say first what it has. Until then this one says what it has itself, since they may wait for it."""

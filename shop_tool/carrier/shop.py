@@ -5,7 +5,7 @@ from collections.abc import Callable, Collection, Mapping
 from typing import Any
 
 from ..ends import Fault, Status
-from .ledger import Prefix, turns_to
+from .ledger import Prefix
 from .lives import life_text
 from .opening import may_open_unseen, why_behind, why_passed_on
 from .records import Message, Purpose, Token, packet_of, why_not_one_record
@@ -128,8 +128,7 @@ class Shop(abc.ABC):
         if not all(other.tried.is_set and other.known.is_set for other in others):
             return False
         has = {other.number: other.ledger.have[site.number].greatest for other in others}
-        gave = {other.number: other.ledger.gave[site.number] for other in others}
-        return _why_behind(site, has, {other.number: other.ledger.turn for other in others}, gave) is None
+        return _why_behind(site, has, {other.number: other.ledger.turn for other in others}) is None
 
     def _opened(self, site: Site, answered: int) -> None:
         site.witness = self.witness_of(site, answered)
@@ -177,21 +176,19 @@ class Shop(abc.ABC):
                 return to == site.number and turn > site.ledger.turn and turn >= self.wants.turn
         return False
 
-    def why_behind(self, site: Site, has: dict[int, int], turns: dict[int, int], gave: dict[int, Collection[int]]) -> Steps[str | None]:
-        """Why a site can't go on of which sites elsewhere have so many messages, and have had the token at these turns, and gave it the token
-        at those, or sites of this folder have."""
+    def why_behind(self, site: Site, has: dict[int, int], turns: dict[int, int]) -> Steps[str | None]:
+        """Why a site can't go on of which sites elsewhere have so many messages, and have had the token at these turns, or sites of this
+        folder have."""
         for other in self.sites.values():
             if other is not site:
                 yield Wait(other.tried)
                 if other.known.is_set:
                     has[other.number], turns[other.number] = other.ledger.have[site.number].greatest, other.ledger.turn
-                    gave[other.number] = other.ledger.gave[site.number]
                 elif kept := (yield KeptOf(other.number, site.number, 0)):      # it can't be started
                     has[other.number] = max((number for number, _ in kept[0]), default=0)
                     turns[other.number] = max((token.turn for text in kept[1] if isinstance(token := packet_of(text), Token)), default=0)
-                    gave[other.number] = turns_to(site.number, kept[1])
         self.wants.known(max(turns.values(), default=0))
-        return _why_behind(site, has, turns, gave)
+        return _why_behind(site, has, turns)
 
     def behind(self, site: Site) -> dict[int, int]:
         """How many messages of each other site it hasn't, of those that were sent."""
@@ -206,7 +203,6 @@ class Shop(abc.ABC):
         return {"site": site.number, "state": state, "life": life_text(site.lives), "own": ledger.sends.messages, "turn": ledger.turn,
                 "has": {str(origin): have.upto for origin, have in enumerate(ledger.have) if origin != site.number},
                 "greatest": {str(origin): have.greatest for origin, have in enumerate(ledger.have) if origin != site.number},
-                "gave": {str(to): turns for to, turns in enumerate(ledger.gave) if any(turns)},
                 "holds_token": ledger.holds_token and site.known.is_set}
 
     # The token.
@@ -319,7 +315,7 @@ class Shop(abc.ABC):
         return turns
 
 
-def _why_behind(site: Site, has: Mapping[int, int], turns: Mapping[int, int], gave: Mapping[int, Collection[int]]) -> str | None:
-    """Why a site can't go on of which others have so many messages, and have had the token at these turns, and gave it the token at those."""
-    ledger = site.ledger
-    return why_behind(site.number, ledger.sends.messages, has) or why_passed_on(site.number, ledger.turn, ledger.holds_token, turns, gave)
+def _why_behind(site: Site, has: Mapping[int, int], turns: Mapping[int, int]) -> str | None:
+    """Why a site can't go on of which others have so many messages, and have had the token at these turns."""
+    held = site.ledger.turn if site.ledger.holds_token else None
+    return why_behind(site.number, site.ledger.sends.messages, has) or why_passed_on(site.number, held, turns)

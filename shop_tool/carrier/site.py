@@ -84,7 +84,6 @@ class Site(abc.ABC):
         self.fault: tuple[str, str] | None = None   # the last one: when, and what
         self.faults = 0
         self.fenced_by: str | None = None
-        self.is_marked = False                      # its folder says why it is fenced: others know more of it, or another past
         self.line: collections.deque[Pending] = collections.deque()     # the first is answered next
         self.reader = AnswerReader()
         self.lives: list[str] = []                  # of its folder; the last has begun with this supervisor
@@ -242,13 +241,13 @@ class Site(abc.ABC):
                 self.shop.later(READ_AGAIN, self.shop.news.tell)
             return []
 
-    def fence(self, text: str, outlasts: bool = False, is_written: bool = False) -> None:
+    def fence(self, text: str, outlasts: bool = False) -> None:
         """Stops the site for good: it would give numbers a second time. What others know may be lost, and what was seen of it `outlasts`
         that: it is written into the folder, so that each later start of it is stopped too."""
         if not self.fenced_by:
-            if outlasts and not is_written:
+            if outlasts:
                 self.write_fence(text)
-            self.fenced_by, self.is_marked = text, outlasts
+            self.fenced_by = text
             self.note_fault(text)
             self.opened.set()
             self.compared.set()

@@ -4,14 +4,13 @@ import unittest
 from typing import Any
 
 from shop_tool.carrier.asking import Ask
-from shop_tool.carrier.over_files import BATCH, FileLink, left_of, well_formed
+from shop_tool.carrier.over_files import BATCH, FileLink
 from shop_tool.carrier.reader import BLOCK_SECONDS, Reader
 from shop_tool.carrier.records import Purpose
 from shop_tool.carrier.site import Disagreement, State
-from shop_tool.carrier.steps import (CallAll, IsRunning, KeptOf, Marks, Packets, Page, PageOf, Read, Say, SayLeave, SayWant, SeenHere, SentHere, Steps,
-                                     UpElsewhere, Wait)
+from shop_tool.carrier.steps import CallAll, IsRunning, Marks, Page, PageOf, Read, Say, SayLeave, SayWant, Steps, UpElsewhere, Wait
 from shop_tool.ends import Fault
-from shop_tool.tests.shops import Known, OverServer, Supervisor, done
+from shop_tool.tests.shops import Known, OverServer, Supervisor
 
 TOKEN, ANN = b"token,1,2,1,0", b"msg,1,0,1,1,0:0,user,ann"
 
@@ -235,44 +234,6 @@ class Reading(unittest.TestCase):
 
     def test_a_site_that_is_full(self) -> None:
         self.assertFalse(self.fed([ANN], b"reply,1,refused,2,Full\n"))
-
-
-class Fenced(unittest.TestCase):
-    """What the others are given of a site that is fenced, over files."""
-
-    one, two, three = (b"msg,1,0,%d,0,0:0,comment,0.1,0.1,0.1,5,a" % number for number in (1, 2, 3))
-    sent: Packets = [((1, 0), one), ((1, 1), TOKEN), ((2, 0), two), ((2, 1), b"token,1,3,1,0")]
-
-    def test_what_others_may_lack(self) -> None:
-        """What all have isn't given, nor a token before the last."""
-        self.assertEqual(left_of(self.sent, [{1: self.one}, {}], False), [self.one, self.two, b"token,1,3,1,0"])
-        self.assertEqual(left_of(self.sent, [{1: self.one}, {1: self.one, 2: self.two, 3: self.three}], False), [self.two, b"token,1,3,1,0"])
-
-    def test_a_copy_may_have_gone_on_elsewhere(self) -> None:
-        """So what comes behind the last message that another site has isn't given."""
-        self.assertEqual(left_of(self.sent, [{1: self.one}, {}], True), [self.one])
-        self.assertEqual(left_of(self.sent, [{1: self.one, 2: self.two, 3: self.three}, {}], True), [self.one, TOKEN, self.two])
-        self.assertEqual(left_of(self.sent, [{}, {}], True), [])
-
-    def test_two_processes_were_it(self) -> None:
-        self.assertEqual(left_of(self.sent, [{2: self.three}, {}], False), [])
-
-    def test_what_comes_behind_a_line_that_was_changed(self) -> None:
-        for strange in (b"msg,1,0,1,0,0:0,comment", b"msg,1,1,2,0,0:0,comment", b"msg,1,0", b"token,1"):
-            self.assertEqual(well_formed(0, [self.sent[0], ((2, 0), strange), self.sent[1]]), self.sent[:1])
-
-    def test_it_is_given(self) -> None:
-        """Only where its folder says why it is fenced: what was changed isn't carried, nor what was never compared."""
-        for how, gets in (({"outlasts": True}, ANN + b"\n" + TOKEN + b"\n"), ({}, b"")):
-            shop = Supervisor(FileLink, 2)
-            site, reads = shop.sites
-            assert isinstance(shop.link, FileLink)
-            shop.sites[site].fence("it isn't the one that the others know", **how)
-            shop.sites[reads].start()
-            answers = {SentHere: [((1, 0), ANN), ((1, 1), TOKEN)], KeptOf: ([], []), SeenHere: None}
-            done(shop.link.compare(shop.sites[site]), answers)
-            done(shop.link.read(shop.sites[reads]), answers, 3)
-            self.assertEqual(shop.sites[reads].given, gets)
 
 
 class HandingOver(unittest.TestCase):

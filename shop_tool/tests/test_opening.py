@@ -81,20 +81,11 @@ class Opening(unittest.TestCase):
 
     def test_another_site_has_had_the_token_since(self) -> None:
         """A folder that lost nothing but a pass has as many messages as before, and would hold the token a second time."""
-        self.assertIsNone(why_passed_on(0, 4, False, {1: 9}, {}))
-        self.assertIsNone(why_passed_on(0, 4, True, {}, {}))
-        self.assertIsNone(why_passed_on(0, 4, True, {1: 3, 2: 0}, {}))
-        self.assertEqual(why_passed_on(0, 4, True, {1: 5, 2: 6}, {}),
+        self.assertIsNone(why_passed_on(0, None, {1: 9}))
+        self.assertIsNone(why_passed_on(0, 4, {}))
+        self.assertIsNone(why_passed_on(0, 4, {1: 3, 2: 0}))
+        self.assertEqual(why_passed_on(0, 4, {1: 5, 2: 6}),
                          "site 2 has had the token of turn 6, and its folder holds that of turn 4 (shop rebuild 0)")
-
-    def test_it_has_passed_on_a_turn_that_its_folder_has_lost(self) -> None:
-        """Another site gave it the token at a later turn than its folder has, and somebody has had a later one since: also where it is on its
-        way to it again."""
-        self.assertIsNone(why_passed_on(0, 4, False, {1: 4, 2: 9}, {1: (2, 4), 2: ()}))
-        self.assertIsNone(why_passed_on(0, 4, False, {1: 5, 2: 5}, {1: (2, 5)}), "nobody has passed that on")
-        why = "site 2 has had the token of turn 6, and its folder doesn't know that it had that of turn 5 (shop rebuild 0)"
-        self.assertEqual(why_passed_on(0, 4, False, {1: 5, 2: 6}, {1: (2, 5)}), why)
-        self.assertEqual(why_passed_on(0, 4, False, {1: 5, 2: 6}, {1: (0, 5), 2: (0, 6)}), why)
 
     def test_a_packet_that_it_did_not_send(self) -> None:
         sent: dict[Place, bytes] = {(1, 0): b"a", (1, 1): b"token", (2, 0): b"b"}

@@ -31,7 +31,6 @@ use Rattle.rubis_engine.specs.Text.{input_records, rows_text}
 use Rattle.rubis_laws.proofs.Rows.FoldIsMeaning.{fold_is_meaning}
 use Rattle.rubis_laws.proofs.Processes.AreARun.{is_itself, is_other}
 use Rattle.rubis_laws.proofs.Examples.ProcessExamples.{ann_answers, ann_is_answered, ann_is_asked, ann_is_sent, no_packet_asked, not_some}
-use Rattle.rubis_keep.specs.Telling.{answers-append}
 use Rattle.rubis_keep.specs.History.{Files, Answers, AreSafe, Event, FileState, after, after_all, records_in}
 use Rattle.rubis_lives.specs.Folders.{AreFoldersOfARun}
 use Rattle.rubis_lives.specs.Histories.{ShortensKept, Step, answered_on, keep_after, keeps, moments_in, most, shortened_to, site_keeping, stand_after, stands}
@@ -44,7 +43,7 @@ use Rattle.rubis_keep.specs.Shortened.{state_after}
 use Rattle.rubis_lives.specs.Shops.{IsPrefix, text_of, words_of}
 use Rattle.rubis_lives.specs.Histories.End.{IsRewritten, PowerFails}
 use Rattle.rubis_lives.proofs.FolderFacts.{folders-are-a-run}
-use Rattle.rubis_keep.proofs.HistoryFacts.{answers-shown, answers-told, safe-answers, safe-append, safe-keeps, safe-last}
+use Rattle.rubis_keep.proofs.HistoryFacts.{answers-append, answers-shown, answers-told, safe-answers, safe-append, safe-keeps, safe-last}
 use Rattle.rubis_lives.proofs.RewritingFacts.{Records}
 use Rattle.rubis_lives.proofs.SiteLivesFacts.{shortened-opened}
 
