@@ -67,7 +67,7 @@ def sent_in(rest: bytes) -> bytes:
 
 
 def packet_of(keeper: "Keeper", fields: Sequence[bytes], rest: bytes, more: int) -> Packet:
-    """The packet that an answer sends: a message with that ask, or a pass behind so many messages of its site."""
+    """The packet that an answer sends: a message with that ask, or a pass with how many messages of its site are before it."""
     if fields[2] == b"ok":
         return "m", keeper.number, int(fields[3].split(b".")[1]), more
     turn, to = (int(field) for field in sent_in(rest).split(b",")[2:4])

@@ -45,7 +45,7 @@ moves_of actions = map move_of (steps_of actions)
 
 -- ---- each worker in turn
 
--- what each worker has in hand: nothing, or a piece of which so many parts are still to be folded
+-- what each worker has in hand: nothing, or a piece, with how many of its parts are still to be folded
 abbrev pub Hands : Type 0
 Hands = List (Option ℕ)
 
