@@ -28,8 +28,6 @@ MODULE = re.compile(r"(?:pub )?mod ")
 BEFORE = re.compile(r"(?:(?:abbrev|pub|unfoldable|opaque|instance|record|data|private|ruleset) )*")
 # Files whose names are the toolchain's: they answer goals, or list a crate's modules.
 OF_GOALS = {"Answers", "Invariants", "Proof", "Lib"}
-# Lemmas that go with the next change of their crate: without them all that stands on it would have to be proved anew for a line.
-LATER = {"on_ok_both"}
 
 
 @dataclass
@@ -84,7 +82,7 @@ def unnamed() -> list[str]:
         text = COMMENT.sub("", file.read_text())
         used.update(words_of("\n".join(line for line in text.split("\n") if not IMPORT.match(line) or "pub use" in line)))
         if file.stem not in OF_GOALS and "Example" not in str(file):
-            found += [it for it in definitions(file, text) if "◌" not in it.name and it.name not in LATER]
+            found += [it for it in definitions(file, text) if "◌" not in it.name]
     for file in sources("crates/*/src/**/*.rt"):
         lines = (line for line in file.read_text().split("\n") if not line.lstrip().startswith("ghost use "))
         # The code has `_` where a lemma's name has `-`.

@@ -1,12 +1,9 @@
 -- How a check goes on.
-use Rattle.std.proofs.Common.{◌≡◌, ◌∙◌, ◌+◌, ◌++◌, ◌∷◌, [], ℕ, List, Option, true, false, ap, append_assoc, refl, subst, sym}
-use Rattle.std.specs.Prelude.{IfSome, None, Some}
-use Rattle.std.specs.Io.KnownBytes.{Appends}
+use Rattle.rubis_audit.proofs.Common.{◌≡◌, ◌∙◌, ◌+◌, ◌++◌, ◌∷◌, [], ℕ, List, Option, true, false, ap, append_assoc, refl, subst, sym, IfSome, None}
+use Rattle.rubis_audit.proofs.Common.{Some, Appends, ReadsNext, rows_text, text-goes}
 use Rattle.csv.specs.declared.reader.Reader.{Reader}
 use Rattle.csv.proofs.WriteFacts.{appends-more, appends-none}
-use Rattle.rubis_engine.specs.Reading.{HasToGive, ReadsNext}
-use Rattle.rubis_engine.specs.Text.{rows_text}
-use Rattle.rubis_engine.proofs.TextFacts.{text-goes}
+use Rattle.rubis_engine.specs.Reading.{HasToGive}
 use Rattle.rubis_audit.specs.Checking.{HasChecked, HasCheckedAll, HasRowOf, checker_after, fault_for, none_so_far, place_for, recent}
 use Rattle.rubis_audit.specs.Checking.{row_for, rows_from, tally_for, tally_from}
 use Rattle.rubis_audit.specs.declared.checker.Check.{Check}

@@ -1,33 +1,24 @@
 -- How an auditor goes on with the records that it reads.
-use Rattle.std.proofs.Common.{ℕ, ◌≡◌, ◌∙◌, List, [], ◌∷◌, Bool, true, false, cond, refl, ap, Option, Some, None, ◌+◌, ◌++◌, sym, subst, ⊎_elim, arith, ◌≢◌, ◌≤◌}
-use Rattle.std.specs.Prelude.{bytes_eq, codes, nat_lt, option_and_then, option_map, OnErr, OnOk, Result, Ok, Err, reverse, suc, IfSome}
-use Rattle.std.specs.Option.{option_or}
+use Rattle.rubis_audit.proofs.Common.{ℕ, ◌≡◌, ◌∙◌, List, [], ◌∷◌, Bool, true, false, cond, refl, ap, Option, Some, None, ◌+◌, ◌++◌, sym, subst}
+use Rattle.rubis_audit.proofs.Common.{⊎_elim, arith, ◌≢◌, ◌≤◌, bytes_eq, nat_lt, option_and_then, option_map, Ok, reverse, suc, IfSome, option_or}
+use Rattle.rubis_audit.proofs.Common.{packet_of, Line, line_of, logs_after, with_line, audit_of, Begin, Claim, Message, sites_of, Log, verdict, Has}
+use Rattle.rubis_audit.proofs.Common.{has_reverse, push_cases, AnswersRecord, rows_text, input_records, GoesOn, Ends, Appends, COUNTED_MAX, Agree}
+use Rattle.rubis_audit.proofs.Common.{Found, HasNoMark, no_mark, rows_back}
+use Rattle.std.specs.Prelude.{codes, OnErr, OnOk, Result, Err}
 use Rattle.rubis_schema.specs.NumberForms.{number_of}
-use Rattle.rubis_message.specs.Readings.{Form, followed_by, beside, check, give, mapped, no_more, take_site, whole, packet_of}
+use Rattle.rubis_message.specs.Readings.{Form, followed_by, beside, check, give, mapped, no_more, take_site, whole}
 use Rattle.rubis_message.specs.declared.tokens.Packet.{Packet}
-use Rattle.rubis_model.specs.AuditRecords.{Line, claim_of, line_of, next_of, take_begin, audit_record, logs_after, with_line, audit_of, verdict_record}
-use Rattle.rubis_model.specs.AuditRecords.Line.{Begin, Claim}
+use Rattle.rubis_model.specs.AuditRecords.{claim_of, next_of, take_begin, audit_record, verdict_record}
+use Rattle.rubis_engine.specs.Accounts.Ending.{AtEnd}
+use Rattle.std.proofs.lemmas.List.{append_cancel_left}
+use Rattle.rubis_message.specs.declared.answers.Verdict.{Verdict}
+use Rattle.rubis_laws.proofs.Audits.Verdicts.{agreed_audits_are_sound}
+use Rattle.rubis_engine.specs.Progress.{IsDone}
 use Rattle.rubis_audit.specs.Running.{begin_of, is_row, AreRead, HasMessagesAmong, IsCurrentAmong, account_from, answer_text, logs_so_far, read_behind}
 use Rattle.rubis_audit.specs.Running.{rows_for, AuditorState, AgreesOnSoundLogs, agreed_text}
-use Rattle.rubis_message.specs.Message.{Message, sites_of}
-use Rattle.rubis_model.specs.Verdict.{Log, verdict}
-use Rattle.rubis_model.specs.Site.{Has}
-use Rattle.rubis_model.proofs.Settling.{has_reverse, push_cases}
-use Rattle.rubis_engine.specs.Accounts.{AnswersRecord}
-use Rattle.rubis_engine.specs.Accounts.Ending.{AtEnd}
-use Rattle.rubis_engine.specs.Text.{rows_text, input_records}
-use Rattle.rubis_engine.specs.declared.service.Course.TheVariants.{GoesOn, Ends}
 use Rattle.rubis_audit.specs.Walks.{HaveMessagesAmong}
 use Rattle.rubis_audit.specs.declared.auditor.LogQuestion.{LogQuestion}
 use Rattle.rubis_audit.specs.declared.auditor.LogQuestion.TheVariants.{Agreement, Lacks}
-use Rattle.std.specs.Io.KnownBytes.{Appends}
-use Rattle.std.proofs.lemmas.List.{append_cancel_left}
-use Rattle.rubis_schema.specs.declared.limits.TheConstants.{COUNTED_MAX}
-use Rattle.rubis_message.specs.declared.answers.Verdict.{Verdict}
-use Rattle.rubis_message.specs.declared.answers.Verdict.TheVariants.{Agree, Found}
-use Rattle.rubis_laws.proofs.Audits.Verdicts.{agreed_audits_are_sound}
-use Rattle.rubis_engine.specs.Progress.{IsDone}
-use Rattle.rubis_engine.proofs.ReadBack.{HasNoMark, no_mark, rows_back}
 
 -- what `site` is read as, once its tests are known
 abbrev behind : Bool → Form Line → Form Line

@@ -1,13 +1,11 @@
 -- Rows that are compared with claimed ones.
-use Rattle.std.proofs.Common.{ℕ, ◌≡◌, ◌==◌, List, [], ◌∷◌, Some, length, refl, sym, ap, ◌∙◌}
-use Rattle.std.specs.Prelude.{◌↔◌, Bool, Decides, IsTrue, None, Option, bytes_eq, cond, false, not, true}
-use Rattle.std.specs.Option.{option_map_or}
+use Rattle.rubis_audit.proofs.Common.{ℕ, ◌≡◌, ◌==◌, List, [], ◌∷◌, Some, length, refl, sym, ap, ◌∙◌, Bool, None, Option, bytes_eq, cond, false, not}
+use Rattle.rubis_audit.proofs.Common.{true, option_map_or, Decides-eqb, nil_from_length, same_rows}
+use Rattle.std.specs.Prelude.{◌↔◌, Decides, IsTrue}
 use Rattle.std.specs.Cmp.Lexicographic.{bytes_decides, pointwise}
-use mathlib.Core.Bool.{true≢false}
-use Rattle.std.proofs.lemmas.Bool.Decides.{Decides-and, Decides-eqb, Decides-like, same_from_decides}
-use Rattle.std.proofs.lemmas.List.{nil_from_length}
+use Rattle.std.proofs.lemmas.Bool.Decides.{Decides-and, Decides-like, same_from_decides}
 use Rattle.std.proofs.lemmas.Option.{same_Some}
-use Rattle.rubis_model.specs.Verdict.{same_rows}
+use mathlib.Core.Bool.{true≢false}
 use Rattle.rubis_audit.specs.Claimed.{Rows, behind_row, behind_rows}
 
 Decides-record : (a b : List (List ℕ)) → Decides (pointwise bytes_eq a b) (a ≡ b)

@@ -1,63 +1,54 @@
 -- What is known of the messages before an entry, and how an entry without fault goes on with it.
-use Rattle.std.proofs.Common.{ℕ, ◌≡◌, ◌+◌, ◌≤◌, ◌<◌, zero, suc, Bool, true, false, refl, sym, ap, ◌∙◌, arith, ⊎_elim, List, [], ◌∷◌, ◌++◌, subst, Some, None}
-use Rattle.std.proofs.Common.{length, get_or, cond, Option, inl, inr, ◌-◌, append_assoc}
-use Rattle.std.specs.Prelude.{◌&&◌, ◌||◌, ◌==◌, not, nat_lt, ⊤, reverse, slice_index, bytes_eq, nat_le, IsSome, IfSome, is_some, option_map, option_and_then}
-use Rattle.std.specs.Prelude.{option_copied, ◌⊎◌}
-use Rattle.std.specs.List.{list_any, range_with_len}
-use mathlib.Core.Bool.{true≢false}
-use Rattle.std.proofs.lemmas.Bool.{and_from, lt-ltb, or_cases, and_parts, cases_eq, cases_lt}
-use Rattle.std.proofs.lemmas.Bool.Decides.{Decides-eqb, nat_tests}
+use Rattle.rubis_audit.proofs.Common.{ℕ, ◌≡◌, ◌+◌, ◌≤◌, ◌<◌, zero, suc, Bool, true, false, refl, sym, ap, ◌∙◌, arith, ⊎_elim, List, [], ◌∷◌, ◌++◌}
+use Rattle.rubis_audit.proofs.Common.{subst, Some, None, length, get_or, cond, Option, inl, inr, ◌-◌, append_assoc, ◌&&◌, ◌||◌, ◌==◌, not, nat_lt, ⊤}
+use Rattle.rubis_audit.proofs.Common.{reverse, slice_index, bytes_eq, IfSome, option_map, option_and_then, option_copied, list_any, range_with_len}
+use Rattle.rubis_audit.proofs.Common.{cases_lt, Decides-eqb, nat_tests, Message, sites_of, IsMessage, dep, shown_rows, last_red, checks, first_of}
+use Rattle.rubis_audit.proofs.Common.{same_id, RowKey, option_or, option_map_or, Id, append-nil, is_red, refers_of, Decides-same_message, Released}
+use Rattle.rubis_audit.proofs.Common.{Has, counted, counts, Ready, has_back, has_left, has_reverse, has_right, found, counted_reverse, reds_reverse}
+use Rattle.rubis_audit.proofs.Common.{push_cases, cores_push, reverse_push, IsAmong, clock_of, counts_at, Tables, row_by_key, core, cores, Bor, Kind}
+use Rattle.std.specs.Prelude.{nat_le, IsSome, is_some, ◌⊎◌}
+use Rattle.std.proofs.lemmas.Bool.{and_from, lt-ltb, or_cases, and_parts, cases_eq}
 use Rattle.std.proofs.lemmas.List.Folds.{list_any_at, find-append}
 use Rattle.std.proofs.lemmas.List.FromFn.{length-range_with_len, get_or-range_with_len}
-use Rattle.rubis_message.specs.Message.{Message, sites_of, IsMessage, dep}
-use Rattle.rubis_model.specs.Verdict.{at_some_site, shown_rows, clash, clashes, forgets, is_early, is_not_next, last_red, out_of_order, comes_before, red_gap}
-use Rattle.rubis_model.specs.Verdict.{takes_number, is_known, wrong_reference, checks, first_of}
-use Rattle.std.specs.FinMap as map
+use Rattle.rubis_model.specs.Verdict.{at_some_site, clash, clashes, forgets, is_early, is_not_next, out_of_order, comes_before, red_gap, takes_number}
+use Rattle.rubis_model.specs.Verdict.{is_known, wrong_reference}
 use Rattle.std.specs.FinMap.Entries.{by_order, put}
 use Rattle.std.specs.declared.cmp.Ordering.TheVariants.{Less, Equal, Greater}
-use Rattle.rubis_schema.specs.Keys.{key_order, same_id}
+use Rattle.rubis_schema.specs.Keys.{key_order}
 use Rattle.rubis_schema.specs.KeyLaws.{key_total, Decides-same_id}
 use Rattle.rubis_schema.specs.declared.limits.TheConstants.{CATEGORIES}
-use Rattle.rubis_schema.specs.declared.listings.Listing.TheVariants as listing
-use Rattle.rubis_schema.specs.declared.row_keys.RowKey.{RowKey}
-use Rattle.rubis_schema.specs.declared.row_keys.RowKey.TheVariants as key
 use Rattle.rubis_schema.specs.declared.rows.Row.{Row}
 use Rattle.rubis_shadow.specs.Tables.{categories_from, new_category, opening}
 use Rattle.rubis_model.specs.Listings.{records_of, row_record}
 use Rattle.rubis_shard.proofs.Openings.{none_there}
-use Rattle.std.specs.Option.{option_or, option_map_or, option_eq}
-use Rattle.rubis_schema.specs.declared.ids.Id.{Id}
-use Rattle.rubis_audit.specs.Walks.{by_message_id, by_red, clash_by_id, differs_by, early_by, exceeds, forgets_by_id, gap_by, last_of, not_next_by, order_by}
-use Rattle.rubis_audit.specs.Walks.{taken_by_red, IsFaultless, closed_in, known_in, nick_taken_in, outbid_in, stock_short_in, wrong_category_in}
-use Rattle.rubis_audit.specs.Walks.{wrong_reference_in, wrong_winner_in, Shows, Sees, id_in, checks_by}
-use Rattle.std.proofs.lemmas.List.{get_or_past, append-nil, reverse-reverse}
-use Rattle.rubis_shadow.specs.Shadows.{is_red, refers_of}
-use Rattle.rubis_message.specs.Equal.{same_message, Decides-same_message}
-use Rattle.rubis_model.specs.System.{Released}
-use Rattle.rubis_model.specs.Site.{Has, counted, reds, counts, Ready}
-use Rattle.rubis_model.proofs.Settling.{has_append, has_back, has_left, has_reverse, has_right, found, red_within, counted_reverse, reds_reverse, push_cases}
-use Rattle.rubis_model.proofs.Settling.{cores_push, reverse_push}
-use Rattle.rubis_release.specs.Release.{IsAmong, clock_of}
-use Rattle.rubis_release.proofs.Keeping.{counts_at}
-use Rattle.rubis_schema.specs.Tables.{Tables}
+use Rattle.std.specs.Option.{option_eq}
+use Rattle.std.proofs.lemmas.List.{get_or_past, reverse-reverse}
+use Rattle.rubis_message.specs.Equal.{same_message}
+use Rattle.rubis_model.specs.Site.{reds}
+use Rattle.rubis_model.proofs.Settling.{has_append, red_within}
 use Rattle.rubis_schema.specs.declared.rows.Best.{Best}
 use Rattle.rubis_schema.specs.declared.rows.ItemRow.{ItemRow}
 use Rattle.rubis_schema.specs.declared.rows.UserRow.{UserRow}
 use Rattle.rubis_schema.specs.declared.offers.NewItem.{NewItem}
 use Rattle.rubis_shadow.specs.declared.shadows.Shadow.{Shadow}
 use Rattle.rubis_shadow.specs.declared.shadows.Shadow.TheVariants.{User, Item, Bid, Buy, Close, Comment, Restock, Rename}
-use Rattle.rubis_generate.specs.Decision.{as_item_row, as_user_row, is_ended, item_in, row_by_key}
+use Rattle.rubis_generate.specs.Decision.{as_item_row, as_user_row, is_ended, item_in}
 use Rattle.rubis_model.specs.Checks.{nick_taken, stock_short, wrong_category, wrong_winner, Checked, Follows, has_id}
-use Rattle.rubis_model.specs.Log.{Core, core, cores}
-use Rattle.rubis_model.specs.Meaning.{as_bid, as_item, as_user, at_id, best_bid, best_of, close_of, item_at, item_row, is_same_nick, meaning_row, named}
-use Rattle.rubis_model.specs.Meaning.{nick_at, user_row, sale_after, sold_of, supply, total, user_at, when, count}
-use Rattle.std.specs.Borrow.{Bor}
-use Rattle.rubis_audit.specs.declared.seen.Seen.{Seen}
-use Rattle.rubis_message.specs.declared.answers.Kind.{Kind}
-use Rattle.rubis_message.specs.declared.answers.Kind.TheVariants as kind
+use Rattle.rubis_model.specs.Log.{Core}
+use Rattle.rubis_model.specs.Meaning.{as_bid, as_item, as_user, at_id, best_bid, best_of, close_of, item_at, item_row, is_same_nick, meaning_row}
+use Rattle.rubis_model.specs.Meaning.{named, nick_at, user_row, sale_after, sold_of, supply, total, user_at, when, count}
 use Rattle.rubis_laws.proofs.Audits.AuditReadings.{fits}
 use Rattle.rubis_laws.proofs.Order.Deciding.{checked_end, count_reds, new_here, number_is}
 use Rattle.rubis_laws.proofs.Audits.Verdicts.{AreClean}
+use mathlib.Core.Bool.{true≢false}
+use Rattle.std.specs.FinMap as map
+use Rattle.rubis_schema.specs.declared.listings.Listing.TheVariants as listing
+use Rattle.rubis_schema.specs.declared.row_keys.RowKey.TheVariants as key
+use Rattle.rubis_audit.specs.Walks.{by_message_id, by_red, clash_by_id, differs_by, early_by, exceeds, forgets_by_id, gap_by, last_of, not_next_by, order_by}
+use Rattle.rubis_audit.specs.Walks.{taken_by_red, IsFaultless, closed_in, known_in, nick_taken_in, outbid_in, stock_short_in, wrong_category_in}
+use Rattle.rubis_audit.specs.Walks.{wrong_reference_in, wrong_winner_in, Shows, Sees, id_in, checks_by}
+use Rattle.rubis_audit.specs.declared.seen.Seen.{Seen}
+use Rattle.rubis_message.specs.declared.answers.Kind.TheVariants as kind
 
 none_from : (p : ℕ → Bool) (a n : ℕ) → ((j : ℕ) → a ≤ j → j < a + n → p j ≡ false) → list_any p (range_with_len a n) ≡ false
 none_from p a zero h = refl

@@ -1,3 +1,4 @@
+pub mod Common
 pub mod Collecting
 pub mod Merging
 pub mod CheckFacts

@@ -1,32 +1,26 @@
 -- How logs are merged, and what a log lacks: what is new is what its clock doesn't count.
-use Rattle.std.proofs.Common.{ℕ, ◌≡◌, ◌+◌, ◌<◌, ◌≤◌, zero, suc, List, [], ◌∷◌, ◌++◌, length, get_or, take, drop, Bool, true, false, cond, refl, sym, ap, ◌∙◌}
-use Rattle.std.proofs.Common.{subst, arith, inl, inr, ⊎_elim, drop-cons, add-one, append_assoc, ◌&&◌, ◌==◌, ◌-◌, Option, Some, None}
-use Rattle.std.specs.Prelude.{filter, map, not, nat_lt, reverse, slice_index}
-use Rattle.std.specs.Borrow.{Bor}
-use Rattle.std.proofs.lemmas.Bool.{cond-true, cond-false, cases_lt, true≢false}
-use Rattle.std.proofs.lemmas.Bool.Decides.{nat_tests}
-use Rattle.std.proofs.lemmas.List.{drop_all, take_all, take_more, take-append-drop, append-nil}
+use Rattle.rubis_audit.proofs.Common.{ℕ, ◌≡◌, ◌+◌, ◌<◌, ◌≤◌, zero, suc, List, [], ◌∷◌, ◌++◌, length, get_or, take, drop, Bool, true, false, cond}
+use Rattle.rubis_audit.proofs.Common.{refl, sym, ap, ◌∙◌, subst, arith, inl, inr, ⊎_elim, drop-cons, add-one, append_assoc, ◌&&◌, ◌==◌, ◌-◌, Option}
+use Rattle.rubis_audit.proofs.Common.{Some, None, filter, map, not, nat_lt, reverse, slice_index, Bor, cases_lt, nat_tests, drop_all, take_all}
+use Rattle.rubis_audit.proofs.Common.{take_more, append-nil, MessageCounts, IsReady, advanced, opening_clock, IsMessage, Message, dep, sites_of}
+use Rattle.rubis_audit.proofs.Common.{AreFaultless, lack_rows, lack_rows_from, made_at, red_rows, waits_rows, Log, Released, Has, counted, contained}
+use Rattle.rubis_audit.proofs.Common.{has_back, has_left, has_reverse, push_cases, found, counted_reverse, reverse_push, log_released, AllAmong}
+use Rattle.rubis_audit.proofs.Common.{IsAmong, clock_of, clock_more, counts_at, length_counts, opening_counts, ready_by_clock, rows_text, text-goes}
+use Rattle.rubis_audit.proofs.Common.{flat_map, range_with_len, Id}
+use Rattle.std.proofs.lemmas.Bool.{cond-true, cond-false, true≢false}
+use Rattle.std.proofs.lemmas.List.{take-append-drop}
 use Rattle.std.proofs.lemmas.List.Elements.{filter-append}
-use Rattle.rubis_clock.specs.Clocks.{MessageCounts, IsReady, advanced, opening_clock}
-use Rattle.rubis_message.specs.Message.{IsMessage, Message, dep, sites_of}
-use Rattle.rubis_model.specs.Audit.{AreFaultless, Logged}
-use Rattle.rubis_model.specs.Lack.{awaited, firsts, is_among, lacked, merged, lack_rows, lack_rows_from, made_at, awaited_red, red_rows, waits_rows}
-use Rattle.rubis_model.specs.Verdict.{Log}
-use Rattle.rubis_model.specs.System.{Released}
-use Rattle.rubis_model.specs.Site.{Has, counted}
-use Rattle.rubis_model.proofs.Settling.{contained, has_back, has_left, has_last, has_reverse, push_cases, found, seq_within, counted_reverse, reverse_push}
+use Rattle.rubis_model.specs.Audit.{Logged}
+use Rattle.rubis_model.specs.Lack.{awaited, firsts, is_among, lacked, merged, awaited_red}
+use Rattle.rubis_model.proofs.Settling.{has_last, seq_within}
 use Rattle.rubis_laws.proofs.Runs.Delivering.{ready_forth}
-use Rattle.rubis_laws.proofs.Lacking.InOrder.{among_in, log_released, of_merged, released_front, released_push, in_merged}
+use Rattle.rubis_laws.proofs.Lacking.InOrder.{among_in, of_merged, released_front, released_push, in_merged}
 use Rattle.rubis_laws.proofs.Runs.Written.{listed}
-use Rattle.rubis_release.specs.Release.{AllAmong, IsAmong, clock_of}
-use Rattle.rubis_release.proofs.Keeping.{clock_more, counts_at, length_counts, opening_counts, ready_by_clock}
+use Rattle.rubis_engine.proofs.TextFacts.{text-more}
+use Rattle.std.specs.List.{cons_option, filter_map}
 use Rattle.rubis_audit.specs.Walks.{IsMerged, HaveMessagesAmong, messages_of_logs}
 use Rattle.rubis_audit.proofs.Walking.{among_at, sites_at}
-use Rattle.rubis_engine.specs.Text.{rows_text}
-use Rattle.rubis_engine.proofs.TextFacts.{text-goes, text-more}
 use Rattle.rubis_audit.specs.Running.{none_lost, for_row, for_rows, for_rows_from}
-use Rattle.std.specs.List.{cons_option, filter_map, flat_map, range_with_len}
-use Rattle.rubis_schema.specs.declared.ids.Id.{Id}
 
 pub drop_at : {X : Type 0} (xs : List X) (n : ℕ) (x : X) → n < length xs → x ≡ get_or xs n x → drop n xs ≡ x ∷ drop (n + 1) xs
 drop_at xs n x l e = drop-cons xs n x l ∙ (λ i. sym e i ∷ drop (sym (add-one n) i) xs)

@@ -1,22 +1,18 @@
 -- How a widener goes on with the records that it reads.
-use Rattle.std.proofs.Common.{ℕ, ◌≡◌, ◌∙◌, ◌+◌, List, [], ◌∷◌, ◌++◌, length, Option, Some, None, refl, sym, ap, arith, ◌≢◌, ◌≤◌, map, subst, ⊎_elim}
-use Rattle.std.specs.Prelude.{option_and_then, option_map, Ok}
-use Rattle.rubis_model.specs.AuditRecords.{Line, line_of, line_record, with_line, IsLine, audit_of, logs_after}
-use Rattle.rubis_model.specs.AuditRecords.Line.{Begin, Claim, Next}
-use Rattle.rubis_model.specs.Verdict.{Log}
+use Rattle.rubis_audit.proofs.Common.{ℕ, ◌≡◌, ◌∙◌, ◌+◌, List, [], ◌∷◌, ◌++◌, length, Option, Some, None, refl, sym, ap, arith, ◌≢◌, ◌≤◌, map, subst}
+use Rattle.rubis_audit.proofs.Common.{⊎_elim, option_and_then, option_map, Ok, Line, line_of, with_line, audit_of, logs_after, Begin, Claim, Log}
+use Rattle.rubis_audit.proofs.Common.{AnswersRecord, rows_text, input_records, GoesOn, COUNTED_MAX, line_only, HasNoMark, no_mark, rows_back}
+use Rattle.rubis_model.specs.AuditRecords.{line_record, IsLine}
+use Rattle.rubis_model.specs.AuditRecords.Line.{Next}
 use Rattle.rubis_model.specs.Widening.{widened_line, widened_record}
-use Rattle.rubis_engine.specs.Accounts.{AnswersRecord}
 use Rattle.rubis_engine.specs.Rows.{more_written}
-use Rattle.rubis_engine.specs.Text.{rows_text, input_records}
-use Rattle.rubis_engine.specs.declared.service.Course.TheVariants.{GoesOn}
+use Rattle.rubis_laws.proofs.Audits.AuditReadings.{after_line}
+use Rattle.rubis_laws.proofs.Widening.WidenedRecords.{audit_stays}
+use Rattle.rubis_engine.proofs.ReadBack.{HaveFields}
 use Rattle.rubis_audit.specs.Forms.{logs_at, place_after, place_in, place_of}
 use Rattle.rubis_audit.specs.Running.{bad_record, widened_rows, widening_from, WidenedAuditStays, WidenedTextReadsBack}
 use Rattle.rubis_audit.specs.declared.widener.LinePlace.{LinePlace}
 use Rattle.rubis_audit.specs.declared.widener.LinePlace.TheVariants.{BeforeLogs, InMessages, InRows}
-use Rattle.rubis_schema.specs.declared.limits.TheConstants.{COUNTED_MAX}
-use Rattle.rubis_laws.proofs.Audits.AuditReadings.{after_line, line_only}
-use Rattle.rubis_laws.proofs.Widening.WidenedRecords.{audit_stays}
-use Rattle.rubis_engine.proofs.ReadBack.{HasNoMark, HaveFields, no_mark, rows_back}
 
 begins : (p : LinePlace) (site : ℕ) → place_after p (Begin site) ≡ Some InMessages
 begins BeforeLogs site = refl

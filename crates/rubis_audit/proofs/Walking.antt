@@ -1,37 +1,30 @@
 -- How a walk goes on: over a log, and from log to log.
-use Rattle.std.proofs.Common.{ℕ, ◌≡◌, ◌+◌, ◌*◌, ◌^◌, ◌≤◌, ◌<◌, zero, suc, List, [], ◌∷◌, ◌++◌, length, get_or, take, drop, Bool, true, false, cond, replicate}
-use Rattle.std.proofs.Common.{refl, sym, ap, ◌∙◌, subst, arith, Option, Some, None, inl, inr, drop-cons, add-one, append_assoc}
-use Rattle.std.specs.Prelude.{option_map, reverse, not, slice_get, find, unwrap_or}
-use Rattle.std.specs.FinMap as map
-use Rattle.std.specs.Option.{option_or, option_map_or}
-use Rattle.std.proofs.lemmas.List.{append-nil, drop_all, get_or-replicate, length-replicate, length-take-le, take_all, take_more}
+use Rattle.rubis_audit.proofs.Common.{ℕ, ◌≡◌, ◌+◌, ◌≤◌, ◌<◌, zero, suc, List, [], ◌∷◌, ◌++◌, length, get_or, take, drop, Bool, true, false, cond}
+use Rattle.rubis_audit.proofs.Common.{refl, sym, ap, ◌∙◌, subst, arith, Option, Some, None, inl, inr, drop-cons, add-one, append_assoc, option_map}
+use Rattle.rubis_audit.proofs.Common.{reverse, not, slice_get, find, option_or, option_map_or, append-nil, drop_all, take_all, take_more, Tables}
+use Rattle.rubis_audit.proofs.Common.{is_red, MessageCounts, IsReady, advanced, opening_clock, IsMessage, Message, sites_of, Kind, Agree, Found, core}
+use Rattle.rubis_audit.proofs.Common.{cores, Log, shown_rows, checks, first_of, last_red, verdict, same_rows, table_rows, AreFaultless, Has, Ready}
+use Rattle.rubis_audit.proofs.Common.{counts, cores_push, contained, has_left, has_reverse, has_right, counted_reverse, reds_reverse, reverse_push}
+use Rattle.rubis_audit.proofs.Common.{union, IsAmong, clock_of, clock_more, counts_at, length_counts, ready_by_clock}
+use Rattle.std.proofs.Common.{◌*◌, ◌^◌, replicate}
+use Rattle.std.specs.Prelude.{unwrap_or}
+use Rattle.std.proofs.lemmas.List.{get_or-replicate, length-replicate, length-take-le}
 use Rattle.std.proofs.lemmas.Grind.{flat_map-append, same_number_lists}
 use Rattle.std.proofs.lemmas.Option.{get_or_from_slice_get}
 use Rattle.rubis_schema.specs.Ids.{IsId}
-use Rattle.rubis_schema.specs.Tables.{Tables}
-use Rattle.rubis_schema.specs.declared.listings.Listing.TheVariants as listing
-use Rattle.rubis_shadow.specs.Shadows.{is_red}
-use Rattle.rubis_clock.specs.Clocks.{MessageCounts, IsReady, advanced, opening_clock}
-use Rattle.rubis_message.specs.Message.{IsMessage, Message, sites_of}
-use Rattle.rubis_message.specs.declared.answers.Kind.{Kind}
-use Rattle.rubis_message.specs.declared.answers.Kind.TheVariants as kind
-use Rattle.rubis_message.specs.declared.answers.Verdict.TheVariants.{Agree, Found}
-use Rattle.rubis_model.specs.Log.{core, cores}
-use Rattle.rubis_model.specs.Verdict.{Log, shown_rows, checks, first_fault, first_of, found_or, last_red, log_fault, verdict, same_rows, verdict_from}
-use Rattle.rubis_model.specs.Verdict.{wrong_rows}
-use Rattle.rubis_model.specs.Listings.{table_rows}
-use Rattle.rubis_model.specs.Audit.{AreAmong, AreFaultless, AreSound}
-use Rattle.rubis_model.specs.Site.{Has, Ready, counts}
-use Rattle.rubis_model.proofs.Settling.{cores_length, cores_push, contained, has_left, has_reverse, has_right, counted_reverse, reds_reverse, reverse_push}
+use Rattle.rubis_model.specs.Verdict.{first_fault, found_or, log_fault, verdict_from, wrong_rows}
+use Rattle.rubis_model.specs.Audit.{AreAmong, AreSound}
+use Rattle.rubis_model.proofs.Settling.{cores_length}
 use Rattle.rubis_laws.proofs.Rows.FoldIsMeaning.{fold_is_meaning}
 use Rattle.rubis_laws.proofs.Runs.Invariants.{checked_holds}
 use Rattle.rubis_laws.proofs.Rows.Lengths.{log_small}
 use Rattle.rubis_laws.proofs.Audits.Verdicts.{faultless_sound, agree_faultless, clean}
-use Rattle.rubis_shard.specs.Holdings.{HoldsLog, TakesOn, union}
+use Rattle.rubis_shard.specs.Holdings.{HoldsLog, TakesOn}
 use Rattle.rubis_shard.specs.States.{ShardState}
 use Rattle.rubis_shard.proofs.Unions.{union_of_log}
-use Rattle.rubis_release.specs.Release.{IsAmong, clock_of}
-use Rattle.rubis_release.proofs.Keeping.{clock_more, counts_at, length_counts, ready_by_clock}
+use Rattle.std.specs.FinMap as map
+use Rattle.rubis_schema.specs.declared.listings.Listing.TheVariants as listing
+use Rattle.rubis_message.specs.declared.answers.Kind.TheVariants as kind
 use Rattle.rubis_audit.specs.Walks.{clash_by_id, IsFaultless, Remembers, Shows, checks_by, Sees, HaveMessagesAmong, IsWalked, Walked, messages_of_logs}
 use Rattle.rubis_audit.specs.declared.seen.Seen.{Seen}
 use Rattle.rubis_audit.proofs.Judging.{nothing_shown, checks_are, known_log, known_push, ready}

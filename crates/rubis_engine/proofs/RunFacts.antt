@@ -147,11 +147,6 @@ pub prefix-same : (all : List (List (List ℕ)) → List ℕ) (old now now2 : Op
     → WrotePrefix all old now records → now2 ≡ now → WrotePrefix all old now2 records
 prefix-same all old now now2 records w same = (w.0, w.1, rw same w.2, w.3)
 
--- what follows from two facts of a call that went well
-pub on_ok_both : {T E : Type 0} {P Q S : Type 0} (r : Result T E) → (P → Q → S) → OnOk r P → OnOk r Q → OnOk r S
-on_ok_both (Ok v) f p q = f p q
-on_ok_both (Err e) f p q = tt
-
 -- what follows from two facts of an answer
 pub if_ok_both : {T E : Type 0} {P Q S : T → Type 0} (r : Result T E) → ((x : T) → P x → Q x → S x) → IfOk r P → IfOk r Q → IfOk r S
 if_ok_both (Ok v) f p q = f v p q

@@ -9,12 +9,12 @@ use crate::telling::{Host, Stop, TRIES, tell_refused, tell_rows};
 use rubis_board::Poster;
 use rubis_listing::tables as list_tables;
 use rubis_message::Message;
-use rubis_pieces::{Left, Places, count_behind, follow_rest, gather};
+use rubis_pieces::{Left, Places, count_behind, gather};
 use rubis_pool_core::{Event, Pool, run};
 use rubis_shard::Tables;
 use rubis_tests::purchases::{SCHEDULE, both_pieces, has_purchase, piece, two_shares};
 use rubis_workers::{
-    Free, LogBatch, Pace, Unstarted, Worked, Workers, apply_all, apply_batch, apply_beside,
+    Free, LogBatch, Pace, Unstarted, Worked, Workers, apply_all, apply_batch, apply_beside, follow_rest,
 };
 use std::sync::Arc;
 
@@ -122,7 +122,7 @@ fn apply_shared(rt: &impl Host, tables: &mut Tables, messages: &[Message]) -> Re
     }
     let parts = count_behind(messages, 0, &stops);
     let _ = println!(rt; "! apply_batch: {parts} parts");
-    follow_rest(tables, messages, &mut stops, batch.upto);
+    follow_rest(tables, messages, &mut stops, batch.upto, &*workers.gate);
     if count_behind(messages, 0, &stops) == 0 {
         Ok(())
     } else {

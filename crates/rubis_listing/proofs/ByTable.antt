@@ -1,30 +1,23 @@
 -- Entries in key order stand table by table.
-use Rattle.std.proofs.Common.{◌≡◌, ℕ, ◌+◌, ◌<◌, ◌≤◌, inl, inr, Bool, true, false, cond, T, List, [], ◌∷◌, ◌++◌, ◌&&◌, length, length-append, refl, sym, ap, ◌∙◌}
-use Rattle.std.proofs.Common.{arith}
-use Rattle.std.specs.Prelude.{⊤, filter, flat_map, nat_eq, nat_le, nat_lt, not, ◌==◌}
+use Rattle.rubis_listing.proofs.Common.{◌≡◌, ℕ, ◌+◌, ◌<◌, ◌≤◌, inl, inr, Bool, true, false, cond, List, [], ◌∷◌, ◌++◌, length, length-append, refl}
+use Rattle.rubis_listing.proofs.Common.{sym, ap, ◌∙◌, arith, filter, not, append-nil, shows_nothing, Tables, holds, Listing, RowKey, Table, CatRow}
+use Rattle.rubis_listing.proofs.Common.{Row, rows_of, category_record, records_of, row_record, table_rows, number_of, recorded_from}
+use Rattle.std.proofs.Common.{T, ◌&&◌}
+use Rattle.std.specs.Prelude.{⊤, flat_map, nat_eq, nat_le, nat_lt, ◌==◌}
 use Rattle.std.specs.Cmp.Lexicographic.{slice_cmp}
 use Rattle.std.specs.Ordering.{nat_cmp, is_lt, ordering_then}
 use Rattle.std.specs.declared.cmp.Ordering.{Ordering}
 use Rattle.std.specs.declared.cmp.Ordering.TheVariants.{Less, Equal, Greater}
-use Rattle.std.specs.FinMap as map
 use Rattle.std.specs.FinMap.Entries.{below_all, is_sorted}
 use Rattle.std.proofs.lemmas.Bool.{cases_order, eqb-true, ltb-true}
 use Rattle.std.proofs.lemmas.Bool.Decides.{nat_tests}
-use Rattle.std.proofs.lemmas.List.{append-nil}
-use Rattle.rubis_schema.specs.Tables.{shows_nothing, Tables}
-use Rattle.rubis_schema.specs.Keys.{holds, key_code, key_order, table_of}
-use Rattle.rubis_schema.specs.declared.listings.Listing.{Listing}
+use Rattle.rubis_schema.specs.Keys.{key_code, key_order, table_of}
+use Rattle.rubis_shard.specs.Listed.{has_record}
+use Rattle.std.specs.FinMap as map
 use Rattle.rubis_schema.specs.declared.listings.Listing.TheVariants as listing
-use Rattle.rubis_schema.specs.declared.row_keys.RowKey.{RowKey}
 use Rattle.rubis_schema.specs.declared.row_keys.RowKey.TheVariants as key
-use Rattle.rubis_schema.specs.declared.row_keys.Table.{Table}
 use Rattle.rubis_schema.specs.declared.row_keys.Table.TheVariants as table
-use Rattle.rubis_schema.specs.declared.rows.CatRow.{CatRow}
-use Rattle.rubis_schema.specs.declared.rows.Row.{Row}
 use Rattle.rubis_schema.specs.declared.rows.Row.TheVariants as row
-use Rattle.rubis_shadow.specs.Tables.{rows_of}
-use Rattle.rubis_model.specs.Listings.{category_record, records_of, row_record, table_rows}
-use Rattle.rubis_shard.specs.Listed.{has_record, number_of, recorded_from}
 use Rattle.rubis_listing.specs.Parts.{tables_of, after, rows_after, rows_from_table}
 use Rattle.rubis_listing.proofs.Selecting.{Entries, IsWithin, bids_within, categories_within, comments_within, items_within, one_table, purchases_within}
 use Rattle.rubis_listing.proofs.Selecting.{records_append, shows_none, users_within}

@@ -1,3 +1,4 @@
+pub mod Common
 pub mod Selecting
 pub mod ByTable
 pub mod Making

@@ -1,25 +1,19 @@
 -- Rows and the records that they add, one after the other, by ranges and by sources.
-use Rattle.std.proofs.Common.{◌≡◌, ℕ, ◌+◌, ◌<◌, ◌≤◌, List, [], ◌∷◌, ◌++◌, append_assoc, drop, length, sym, ap, ◌∙◌, suc, arith, ◌-◌, take, refl, zero, ◌*◌, min}
-use Rattle.std.proofs.Common.{subst, length-append}
-use Rattle.std.specs.List.{AllZip, range_with_len}
-use Rattle.std.specs.Prelude.{Err, IfOk, MatchResult, Ok, map, slice_index_or, slice_range, Option, Some, None}
+use Rattle.rubis_listing.proofs.Common.{◌≡◌, ℕ, ◌+◌, ◌<◌, ◌≤◌, List, [], ◌∷◌, ◌++◌, drop, length, sym, ap, ◌∙◌, arith, ◌-◌, refl, ◌*◌, subst}
+use Rattle.rubis_listing.proofs.Common.{length-append, AllZip, range_with_len, IfOk, slice_index_or, slice_range, Option, None, append-nil, Tables}
+use Rattle.rubis_listing.proofs.Common.{Listing, RowKey, Table, Row, rows_of, records_of, log_from, log_record, misfit_rows, flat_map-append}
+use Rattle.std.proofs.Common.{append_assoc, suc, take, zero, min}
+use Rattle.std.specs.Prelude.{Err, MatchResult, Ok, map, Some}
 use Rattle.std.specs.declared.alloc.AllocError.{AllocError}
 use Rattle.std.specs.declared.result.Result.{Result}
-use Rattle.std.proofs.lemmas.List.{append-nil, drop_all, drop_more, length-drop, length-take-le}
-use Rattle.rubis_schema.specs.Tables.{Tables}
-use Rattle.rubis_schema.specs.declared.listings.Listing.{Listing}
-use Rattle.rubis_schema.specs.declared.row_keys.RowKey.{RowKey}
-use Rattle.rubis_schema.specs.declared.row_keys.Table.{Table}
-use Rattle.rubis_schema.specs.declared.rows.Row.{Row}
-use Rattle.rubis_shadow.specs.Tables.{rows_of}
-use Rattle.rubis_model.specs.Listings.{records_of, log_from, log_record, misfit_record, misfit_rows}
-use Rattle.rubis_listing.proofs.ByTable.{rows_by_table}
-use Rattle.rubis_listing.proofs.Selecting.{records_append}
+use Rattle.std.proofs.lemmas.List.{drop_all, drop_more, length-drop, length-take-le}
+use Rattle.rubis_model.specs.Listings.{misfit_record}
 use Rattle.std.proofs.Math.Seq.{drop-cons}
 use Rattle.rubis_message.specs.Message.{Message}
 use Rattle.rubis_shadow.specs.declared.numbered.Misfit.{Misfit}
-use Rattle.std.proofs.lemmas.Grind.{flat_map-append}
 use Rattle.std.proofs.lemmas.List.Folds.{drop_split}
+use Rattle.rubis_listing.proofs.ByTable.{rows_by_table}
+use Rattle.rubis_listing.proofs.Selecting.{records_append}
 use Rattle.rubis_listing.specs.Parts.{behind, between, rows_of_part, size_of, AreParts, later_rows, rows_of_later, AreCountable, rows_from}
 use Rattle.rubis_listing.specs.declared.sources.Source.{Source}
 use Rattle.rubis_listing.specs.declared.sources.Source.TheVariants.{Rows, Log, Misfits}

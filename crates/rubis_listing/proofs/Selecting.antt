@@ -1,25 +1,18 @@
 -- The records of the rows that match a listing, entry by entry and table by table.
-use Rattle.std.proofs.Common.{◌≡◌, ◌⊎◌, inl, inr, ℕ, Bool, true, false, cond, List, [], ◌∷◌, ◌++◌, refl, sym, ap, ◌∙◌}
-use Rattle.std.specs.Prelude.{filter, not}
+use Rattle.rubis_listing.proofs.Common.{◌≡◌, inl, inr, ℕ, Bool, true, false, cond, List, [], ◌∷◌, ◌++◌, refl, sym, ap, ◌∙◌, filter, not}
+use Rattle.rubis_listing.proofs.Common.{flat_map-append, shows_nothing, Tables, holds, Listing, RowKey, Table, CatRow, Row, rows_of, category_record}
+use Rattle.rubis_listing.proofs.Common.{records_of, row_record, table_rows}
+use Rattle.std.proofs.Common.{◌⊎◌}
 use Rattle.std.specs.List.{flat_map}
-use Rattle.std.proofs.lemmas.Grind.{flat_map-append}
 use Rattle.std.proofs.lemmas.List.Elements.{filter-append}
-use Rattle.std.specs.FinMap as map
-use Rattle.rubis_schema.specs.Tables.{shows_nothing, Tables}
-use Rattle.rubis_schema.specs.Keys.{holds}
 use Rattle.rubis_schema.specs.declared.ids.Id.{Id}
-use Rattle.rubis_schema.specs.declared.listings.Listing.{Listing}
-use Rattle.rubis_schema.specs.declared.listings.Listing.TheVariants as listing
-use Rattle.rubis_schema.specs.declared.row_keys.RowKey.{RowKey}
-use Rattle.rubis_schema.specs.declared.row_keys.RowKey.TheVariants as key
-use Rattle.rubis_schema.specs.declared.row_keys.Table.{Table}
-use Rattle.rubis_schema.specs.declared.row_keys.Table.TheVariants as table
-use Rattle.rubis_schema.specs.declared.rows.CatRow.{CatRow}
-use Rattle.rubis_schema.specs.declared.rows.Row.{Row}
-use Rattle.rubis_schema.specs.declared.rows.Row.TheVariants as row
-use Rattle.rubis_shadow.specs.Tables.{rows_of}
-use Rattle.rubis_model.specs.Listings.{category_record, is_of, records_of, row_record, table_rows}
+use Rattle.rubis_model.specs.Listings.{is_of}
 use Rattle.rubis_shard.specs.Listed.{categories_among, categories_of, listed_of, shown_among, shows}
+use Rattle.std.specs.FinMap as map
+use Rattle.rubis_schema.specs.declared.listings.Listing.TheVariants as listing
+use Rattle.rubis_schema.specs.declared.row_keys.RowKey.TheVariants as key
+use Rattle.rubis_schema.specs.declared.row_keys.Table.TheVariants as table
+use Rattle.rubis_schema.specs.declared.rows.Row.TheVariants as row
 
 abbrev pub Entries : Type 0
 Entries = List (RowKey × Row)

@@ -1,49 +1,41 @@
 -- A shop of two sites, computed on the definitions: the bytes of both folders, lives that end anywhere, and the run that they are.
-use Rattle.std.proofs.Common.{◌≡◌, ◌∙◌, inl, inr, ◌<◌, ◌+◌, ◌++◌, ◌∷◌, [], ℕ, zero, suc, Bool, true, false, List, Some, None, cond, eqb, drop, length, refl}
-use Rattle.std.proofs.Common.{sym, ap, subst, arith, append-nil, take}
-use Rattle.std.specs.Prelude.{MatchBool, Result, codes, map, ⊤}
+use Rattle.rubis_lives.proofs.Common.{◌≡◌, ◌∙◌, inl, inr, ◌<◌, ◌+◌, ◌++◌, ◌∷◌, [], ℕ, zero, suc, Bool, true, false, List, Some, None, cond, eqb, drop}
+use Rattle.rubis_lives.proofs.Common.{length, refl, sym, ap, subst, arith, append-nil, take, MatchBool, Result, codes, map, ⊤, next_record, escaped}
+use Rattle.rubis_lives.proofs.Common.{fields_text, is_blank, Refusal, KEEP_MAX, decision, Rows, Message, site_after, IsShortened, Moment, has_read}
+use Rattle.rubis_lives.proofs.Common.{Reads, Replays, Restarts, answers, output_of, Replica, generating, opening_at, rows_at, standing_of, World, run}
+use Rattle.rubis_lives.proofs.Common.{sending, site, start, input_records, rows_text, Files, AreSafe, Event, FileState, after, after_all, records_in}
+use Rattle.rubis_lives.proofs.Common.{Began, Flushed, Kept, Settled, Shown, Told, AreSound, IsOpened}
 use Rattle.std.specs.Fmt.{digits}
-use Rattle.csv.specs.Machine.{next_record}
 use Rattle.csv.specs.Reading.{records_from, strip_bom}
-use Rattle.csv.specs.Writing.{escaped, fields_text, is_blank}
 use Rattle.rubis_numbers.specs.Numbers.{number_of}
 use Rattle.rubis_schema.specs.FieldForms.{nick_of}
-use Rattle.rubis_schema.specs.declared.refusals.Refusal.{Refusal}
-use Rattle.rubis_schema.specs.declared.limits.TheConstants.{KEEP_MAX}
-use Rattle.rubis_shadow.specs.declared.shadows.Ask.TheVariants as ask
-use Rattle.rubis_shadow.specs.declared.shadows.Shadow.TheVariants as shadow
-use Rattle.rubis_generate.specs.Decision.{decision, Rows}
 use Rattle.rubis_message.specs.Counts.{deps_of}
-use Rattle.rubis_message.specs.Readings.{take_positive, take_site, packet_of, request_of, take_kind, take_listing, take_message, take_packet, take_request}
-use Rattle.rubis_message.specs.Readings.{take_shadow, take_shown, take_stamp, kind_of, shown_of}
-use Rattle.rubis_message.specs.Message.{Message}
-use Rattle.rubis_message.specs.declared.requests.Request.TheVariants as request
+use Rattle.rubis_message.specs.Readings.{take_positive, take_site, packet_of, request_of, take_kind, take_listing, take_message, take_packet}
+use Rattle.rubis_message.specs.Readings.{take_request, take_shadow, take_shown, take_stamp, kind_of, shown_of}
 use Rattle.rubis_message.specs.declared.tokens.Packet.{Packet}
-use Rattle.rubis_message.specs.declared.tokens.Packet.TheVariants as packet
 use Rattle.rubis_model.specs.Listings.{log_from}
 use Rattle.rubis_model.specs.Meaning.{meaning_row}
-use Rattle.rubis_model.specs.Processes.{site_after, CarriedWithRestarts, IsShortened, Moment, WasEverSent, has_read, read_on}
-use Rattle.rubis_model.specs.Processes.Moment.{Reads, Replays, Restarts}
-use Rattle.rubis_model.specs.Site.{answers, output_of, Has, Replica, counts, generating, opening_at, rows_at, standing_of}
-use Rattle.rubis_model.specs.System.{Event as SystemEvent, World, happens, run, sending, site, start}
+use Rattle.rubis_model.specs.Processes.{CarriedWithRestarts, WasEverSent, read_on}
+use Rattle.rubis_model.specs.Site.{Has, counts}
+use Rattle.rubis_model.specs.System.{Event as SystemEvent, happens}
 use Rattle.rubis_model.specs.System.Event.{At, Deliver}
-use Rattle.rubis_engine.specs.Text.{input_records, rows_text}
 use Rattle.rubis_laws.proofs.Rows.FoldIsMeaning.{fold_is_meaning}
 use Rattle.rubis_laws.proofs.Processes.AreARun.{is_itself, is_other}
 use Rattle.rubis_laws.proofs.Examples.ProcessExamples.{ann_answers, ann_is_answered, ann_is_asked, ann_is_sent, no_packet_asked, not_some}
-use Rattle.rubis_keep.specs.History.{Files, Answers, AreSafe, Event, FileState, after, after_all, records_in}
+use Rattle.rubis_keep.specs.History.{Answers}
+use Rattle.rubis_keep.specs.Shortened.{state_after}
+use Rattle.rubis_keep.proofs.HistoryFacts.{answers-append, answers-shown, answers-told, safe-answers, safe-append, safe-keeps, safe-last}
+use Rattle.rubis_shadow.specs.declared.shadows.Ask.TheVariants as ask
+use Rattle.rubis_shadow.specs.declared.shadows.Shadow.TheVariants as shadow
+use Rattle.rubis_message.specs.declared.requests.Request.TheVariants as request
+use Rattle.rubis_message.specs.declared.tokens.Packet.TheVariants as packet
 use Rattle.rubis_lives.specs.Folders.{AreFoldersOfARun}
 use Rattle.rubis_lives.specs.Histories.{ShortensKept, Step, answered_on, keep_after, keeps, moments_in, most, shortened_to, site_keeping, stand_after, stands}
 use Rattle.rubis_lives.specs.Histories.{from_disk, opened_again, taken_by, taken_in, AreLives, AreShopLives, SiteLife, happening, own_steps, steps_of}
 use Rattle.rubis_lives.specs.Histories.Step.{Does, Fails, Happens, Raises, Shortens}
-use Rattle.rubis_keep.specs.History.Event.{Began, Flushed, Kept, Settled, Shown, Told}
-use Rattle.rubis_keep.specs.Lines.{AreSound}
-use Rattle.rubis_keep.specs.Lives.{IsOpened}
-use Rattle.rubis_keep.specs.Shortened.{state_after}
 use Rattle.rubis_lives.specs.Shops.{IsPrefix, text_of, words_of}
 use Rattle.rubis_lives.specs.Histories.End.{IsRewritten, PowerFails}
 use Rattle.rubis_lives.proofs.FolderFacts.{folders-are-a-run}
-use Rattle.rubis_keep.proofs.HistoryFacts.{answers-append, answers-shown, answers-told, safe-answers, safe-append, safe-keeps, safe-last}
 use Rattle.rubis_lives.proofs.RewritingFacts.{Records}
 use Rattle.rubis_lives.proofs.SiteLivesFacts.{shortened-opened}
 

@@ -1,37 +1,25 @@
 -- What the calls of a site promise makes lives, and folders with their lives are a run that keeps its promises.
-use Rattle.std.proofs.Common.{◌≡◌, ◌∙◌, ◌⊎◌, inl, inr, ◌≤◌, ◌++◌, ◌∷◌, [], ℕ, List, Option, Some, None, refl, sym, ap, subst, append-nil, ◌<◌, ◌+◌, arith}
-use Rattle.std.proofs.lemmas.List.{append_cancel_left}
-use Rattle.std.specs.Io.KnownBytes.{Consumes}
-use Rattle.rubis_schema.specs.declared.limits.TheConstants.{KEEP_MAX}
-use Rattle.rubis_model.specs.Processes.{IsShortened, process, read_by, site_after, recorded}
-use Rattle.rubis_model.specs.Site.{Place, opening_at, input_step, Replica}
-use Rattle.rubis_engine.specs.Accounts.Ending.{AtEnd}
-use Rattle.rubis_engine.specs.Text.{input_records}
+use Rattle.rubis_lives.proofs.Common.{◌≡◌, ◌∙◌, ◌⊎◌, inl, inr, ◌≤◌, ◌++◌, ◌∷◌, [], ℕ, List, Option, Some, None, refl, sym, ap, subst, append-nil, ◌<◌}
+use Rattle.rubis_lives.proofs.Common.{◌+◌, arith, append_cancel_left, Consumes, KEEP_MAX, IsShortened, process, read_by, site_after, recorded, Place}
+use Rattle.rubis_lives.proofs.Common.{opening_at, input_step, Replica, AtEnd, input_records, AreSafe, FileState, records_in, IsFrontOf, Lived}
+use Rattle.rubis_lives.proofs.Common.{AreSound, begun_after, kept_of, whole_lines, whole-rest, whole-whole, map, input_of, Message, Input, Asked}
+use Rattle.rubis_lives.proofs.Common.{Came, Neither, Token, sent_on_inputs, World, run, site, start, processes_run, restarts_change_nothing}
+use Rattle.rubis_lives.proofs.Common.{short_state}
 use Rattle.rubis_script.specs.SiteRuns.{answers_of}
-use Rattle.rubis_lives.specs.Calls.{CallsAreLives, RaisedCallsRaise, ShortenedMayReplace}
-use Rattle.rubis_lives.specs.Histories.{RaisesKeep, keeping, keeps, moments_in, most, site_keeping, stands, takes}
-use Rattle.rubis_keep.specs.History.{AreSafe, FileState, History, now, records_in, IsFrontOf, Lived}
-use Rattle.rubis_keep.specs.Lines.{AreSound, begun_after, kept_of, whole_lines}
-use Rattle.rubis_lives.specs.Shops.{text_of, words_of}
-use Rattle.rubis_keep.proofs.SoundFacts.{whole-rest, whole-whole}
-use Rattle.std.specs.Prelude.{map}
-use Rattle.rubis_message.specs.Inputs.{input_of}
-use Rattle.rubis_message.specs.Message.{Message}
-use Rattle.rubis_message.specs.declared.inputs.Input.{Input}
-use Rattle.rubis_message.specs.declared.inputs.Input.TheVariants.{Asked, Came, Neither}
-use Rattle.rubis_message.specs.declared.requests.Request.TheVariants as request
-use Rattle.rubis_message.specs.declared.tokens.Packet.TheVariants as packet
-use Rattle.rubis_message.specs.declared.tokens.Token.{Token}
+use Rattle.rubis_keep.specs.History.{History, now}
 use Rattle.rubis_model.specs.Laws.{IsLogOf}
 use Rattle.rubis_model.specs.Verdict.{Log}
-use Rattle.rubis_model.specs.Rebuild.{after_inputs, inputs_to_rebuild, sent_by, sent_on_inputs}
-use Rattle.rubis_model.specs.System.{AreEvents, Event, World, run, site, start}
-use Rattle.rubis_laws.proofs.Processes.AreARun.{processes_run}
-use Rattle.rubis_laws.proofs.Processes.Restarts.{restarts_change_nothing, short_state}
+use Rattle.rubis_model.specs.Rebuild.{after_inputs, inputs_to_rebuild, sent_by}
+use Rattle.rubis_model.specs.System.{AreEvents, Event}
 use Rattle.rubis_laws.proofs.Rebuilding.RebuildRecords.{inputs_rebuild}
 use Rattle.rubis_laws.proofs.Rebuilding.RebuiltSites.{sites_are_rebuilt}
 use Rattle.rubis_laws.proofs.Runs.EveryRun.{every_run}
 use Rattle.rubis_laws.proofs.Runs.Nicknames.{nicknames_are_unique}
+use Rattle.rubis_lives.specs.Calls.{CallsAreLives, RaisedCallsRaise, ShortenedMayReplace}
+use Rattle.rubis_lives.specs.Histories.{RaisesKeep, keeping, keeps, moments_in, most, site_keeping, stands, takes}
+use Rattle.rubis_lives.specs.Shops.{text_of, words_of}
+use Rattle.rubis_message.specs.declared.requests.Request.TheVariants as request
+use Rattle.rubis_message.specs.declared.tokens.Packet.TheVariants as packet
 use Rattle.rubis_lives.specs.Folders.{AreOfSite, FoldersAreARun, IsRebuiltFolder, KeepsItsPromises}
 use Rattle.rubis_lives.proofs.HistoriesFacts.{come, histories-are-replayed, history-at}
 use Rattle.rubis_lives.proofs.RoomFacts.{taken-state}

@@ -1,27 +1,22 @@
 -- Shops whose sites' histories are interleaved in any way.
-use Rattle.std.proofs.Common.{◌≡◌, ◌∙◌, ◌≤◌, ◌+◌, ◌++◌, ◌∷◌, [], ℕ, zero, suc, Bool, true, false, List, cond, eqb, length, take, refl, sym, ap, subst, arith}
-use Rattle.std.proofs.Common.{append_assoc, append-nil, length-append, ◌⊎◌, inl, inr, ⊎_elim}
+use Rattle.rubis_lives.proofs.Common.{◌≡◌, ◌∙◌, ◌≤◌, ◌+◌, ◌++◌, ◌∷◌, [], ℕ, zero, suc, Bool, true, false, List, cond, eqb, length, take, refl, sym}
+use Rattle.rubis_lives.proofs.Common.{ap, subst, arith, append_assoc, append-nil, length-append, ◌⊎◌, inl, inr, ⊎_elim, MatchBool, ⊤, KEEP_MAX}
+use Rattle.rubis_lives.proofs.Common.{process, read_by, IsShortened, Moment, has_read, recorded, Reads, Replays, Restarts, Place, opening_at}
+use Rattle.rubis_lives.proofs.Common.{processes_run, nothing_left_out, restarts_change_nothing, Event, FileState, Follows, IsSafe, Says, after}
+use Rattle.rubis_lives.proofs.Common.{records_in, IsFrontOf, Began, CutTo, Flushed, Kept, Replied, Settled, Shown, Told, AreSound, whole_lines}
+use Rattle.rubis_lives.proofs.Common.{shortened-append, sound-front}
 use Rattle.std.proofs.lemmas.Bool.{cases_eq, eqb-true}
 use Rattle.std.proofs.lemmas.List.{length-take}
-use Rattle.std.specs.Prelude.{MatchBool, ⊤}
-use Rattle.rubis_schema.specs.declared.limits.TheConstants.{KEEP_MAX}
-use Rattle.rubis_model.specs.Processes.{process, read_by, AreReplayed, IsShortened, Moment, Replayed, has_read, recorded}
-use Rattle.rubis_model.specs.Processes.Moment.{Reads, Replays, Restarts}
-use Rattle.rubis_model.specs.Site.{Place, opening_at}
-use Rattle.rubis_laws.proofs.Processes.AreARun.{processes_run, read_more}
-use Rattle.rubis_laws.proofs.Processes.Restarts.{nothing_left_out, read_on_more, recorded_more, restarted_agree, restarts_change_nothing}
+use Rattle.rubis_model.specs.Processes.{AreReplayed, Replayed}
+use Rattle.rubis_laws.proofs.Processes.AreARun.{read_more}
+use Rattle.rubis_laws.proofs.Processes.Restarts.{read_on_more, recorded_more, restarted_agree}
 use Rattle.rubis_lives.specs.Histories.{AreHistories, HistoriesAreRuns, IsHistory, MayHappen, RaisesKeep, ShortensKept, Step, answered_by, answered_on}
 use Rattle.rubis_lives.specs.Histories.{keep_after, keeps, moments_in, most, shortened_to, site_keeping, stand_after, stands, takes, SurvivesIn, from_disk}
 use Rattle.rubis_lives.specs.Histories.{opened_again, taken_in}
 use Rattle.rubis_lives.specs.Histories.Step.{Does, Fails, Happens, Raises, Shortens}
-use Rattle.rubis_keep.specs.History.{Event, FileState, Follows, IsSafe, Says, after, records_in, IsFrontOf}
-use Rattle.rubis_keep.specs.History.Event.{Began, CutTo, Flushed, Kept, Replied, Settled, Shown, Told}
-use Rattle.rubis_keep.specs.Lines.{AreSound, whole_lines}
 use Rattle.rubis_lives.specs.Shops.{IsPrefix, text_of, words_of}
 use Rattle.rubis_lives.proofs.RoomFacts.{front-more, records-grow, whole-front, whole-grow, raised-take-the-same, taken-more, taken-short}
 use Rattle.rubis_lives.proofs.RewritingFacts.{Records, prefix-more, prefix-same, prefix-within, shortened-again, shortened-first}
-use Rattle.rubis_keep.proofs.ShortenFacts.{shortened-append}
-use Rattle.rubis_keep.proofs.SoundFacts.{sound-front}
 
 -- ---- what was flushed stays
 

@@ -1,3 +1,4 @@
+pub mod Common
 pub mod MomentFacts
 pub mod RewritingFacts
 pub mod RoomFacts

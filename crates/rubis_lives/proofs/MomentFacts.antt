@@ -1,25 +1,20 @@
 -- A site that is killed at any moment, or loses its power, and starts again.
-use Rattle.std.proofs.Common.{◌≡◌, ◌∙◌, ◌⊎◌, inl, inr, ◌++◌, ◌∷◌, [], ℕ, List, Some, drop, take, refl, sym, ap, subst, Option, None, append_assoc, Bool, true}
-use Rattle.std.proofs.Common.{false, length, arith, length-append}
+use Rattle.rubis_lives.proofs.Common.{◌≡◌, ◌∙◌, ◌⊎◌, inl, inr, ◌++◌, ◌∷◌, [], ℕ, List, Some, drop, take, refl, sym, ap, subst, Option, None}
+use Rattle.rubis_lives.proofs.Common.{append_assoc, Bool, true, false, length, arith, length-append, AtEnd, input_records, Files, IsFrontOf, AreSafe}
+use Rattle.rubis_lives.proofs.Common.{Event, FileState, Follows, IsSafe, Says, after, after_all, records_in, Lived, AreSound, begun_after, kept_of}
+use Rattle.rubis_lives.proofs.Common.{whole_lines, sound-front, whole-ends, whole-rest, Consumes, Began, CutTo, Flushed, Kept, Replied, Settled}
+use Rattle.rubis_lives.proofs.Common.{Shown, Told, IsOpened, safe-first, MatchBool}
 use Rattle.std.proofs.lemmas.List.{append-nil, take-append-drop}
 use Rattle.rubis_engine.specs.Accounts.{Account}
-use Rattle.rubis_engine.specs.Accounts.Ending.{AtEnd, Cut}
-use Rattle.rubis_engine.specs.Text.{input_records}
+use Rattle.rubis_engine.specs.Accounts.Ending.{Cut}
+use Rattle.rubis_keep.specs.History.{IsLeft, Ended, IsAnswered}
+use Rattle.rubis_keep.proofs.LineFacts.{begun-append}
+use Rattle.rubis_keep.proofs.SoundFacts.{kept-without, kept-ends, read-whole, kept-sound, sound-append, whole-sound}
 use Rattle.rubis_lives.specs.Crashes.{ComesBack, DifferencesAreFound, EditsAreFound, EndsLeft, IsRefused, Life, LivesLeft, QuestionsLeaveNothing, after_life}
 use Rattle.rubis_lives.specs.Crashes.{after_lives, files_of, goes_on}
-use Rattle.rubis_keep.specs.History.{Files, IsLeft, Ended, IsFrontOf, AreSafe, Event, FileState, Follows, IsAnswered, IsSafe, Says, after, after_all}
-use Rattle.rubis_keep.specs.History.{records_in, Lived}
-use Rattle.rubis_keep.specs.Lines.{AreSound, begun_after, kept_of, whole_lines}
-use Rattle.rubis_keep.proofs.LineFacts.{begun-append}
-use Rattle.rubis_keep.proofs.SoundFacts.{kept-without, kept-ends, read-whole, kept-sound, sound-append, sound-front, whole-ends, whole-rest, whole-sound}
-use Rattle.std.specs.Io.KnownBytes.{Consumes}
-use Rattle.rubis_keep.specs.History.Event.{Began, CutTo, Flushed, Kept, Replied, Settled, Shown, Told}
-use Rattle.rubis_keep.specs.Lives.{IsOpened}
 use Rattle.rubis_lives.specs.Histories.{AnsweredBeforeMore, Extends, KillsLeaveFiles, PowerFailuresLeaveFiles, RaisedKeepsTellTheSame, SurvivesIn, from_disk}
 use Rattle.rubis_lives.specs.Histories.{opened_again, BegunTooEarlyIsUnsafe, KeptTooEarlyIsUnsafe, ShownTooEarlyIsUnsafe, ToldTooEarlyIsUnsafe}
 use Rattle.rubis_lives.proofs.RoomFacts.{front-more, records-grow, whole-front, whole-more}
-use Rattle.rubis_keep.proofs.HistoryFacts.{safe-first}
-use Rattle.std.specs.Prelude.{MatchBool}
 
 goes-on-sound : (log input : List ℕ) → AreSound [] log → AreSound [] (whole_lines log ++ kept_of input)
 goes-on-sound log input h = sound-append [] (whole_lines log) (kept_of input) (whole-sound log h)

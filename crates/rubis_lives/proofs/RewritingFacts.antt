@@ -1,35 +1,21 @@
 -- What was kept is rewritten without what changed nothing.
-use Rattle.std.proofs.Common.{◌≡◌, ◌∙◌, ◌+◌, ◌++◌, ◌∷◌, [], ℕ, List, refl, sym, ap, append_assoc, ◌≤◌, length, inl, inr, subst, arith, append-nil, ⊎_elim, ◌⊎◌}
-use Rattle.std.proofs.Common.{Bool, true, false, cond, Option, Some, None, length-append}
-use Rattle.std.proofs.lemmas.List.Concat.{flat_map-append}
-use Rattle.rubis_message.specs.Inputs.{input_of}
-use Rattle.rubis_model.specs.Site.{answers, input_step, Place, Replica, output_of, settle, generating, made, opening_at, passing, rows_at, standing_of}
-use Rattle.rubis_engine.specs.Text.{plain_writer, row_text, rows_text}
-use Rattle.rubis_lives.specs.Histories.{SiteTextsExtend, SurvivesIn}
-use Rattle.rubis_model.specs.Processes.{IsShortened}
-use Rattle.rubis_lives.specs.Shops.{IsPrefix}
-use Rattle.std.specs.Prelude.{◌||◌, ◌==◌, MatchBool, map, nat_le, Result, Ok, Err}
+use Rattle.rubis_lives.proofs.Common.{◌≡◌, ◌∙◌, ◌+◌, ◌++◌, ◌∷◌, [], ℕ, List, refl, sym, ap, append_assoc, ◌≤◌, length, inl, inr, subst, arith}
+use Rattle.rubis_lives.proofs.Common.{append-nil, ⊎_elim, ◌⊎◌, Bool, true, false, cond, Option, Some, None, length-append, flat_map-append, input_of}
+use Rattle.rubis_lives.proofs.Common.{answers, input_step, Place, Replica, output_of, generating, opening_at, passing, rows_at, standing_of}
+use Rattle.rubis_lives.proofs.Common.{plain_writer, row_text, rows_text, IsShortened, ◌||◌, ◌==◌, MatchBool, map, nat_le, Result, Ok, Err, Refusal}
+use Rattle.rubis_lives.proofs.Common.{BadTarget, LastTurn, Shadow, decision, Message, Input, Asked, Came, Neither, Token, sent_on, sent_on_inputs}
+use Rattle.rubis_lives.proofs.Common.{sending, nothing_left_out, short_state, Files, FileState, IsSafe, IsFrontOf, shortened-append}
+use Rattle.rubis_model.specs.Site.{settle, made}
 use Rattle.std.proofs.lemmas.Bool.{cond_both}
-use Rattle.rubis_schema.specs.declared.refusals.Refusal.{Refusal}
-use Rattle.rubis_schema.specs.declared.refusals.Refusal.TheVariants.{BadTarget, LastTurn}
-use Rattle.rubis_shadow.specs.declared.shadows.Shadow.{Shadow}
-use Rattle.rubis_generate.specs.Decision.{decision}
-use Rattle.rubis_message.specs.Message.{Message}
-use Rattle.rubis_message.specs.declared.inputs.Input.{Input}
-use Rattle.rubis_message.specs.declared.inputs.Input.TheVariants.{Asked, Came, Neither}
-use Rattle.rubis_message.specs.declared.requests.Request.TheVariants as request
-use Rattle.rubis_message.specs.declared.tokens.Packet.TheVariants as packet
-use Rattle.rubis_message.specs.declared.tokens.Token.{Token}
-use Rattle.rubis_model.specs.Rebuild.{sent_on, sent_on_inputs}
-use Rattle.rubis_model.specs.System.{sending}
 use Rattle.rubis_model.proofs.Settling.{settle_keeps}
 use Rattle.rubis_laws.proofs.Processes.AreARun.{answers_stay}
-use Rattle.rubis_laws.proofs.Processes.Restarts.{nothing_left_out, short_state}
-use Rattle.rubis_keep.specs.History.{Files, FileState, IsSafe, IsFrontOf}
+use Rattle.rubis_lives.specs.Histories.{SiteTextsExtend, SurvivesIn}
+use Rattle.rubis_lives.specs.Shops.{IsPrefix}
+use Rattle.rubis_message.specs.declared.requests.Request.TheVariants as request
+use Rattle.rubis_message.specs.declared.tokens.Packet.TheVariants as packet
 use Rattle.rubis_lives.specs.Rewriting.{IsLeftIn, IsOfFresh, IsOfKept, IsOldOrNew, NamedBeforeEmptied, NamedBeforeFlushed, Rewriting, RewritingLeavesFiles}
 use Rattle.rubis_lives.specs.Rewriting.{Rewritten, ShorteningKeepsThePromise, after_one, after_some, killed_in, rewriting, untouched}
 use Rattle.rubis_lives.specs.Rewriting.Rewriting.{Emptied, EmptyFlushed, FreshFlushed, NamesFlushed, Renamed, Wrote}
-use Rattle.rubis_keep.proofs.ShortenFacts.{shortened-append}
 
 answers-more : (p : Place) (s : Replica) (n : ℕ) (xs ys : List (List (List ℕ))) → (more : List (List (List ℕ))) × (answers p s n xs ++ more ≡ answers p s n (xs ++ ys))
 unfolding answers

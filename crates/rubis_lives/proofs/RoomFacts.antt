@@ -1,44 +1,34 @@
 -- Records that a site refuses since it is full.
-use Rattle.std.proofs.Common.{◌≡◌, ◌∙◌, ◌++◌, [], false, List, ℕ, sym, ap, subst, append_assoc, ◌≢◌, ◌≤◌, ◌+◌, ◌∷◌, ◌&&◌, Bool, true, cond, Option, Some, None}
-use Rattle.std.proofs.Common.{refl, arith, inl, inr}
-use Rattle.rubis_engine.specs.Text.{input_records, plain_writer, row_text, rows_text}
-use Rattle.rubis_keep.specs.History.{IsFrontOf, records_in}
-use Rattle.rubis_keep.specs.Lines.{AreSound, begun_after, is_marked, whole_after, whole_lines, IsWhole}
-use Rattle.rubis_keep.proofs.SoundFacts.{records-append, sound-back, sound-kept, whole-append-after, whole-ends, whole-rest, whole-whole, kept-whole}
+use Rattle.rubis_lives.proofs.Common.{◌≡◌, ◌∙◌, ◌++◌, [], false, List, ℕ, sym, ap, subst, append_assoc, ◌≤◌, ◌+◌, ◌∷◌, Bool, true, cond, Option, Some}
+use Rattle.rubis_lives.proofs.Common.{None, refl, arith, inl, inr, input_records, plain_writer, row_text, rows_text, IsFrontOf, records_in, AreSound}
+use Rattle.rubis_lives.proofs.Common.{begun_after, whole_lines, whole-ends, whole-rest, whole-whole, append_cancel_left, flat_map-append, sending}
+use Rattle.rubis_lives.proofs.Common.{◌||◌, ◌==◌, codes, length, map, nat_le, Result, Ok, Err, next_record, escaped, fields_text, is_blank, Refusal}
+use Rattle.rubis_lives.proofs.Common.{BadTarget, LastTurn, Shadow, decision, Rows, input_of, Message, Input, Asked, Came, Neither, Token, answers}
+use Rattle.rubis_lives.proofs.Common.{input_step, Place, Replica, generating, opening_at, passing, rows_at, standing_of, site_after, IsShortened}
+use Rattle.rubis_lives.proofs.Common.{sent_on, sent_on_inputs}
+use Rattle.std.proofs.Common.{◌≢◌, ◌&&◌}
+use Rattle.rubis_keep.specs.Lines.{is_marked, whole_after, IsWhole}
+use Rattle.rubis_keep.proofs.SoundFacts.{records-append, sound-back, sound-kept, whole-append-after, kept-whole}
 use Rattle.std.proofs.lemmas.Bool.Decides.{nat_tests}
-use Rattle.std.proofs.lemmas.List.{append_cancel_left}
 use Rattle.std.proofs.lemmas.Option.{same_Some}
-use Rattle.std.proofs.lemmas.List.Concat.{flat_map-append}
-use Rattle.rubis_model.specs.System.{sending}
-use Rattle.std.specs.Prelude.{if◌then◌else◌, ◌||◌, ◌==◌, ◌-◌, codes, decimal, find, length, map, nat_le, not, Result, Ok, Err}
-use Rattle.csv.specs.Machine.{next_record}
+use Rattle.std.specs.Prelude.{if◌then◌else◌, ◌-◌, decimal, find, not}
 use Rattle.csv.specs.Reading.{default_config}
-use Rattle.csv.specs.Writing.{default_writer, escaped, field_text, fields_text, is_blank, needs_quotes, read_back, row_text as csv_row}
+use Rattle.csv.specs.Writing.{default_writer, field_text, needs_quotes, read_back, row_text as csv_row}
 use Rattle.csv.specs.declared.parser.State.{State}
-use Rattle.csv.specs.declared.parser.State.TheVariants as st
 use Rattle.csv.proofs.RoundTrip.{read-write}
 use Rattle.rubis_schema.specs.Refusals.{code_of, refusal_name}
-use Rattle.rubis_schema.specs.declared.refusals.Refusal.{Refusal}
-use Rattle.rubis_schema.specs.declared.refusals.Refusal.TheVariants.{BadRecord, Full, NoToken, RedBehind, NickTaken, NoUser, NoItem, Closed, LowBid, StockShort}
-use Rattle.rubis_schema.specs.declared.refusals.Refusal.TheVariants.{NotSeller, OwnItem, NoBuyNow, SelfComment, BadTarget, LastTurn, NotOurs, NotForMe}
+use Rattle.rubis_schema.specs.declared.refusals.Refusal.TheVariants.{BadRecord, Full, NoToken, RedBehind, NickTaken, NoUser, NoItem, Closed, LowBid}
+use Rattle.rubis_schema.specs.declared.refusals.Refusal.TheVariants.{StockShort, NotSeller, OwnItem, NoBuyNow, SelfComment, NotOurs, NotForMe}
 use Rattle.rubis_schema.specs.declared.refusals.Refusal.TheVariants.{BadEvent, NoSuchPacket}
 use Rattle.rubis_shadow.specs.declared.shadows.Ask.{Ask}
-use Rattle.rubis_shadow.specs.declared.shadows.Ask.TheVariants as ask
-use Rattle.rubis_shadow.specs.declared.shadows.Shadow.{Shadow}
-use Rattle.rubis_generate.specs.Decision.{decision, is_due, order_of, refused_or, shadow_of, Rows}
+use Rattle.rubis_generate.specs.Decision.{is_due, order_of, refused_or, shadow_of}
 use Rattle.rubis_generate.specs.declared.standing.Standing.{Standing}
-use Rattle.rubis_message.specs.Inputs.{input_of}
-use Rattle.rubis_message.specs.Message.{Message}
+use Rattle.rubis_model.specs.Site.{arrived_rows, asked_rows, passed_rows, refused_row, told, after_came, arrival_of, is_full, is_repeat, not_ours}
+use Rattle.csv.specs.declared.parser.State.TheVariants as st
+use Rattle.rubis_shadow.specs.declared.shadows.Ask.TheVariants as ask
 use Rattle.rubis_message.specs.declared.answers.Arrival.TheVariants as arrival
-use Rattle.rubis_message.specs.declared.inputs.Input.{Input}
-use Rattle.rubis_message.specs.declared.inputs.Input.TheVariants.{Asked, Came, Neither}
 use Rattle.rubis_message.specs.declared.requests.Request.TheVariants as request
 use Rattle.rubis_message.specs.declared.tokens.Packet.TheVariants as packet
-use Rattle.rubis_message.specs.declared.tokens.Token.{Token}
-use Rattle.rubis_model.specs.Site.{arrived_rows, asked_rows, passed_rows, refused_row, answers, input_step, told, Place, Replica, after_came, arrival_of}
-use Rattle.rubis_model.specs.Site.{generating, is_full, is_repeat, not_ours, opening_at, passing, rows_at, standing_of}
-use Rattle.rubis_model.specs.Processes.{site_after, IsShortened}
-use Rattle.rubis_model.specs.Rebuild.{sent_on, sent_on_inputs}
 use Rattle.rubis_lives.specs.Histories.{RaisedKeepsTakeTheSame, RefusedAsFullAreNoEvents, keeping, refuses_as_full, taken_by}
 use Rattle.rubis_lives.specs.Shops.{IsPrefix}
 use Rattle.rubis_lives.proofs.RewritingFacts.{Records}

@@ -1,23 +1,17 @@
 -- Lives of sites, interleaved in any way, are histories of their files.
-use Rattle.std.proofs.Common.{◌≡◌, ◌++◌, ◌∷◌, [], ℕ, true, false, List, cond, eqb, refl, sym, subst, arith}
+use Rattle.rubis_lives.proofs.Common.{◌≡◌, ◌++◌, ◌∷◌, [], ℕ, true, false, List, cond, eqb, refl, sym, subst, arith, MatchBool, ⊤, Reads, Replays}
+use Rattle.rubis_lives.proofs.Common.{Restarts, Place, opening_at, AreSafe, Event, FileState, Follows, IsSafe, Says, after, after_all, records_in}
+use Rattle.rubis_lives.proofs.Common.{IsFrontOf, AreSound, IsOpened, safe-first, sound-front}
 use Rattle.std.proofs.lemmas.List.{append-nil}
-use Rattle.std.specs.Prelude.{MatchBool, ⊤}
-use Rattle.rubis_model.specs.Processes.Moment.{Reads, Replays, Restarts}
-use Rattle.rubis_model.specs.Site.{Place, opening_at}
 use Rattle.rubis_lives.specs.Histories.{AreHistories, IsHistory, RaisesKeep, ShortensKept, Step, keep_after, shortened_to, site_keeping, stand_after, Extends}
 use Rattle.rubis_lives.specs.Histories.{SurvivesIn, from_disk, opened_again, keeping, AreLives, AreShopLives, End, LivesAreHistories, MayEnd, ShopLivesAreRuns}
 use Rattle.rubis_lives.specs.Histories.{SiteLife, ending, happening, left_by, next_keep, own_steps, steps_of}
 use Rattle.rubis_lives.specs.Histories.Step.{Does, Fails, Happens, Raises, Shortens}
-use Rattle.rubis_keep.specs.History.{AreSafe, Event, FileState, Follows, IsSafe, Says, after, after_all, records_in, IsFrontOf}
-use Rattle.rubis_keep.specs.Lines.{AreSound}
-use Rattle.rubis_keep.specs.Lives.{IsOpened}
 use Rattle.rubis_lives.specs.Shops.{text_of, words_of}
 use Rattle.rubis_lives.specs.Histories.End.{IsRaised, IsRewritten, PowerFails, Stops}
 use Rattle.rubis_lives.proofs.HistoriesFacts.{histories-are-runs, safe-here}
-use Rattle.rubis_keep.proofs.HistoryFacts.{safe-first}
 use Rattle.rubis_lives.proofs.MomentFacts.{kills-leave-files, power-failures-leave-files}
 use Rattle.rubis_lives.proofs.RewritingFacts.{site-texts-extend}
-use Rattle.rubis_keep.proofs.SoundFacts.{sound-front}
 
 -- ---- what happens elsewhere
 

@@ -1,33 +1,22 @@
 -- How many parts of a batch are left, on all shards together.
-use Rattle.std.proofs.Common.{◌≡◌, ℕ, zero, suc, ◌+◌, ◌-◌, ◌<◌, ◌≤◌, List, [], ◌∷◌, length, length-append, length-drop, take, drop, get_or, Bool, true, false}
-use Rattle.std.proofs.Common.{cond, refl, sym, ap, ◌∙◌, subst, arith, inl, inr, ◌++◌}
-use Rattle.std.specs.Prelude.{◌⊎◌, nat_eq, flat_map, Some, nat_lt, slice_index, slice_range, filter, map, Option, None, slice_get}
-use Rattle.std.proofs.lemmas.Bool.Decides.{Decides-eqb, nat_tests}
-use Rattle.std.proofs.lemmas.List.{same_lists, append-nil, drop-drop, get_or-map, length-map, length-take, length-take-le, take_more, take-take}
-use Rattle.std.proofs.lemmas.List.Sums.{sum_by-cons}
-use Rattle.std.proofs.lemmas.Option.{slice_get-get_or, get_or_from_slice_get}
-use Rattle.rubis_schema.specs.Keys.{home}
-use Rattle.rubis_schema.specs.declared.ids.Id.{Id}
-use Rattle.rubis_shadow.specs.declared.keyed_change.Effect.{Effect}
-use Rattle.rubis_shadow.specs.declared.numbered.Numbered.{Numbered}
-use Rattle.rubis_model.specs.Log.{Core, number_parts, numbered_from, parts_of, share, core, cores}
-use Rattle.rubis_model.proofs.InPlace.{home_within}
-use Rattle.rubis_shard.specs.States.{ShardState, with_parts}
-use Rattle.rubis_shard.specs.Holdings.{parts_at, shard_of_log, HoldsLog, core_of, numbered_of, home_or}
-use Rattle.rubis_shard.proofs.Folds.{not_equal}
+use Rattle.rubis_pieces.proofs.Common.{◌≡◌, ℕ, zero, suc, ◌+◌, ◌-◌, ◌<◌, ◌≤◌, List, [], ◌∷◌, length, length-append, take, drop, get_or, Bool, true}
+use Rattle.rubis_pieces.proofs.Common.{false, cond, refl, sym, ap, ◌∙◌, subst, arith, ◌++◌, nat_eq, flat_map, Some, nat_lt, slice_index, slice_range}
+use Rattle.rubis_pieces.proofs.Common.{filter, map, Option, None, slice_get, Decides-eqb, nat_tests, same_lists, append-nil, drop-drop, get_or-map}
+use Rattle.rubis_pieces.proofs.Common.{length-map, length-take-le, take_more, sum_by-cons, slice_get-get_or, get_or_from_slice_get, home, Id, Effect}
+use Rattle.rubis_pieces.proofs.Common.{Numbered, Core, number_parts, numbered_from, parts_of, share, core, cores, home_within, ShardState, with_parts}
+use Rattle.rubis_pieces.proofs.Common.{parts_at, shard_of_log, HoldsLog, core_of, numbered_of, not_equal, Message, LogEntry, shard_with_share}
+use Rattle.rubis_pieces.proofs.Common.{parts_at_append, few_parts, cores_push}
+use Rattle.std.proofs.Common.{length-drop, inl, inr}
+use Rattle.std.specs.Prelude.{◌⊎◌}
+use Rattle.std.proofs.lemmas.List.{length-take, take-take}
+use Rattle.rubis_shard.specs.Holdings.{home_or}
+use Rattle.std.proofs.Math.Seq.{take-add}
+use Rattle.std.proofs.lemmas.Grind.{flat_map-append}
+use Rattle.rubis_shadow.specs.declared.parts.TheConstants.{PARTS_MAX}
 use Rattle.rubis_pieces.specs.Batches.{rest_of, parts_left, AreUnfinished, IsBegun, LeavesNoMore}
 use Rattle.rubis_pieces.specs.declared.pieces.Left.{Left}
 use Rattle.rubis_pieces.proofs.Folded.{are_rests, rest_past, unfinished_from}
-use Rattle.std.proofs.Math.Seq.{take-add}
-use Rattle.std.proofs.lemmas.Grind.{flat_map-append}
-use Rattle.rubis_message.specs.Message.{Message}
-use Rattle.rubis_shard.specs.declared.entries.LogEntry.{LogEntry}
-use Rattle.rubis_shard.proofs.Logs.{shard_with_share}
-use Rattle.rubis_shard.proofs.Parts.{parts_at_append}
 use Rattle.rubis_pieces.specs.Following.{AreFollowed, HoldsTo, IsFollowed, StopWithin, parts_behind, waits, waits_or}
-use Rattle.rubis_shadow.specs.declared.parts.TheConstants.{PARTS_MAX}
-use Rattle.rubis_shadow.proofs.Footprint.{few_parts}
-use Rattle.rubis_model.proofs.Settling.{cores_push}
 
 -- ---- sums over the shards
 

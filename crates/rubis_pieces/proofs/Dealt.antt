@@ -1,31 +1,17 @@
 -- Parts dealt to the shares of their homes, one after the other, and put together again.
-use Rattle.std.proofs.Common.{ℕ, ◌≡◌, ◌+◌, ◌<◌, List, [], ◌∷◌, ◌++◌, length, take, get_or, set, cond, sym, ap, ◌∙◌, subst, arith, append_assoc, length-set}
-use Rattle.std.proofs.Common.{⊎_elim, ◌*◌, ◌-◌, ◌≤◌, zero, suc, drop, min, refl}
-use Rattle.std.specs.Prelude.{Some, None, Ok, Err, IfOk, MatchResult, slice_get, map, slice_range}
-use Rattle.std.proofs.lemmas.Bool.{cases_eq, cases_lt}
-use Rattle.std.proofs.lemmas.Bool.Decides.{Decides-eqb}
+use Rattle.rubis_pieces.proofs.Common.{ℕ, ◌≡◌, ◌+◌, ◌<◌, List, [], ◌∷◌, ◌++◌, length, take, get_or, set, cond, sym, ap, ◌∙◌, subst, arith}
+use Rattle.rubis_pieces.proofs.Common.{append_assoc, ⊎_elim, ◌*◌, ◌-◌, ◌≤◌, zero, suc, drop, refl, Some, None, Ok, Err, IfOk, slice_get, map}
+use Rattle.rubis_pieces.proofs.Common.{slice_range, cases_eq, cases_lt, Decides-eqb, append-nil, take_more, take_all, length-map, length-take-le}
+use Rattle.rubis_pieces.proofs.Common.{drop-drop, drop_all, length-drop, take-map, slice_get-get_or, slice_get_within, get_or_from_slice_get, home}
+use Rattle.rubis_pieces.proofs.Common.{Id, Effect, Numbered, few_parts, Message, Core, core, cores, number_parts, numbered_from, parts_of, cores_push}
+use Rattle.rubis_pieces.proofs.Common.{numbered_append, core_of, numbered_of, parts_at, LogEntry, Share, not_equal, parts_at_append, written_here}
+use Rattle.rubis_pieces.proofs.Common.{written_elsewhere, below_or_last, Vec, AllZip, range_with_len}
+use Rattle.std.proofs.Common.{length-set, min}
+use Rattle.std.specs.Prelude.{MatchResult}
 use Rattle.std.specs.declared.result.Result.{Result}
-use Rattle.std.proofs.lemmas.List.{append-nil, take_more, take_all, length-map, length-take-le, drop-drop, drop-map, drop_all, length-drop, take-map, take_min}
-use Rattle.std.proofs.lemmas.Option.{slice_get-get_or, slice_get_within, get_or_from_slice_get}
-use Rattle.rubis_schema.specs.Keys.{home}
-use Rattle.rubis_schema.specs.declared.ids.Id.{Id}
-use Rattle.rubis_shadow.specs.declared.keyed_change.Effect.{Effect}
-use Rattle.rubis_shadow.specs.declared.numbered.Numbered.{Numbered}
-use Rattle.rubis_shadow.proofs.Footprint.{few_parts}
-use Rattle.rubis_message.specs.Message.{Message}
-use Rattle.rubis_model.specs.Log.{Core, core, cores, number_parts, numbered_from, parts_of}
-use Rattle.rubis_model.proofs.Settling.{cores_push}
-use Rattle.rubis_model.proofs.Shares.{numbered_append}
-use Rattle.rubis_shard.specs.Holdings.{core_of, numbered_of, parts_at}
-use Rattle.rubis_shard.specs.declared.entries.LogEntry.{LogEntry}
-use Rattle.rubis_shard.specs.declared.shares.Share.{Share}
-use Rattle.rubis_shard.proofs.Folds.{not_equal}
-use Rattle.rubis_shard.proofs.Parts.{parts_at_append}
-use Rattle.rubis_shard.proofs.Picked.{written_here, written_elsewhere, below_or_last}
-use Rattle.rubis_pieces.specs.Batches.{AreDealt, AreOfParts, AreShares, part_of}
-use Rattle.std.specs.Global.{Vec}
-use Rattle.std.specs.List.{AllZip, range_with_len}
+use Rattle.std.proofs.lemmas.List.{drop-map, take_min}
 use Rattle.std.specs.declared.alloc.AllocError.{AllocError}
+use Rattle.rubis_pieces.specs.Batches.{AreDealt, AreOfParts, AreShares, part_of}
 
 -- ---- one part
 here : (shards k : ℕ) (ns : List Numbered) (n : Numbered) → home shards n.effect.key ≡ k

@@ -1,34 +1,31 @@
 -- Shards in order of number, with a beginning of their shares folded on.
-use Rattle.std.proofs.Common.{ℕ, suc, [], ◌∷◌, ◌≡◌, ◌+◌, ◌<◌, List, length, Bool, true, false, refl, sym, ap, ◌∙◌, subst, arith, get_or, set, ⊎_elim, zero, ◌-◌}
-use Rattle.std.proofs.Common.{◌≤◌, add-one, ◌≢◌, true≢false, ◌++◌, take, drop, cond}
-use Rattle.std.specs.Prelude.{Some, nat_eq, slice_get, sum_by, map, slice_index, All, nat_lt, flat_map, ⊤}
-use Rattle.std.proofs.lemmas.Bool.Decides.{Decides-eqb, nat_tests}
-use Rattle.std.proofs.lemmas.Option.{slice_get-get_or, slice_get_read, slice_get_within, get_or_from_slice_get, slice_get-map}
-use Rattle.std.proofs.lemmas.List.{length-set, length-map, get_or-map, drop_all, same_lists, take-append-drop}
-use Rattle.std.proofs.lemmas.List.Sums.{sum_by-set, sum_by-cons}
-use Rattle.rubis_pieces.specs.declared.pieces.Done.{Done}
-use Rattle.rubis_shard.proofs.Picked.{below_or_last, written_here, written_elsewhere}
-use Rattle.rubis_pieces.specs.Batches.{AllUnseen, StandsBelow, IsSoundTo, IsSeenTo, numbers_of, IsGatherable, IsInOrder, IsFault, IsFolded, Belong, AreFolded}
-use Rattle.rubis_pieces.specs.Batches.{rest_of, AreLeft, IsBegun, AreUnfinished, HoldsBut, TakesBatch, TakesWholeBatch, left_of, AreShares}
+use Rattle.rubis_pieces.proofs.Common.{ℕ, suc, [], ◌∷◌, ◌≡◌, ◌+◌, ◌<◌, List, length, Bool, true, false, refl, sym, ap, ◌∙◌, subst, arith, get_or, set}
+use Rattle.rubis_pieces.proofs.Common.{⊎_elim, zero, ◌-◌, ◌≤◌, ◌++◌, take, drop, cond, Some, nat_eq, slice_get, sum_by, map, slice_index, nat_lt}
+use Rattle.rubis_pieces.proofs.Common.{flat_map, ⊤, Decides-eqb, nat_tests, slice_get-get_or, slice_get_read, slice_get_within, get_or_from_slice_get}
+use Rattle.rubis_pieces.proofs.Common.{length-set, length-map, get_or-map, drop_all, same_lists, sum_by-cons, below_or_last, written_here}
+use Rattle.rubis_pieces.proofs.Common.{written_elsewhere, IsNonDecreasingBy, IsPermutation, home, Numbered, Core, numbered_from, share, ShardState}
+use Rattle.rubis_pieces.proofs.Common.{with_parts, shard_of_log, parts_at, HoldsLog, Share, not_equal, with_append, shard_with_share}
+use Rattle.std.proofs.Common.{add-one, ◌≢◌, true≢false}
+use Rattle.std.specs.Prelude.{All}
+use Rattle.std.proofs.lemmas.Option.{slice_get-map}
+use Rattle.std.proofs.lemmas.List.{take-append-drop}
+use Rattle.std.proofs.lemmas.List.Sums.{sum_by-set}
 use Rattle.std.specs.List.{AllByRecursion, IsDistinct, Contains}
-use Rattle.std.specs.List.Sorted.{IsNonDecreasingBy, IsNonDecreasing, IsStrictlyIncreasing, IsPermutation}
+use Rattle.std.specs.List.Sorted.{IsNonDecreasing, IsStrictlyIncreasing}
 use Rattle.std.specs.Cmp.{nat_eq_equiv}
 use Rattle.std.proofs.lemmas.List.Sorted.{IsPermutation-map, All-permutation, IsPermutation-sym, Contains-permutation}
 use Rattle.std.proofs.lemmas.Map.Keys.{IsDistinct-IsPermutation, IsStrictlyIncreasing-from_distinct, apart_from_distinct}
 use Rattle.std.proofs.lemmas.Map.Views.{All-map-IsPermutation}
-use Rattle.rubis_pieces.specs.declared.gathers.FaultKind.{FaultKind}
-use Rattle.rubis_pieces.specs.declared.gathers.FaultKind.TheVariants.{Stranger, Twice, Missing}
 use Rattle.std.specs.Option.{option_map}
 use Rattle.std.proofs.lemmas.List.Elements.{All-cons}
-use Rattle.rubis_schema.specs.Keys.{home}
-use Rattle.rubis_shadow.specs.declared.numbered.Numbered.{Numbered}
-use Rattle.rubis_model.specs.Log.{Core, numbered_from, share}
-use Rattle.rubis_shard.specs.States.{ShardState, with_parts, IsHomeOf}
-use Rattle.rubis_shard.specs.Holdings.{shard_of_log, parts_at, AreInOrder, HoldsLog}
-use Rattle.rubis_shard.specs.declared.shares.Share.{Share}
-use Rattle.rubis_shard.proofs.Folds.{not_equal, with_append}
-use Rattle.rubis_shard.proofs.Logs.{shard_with_share}
+use Rattle.rubis_shard.specs.States.{IsHomeOf}
+use Rattle.rubis_shard.specs.Holdings.{AreInOrder}
 use Rattle.rubis_shard.proofs.Unions.{AreFrom, from_rest, from_first}
+use Rattle.rubis_pieces.specs.declared.pieces.Done.{Done}
+use Rattle.rubis_pieces.specs.Batches.{AllUnseen, StandsBelow, IsSoundTo, IsSeenTo, numbers_of, IsGatherable, IsInOrder, IsFault, IsFolded, Belong, AreFolded}
+use Rattle.rubis_pieces.specs.Batches.{rest_of, AreLeft, IsBegun, AreUnfinished, HoldsBut, TakesBatch, TakesWholeBatch, left_of, AreShares}
+use Rattle.rubis_pieces.specs.declared.gathers.FaultKind.{FaultKind}
+use Rattle.rubis_pieces.specs.declared.gathers.FaultKind.TheVariants.{Stranger, Twice, Missing}
 use Rattle.rubis_pieces.specs.declared.pieces.Left.{Left}
 
 abbrev pub trues : List Bool → ℕ

@@ -1,24 +1,15 @@
 -- The parts of a batch folded on shards straight from its messages.
-use Rattle.std.proofs.Common.{◌≡◌, ℕ, zero, suc, ◌+◌, ◌<◌, ◌≤◌, List, [], ◌∷◌, ◌++◌, length, take, get_or, refl, sym, ap, ◌∙◌, subst, arith, set, Bool, true}
-use Rattle.std.proofs.Common.{false, cond, ⊎_elim}
-use Rattle.std.specs.Prelude.{Result, Ok, Err, OnErr, Some, nat_lt, slice_get, slice_index, filter}
+use Rattle.rubis_pieces.proofs.Common.{◌≡◌, ℕ, zero, suc, ◌+◌, ◌<◌, ◌≤◌, List, [], ◌∷◌, ◌++◌, length, take, get_or, refl, sym, ap, ◌∙◌, subst, arith}
+use Rattle.rubis_pieces.proofs.Common.{set, Bool, true, false, cond, ⊎_elim, Ok, Err, Some, nat_lt, slice_get, slice_index, filter, append-nil}
+use Rattle.rubis_pieces.proofs.Common.{get_or-map, length-map, take_more, take-map, length-set, Message, Core, core, cores, number_parts}
+use Rattle.rubis_pieces.proofs.Common.{numbered_from, parts_of, share, cores_push, ShardState, with_parts, parts_at, core_of, numbered_of, AreHomes}
+use Rattle.rubis_pieces.proofs.Common.{AreHomesOf, shard_of_log, LogEntry, PartHomes, with_append, parts_at_append, cases_eq, nat_tests, home, Effect}
+use Rattle.std.specs.Prelude.{Result, OnErr}
 use Rattle.std.specs.Result.{is_err}
-use Rattle.std.proofs.lemmas.List.{append-nil, get_or-map, length-map, take_more, take-map, get_or-set_other, get_or-set_same, length-set, set-get_or}
-use Rattle.rubis_message.specs.Message.{Message}
-use Rattle.rubis_model.specs.Log.{Core, core, cores, number_parts, numbered_from, parts_of, share}
-use Rattle.rubis_model.proofs.Settling.{cores_push}
-use Rattle.rubis_shard.specs.States.{ShardState, with_parts}
-use Rattle.rubis_shard.specs.Holdings.{parts_at, core_of, numbered_of, AreHomes, AreHomesOf, NoneAt, shard_of_log, FoldsOn}
-use Rattle.rubis_shard.specs.declared.entries.LogEntry.{LogEntry}
-use Rattle.rubis_shard.specs.declared.part_homes.PartHomes.{PartHomes}
-use Rattle.rubis_shard.proofs.Folds.{with_append}
-use Rattle.rubis_shard.proofs.Parts.{parts_at_append}
+use Rattle.std.proofs.lemmas.List.{get_or-set_other, get_or-set_same, set-get_or}
+use Rattle.rubis_shard.specs.Holdings.{NoneAt, FoldsOn}
 use Rattle.rubis_pieces.proofs.Dealt.{share_turn}
 use Rattle.rubis_pieces.specs.Following.{IsFollowed, AreFurther, GoesTo, HoldsTo, parts_behind, waits}
-use Rattle.std.proofs.lemmas.Bool.{cases_eq}
-use Rattle.std.proofs.lemmas.Bool.Decides.{nat_tests}
-use Rattle.rubis_schema.specs.Keys.{home}
-use Rattle.rubis_shadow.specs.declared.keyed_change.Effect.{Effect}
 use Rattle.rubis_pieces.proofs.Counting.{shard_next}
 
 -- ---- the homes of the messages of a batch

@@ -1,3 +1,4 @@
+pub mod Common
 pub mod Dealt
 pub mod Folded
 pub mod Order

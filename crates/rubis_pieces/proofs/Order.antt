@@ -1,29 +1,21 @@
 -- The shards' misfits, sorted by place, are the misfits of one thread.
-use Rattle.std.proofs.Common.{ℕ, ◌≡◌, ◌+◌, ◌*◌, ◌<◌, ◌≤◌, List, [], ◌∷◌, ◌++◌, length, true, false, cond, refl, sym, ap, ◌∙◌, arith, get_or, suc}
-use Rattle.std.specs.Prelude.{Option, Some, None, ⊤, nat_eq, leb, filter, slice_get, sum_by}
-use Rattle.std.specs.List.Sorted.{IsPermutation, IsNonDecreasingBy}
-use Rattle.std.proofs.lemmas.Bool.Decides.{nat_tests}
-use Rattle.std.proofs.lemmas.List.Sums.{sum_by-append, sum_by-cons}
+use Rattle.rubis_pieces.proofs.Common.{ℕ, ◌≡◌, ◌+◌, ◌*◌, ◌<◌, ◌≤◌, List, [], ◌∷◌, ◌++◌, length, true, false, cond, refl, sym, ap, ◌∙◌, arith, get_or}
+use Rattle.rubis_pieces.proofs.Common.{suc, Option, Some, None, ⊤, nat_eq, filter, slice_get, sum_by, IsPermutation, IsNonDecreasingBy, nat_tests}
+use Rattle.rubis_pieces.proofs.Common.{sum_by-cons, slice_get_within, home, Id, Effect, Numbered, few_parts, Core, number_parts, numbered_from}
+use Rattle.rubis_pieces.proofs.Common.{parts_of, share, home_within, ShardState, shard_of_log, HoldsLog, all_misfits}
+use Rattle.std.specs.Prelude.{leb}
+use Rattle.std.proofs.lemmas.List.Sums.{sum_by-append}
 use Rattle.std.proofs.lemmas.List.Sorted.{sum_by-IsPermutation}
-use Rattle.std.proofs.lemmas.Option.{slice_get_within}
-use Rattle.rubis_schema.specs.Keys.{home}
 use Rattle.rubis_schema.specs.Tables.{Tables}
-use Rattle.rubis_schema.specs.declared.ids.Id.{Id}
 use Rattle.rubis_shadow.specs.Changes.{after_part}
 use Rattle.rubis_shadow.specs.Shadows.{parts}
 use Rattle.rubis_shadow.specs.Tables.{opening}
-use Rattle.rubis_shadow.specs.declared.keyed_change.Effect.{Effect}
 use Rattle.rubis_shadow.specs.declared.changes.MisfitKind.{MisfitKind}
 use Rattle.rubis_shadow.specs.declared.changes.MisfitKind.TheVariants.{RowThere, NoRow, ClosedItem, StockShort, OtherUser}
 use Rattle.rubis_shadow.specs.declared.numbered.Misfit.{Misfit}
-use Rattle.rubis_shadow.specs.declared.numbered.Numbered.{Numbered}
-use Rattle.rubis_shadow.proofs.Footprint.{few_parts}
-use Rattle.rubis_model.specs.Log.{Core, Folded, noted, number_parts, numbered_from, parts_of, share, fold_of}
+use Rattle.rubis_model.specs.Log.{Folded, noted, fold_of}
 use Rattle.rubis_model.specs.Shares.{part_of}
-use Rattle.rubis_model.proofs.InPlace.{home_within}
 use Rattle.rubis_model.proofs.Shares.{outcomes, all_noted, fold_on_is, share_outcomes}
-use Rattle.rubis_shard.specs.States.{ShardState}
-use Rattle.rubis_shard.specs.Holdings.{shard_of_log, HoldsLog, all_misfits}
 use Rattle.rubis_pieces.specs.Misfits.{misfit_order}
 
 -- ---- lists in order, told apart by sums

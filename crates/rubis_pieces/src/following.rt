@@ -1,11 +1,11 @@
 //! Shards that follow a log: their parts of a batch are folded straight from its messages.
 
-ghost use Rattle.std.specs.Prelude.{◌≡◌, ℕ, ◌+◌, ◌<◌, ◌≤◌, All, length, IfOk, OnOk};
+ghost use Rattle.std.specs.Prelude.{◌≡◌, ◌+◌, ◌<◌, ◌≤◌, All, length, IfOk, OnOk};
 ghost use Rattle.rubis_schema.specs.declared.limits.TheConstants.{KEEP_MAX};
 ghost use Rattle.rubis_message.specs.Message.{IsMessage};
 ghost use Rattle.rubis_model.specs.Log.{cores};
 ghost use Rattle.rubis_shard.specs.Holdings.{AreHomes};
-ghost use Rattle.rubis_pieces.specs.Following.{AreFurther, GoesTo, HoldsTo, IsFollowed, StopWithin};
+ghost use Rattle.rubis_pieces.specs.Following.{GoesTo, IsFollowed};
 
 use rubis_message::Message;
 use rubis_shard::{LogEntry, PartHomes, Shard, Tables};
@@ -53,9 +53,9 @@ pub fn follow(shard: &mut Shard, batch: &[Message], homes: &[PartHomes], first: 
     batch.len()
 }
 
-// Folds on one shard of the tables its parts of the messages of a log after message `from`, up to message `upto`, until there is
-// no memory for those of one. The answer says up to which message they are done.
-fn follow_one(
+/// Folds on one shard of the tables its parts of the messages of a log after message `from`, up to message `upto`, until there is
+/// no memory for those of one. The answer says up to which message they are done.
+pub fn follow_one(
     tables: &mut Tables,
     number: usize,
     log: &[Message],
@@ -79,24 +79,4 @@ fn follow_one(
         }
     }
     upto
-}
-
-/// Goes on with a batch of a log that ends with message `upto`, shard by shard from where each stands, as far as memory goes.
-/// `stops` says how far each is. No part is done twice, and none is passed over.
-pub fn follow_rest(tables: &mut Tables, log: &[Message], stops: &mut [usize], upto: usize)
-    requires shards { length tables.old ≤ 255 }
-    requires counts { length stops.old ≡ length tables.old }
-    requires few { length log.now ≤ KEEP_MAX }
-    requires on { StopWithin 0 upto stops.old }
-    requires within { upto ≤ length log.now }
-    ensures many { length tables.new ≡ length tables.old }
-    ensures counts { length stops.new ≡ length stops.old }
-    ensures on { AreFurther stops.old stops.new }
-    ensures upto { StopWithin 0 upto stops.new }
-    ensures holds { (shards : ℕ) → HoldsTo shards (cores log.now) stops.old tables.old → HoldsTo shards (cores log.now) stops.new tables.new }
-{
-    for number in 0..tables.len() {
-        let from = stops[number];
-        stops[number] = follow_one(tables, number, log, from, upto);
-    }
 }

@@ -11,7 +11,7 @@ mod splits;
 mod waiting;
 
 pub use batches::fold_share;
-pub use following::{follow, follow_rest, homes_of};
+pub use following::{follow, follow_one, homes_of};
 pub use gathers::{
     CountedShards, FaultKind, GatherFault, Gathered, Places, gather, gather_counted,
 };

@@ -1,22 +1,19 @@
 -- What handing a chunk on does to the records that are to come.
-use Rattle.std.proofs.Common.{◌≡◌, ◌≤◌, ◌<◌, ◌+◌, ◌-◌, ◌++◌, ◌∙◌, ℕ, List, length, take, drop, append-nil, sym, ap, arith, length-append, length-drop}
-use Rattle.std.proofs.Common.{length-take, length-take-le, ◌∷◌, [], ◌==◌, ◌&&◌, ◌||◌, inl, inr, zero, suc, Some, None, Bool, true, false, if◌then◌else◌, refl}
-use Rattle.std.proofs.Common.{subst, Option, append_assoc, take-append-drop}
-use Rattle.std.specs.Prelude.{slice_range, IfSome}
-use Rattle.std.specs.Io.KnownBytes.{Consumes, IsAtEnd, Keeps, prepend_known}
+use Rattle.rubis_reading.proofs.Common.{◌≡◌, ◌≤◌, ◌<◌, ◌+◌, ◌-◌, ◌++◌, ◌∙◌, ℕ, List, length, take, drop, append-nil, sym, ap, arith, length-append}
+use Rattle.rubis_reading.proofs.Common.{length-drop, ◌∷◌, [], ◌==◌, ◌&&◌, ◌||◌, inl, inr, zero, suc, Some, None, Bool, true, false, if◌then◌else◌}
+use Rattle.rubis_reading.proofs.Common.{refl, subst, Option, append_assoc, take-append-drop, slice_range, IfSome, Consumes, prepend_known, cases_Bool}
+use Rattle.rubis_reading.proofs.Common.{MatchBool, field_after, fields_after, is_end, step, default_config, is_bom, strip_bom, State, input_records}
+use Rattle.std.proofs.Common.{length-take, length-take-le}
+use Rattle.std.specs.Io.KnownBytes.{IsAtEnd, Keeps}
 use Rattle.std.proofs.lemmas.List.{drop-append-le, drop-drop, drop-take}
 use Rattle.std.proofs.Math.Seq.{take-append-add}
-use Rattle.rubis_reading.specs.Chunked.{IsFilled, ComesNearer, HasCome, HasPending, IsChunk, KeepsCome, KeepsPending, held_text}
-use Rattle.std.proofs.lemmas.Bool.{cases_Bool}
-use Rattle.std.specs.Bool.{MatchBool}
-use Rattle.csv.specs.Machine.{carriage_return, ends_at_end, field_after, fields_after, is_end, line_feed, next_record, step}
-use Rattle.csv.specs.Reading.{default_config, records, records_from, records_next, is_bom, strip_bom}
-use Rattle.csv.specs.declared.parser.State.{State}
-use Rattle.csv.specs.declared.parser.State.TheVariants as st
-use Rattle.rubis_reading.specs.Streams.{Closes, IsBetween, IsLineEnd, IsWhole, records_on}
-use Rattle.rubis_engine.specs.Text.{input_records}
+use Rattle.csv.specs.Machine.{carriage_return, ends_at_end, line_feed, next_record}
+use Rattle.csv.specs.Reading.{records, records_from, records_next}
 use Rattle.std.proofs.Transfers.{drop-appended}
 use Rattle.std.specs.Int.{from_bool}
+use Rattle.rubis_reading.specs.Chunked.{IsFilled, ComesNearer, HasCome, HasPending, IsChunk, KeepsCome, KeepsPending, held_text}
+use Rattle.csv.specs.declared.parser.State.TheVariants as st
+use Rattle.rubis_reading.specs.Streams.{Closes, IsBetween, IsLineEnd, IsWhole, records_on}
 use Rattle.rubis_reading.specs.declared.chunks.Chunks.{Chunks}
 
 -- with the first handed on

@@ -1,16 +1,9 @@
 -- How the last line of a text is found.
-use Rattle.std.proofs.Common.{◌≡◌, ◌≤◌, ◌<◌, ◌+◌, ◌∷◌, [], ◌++◌, ◌∙◌, ◌==◌, ◌||◌, ℕ, List, length, take, get_or, Bool, true, false, ◌&&◌, ◌-◌, drop, sym, refl}
-use Rattle.std.proofs.Common.{ap, subst, arith, get_or-drop, length-append, length-drop, take-append-drop}
-use Rattle.std.proofs.lemmas.List.{take_more}
-use Rattle.std.proofs.lemmas.Bool.{eqb-true}
-use Rattle.std.proofs.Math.Seq.{take-append_seam}
-use Rattle.std.specs.Prelude.{⊤, if◌then◌else◌}
-use Rattle.std.specs.Bool.{MatchBool}
-use Rattle.csv.specs.Machine.{after_end, field_after, fields_after, in_field, is_end, start_record, step}
-use Rattle.csv.specs.Reading.{default_config, strip_bom}
-use Rattle.csv.specs.declared.parser.State.{State}
+use Rattle.rubis_reading.proofs.Common.{◌≡◌, ◌≤◌, ◌<◌, ◌+◌, ◌∷◌, [], ◌++◌, ◌∙◌, ◌==◌, ◌||◌, ℕ, List, length, take, get_or, Bool, true, false, ◌&&◌}
+use Rattle.rubis_reading.proofs.Common.{◌-◌, drop, sym, refl, ap, subst, arith, get_or-drop, length-append, length-drop, take-append-drop, take_more}
+use Rattle.rubis_reading.proofs.Common.{eqb-true, take-append_seam, ⊤, if◌then◌else◌, MatchBool, after_end, field_after, fields_after, in_field}
+use Rattle.rubis_reading.proofs.Common.{is_end, start_record, step, default_config, strip_bom, State, Action}
 use Rattle.csv.specs.declared.parser.State.TheVariants as st
-use Rattle.csv.specs.declared.parser.Action.{Action}
 use Rattle.csv.specs.declared.parser.Action.TheVariants as act
 use Rattle.csv.specs.declared.parser.Terminator.TheVariants as term
 use Rattle.rubis_reading.specs.Streams.{Closes, EndsFrom, IsBetween, IsLineEnd, IsWhole, stands}

@@ -1,15 +1,10 @@
 -- That no later end of a record was passed over.
-use Rattle.std.proofs.Common.{◌≡◌, ◌≤◌, ◌<◌, ◌+◌, ◌-◌, ◌∷◌, [], ◌++◌, ◌∙◌, ◌==◌, ◌||◌, inl, inr, ℕ, List, length, take, get_or, drop, true, false, sym, refl}
-use Rattle.std.proofs.Common.{ap, subst, arith, get_or-drop, length-append, length-drop, take-append-drop}
+use Rattle.rubis_reading.proofs.Common.{◌≡◌, ◌≤◌, ◌<◌, ◌+◌, ◌-◌, ◌∷◌, [], ◌++◌, ◌∙◌, ◌==◌, ◌||◌, inl, inr, ℕ, List, length, take, get_or, drop, true}
+use Rattle.rubis_reading.proofs.Common.{false, sym, refl, ap, subst, arith, get_or-drop, length-append, length-drop, take-append-drop, length-take-le}
+use Rattle.rubis_reading.proofs.Common.{take-append_seam, if◌then◌else◌, MatchBool, field_after, fields_after, is_end, step, default_config, is_bom}
+use Rattle.rubis_reading.proofs.Common.{strip_bom, State}
 use Rattle.std.proofs.lemmas.Bool.{cases_lt}
-use Rattle.std.proofs.lemmas.List.{length-take-le}
-use Rattle.std.proofs.Math.Seq.{take-append_seam}
-use Rattle.std.specs.Prelude.{if◌then◌else◌}
-use Rattle.std.specs.Bool.{MatchBool}
 use Rattle.memchr.specs.Find.{Nowhere, Passes, is_byte2}
-use Rattle.csv.specs.Machine.{field_after, fields_after, is_end, step}
-use Rattle.csv.specs.Reading.{default_config, is_bom, strip_bom}
-use Rattle.csv.specs.declared.parser.State.{State}
 use Rattle.csv.specs.declared.parser.State.TheVariants as st
 use Rattle.rubis_reading.specs.Streams.{Closes, EndsFrom, HasNoQuote, IsBetween, IsLike, IsLineEnd, IsWhole, NoEndAfter, NoWholeAfter, stands}
 use Rattle.rubis_reading.proofs.ChunkFacts.{feed-left, HasNoMark, mark-within, no-mark, no-mark-third}

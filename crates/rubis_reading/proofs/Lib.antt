@@ -1,3 +1,4 @@
+pub mod Common
 pub mod ChunkFacts
 pub mod CutFacts
 pub mod QuoteFacts

@@ -1,11 +1,6 @@
 -- What is known of a text that was looked through for ends of records.
-use Rattle.std.proofs.Common.{◌≡◌, ◌≤◌, ◌+◌, ◌∷◌, [], ◌++◌, ◌∙◌, ℕ, List, ap, arith, drop, length, length-append, refl, subst, sym, take, take-append-drop}
-use Rattle.std.proofs.Common.{true, false}
-use Rattle.std.proofs.lemmas.List.{take-append-le}
-use Rattle.std.proofs.Math.Seq.{take-append_seam}
-use Rattle.std.specs.Prelude.{if◌then◌else◌}
-use Rattle.csv.specs.Reading.{is_bom, strip_bom}
-use Rattle.csv.specs.declared.parser.State.{State}
+use Rattle.rubis_reading.proofs.Common.{◌≡◌, ◌≤◌, ◌+◌, ◌∷◌, [], ◌++◌, ◌∙◌, ℕ, List, ap, arith, drop, length, length-append, refl, subst, sym, take}
+use Rattle.rubis_reading.proofs.Common.{take-append-drop, true, false, take-append-le, take-append_seam, if◌then◌else◌, is_bom, strip_bom, State}
 use Rattle.csv.specs.declared.parser.State.TheVariants as st
 use Rattle.rubis_reading.specs.Streams.{HasLooked, state_of, EndsFrom, IsLike, stands}
 use Rattle.rubis_reading.specs.declared.cuts.Looked.{Looked}

@@ -1,23 +1,22 @@
 -- Pieces of a text that are given to be read, and runs of records.
-use Rattle.std.proofs.Common.{◌≡◌, ◌∙◌, ◌++◌, ◌∷◌, [], ℕ, List, ap, append-nil, append_assoc, subst, sym, refl, ◌≤◌, ◌+◌, suc, arith, drop, length}
-use Rattle.std.proofs.Common.{length-append, length-drop, zero, All, Option, ◌<◌, ◌-◌, ◌⊎◌, inl, inr, drop-drop, length-set, take}
-use Rattle.std.specs.Prelude.{true, false, MatchOption, None, Some, IfNone, IfOk, Result, slice_index_or, slice_set, ⊤}
-use Rattle.rubis_message.specs.Inputs.{IsInput, FitsIn}
+use Rattle.rubis_reading.proofs.Common.{◌≡◌, ◌∙◌, ◌++◌, ◌∷◌, [], ℕ, List, ap, append-nil, append_assoc, subst, sym, refl, ◌≤◌, ◌+◌, suc, arith, drop}
+use Rattle.rubis_reading.proofs.Common.{length, length-append, length-drop, zero, Option, ◌<◌, ◌-◌, inl, inr, take, true, false, None, Some, IfNone}
+use Rattle.rubis_reading.proofs.Common.{⊤, IsInput, Advances, Gives, Msg, Came, IsBack, LeadState}
+use Rattle.std.proofs.Common.{All, ◌⊎◌, drop-drop, length-set}
+use Rattle.std.specs.Prelude.{MatchOption, IfOk, Result, slice_index_or, slice_set}
+use Rattle.rubis_message.specs.Inputs.{FitsIn}
 use Rattle.rubis_engine.specs.declared.record_list.Records.{Records}
-use Rattle.rubis_engine.specs.Reading.{Advances, Gives, fields_now}
-use Rattle.rubis_reading.specs.Readings.{AreInputs, FitWindow, FitsWindow, all_came, flat, of_stretch, AreGiven, AreOf, AreRead, EachGiven, IsAmong, IsPiece}
-use Rattle.rubis_reading.specs.Readings.{IsPut, IsReading, passed}
+use Rattle.rubis_engine.specs.Reading.{fields_now}
 use Rattle.rubis_message.specs.declared.inputs.Input.{Input}
 use Rattle.std.proofs.lemmas.List.{nil_from_length}
 use Rattle.rubis_message.specs.Message.{Message}
-use Rattle.rubis_message.specs.declared.tokens.Packet.TheVariants.{Msg}
-use Rattle.rubis_message.specs.declared.inputs.Input.TheVariants.{Came}
-use Rattle.rubis_reading.specs.declared.stretches.Stretch.{Stretch}
 use Rattle.std.specs.Global.{Vec}
 use Rattle.rubis_engine.specs.declared.fault.OutOfMemory.{OutOfMemory}
 use Rattle.rubis_crew.specs.declared.job.Back.{Back}
 use Rattle.rubis_crew.specs.declared.job.Given.{Given}
-use Rattle.rubis_crew.specs.States.{IsBack, LeadState}
+use Rattle.rubis_reading.specs.Readings.{AreInputs, FitWindow, FitsWindow, all_came, flat, of_stretch, AreGiven, AreOf, AreRead, EachGiven, IsAmong, IsPiece}
+use Rattle.rubis_reading.specs.Readings.{IsPut, IsReading, passed}
+use Rattle.rubis_reading.specs.declared.stretches.Stretch.{Stretch}
 use Rattle.rubis_reading.specs.Chunked.{IsChunk}
 use Rattle.rubis_reading.specs.declared.pieces.GivenPiece.{GivenPiece}
 use Rattle.rubis_reading.specs.declared.pieces.Pieces.{Pieces}

@@ -1,16 +1,11 @@
 -- How a text is read from one quote to the next.
-use Rattle.std.proofs.Common.{◌≡◌, ◌≤◌, ◌<◌, ◌+◌, ◌-◌, ◌∷◌, [], ◌++◌, ◌∙◌, ◌==◌, ◌||◌, inl, inr, ℕ, zero, suc, List, length, take, get_or, Bool, true, false}
-use Rattle.std.proofs.Common.{drop, sym, refl, ap, subst, arith, get_or-drop, length-drop}
-use Rattle.std.proofs.lemmas.Bool.{cases_Bool, eqb-true}
-use Rattle.std.proofs.lemmas.List.{take_more}
+use Rattle.rubis_reading.proofs.Common.{◌≡◌, ◌≤◌, ◌<◌, ◌+◌, ◌-◌, ◌∷◌, [], ◌++◌, ◌∙◌, ◌==◌, ◌||◌, inl, inr, ℕ, zero, suc, List, length, take, get_or}
+use Rattle.rubis_reading.proofs.Common.{Bool, true, false, drop, sym, refl, ap, subst, arith, get_or-drop, length-drop, cases_Bool, eqb-true}
+use Rattle.rubis_reading.proofs.Common.{take_more, IfNone, IfSome, None, Option, Some, if◌then◌else◌, after_end, in_field, start_record, step}
+use Rattle.rubis_reading.proofs.Common.{default_config, State, Action}
 use Rattle.memchr.specs.Find.{IsFirstByte, is_byte}
-use Rattle.std.specs.Prelude.{IfNone, IfSome, None, Option, Some, if◌then◌else◌}
-use Rattle.csv.specs.Machine.{after_end, in_field, start_record, step}
 use Rattle.csv.specs.declared.parser.Terminator.TheVariants as term
-use Rattle.csv.specs.Reading.{default_config}
-use Rattle.csv.specs.declared.parser.State.{State}
 use Rattle.csv.specs.declared.parser.State.TheVariants as st
-use Rattle.csv.specs.declared.parser.Action.{Action}
 use Rattle.rubis_reading.specs.Streams.{EndsFrom, HasNoQuote, IsBetween, IsLike, IsLineEnd, IsOutside, stands}
 use Rattle.rubis_reading.proofs.CutFacts.{stands-more}
 

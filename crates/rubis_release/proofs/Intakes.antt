@@ -1,18 +1,14 @@
 -- What an intake keeps, and what its answers rest on.
-use Rattle.std.proofs.Common.{◌≡◌, ℕ, ◌<◌, ◌≤◌, ◌&&◌, ◌||◌, Option, List, [], ◌∷◌, ◌++◌, length, get_or, inl, inr, refl, sym, ap, ◌∙◌, subst, arith}
-use Rattle.std.specs.Prelude.{◌-◌, cond, nat_lt, nat_le, Ok, Err}
-use Rattle.std.specs.List.{list_any}
-use Rattle.std.proofs.lemmas.Bool.{eq-eqb}
+use Rattle.rubis_release.proofs.Common.{◌≡◌, ℕ, ◌<◌, ◌≤◌, ◌||◌, Option, List, [], ◌∷◌, ◌++◌, length, get_or, inl, inr, refl, sym, ap, ◌∙◌, subst}
+use Rattle.rubis_release.proofs.Common.{arith, ◌-◌, cond, nat_lt, nat_le, list_any, eq-eqb, same_id, Id, MessageCounts, Message, IsMessage, sites_of}
+use Rattle.rubis_release.proofs.Common.{counted, Settles, Place, Replica, after_came, not_ours, is_repeat, settles_one}
+use Rattle.std.proofs.Common.{◌&&◌}
+use Rattle.std.specs.Prelude.{Ok, Err}
 use Rattle.std.proofs.lemmas.Bool.Decides.{eqb_tells}
-use Rattle.rubis_schema.specs.Keys.{same_id}
-use Rattle.rubis_schema.specs.declared.ids.Id.{Id}
 use Rattle.rubis_schema.specs.declared.refusals.Refusal.TheVariants.{Full, NotOurs}
-use Rattle.rubis_clock.specs.Clocks.{MessageCounts}
-use Rattle.rubis_message.specs.Message.{Message, IsMessage, sites_of}
-use Rattle.rubis_model.specs.Site.{counted, Settles, Place, Replica, after_came, arrival_of, arrived, not_ours, is_repeat}
+use Rattle.rubis_model.specs.Site.{arrival_of, arrived}
 use Rattle.rubis_message.specs.declared.answers.Arrival.{Arrival}
 use Rattle.rubis_message.specs.declared.answers.Arrival.TheVariants as arrival
-use Rattle.rubis_model.proofs.OneOutcome.{settles_one}
 use Rattle.rubis_release.specs.Release.{IsAmong, AreKept, clock_of, Messages, HaveSettled, Intake, IsUpToDate, IsAdmitted}
 use Rattle.rubis_release.proofs.Keeping.{length_counts, counts_at, is_released, settling_keeps, coming_keeps}
 

@@ -1,30 +1,27 @@
 -- What a site's log, its clock and its waiting messages keep.
-use Rattle.std.proofs.Common.{◌≡◌, ℕ, ◌+◌, ◌<◌, ◌≤◌, List, [], ◌∷◌, ◌++◌, length, get_or, set, sym, ap, ◌∙◌, subst, ⊎_elim, arith, ◌≢◌, ◌==◌, Bool, true, false}
-use Rattle.std.proofs.Common.{◌||◌, refl, inl, inr, zero, suc, take, drop, add-one, length-append}
-use Rattle.std.specs.Prelude.{◌↔◌, replicate, vec_len, vec_capacity, reverse, nat_lt, nat_le, Result, OnOk}
+use Rattle.rubis_release.proofs.Common.{◌≡◌, ℕ, ◌+◌, ◌<◌, ◌≤◌, List, [], ◌∷◌, ◌++◌, length, get_or, sym, ap, ◌∙◌, subst, ⊎_elim, arith, ◌≢◌, ◌==◌}
+use Rattle.rubis_release.proofs.Common.{Bool, true, false, ◌||◌, refl, inl, inr, zero, suc, take, length-append, ◌↔◌, nat_lt, nat_le, cases_lt}
+use Rattle.rubis_release.proofs.Common.{eq-eqb, lt-ltb, le-leb, leb-false, get_or_past, length_push, append-nil, get_or_append_left, MessageCounts}
+use Rattle.rubis_release.proofs.Common.{IsReady, Stamp, Message, dep, counted, Ready, counts, Has, Settles, Place, Replica, list_any, remove, Id}
+use Rattle.rubis_release.proofs.Common.{same_id, Decides-same_id}
+use Rattle.std.proofs.Common.{set, drop, add-one}
+use Rattle.std.specs.Prelude.{replicate, vec_len, vec_capacity, reverse, Result, OnOk}
 use Rattle.std.specs.Global.{Vec}
-use Rattle.std.proofs.lemmas.Bool.{cases_lt, cases_eq, or_parts, or_cases, eq-eqb, and_from, lt-ltb, le-leb, leb-true, leb-false}
-use Rattle.std.proofs.lemmas.List.{get_or_past, get_or-set_same, get_or-set_other, length-set, get_or-replicate, length-replicate, length_push, append-nil}
-use Rattle.std.proofs.lemmas.List.{get_or_append_left, get_or_push, drop_more, take-append-drop, length-take, get_or-take}
+use Rattle.std.proofs.lemmas.Bool.{cases_eq, or_parts, or_cases, and_from, leb-true}
+use Rattle.std.proofs.lemmas.List.{get_or-set_same, get_or-set_other, length-set, get_or-replicate, length-replicate, get_or_push, drop_more}
+use Rattle.std.proofs.lemmas.List.{take-append-drop, length-take, get_or-take}
 use Rattle.std.proofs.lemmas.List.FromFn.{get_or-map-range_with_len, length-map-range_with_len}
 use Rattle.std.proofs.lemmas.Grind.{same_number_lists}
-use Rattle.rubis_clock.specs.Clocks.{MessageCounts, IsReady, advanced, opening_clock}
-use Rattle.rubis_clock.specs.declared.stamps.Stamp.{Stamp}
-use Rattle.rubis_message.specs.Message.{Message, dep}
-use Rattle.rubis_model.specs.Site.{counted, Ready, counts, Has, Settles, Place, Replica}
-use Rattle.rubis_model.proofs.Settling.{counted_yes, counted_no, counted_push, reds_push, seq_within, found, counted_reverse, reds_reverse, reverse_push}
-use Rattle.rubis_model.proofs.Settling.{push_cases, has_reverse, has_back}
-use Rattle.rubis_release.specs.Release.{clock_of, IsAmong, AllAmong, AreCounted, message_id, HaveOwnIds, AreKept, IsAdmitted, IsFirst, NoneReady}
-use Rattle.std.specs.List.{list_any, remove}
-use mathlib.Core.Bool.{true≢false}
-use Rattle.rubis_schema.specs.declared.ids.Id.{Id}
-use Rattle.rubis_schema.specs.Keys.{same_id}
-use Rattle.rubis_schema.specs.KeyLaws.{Decides-same_id}
+use Rattle.rubis_clock.specs.Clocks.{advanced, opening_clock}
+use Rattle.rubis_model.proofs.Settling.{counted_yes, counted_no, counted_push, reds_push, seq_within, found, counted_reverse, reds_reverse}
+use Rattle.rubis_model.proofs.Settling.{reverse_push, push_cases, has_reverse, has_back}
 use Rattle.rubis_model.specs.Site.Settles.{Rest, Release}
 use Rattle.rubis_model.specs.System.{Released}
 use Rattle.std.proofs.lemmas.List.Edits.{length-remove}
 use Rattle.std.proofs.lemmas.Option.{get_or_from_slice_get}
 use Rattle.std.proofs.lemmas.Result.{on_ok_weaker}
+use Rattle.rubis_release.specs.Release.{clock_of, IsAmong, AllAmong, AreCounted, message_id, HaveOwnIds, AreKept, IsAdmitted, IsFirst, NoneReady}
+use mathlib.Core.Bool.{true≢false}
 use Rattle.rubis_release.specs.Waiting.{TakesFirst}
 
 pub length_counts : (n : ℕ) (log : List Message) → length (counts n log) ≡ n

@@ -1,20 +1,18 @@
 -- The message that a site makes.
-use Rattle.std.proofs.Common.{◌≡◌, ◌≢◌, ℕ, ◌+◌, ◌<◌, ◌≤◌, ◌==◌, Bool, true, false, cond, Option, Some, None, List, [], ◌∷◌, ◌++◌, length, refl, sym, ap, ◌∙◌}
-use Rattle.std.proofs.Common.{subst, inl, inr, ⊎_elim, arith}
-use Rattle.std.specs.Prelude.{nat_lt, unwrap_or, option_map, ◌⊎◌}
+use Rattle.rubis_release.proofs.Common.{◌≡◌, ◌≢◌, ℕ, ◌+◌, ◌<◌, ◌≤◌, ◌==◌, Bool, true, false, cond, Option, Some, None, List, [], ◌∷◌, ◌++◌, length}
+use Rattle.rubis_release.proofs.Common.{refl, sym, ap, ◌∙◌, subst, inl, inr, ⊎_elim, arith, nat_lt, ◌⊎◌, leb-false, lt-ltb, cases_lt, get_or_past}
+use Rattle.rubis_release.proofs.Common.{InLimits, is_red, Stamp, Message, IsMessage, sites_of, dep, counted, Ready, Settles, Place, Replica, counts}
+use Rattle.rubis_release.proofs.Common.{made, after_made, red_for, issued_after, is_current, is_full, settles_one}
+use Rattle.std.specs.Prelude.{unwrap_or, option_map}
 use Rattle.std.specs.Option.{option_map_or}
-use Rattle.std.proofs.lemmas.Bool.{eqb-true, leb-false, lt-ltb, cases_lt}
-use Rattle.std.proofs.lemmas.List.{get_or_past}
+use Rattle.std.proofs.lemmas.Bool.{eqb-true}
 use Rattle.std.proofs.lemmas.List.Elements.{All-from_get_or}
-use mathlib.Core.Bool.{true≢false}
 use Rattle.rubis_schema.specs.Ids.{IsId}
-use Rattle.rubis_shadow.specs.Shadows.{InLimits, is_red, colour_of}
+use Rattle.rubis_shadow.specs.Shadows.{colour_of}
 use Rattle.rubis_shadow.specs.declared.shadows.Shadow.{Shadow}
 use Rattle.rubis_shadow.specs.declared.shadows.Colour.TheVariants.{Red, Blue}
-use Rattle.rubis_clock.specs.declared.stamps.Stamp.{Stamp}
-use Rattle.rubis_message.specs.Message.{Message, IsMessage, sites_of, dep}
-use Rattle.rubis_model.specs.Site.{counted, reds, settle, Ready, Settles, Place, Replica, counts, made, after_made, red_for, issued_after, is_current, is_full}
-use Rattle.rubis_model.proofs.OneOutcome.{settles_one}
+use Rattle.rubis_model.specs.Site.{reds, settle}
+use mathlib.Core.Bool.{true≢false}
 use Rattle.rubis_release.specs.Release.{IsAmong, AreKept, Intake, IsIntake, IsUpToDate}
 use Rattle.rubis_release.proofs.Keeping.{length_counts, counts_at, settling_keeps, making_keeps}
 use Rattle.rubis_release.proofs.Intakes.{among_is}

@@ -1,25 +1,20 @@
 -- What is found in slots, and a message that is taken out of its slot.
-use Rattle.std.proofs.Common.{◌≡◌, ◌∙◌, List, [], ◌∷◌, ◌++◌, ap, refl, sym, ℕ, zero, suc, ◌+◌, ◌<◌, ◌≤◌, Bool, true, false, cond, length, subst, inl, inr}
-use Rattle.std.proofs.Common.{⊎_elim, arith, ◌-◌, ◌||◌, get_or, length-append, length-take}
-use Rattle.std.specs.Prelude.{Option, None, map, Some, slice_get, slice_index, min, ◌⊎◌, ◌↔◌, IsTrue, filter, is_some, take}
+use Rattle.rubis_release.proofs.Common.{◌≡◌, ◌∙◌, List, [], ◌∷◌, ◌++◌, ap, refl, sym, ℕ, zero, suc, ◌+◌, ◌<◌, ◌≤◌, Bool, true, false, cond, length}
+use Rattle.rubis_release.proofs.Common.{subst, inl, inr, ⊎_elim, arith, ◌-◌, ◌||◌, get_or, length-append, Option, None, map, Some, slice_get, ◌⊎◌}
+use Rattle.rubis_release.proofs.Common.{◌↔◌, filter, is_some, take, Message, remove, list_any, cases_lt, same_id, Decides-same_id, Id, MessageCounts}
+use Rattle.rubis_release.proofs.Common.{IsReady, Has, get_or_append_left, nil_from_length, insert_entry, set_value_at}
+use Rattle.std.proofs.Common.{length-take}
+use Rattle.std.specs.Prelude.{slice_index, min, IsTrue}
 use Rattle.std.specs.Map.{values_of, keys_of, lookup, lookup_key}
 use Rattle.std.specs.Borrow.{Bor}
-use Rattle.rubis_message.specs.Message.{Message}
+use Rattle.std.specs.Bool.{MatchBool}
+use Rattle.std.specs.List.{AllByRecursion, IsDistinct}
+use Rattle.std.proofs.lemmas.Option.{slice_get_past}
+use Rattle.rubis_schema.specs.declared.limits.TheConstants.{SEQ_MAX}
+use Rattle.std.proofs.lemmas.List.{get_or_at}
 use Rattle.rubis_release.specs.Waiting.{Slots, put_some, somes, IsItsSlot, HaveTheirIds, IsReadySlot, IsFirstOf, HasNoReady, NoSlotOf, first_of, AreApart}
 use Rattle.rubis_release.specs.Waiting.{AreSlots, TakesFirst, is_there}
-use Rattle.std.specs.Bool.{MatchBool}
-use Rattle.std.specs.List.{AllByRecursion, IsDistinct, remove, list_any}
-use Rattle.std.proofs.lemmas.Bool.{cases_lt}
-use Rattle.std.proofs.lemmas.Option.{slice_get_past}
 use mathlib.Core.Bool.{true≢false}
-use Rattle.rubis_schema.specs.Keys.{same_id}
-use Rattle.rubis_schema.specs.KeyLaws.{Decides-same_id}
-use Rattle.rubis_schema.specs.declared.ids.Id.{Id}
-use Rattle.rubis_schema.specs.declared.limits.TheConstants.{SEQ_MAX}
-use Rattle.rubis_clock.specs.Clocks.{MessageCounts, IsReady}
-use Rattle.rubis_model.specs.Site.{Has}
-use Rattle.std.proofs.lemmas.List.{get_or_append_left, get_or_at, nil_from_length}
-use Rattle.indexmap.specs.IndexMap.{insert_entry, set_value_at}
 use Rattle.rubis_release.specs.Release.{AllAmong, IsFirst, NoneReady}
 use Rattle.rubis_release.proofs.Keeping.{has_there}
 

@@ -1,11 +1,7 @@
 -- Messages that arrive one after the other.
-use Rattle.std.proofs.Common.{◌≡◌, List, [], ◌∷◌, ◌++◌, refl, sym, ap, ◌∙◌, append_assoc, subst}
-use Rattle.std.specs.Prelude.{Err, Result, reverse}
-use Rattle.std.proofs.lemmas.List.{append-nil, reverse-append}
-use Rattle.rubis_schema.specs.declared.refusals.Refusal.{Refusal}
-use Rattle.rubis_message.specs.Message.{Message}
-use Rattle.rubis_message.specs.declared.answers.Arrival.{Arrival}
-use Rattle.rubis_model.specs.Site.{Place, Replica, arrived}
+use Rattle.rubis_replica.proofs.Common.{◌≡◌, List, [], ◌∷◌, ◌++◌, refl, sym, ap, ◌∙◌, append_assoc, subst, Err, Result, reverse, append-nil, Refusal}
+use Rattle.rubis_replica.proofs.Common.{Message, Arrival, Place, Replica, arrived}
+use Rattle.std.proofs.lemmas.List.{reverse-append}
 use Rattle.rubis_release.specs.Release.{IsFaultOf}
 use Rattle.rubis_release.specs.declared.intake.IntakeFault.{IntakeFault}
 use Rattle.rubis_release.specs.declared.intake.IntakeFault.TheVariants.{Refused}

@@ -1,36 +1,29 @@
 -- What is known of a shadow that was decided.
-use Rattle.std.proofs.Common.{◌≡◌, ap, ◌∙◌, rules, ℕ, ◌<◌, sym, subst, lit<, List, take}
-use Rattle.std.specs.Prelude.{Option, Some, None, Result, Ok, Err, IfSome, IsErr, length, option_map, option_and_then}
+use Rattle.rubis_replica.proofs.Common.{◌≡◌, ap, ◌∙◌, rules, ℕ, ◌<◌, sym, subst, List, take, Option, Some, None, Result, Ok, Err, length, Tables}
+use Rattle.rubis_replica.proofs.Common.{AllInLimits, InLimits, Ask, Shadow, row_by_key, decision, cores, fold_of, Message, Place, Replica, asked}
+use Rattle.rubis_replica.proofs.Common.{generating, rows_at, standing_of, union, AreOfTheLog, IsIntake, Refusal}
+use Rattle.std.proofs.Common.{lit<}
+use Rattle.std.specs.Prelude.{IfSome, IsErr, option_map, option_and_then}
 use Rattle.std.specs.Result.{IsErrAnd}
 use Rattle.std.specs.Option.{option_map_or}
-use Rattle.std.specs.FinMap as map
 use Rattle.rubis_schema.specs.Ids.{IsId}
-use Rattle.rubis_schema.specs.Tables.{Tables}
-use Rattle.rubis_schema.specs.declared.row_keys.RowKey.TheVariants as key
 use Rattle.rubis_schema.specs.declared.rows.Best.{Best}
 use Rattle.rubis_schema.specs.declared.rows.ItemRow.{ItemRow}
 use Rattle.rubis_schema.specs.declared.rows.Row.{Row}
-use Rattle.rubis_schema.specs.declared.rows.Row.TheVariants as row
-use Rattle.rubis_shadow.specs.Tables.{AllInLimits, RowInLimits}
-use Rattle.rubis_shadow.specs.Shadows.{InLimits, IsAsk}
-use Rattle.rubis_shadow.specs.declared.shadows.Ask.{Ask}
-use Rattle.rubis_shadow.specs.declared.shadows.Shadow.{Shadow}
-use Rattle.rubis_generate.specs.Decision.{as_item_row, item_in, row_by_key, decision}
+use Rattle.rubis_shadow.specs.Tables.{RowInLimits}
+use Rattle.rubis_shadow.specs.Shadows.{IsAsk}
+use Rattle.rubis_generate.specs.Decision.{as_item_row, item_in}
 use Rattle.rubis_generate.proofs.Granted.{granted, shadow_limits}
 use Rattle.rubis_generate.specs.declared.standing.Standing.{Standing}
-use Rattle.rubis_model.specs.Log.{cores, fold_of}
-use Rattle.rubis_message.specs.Message.{Message}
-use Rattle.rubis_model.specs.Site.{Place, Replica, asked, generating, rows_at, standing_of}
-use Rattle.rubis_workers.specs.Shard.{union}
 use Rattle.rubis_shadow.specs.declared.numbered.Misfit.{Misfit}
-use Rattle.rubis_workers.specs.Pieces.{AreOfTheLog}
-use Rattle.rubis_release.specs.Release.{IsIntake}
+use Rattle.std.specs.FinMap as map
+use Rattle.rubis_schema.specs.declared.row_keys.RowKey.TheVariants as key
+use Rattle.rubis_schema.specs.declared.rows.Row.TheVariants as row
 use Rattle.rubis_replica.specs.Follow.{Follower, FollowsLog, left_of, resting_at}
 use Rattle.rubis_replica.specs.State.{AnswersAsTheStep, SiteState, with_all_applied}
 use Rattle.rubis_replica.specs.declared.faults.Fault.{Fault}
 use Rattle.rubis_replica.specs.declared.faults.Fault.TheVariants.{Refused, Behind, Memory}
 use Rattle.rubis_replica.proofs.Standing.{all_at, tables_of_log, log_in_limits}
-use Rattle.rubis_schema.specs.declared.refusals.Refusal.{Refusal}
 
 abbrev ItemFits : ℕ → Option ItemRow → Type 0
 ItemFits sites o = IfSome o (λ i. (i.cat < 1000) × IfSome i.best (λ b. IsId sites b.bid))

@@ -1,40 +1,35 @@
 -- A batch that is shared by those who fold it, and shards of a set that are given to be folded, and come back.
-use Rattle.std.proofs.Common.{◌≡◌, ℕ, ◌+◌, ◌-◌, ◌<◌, ◌≤◌, true, List, drop, length, map, sym, ap, subst, subst₂, arith, ◌||◌, suc, false, [], ◌∷◌, ◌++◌}
-use Rattle.std.proofs.Common.{vec_len, refl, ◌∙◌}
-use Rattle.std.specs.Prelude.{Err, OnErr, OnOk, Result, slice_index, slice_range}
+use Rattle.rubis_replica.proofs.Common.{◌≡◌, ℕ, ◌+◌, ◌-◌, ◌<◌, ◌≤◌, true, List, drop, length, map, sym, ap, subst, arith, ◌||◌, suc, false, [], ◌∷◌}
+use Rattle.rubis_replica.proofs.Common.{◌++◌, vec_len, refl, ◌∙◌, Err, OnErr, OnOk, Result, slice_index, slice_range, vec_capacity, IsPermutation}
+use Rattle.rubis_replica.proofs.Common.{AllocError, All-nil, IsMessage, Message, cores, bare, IsRoom, having, AppliesTo, AppliesWhole, Intake}
+use Rattle.rubis_replica.proofs.Common.{arc_value, PassState}
+use Rattle.std.proofs.Common.{subst₂}
 use Rattle.std.specs.Global.{Vec}
-use Rattle.std.specs.Vec.{vec_capacity}
 use Rattle.std.specs.List.{All, AllZip}
-use Rattle.std.specs.List.Sorted.{IsPermutation}
-use Rattle.std.specs.declared.alloc.AllocError.{AllocError}
 use Rattle.std.proofs.lemmas.List.{length-take, length-append}
-use Rattle.std.proofs.lemmas.List.Elements.{All-weaker, All-cons, All-nil}
+use Rattle.std.proofs.lemmas.List.Elements.{All-weaker, All-cons}
 use Rattle.std.proofs.lemmas.List.Sorted.{All-permutation}
 use Rattle.std.proofs.lemmas.Option.{slice_get_within}
-use Rattle.rubis_message.specs.Message.{IsMessage, Message}
-use Rattle.rubis_model.specs.Log.{cores}
 use Rattle.rubis_shard.specs.Holdings.{AreInOrder, AreHomes}
 use Rattle.rubis_shard.specs.States.{ShardState}
 use Rattle.rubis_shard.specs.declared.part_homes.PartHomes.{PartHomes}
 use Rattle.rubis_pieces.specs.declared.gathers.CountedShards.{CountedShards}
 use Rattle.rubis_pieces.specs.declared.pieces.Done.{Done}
 use Rattle.rubis_pieces.specs.declared.pieces.Piece.{Piece}
-use Rattle.rubis_workers.specs.Work.{IsFollowedOn, bare, IsRoom, having}
-use Rattle.rubis_workers.specs.Logs.{AppliesTo, AppliesWhole, IsPending, WereFolded}
+use Rattle.rubis_workers.specs.Work.{IsFollowedOn}
+use Rattle.rubis_workers.specs.Logs.{IsPending, WereFolded}
 use Rattle.rubis_workers.specs.declared.team.Teamwork.{Teamwork}
 use Rattle.rubis_workers.proofs.Applied.{nothing}
 use Rattle.rubis_workers.proofs.Counts.{all_bare}
-use Rattle.rubis_release.specs.Release.{Intake}
+use Rattle.atomic_table.specs.Seated.{TableId}
+use Rattle.rubis_board.specs.Rule.{joined_pass, new_part, one_part_less}
+use Rattle.rubis_crew.specs.States.{ComesBack, CrewId, LeadState, given_too}
+use Rattle.rubis_crew.specs.declared.job.Back.{Back}
+use Rattle.rubis_crew.specs.declared.job.Given.{Given}
 use Rattle.rubis_replica.specs.Folding.{CanApply, FitsBatch, FitsSet, HasWorked, IsApplied, IsBatch, IsFoldedOn, IsShared, IsSpan, messages_of, AreOf, AreOut}
 use Rattle.rubis_replica.specs.Folding.{CanShare, ComesOf, HasFolded, IsFoldable, IsIdle, IsOf, ReturnsPart}
 use Rattle.rubis_replica.specs.declared.folding.SharedBatch.{SharedBatch}
 use Rattle.rubis_replica.specs.declared.folding.Span.{Span}
-use Rattle.std.specs.Arc.{arc_value}
-use Rattle.atomic_table.specs.Seated.{TableId}
-use Rattle.rubis_board.specs.Rule.{PassState, joined_pass, new_part, one_part_less}
-use Rattle.rubis_crew.specs.States.{ComesBack, CrewId, LeadState, given_too}
-use Rattle.rubis_crew.specs.declared.job.Back.{Back}
-use Rattle.rubis_crew.specs.declared.job.Given.{Given}
 use Rattle.rubis_replica.specs.declared.folding.Part.{Part}
 use Rattle.rubis_replica.specs.declared.folding.PartDone.{PartDone}
 

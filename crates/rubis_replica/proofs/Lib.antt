@@ -1,3 +1,4 @@
+pub mod Common
 pub mod Standing
 pub mod Deciding
 pub mod Listing

@@ -1,12 +1,8 @@
 -- The rows of a listing at a site whose log is all applied.
-use Rattle.std.proofs.Common.{◌≡◌, List, ◌∙◌, refl}
-use Rattle.std.specs.Prelude.{IfOk, Result, Ok, Err, length}
-use Rattle.rubis_schema.specs.declared.listings.Listing.{Listing}
+use Rattle.rubis_replica.proofs.Common.{◌≡◌, List, ◌∙◌, refl, Result, Ok, Err, length, Listing, Message, table_rows, listing_rows}
+use Rattle.std.specs.Prelude.{IfOk}
 use Rattle.rubis_schema.specs.declared.listings.Listing.TheVariants.{Users, Items, Bids, Purchases, Comments, Categories, Tables, Log, Misfits}
-use Rattle.rubis_message.specs.Message.{Message}
-use Rattle.rubis_model.specs.Listings.{table_rows}
 use Rattle.rubis_model.specs.Log.{Folded}
-use Rattle.rubis_model.specs.Site.{listing_rows}
 use Rattle.rubis_replica.specs.Follow.{resting_at}
 use Rattle.rubis_replica.specs.State.{IsReadyFor, SiteState, with_all_applied}
 

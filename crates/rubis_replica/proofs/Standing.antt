@@ -1,35 +1,31 @@
 -- Tables that follow a log: a batch that is whole or has begun, and a log that grows.
-use Rattle.std.proofs.Common.{◌≡◌, ℕ, ◌<◌, List, [], ◌∷◌, length, get_or, refl, inl, inr, arith, subst, ◌≤◌, ◌++◌, length-append, take, drop, sym, ap, ◌∙◌}
-use Rattle.std.proofs.Common.{zero, suc, Bool, true, false, cond, append_assoc}
-use Rattle.std.specs.Prelude.{All, ◌⊎◌, OnErr, OnOk, Result, Ok, Err, Some, slice_index, slice_range, None, ◌==◌, ◌||◌, Option, nat_le}
+use Rattle.rubis_replica.proofs.Common.{◌≡◌, ℕ, ◌<◌, List, [], ◌∷◌, length, refl, inl, inr, arith, subst, ◌≤◌, ◌++◌, take, drop, sym, ap, ◌∙◌, suc}
+use Rattle.rubis_replica.proofs.Common.{Bool, true, false, cond, append_assoc, All, OnErr, OnOk, Result, Ok, Err, Some, slice_index, slice_range}
+use Rattle.rubis_replica.proofs.Common.{None, ◌==◌, ◌||◌, Option, nat_le, All-nil, AllInLimits, IsMessage, Message, sites_of, cores, fold_of, Place}
+use Rattle.rubis_replica.proofs.Common.{Replica, arrived, is_full, is_repeat, not_ours, passed, passing, Intake, IsIntake, AllocError, append-nil}
+use Rattle.rubis_replica.proofs.Common.{union, AreFurther, HoldsTo, StopWithin, AppliesTo, AppliesWhole, parts_between, Shadow, Refusal, Token}
+use Rattle.std.proofs.Common.{get_or, length-append, zero}
+use Rattle.std.specs.Prelude.{◌⊎◌}
 use Rattle.std.proofs.Math.Seq.{take-length}
-use Rattle.std.proofs.lemmas.List.Elements.{All-from_get_or, All-nil, All-take}
-use Rattle.rubis_shadow.specs.Tables.{AllInLimits}
+use Rattle.std.proofs.lemmas.List.Elements.{All-from_get_or, All-take}
 use Rattle.rubis_shadow.proofs.InLimits.{opening_in_limits}
-use Rattle.rubis_message.specs.Message.{IsMessage, Message, sites_of}
-use Rattle.rubis_model.specs.Log.{cores, fold_of, Core, core, parts_of}
-use Rattle.rubis_model.specs.Site.{Has, first_ready, settle, Place, Replica, arrived, is_full, is_repeat, not_ours, after_made, made, passed, passing}
-use Rattle.rubis_release.specs.Release.{Intake, IsIntake}
+use Rattle.rubis_model.specs.Log.{Core, core, parts_of}
+use Rattle.rubis_model.specs.Site.{Has, first_ready, settle, after_made, made}
 use Rattle.rubis_workers.proofs.Applied.{log_within, cores_front, cores_slice, between_inside, slice_inside}
 use Rattle.std.specs.List.{flat_map}
 use Rattle.std.specs.Result.{is_ok}
-use Rattle.std.specs.declared.alloc.AllocError.{AllocError}
-use Rattle.std.proofs.lemmas.List.{length-map, take-append-le, take_all, append-nil}
+use Rattle.std.proofs.lemmas.List.{length-map, take-append-le, take_all}
 use Rattle.rubis_shadow.specs.declared.keyed_change.Effect.{Effect}
 use Rattle.rubis_model.proofs.Settling.{cores_append}
-use Rattle.rubis_workers.specs.Shard.{HoldsLog, shard_of_log, ShardState, union}
-use Rattle.rubis_workers.specs.Pieces.{AreFurther, HoldsTo, StopWithin, parts_behind}
+use Rattle.rubis_workers.specs.Shard.{HoldsLog, shard_of_log, ShardState}
+use Rattle.rubis_workers.specs.Pieces.{parts_behind}
 use Rattle.rubis_workers.proofs.Pieces.{behind_few, holds_none, holds_whole, fewer_behind}
-use Rattle.rubis_workers.specs.Logs.{AppliesTo, AppliesWhole, parts_between}
+use Rattle.rubis_workers.proofs.Shard.{union_of_log}
 use Rattle.rubis_replica.specs.Follow.{CanFollow, ComesTo, Follower, FollowsLog, HasStops, IsTriedTo, BatchBegins, IsProgress, IsStage, end_of, keeping}
 use Rattle.rubis_replica.specs.Follow.{left_of, resting_at, short}
 use Rattle.rubis_replica.specs.declared.progress.Progress.{Progress}
 use Rattle.rubis_replica.specs.declared.progress.Stage.{Stage}
 use Rattle.rubis_replica.specs.declared.progress.Stage.TheVariants.{Level, Keeping, Begun}
-use Rattle.rubis_shadow.specs.declared.shadows.Shadow.{Shadow}
-use Rattle.rubis_schema.specs.declared.refusals.Refusal.{Refusal}
-use Rattle.rubis_message.specs.declared.tokens.Token.{Token}
-use Rattle.rubis_workers.proofs.Shard.{union_of_log}
 
 has_get : (log : List Message) (i : ℕ) (d : Message) → i < length log → Has (get_or log i d) log
 has_get [] i d h = absurd (omega arith)

@@ -1,9 +1,7 @@
 -- Tries that are computed, and lists that are none.
-use Rattle.std.proofs.Common.{[], ◌∷◌, refl, ap, ◌∙◌}
-use Rattle.std.specs.Prelude.{Option, Some, None, Ok, Err}
+use Rattle.rubis_replica.proofs.Common.{[], ◌∷◌, refl, ap, ◌∙◌, Option, Some, None, Ok, Err, Token, Place, Replica}
 use Rattle.rubis_schema.specs.declared.refusals.Refusal.TheVariants.{NoToken}
-use Rattle.rubis_message.specs.declared.tokens.Token.{Token}
-use Rattle.rubis_model.specs.Site.{Place, Replica, opening_at}
+use Rattle.rubis_model.specs.Site.{opening_at}
 use Rattle.rubis_replica.specs.Tries.{AllLead, Answer, Try}
 use Rattle.rubis_replica.specs.Tries.Call.{Apply, Pass}
 use Rattle.rubis_replica.specs.Tries.Value.{Applied, Handed}

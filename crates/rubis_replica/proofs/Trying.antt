@@ -1,21 +1,14 @@
 -- Tries of a site's calls, and what lists of them come to.
-use Rattle.std.proofs.Common.{◌≡◌, ◌-◌, ◌++◌, List, [], ◌∷◌, length, map, Bool, true, false, cond, refl, sym, ap, ◌∙◌, subst, inl, inr, arith}
+use Rattle.rubis_replica.proofs.Common.{◌≡◌, ◌-◌, ◌++◌, List, [], ◌∷◌, length, map, Bool, true, false, cond, refl, sym, ap, ◌∙◌, subst, inl, inr}
+use Rattle.rubis_replica.proofs.Common.{arith, All, ◌||◌, ◌==◌, nat_le, OnOk, Option, Some, None, Result, Ok, Err, ℕ, Listing, Refusal, Ask, Shadow}
+use Rattle.rubis_replica.proofs.Common.{Message, Arrival, Token, decision, cores, fold_of, listed, listing_rows, Place, Replica, arrived, asked}
+use Rattle.rubis_replica.proofs.Common.{generating, is_full, is_repeat, not_ours, passed, passing, rows_at, standing_of, took}
 use Rattle.std.proofs.lemmas.List.Elements.{All-tail}
-use Rattle.std.specs.Prelude.{All, ◌||◌, ◌==◌, nat_le, not, OnOk, Option, Some, None, Result, Ok, Err, ℕ}
-use Rattle.rubis_schema.specs.declared.listings.Listing.{Listing}
-use Rattle.rubis_schema.specs.declared.refusals.Refusal.{Refusal}
+use Rattle.std.specs.Prelude.{not}
 use Rattle.rubis_schema.specs.declared.refusals.Refusal.TheVariants.{BadTarget, LastTurn, NotOurs, NotForMe, Full}
-use Rattle.rubis_shadow.specs.declared.shadows.Ask.{Ask}
-use Rattle.rubis_shadow.specs.declared.shadows.Shadow.{Shadow}
-use Rattle.rubis_message.specs.Message.{Message}
-use Rattle.rubis_message.specs.declared.answers.Arrival.{Arrival}
+use Rattle.rubis_model.specs.Site.{after_came, arrival_of, token_for}
 use Rattle.rubis_message.specs.declared.answers.Arrival.TheVariants as arrival
 use Rattle.rubis_message.specs.declared.answers.Taken.TheVariants as taken
-use Rattle.rubis_message.specs.declared.tokens.Token.{Token}
-use Rattle.rubis_generate.specs.Decision.{decision}
-use Rattle.rubis_model.specs.Log.{cores, fold_of}
-use Rattle.rubis_model.specs.Site.{listed, listing_rows, Place, Replica, after_came, arrival_of, arrived, asked, generating, is_full, is_repeat, not_ours}
-use Rattle.rubis_model.specs.Site.{passed, passing, rows_at, standing_of, token_for, took}
 use Rattle.rubis_replica.specs.State.{TakesFirst, after_all, answers_to, AddsRows, AnswersAsTheStep, SiteState}
 use Rattle.rubis_replica.specs.Tries.{AllLead, AnswersAsWithoutRefusals, AnswersTheSameAgain, Answer, Call, ComeTogether, IsIdle, Leads, Try, Value}
 use Rattle.rubis_replica.specs.Tries.{after_calls, answer_by, answers_given, answers_of, called, calls_answered, came_try, said, stopped_at, telling}

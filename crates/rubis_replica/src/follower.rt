@@ -332,7 +332,8 @@ impl<G: Gate> Follower<G> {
     {
         let from = self.progress.applied;
         let upto = self.progress.end();
-        follow_rest(&mut self.tables, log, &mut self.stops, upto);
+        let gate: &G = &self.workers.gate;
+        follow_rest(&mut self.tables, log, &mut self.stops, upto, gate);
         let left = count_behind(&log[from..upto], from, &self.stops);
         if left == 0 {
             self.progress = Progress::resting_at(upto);

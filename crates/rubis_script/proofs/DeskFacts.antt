@@ -1,18 +1,11 @@
 -- What a desk takes, by what its site answers.
-use Rattle.std.proofs.Common.{◌≡◌, ◌∙◌, ◌+◌, ◌++◌, ◌∷◌, [], ℕ, zero, suc, All, Bool, List, Option, ap, arith, false, subst, sym, true}
+use Rattle.rubis_script.proofs.Common.{◌≡◌, ◌∙◌, ◌+◌, ◌++◌, ◌∷◌, [], ℕ, zero, suc, All, Bool, List, Option, ap, arith, false, subst, sym, true}
+use Rattle.rubis_script.proofs.Common.{Message, sites_of, Listing, input_of, Input, Asked, site_after, after_all, input_step, Account, AnswersRecord}
+use Rattle.rubis_script.proofs.Common.{Keeps, GoesOn, breaks-unwritten}
 use Rattle.std.specs.Prelude.{if◌then◌else◌}
-use Rattle.rubis_message.specs.Message.{Message, sites_of}
-use Rattle.rubis_schema.specs.declared.listings.Listing.{Listing}
+use Rattle.rubis_engine.specs.Accounts.{LeadsAlike}
+use Rattle.rubis_engine.proofs.RunFacts.{answers-waiting}
 use Rattle.rubis_message.specs.declared.requests.Request.TheVariants as request
-use Rattle.rubis_message.specs.Inputs.{input_of}
-use Rattle.rubis_message.specs.declared.inputs.Input.{Input}
-use Rattle.rubis_message.specs.declared.inputs.Input.TheVariants.{Asked}
-use Rattle.rubis_model.specs.Processes.{site_after}
-use Rattle.rubis_replica.specs.State.{after_all}
-use Rattle.rubis_model.specs.Site.{input_step}
-use Rattle.rubis_engine.specs.Accounts.{Account, AnswersRecord, Keeps, LeadsAlike}
-use Rattle.rubis_engine.specs.declared.service.Course.TheVariants.{GoesOn}
-use Rattle.rubis_engine.proofs.RunFacts.{answers-waiting, breaks-unwritten}
 use Rattle.rubis_script.specs.Desks.{KeepsSetup, LeadsSite, TakesHeld, TakesNext, WritesNext, WritesPrefixFrom, left_at}
 use Rattle.rubis_script.specs.Windows.{WritesFront, WritesOff, listed_behind}
 use Rattle.rubis_script.specs.Headline.{Settles, StepsOn}

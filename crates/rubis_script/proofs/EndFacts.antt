@@ -1,20 +1,11 @@
 -- What the end of a run says of the site.
-use Rattle.std.proofs.Common.{◌≡◌, ◌∙◌, [], ℕ, List, Option, ap, refl, subst, sym, take}
-use Rattle.std.specs.Prelude.{IfSome, Result, Ok, Err, Some, None}
-use Rattle.std.specs.Io.KnownBytes.{Appends}
-use Rattle.rubis_model.specs.Processes.{site_after}
-use Rattle.rubis_model.specs.Site.{answers}
-use Rattle.rubis_replica.specs.State.{after_all, SiteState}
-use Rattle.rubis_engine.specs.Accounts.{Account, Ending}
-use Rattle.rubis_engine.specs.Accounts.Ending.{AtEnd, Cut}
-use Rattle.rubis_engine.specs.Progress.{WrotePrefix}
-use Rattle.rubis_engine.specs.Text.{input_records}
-use Rattle.rubis_engine.specs.declared.fault.Count.{Count}
-use Rattle.rubis_engine.specs.declared.fault.RunFault.{RunFault}
-use Rattle.rubis_engine.specs.declared.fault.RunFault.TheVariants as fault
+use Rattle.rubis_script.proofs.Common.{◌≡◌, ◌∙◌, [], ℕ, List, Option, ap, refl, subst, sym, take, IfSome, Result, Ok, Err, Some, None, Appends}
+use Rattle.rubis_script.proofs.Common.{site_after, answers, after_all, SiteState, Account, AtEnd, Cut, WrotePrefix, input_records, Count, RunFault}
+use Rattle.rubis_script.proofs.Common.{Chunks}
+use Rattle.rubis_engine.specs.Accounts.{Ending}
 use Rattle.rubis_reading.specs.Chunked.{HasAll, HasCome, HasPending}
-use Rattle.rubis_reading.specs.declared.chunks.Chunks.{Chunks}
 use Rattle.rubis_serving.specs.Serving.{EndsLed}
+use Rattle.rubis_engine.specs.declared.fault.RunFault.TheVariants as fault
 use Rattle.rubis_script.specs.Desks.{LeadsSite, left_at}
 use Rattle.rubis_script.specs.Headline.{HasAnswered}
 use Rattle.rubis_script.specs.Runs.{EndsWhole}

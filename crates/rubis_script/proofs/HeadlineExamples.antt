@@ -1,25 +1,22 @@
 -- What a run of one site says of it, worked out on two records: the token comes to site 1 of two sites, which then passes it back.
-use Rattle.std.proofs.Common.{◌≡◌, ◌∙◌, ◌++◌, ◌∷◌, [], ℕ, List, Option, Some, None, ap, arith, inl, inr, length, refl, sym, take}
-use Rattle.std.specs.Prelude.{is_some, Ok, Err, codes, ⊤}
-use mathlib.Core.Bool.{true≢false}
+use Rattle.rubis_script.proofs.Common.{◌≡◌, ◌∙◌, ◌++◌, ◌∷◌, [], ℕ, List, Option, Some, None, ap, arith, inl, inr, length, refl, sym, take, Ok, Err}
+use Rattle.rubis_script.proofs.Common.{codes, answers, input_step, Place, Replica, opening_at, site_after, input_of, Asked, Came, SiteState}
+use Rattle.rubis_script.proofs.Common.{input_records, rows_text, Count}
+use Rattle.std.specs.Prelude.{is_some, ⊤}
 use Rattle.rubis_message.specs.Grammar.{IsPacket, packet_record, request_record}
+use Rattle.rubis_message.specs.declared.tokens.Packet.{Packet}
+use Rattle.rubis_message.proofs.Records.{packet_is, request_is}
+use Rattle.rubis_model.specs.Site.{passed_rows, took_rows}
+use Rattle.rubis_model.specs.Processes.{IsLogOfProcess, Reading, answers_of, state_of}
+use Rattle.rubis_replica.specs.Follow.{resting_at}
+use Rattle.rubis_engine.proofs.ReadBack.{HaveFields, HasNoMark, no_mark, rows_back}
+use Rattle.rubis_message.proofs.FirstWords.{asked_is, token_is as token_read}
+use mathlib.Core.Bool.{true≢false}
 use Rattle.rubis_message.specs.declared.answers.Taken.TheVariants as taken
 use Rattle.rubis_message.specs.declared.requests.Request.TheVariants as request
-use Rattle.rubis_message.specs.declared.tokens.Packet.{Packet}
 use Rattle.rubis_message.specs.declared.tokens.Packet.TheVariants as packet
-use Rattle.rubis_message.proofs.Records.{packet_is, request_is}
-use Rattle.rubis_model.specs.Site.{passed_rows, took_rows, answers, input_step, Place, Replica, opening_at}
-use Rattle.rubis_model.specs.Processes.{IsLogOfProcess, Reading, answers_of, site_after, state_of}
-use Rattle.rubis_message.specs.Inputs.{input_of}
-use Rattle.rubis_message.specs.declared.inputs.Input.TheVariants.{Asked, Came}
-use Rattle.rubis_replica.specs.Follow.{resting_at}
-use Rattle.rubis_replica.specs.State.{SiteState}
-use Rattle.rubis_engine.specs.Text.{input_records, rows_text}
-use Rattle.rubis_engine.specs.declared.fault.Count.{Count}
 use Rattle.rubis_engine.specs.declared.fault.RunFault.TheVariants as fault
-use Rattle.rubis_engine.proofs.ReadBack.{HaveFields, HasNoMark, no_mark, rows_back}
 use Rattle.rubis_script.specs.Headline.{AnswersJust, HasAnswered, HasReadJust, OfRead, StandsAsProcess, WritesAsProcess}
-use Rattle.rubis_message.proofs.FirstWords.{asked_is, token_is as token_read}
 use Rattle.rubis_script.proofs.LeadFacts.{stands_as, writes_as}
 
 abbrev token_to_one : Packet

@@ -1,22 +1,11 @@
 -- Where records lead a site, one after the other, and what the end of a run says of it.
-use Rattle.std.proofs.Common.{◌∙◌, ◌+◌, ◌++◌, ◌∷◌, [], ap, append_assoc, arith, length, sym, ◌≡◌, ℕ, List, Option, Some, None, append-nil, refl, subst, take}
-use Rattle.rubis_message.specs.Inputs.{input_of}
-use Rattle.rubis_model.specs.Site.{answers, input_step, Place, Replica, arrived, opening_at}
+use Rattle.rubis_script.proofs.Common.{◌∙◌, ◌+◌, ◌++◌, ◌∷◌, [], ap, append_assoc, arith, length, sym, ◌≡◌, ℕ, List, Option, Some, None, append-nil}
+use Rattle.rubis_script.proofs.Common.{refl, subst, take, input_of, answers, input_step, Place, Replica, arrived, opening_at, IfSome, Result, Ok, Err}
+use Rattle.rubis_script.proofs.Common.{Appends, Message, Msg, site_after, Input, Came, TakesFirst, after_all, SiteState, AtEnd, IsRun, WrotePrefix}
+use Rattle.rubis_script.proofs.Common.{input_records, rows_text, Count, RunFault}
+use Rattle.rubis_model.specs.Processes.{process}
 use Rattle.rubis_script.specs.Headline.{ReplaysGoOn, after_records, AnswersAll, AnswersFirst, HasAnswered, OfRead, Settles, StandsAsProcess, StepsOn}
 use Rattle.rubis_script.specs.Headline.{WritesAsProcess}
-use Rattle.std.specs.Prelude.{IfSome, Result, Ok, Err}
-use Rattle.std.specs.Io.KnownBytes.{Appends}
-use Rattle.rubis_message.specs.Message.{Message}
-use Rattle.rubis_message.specs.declared.tokens.Packet.TheVariants.{Msg}
-use Rattle.rubis_model.specs.Processes.{process, site_after}
-use Rattle.rubis_message.specs.declared.inputs.Input.{Input}
-use Rattle.rubis_message.specs.declared.inputs.Input.TheVariants.{Came}
-use Rattle.rubis_replica.specs.State.{TakesFirst, after_all, SiteState}
-use Rattle.rubis_engine.specs.Accounts.Ending.{AtEnd}
-use Rattle.rubis_engine.specs.Progress.{IsRun, WrotePrefix}
-use Rattle.rubis_engine.specs.Text.{input_records, rows_text}
-use Rattle.rubis_engine.specs.declared.fault.Count.{Count}
-use Rattle.rubis_engine.specs.declared.fault.RunFault.{RunFault}
 use Rattle.rubis_engine.specs.declared.fault.RunFault.TheVariants as fault
 use Rattle.rubis_script.specs.SiteRuns.{told_by}
 

@@ -1,3 +1,4 @@
+pub mod Common
 pub mod WindowFacts
 pub mod LeadFacts
 pub mod HeadlineExamples

@@ -1,8 +1,7 @@
 -- The names of refusals call for no quotes, and are short.
-use Rattle.std.proofs.Common.{◌≡◌, ◌≤◌, length, refl, true, arith}
+use Rattle.rubis_script.proofs.Common.{◌≡◌, ◌≤◌, length, refl, true, arith, Refusal}
 use Rattle.rubis_schema.specs.FieldList.{is_plain}
 use Rattle.rubis_schema.specs.Refusals.{refusal_name}
-use Rattle.rubis_schema.specs.declared.refusals.Refusal.{Refusal}
 use Rattle.rubis_schema.specs.declared.refusals.Refusal.TheVariants as refusal
 
 pub name_plain : (r : Refusal) → is_plain (refusal_name r) ≡ true

@@ -1,34 +1,24 @@
 -- A run whose text is read by helpers, and how it goes on by records that were read ahead.
-use Rattle.std.proofs.Common.{◌≡◌, ◌∙◌, ◌+◌, ◌-◌, ◌++◌, ℕ, List, Option, ap, drop, subst, sym, take, ◌∷◌, zero, suc, [], All, append-nil, arith, length}
-use Rattle.std.proofs.Common.{length-append, refl}
-use Rattle.std.specs.Prelude.{Err, IfNone, IfOk, None, Ok, OnOk, Result, Some}
-use Rattle.rubis_model.specs.Processes.{site_after}
-use Rattle.rubis_replica.specs.State.{after_all}
-use Rattle.rubis_engine.specs.declared.fault.Count.{Count}
-use Rattle.rubis_engine.specs.declared.fault.RunFault.{RunFault}
-use Rattle.rubis_reading.specs.Chunked.{IsChunk, held_text}
-use Rattle.rubis_reading.specs.Readings.{AreOf, AreRead, KeepFor, TakesFirst, AreInputs, FitWindow, FitsWindow, all_came, flat, of_stretch}
-use Rattle.rubis_reading.specs.declared.chunks.Chunks.{Chunks}
+use Rattle.rubis_script.proofs.Common.{◌≡◌, ◌∙◌, ◌+◌, ◌-◌, ◌++◌, ℕ, List, Option, ap, drop, subst, sym, take, ◌∷◌, zero, suc, [], All, append-nil}
+use Rattle.rubis_script.proofs.Common.{arith, length, length-append, refl, Err, None, Ok, Result, Some, site_after, after_all, Count, RunFault}
+use Rattle.rubis_script.proofs.Common.{held_text, AreOf, AreInputs, FitsWindow, all_came, flat, of_stretch, Chunks, are_outlets, Message, sites_of}
+use Rattle.rubis_script.proofs.Common.{FitsIn, Input, Came, Msg, answers, input_records, rows_text, came-length}
+use Rattle.std.specs.Prelude.{IfNone, IfOk, OnOk}
+use Rattle.rubis_reading.specs.Chunked.{IsChunk}
+use Rattle.rubis_reading.specs.Readings.{AreRead, KeepFor, TakesFirst, FitWindow}
 use Rattle.rubis_reading.specs.declared.pieces.Pieces.{Pieces}
 use Rattle.rubis_reading.specs.declared.pieces.ReadPiece.{ReadPiece}
 use Rattle.rubis_reading.specs.declared.stretches.Stretch.{Stretch}
 use Rattle.rubis_serving.specs.Serving.{At, Finishes, Turns, Goes, Tears}
-use Rattle.rubis_serving.specs.Writers.{are_outlets}
 use Rattle.rubis_serving.proofs.GoFacts.{goes-kept, goes-as, goes-more, goes-none, goes-one, goes-tears, tears-as, tears-none, tears-sooner}
 use Rattle.rubis_serving.proofs.ServedFacts.{moves-kept, turns-on}
+use Rattle.rubis_message.specs.Inputs.{IsInput}
+use Rattle.rubis_reading.proofs.PieceFacts.{all-fit}
+use Rattle.rubis_serving.specs.Outlets.{IsOutlet, writes, writes_front}
 use Rattle.rubis_script.specs.Desks.{IsFolded, KeepsSetup, left_at, setup_of, TakesHeld, WritesNext, WritesPrefixFrom}
 use Rattle.rubis_script.specs.Runs.{by_desk, AreHeld, BreaksAhead, GoesAhead, IsSound}
 use Rattle.rubis_script.specs.Windows.{held_by, window_rows}
 use Rattle.rubis_script.specs.declared.desk.Desk.{Desk}
-use Rattle.rubis_message.specs.Message.{Message, sites_of}
-use Rattle.rubis_message.specs.Inputs.{FitsIn, IsInput}
-use Rattle.rubis_message.specs.declared.inputs.Input.{Input}
-use Rattle.rubis_message.specs.declared.inputs.Input.TheVariants.{Came}
-use Rattle.rubis_message.specs.declared.tokens.Packet.TheVariants.{Msg}
-use Rattle.rubis_model.specs.Site.{answers}
-use Rattle.rubis_engine.specs.Text.{input_records, rows_text}
-use Rattle.rubis_reading.proofs.PieceFacts.{all-fit, came-length}
-use Rattle.rubis_serving.specs.Outlets.{IsOutlet, writes, writes_front}
 use Rattle.rubis_script.proofs.DeskFacts.{leads-on, leads-settled}
 use Rattle.rubis_script.proofs.WindowFacts.{leads_all, rows_all}
 

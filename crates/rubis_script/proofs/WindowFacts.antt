@@ -1,35 +1,24 @@
 -- What a site answers to a record and to those after it, what writing a text out in part comes to, and what holding messages leaves to be written.
-use Rattle.std.proofs.Common.{◌≡◌, ◌+◌, ◌-◌, ◌++◌, ◌∷◌, ℕ, Bool, List, Err, Ok, Result, false, true, length, refl, ap, ◌∙◌, subst, sym, ◌≤◌, [], append_assoc}
-use Rattle.std.proofs.Common.{arith, length-append, Option, Some, None, append-nil, inl, inr}
+use Rattle.rubis_script.proofs.Common.{◌≡◌, ◌+◌, ◌-◌, ◌++◌, ◌∷◌, ℕ, Bool, List, Err, Ok, Result, false, true, length, refl, ap, ◌∙◌, subst, sym, ◌≤◌}
+use Rattle.rubis_script.proofs.Common.{[], append_assoc, arith, length-append, Option, Some, None, append-nil, inl, inr, Refusal, Message, Msg}
+use Rattle.rubis_script.proofs.Common.{answers, input_step, Place, Replica, arrived, input_of, Came, Asked, SiteState, TakesFirst, after_all}
+use Rattle.rubis_script.proofs.Common.{rows_text, site_after, Account, AnswersRecord, Keeps, GoesOn, AreInputs, all_came, Appends, Listing, AtEnd}
 use Rattle.std.specs.Prelude.{cond}
-use Rattle.rubis_schema.specs.declared.refusals.Refusal.{Refusal}
 use Rattle.rubis_schema.specs.declared.refusals.Refusal.TheVariants.{Full, NotOurs}
-use Rattle.rubis_message.specs.Message.{Message}
 use Rattle.rubis_message.specs.declared.answers.Arrival.{Arrival}
-use Rattle.rubis_message.specs.declared.answers.Arrival.TheVariants as arrival
-use Rattle.rubis_message.specs.declared.tokens.Packet.TheVariants.{Msg}
-use Rattle.rubis_model.specs.Site.{arrived_rows, answers, input_step, Place, Replica, after_came, arrival_of, arrived, is_full, is_repeat, not_ours}
-use Rattle.rubis_message.specs.Inputs.{input_of}
-use Rattle.rubis_message.specs.declared.inputs.Input.TheVariants.{Came, Asked}
-use Rattle.rubis_replica.specs.State.{AnswersAsTheStep, SiteState, TakesFirst, after_all, answers_to}
+use Rattle.rubis_model.specs.Site.{arrived_rows, after_came, arrival_of, is_full, is_repeat, not_ours}
+use Rattle.rubis_replica.specs.State.{AnswersAsTheStep, answers_to}
 use Rattle.rubis_replica.specs.declared.faults.Fault.{Fault}
-use Rattle.rubis_script.specs.Inputs.{IsAnswered, IsRefusedBy}
-use Rattle.rubis_engine.specs.Text.{rows_text}
 use Rattle.rubis_engine.proofs.TextFacts.{text-goes}
-use Rattle.rubis_model.specs.Processes.{site_after}
-use Rattle.rubis_engine.specs.Accounts.{Account, AnswersRecord, Keeps}
-use Rattle.rubis_engine.specs.declared.service.Course.TheVariants.{GoesOn}
-use Rattle.rubis_reading.specs.Readings.{AreInputs, all_came}
+use Rattle.rubis_engine.specs.Progress.{BreaksOff, AppendsFront, IsWrittenOrWaits}
+use Rattle.rubis_engine.proofs.RunFacts.{front-longer}
+use Rattle.rubis_engine.specs.Rows.{more_written}
+use Rattle.rubis_message.specs.declared.answers.Arrival.TheVariants as arrival
+use Rattle.rubis_script.specs.Inputs.{IsAnswered, IsRefusedBy}
 use Rattle.rubis_script.specs.SiteRuns.{told_by}
 use Rattle.rubis_script.specs.Windows.{arrivals_rows, held_by, window_rows, WritesFront, WritesOff, listed_behind}
 use Rattle.rubis_script.proofs.LeadFacts.{after_more}
-use Rattle.std.specs.Io.KnownBytes.{Appends}
-use Rattle.rubis_schema.specs.declared.listings.Listing.{Listing}
 use Rattle.rubis_message.specs.declared.requests.Request.TheVariants as request
-use Rattle.rubis_engine.specs.Progress.{BreaksOff, AppendsFront, IsWrittenOrWaits}
-use Rattle.rubis_engine.proofs.RunFacts.{front-longer}
-use Rattle.rubis_engine.specs.Accounts.Ending.{AtEnd}
-use Rattle.rubis_engine.specs.Rows.{more_written}
 
 goes_on : (p : Place) (s : Replica) (n : ℕ) (fields : List (List ℕ)) (more : List (List (List ℕ)))
     → let step = input_step p s n (input_of p.sites fields) in answers p s n (fields ∷ more) ≡ step.1 ++ answers p step.0 (n + 1) more

@@ -195,7 +195,8 @@ fn list_rows<R: Threads + Wait + Sync, W: Write>(
 /// A site with what it needs to read records and to write its answers.
 #[derive(Drop)]
 pub struct Desk<'a, T> {
-    rt: &'a T,
+    /// What its answers may share with other threads.
+    pub rt: &'a T,
     pub site: Site<SiteGate>,
     sites: u8,
     // How many messages are taken in together, where they are read one by one.
@@ -243,11 +244,6 @@ impl<'a, T> Desk<'a, T> {
             first: 1,
             alloc,
         })
-    }
-
-    /// What its answers may share with other threads.
-    pub fn runtime(&self) -> &'a T {
-        self.rt
     }
 
     /// How many sites there are.

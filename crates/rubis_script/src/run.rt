@@ -44,7 +44,7 @@ pub fn run_chunks<T: Threads + Wait + Sync, R: Read, W: Write>(
     if desk.plan.helpers == 0 {
         return run_service(alloc, chunks, writer, desk, limit);
     }
-    let rt = desk.runtime();
+    let rt = desk.rt;
     let mut run = Served::new(alloc);
     run_helped(rt, chunks, desk, &mut run, writer, limit)
 }

@@ -1,15 +1,10 @@
 -- The categories that listings show, among the rows of four maps.
-use Rattle.std.proofs.Common.{◌≡◌, ℕ, Bool, true, false, cond, List, [], ◌∷◌, ◌++◌, refl, sym, ap, ◌∙◌, append_assoc}
-use Rattle.std.specs.Prelude.{filter}
+use Rattle.rubis_shard.proofs.Common.{◌≡◌, ℕ, Bool, true, false, cond, List, [], ◌∷◌, ◌++◌, refl, sym, ap, ◌∙◌, append_assoc, filter, filter-append}
+use Rattle.rubis_shard.proofs.Common.{row_key, holds, IdKey, RowKey, Row}
 use Rattle.std.specs.FinMap as map
-use Rattle.std.proofs.lemmas.List.Elements.{filter-append}
-use Rattle.rubis_schema.specs.Keys.{row_key, holds}
-use Rattle.rubis_schema.specs.declared.id_keys.IdKey.{IdKey}
 use Rattle.rubis_schema.specs.declared.id_keys.IdTable.TheVariants as ids
-use Rattle.rubis_schema.specs.declared.row_keys.RowKey.{RowKey}
 use Rattle.rubis_schema.specs.declared.row_keys.RowKey.TheVariants as key
 use Rattle.rubis_schema.specs.declared.row_keys.Table.TheVariants as table
-use Rattle.rubis_schema.specs.declared.rows.Row.{Row}
 use Rattle.rubis_shard.specs.Listed.{categories_among, categories_of, shown_among, shows}
 use Rattle.rubis_shard.specs.Rows.{entries_of, kept_of}
 use Rattle.rubis_shard.specs.Chains.{written}

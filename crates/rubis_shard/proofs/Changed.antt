@@ -1,28 +1,17 @@
 -- A row of one map that is changed where it stands.
-use Rattle.std.proofs.Common.{◌≡◌, ◌-◌, Bool, true, false, List, sym, ap, ◌∙◌, subst, cond, refl}
-use Rattle.std.specs.Prelude.{Option, Some, None, is_none, is_some, not, nat_le, IsSome}
-use Rattle.std.specs.FinMap as map
-use Rattle.std.specs.List.{AllByRecursion}
-use Rattle.std.specs.Map.{lookup}
-use Rattle.indexmap.specs.IndexMap.{insert_entry}
-use Rattle.rubis_schema.specs.Keys.{row_key, same_id_key}
-use Rattle.rubis_schema.specs.declared.id_keys.IdKey.{IdKey}
-use Rattle.rubis_schema.specs.Tables.{Tables}
-use Rattle.rubis_schema.specs.declared.row_keys.RowKey.{RowKey}
-use Rattle.rubis_schema.specs.declared.rows.ItemRow.{ItemRow}
-use Rattle.rubis_schema.specs.declared.rows.Row.{Row}
-use Rattle.rubis_schema.specs.declared.rows.Row.TheVariants as row
-use Rattle.rubis_schema.specs.declared.rows.Sale.{Sale}
-use Rattle.rubis_schema.specs.declared.rows.Sale.TheVariants as sale
-use Rattle.rubis_shadow.specs.Changes.{after_part, change_row, count_up, fits_as, if_open, misfit_of, misfits_as, with_row, Done}
-use Rattle.rubis_shadow.specs.Freed.{FreesOnlyNicks, IsNick}
-use Rattle.rubis_shadow.specs.declared.changes.Change.{Change}
-use Rattle.rubis_shadow.specs.declared.changes.Change.TheVariants as change
+use Rattle.rubis_shard.proofs.Common.{◌≡◌, ◌-◌, Bool, true, false, List, sym, ap, ◌∙◌, subst, cond, refl, Option, Some, None, is_none, is_some}
+use Rattle.rubis_shard.proofs.Common.{nat_le, AllByRecursion, lookup, insert_entry, row_key, same_id_key, IdKey, Tables, RowKey, ItemRow, Row, Sale}
+use Rattle.rubis_shard.proofs.Common.{after_part, change_row, count_up, fits_as, if_open, misfits_as, with_row, Done, FreesOnlyNicks, IsNick, Change}
+use Rattle.rubis_shard.proofs.Common.{Effect, StockShort, after_none, misfit_none, none_of, row_stays}
+use Rattle.std.specs.Prelude.{not, IsSome}
+use Rattle.rubis_shadow.specs.Changes.{misfit_of}
 use Rattle.rubis_shadow.specs.declared.changes.Change.TheVariants.{Insert}
-use Rattle.rubis_shadow.specs.declared.keyed_change.Effect.{Effect}
 use Rattle.rubis_shadow.specs.declared.changes.Fate.{Fate}
-use Rattle.rubis_shadow.specs.declared.changes.MisfitKind.TheVariants.{StockShort}
-use Rattle.rubis_shadow.proofs.Rows.{after_alter, misfit_alter, after_none, misfit_none, remove_none, not_insert, none_of, row_stays}
+use Rattle.rubis_shadow.proofs.Rows.{after_alter, misfit_alter, remove_none, not_insert}
+use Rattle.std.specs.FinMap as map
+use Rattle.rubis_schema.specs.declared.rows.Row.TheVariants as row
+use Rattle.rubis_schema.specs.declared.rows.Sale.TheVariants as sale
+use Rattle.rubis_shadow.specs.declared.changes.Change.TheVariants as change
 use Rattle.rubis_shard.specs.Chains.{chains_of, IsLinkedSoFar, written}
 use Rattle.rubis_shard.specs.Rows.{no_row, IsAltered, IsChanged}
 use Rattle.rubis_shard.specs.declared.chains.Chains.{Chains}

@@ -1,19 +1,11 @@
 -- The rows that have a record, counted shard by shard.
-use Rattle.std.proofs.Common.{◌≡◌, ℕ, ◌+◌, ◌<◌, Bool, true, false, cond, ◌&&◌, refl, sym, ap, subst, ◌∙◌, arith, List, [], ◌∷◌, ◌++◌, drop, length}
-use Rattle.std.proofs.Common.{length-append}
-use Rattle.std.specs.Prelude.{None, Some, IfSome, Option, filter, flat_map, is_some, slice_index_or, suc, ◌≤◌}
-use Rattle.std.specs.List.{IsDistinct}
-use Rattle.std.specs.Map.{keys_of}
+use Rattle.rubis_shard.proofs.Common.{◌≡◌, ℕ, ◌+◌, ◌<◌, Bool, true, false, cond, ◌&&◌, refl, sym, ap, subst, ◌∙◌, arith, List, [], ◌∷◌, ◌++◌, drop}
+use Rattle.rubis_shard.proofs.Common.{length, length-append, None, Some, IfSome, Option, filter, flat_map, is_some, slice_index_or, suc, ◌≤◌}
+use Rattle.rubis_shard.proofs.Common.{IsDistinct, keys_of, drop_all, filter-append, IsDistinct-keys_filter, key_eq, key_order, key_total, RowKey, Row}
+use Rattle.rubis_shard.proofs.Common.{tables_of, get_tables_of}
+use Rattle.std.proofs.lemmas.List.{drop_more}
 use Rattle.std.specs.FinMap as map
-use Rattle.std.proofs.lemmas.List.{drop_all, drop_more}
-use Rattle.std.proofs.lemmas.List.Elements.{filter-append}
-use Rattle.std.proofs.lemmas.Map.Made.{IsDistinct-keys_filter}
-use Rattle.rubis_schema.specs.Keys.{key_eq, key_order}
-use Rattle.rubis_schema.specs.KeyLaws.{key_total}
-use Rattle.rubis_schema.specs.declared.row_keys.RowKey.{RowKey}
 use Rattle.rubis_schema.specs.declared.row_keys.RowKey.TheVariants as key
-use Rattle.rubis_schema.specs.declared.rows.Row.{Row}
-use Rattle.rubis_shadow.proofs.Rows.{tables_of, get_tables_of}
 use Rattle.rubis_shard.specs.Listed.{is_recorded, recorded_from, recorded_of}
 use Rattle.rubis_shard.specs.Holdings.{AreInOrder, union}
 use Rattle.rubis_shard.specs.Rows.{entries_of as entries_in, kept_of}

@@ -1,14 +1,8 @@
 -- The keys of rows in four maps differ.
-use Rattle.std.proofs.Common.{◌≡◌, Bool, true, false, List, [], ◌∷◌, ◌++◌, refl, sym, ap, ◌∙◌, subst}
-use Rattle.std.specs.List.{AllByRecursion, IsDistinct}
-use Rattle.std.specs.Map.{keys_of}
-use Rattle.rubis_schema.specs.IdKeyLaws.{same_id_key, same_as_row_keys}
-use Rattle.rubis_schema.specs.Keys.{row_key, key_eq}
-use Rattle.rubis_schema.specs.declared.id_keys.IdKey.{IdKey}
-use Rattle.rubis_schema.specs.declared.row_keys.RowKey.{RowKey}
+use Rattle.rubis_shard.proofs.Common.{◌≡◌, Bool, true, false, List, [], ◌∷◌, ◌++◌, refl, sym, ap, ◌∙◌, subst, AllByRecursion, IsDistinct, keys_of}
+use Rattle.rubis_shard.proofs.Common.{same_as_row_keys, row_key, key_eq, IdKey, RowKey, Row, bytes_eq, nat_eq}
+use Rattle.rubis_schema.specs.IdKeyLaws.{same_id_key}
 use Rattle.rubis_schema.specs.declared.row_keys.RowKey.TheVariants as key
-use Rattle.rubis_schema.specs.declared.rows.Row.{Row}
-use Rattle.std.specs.Prelude.{bytes_eq, nat_eq}
 use Rattle.rubis_shard.specs.Chains.{is_user, AreOthers, AreUsers, written}
 use Rattle.rubis_shard.specs.Rows.{entries_of}
 use Rattle.rubis_shard.specs.declared.row_map.Rows.{Rows}

@@ -1,18 +1,12 @@
 -- Parts folded on a shard, one more at a time, and that its rows stay at home.
-use Rattle.std.proofs.Common.{◌≡◌, ℕ, ◌+◌, ◌-◌, ◌<◌, ◌≤◌, List, [], ◌∷◌, ◌++◌, length, take, drop, get_or, Bool, true, false}
-use Rattle.std.proofs.Common.{cond, sym, ap, ◌∙◌, refl, subst, arith, length-drop, get_or-drop, ⊎_elim}
-use Rattle.std.specs.Prelude.{slice_get, slice_range, Some, IfSome, Option, nat_eq, Result, Ok, Err}
-use Rattle.std.specs.List.{All}
+use Rattle.rubis_shard.proofs.Common.{◌≡◌, ℕ, ◌+◌, ◌-◌, ◌<◌, ◌≤◌, List, [], ◌∷◌, ◌++◌, length, take, drop, get_or, Bool, true, false, cond, sym, ap}
+use Rattle.rubis_shard.proofs.Common.{◌∙◌, refl, subst, arith, ⊎_elim, slice_get, slice_range, Some, IfSome, Option, nat_eq, Result, Ok, Err, All}
+use Rattle.rubis_shard.proofs.Common.{Decides-eqb, take_more, slice_get-get_or, slice_get_within, get_or_from_slice_get, home, after_part, Numbered}
+use Rattle.rubis_shard.proofs.Common.{Folded, step, part_of}
+use Rattle.std.proofs.Common.{length-drop, get_or-drop}
 use Rattle.std.specs.Result.{OnOk, is_err}
-use Rattle.std.proofs.lemmas.Bool.Decides.{Decides-eqb}
-use Rattle.std.proofs.lemmas.List.{take_more}
 use Rattle.std.proofs.lemmas.List.Sums.{fold-append}
-use Rattle.std.proofs.lemmas.Option.{slice_get-get_or, slice_get_within, get_or_from_slice_get, slice_get_cases}
-use Rattle.rubis_schema.specs.Keys.{home}
-use Rattle.rubis_shadow.specs.Changes.{after_part}
-use Rattle.rubis_shadow.specs.declared.numbered.Numbered.{Numbered}
-use Rattle.rubis_model.specs.Log.{Folded, step}
-use Rattle.rubis_model.specs.Shares.{part_of}
+use Rattle.std.proofs.lemmas.Option.{slice_get_cases}
 use Rattle.rubis_model.proofs.Shares.{part_after}
 use Rattle.rubis_shard.specs.States.{ShardState, with_parts, IsHomeOf}
 

@@ -1,18 +1,8 @@
 -- The keys of a listing are those of its table whose rows it is of.
-use Rattle.std.proofs.Common.{◌≡◌, Bool, true, false, cond, [], ◌∷◌, refl, sym, ap, ◌∙◌}
-use Rattle.std.specs.Prelude.{Option, Some, filter}
+use Rattle.rubis_shard.proofs.Common.{◌≡◌, Bool, true, false, cond, [], ◌∷◌, refl, sym, ap, ◌∙◌, Option, Some, filter, AllByRecursion, IsDistinct}
+use Rattle.rubis_shard.proofs.Common.{keys_of, lookup, holds, key_eq, Decides-key_eq, key_eq_equiv, Tables, RowKey, Table, Row, rows_of, lookup_find}
+use Rattle.rubis_shard.proofs.Common.{is_of}
 use Rattle.std.specs.FinMap as map
-use Rattle.std.specs.List.{AllByRecursion, IsDistinct}
-use Rattle.std.specs.Map.{keys_of, lookup}
-use Rattle.rubis_schema.specs.Keys.{holds, key_eq}
-use Rattle.rubis_schema.specs.KeyLaws.{Decides-key_eq, key_eq_equiv}
-use Rattle.rubis_schema.specs.Tables.{Tables}
-use Rattle.rubis_schema.specs.declared.row_keys.RowKey.{RowKey}
-use Rattle.rubis_schema.specs.declared.row_keys.Table.{Table}
-use Rattle.rubis_schema.specs.declared.rows.Row.{Row}
-use Rattle.rubis_shadow.specs.Tables.{rows_of}
-use Rattle.rubis_shadow.proofs.Rows.{lookup_find}
-use Rattle.rubis_model.specs.Listings.{is_of}
 use Rattle.rubis_shard.specs.Groups.{group_of, is_of_row, listing_of, table_of}
 use Rattle.rubis_shard.specs.Listed.{listed_of, picked_by}
 use Rattle.rubis_shard.specs.declared.groups.Group.{Group}

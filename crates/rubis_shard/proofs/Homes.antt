@@ -1,16 +1,12 @@
 -- One message folded on the shards of a set, home by home.
-use Rattle.std.proofs.Common.{◌≡◌, ℕ, zero, suc, ◌+◌, ◌<◌, ◌≤◌, List, [], ◌∷◌, length, get_or, set, refl, sym, ap, ◌∙◌, subst, arith, cond, length-set, ⊎_elim}
-use Rattle.std.specs.Prelude.{None, Option, Some, slice_get, Result, Ok, Err, OnOk, OnErr}
-use Rattle.std.proofs.lemmas.Bool.{cases_eq, cases_lt}
-use Rattle.std.proofs.lemmas.List.{append-nil, set-get_or}
-use Rattle.std.proofs.lemmas.Option.{slice_get-get_or, slice_get_past, slice_get_within, get_or_from_slice_get}
-use Rattle.rubis_schema.specs.Keys.{home}
-use Rattle.rubis_schema.specs.declared.ids.Id.{Id}
-use Rattle.rubis_shadow.specs.declared.keyed_change.Effect.{Effect}
-use Rattle.rubis_shadow.specs.declared.numbered.Numbered.{Numbered}
-use Rattle.rubis_shadow.proofs.Footprint.{few_parts}
-use Rattle.rubis_model.specs.Log.{Core, Folded, fold_on, number_parts, parts_of, share}
-use Rattle.rubis_model.specs.Shares.{part_of}
+use Rattle.rubis_shard.proofs.Common.{◌≡◌, ℕ, zero, suc, ◌+◌, ◌<◌, ◌≤◌, List, [], ◌∷◌, length, get_or, set, refl, sym, ap, ◌∙◌, subst, arith, cond}
+use Rattle.rubis_shard.proofs.Common.{length-set, ⊎_elim, None, Option, Some, slice_get, Result, Ok, Err, OnOk, cases_lt, append-nil}
+use Rattle.rubis_shard.proofs.Common.{slice_get-get_or, slice_get_within, get_or_from_slice_get, home, Id, Effect, Numbered, few_parts, Core, Folded}
+use Rattle.rubis_shard.proofs.Common.{fold_on, number_parts, parts_of, share, part_of}
+use Rattle.std.specs.Prelude.{OnErr}
+use Rattle.std.proofs.lemmas.Bool.{cases_eq}
+use Rattle.std.proofs.lemmas.List.{set-get_or}
+use Rattle.std.proofs.lemmas.Option.{slice_get_past}
 use Rattle.rubis_shard.specs.States.{ShardState, with_parts}
 use Rattle.rubis_shard.specs.Holdings.{home_or, shard_of_log, parts_at, AreInOrder, FoldsOn, TakesOn, FoldsFrom, emptied, list_of, NoneAt}
 use Rattle.rubis_shard.specs.declared.part_homes.PartHomes.{PartHomes}

@@ -1,27 +1,16 @@
 -- What is found at a key of rows, which stand in four maps.
-use Rattle.std.proofs.Common.{◌≡◌, ℕ, Bool, true, false, cond, List, [], ◌∷◌, ◌++◌, refl, sym, ap, subst, ◌∙◌}
-use Rattle.std.specs.Prelude.{Option, Some, None, bytes_eq, nat_eq}
-use Rattle.std.proofs.lemmas.Bool.{false≢true}
-use Rattle.std.specs.List.{AllByRecursion}
-use Rattle.std.specs.Map.{lookup, set_value}
-use Rattle.rubis_schema.specs.IdKeyLaws.{same_id_key, same_as_row_keys}
-use Rattle.rubis_schema.specs.Keys.{row_key, key_eq}
-use Rattle.indexmap.specs.IndexMap.{insert_entry}
-use Rattle.rubis_schema.specs.KeyLaws.{Decides-key_eq}
-use Rattle.rubis_schema.specs.Tables.{Tables}
-use Rattle.rubis_schema.specs.declared.id_keys.IdKey.{IdKey}
+use Rattle.rubis_shard.proofs.Common.{◌≡◌, ℕ, Bool, true, false, cond, List, [], ◌∷◌, ◌++◌, refl, sym, ap, subst, ◌∙◌, Option, Some, None, bytes_eq}
+use Rattle.rubis_shard.proofs.Common.{nat_eq, false≢true, AllByRecursion, lookup, set_value, same_as_row_keys, row_key, key_eq, insert_entry}
+use Rattle.rubis_shard.proofs.Common.{Decides-key_eq, Tables, IdKey, RowKey, Row, tables_of, get_tables_of, with_row, IsNick}
+use Rattle.rubis_schema.specs.IdKeyLaws.{same_id_key}
+use Rattle.rubis_shadow.proofs.Rows.{tables_of_update, tables_of_remove}
+use Rattle.std.specs.Bool.{MatchBool}
 use Rattle.rubis_schema.specs.declared.id_keys.IdTable.TheVariants as table
-use Rattle.rubis_schema.specs.declared.row_keys.RowKey.{RowKey}
 use Rattle.rubis_schema.specs.declared.row_keys.RowKey.TheVariants as key
-use Rattle.rubis_schema.specs.declared.rows.Row.{Row}
-use Rattle.rubis_shadow.proofs.Rows.{tables_of, get_tables_of, tables_of_update, tables_of_remove}
-use Rattle.rubis_shadow.specs.Changes.{with_row}
-use Rattle.rubis_shadow.specs.Freed.{IsNick}
 use Rattle.rubis_shard.specs.Chains.{is_user, key_at, AreOthers, AreUsers, IsPlaced, written}
 use Rattle.rubis_shard.specs.declared.map_keys.MapPlace.{MapPlace}
 use Rattle.rubis_shard.specs.declared.map_keys.MapPlace.TheVariants as place
 use Rattle.rubis_shard.specs.declared.row_map.Rows.{Rows}
-use Rattle.std.specs.Bool.{MatchBool}
 use Rattle.std.specs.FinMap as map
 
 abbrev pub Entries : Type 0

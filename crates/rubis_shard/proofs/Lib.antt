@@ -1,3 +1,4 @@
+pub mod Common
 pub mod Openings
 pub mod Folds
 pub mod Picked

@@ -1,39 +1,27 @@
 -- Rows in chains: one more row, and that the rows that match a listing are found along them.
-use Rattle.std.proofs.Common.{◌≡◌, ℕ, zero, suc, ◌+◌, ◌-◌, ◌<◌, ◌≤◌, Bool, true, false, cond, List, [], ◌∷◌, ◌++◌, length, take, get_or, refl, sym, ap, ◌∙◌}
-use Rattle.std.proofs.Common.{subst, arith, length-append, inl, inr, ◌&&◌, reverse, append_assoc}
-use Rattle.std.specs.Prelude.{option_map, slice_get, slice_index, Option, None, Some, nat_le, OnOk, Result, Ok, Err, filter}
-use Rattle.std.specs.Option.{unwrap_or}
-use Rattle.std.proofs.lemmas.Bool.{cases_lt, false≢true}
-use Rattle.std.proofs.lemmas.List.{get_or_append_left, length-take-le, take-append-le, append-nil, take_all, take-map, get_or-map, length-map, reverse-append}
-use Rattle.std.specs.Map.{lookup, set_value}
-use Rattle.rubis_schema.specs.declared.row_keys.RowKey.{RowKey}
-use Rattle.rubis_schema.specs.declared.row_keys.RowKey.TheVariants as key
-use Rattle.rubis_schema.specs.declared.rows.ItemRow.{ItemRow}
-use Rattle.rubis_schema.specs.declared.rows.Row.{Row}
-use Rattle.rubis_schema.specs.declared.rows.Row.TheVariants as row
-use Rattle.rubis_schema.specs.declared.rows.Sale.{Sale}
-use Rattle.rubis_schema.specs.declared.rows.Sale.TheVariants as sale
-use Rattle.rubis_shadow.specs.Changes.{change_row, count_up, fits_as, if_open, misfits_as, removed, Done}
-use Rattle.rubis_schema.specs.Keys.{same_id, row_key, holds}
-use Rattle.rubis_shadow.specs.declared.changes.Change.{Change}
-use Rattle.rubis_shadow.specs.declared.changes.Change.TheVariants as change
-use Rattle.rubis_shadow.specs.declared.changes.MisfitKind.TheVariants.{OtherUser, StockShort}
+use Rattle.rubis_shard.proofs.Common.{◌≡◌, ℕ, zero, suc, ◌+◌, ◌-◌, ◌<◌, ◌≤◌, Bool, true, false, cond, List, [], ◌∷◌, ◌++◌, length, take, get_or, refl}
+use Rattle.rubis_shard.proofs.Common.{sym, ap, ◌∙◌, subst, arith, length-append, inl, inr, ◌&&◌, reverse, append_assoc, option_map, slice_get, Option}
+use Rattle.rubis_shard.proofs.Common.{None, Some, nat_le, OnOk, Result, Ok, Err, filter, unwrap_or, cases_lt, false≢true, append-nil, take_all}
+use Rattle.rubis_shard.proofs.Common.{get_or-map, length-map, lookup, set_value, RowKey, ItemRow, Row, Sale, change_row, count_up, fits_as, if_open}
+use Rattle.rubis_shard.proofs.Common.{misfits_as, Done, row_key, holds, Change, StockShort, IdKey, Decides-eqb, filter-append, get_or_from_slice_get}
+use Rattle.rubis_shard.proofs.Common.{Id, Listing, Table, new_category, is_of}
+use Rattle.std.specs.Prelude.{slice_index}
+use Rattle.std.proofs.lemmas.List.{get_or_append_left, length-take-le, take-append-le, take-map, reverse-append}
+use Rattle.rubis_shadow.specs.Changes.{removed}
+use Rattle.rubis_schema.specs.Keys.{same_id}
+use Rattle.rubis_shadow.specs.declared.changes.MisfitKind.TheVariants.{OtherUser}
 use Rattle.rubis_schema.specs.IdKeyLaws.{same_id_key, Decides-same_id_key}
-use Rattle.rubis_schema.specs.declared.id_keys.IdKey.{IdKey}
+use Rattle.std.proofs.lemmas.List.Elements.{filter_more}
+use Rattle.rubis_schema.specs.KeyLaws.{Decides-same_id}
+use Rattle.rubis_schema.specs.declared.row_keys.RowKey.TheVariants as key
+use Rattle.rubis_schema.specs.declared.rows.Row.TheVariants as row
+use Rattle.rubis_schema.specs.declared.rows.Sale.TheVariants as sale
+use Rattle.rubis_shadow.specs.declared.changes.Change.TheVariants as change
 use Rattle.rubis_schema.specs.declared.id_keys.IdTable.TheVariants as table
 use Rattle.rubis_shard.specs.Chains.{chain_of, chain_of_row, chain_of_users, chains_of, is_in, last_among, last_before, last_noted, IsLinkedSoFar, Links}
 use Rattle.rubis_shard.specs.Chains.{written, chain_by, chain_of_items, chain_with}
 use Rattle.rubis_shard.specs.declared.chains.Chains.{Chains}
-use Rattle.std.proofs.lemmas.Bool.Decides.{Decides-eqb}
-use Rattle.std.proofs.lemmas.List.Elements.{filter-append, filter_more}
-use Rattle.std.proofs.lemmas.Option.{get_or_from_slice_get}
-use Rattle.rubis_schema.specs.KeyLaws.{Decides-same_id}
-use Rattle.rubis_schema.specs.declared.ids.Id.{Id}
-use Rattle.rubis_schema.specs.declared.listings.Listing.{Listing}
 use Rattle.rubis_schema.specs.declared.listings.Listing.TheVariants as listing
-use Rattle.rubis_schema.specs.declared.row_keys.Table.{Table}
-use Rattle.rubis_shadow.specs.Tables.{new_category}
-use Rattle.rubis_model.specs.Listings.{is_of}
 use Rattle.rubis_shard.specs.Rows.{kept_of, linked_of}
 use Rattle.rubis_shard.specs.declared.row_map.LinkedRows.{LinkedRows}
 use Rattle.rubis_shard.specs.Listed.{listed_among}

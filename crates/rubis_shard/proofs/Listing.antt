@@ -1,27 +1,13 @@
 -- The rows of one table, shard by shard, put in key order, are those of the union.
-use Rattle.std.proofs.Common.{◌≡◌, ℕ, ◌+◌, ◌<◌, ◌≤◌, Bool, true, false, cond, refl, sym, ap, ◌∙◌, subst, arith, List, [], ◌∷◌, ◌++◌, length}
-use Rattle.std.specs.Prelude.{T, None, ◌&&◌, nat_eq, filter, flat_map}
-use Rattle.std.specs.List.{AllByRecursion, IsDistinct}
-use Rattle.std.specs.List.Sorted.{IsPermutation, IsSortedByKey}
-use Rattle.std.specs.Map.{keys_of}
-use Rattle.std.specs.Ordering.{is_lt, is_eq}
-use Rattle.std.specs.declared.cmp.Ordering.{Ordering}
-use Rattle.std.specs.declared.cmp.Ordering.TheVariants.{Less, Equal, Greater}
+use Rattle.rubis_shard.proofs.Common.{◌≡◌, ℕ, ◌+◌, ◌<◌, ◌≤◌, Bool, true, false, cond, refl, sym, ap, ◌∙◌, subst, arith, List, [], ◌∷◌, ◌++◌, length}
+use Rattle.rubis_shard.proofs.Common.{T, None, ◌&&◌, nat_eq, filter, flat_map, AllByRecursion, IsDistinct, IsPermutation, IsSortedByKey, keys_of}
+use Rattle.rubis_shard.proofs.Common.{is_lt, Ordering, Less, Equal, Greater, below_all, is_sorted, Decides-eqb, filter-append, holds, home, key_eq}
+use Rattle.rubis_shard.proofs.Common.{key_order, Decides-key_eq, Tables, RowKey, Table, Row, rows_of, first_of, rows_listed, part_of, same_tables}
+use Rattle.rubis_shard.proofs.Common.{get-part_of}
+use Rattle.std.specs.Ordering.{is_eq}
+use Rattle.std.specs.FinMap.Entries.{is_sorted-where_key, find-where_key}
+use Rattle.rubis_schema.specs.KeyLaws.{key_antisymmetric, tied-key_eq}
 use Rattle.std.specs.FinMap as map
-use Rattle.std.specs.FinMap.Entries.{below_all, is_sorted, is_sorted-where_key, find-where_key}
-use Rattle.std.proofs.lemmas.Bool.Decides.{Decides-eqb}
-use Rattle.std.proofs.lemmas.List.Elements.{filter-append}
-use Rattle.rubis_schema.specs.Keys.{holds, home, key_eq, key_order}
-use Rattle.rubis_schema.specs.KeyLaws.{key_antisymmetric, Decides-key_eq, tied-key_eq}
-use Rattle.rubis_schema.specs.Tables.{Tables}
-use Rattle.rubis_schema.specs.declared.row_keys.RowKey.{RowKey}
-use Rattle.rubis_schema.specs.declared.row_keys.Table.{Table}
-use Rattle.rubis_schema.specs.declared.rows.Row.{Row}
-use Rattle.rubis_shadow.specs.Tables.{rows_of}
-use Rattle.rubis_shadow.proofs.Entries.{first_of}
-use Rattle.rubis_shadow.proofs.Listed.{rows_listed}
-use Rattle.rubis_model.specs.Shares.{part_of}
-use Rattle.rubis_model.proofs.Shares.{same_tables, get-part_of}
 use Rattle.rubis_shard.specs.States.{ShardState}
 use Rattle.rubis_shard.specs.Holdings.{AreInOrder, union}
 use Rattle.rubis_shard.proofs.Unions.{AreFrom, entries_of, from_rest, from_first}

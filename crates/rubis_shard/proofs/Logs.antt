@@ -1,12 +1,7 @@
 -- What the shards of a log hold, and how a batch after it is folded on.
-use Rattle.std.proofs.Common.{ℕ, ◌≡◌, ◌+◌, ◌<◌, List, ◌++◌, length, sym, ap, ◌∙◌, arith}
-use Rattle.std.specs.Prelude.{Some, nat_eq, filter, slice_get}
-use Rattle.std.proofs.lemmas.List.Elements.{filter-append}
-use Rattle.std.proofs.lemmas.Option.{slice_get_within}
-use Rattle.rubis_schema.specs.Keys.{home}
-use Rattle.rubis_shadow.specs.Tables.{opening}
-use Rattle.rubis_model.specs.Log.{Core, fold_of, numbered_from, share}
-use Rattle.rubis_model.specs.Shares.{part_of}
+use Rattle.rubis_shard.proofs.Common.{ℕ, ◌≡◌, ◌+◌, ◌<◌, List, ◌++◌, length, sym, ap, ◌∙◌, arith, Some, nat_eq, filter, slice_get, filter-append}
+use Rattle.rubis_shard.proofs.Common.{slice_get_within, home, opening, Core, fold_of, share, part_of}
+use Rattle.rubis_model.specs.Log.{numbered_from}
 use Rattle.rubis_model.proofs.Shares.{numbered_append, share_is_part}
 use Rattle.rubis_shard.specs.States.{ShardState, opening_shard, with_parts}
 use Rattle.rubis_shard.specs.Holdings.{shard_of_log, parts_at, HoldsLog, AreInOrder, IsSet, FoldsAtHome}

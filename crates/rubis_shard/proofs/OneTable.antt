@@ -1,21 +1,11 @@
 -- The rows that match a listing, among those of four maps.
-use Rattle.std.proofs.Common.{◌≡◌, ℕ, Bool, true, false, cond, ◌&&◌, ◌+◌, ◌<◌, List, [], ◌∷◌, ◌++◌, drop, take, length, refl, sym, ap, ◌∙◌, append_assoc, arith}
-use Rattle.std.specs.Prelude.{Some, filter, option_map, slice_get, zero, suc}
-use Rattle.std.specs.List.{AllByRecursion}
-use Rattle.std.proofs.lemmas.Bool.{false≢true}
-use Rattle.std.proofs.lemmas.List.{append-nil, take-append-drop}
-use Rattle.std.proofs.lemmas.List.Elements.{filter-append}
-use Rattle.rubis_schema.specs.Keys.{row_key, holds}
-use Rattle.rubis_schema.specs.declared.id_keys.IdKey.{IdKey}
-use Rattle.rubis_schema.specs.declared.id_keys.IdTable.{IdTable}
+use Rattle.rubis_shard.proofs.Common.{◌≡◌, ℕ, Bool, true, false, cond, ◌&&◌, ◌+◌, ◌<◌, List, [], ◌∷◌, ◌++◌, drop, take, length, refl, sym, ap, ◌∙◌}
+use Rattle.rubis_shard.proofs.Common.{append_assoc, arith, Some, filter, option_map, slice_get, zero, suc, AllByRecursion, false≢true, append-nil}
+use Rattle.rubis_shard.proofs.Common.{filter-append, row_key, holds, IdKey, IdTable, Listing, RowKey, Table, Row, is_of}
+use Rattle.std.proofs.lemmas.List.{take-append-drop}
 use Rattle.rubis_schema.specs.declared.id_keys.IdTable.TheVariants as table
-use Rattle.rubis_schema.specs.declared.listings.Listing.{Listing}
-use Rattle.rubis_schema.specs.declared.row_keys.RowKey.{RowKey}
 use Rattle.rubis_schema.specs.declared.row_keys.RowKey.TheVariants as key
-use Rattle.rubis_schema.specs.declared.row_keys.Table.{Table}
 use Rattle.rubis_schema.specs.declared.row_keys.Table.TheVariants as tables
-use Rattle.rubis_schema.specs.declared.rows.Row.{Row}
-use Rattle.rubis_model.specs.Listings.{is_of}
 use Rattle.rubis_shard.specs.Listed.{listed_among, table_with}
 use Rattle.rubis_shard.specs.Chains.{is_user, AreOthers, AreUsers, written}
 use Rattle.rubis_shard.specs.Rows.{entries_of, kept_of, rows_with}

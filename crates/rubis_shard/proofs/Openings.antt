@@ -1,24 +1,14 @@
 -- The opening rows of one shard, and that they are at home there.
-use Rattle.std.proofs.Common.{◌≡◌, ℕ, zero, suc, ◌+◌, ◌<◌, arith, Bool, true, false, cond, refl, sym, ap, ◌∙◌}
-use Rattle.std.specs.Prelude.{[], Option, Some, None, filter, nat_eq}
+use Rattle.rubis_shard.proofs.Common.{◌≡◌, ℕ, zero, suc, ◌+◌, ◌<◌, arith, Bool, true, false, cond, refl, sym, ap, ◌∙◌, [], Option, Some, None, filter}
+use Rattle.rubis_shard.proofs.Common.{nat_eq, lookup, holds, home, key_eq, key_order, Tables, Listing, RowKey, Table, Row, categories_from}
+use Rattle.rubis_shard.proofs.Common.{new_category, rows_of, get_tables_of, part_of, same_tables, get-part_of, Decides-eqb}
+use Rattle.rubis_model.proofs.Shares.{part_with_row}
 use Rattle.std.specs.FinMap as map
-use Rattle.std.specs.Map.{lookup}
-use Rattle.rubis_schema.specs.Keys.{holds, home, key_eq, key_order}
-use Rattle.rubis_schema.specs.Tables.{Tables}
-use Rattle.rubis_schema.specs.declared.listings.Listing.{Listing}
-use Rattle.rubis_schema.specs.declared.row_keys.RowKey.{RowKey}
 use Rattle.rubis_schema.specs.declared.row_keys.RowKey.TheVariants as key
-use Rattle.rubis_schema.specs.declared.row_keys.Table.{Table}
-use Rattle.rubis_schema.specs.declared.rows.Row.{Row}
-use Rattle.rubis_shadow.specs.Tables.{categories_from, new_category, rows_of}
-use Rattle.rubis_shadow.proofs.Rows.{get_tables_of}
-use Rattle.rubis_model.specs.Shares.{part_of}
-use Rattle.rubis_model.proofs.Shares.{same_tables, get-part_of, part_with_row}
 use Rattle.rubis_shard.specs.Listed.{listed_of, picked_by}
 use Rattle.rubis_shard.specs.States.{held_in, nothing_held}
 use Rattle.rubis_shard.specs.declared.shard_store.Store.{Store}
 use Rattle.rubis_shard.proofs.Picked.{no_items}
-use Rattle.std.proofs.lemmas.Bool.Decides.{Decides-eqb}
 
 other_number : (a b : ℕ) → ¬ (a ≡ b) → nat_eq a b ≡ false
 other_number a b apart = at (nat_eq a b) refl

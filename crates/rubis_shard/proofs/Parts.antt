@@ -1,15 +1,7 @@
 -- The parts of one message, shard by shard.
-use Rattle.std.proofs.Common.{◌≡◌, ℕ, ◌≤◌, List, [], ◌∷◌, ◌++◌, length, refl, sym, ap, ◌∙◌, arith}
-use Rattle.std.specs.Prelude.{nat_eq, slice_get}
-use Rattle.std.proofs.lemmas.List.Elements.{filter-append}
-use Rattle.rubis_schema.specs.Keys.{home}
-use Rattle.rubis_schema.specs.declared.ids.Id.{Id}
-use Rattle.rubis_shadow.specs.declared.numbered.Numbered.{Numbered}
-use Rattle.rubis_shadow.specs.declared.keyed_change.Effect.{Effect}
+use Rattle.rubis_shard.proofs.Common.{◌≡◌, ℕ, ◌≤◌, List, [], ◌∷◌, ◌++◌, length, refl, sym, ap, ◌∙◌, arith, nat_eq, slice_get, filter-append, home, Id}
+use Rattle.rubis_shard.proofs.Common.{Numbered, Effect, few_parts, Folded, fold_on, number_parts, parts_of, part_of}
 use Rattle.rubis_shadow.specs.declared.parts.TheConstants.{PARTS_MAX}
-use Rattle.rubis_shadow.proofs.Footprint.{few_parts}
-use Rattle.rubis_model.specs.Log.{Folded, fold_on, number_parts, parts_of}
-use Rattle.rubis_model.specs.Shares.{part_of}
 use Rattle.rubis_model.proofs.Shares.{fold_on_is, share_tables, tables_after}
 use Rattle.rubis_shard.specs.Holdings.{parts_at, core_of, numbered_of, at_place, list_of}
 use Rattle.rubis_shard.specs.declared.entries.LogEntry.{LogEntry}

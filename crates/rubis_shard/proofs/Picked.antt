@@ -1,46 +1,27 @@
 -- The rows that match a listing, put in key order.
-use Rattle.std.proofs.Common.{◌≡◌, ℕ, zero, suc, ◌+◌, ◌<◌, List, [], ◌∷◌, ◌++◌, length, set, refl, sym, ap, ◌∙◌, arith, length-set, get_or-set_same}
-use Rattle.std.proofs.Common.{get_or-set_other, ⊎_elim, inl, inr, ◌*◌, ◌^◌, ◌≤◌, Bool, true, false, cond, T, ◌&&◌, subst, take, map as each, Bor}
-use Rattle.std.specs.Prelude.{slice_get, Some, ◌⊎◌, None, Option, filter, flat_map, slice_index_or}
-use Rattle.std.proofs.lemmas.Option.{slice_get-get_or}
+use Rattle.rubis_shard.proofs.Common.{◌≡◌, ℕ, zero, suc, ◌+◌, ◌<◌, List, [], ◌∷◌, ◌++◌, length, set, refl, sym, ap, ◌∙◌, arith, length-set, ⊎_elim}
+use Rattle.rubis_shard.proofs.Common.{inl, inr, ◌≤◌, Bool, true, false, cond, T, ◌&&◌, subst, take, map as each, Bor, slice_get, Some, None, Option}
+use Rattle.rubis_shard.proofs.Common.{filter, flat_map, slice_index_or, slice_get-get_or, nat_cmp, is_lt, Ordering, Less, Equal, Greater, key_order}
+use Rattle.rubis_shard.proofs.Common.{holds, key_eq, RowKey, AllByRecursion, IsDistinct, IsPermutation, IsSortedByKey, keys_of, lookup, below_all}
+use Rattle.rubis_shard.proofs.Common.{is_sorted, append-nil, take_more, get_or-map, length-map, filter-append, IsPermutation-append_left}
+use Rattle.rubis_shard.proofs.Common.{IsPermutation-append_right, IsPermutation-sym, IsPermutation-trans, IsDistinct-keys_filter, Decides-key_eq}
+use Rattle.rubis_shard.proofs.Common.{IdTable, Tables, Listing, Table, Row, rows_of, first_of, rows_listed, tables_of, get_tables_of, lookup_find}
+use Rattle.rubis_shard.proofs.Common.{is_of, part_of, same_tables}
+use Rattle.std.proofs.Common.{get_or-set_same, get_or-set_other, ◌*◌, ◌^◌}
+use Rattle.std.specs.Prelude.{◌⊎◌}
 use Rattle.std.specs.Cmp.{nat_cmp_is}
 use Rattle.std.specs.Cmp.Lexicographic.{slice_cmp}
-use Rattle.std.specs.Ordering.{nat_cmp, ordering_then, is_lt}
-use Rattle.std.specs.declared.cmp.Ordering.{Ordering}
-use Rattle.std.specs.declared.cmp.Ordering.TheVariants.{Less, Equal, Greater}
+use Rattle.std.specs.Ordering.{ordering_then}
 use Rattle.std.proofs.lemmas.Bool.{cases_order}
-use Rattle.rubis_schema.specs.Keys.{key_order, holds, key_eq}
-use Rattle.rubis_schema.specs.declared.row_keys.RowKey.{RowKey}
+use Rattle.std.proofs.lemmas.Grind.{flat_map-append}
 use Rattle.rubis_schema.specs.declared.row_keys.RowKey.TheVariants as key
 use Rattle.rubis_shard.specs.Listed.{key_number, key_place, key_seq, key_site, listed_key, place_of, FitsKey, IsListed, categories_among, categories_of}
 use Rattle.rubis_shard.specs.Listed.{listed_among, listed_of, picked_by, shows, table_with}
 use Rattle.rubis_shard.specs.declared.listed_rows.ListedTable.{ListedTable}
 use Rattle.rubis_shard.specs.declared.listed_rows.ListedTable.TheVariants as listed
-use Rattle.std.specs.List.{AllByRecursion, IsDistinct}
-use Rattle.std.specs.List.Sorted.{IsPermutation, IsSortedByKey}
-use Rattle.std.specs.Map.{keys_of, lookup}
 use Rattle.std.specs.FinMap as map
-use Rattle.std.specs.FinMap.Entries.{below_all, is_sorted}
-use Rattle.std.proofs.lemmas.Grind.{flat_map-append}
-use Rattle.std.proofs.lemmas.List.{append-nil, take_more, get_or-map, length-map}
-use Rattle.std.proofs.lemmas.List.Elements.{filter-append}
-use Rattle.std.proofs.lemmas.List.Sorted.{IsPermutation-append_left, IsPermutation-append_right, IsPermutation-sym, IsPermutation-trans}
-use Rattle.std.proofs.lemmas.Map.Made.{IsDistinct-keys_filter}
-use Rattle.rubis_schema.specs.KeyLaws.{Decides-key_eq}
-use Rattle.rubis_schema.specs.declared.id_keys.IdTable.{IdTable}
-use Rattle.rubis_schema.specs.Tables.{Tables}
-use Rattle.rubis_schema.specs.declared.listings.Listing.{Listing}
 use Rattle.rubis_schema.specs.declared.listings.Listing.TheVariants as listing
-use Rattle.rubis_schema.specs.declared.row_keys.Table.{Table}
 use Rattle.rubis_schema.specs.declared.row_keys.Table.TheVariants as table
-use Rattle.rubis_schema.specs.declared.rows.Row.{Row}
-use Rattle.rubis_shadow.specs.Tables.{rows_of}
-use Rattle.rubis_shadow.proofs.Entries.{first_of}
-use Rattle.rubis_shadow.proofs.Listed.{rows_listed}
-use Rattle.rubis_shadow.proofs.Rows.{tables_of, get_tables_of, lookup_find}
-use Rattle.rubis_model.specs.Listings.{is_of}
-use Rattle.rubis_model.specs.Shares.{part_of}
-use Rattle.rubis_model.proofs.Shares.{same_tables}
 use Rattle.rubis_shard.specs.Holdings.{AreInOrder, union}
 use Rattle.rubis_shard.specs.Rows.{entries_of as entries_in, kept_of, rows_with, tables_in}
 use Rattle.rubis_shard.specs.declared.row_map.Rows.{Rows}

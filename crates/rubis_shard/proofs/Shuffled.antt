@@ -1,19 +1,13 @@
 -- Entries with different keys that are found alike are the same, in some order.
-use Rattle.std.proofs.Common.{◌≡◌, Bool, false, ⊎_elim, refl, sym, ap, subst, ◌∙◌, List, [], ◌∷◌, arith}
-use Rattle.std.specs.Prelude.{None, Some, Option, is_some, cond}
-use Rattle.std.specs.Option.{unwrap_or}
-use Rattle.std.specs.List.{AllByRecursion, IsDistinct}
-use Rattle.std.specs.List.Sorted.{IsPermutation}
-use Rattle.std.specs.Map.{keys_of, lookup, remove_entry}
-use Rattle.std.proofs.lemmas.Bool.{cases_Bool, cond-true, cond-false, cond_both, false≢true}
-use Rattle.std.proofs.lemmas.List.Sorted.{IsPermutation-refl, IsPermutation-sym, IsPermutation-trans, IsPermutation-cons, IsPermutation-swap}
+use Rattle.rubis_shard.proofs.Common.{◌≡◌, Bool, false, ⊎_elim, refl, sym, ap, subst, ◌∙◌, List, [], ◌∷◌, arith, None, Some, Option, is_some, cond}
+use Rattle.rubis_shard.proofs.Common.{unwrap_or, AllByRecursion, IsDistinct, IsPermutation, keys_of, lookup, false≢true, IsPermutation-refl}
+use Rattle.rubis_shard.proofs.Common.{IsPermutation-sym, IsPermutation-trans, key_eq, Decides-key_eq, key_eq_equiv, RowKey, Row}
+use Rattle.std.specs.Map.{remove_entry}
+use Rattle.std.proofs.lemmas.Bool.{cases_Bool, cond-true, cond-false, cond_both}
+use Rattle.std.proofs.lemmas.List.Sorted.{IsPermutation-cons, IsPermutation-swap}
 use Rattle.std.proofs.lemmas.Map.{lookup-remove_entry}
 use Rattle.std.proofs.lemmas.Map.Keys.{IsDistinct-head, IsDistinct-tail, IsDistinct-cons}
 use Rattle.std.proofs.lemmas.Map.Entries.{lookup_head, lookup_tail}
-use Rattle.rubis_schema.specs.Keys.{key_eq}
-use Rattle.rubis_schema.specs.KeyLaws.{Decides-key_eq, key_eq_equiv}
-use Rattle.rubis_schema.specs.declared.row_keys.RowKey.{RowKey}
-use Rattle.rubis_schema.specs.declared.rows.Row.{Row}
 
 abbrev Entries : Type 0
 Entries = List (RowKey × Row)

@@ -1,15 +1,9 @@
 -- Where there is one shard, it is the home of each row and of each part.
-use Rattle.std.proofs.Common.{◌≡◌, List, [], ◌∷◌, cond, refl, ap, ◌∙◌}
-use Rattle.std.specs.Prelude.{None, nat_eq}
-use Rattle.std.specs.FinMap as map
+use Rattle.rubis_shard.proofs.Common.{◌≡◌, List, [], ◌∷◌, cond, refl, ap, ◌∙◌, None, nat_eq, home, Tables, RowKey, Numbered, part_of, same_tables}
+use Rattle.rubis_shard.proofs.Common.{get-part_of}
 use Rattle.std.proofs.Math.Nat.{mod-one}
-use Rattle.rubis_schema.specs.Keys.{home}
-use Rattle.rubis_schema.specs.Tables.{Tables}
-use Rattle.rubis_schema.specs.declared.row_keys.RowKey.{RowKey}
+use Rattle.std.specs.FinMap as map
 use Rattle.rubis_schema.specs.declared.row_keys.RowKey.TheVariants as key
-use Rattle.rubis_shadow.specs.declared.numbered.Numbered.{Numbered}
-use Rattle.rubis_model.specs.Shares.{part_of}
-use Rattle.rubis_model.proofs.Shares.{same_tables, get-part_of}
 use Rattle.rubis_shard.specs.Holdings.{parts_at}
 
 pub home_of_one : (k : RowKey) → home 1 k ≡ 0

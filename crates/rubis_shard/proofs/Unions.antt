@@ -1,17 +1,11 @@
 -- The union of shards: a key's row is that of its home shard.
-use Rattle.std.proofs.Common.{ℕ, zero, suc, ◌≡◌, ◌+◌, ◌<◌, List, [], ◌∷◌, ◌++◌, length, Bool, true, false, cond, refl, sym, ap, ◌∙◌, arith}
-use Rattle.std.specs.Prelude.{Option, Some, None, nat_eq, flat_map, slice_get}
+use Rattle.rubis_shard.proofs.Common.{ℕ, zero, suc, ◌≡◌, ◌+◌, ◌<◌, List, [], ◌∷◌, ◌++◌, length, Bool, true, false, cond, refl, sym, ap, ◌∙◌, arith}
+use Rattle.rubis_shard.proofs.Common.{Option, Some, None, nat_eq, flat_map, slice_get, Decides-eqb, home, key_order, key_total, RowKey, Row, Core}
+use Rattle.rubis_shard.proofs.Common.{fold_of, part_of, same_tables, get-part_of}
 use Rattle.std.specs.Option.{option_or}
-use Rattle.std.proofs.lemmas.Bool.Decides.{Decides-eqb}
-use Rattle.std.specs.FinMap as map
-use Rattle.rubis_schema.specs.Keys.{home, key_order, tied}
-use Rattle.rubis_schema.specs.KeyLaws.{key_total}
-use Rattle.rubis_schema.specs.declared.row_keys.RowKey.{RowKey}
-use Rattle.rubis_schema.specs.declared.rows.Row.{Row}
-use Rattle.rubis_model.specs.Log.{Core, fold_of}
-use Rattle.rubis_model.specs.Shares.{part_of}
-use Rattle.rubis_model.proofs.Shares.{same_tables, get-part_of}
+use Rattle.rubis_schema.specs.Keys.{tied}
 use Rattle.rubis_model.proofs.InPlace.{home_within}
+use Rattle.std.specs.FinMap as map
 use Rattle.rubis_shard.specs.States.{ShardState}
 use Rattle.rubis_shard.specs.Holdings.{shard_of_log, HoldsLog, AreInOrder, union}
 use Rattle.rubis_shard.proofs.Folds.{not_equal}

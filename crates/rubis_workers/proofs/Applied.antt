@@ -1,34 +1,31 @@
 -- A batch of a log that was applied, whole or as far as memory went.
-use Rattle.std.proofs.Common.{◌≡◌, ℕ, zero, suc, ◌+◌, ◌-◌, ◌*◌, ◌<◌, ◌≤◌, List, [], ◌∷◌, ◌++◌, length, length-append, length-drop, get_or, take, drop, sym, ap}
-use Rattle.std.proofs.Common.{◌∙◌, arith, inl, inr, subst, refl, ⊎_elim}
-use Rattle.std.specs.Prelude.{slice_range, ◌⊎◌, All, Some, map, slice_index, Result, Ok, Err, OnOk, OnErr, true}
-use Rattle.std.specs.List.{flat_map}
+use Rattle.rubis_workers.proofs.Common.{◌≡◌, ℕ, zero, suc, ◌+◌, ◌-◌, ◌*◌, ◌<◌, ◌≤◌, List, [], ◌∷◌, ◌++◌, length, get_or, take, sym, ap, ◌∙◌, arith}
+use Rattle.rubis_workers.proofs.Common.{inl, inr, subst, refl, ⊎_elim, slice_range, Some, map, slice_index, Result, Ok, Err, true, flat_map}
+use Rattle.rubis_workers.proofs.Common.{get_or_default, length-map, parts, Shadow, Message, IsMessage, cores, parts_of, Core, HoldsLog, AreInOrder}
+use Rattle.rubis_workers.proofs.Common.{IsSet, ShardState, slice_get_cases, slice_get_within, AreFollowed, HoldsTo}
+use Rattle.std.proofs.Common.{length-append, length-drop, drop}
+use Rattle.std.specs.Prelude.{◌⊎◌, All, OnOk, OnErr}
 use Rattle.std.proofs.Math.Seq.{take-add}
 use Rattle.std.proofs.lemmas.Grind.{flat_map-append}
-use Rattle.std.proofs.lemmas.List.{drop-append-le, drop-drop, take-append-le, take_more, length-take-le, append-nil, get_or-drop, get_or-take, get_or_default}
-use Rattle.std.proofs.lemmas.List.{length-map, drop-map, get_or-map, length-take, take-map}
+use Rattle.std.proofs.lemmas.List.{drop-append-le, drop-drop, take-append-le, take_more, length-take-le, append-nil, get_or-drop, get_or-take}
+use Rattle.std.proofs.lemmas.List.{drop-map, get_or-map, length-take, take-map}
 use Rattle.rubis_schema.specs.declared.ids.Id.{Id}
-use Rattle.rubis_shadow.specs.Shadows.{parts}
-use Rattle.rubis_shadow.specs.declared.shadows.Shadow.{Shadow}
 use Rattle.rubis_shadow.specs.declared.shadows.Shadow.TheVariants.{User}
 use Rattle.rubis_shadow.proofs.Footprint.{few_parts as few_of_one}
-use Rattle.rubis_message.specs.Message.{Message, IsMessage, sites_of}
-use Rattle.rubis_model.specs.Log.{core, cores, parts_of, Core, Folded, fold_of, fold_on, before_any, number_parts, numbered_from, step}
+use Rattle.rubis_message.specs.Message.{sites_of}
+use Rattle.rubis_model.specs.Log.{core, Folded, fold_of, fold_on, before_any, number_parts, numbered_from, step}
 use Rattle.rubis_model.proofs.Settling.{cores_append}
-use Rattle.rubis_workers.specs.Logs.{parts_between, AreWithin, StaysWithin, AppliesTo, AppliesWhole}
 use Rattle.std.proofs.lemmas.List.Elements.{All-get_or}
 use Rattle.rubis_shadow.specs.Tables.{AllInLimits}
 use Rattle.rubis_shadow.specs.declared.keyed_change.Effect.{Effect}
 use Rattle.rubis_shadow.proofs.InLimits.{PartsInLimits, after_kept, first_within, parts_in_limits}
 use Rattle.rubis_model.proofs.Shares.{numbered_append}
 use Rattle.std.proofs.lemmas.List.Sums.{fold-append}
-use Rattle.rubis_shard.specs.Holdings.{HoldsLog, AreInOrder, IsSet, shard_of_log}
-use Rattle.rubis_shard.specs.States.{ShardState}
+use Rattle.rubis_shard.specs.Holdings.{shard_of_log}
 use Rattle.std.specs.Result.{is_ok}
 use Rattle.std.proofs.lemmas.Bool.{cases_lt}
-use Rattle.std.proofs.lemmas.Option.{slice_get_cases, slice_get_within}
-use Rattle.rubis_pieces.specs.Following.{AreFollowed, HoldsTo}
 use Rattle.rubis_pieces.proofs.Counting.{follows_to}
+use Rattle.rubis_workers.specs.Logs.{parts_between, AreWithin, StaysWithin, AppliesTo, AppliesWhole}
 
 -- ---- one message and the next
 

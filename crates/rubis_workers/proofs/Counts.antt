@@ -1,23 +1,14 @@
 -- What the workers give back where they fold straight from the messages, whoever took what, in order of number.
-use Rattle.std.proofs.Common.{◌≡◌, ◌<◌, ℕ, zero, suc, List, [], ◌∷◌, ◌++◌, length, map, refl, sym, ap, ◌∙◌, subst, arith, ⊎_elim}
-use Rattle.std.specs.Prelude.{Some, slice_get}
+use Rattle.rubis_workers.proofs.Common.{◌≡◌, ◌<◌, ℕ, zero, suc, List, [], ◌∷◌, ◌++◌, length, map, refl, sym, ap, ◌∙◌, subst, arith, ⊎_elim, Some}
+use Rattle.rubis_workers.proofs.Common.{slice_get, All, AllZip, IsPermutation, length-map, All-nil, All-cons, IsPermutation-sym, IsPermutation-trans}
+use Rattle.rubis_workers.proofs.Common.{IsPermutation-map, slice_get_cases, Core, ShardState, AreInOrder, IsFault, numbers_of, IsCounted, IsInOrder}
+use Rattle.rubis_workers.proofs.Common.{FaultKind, Piece, Done, no_fault_if_moved, AreFollowed}
 use Rattle.std.specs.Option.{option_map}
-use Rattle.std.specs.List.{All, AllZip}
-use Rattle.std.specs.List.Sorted.{IsPermutation}
-use Rattle.std.proofs.lemmas.List.{length-map, map-append}
-use Rattle.std.proofs.lemmas.List.Elements.{All-nil, All-cons}
-use Rattle.std.proofs.lemmas.List.Sorted.{IsPermutation-sym, IsPermutation-trans, IsPermutation-map}
-use Rattle.std.proofs.lemmas.Option.{slice_get-map, slice_get_cases, get_or_from_slice_get}
-use Rattle.rubis_model.specs.Log.{Core}
-use Rattle.rubis_shard.specs.States.{ShardState}
-use Rattle.rubis_shard.specs.Holdings.{AreInOrder}
-use Rattle.rubis_pieces.specs.Batches.{IsFault, numbers_of, IsCounted, IsInOrder}
+use Rattle.std.proofs.lemmas.List.{map-append}
+use Rattle.std.proofs.lemmas.Option.{slice_get-map, get_or_from_slice_get}
 use Rattle.rubis_pieces.specs.declared.gathers.CountedShards.{CountedShards}
-use Rattle.rubis_pieces.specs.declared.gathers.FaultKind.{FaultKind}
-use Rattle.rubis_pieces.specs.declared.pieces.Piece.{Piece}
-use Rattle.rubis_pieces.specs.declared.pieces.Done.{Done}
-use Rattle.rubis_pieces.proofs.Folded.{no_fault_if_moved, same_order}
-use Rattle.rubis_pieces.specs.Following.{AreFollowed, IsFollowed}
+use Rattle.rubis_pieces.proofs.Folded.{same_order}
+use Rattle.rubis_pieces.specs.Following.{IsFollowed}
 use Rattle.rubis_workers.specs.Work.{bare}
 use Rattle.rubis_workers.proofs.Folded.{one_posted, zip_length, moves_along}
 

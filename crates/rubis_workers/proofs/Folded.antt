@@ -1,24 +1,22 @@
 -- What the workers give back, whoever took what, gathered by number.
-use Rattle.std.proofs.Common.{◌≡◌, ℕ, suc, List, [], ◌∷◌, length, set, get_or, map, refl, sym, ap, ◌∙◌, subst, arith, ◌≤◌, ◌++◌, append_assoc, ◌<◌}
+use Rattle.rubis_workers.proofs.Common.{◌≡◌, ℕ, suc, List, [], ◌∷◌, length, get_or, map, refl, sym, ap, ◌∙◌, subst, arith, ◌≤◌, ◌++◌, ◌<◌, All}
+use Rattle.rubis_workers.proofs.Common.{AllZip, IsPermutation, length-map, length-append, All-nil, All-cons, All-permutation, IsPermutation-map}
+use Rattle.rubis_workers.proofs.Common.{length_permutation, IsPermutation-trans, IsPermutation-sym, ShardState, IsPiece, pieces_of, IsFault}
+use Rattle.rubis_workers.proofs.Common.{numbers_of, IsGathered, IsInOrder, Piece, PassState, Result, Ok, Err, AreInOrder, FaultKind, Done}
+use Rattle.rubis_workers.proofs.Common.{no_fault_if_moved}
+use Rattle.std.proofs.Common.{set, append_assoc}
 use Rattle.std.proofs.Math.ListN.{get_or-map}
-use Rattle.std.specs.List.{All, AllZip, swap}
-use Rattle.std.specs.List.Sorted.{IsPermutation, apply_swaps, SwapsInRange}
-use Rattle.std.proofs.lemmas.List.{map-set, length-map, length-append}
-use Rattle.std.proofs.lemmas.List.Elements.{All-nil, All-cons}
-use Rattle.std.proofs.lemmas.List.Sorted.{All-permutation, IsPermutation-map, length_permutation, IsPermutation-trans, IsPermutation-append_right}
-use Rattle.std.proofs.lemmas.List.Sorted.{IsPermutation-append_comm, IsPermutation-sym}
-use Rattle.rubis_shard.specs.States.{ShardState}
+use Rattle.std.specs.List.{swap}
+use Rattle.std.specs.List.Sorted.{apply_swaps, SwapsInRange}
+use Rattle.std.proofs.lemmas.List.{map-set}
+use Rattle.std.proofs.lemmas.List.Sorted.{IsPermutation-append_right, IsPermutation-append_comm}
 use Rattle.rubis_shard.specs.declared.shares.Share.{Share}
-use Rattle.rubis_pieces.specs.Batches.{Belong, IsPiece, pieces_of, AreFolded, AreFoldedTo, IsBegun, IsFault, numbers_of, IsGathered, IsInOrder, IsWorked}
-use Rattle.rubis_pieces.specs.declared.pieces.Piece.{Piece}
-use Rattle.rubis_board.specs.Rule.{IsPartOf, PassState}
-use Rattle.std.specs.Prelude.{IfOk, Result, Ok, Err}
-use Rattle.rubis_shard.specs.Holdings.{AreInOrder}
-use Rattle.rubis_pieces.specs.declared.gathers.FaultKind.{FaultKind}
+use Rattle.rubis_pieces.specs.Batches.{Belong, AreFolded, AreFoldedTo, IsBegun, IsWorked}
+use Rattle.rubis_board.specs.Rule.{IsPartOf}
+use Rattle.std.specs.Prelude.{IfOk}
 use Rattle.rubis_pieces.specs.declared.gathers.Gathered.{Gathered}
-use Rattle.rubis_pieces.specs.declared.pieces.Done.{Done}
 use Rattle.rubis_pieces.proofs.Counting.{leaves_no_more}
-use Rattle.rubis_pieces.proofs.Folded.{folded_numbers, order_folded, begun, begun_unfinished, takes_batch, takes_whole, no_fault_if_moved}
+use Rattle.rubis_pieces.proofs.Folded.{folded_numbers, order_folded, begun, begun_unfinished, takes_batch, takes_whole}
 use Rattle.rubis_workers.specs.Work.{AreWorked, AppliesBatch}
 use Rattle.rubis_workers.specs.declared.batches.Worked.{Worked}
 

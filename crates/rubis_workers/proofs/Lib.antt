@@ -1,3 +1,4 @@
+pub mod Common
 pub mod Applied
 mod Folded
 pub mod Counts

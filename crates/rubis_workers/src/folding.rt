@@ -1,14 +1,17 @@
 //! Messages of a log, folded one after the other on the tables by the caller's thread.
 
-ghost use Rattle.std.specs.Prelude.{◌≡◌, ◌≤◌, ◌<◌, ◌*◌, All, OnOk, OnErr, length, take};
+ghost use Rattle.std.specs.Prelude.{◌≡◌, ◌≤◌, ◌<◌, ◌*◌, ℕ, All, OnOk, OnErr, length, take};
 ghost use Rattle.std.specs.List.{flat_map};
 ghost use Rattle.rubis_schema.specs.declared.limits.TheConstants.{KEEP_MAX};
 ghost use Rattle.rubis_message.specs.Message.{IsMessage};
 ghost use Rattle.rubis_model.specs.Log.{cores, parts_of};
 ghost use Rattle.rubis_shard.specs.Holdings.{HoldsLog};
+ghost use Rattle.rubis_pieces.specs.Following.{AreFurther, HoldsTo, StopWithin};
 ghost use Rattle.rubis_workers.specs.Logs.{StaysWithin};
 
+use crate::gate::Gate;
 use rubis_message::Message;
+use rubis_pieces::follow_one;
 use rubis_shard::{LogEntry, Tables};
 use std::alloc::AllocError;
 
@@ -41,6 +44,33 @@ pub fn apply_upto(
         *at = place + 1;
     }
     Ok(())
+}
+
+/// Goes on with a batch of a log that ends with message `upto`, shard by shard from where each stands, as far as memory goes: each shard is
+/// taken first. `stops` says how far each is. No part is done twice, and none is passed over.
+pub fn follow_rest<G: Gate>(
+    tables: &mut Tables,
+    log: &[Message],
+    stops: &mut [usize],
+    upto: usize,
+    gate: &G,
+)
+    requires shards { length tables.old ≤ 255 }
+    requires counts { length stops.old ≡ length tables.old }
+    requires few { length log.now ≤ KEEP_MAX }
+    requires on { StopWithin 0 upto stops.old }
+    requires within { upto ≤ length log.now }
+    ensures many { length tables.new ≡ length tables.old }
+    ensures counts { length stops.new ≡ length stops.old }
+    ensures on { AreFurther stops.old stops.new }
+    ensures upto { StopWithin 0 upto stops.new }
+    ensures holds { (shards : ℕ) → HoldsTo shards (cores log.now) stops.old tables.old → HoldsTo shards (cores log.now) stops.new tables.new }
+{
+    for number in 0..tables.len() {
+        gate.taken(number);
+        let from = stops[number];
+        stops[number] = follow_one(tables, number, log, from, upto);
+    }
 }
 
 /// How many parts the messages have.

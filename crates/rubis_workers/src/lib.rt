@@ -15,11 +15,11 @@ mod workers;
 
 pub use applying::{apply_alone, apply_batch, put_back, stop_all};
 pub use batches::{Unstarted, Worked, apply_all, apply_beside};
-pub use folding::{apply_upto, count_parts};
+pub use folding::{apply_upto, count_parts, follow_rest};
 pub use following::{Followed, ShardBoard, follow_by_team, gather_shards, open_shards};
 pub use gate::{Free, Gate, Teller};
 pub use pace::Pace;
-pub use rubis_pieces::{count_behind, follow_rest, misfits};
+pub use rubis_pieces::{count_behind, misfits};
 pub use rubis_shard::Tables;
 pub use task::FollowBatch;
 pub use team::{TeamJob, Teamwork, joined, work};

@@ -1,20 +1,12 @@
 -- What several sites answer to a record, and then to those after it.
-use Rattle.std.proofs.Common.{◌≡◌, ◌+◌, ◌++◌, ◌∷◌, ℕ, List, arith, length, refl, ap, ◌∙◌, sym}
-use Rattle.std.specs.Prelude.{Ok, Err, []}
-use Rattle.rubis_schema.specs.declared.refusals.Refusal.{Refusal}
-use Rattle.rubis_schema.specs.declared.refusals.Refusal.TheVariants as refusal
-use Rattle.rubis_message.specs.WorldReadings.{world_input}
-use Rattle.rubis_message.specs.declared.answers.Happened.{Happened}
-use Rattle.rubis_message.specs.declared.tokens.Packet.{Packet}
-use Rattle.rubis_model.specs.Processes.{world_after}
-use Rattle.rubis_model.specs.System.{Event, World, happens}
-use Rattle.rubis_model.specs.WorldRecords.{event_rows, refusal_row, told_at, world_answers, world_step}
+use Rattle.rubis_world.proofs.Common.{◌≡◌, ◌+◌, ◌++◌, ◌∷◌, ℕ, List, arith, length, refl, ap, ◌∙◌, sym, Ok, Err, [], Refusal, world_input, Happened}
+use Rattle.rubis_world.proofs.Common.{Packet, world_after, Event, World, happens, world_answers, world_step, rows_text, GoesOn}
+use Rattle.rubis_model.specs.WorldRecords.{event_rows, refusal_row, told_at}
 use Rattle.rubis_laws.proofs.Runs.Written.{refusals_change_nothing}
-use Rattle.rubis_script.specs.Replica.fault_variants as fault
 use Rattle.rubis_engine.specs.Accounts.{AnswersRecord, LeadsOn}
-use Rattle.rubis_engine.specs.Text.{rows_text}
-use Rattle.rubis_engine.specs.declared.service.Course.TheVariants.{GoesOn}
 use Rattle.rubis_engine.proofs.TextFacts.{text-goes}
+use Rattle.rubis_schema.specs.declared.refusals.Refusal.TheVariants as refusal
+use Rattle.rubis_script.specs.Replica.fault_variants as fault
 use Rattle.rubis_world.specs.Worlds.{ComesTo, Steps, WorldState}
 use Rattle.rubis_world.specs.declared.faults.WorldFault.{WorldFault}
 use Rattle.rubis_world.specs.declared.faults.WorldFault.TheVariants.{BadEvent, NoSuchPacket, Site, Memory}

@@ -1,36 +1,33 @@
 -- What a run of several sites says of them, worked out on two records: site 0 passes the token to site 1, which then takes it.
-use Rattle.std.proofs.Common.{◌≡◌, ◌∙◌, ◌^◌, ◌≤◌, ◌<◌, ◌++◌, ◌∷◌, [], ℕ, zero, suc, List, Option, Some, None, ap, arith, inl, inr, length, refl, subst, sym}
-use Rattle.std.proofs.Common.{take}
-use Rattle.std.specs.Prelude.{codes, decimal, is_some, map, nat_lt, option_and_then, unwrap_or, IfOk, Ok, Err, Result, ⊤}
+use Rattle.rubis_world.proofs.Common.{◌≡◌, ◌∙◌, ◌≤◌, ◌<◌, ◌++◌, ◌∷◌, [], ℕ, zero, suc, List, Option, Some, None, ap, arith, length, refl, subst, sym}
+use Rattle.rubis_world.proofs.Common.{take, map, Ok, Err, Result, RECORDS_MAX, world_input, Asked, Delivered, Replica, world_after, World, site}
+use Rattle.rubis_world.proofs.Common.{world_answers, world_output_of, world_step, input_records, rows_text, Count, RunFault, answers_are_a_run}
+use Rattle.std.proofs.Common.{◌^◌, inl, inr}
+use Rattle.std.specs.Prelude.{codes, decimal, is_some, nat_lt, option_and_then, unwrap_or, IfOk, ⊤}
 use Rattle.std.specs.Option.{option_or}
-use mathlib.Core.Bool.{true≢false}
 use Rattle.rubis_schema.specs.NumberForms.{number_of}
-use Rattle.rubis_schema.specs.declared.limits.TheConstants.{RECORDS_MAX}
 use Rattle.rubis_schema.specs.declared.refusals.Refusal.TheVariants.{BadTarget}
 use Rattle.rubis_schema.proofs.NumberForms.{number_is}
 use Rattle.rubis_message.specs.Readings.{◌>>=◌, ◌>>◌, give, kept, one, take_site, whole}
 use Rattle.rubis_message.specs.Grammar.{request_record}
-use Rattle.rubis_message.specs.WorldReadings.{asked_with, request_at, take_at, take_audit, take_delivery, take_word, world_input}
-use Rattle.rubis_message.specs.declared.answers.Taken.TheVariants as taken
-use Rattle.rubis_message.specs.declared.requests.Request.TheVariants as request
-use Rattle.rubis_message.specs.declared.tokens.Packet.TheVariants as packet
+use Rattle.rubis_message.specs.WorldReadings.{asked_with, request_at, take_at, take_audit, take_delivery, take_word}
 use Rattle.rubis_message.specs.declared.world_inputs.WorldInput.{WorldInput}
-use Rattle.rubis_message.specs.declared.world_inputs.WorldInput.TheVariants.{Asked, Delivered, Neither}
+use Rattle.rubis_message.specs.declared.world_inputs.WorldInput.TheVariants.{Neither}
 use Rattle.rubis_message.proofs.Records.{request_is}
-use Rattle.rubis_model.specs.Site.{passed_rows, refused_row, took_rows, Replica}
-use Rattle.rubis_model.specs.Processes.{IsTextOfARun, world_after}
-use Rattle.rubis_model.specs.System.{World, site, start}
-use Rattle.rubis_model.specs.WorldRecords.{site_row, world_answers, world_output_of, world_step}
-use Rattle.rubis_engine.specs.Text.{input_records, rows_text}
+use Rattle.rubis_model.specs.Site.{passed_rows, refused_row, took_rows}
+use Rattle.rubis_model.specs.Processes.{IsTextOfARun}
+use Rattle.rubis_model.specs.System.{start}
+use Rattle.rubis_model.specs.WorldRecords.{site_row}
 use Rattle.rubis_engine.specs.Progress.{IsDone}
-use Rattle.rubis_engine.specs.declared.fault.Count.{Count}
-use Rattle.rubis_engine.specs.declared.fault.RunFault.{RunFault}
-use Rattle.rubis_engine.specs.declared.fault.RunFault.TheVariants as fault
 use Rattle.rubis_engine.proofs.ReadBack.{HaveFields, HasNoMark, no_mark, rows_back}
 use Rattle.rubis_engine.proofs.RunFacts.{if_ok_both}
 use Rattle.rubis_engine.proofs.TextFacts.{text-two}
-use Rattle.rubis_laws.proofs.Runs.Recorded.{answers_are_a_run}
 use Rattle.rubis_serving.specs.Serving.{AnswersAll, AnswersJust}
+use mathlib.Core.Bool.{true≢false}
+use Rattle.rubis_message.specs.declared.answers.Taken.TheVariants as taken
+use Rattle.rubis_message.specs.declared.requests.Request.TheVariants as request
+use Rattle.rubis_message.specs.declared.tokens.Packet.TheVariants as packet
+use Rattle.rubis_engine.specs.declared.fault.RunFault.TheVariants as fault
 use Rattle.rubis_world.specs.Headline.{AppendsARun, Lead, TellsARun}
 use Rattle.rubis_world.specs.Running.{LeadsWorld, told_by_world}
 use Rattle.rubis_world.specs.Worlds.{WorldState, opening_world}

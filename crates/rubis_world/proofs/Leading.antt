@@ -1,27 +1,20 @@
 -- How a run of several sites ends: its text, which is that of a run, and where its records lead.
-use Rattle.std.proofs.Common.{ℕ, List, Option, Some, None, ◌≡◌, [], ap, refl, sym, subst, ◌≤◌, take}
-use Rattle.std.specs.Prelude.{IfSome, Result, Ok, Err, IsErr, IsErrAnd}
-use Rattle.rubis_engine.specs.Progress.{IsRun}
-use Rattle.rubis_engine.specs.Text.{input_records, rows_text}
-use Rattle.rubis_engine.specs.declared.fault.Count.{Count}
-use Rattle.rubis_engine.specs.declared.fault.RunFault.{RunFault}
-use Rattle.rubis_engine.specs.declared.fault.RunFault.TheVariants as fault
+use Rattle.rubis_world.proofs.Common.{ℕ, List, Option, Some, None, ◌≡◌, [], ap, refl, sym, subst, ◌≤◌, take, IfSome, Result, Ok, Err, IsErr, IsRun}
+use Rattle.rubis_world.proofs.Common.{input_records, rows_text, Count, RunFault, append-nil, Place, Replica, SiteState, world_output_of}
+use Rattle.rubis_world.proofs.Common.{answers_are_a_run}
+use Rattle.std.specs.Prelude.{IsErrAnd}
 use Rattle.rubis_reading.specs.Chunked.{HasAll, HasCome, HasPending}
 use Rattle.rubis_reading.specs.declared.chunks.Chunks.{Chunks}
 use Rattle.rubis_script.specs.Headline.{OfRead}
 use Rattle.rubis_serving.proofs.ServedFacts.{led_whole, reader_run}
+use Rattle.std.specs.Io.KnownBytes.{Appends}
+use Rattle.rubis_engine.specs.Accounts.Ending.{AtEnd}
+use Rattle.rubis_script.specs.SiteRuns.{told_by}
+use Rattle.rubis_schema.specs.declared.limits.TheConstants.{COUNTED_MAX, KEEP_MAX}
+use Rattle.rubis_engine.specs.declared.fault.RunFault.TheVariants as fault
 use Rattle.rubis_world.specs.Headline.{Lead, WorldEndsWhole, AppendsARun, TellsARun}
 use Rattle.rubis_world.specs.Running.{LeadsWorld, told_by_world, waiting_from, answers_of_world}
 use Rattle.rubis_world.specs.Worlds.{WorldState}
-use Rattle.std.proofs.lemmas.List.{append-nil}
-use Rattle.std.specs.Io.KnownBytes.{Appends}
-use Rattle.rubis_model.specs.Site.{Place, Replica}
-use Rattle.rubis_engine.specs.Accounts.Ending.{AtEnd}
-use Rattle.rubis_script.specs.Replica.{SiteState}
-use Rattle.rubis_script.specs.SiteRuns.{told_by}
-use Rattle.rubis_schema.specs.declared.limits.TheConstants.{COUNTED_MAX, KEEP_MAX}
-use Rattle.rubis_model.specs.WorldRecords.{world_output_of}
-use Rattle.rubis_laws.proofs.Runs.Recorded.{answers_are_a_run}
 
 -- a run over a reader has that text
 pub world_run : {R : Type 0} (rem : R → Option (List ℕ)) (chunks chunks2 : Chunks R) (limit : ℕ) (s s2 : WorldState) (known old now : Option (List ℕ))

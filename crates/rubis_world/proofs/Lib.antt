@@ -1,3 +1,4 @@
+pub mod Common
 pub mod Moves
 pub mod Answering
 pub mod Leading

@@ -1,41 +1,35 @@
 -- Every event keeps a world: one site of several changes, and the logs of all sites are logs of a run.
-use Rattle.std.proofs.Common.{◌≡◌, ℕ, ◌≤◌, length, arith, sym, subst, ◌<◌, List, [], ◌∷◌, ◌++◌, length-append, get_or, set, refl, ap, ◌∙◌, ⊎_elim, ◌+◌, zero}
-use Rattle.std.proofs.Common.{suc}
-use Rattle.std.specs.Prelude.{Result, Ok, Err, map, slice_get, slice_set, IfSome, IsErr, Some}
-use Rattle.rubis_message.specs.declared.answers.Happened.{Happened}
-use Rattle.rubis_model.specs.Laws.{InRun}
-use Rattle.rubis_model.specs.System.{AllDeliverable, Room, Sound, Event, IsEvent, World, happens, IsDeliverable, site, place, sends, takes, saying, sending}
-use Rattle.rubis_model.specs.System.{next_number, shown, packet_at}
+use Rattle.rubis_world.proofs.Common.{◌≡◌, ℕ, ◌≤◌, length, arith, sym, subst, ◌<◌, List, [], ◌∷◌, ◌++◌, refl, ap, ◌∙◌, ◌+◌, zero, suc, Result, Ok}
+use Rattle.rubis_world.proofs.Common.{Err, map, IfSome, IsErr, Some, Happened, InRun, Event, IsEvent, World, happens, site, packet_at, SiteState}
+use Rattle.rubis_world.proofs.Common.{resting_at, setup_place, Refusal, Packet, Place, Replica, opening_at, range_with_len, map-range_with_len_more}
+use Rattle.rubis_world.proofs.Common.{logs_of, HaveMessagesAmong}
+use Rattle.std.proofs.Common.{length-append, get_or, set, ⊎_elim}
+use Rattle.std.specs.Prelude.{slice_get, slice_set}
+use Rattle.rubis_model.specs.System.{AllDeliverable, Room, Sound, IsDeliverable, place, sends, takes, saying, sending, next_number, shown}
 use Rattle.rubis_laws.proofs.Runs.Written.{event_deliverable}
 use Rattle.rubis_laws.proofs.Runs.SoundSteps.{event_keeps, event_sites, start_sites, start_sound, has_packet, same_sites, room_event, room_start}
 use Rattle.rubis_laws.proofs.Runs.EveryRun.{in_run, logged}
-use Rattle.rubis_script.specs.Replica.{IsCount, AnswersAsTheStep, IsReadFault, Lists, ListsTheLog, NeedsNoTables, SiteState, TakesIn, left_of, Fault}
-use Rattle.rubis_script.specs.Replica.{resting_at, setup_place}
-use Rattle.rubis_script.specs.Replica.fault_variants as fault
-use Rattle.rubis_world.specs.Worlds.{ComesTo, Steps, WorldState, opening_world, IsWorld, fault_at_site, AreAtPlaces, Asks, left_at, WorldSetup, setup_at}
-use Rattle.rubis_world.specs.declared.faults.WorldFault.{WorldFault}
-use Rattle.rubis_world.specs.declared.faults.WorldFault.TheVariants.{BadEvent, NoSuchPacket, Site, Memory}
+use Rattle.rubis_script.specs.Replica.{IsCount, AnswersAsTheStep, IsReadFault, Lists, ListsTheLog, NeedsNoTables, TakesIn, left_of, Fault}
 use Rattle.std.specs.Result.{IsErrAnd}
 use Rattle.std.proofs.lemmas.Bool.{cases_eq, cases_lt}
 use Rattle.std.proofs.lemmas.List.{get_or-map, get_or-set_other, get_or-set_same, length-map, length-set, map-set}
 use Rattle.std.proofs.lemmas.Option.{slice_get-get_or, slice_get_past}
 use Rattle.rubis_schema.specs.declared.listings.Listing.{Listing}
-use Rattle.rubis_schema.specs.declared.listings.Listing.TheVariants as shown_listing
-use Rattle.rubis_schema.specs.declared.refusals.Refusal.{Refusal}
-use Rattle.rubis_message.specs.declared.answers.Happened.TheVariants as happened
-use Rattle.rubis_message.specs.declared.tokens.Packet.{Packet}
-use Rattle.rubis_model.specs.Site.{Place, Replica, opening_at, listed, listing_rows, Has}
+use Rattle.rubis_model.specs.Site.{listed, listing_rows, Has}
 use Rattle.rubis_model.specs.Log.{cores, fold_of}
-use Rattle.rubis_world.specs.declared.faults.WorldFault.TheVariants as world
-use Rattle.std.specs.List.{range_with_len}
-use Rattle.std.proofs.lemmas.List.FromFn.{get_or-map-range_with_len, length-map-range_with_len, map-range_with_len_more}
+use Rattle.std.proofs.lemmas.List.FromFn.{get_or-map-range_with_len, length-map-range_with_len}
 use Rattle.rubis_message.specs.declared.answers.Verdict.TheVariants.{Agree}
-use Rattle.rubis_message.specs.declared.tokens.Packet.TheVariants as packet
 use Rattle.rubis_model.specs.Verdict.{verdict}
-use Rattle.rubis_model.specs.WorldRecords.{logs_of}
 use Rattle.rubis_model.proofs.Settling.{has_left}
-use Rattle.rubis_audit.specs.Walks.{HaveMessagesAmong}
 use Rattle.rubis_laws.proofs.Runs.Recorded.{are_logs, logs_agree}
+use Rattle.rubis_script.specs.Replica.fault_variants as fault
+use Rattle.rubis_world.specs.Worlds.{ComesTo, Steps, WorldState, opening_world, IsWorld, fault_at_site, AreAtPlaces, Asks, left_at, WorldSetup, setup_at}
+use Rattle.rubis_world.specs.declared.faults.WorldFault.{WorldFault}
+use Rattle.rubis_world.specs.declared.faults.WorldFault.TheVariants.{BadEvent, NoSuchPacket, Site, Memory}
+use Rattle.rubis_schema.specs.declared.listings.Listing.TheVariants as shown_listing
+use Rattle.rubis_message.specs.declared.answers.Happened.TheVariants as happened
+use Rattle.rubis_world.specs.declared.faults.WorldFault.TheVariants as world
+use Rattle.rubis_message.specs.declared.tokens.Packet.TheVariants as packet
 
 -- a world is one that the laws speak of
 pub told : (s : WorldState) → IsWorld s → InRun s.world

@@ -1,6 +1,5 @@
-use Rattle.std.proofs.Common.{◌≡◌, false, rules, subst}
+use Rattle.rubis_audit.proofs.Common.{◌≡◌, false, rules, subst, if_ok_so}
 use Rattle.std.specs.Bool.{MatchBool}
-use Rattle.rubis_engine.proofs.RunFacts.{if_ok_so}
 use Rattle.rubis_audit.specs.Checking.{HasChecked, HasCheckedAll, OfEachCheck}
 use Rattle.rubis_audit.proofs.checker.check_all.Goals as goal
 

@@ -1,6 +1,4 @@
-use Rattle.std.proofs.Common.{◌≡◌, ◌≤◌, ℕ, List}
-use Rattle.std.specs.Prelude.{Option}
-use Rattle.rubis_schema.specs.declared.limits.TheConstants.{COUNTED_MAX}
+use Rattle.rubis_audit.proofs.Common.{◌≡◌, ◌≤◌, ℕ, List, Option, COUNTED_MAX}
 use Rattle.rubis_audit.specs.Checking.{HasChecked}
 use Rattle.rubis_audit.specs.declared.checker.Grammar.{Grammar}
 use Rattle.rubis_audit.proofs.checker.check_all.Given as goal

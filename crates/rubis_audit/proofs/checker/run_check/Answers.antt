@@ -1,6 +1,4 @@
-use Rattle.std.proofs.Common.{refl}
-use Rattle.rubis_engine.specs.Text.{input_records}
-use Rattle.rubis_engine.proofs.RunFacts.{if_ok_so}
+use Rattle.rubis_audit.proofs.Common.{refl, input_records, if_ok_so}
 use Rattle.rubis_audit.proofs.CheckFacts.{begun, if_some_so}
 use Rattle.rubis_audit.proofs.checker.run_check.Goals as goal
 

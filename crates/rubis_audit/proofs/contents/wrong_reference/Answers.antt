@@ -1,11 +1,7 @@
-use Rattle.std.proofs.Common.{◌≡◌, ◌∙◌, List, ap, rules, sym, tests, true, false}
-use Rattle.std.specs.Prelude.{◌||◌, not}
-use Rattle.std.specs.List.{list_any}
+use Rattle.rubis_audit.proofs.Common.{◌≡◌, ◌∙◌, List, ap, rules, sym, true, false, ◌||◌, not, list_any, RowKey, refers_of, row_by_key}
+use Rattle.std.proofs.Common.{tests}
 use Rattle.std.proofs.lemmas.Iterator.Consumers.{YieldsList-from_first}
 use Rattle.std.proofs.lemmas.Iterator.Search.{any_from_yields_List}
-use Rattle.rubis_schema.specs.declared.row_keys.RowKey.{RowKey}
-use Rattle.rubis_shadow.specs.Shadows.{refers_of}
-use Rattle.rubis_generate.specs.Decision.{row_by_key}
 use Rattle.rubis_audit.specs.Walks.{known_in, wrong_category_in}
 use Rattle.rubis_audit.proofs.contents.wrong_reference.Goals as goal
 

@@ -1,5 +1,4 @@
-use Rattle.std.proofs.Common.{◌≡◌, ◌≤◌, ◌+◌, ◌-◌, length}
-use Rattle.rubis_message.specs.Counts.{deps_of}
+use Rattle.rubis_audit.proofs.Common.{◌≡◌, ◌≤◌, ◌+◌, ◌-◌, length, deps_of}
 use Rattle.rubis_message.proofs.Fields.{then_left}
 use Rattle.rubis_audit.proofs.counts.read_counts.Given as goal
 

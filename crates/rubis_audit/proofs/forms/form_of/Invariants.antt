@@ -1,5 +1,4 @@
-use Rattle.std.proofs.Common.{◌≡◌, drop, map}
-use Rattle.std.specs.Prelude.{find}
+use Rattle.rubis_audit.proofs.Common.{◌≡◌, drop, map, find}
 use Rattle.rubis_audit.specs.Forms.{is_told, row}
 use Rattle.rubis_audit.proofs.forms.form_of.Given as goal
 

@@ -1,6 +1,4 @@
-use Rattle.std.proofs.Common.{◌≡◌, ◌≤◌, ◌+◌, length, drop}
-use Rattle.std.specs.Prelude.{map}
-use Rattle.rubis_model.specs.Lack.{made_at}
+use Rattle.rubis_audit.proofs.Common.{◌≡◌, ◌≤◌, ◌+◌, length, drop, map, made_at}
 use Rattle.rubis_audit.proofs.lacks.count_own.Given as goal
 
 -- those so far, no more than all so far, and those of the messages to come

@@ -1,7 +1,5 @@
-use Rattle.std.proofs.Common.{◌≡◌, ◌++◌, drop}
-use Rattle.std.specs.Prelude.{map}
+use Rattle.rubis_audit.proofs.Common.{◌≡◌, ◌++◌, drop, map, rows_text}
 use Rattle.rubis_model.specs.Lack.{lack_row}
-use Rattle.rubis_engine.specs.Text.{rows_text}
 use Rattle.rubis_audit.proofs.lacks.write_all_named.Given as goal
 
 -- what was written, and the rows of the messages to come

@@ -1,9 +1,4 @@
-use Rattle.std.proofs.Common.{◌++◌, ◌+◌, ◌∙◌, ◌==◌, ap, length, subst, sym}
-use Rattle.std.specs.Prelude.{map}
-use Rattle.rubis_model.specs.Lack.{lack_rows, made_at}
-use Rattle.rubis_engine.specs.Text.{rows_text}
-use Rattle.rubis_laws.proofs.Lacking.InOrder.{log_released}
-use Rattle.rubis_release.specs.Release.{AllAmong}
+use Rattle.rubis_audit.proofs.Common.{◌++◌, ◌+◌, ◌∙◌, ◌==◌, ap, length, subst, sym, map, lack_rows, made_at, rows_text, log_released, AllAmong}
 use Rattle.rubis_audit.proofs.Merging.{log_among, log_at, log_told, lost_told}
 use Rattle.rubis_audit.proofs.lacks.write_lacks.Goals as goal
 

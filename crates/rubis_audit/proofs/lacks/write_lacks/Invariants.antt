@@ -1,6 +1,4 @@
-use Rattle.std.proofs.Common.{◌≡◌, ◌+◌, ◌++◌, ◌&&◌, drop}
-use Rattle.rubis_model.specs.Lack.{lack_rows_from}
-use Rattle.rubis_engine.specs.Text.{rows_text}
+use Rattle.rubis_audit.proofs.Common.{◌≡◌, ◌+◌, ◌++◌, ◌&&◌, drop, lack_rows_from, rows_text}
 use Rattle.rubis_audit.specs.Running.{none_lost}
 use Rattle.rubis_audit.proofs.lacks.write_lacks.Given as goal
 

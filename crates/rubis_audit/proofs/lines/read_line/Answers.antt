@@ -1,5 +1,4 @@
-use Rattle.std.proofs.Common.{◌≡◌, ◌∙◌, rules, sym, false, true, None, Some}
-use Rattle.rubis_message.specs.Readings.{packet_of}
+use Rattle.rubis_audit.proofs.Common.{◌≡◌, ◌∙◌, rules, sym, false, true, None, Some, packet_of}
 use Rattle.rubis_audit.specs.Running.{begin_of}
 use Rattle.rubis_audit.proofs.Collecting.{line_begins, line_by}
 use Rattle.rubis_audit.proofs.lines.read_line.Goals as goal

@@ -1,5 +1,4 @@
-use Rattle.std.proofs.Common.{◌≡◌, ◌∙◌, ◌+◌, ◌∷◌, [], ℕ, zero, suc, List, Some, cond, drop, rules, sym, true, false}
-use Rattle.std.specs.Prelude.{slice_get}
+use Rattle.rubis_audit.proofs.Common.{◌≡◌, ◌∙◌, ◌+◌, ◌∷◌, [], ℕ, zero, suc, List, Some, cond, drop, rules, sym, true, false, slice_get}
 use Rattle.rubis_audit.specs.Checking.{has_line_end, line_end_from}
 use Rattle.rubis_audit.proofs.record_faults.first_line_end.Goals as goal
 use native.Mathlib.Numerals.{unary_clauses}

@@ -1,6 +1,4 @@
-use Rattle.std.proofs.Common.{◌∙◌, Some, ap, sym}
-use Rattle.std.specs.Prelude.{None, cond}
-use Rattle.std.proofs.lemmas.List.{nil_from_length}
+use Rattle.rubis_audit.proofs.Common.{◌∙◌, Some, ap, sym, None, cond, nil_from_length}
 use Rattle.rubis_audit.specs.Claimed.{behind_row}
 use Rattle.rubis_audit.proofs.Comparing.{behind_first}
 use Rattle.rubis_audit.proofs.rows.behind.Goals as goal

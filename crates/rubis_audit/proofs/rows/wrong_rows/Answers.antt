@@ -1,8 +1,5 @@
-use Rattle.std.proofs.Common.{◌∙◌, ap, refl, sym}
-use Rattle.std.specs.Prelude.{option_map}
+use Rattle.rubis_audit.proofs.Common.{◌∙◌, ap, refl, sym, option_map, table_rows, union}
 use Rattle.rubis_schema.specs.declared.listings.Listing.TheVariants as Shown
-use Rattle.rubis_model.specs.Listings.{table_rows}
-use Rattle.rubis_shard.specs.Holdings.{union}
 use Rattle.rubis_audit.specs.Claimed.{rest_of}
 use Rattle.rubis_audit.proofs.Comparing.{all_came, rows_by}
 use Rattle.rubis_audit.proofs.rows.wrong_rows.Goals as goal

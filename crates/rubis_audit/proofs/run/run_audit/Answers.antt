@@ -1,8 +1,5 @@
-use Rattle.std.proofs.Common.{false, subst}
-use Rattle.rubis_engine.specs.Progress.{IsRun}
+use Rattle.rubis_audit.proofs.Common.{false, subst, IsRun, RECORDS_MAX, if_ok_so, run_done}
 use Rattle.rubis_audit.specs.Running.{AuditorState, account_from}
-use Rattle.rubis_schema.specs.declared.limits.TheConstants.{RECORDS_MAX}
-use Rattle.rubis_engine.proofs.RunFacts.{if_ok_so, run_done}
 use Rattle.rubis_audit.proofs.Collecting.{agrees_known}
 use Rattle.rubis_audit.proofs.run.run_audit.Goals as goal
 

@@ -1,6 +1,4 @@
-use Rattle.rubis_schema.specs.declared.limits.TheConstants.{RECORDS_MAX}
-use Rattle.rubis_engine.proofs.RunFacts.{if_ok_so, run_done}
-use Rattle.rubis_serving.proofs.ServedFacts.{reader_run}
+use Rattle.rubis_audit.proofs.Common.{RECORDS_MAX, if_ok_so, run_done, reader_run}
 use Rattle.rubis_audit.specs.Running.{account_from}
 use Rattle.rubis_audit.proofs.Collecting.{agrees_known}
 use Rattle.rubis_audit.proofs.run.run_auditor.Goals as goal

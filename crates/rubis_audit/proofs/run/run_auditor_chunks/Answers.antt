@@ -1,6 +1,5 @@
-use Rattle.rubis_schema.specs.declared.limits.TheConstants.{RECORDS_MAX}
+use Rattle.rubis_audit.proofs.Common.{RECORDS_MAX, led_whole}
 use Rattle.rubis_audit.specs.Running.{AuditorState, LeadsAuditor, account_from}
-use Rattle.rubis_serving.proofs.ServedFacts.{led_whole}
 use Rattle.rubis_audit.proofs.run.run_auditor_chunks.Goals as goal
 
 pub returns : goal.returns

@@ -1,6 +1,4 @@
-use Rattle.std.proofs.Common.{subst}
-use Rattle.rubis_engine.specs.Progress.{IsRun}
-use Rattle.rubis_schema.specs.declared.limits.TheConstants.{RECORDS_MAX}
+use Rattle.rubis_audit.proofs.Common.{subst, IsRun, RECORDS_MAX}
 use Rattle.rubis_audit.specs.Running.{AuditorState, account_from}
 use Rattle.rubis_audit.proofs.run.run_lack.Goals as goal
 

@@ -1,6 +1,4 @@
-use Rattle.std.proofs.Common.{◌≡◌, ◌∙◌, arith, ap, get_or, length, sym}
-use Rattle.std.specs.Prelude.{◌==◌, not, slice_index}
-use Rattle.rubis_message.specs.Message.{dep}
+use Rattle.rubis_audit.proofs.Common.{◌≡◌, ◌∙◌, arith, ap, get_or, length, sym, ◌==◌, not, slice_index, dep}
 use Rattle.rubis_audit.proofs.Judging.{no_site, other_at, some_site}
 use Rattle.rubis_audit.proofs.stamps.differs.Goals as goal
 

@@ -1,6 +1,4 @@
-use Rattle.std.proofs.Common.{arith, ap, length, sym}
-use Rattle.std.specs.Prelude.{nat_lt, slice_index}
-use Rattle.rubis_message.specs.Message.{dep}
+use Rattle.rubis_audit.proofs.Common.{arith, ap, length, sym, nat_lt, slice_index, dep}
 use Rattle.rubis_audit.proofs.Judging.{less_at, no_site, some_site}
 use Rattle.rubis_audit.proofs.stamps.exceeds.Goals as goal
 

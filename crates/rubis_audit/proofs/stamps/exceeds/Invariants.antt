@@ -1,6 +1,4 @@
-use Rattle.std.proofs.Common.{◌≡◌, ℕ, ◌<◌, false}
-use Rattle.std.specs.Prelude.{nat_lt}
-use Rattle.rubis_message.specs.Message.{dep}
+use Rattle.rubis_audit.proofs.Common.{◌≡◌, ℕ, ◌<◌, false, nat_lt, dep}
 use Rattle.rubis_audit.proofs.stamps.exceeds.Given as goal
 
 abbrev pub invariant-loop-j : goal.invariant-loop-j

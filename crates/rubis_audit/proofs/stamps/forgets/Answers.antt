@@ -1,6 +1,4 @@
-use Rattle.std.proofs.Common.{◌∙◌, arith, ap, length, sym, false}
-use Rattle.std.specs.Prelude.{slice_index}
-use Rattle.std.specs.Option.{option_map_or}
+use Rattle.rubis_audit.proofs.Common.{◌∙◌, arith, ap, length, sym, false, slice_index, option_map_or}
 use Rattle.rubis_audit.specs.Walks.{by_message_id, exceeds, last_of}
 use Rattle.rubis_audit.proofs.Judging.{no_site, some_site}
 use Rattle.rubis_audit.proofs.stamps.forgets.Goals as goal

@@ -1,6 +1,4 @@
-use Rattle.std.proofs.Common.{◌≡◌, ℕ, ◌<◌, false, List}
-use Rattle.std.specs.Option.{option_map_or}
-use Rattle.rubis_message.specs.Message.{Message}
+use Rattle.rubis_audit.proofs.Common.{◌≡◌, ℕ, ◌<◌, false, List, option_map_or, Message}
 use Rattle.rubis_audit.specs.Walks.{by_message_id, exceeds, last_of, Sees}
 use Rattle.rubis_audit.proofs.stamps.forgets.Given as goal
 

@@ -1,7 +1,4 @@
-use Rattle.std.proofs.Common.{◌≡◌, ◌∙◌, ◌<◌, arith, ap, length, get_or, subst, sym}
-use Rattle.std.specs.Prelude.{◌==◌, ◌&&◌, nat_lt, not, slice_index}
-use Rattle.rubis_schema.specs.declared.ids.Id.{Id}
-use Rattle.rubis_message.specs.Message.{dep}
+use Rattle.rubis_audit.proofs.Common.{◌≡◌, ◌∙◌, ◌<◌, arith, ap, length, get_or, subst, sym, ◌==◌, ◌&&◌, nat_lt, not, slice_index, Id, dep}
 use Rattle.rubis_audit.proofs.Judging.{early_at, no_site, some_site}
 use Rattle.rubis_audit.proofs.stamps.is_early.Goals as goal
 

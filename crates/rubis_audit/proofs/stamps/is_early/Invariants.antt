@@ -1,6 +1,4 @@
-use Rattle.std.proofs.Common.{◌≡◌, ℕ, ◌<◌, false}
-use Rattle.std.specs.Prelude.{◌==◌, ◌&&◌, nat_lt, not, slice_index}
-use Rattle.rubis_message.specs.Message.{dep}
+use Rattle.rubis_audit.proofs.Common.{◌≡◌, ℕ, ◌<◌, false, ◌==◌, ◌&&◌, nat_lt, not, slice_index, dep}
 use Rattle.rubis_audit.proofs.stamps.is_early.Given as goal
 
 abbrev pub invariant-loop-j : goal.invariant-loop-j

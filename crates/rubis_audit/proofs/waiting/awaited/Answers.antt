@@ -1,7 +1,4 @@
-use Rattle.std.proofs.Common.{◌≡◌, ◌<◌, ◌∙◌, ap, arith, subst, sym}
-use Rattle.std.specs.Prelude.{slice_index}
-use Rattle.rubis_clock.specs.Clocks.{MessageCounts}
-use Rattle.rubis_message.specs.Message.{dep, sites_of}
+use Rattle.rubis_audit.proofs.Common.{◌≡◌, ◌<◌, ◌∙◌, ap, arith, subst, sym, slice_index, MessageCounts, dep, sites_of}
 use Rattle.rubis_audit.proofs.Merging.{awaited_none, awaited_some}
 use Rattle.rubis_audit.proofs.waiting.awaited.Goals as goal
 

@@ -1,7 +1,4 @@
-use Rattle.std.proofs.Common.{◌∙◌, ◌++◌, ap, arith, length}
-use Rattle.rubis_model.specs.Lack.{red_rows}
-use Rattle.rubis_engine.specs.Text.{rows_text}
-use Rattle.rubis_engine.proofs.RowFacts.{on_ok}
+use Rattle.rubis_audit.proofs.Common.{◌∙◌, ◌++◌, ap, arith, length, red_rows, rows_text, on_ok}
 use Rattle.rubis_audit.specs.Running.{for_rows}
 use Rattle.rubis_audit.proofs.Merging.{for_told, waits_told}
 use Rattle.rubis_audit.proofs.waiting.write_message.Goals as goal

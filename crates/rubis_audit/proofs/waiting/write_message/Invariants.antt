@@ -1,7 +1,4 @@
-use Rattle.std.proofs.Common.{◌≡◌, ◌++◌, List}
-use Rattle.rubis_message.specs.Message.{Message, sites_of}
-use Rattle.rubis_engine.specs.Text.{rows_text}
-use Rattle.rubis_release.specs.Release.{clock_of}
+use Rattle.rubis_audit.proofs.Common.{◌≡◌, ◌++◌, List, Message, sites_of, rows_text, clock_of}
 use Rattle.rubis_audit.specs.Running.{for_rows_from}
 use Rattle.rubis_audit.proofs.waiting.write_message.Given as goal
 

@@ -1,11 +1,5 @@
-use Rattle.std.proofs.Common.{◌≡◌, ◌∙◌, ◌++◌, ap, arith, length, sym}
-use Rattle.std.specs.Prelude.{map}
-use Rattle.std.specs.List.{flat_map}
-use Rattle.std.proofs.lemmas.List.{append-nil, drop_all}
-use Rattle.rubis_message.specs.Message.{sites_of}
-use Rattle.rubis_model.specs.Lack.{waits_rows}
-use Rattle.rubis_engine.specs.Text.{rows_text}
-use Rattle.rubis_release.specs.Release.{clock_of}
+use Rattle.rubis_audit.proofs.Common.{◌≡◌, ◌∙◌, ◌++◌, ap, arith, length, sym, map, flat_map, append-nil, drop_all, sites_of, waits_rows, rows_text}
+use Rattle.rubis_audit.proofs.Common.{clock_of}
 use Rattle.rubis_audit.proofs.Merging.{message_told, lent}
 use Rattle.rubis_audit.proofs.waiting.write_messages.Goals as goal
 

@@ -1,10 +1,4 @@
-use Rattle.std.proofs.Common.{◌≡◌, ◌++◌, List, drop, length}
-use Rattle.std.specs.List.{flat_map}
-use Rattle.std.specs.Prelude.{map}
-use Rattle.rubis_message.specs.Message.{Message}
-use Rattle.rubis_model.specs.Lack.{waits_rows}
-use Rattle.rubis_engine.specs.Text.{rows_text}
-use Rattle.rubis_release.specs.Release.{clock_of}
+use Rattle.rubis_audit.proofs.Common.{◌≡◌, ◌++◌, List, drop, length, flat_map, map, Message, waits_rows, rows_text, clock_of}
 use Rattle.rubis_audit.proofs.waiting.write_messages.Given as goal
 
 -- what was written, and the rows of the messages to come

@@ -1,10 +1,4 @@
-use Rattle.std.proofs.Common.{◌∙◌, ◌++◌, ap, subst, sym}
-use Rattle.std.specs.Prelude.{map}
-use Rattle.std.specs.List.{flat_map}
-use Rattle.rubis_model.specs.Lack.{waits_rows}
-use Rattle.rubis_engine.specs.Text.{rows_text}
-use Rattle.rubis_engine.proofs.RowFacts.{on_ok}
-use Rattle.rubis_release.specs.Release.{AllAmong, clock_of}
+use Rattle.rubis_audit.proofs.Common.{◌∙◌, ◌++◌, ap, subst, sym, map, flat_map, waits_rows, rows_text, on_ok, AllAmong, clock_of}
 use Rattle.rubis_audit.proofs.Merging.{counts_length}
 use Rattle.rubis_audit.proofs.waiting.write_waits.Goals as goal
 

@@ -1,8 +1,5 @@
-use Rattle.std.proofs.Common.{◌≡◌, ◌<◌, ◌∙◌, ap, arith, false, get_or, length, rules, subst, sym, take, true}
-use Rattle.std.specs.Prelude.{option_copied}
-use Rattle.rubis_model.specs.Verdict.{checks, first_of}
-use Rattle.rubis_release.specs.Release.{IsAmong}
-use Rattle.rubis_shard.specs.Holdings.{union}
+use Rattle.rubis_audit.proofs.Common.{◌≡◌, ◌<◌, ◌∙◌, ap, arith, false, get_or, length, rules, subst, sym, take, true, option_copied, checks, first_of}
+use Rattle.rubis_audit.proofs.Common.{IsAmong, union}
 use Rattle.rubis_audit.specs.Walks.{messages_of_logs}
 use Rattle.rubis_audit.proofs.Walking.{among_at, counts_of, entry_is, few_entries, found_is, no_clash, ready_at, sites_at, walked_end, walked_found}
 use Rattle.rubis_audit.proofs.Walking.{walked_nothing, walks_more, walks_none}

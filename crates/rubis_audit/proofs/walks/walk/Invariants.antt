@@ -1,5 +1,4 @@
-use Rattle.std.proofs.Common.{◌≡◌, take}
-use Rattle.std.specs.Prelude.{option_copied}
+use Rattle.rubis_audit.proofs.Common.{◌≡◌, take, option_copied}
 use Rattle.rubis_audit.specs.Walks.{messages_of_logs}
 use Rattle.rubis_audit.proofs.Walking.{Walks}
 use Rattle.rubis_audit.proofs.walks.walk.Given as goal

@@ -1,8 +1,4 @@
-use Rattle.std.proofs.Common.{◌≡◌, ◌<◌, ◌∙◌, ap, get_or, length, subst, sym, take}
-use Rattle.rubis_clock.specs.Clocks.{IsReady, advanced}
-use Rattle.rubis_message.specs.Message.{Message}
-use Rattle.rubis_release.proofs.Keeping.{opening_counts}
-use Rattle.rubis_model.proofs.Settling.{contained}
+use Rattle.rubis_audit.proofs.Common.{◌≡◌, ◌<◌, ◌∙◌, ap, get_or, length, subst, sym, take, IsReady, advanced, Message, opening_counts, contained}
 use Rattle.rubis_audit.proofs.Merging.{clock_next, clock_ready, counts_length}
 use Rattle.rubis_audit.proofs.walks_lacks.clock_of.Goals as goal
 use Rattle.rubis_audit.proofs.walks_lacks.clock_of.Goals.{After-deref}

@@ -1,5 +1,4 @@
-use Rattle.std.proofs.Common.{◌≡◌, take}
-use Rattle.rubis_release.specs.Release.{clock_of}
+use Rattle.rubis_audit.proofs.Common.{◌≡◌, take, clock_of}
 use Rattle.rubis_audit.proofs.walks_lacks.clock_of.Given as goal
 
 abbrev pub invariant-loop-message : goal.invariant-loop-message

@@ -1,7 +1,4 @@
-use Rattle.std.proofs.Common.{◌++◌, ◌∙◌, [], ◌∷◌, cond, ap, arith, sym, take}
-use Rattle.std.specs.Prelude.{filter, map}
-use Rattle.std.proofs.lemmas.List.{append-nil}
-use Rattle.rubis_clock.specs.Clocks.{MessageCounts}
+use Rattle.rubis_audit.proofs.Common.{◌++◌, ◌∙◌, [], ◌∷◌, cond, ap, arith, sym, take, filter, map, append-nil, MessageCounts}
 use Rattle.rubis_audit.proofs.Merging.{counts_length, lent, lent_all, lent_at, uncounted, uncounted_all, uncounted_next}
 use Rattle.rubis_audit.proofs.walks_lacks.lacked.Goals as goal
 use Rattle.rubis_audit.proofs.walks_lacks.lacked.Goals.{then-is_new+in_ok-put_last, else-is_new}

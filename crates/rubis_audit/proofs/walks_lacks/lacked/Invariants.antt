@@ -1,5 +1,4 @@
-use Rattle.std.proofs.Common.{◌≡◌, take}
-use Rattle.std.specs.Prelude.{filter, map}
+use Rattle.rubis_audit.proofs.Common.{◌≡◌, take, filter, map}
 use Rattle.rubis_audit.proofs.Merging.{uncounted}
 use Rattle.rubis_audit.proofs.walks_lacks.lacked.Given as goal
 

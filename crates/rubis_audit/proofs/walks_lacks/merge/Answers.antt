@@ -1,5 +1,4 @@
-use Rattle.std.proofs.Common.{subst, sym}
-use Rattle.std.specs.Prelude.{map}
+use Rattle.rubis_audit.proofs.Common.{subst, sym, map}
 use Rattle.rubis_audit.specs.Walks.{IsMerged}
 use Rattle.rubis_audit.proofs.Merging.{merged_start}
 use Rattle.rubis_audit.proofs.walks_lacks.merge.Goals as goal

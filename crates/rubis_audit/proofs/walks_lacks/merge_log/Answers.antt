@@ -1,5 +1,4 @@
-use Rattle.std.proofs.Common.{◌≡◌, ◌+◌, ◌<◌, ◌∙◌, ap, arith, get_or, length, subst, sym}
-use Rattle.std.specs.Prelude.{map}
+use Rattle.rubis_audit.proofs.Common.{◌≡◌, ◌+◌, ◌<◌, ◌∙◌, ap, arith, get_or, length, subst, sym, map}
 use Rattle.rubis_audit.proofs.Merging.{Merges, counts_same, is_ready, merges_end, merges_skip, merges_start, merges_take, one_at, origin_within}
 use Rattle.rubis_audit.proofs.Walking.{entry_is}
 use Rattle.rubis_audit.proofs.walks_lacks.merge_log.Goals as goal

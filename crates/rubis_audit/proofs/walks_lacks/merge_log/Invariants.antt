@@ -1,6 +1,4 @@
-use Rattle.std.proofs.Common.{◌≡◌, get_or}
-use Rattle.std.specs.Prelude.{map}
-use Rattle.rubis_model.specs.Verdict.{Log}
+use Rattle.rubis_audit.proofs.Common.{◌≡◌, get_or, map, Log}
 use Rattle.rubis_audit.proofs.Merging.{Merges}
 use Rattle.rubis_audit.proofs.walks_lacks.merge_log.Given as goal
 

@@ -1,7 +1,4 @@
-use Rattle.std.proofs.Common.{subst}
-use Rattle.rubis_engine.specs.Progress.{IsRun}
-use Rattle.rubis_schema.specs.declared.limits.TheConstants.{RECORDS_MAX}
-use Rattle.rubis_serving.proofs.ServedFacts.{reader_run}
+use Rattle.rubis_audit.proofs.Common.{subst, IsRun, RECORDS_MAX, reader_run}
 use Rattle.rubis_audit.specs.Forms.{logs_at}
 use Rattle.rubis_audit.specs.Running.{WidenerState, widening_from}
 use Rattle.rubis_audit.proofs.widener.run_widen.Goals as goal

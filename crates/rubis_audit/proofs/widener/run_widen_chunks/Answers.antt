@@ -1,8 +1,6 @@
-use Rattle.std.specs.Prelude.{⊤}
-use Rattle.rubis_schema.specs.declared.limits.TheConstants.{RECORDS_MAX}
+use Rattle.rubis_audit.proofs.Common.{⊤, RECORDS_MAX, led_whole}
 use Rattle.rubis_audit.specs.Forms.{logs_at}
 use Rattle.rubis_audit.specs.Running.{WidenerState, widening_from}
-use Rattle.rubis_serving.proofs.ServedFacts.{led_whole}
 use Rattle.rubis_audit.proofs.widener.run_widen_chunks.Goals as goal
 
 pub returns : goal.returns

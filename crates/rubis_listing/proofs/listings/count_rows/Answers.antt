@@ -1,8 +1,5 @@
-use Rattle.std.proofs.Common.{rules, arith, ◌≡◌, ◌∷◌, [], ◌∙◌, ◌+◌, ◌<◌, ap, drop, length, length-append, sym}
-use Rattle.std.specs.Prelude.{slice_index_or}
-use Rattle.rubis_schema.specs.declared.row_keys.RowKey.{RowKey}
-use Rattle.rubis_schema.specs.declared.rows.Row.{Row}
-use Rattle.rubis_model.specs.Listings.{records_of}
+use Rattle.rubis_listing.proofs.Common.{rules, arith, ◌≡◌, ◌∷◌, [], ◌∙◌, ◌+◌, ◌<◌, ap, drop, length, length-append, sym, slice_index_or, RowKey, Row}
+use Rattle.rubis_listing.proofs.Common.{records_of}
 use Rattle.rubis_listing.proofs.Making.{rows_more}
 use Rattle.rubis_listing.proofs.listings.count_rows.Goals as goal
 

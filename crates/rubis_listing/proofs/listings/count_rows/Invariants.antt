@@ -1,5 +1,4 @@
-use Rattle.std.proofs.Common.{◌≡◌, ◌+◌, ◌≤◌, drop, length}
-use Rattle.rubis_model.specs.Listings.{records_of}
+use Rattle.rubis_listing.proofs.Common.{◌≡◌, ◌+◌, ◌≤◌, drop, length, records_of}
 use Rattle.rubis_listing.proofs.listings.count_rows.Given as goal
 
 -- those that were counted, and those of the rows to come, are all

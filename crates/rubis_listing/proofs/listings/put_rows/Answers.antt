@@ -1,8 +1,4 @@
-use Rattle.std.proofs.Common.{rules, ◌≡◌, ◌+◌, ◌++◌, ◌<◌, ◌∷◌, [], drop, length, subst, sym, ◌∙◌}
-use Rattle.std.specs.Prelude.{slice_index_or}
-use Rattle.rubis_schema.specs.declared.row_keys.RowKey.{RowKey}
-use Rattle.rubis_schema.specs.declared.rows.Row.{Row}
-use Rattle.rubis_model.specs.Listings.{records_of}
+use Rattle.rubis_listing.proofs.Common.{rules, ◌≡◌, ◌+◌, ◌++◌, ◌<◌, ◌∷◌, [], drop, length, subst, sym, ◌∙◌, slice_index_or, RowKey, Row, records_of}
 use Rattle.rubis_listing.proofs.Making.{rows_more}
 use Rattle.rubis_listing.proofs.listings.put_rows.Goals as goal
 

@@ -1,5 +1,4 @@
-use Rattle.std.proofs.Common.{drop}
-use Rattle.rubis_model.specs.Listings.{records_of}
+use Rattle.rubis_listing.proofs.Common.{drop, records_of}
 use Rattle.rubis_listing.proofs.listings.put_rows.Given as goal
 
 -- what the rows to come add, all rows add to what there was

@@ -1,9 +1,5 @@
-use Rattle.std.proofs.Common.{ap, sym, ◌∙◌}
-use Rattle.rubis_schema.specs.declared.row_keys.Table.{Table}
+use Rattle.rubis_listing.proofs.Common.{ap, sym, ◌∙◌, Table, rows_of, records_of, union}
 use Rattle.rubis_schema.specs.declared.row_keys.Table.TheVariants as table
-use Rattle.rubis_shadow.specs.Tables.{rows_of}
-use Rattle.rubis_model.specs.Listings.{records_of}
-use Rattle.rubis_shard.specs.Holdings.{union}
 use Rattle.rubis_listing.proofs.Making.{if_listed}
 use Rattle.rubis_listing.proofs.Selecting.{categories_records, listed_as, nick_records}
 use Rattle.rubis_listing.proofs.listings.rows_in.Goals as goal

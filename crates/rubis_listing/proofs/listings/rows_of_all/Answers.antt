@@ -1,11 +1,5 @@
-use Rattle.std.proofs.Common.{rules, ◌≡◌, ◌++◌, ◌<◌, ◌≤◌, List, length, ap, ◌∙◌}
-use Rattle.std.specs.Prelude.{slice_index_or}
-use Rattle.rubis_schema.specs.declared.row_keys.RowKey.{RowKey}
+use Rattle.rubis_listing.proofs.Common.{rules, ◌≡◌, ◌++◌, ◌<◌, ◌≤◌, List, length, ap, ◌∙◌, slice_index_or, RowKey, Row, rows_of, records_of, union}
 use Rattle.rubis_schema.specs.declared.row_keys.Table.TheVariants as table
-use Rattle.rubis_schema.specs.declared.rows.Row.{Row}
-use Rattle.rubis_shadow.specs.Tables.{rows_of}
-use Rattle.rubis_model.specs.Listings.{records_of}
-use Rattle.rubis_shard.specs.Holdings.{union}
 use Rattle.rubis_listing.specs.Parts.{tables_of}
 use Rattle.rubis_listing.proofs.ByTable.{all_by_table, rows_by_table}
 use Rattle.rubis_listing.proofs.Making.{collected_all, collected_more}

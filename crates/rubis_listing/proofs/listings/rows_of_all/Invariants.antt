@@ -1,5 +1,4 @@
-use Rattle.std.proofs.Common.{drop}
-use Rattle.rubis_shard.specs.Holdings.{union}
+use Rattle.rubis_listing.proofs.Common.{drop, union}
 use Rattle.rubis_listing.specs.Parts.{tables_of}
 use Rattle.rubis_listing.proofs.Making.{AreCollected}
 use Rattle.rubis_listing.proofs.listings.rows_of_all.Given as goal

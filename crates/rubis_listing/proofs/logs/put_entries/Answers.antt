@@ -1,6 +1,5 @@
-use Rattle.std.proofs.Common.{◌≡◌, ◌∷◌, [], ◌++◌, ◌∙◌, ap, sym, subst, ◌+◌, ◌<◌, ◌≤◌, length, rules}
-use Rattle.std.specs.Prelude.{slice_index_or, slice_range}
-use Rattle.rubis_model.specs.Listings.{log_from, log_record}
+use Rattle.rubis_listing.proofs.Common.{◌≡◌, ◌∷◌, [], ◌++◌, ◌∙◌, ap, sym, subst, ◌+◌, ◌<◌, ◌≤◌, length, rules, slice_index_or, slice_range, log_from}
+use Rattle.rubis_listing.proofs.Common.{log_record}
 use Rattle.rubis_listing.proofs.Making.{entry_more, entries_end}
 use Rattle.rubis_listing.proofs.logs.put_entries.Goals as goal
 

@@ -1,6 +1,4 @@
-use Rattle.std.proofs.Common.{◌+◌}
-use Rattle.std.specs.Prelude.{slice_range}
-use Rattle.rubis_model.specs.Listings.{log_from}
+use Rattle.rubis_listing.proofs.Common.{◌+◌, slice_range, log_from}
 use Rattle.rubis_listing.proofs.logs.put_entries.Given as goal
 
 -- what the entries to come add, all entries add to what there was

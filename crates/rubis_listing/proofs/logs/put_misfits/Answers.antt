@@ -1,5 +1,4 @@
-use Rattle.std.proofs.Common.{◌∷◌, [], ◌++◌, ◌∙◌, ap, sym, subst, drop, ◌+◌, ◌<◌, length, rules}
-use Rattle.rubis_model.specs.Listings.{misfit_rows}
+use Rattle.rubis_listing.proofs.Common.{◌∷◌, [], ◌++◌, ◌∙◌, ap, sym, subst, drop, ◌+◌, ◌<◌, length, rules, misfit_rows}
 use Rattle.rubis_listing.proofs.Making.{misfit_more}
 use Rattle.rubis_listing.proofs.logs.put_misfits.Goals as goal
 

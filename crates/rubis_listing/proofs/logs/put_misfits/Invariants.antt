@@ -1,5 +1,4 @@
-use Rattle.std.proofs.Common.{drop}
-use Rattle.rubis_model.specs.Listings.{misfit_rows}
+use Rattle.rubis_listing.proofs.Common.{drop, misfit_rows}
 use Rattle.rubis_listing.proofs.logs.put_misfits.Given as goal
 
 -- what the misfits to come add, all misfits add to what there was

@@ -1,10 +1,9 @@
-use Rattle.std.proofs.Common.{ℕ, ◌≡◌, ◌+◌, ◌*◌, ◌-◌, ◌≤◌, ◌/◌, ◌∙◌, ap, arith, subst, sym}
-use Rattle.std.specs.Prelude.{IfOk}
-use Rattle.std.specs.List.{AllZip, range_with_len}
-use denote.Exit.{no}
-use denote.Param.Send.{arg_send, param_send}
+use Rattle.rubis_listing.proofs.Common.{ℕ, ◌≡◌, ◌+◌, ◌*◌, ◌-◌, ◌≤◌, ◌∙◌, ap, arith, subst, sym, IfOk, AllZip, range_with_len}
+use Rattle.std.proofs.Common.{◌/◌}
 use Rattle.rayon.specs.Numbers.{nat_range}
 use Rattle.rayon.proofs.ToStd.{nat_range-All}
+use denote.Exit.{no}
+use denote.Param.Send.{arg_send, param_send}
 use Rattle.rubis_listing.specs.Parts.{rows_of_part, size_of, AreParts}
 use Rattle.rubis_listing.proofs.Making.{each_made, if_made, parts_from}
 use Rattle.rubis_listing.proofs.shared.make_parts.Goals as goal

@@ -1,5 +1,4 @@
-use Rattle.std.proofs.Common.{ℕ, ◌≤◌}
-use Rattle.std.specs.Vec.Iter.{into_iter_items}
+use Rattle.rubis_listing.proofs.Common.{ℕ, ◌≤◌, into_iter_items}
 use Rattle.rubis_listing.specs.Parts.{between, AreParts}
 use Rattle.rubis_listing.proofs.shared.put_shared.Given as goal
 

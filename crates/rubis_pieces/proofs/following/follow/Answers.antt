@@ -1,10 +1,5 @@
-use Rattle.std.proofs.Common.{◌≡◌, rules, sym, ap, ◌∙◌, subst, get_or, arith}
-use Rattle.std.proofs.lemmas.List.{length-map}
-use Rattle.rubis_model.specs.Log.{core, cores}
-use Rattle.rubis_shard.specs.Holdings.{core_of, AreHomesOf}
-use Rattle.rubis_shard.specs.States.{ShardState}
-use Rattle.rubis_shard.specs.declared.part_homes.PartHomes.{PartHomes}
-use Rattle.rubis_shard.proofs.Folds.{of_ok}
+use Rattle.rubis_pieces.proofs.Common.{◌≡◌, rules, sym, ap, ◌∙◌, subst, get_or, arith, length-map, core, cores, core_of, AreHomesOf, ShardState}
+use Rattle.rubis_pieces.proofs.Common.{PartHomes, of_ok}
 use Rattle.rubis_pieces.proofs.Follows.{follow_turn, homes_at, homes_many, of_err, pass_turn, stops}
 use Rattle.rubis_pieces.proofs.following.follow.Goals as goal
 use Rattle.rubis_pieces.proofs.following.follow.Goals.{then-has+else-is_err, else-has}

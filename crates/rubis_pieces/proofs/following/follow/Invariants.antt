@@ -1,6 +1,4 @@
-use Rattle.std.proofs.Common.{◌≡◌, take}
-use Rattle.rubis_model.specs.Log.{cores, share}
-use Rattle.rubis_shard.specs.States.{with_parts}
+use Rattle.rubis_pieces.proofs.Common.{◌≡◌, take, cores, share, with_parts}
 use Rattle.rubis_pieces.proofs.following.follow.Given as goal
 
 abbrev pub invariant-loop-place : goal.invariant-loop-place

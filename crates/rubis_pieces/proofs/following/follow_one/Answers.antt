@@ -1,6 +1,4 @@
-use Rattle.std.proofs.Common.{rules, refl, ◌∙◌}
-use Rattle.rubis_model.specs.Log.{cores}
-use Rattle.rubis_shard.proofs.Folds.{of_ok}
+use Rattle.rubis_pieces.proofs.Common.{rules, refl, ◌∙◌, cores, of_ok}
 use Rattle.rubis_pieces.proofs.Follows.{goes_first, goes_turn}
 use Rattle.rubis_pieces.proofs.following.follow_one.Goals as goal
 

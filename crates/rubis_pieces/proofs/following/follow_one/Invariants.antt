@@ -1,5 +1,4 @@
-use Rattle.std.proofs.Common.{◌≡◌, length}
-use Rattle.rubis_model.specs.Log.{cores}
+use Rattle.rubis_pieces.proofs.Common.{◌≡◌, length, cores}
 use Rattle.rubis_pieces.specs.Following.{GoesTo}
 use Rattle.rubis_pieces.proofs.following.follow_one.Given as goal
 

@@ -1,7 +1,5 @@
-use Rattle.std.proofs.Common.{rules, ◌≡◌, ◌∙◌, get_or, sym, subst, arith, ⊎_elim}
-use Rattle.std.proofs.lemmas.Bool.{cases_lt}
+use Rattle.rubis_pieces.proofs.Common.{rules, ◌≡◌, ◌∙◌, get_or, sym, subst, arith, ⊎_elim, cases_lt, IsMessage}
 use Rattle.std.proofs.lemmas.List.{get_or_default}
-use Rattle.rubis_message.specs.Message.{IsMessage}
 use Rattle.rubis_pieces.proofs.Follows.{homes_turn}
 use Rattle.rubis_pieces.proofs.following.homes_of.Goals as goal
 

@@ -1,6 +1,5 @@
-use Rattle.std.proofs.Common.{rules, ◌≡◌, ◌<◌, ◌+◌, length, sym, ap, ◌∙◌, refl, subst, arith, true, false}
-use Rattle.std.specs.Prelude.{slice_get, Some}
-use Rattle.std.proofs.lemmas.List.{length-map, length-set}
+use Rattle.rubis_pieces.proofs.Common.{rules, ◌≡◌, ◌<◌, ◌+◌, length, sym, ap, ◌∙◌, refl, subst, arith, true, false, slice_get, Some, length-map}
+use Rattle.rubis_pieces.proofs.Common.{length-set}
 use Rattle.rubis_pieces.specs.declared.pieces.Done.{Done}
 use Rattle.rubis_pieces.specs.Batches.{IsSoundTo, IsSeenTo, StandsBelow, numbers_of}
 use Rattle.rubis_pieces.proofs.Folded.{number_at, sound_more, seen_more, flag, seen_one_more, none_true, all_true, one_true_more, one_flag_more}

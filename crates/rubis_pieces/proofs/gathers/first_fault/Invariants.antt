@@ -1,5 +1,4 @@
-use Rattle.std.proofs.Common.{◌≡◌, ◌<◌, ℕ, length}
-use Rattle.std.specs.Prelude.{slice_get, Some, true}
+use Rattle.rubis_pieces.proofs.Common.{◌≡◌, ◌<◌, ℕ, length, slice_get, Some, true}
 use Rattle.rubis_pieces.specs.Batches.{IsSoundTo, IsSeenTo, StandsBelow, numbers_of}
 use Rattle.rubis_pieces.proofs.Folded.{trues}
 use Rattle.rubis_pieces.proofs.gathers.first_fault.Given as goal

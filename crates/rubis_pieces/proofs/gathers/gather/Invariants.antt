@@ -1,7 +1,4 @@
-use Rattle.std.proofs.Common.{◌≡◌, ◌+◌, ◌≤◌, ◌++◌, length, map as each}
-use Rattle.std.specs.Prelude.{flat_map}
-use Rattle.std.specs.Vec.{vec_len, vec_capacity}
-use Rattle.std.specs.Vec.Iter.{into_iter_items, into_iter_len}
+use Rattle.rubis_pieces.proofs.Common.{◌≡◌, ◌+◌, ◌≤◌, ◌++◌, length, map as each, flat_map, vec_len, vec_capacity, into_iter_items, into_iter_len}
 use Rattle.rubis_pieces.specs.declared.pieces.Done.{Done}
 use Rattle.rubis_pieces.specs.Batches.{left_of}
 use Rattle.rubis_pieces.proofs.gathers.gather.Given as goal

@@ -1,8 +1,4 @@
-use Rattle.std.proofs.Common.{rules, ◌≡◌, ap, ◌∙◌, subst, arith}
-use Rattle.std.specs.List.Sorted.{IsPermutation}
-use Rattle.std.proofs.lemmas.List.{take_all}
-use Rattle.std.proofs.lemmas.List.Sorted.{IsNonDecreasingBy-from_sort_by_key}
-use Rattle.rubis_shard.specs.Holdings.{all_misfits}
+use Rattle.rubis_pieces.proofs.Common.{rules, ◌≡◌, ap, ◌∙◌, subst, arith, IsPermutation, take_all, IsNonDecreasingBy-from_sort_by_key, all_misfits}
 use Rattle.rubis_pieces.specs.Misfits.{misfit_order}
 use Rattle.rubis_pieces.proofs.Order.{misfits_are}
 use Rattle.rubis_pieces.proofs.ordering.misfits.Goals as goal

@@ -1,5 +1,4 @@
-use Rattle.std.proofs.Common.{◌≡◌, ◌++◌, take}
-use Rattle.rubis_shard.specs.Holdings.{all_misfits}
+use Rattle.rubis_pieces.proofs.Common.{◌≡◌, ◌++◌, take, all_misfits}
 use Rattle.rubis_pieces.proofs.ordering.misfits.Given as goal
 
 abbrev pub invariant-loop-shard : goal.invariant-loop-shard

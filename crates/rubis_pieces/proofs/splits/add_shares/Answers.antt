@@ -1,7 +1,5 @@
-use Rattle.std.proofs.Common.{rules, arith, ◌≡◌, ◌∷◌, ◌+◌, ◌<◌, ◌≤◌, ◌∙◌, [], suc, drop, length, ap, sym, refl}
-use Rattle.std.specs.Vec.Iter.{into_iter_items, into_iter_len}
-use Rattle.std.proofs.lemmas.List.{length-drop, nil_from_length}
-use Rattle.std.proofs.lemmas.Option.{slice_get_read}
+use Rattle.rubis_pieces.proofs.Common.{rules, arith, ◌≡◌, ◌∷◌, ◌+◌, ◌<◌, ◌≤◌, ◌∙◌, [], suc, drop, length, ap, sym, refl, into_iter_items}
+use Rattle.rubis_pieces.proofs.Common.{into_iter_len, length-drop, nil_from_length, slice_get_read}
 use Rattle.rubis_pieces.proofs.Dealt.{added_dealt, drop_first, drop_rest, none_added, one_added}
 use Rattle.rubis_pieces.proofs.splits.add_shares.Goals as goal
 

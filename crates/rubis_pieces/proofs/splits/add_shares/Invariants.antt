@@ -1,5 +1,4 @@
-use Rattle.std.proofs.Common.{◌≡◌, ◌≤◌, drop, length}
-use Rattle.std.specs.Vec.Iter.{into_iter_items}
+use Rattle.rubis_pieces.proofs.Common.{◌≡◌, ◌≤◌, drop, length, into_iter_items}
 use Rattle.rubis_pieces.proofs.Dealt.{AreAddedTo}
 use Rattle.rubis_pieces.proofs.splits.add_shares.Given as goal
 

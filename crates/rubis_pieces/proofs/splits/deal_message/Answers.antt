@@ -1,6 +1,4 @@
-use Rattle.std.proofs.Common.{rules, arith}
-use Rattle.rubis_model.specs.Log.{parts_of}
-use Rattle.rubis_shard.specs.Holdings.{core_of}
+use Rattle.rubis_pieces.proofs.Common.{rules, arith, parts_of, core_of}
 use Rattle.rubis_pieces.proofs.Dealt.{place_turn, place_past, message_end}
 use Rattle.rubis_pieces.proofs.splits.deal_message.Goals as goal
 

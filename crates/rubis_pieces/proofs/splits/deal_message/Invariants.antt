@@ -1,6 +1,4 @@
-use Rattle.std.proofs.Common.{◌≡◌, length, take}
-use Rattle.rubis_model.specs.Log.{number_parts, parts_of}
-use Rattle.rubis_shard.specs.Holdings.{core_of}
+use Rattle.rubis_pieces.proofs.Common.{◌≡◌, length, take, number_parts, parts_of, core_of}
 use Rattle.rubis_pieces.proofs.Dealt.{IsDealtTo}
 use Rattle.rubis_pieces.proofs.splits.deal_message.Given as goal
 

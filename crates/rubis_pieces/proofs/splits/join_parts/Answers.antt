@@ -1,9 +1,7 @@
-use Rattle.std.proofs.Common.{rules, arith, ◌≡◌, ◌∷◌, ◌+◌, ◌++◌, ◌∙◌, [], List, ap, drop, length, length-append, subst, sym, refl, take, append_assoc}
+use Rattle.rubis_pieces.proofs.Common.{rules, arith, ◌≡◌, ◌∷◌, ◌+◌, ◌++◌, ◌∙◌, [], List, ap, drop, length, length-append, subst, sym, refl, take}
+use Rattle.rubis_pieces.proofs.Common.{append_assoc, into_iter_items, into_iter_len, append-nil, nil_from_length, Core, cores, numbered_from}
+use Rattle.rubis_pieces.proofs.Common.{numbered_append}
 use Rattle.std.proofs.Common.{take-append-drop}
-use Rattle.std.specs.Vec.Iter.{into_iter_items, into_iter_len}
-use Rattle.std.proofs.lemmas.List.{append-nil, nil_from_length}
-use Rattle.rubis_model.specs.Log.{Core, cores, numbered_from}
-use Rattle.rubis_model.proofs.Shares.{numbered_append}
 use Rattle.rubis_pieces.specs.Batches.{AreDealt, AreOfParts}
 use Rattle.rubis_pieces.proofs.splits.join_parts.Goals as goal
 

@@ -1,6 +1,4 @@
-use Rattle.std.proofs.Common.{◌≡◌, ◌+◌, ◌++◌, List, length}
-use Rattle.std.specs.Vec.Iter.{into_iter_items}
-use Rattle.rubis_model.specs.Log.{Core, cores, numbered_from}
+use Rattle.rubis_pieces.proofs.Common.{◌≡◌, ◌+◌, ◌++◌, List, length, into_iter_items, Core, cores, numbered_from}
 use Rattle.rubis_pieces.specs.Batches.{AreDealt, AreOfParts}
 use Rattle.rubis_pieces.proofs.splits.join_parts.Given as goal
 

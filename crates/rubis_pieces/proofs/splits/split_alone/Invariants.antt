@@ -1,5 +1,4 @@
-use Rattle.std.proofs.Common.{◌≡◌, ◌+◌, take}
-use Rattle.rubis_model.specs.Log.{cores, numbered_from}
+use Rattle.rubis_pieces.proofs.Common.{◌≡◌, ◌+◌, take, cores, numbered_from}
 use Rattle.rubis_pieces.specs.Batches.{AreDealt}
 use Rattle.rubis_pieces.proofs.splits.split_alone.Given as goal
 

@@ -1,6 +1,4 @@
-use Rattle.std.proofs.Common.{List, ◌+◌, ◌*◌, subst}
-use Rattle.std.specs.Prelude.{IfOk}
-use Rattle.rubis_model.specs.Log.{Core}
+use Rattle.rubis_pieces.proofs.Common.{List, ◌+◌, ◌*◌, subst, IfOk, Core}
 use Rattle.rubis_pieces.specs.Batches.{AreShares}
 use Rattle.rubis_pieces.proofs.Dealt.{part_cores}
 use Rattle.rubis_pieces.proofs.splits.split_part.Goals as goal

@@ -1,12 +1,8 @@
-use Rattle.std.proofs.Common.{ℕ, ◌≡◌, ◌+◌, ◌*◌, ◌-◌, ◌<◌, ◌≤◌, ◌/◌, ◌∙◌, ap, arith, length, subst, sym}
-use Rattle.std.specs.Global.{Vec}
-use Rattle.std.specs.Prelude.{IfOk}
-use Rattle.std.specs.List.{AllZip, range_with_len}
-use Rattle.std.proofs.lemmas.List.{length-map}
+use Rattle.rubis_pieces.proofs.Common.{ℕ, ◌≡◌, ◌+◌, ◌*◌, ◌-◌, ◌<◌, ◌≤◌, ◌∙◌, ap, arith, length, subst, sym, Vec, IfOk, AllZip, range_with_len}
+use Rattle.rubis_pieces.proofs.Common.{length-map, core, cores, Share}
+use Rattle.std.proofs.Common.{◌/◌}
 use Rattle.rayon.specs.Numbers.{nat_range}
 use Rattle.rayon.proofs.ToStd.{nat_range-All}
-use Rattle.rubis_model.specs.Log.{core, cores}
-use Rattle.rubis_shard.specs.declared.shares.Share.{Share}
 use Rattle.rubis_pieces.specs.Batches.{AreOfParts, AreShares, part_of}
 use Rattle.rubis_pieces.proofs.Dealt.{if_ok, each_made, parts_from}
 use Rattle.rubis_pieces.proofs.splits.split_parts.Goals as goal

@@ -1,5 +1,4 @@
-use Rattle.std.proofs.Common.{◌≡◌, ◌*◌, ◌≤◌, length, take}
-use Rattle.rubis_model.specs.Log.{cores}
+use Rattle.rubis_pieces.proofs.Common.{◌≡◌, ◌*◌, ◌≤◌, length, take, cores}
 use Rattle.rubis_pieces.specs.Following.{parts_behind}
 use Rattle.rubis_pieces.proofs.waiting.count_behind.Given as goal
 

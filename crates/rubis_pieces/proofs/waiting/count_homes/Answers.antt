@@ -1,6 +1,4 @@
-use Rattle.std.proofs.Common.{length, arith}
-use Rattle.std.specs.Prelude.{slice_get}
-use Rattle.rubis_model.specs.Log.{parts_of}
+use Rattle.rubis_pieces.proofs.Common.{length, arith, slice_get, parts_of}
 use Rattle.rubis_pieces.proofs.Counting.{message_parts}
 use Rattle.rubis_pieces.proofs.waiting.count_homes.Goals as goal
 

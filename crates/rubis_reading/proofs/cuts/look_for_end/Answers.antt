@@ -1,5 +1,4 @@
-use Rattle.std.proofs.Common.{◌≤◌, ◌∙◌, arith, drop, length, subst, sym, take, take-append-drop}
-use Rattle.std.proofs.lemmas.List.{length-take-le}
+use Rattle.rubis_reading.proofs.Common.{◌≤◌, ◌∙◌, arith, drop, length, subst, sym, take, take-append-drop, length-take-le}
 use Rattle.rubis_reading.specs.Streams.{HasLooked}
 use Rattle.rubis_reading.proofs.LookFacts.{looked-front, looked-more}
 use Rattle.rubis_reading.proofs.cuts.look_for_end.Goals as goal

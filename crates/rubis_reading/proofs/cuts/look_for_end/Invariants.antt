@@ -1,5 +1,4 @@
-use Rattle.std.proofs.Common.{◌-◌, length}
-use Rattle.csv.specs.Reading.{strip_bom}
+use Rattle.rubis_reading.proofs.Common.{◌-◌, length, strip_bom}
 use Rattle.rubis_reading.specs.Streams.{HasLooked}
 use Rattle.rubis_reading.proofs.cuts.look_for_end.Given as goal
 

@@ -1,5 +1,4 @@
-use Rattle.std.proofs.Common.{◌≡◌, ◌∙◌, ◌≤◌, ◌<◌, ◌+◌, ap, arith, drop, get_or, length, length-drop, subst, sym, take, Some}
-use Rattle.std.proofs.lemmas.List.{length-take-le}
+use Rattle.rubis_reading.proofs.Common.{◌≡◌, ◌∙◌, ◌≤◌, ◌<◌, ◌+◌, ap, arith, drop, get_or, length, length-drop, subst, sym, take, Some, length-take-le}
 use Rattle.rubis_engine.proofs.RunFacts.{if_none}
 use Rattle.csv.specs.declared.parser.State.TheVariants as st
 use Rattle.rubis_reading.specs.Streams.{state_of, EndsFrom, HasNoQuote, IsLike, NoEndAfter, stands}

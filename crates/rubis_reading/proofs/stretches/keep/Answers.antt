@@ -1,8 +1,6 @@
-use Rattle.std.proofs.Common.{◌≡◌, ◌++◌, ◌∷◌, ◌∙◌, [], ap, append-nil, append_assoc, arith, length, length-append, subst, sym}
-use Rattle.std.proofs.lemmas.Result.{on_ok_weaker}
-use Rattle.rubis_message.specs.declared.tokens.Packet.TheVariants.{Msg}
+use Rattle.rubis_reading.proofs.Common.{◌≡◌, ◌++◌, ◌∷◌, ◌∙◌, [], ap, append-nil, append_assoc, arith, length, length-append, subst, sym, on_ok_weaker}
+use Rattle.rubis_reading.proofs.Common.{Msg, Came}
 use Rattle.rubis_reading.specs.Readings.{FitWindow, HaveWindow, all_came, flat}
-use Rattle.rubis_message.specs.declared.inputs.Input.TheVariants.{Came}
 use Rattle.rubis_reading.specs.declared.stretches.Stretch.TheVariants.{One}
 use Rattle.rubis_reading.proofs.PieceFacts.{came-more, window-more}
 use Rattle.rubis_reading.proofs.stretches.keep.Goals.{then-len-window+in_ok-keep_messages-in-Came-Msg, else-len-window}

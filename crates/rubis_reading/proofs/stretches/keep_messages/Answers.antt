@@ -1,5 +1,4 @@
-use Rattle.std.proofs.Common.{subst, sym}
-use Rattle.std.proofs.lemmas.Result.{on_ok_weaker}
+use Rattle.rubis_reading.proofs.Common.{subst, sym, on_ok_weaker}
 use Rattle.rubis_reading.proofs.PieceFacts.{window-more}
 use Rattle.rubis_reading.specs.Readings.{FitWindow}
 use Rattle.rubis_reading.specs.declared.stretches.Stretch.TheVariants.{Messages}

@@ -1,7 +1,5 @@
 use Rattle.rubis_reading.specs.Readings.{all_came, flat}
-use Rattle.std.proofs.Common.{◌≡◌, ◌++◌, arith, refl, false, rules, subst, sym, true}
-use Rattle.rubis_engine.specs.Reading.{Advances}
-use Rattle.rubis_message.specs.Inputs.{IsInput}
+use Rattle.rubis_reading.proofs.Common.{◌≡◌, ◌++◌, arith, refl, false, rules, subst, sym, true, Advances, IsInput}
 use Rattle.rubis_reading.proofs.PieceFacts.{HasInputs, inputs-ends, inputs-starts, inputs-step}
 use Rattle.rubis_reading.proofs.stretches.read_all.Goals as goal
 

@@ -1,5 +1,4 @@
-use Rattle.std.proofs.Common.{◌≡◌, length, sym, ap, ◌∙◌, subst, rules}
-use Rattle.std.specs.Prelude.{filter, is_some}
+use Rattle.rubis_release.proofs.Common.{◌≡◌, length, sym, ap, ◌∙◌, subst, rules, filter, is_some}
 use Rattle.indexmap.proofs.CallerLemmas.{filter-RetainsPairs}
 use Rattle.rubis_release.specs.Waiting.{Slots, somes, HaveTheirIds, AreApart}
 use Rattle.rubis_release.proofs.Slots.{somes_kept, own_kept, full_kept}

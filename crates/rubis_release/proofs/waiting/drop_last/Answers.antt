@@ -1,6 +1,4 @@
-use Rattle.std.proofs.Common.{◌≡◌, ◌+◌, ◌-◌, ◌≤◌, length, refl, sym, ap, ◌∙◌, arith}
-use Rattle.std.specs.Prelude.{Option, Some, None, slice_get}
-use Rattle.rubis_message.specs.Message.{Message}
+use Rattle.rubis_release.proofs.Common.{◌≡◌, ◌+◌, ◌-◌, ◌≤◌, length, refl, sym, ap, ◌∙◌, arith, Option, Some, None, slice_get, Message}
 use Rattle.rubis_release.specs.Waiting.{AreSlots, somes}
 use Rattle.rubis_release.proofs.Slots.{without_last}
 use Rattle.rubis_release.proofs.waiting.drop_last.Goals as goal

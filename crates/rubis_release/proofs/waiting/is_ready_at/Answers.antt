@@ -1,8 +1,4 @@
-use Rattle.std.proofs.Common.{◌≡◌, subst, sym, ap, ◌∙◌}
-use Rattle.std.specs.Prelude.{None, Option, Some}
-use Rattle.rubis_schema.specs.declared.ids.Id.{Id}
-use Rattle.rubis_clock.specs.Clocks.{IsReady}
-use Rattle.rubis_message.specs.Message.{Message}
+use Rattle.rubis_release.proofs.Common.{◌≡◌, subst, sym, ap, ◌∙◌, None, Option, Some, Id, IsReady, Message}
 use Rattle.rubis_release.proofs.Slots.{un_some, by_test, same_value, slot_has}
 use Rattle.rubis_release.proofs.waiting.is_ready_at.Goals as goal
 

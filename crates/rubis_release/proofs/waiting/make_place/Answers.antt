@@ -1,9 +1,4 @@
-use Rattle.std.proofs.Common.{◌≡◌, length, sym, ap, ◌∙◌, arith}
-use Rattle.std.specs.List.{list_any}
-use Rattle.std.proofs.lemmas.Bool.Decides.{Decides-eqb}
-use Rattle.std.proofs.lemmas.List.{nil_from_length}
-use Rattle.rubis_schema.specs.Keys.{same_id}
-use Rattle.rubis_message.specs.Message.{Message}
+use Rattle.rubis_release.proofs.Common.{◌≡◌, length, sym, ap, ◌∙◌, arith, list_any, Decides-eqb, nil_from_length, same_id, Message}
 use Rattle.rubis_release.specs.Waiting.{somes}
 use Rattle.rubis_release.proofs.Slots.{has_told, full_lookup, none_is}
 use Rattle.rubis_release.proofs.waiting.make_place.Goals as goal

@@ -1,10 +1,5 @@
-use Rattle.std.proofs.Common.{subst, sym, ap, ◌∙◌, arith}
-use Rattle.std.specs.Prelude.{Some}
+use Rattle.rubis_release.proofs.Common.{subst, sym, ap, ◌∙◌, arith, Some, same_id, Id, IsReady, Message}
 use mathlib.Core.Bool.{true≢false}
-use Rattle.rubis_schema.specs.Keys.{same_id}
-use Rattle.rubis_schema.specs.declared.ids.Id.{Id}
-use Rattle.rubis_clock.specs.Clocks.{IsReady}
-use Rattle.rubis_message.specs.Message.{Message}
 use Rattle.rubis_release.proofs.Slots.{un_some, missing_none, found_none, found_first, key_passes, slot_has}
 use Rattle.rubis_release.proofs.waiting.ready_of.Goals as goal
 

@@ -1,9 +1,5 @@
-use Rattle.std.proofs.Common.{◌≡◌, ◌∙◌, ap, sym, subst, arith}
-use Rattle.std.specs.Prelude.{Some, reverse}
+use Rattle.rubis_replica.proofs.Common.{◌≡◌, ◌∙◌, ap, sym, subst, arith, Some, reverse, sites_of, Place, arrived, Intake}
 use Rattle.std.proofs.lemmas.List.Elements.{All-pop}
-use Rattle.rubis_message.specs.Message.{sites_of}
-use Rattle.rubis_model.specs.Site.{Place, arrived}
-use Rattle.rubis_release.specs.Release.{Intake}
 use Rattle.rubis_replica.specs.State.{TakesFirst}
 use Rattle.rubis_replica.proofs.Comings.{last_first, refused_step, takes_next}
 use Rattle.rubis_replica.proofs.arriving.take_from_end.Goals as goal

@@ -1,7 +1,4 @@
-use Rattle.std.proofs.Common.{◌≡◌, ◌≤◌, ◌+◌, vec_len}
-use Rattle.std.specs.Prelude.{All, reverse}
-use Rattle.std.specs.Vec.{vec_capacity}
-use Rattle.rubis_message.specs.Message.{sites_of}
+use Rattle.rubis_replica.proofs.Common.{◌≡◌, ◌≤◌, ◌+◌, vec_len, All, reverse, vec_capacity, sites_of}
 use Rattle.rubis_replica.specs.State.{TakesFirst}
 use Rattle.rubis_replica.proofs.arriving.take_from_end.Given as goal
 

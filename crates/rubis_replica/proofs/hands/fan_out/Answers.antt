@@ -1,6 +1,4 @@
-use Rattle.std.proofs.Common.{◌+◌, ◌∙◌, length, refl, sym, ap, arith}
-use Rattle.std.specs.Arc.{arc_value}
-use Rattle.rubis_board.specs.Rule.{PassState}
+use Rattle.rubis_replica.proofs.Common.{◌+◌, ◌∙◌, length, refl, sym, ap, arith, arc_value, PassState}
 use Rattle.rubis_replica.specs.Folding.{messages_of}
 use Rattle.rubis_replica.specs.declared.folding.SharedBatch.{SharedBatch}
 use Rattle.rubis_replica.proofs.GivenOut.{as_folded, mine_worked, task_fits}

@@ -1,8 +1,4 @@
-use Rattle.std.proofs.Common.{◌+◌, map, sym, ap, subst}
-use Rattle.std.specs.Arc.{arc_value}
-use Rattle.std.specs.List.Sorted.{IsPermutation}
-use Rattle.rubis_board.specs.Rule.{PassState}
-use Rattle.rubis_workers.specs.Work.{bare}
+use Rattle.rubis_replica.proofs.Common.{◌+◌, map, sym, ap, subst, arc_value, IsPermutation, PassState, bare}
 use Rattle.rubis_replica.specs.Folding.{cores_of}
 use Rattle.rubis_replica.proofs.GivenOut.{all_fit}
 use Rattle.rubis_replica.proofs.hands.fold_all.Goals as goal

@@ -1,6 +1,4 @@
-use Rattle.std.proofs.Common.{◌-◌, ◌∙◌, ap, arith}
-use Rattle.std.specs.Arc.{arc_value}
-use Rattle.rubis_board.specs.Rule.{PassState}
+use Rattle.rubis_replica.proofs.Common.{◌-◌, ◌∙◌, ap, arith, arc_value, PassState}
 use Rattle.rubis_replica.proofs.GivenOut.{one_given, part_fits, shares_too}
 use Rattle.rubis_replica.proofs.hands.give.Goals as goal
 

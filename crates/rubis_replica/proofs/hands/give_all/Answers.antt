@@ -1,7 +1,5 @@
-use Rattle.std.proofs.Common.{◌∙◌, length, refl, sym, ap, subst, arith}
-use Rattle.std.specs.Arc.{arc_value}
+use Rattle.rubis_replica.proofs.Common.{◌∙◌, length, refl, sym, ap, subst, arith, arc_value, IsRoom}
 use Rattle.std.specs.List.{All}
-use Rattle.rubis_workers.specs.Work.{IsRoom}
 use Rattle.rubis_replica.proofs.GivenOut.{all_front, all_last, none_out}
 use Rattle.rubis_replica.proofs.hands.give_all.Goals as goal
 

@@ -1,7 +1,5 @@
-use Rattle.std.proofs.Common.{◌≡◌, ◌+◌, ◌<◌, length, vec_len}
-use Rattle.std.specs.Arc.{arc_value}
+use Rattle.rubis_replica.proofs.Common.{◌≡◌, ◌+◌, ◌<◌, length, vec_len, arc_value, IsRoom}
 use Rattle.std.specs.List.{All}
-use Rattle.rubis_workers.specs.Work.{IsRoom}
 use Rattle.rubis_replica.specs.Folding.{AreOut, CanShare}
 use Rattle.rubis_replica.proofs.hands.give_all.Given as goal
 

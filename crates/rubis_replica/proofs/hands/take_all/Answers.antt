@@ -1,6 +1,4 @@
-use Rattle.std.proofs.Common.{◌+◌, ◌∙◌, sym, ap}
-use Rattle.std.specs.Arc.{arc_value}
-use Rattle.rubis_board.specs.Rule.{PassState}
+use Rattle.rubis_replica.proofs.Common.{◌+◌, ◌∙◌, sym, ap, arc_value, PassState}
 use Rattle.rubis_workers.proofs.Counts.{counts_length}
 use Rattle.rubis_replica.specs.Folding.{cores_of}
 use Rattle.rubis_replica.proofs.GivenOut.{of_batch, of_board, one_back, worked_too}

@@ -1,5 +1,4 @@
-use Rattle.std.proofs.Common.{◌≡◌, ◌+◌, length}
-use Rattle.std.specs.Arc.{arc_value}
+use Rattle.rubis_replica.proofs.Common.{◌≡◌, ◌+◌, length, arc_value}
 use Rattle.rubis_replica.specs.Folding.{AreOut, HasWorked}
 use Rattle.rubis_replica.proofs.hands.take_all.Given as goal
 

@@ -1,5 +1,4 @@
-use Rattle.std.proofs.Common.{◌≡◌}
-use Rattle.std.specs.Arc.{arc_value}
+use Rattle.rubis_replica.proofs.Common.{◌≡◌, arc_value}
 use Rattle.rubis_replica.proofs.shared_batches.unshare.Given as goal
 
 abbrev pub invariant-loop : goal.invariant-loop

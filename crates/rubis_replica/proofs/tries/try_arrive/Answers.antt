@@ -1,5 +1,4 @@
-use Rattle.std.proofs.Common.{refl}
-use Rattle.rubis_model.specs.Site.{arrived}
+use Rattle.rubis_replica.proofs.Common.{refl, arrived}
 use Rattle.rubis_replica.specs.Tries.Call.{Arrive}
 use Rattle.rubis_replica.specs.Tries.Value.{Came}
 use Rattle.rubis_replica.proofs.Trying.{arrival_stays, step_leads}

@@ -1,5 +1,4 @@
-use Rattle.std.proofs.Common.{refl}
-use Rattle.rubis_model.specs.Site.{listed}
+use Rattle.rubis_replica.proofs.Common.{refl, listed}
 use Rattle.rubis_replica.specs.Tries.Call.{Show}
 use Rattle.rubis_replica.specs.Tries.Value.{Rows}
 use Rattle.rubis_replica.proofs.Trying.{listing_stays, step_leads}

@@ -1,5 +1,4 @@
-use Rattle.std.proofs.Common.{refl}
-use Rattle.rubis_model.specs.Site.{passed}
+use Rattle.rubis_replica.proofs.Common.{refl, passed}
 use Rattle.rubis_replica.specs.Tries.Call.{Pass}
 use Rattle.rubis_replica.specs.Tries.Value.{Handed}
 use Rattle.rubis_replica.proofs.Trying.{pass_stays, step_leads}

@@ -1,5 +1,4 @@
-use Rattle.std.proofs.Common.{refl}
-use Rattle.rubis_model.specs.Site.{asked}
+use Rattle.rubis_replica.proofs.Common.{refl, asked}
 use Rattle.rubis_replica.specs.Tries.Call.{Decide}
 use Rattle.rubis_replica.specs.Tries.Value.{Made}
 use Rattle.rubis_replica.proofs.Trying.{ask_stays, step_leads}

@@ -1,5 +1,4 @@
-use Rattle.std.proofs.Common.{refl}
-use Rattle.rubis_model.specs.Site.{took}
+use Rattle.rubis_replica.proofs.Common.{refl, took}
 use Rattle.rubis_replica.specs.Tries.Call.{Take}
 use Rattle.rubis_replica.specs.Tries.Value.{Took}
 use Rattle.rubis_replica.proofs.Trying.{token_stays, step_leads}

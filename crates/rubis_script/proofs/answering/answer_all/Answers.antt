@@ -1,8 +1,5 @@
-use Rattle.std.proofs.Common.{◌≡◌, ◌∙◌, ◌+◌, ◌++◌, [], ap, append-nil, append_assoc, arith, length, length-append, refl, subst, sym}
-use Rattle.rubis_engine.proofs.RunFacts.{ends_on, ends_write}
-use Rattle.rubis_reading.specs.Readings.{flat, of_stretch}
-use Rattle.rubis_serving.specs.Serving.{at}
-use Rattle.rubis_serving.specs.Writers.{are_outlets}
+use Rattle.rubis_script.proofs.Common.{◌≡◌, ◌∙◌, ◌+◌, ◌++◌, [], ap, append-nil, append_assoc, arith, length, length-append, refl, subst, sym, ends_on}
+use Rattle.rubis_script.proofs.Common.{ends_write, flat, of_stretch, at, are_outlets}
 use Rattle.rubis_serving.proofs.GoFacts.{goes-put, tears-waiting}
 use Rattle.rubis_script.specs.Runs.{BreaksAhead, GoesAhead}
 use Rattle.rubis_script.proofs.StretchFacts.{ahead-more, ahead-none, ahead-put, breaks-later, breaks-put, breaks-sooner, setup-on, sound-front, sound-kept}

@@ -1,7 +1,4 @@
-use Rattle.std.proofs.Common.{◌≡◌, ◌+◌, ◌++◌, List, length}
-use Rattle.rubis_message.specs.declared.inputs.Input.{Input}
-use Rattle.rubis_reading.specs.Readings.{flat}
-use Rattle.rubis_serving.specs.Serving.{at}
+use Rattle.rubis_script.proofs.Common.{◌≡◌, ◌+◌, ◌++◌, List, length, Input, flat, at}
 use Rattle.rubis_script.specs.Desks.{KeepsSetup}
 use Rattle.rubis_script.specs.Runs.{GoesAhead, IsSound}
 use Rattle.rubis_script.proofs.answering.answer_all.Given as goal

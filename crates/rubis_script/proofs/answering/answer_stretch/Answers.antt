@@ -1,10 +1,5 @@
-use Rattle.std.proofs.Common.{◌≡◌, ◌∙◌, ◌≤◌, ◌+◌, All, ap, arith, length, refl, subst, sym}
-use Rattle.rubis_message.specs.Inputs.{FitsIn}
-use Rattle.rubis_message.specs.Message.{sites_of}
-use Rattle.rubis_engine.proofs.RunFacts.{ends_memory, ends_on}
-use Rattle.rubis_reading.specs.Readings.{FitsWindow, of_stretch}
-use Rattle.rubis_reading.proofs.PieceFacts.{came-length}
-use Rattle.rubis_serving.specs.Serving.{at}
+use Rattle.rubis_script.proofs.Common.{◌≡◌, ◌∙◌, ◌≤◌, ◌+◌, All, ap, arith, length, refl, subst, sym, FitsIn, sites_of, ends_memory, ends_on}
+use Rattle.rubis_script.proofs.Common.{FitsWindow, of_stretch, came-length, at}
 use Rattle.rubis_script.proofs.StretchFacts.{all-sites, breaks-next, breaks-none, goes-messages, goes-next}
 use Rattle.rubis_script.proofs.answering.answer_stretch.Goals as goal
 

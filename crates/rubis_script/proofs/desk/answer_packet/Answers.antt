@@ -1,6 +1,4 @@
-use Rattle.std.proofs.Common.{subst, sym}
-use Rattle.std.proofs.lemmas.Result.{on_ok_weaker}
-use Rattle.rubis_message.specs.declared.inputs.Input.TheVariants.{Came}
+use Rattle.rubis_script.proofs.Common.{subst, sym, on_ok_weaker, Came}
 use Rattle.rubis_script.specs.Inputs.{IsAnswered}
 use Rattle.rubis_script.proofs.WindowFacts.{arrived_refused}
 use Rattle.rubis_script.proofs.desk.answer_packet.Goals as goal

@@ -1,7 +1,6 @@
-use Rattle.std.proofs.Common.{refl}
+use Rattle.rubis_script.proofs.Common.{refl, ends_memory}
 use Rattle.rubis_script.specs.Windows.{listed_behind}
 use Rattle.rubis_script.proofs.WindowFacts.{front_none}
-use Rattle.rubis_engine.proofs.RunFacts.{ends_memory}
 use Rattle.rubis_script.proofs.desk.list_rows.Goals as goal
 
 pub returns-then-is_err-clause-listed : goal.returns-then-is_err-clause-listed

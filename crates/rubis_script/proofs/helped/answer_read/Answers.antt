@@ -1,10 +1,6 @@
-use Rattle.std.proofs.Common.{◌-◌, arith, refl, take}
-use Rattle.rubis_engine.specs.Accounts.Ending.{AtEnd}
-use Rattle.rubis_engine.proofs.RunFacts.{ends_memory, ends_on}
-use Rattle.rubis_reading.specs.Chunked.{held_text}
+use Rattle.rubis_script.proofs.Common.{◌-◌, arith, refl, take, AtEnd, ends_memory, ends_on, held_text, at, are_outlets}
 use Rattle.rubis_reading.proofs.ChunkFacts.{nearer-more, nearer-none}
-use Rattle.rubis_serving.specs.Serving.{at, coming}
-use Rattle.rubis_serving.specs.Writers.{are_outlets}
+use Rattle.rubis_serving.specs.Serving.{coming}
 use Rattle.rubis_serving.proofs.ServedFacts.{chunk-each, moves-taken}
 use Rattle.rubis_script.specs.Runs.{by_desk}
 use Rattle.rubis_script.proofs.StretchFacts.{as-setup, sound-read}

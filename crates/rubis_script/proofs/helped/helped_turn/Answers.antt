@@ -1,9 +1,4 @@
-use Rattle.std.proofs.Common.{◌∙◌, ap, refl, subst, sym, take}
-use Rattle.rubis_reading.specs.Chunked.{held_text}
-use Rattle.rubis_reading.specs.Readings.{AreOf}
-use Rattle.rubis_engine.proofs.RunFacts.{ends_memory}
-use Rattle.rubis_serving.specs.Serving.{at}
-use Rattle.rubis_serving.specs.Writers.{are_outlets}
+use Rattle.rubis_script.proofs.Common.{◌∙◌, ap, refl, subst, sym, take, held_text, AreOf, ends_memory, at, are_outlets}
 use Rattle.rubis_script.specs.Runs.{AreHeld}
 use Rattle.rubis_script.proofs.StretchFacts.{as-setup, folded-turns, held-after, held-on, if-on, kept-more, read-held, read-on, takes-none, takes-one, setup-on}
 use Rattle.rubis_script.proofs.helped.helped_turn.Goals as goal

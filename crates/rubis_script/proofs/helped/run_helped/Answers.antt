@@ -1,7 +1,4 @@
-use Rattle.std.proofs.Common.{◌∙◌}
-use Rattle.rubis_reading.specs.Chunked.{held_text}
-use Rattle.rubis_engine.proofs.RunFacts.{ends_memory}
-use Rattle.rubis_serving.specs.Writers.{are_outlets}
+use Rattle.rubis_script.proofs.Common.{◌∙◌, held_text, ends_memory, are_outlets}
 use Rattle.rubis_script.proofs.helped.run_helped.Goals as goal
 
 pub returns-in_err-reading : goal.returns-in_err-reading

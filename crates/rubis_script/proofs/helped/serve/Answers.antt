@@ -1,8 +1,6 @@
-use Rattle.std.proofs.Common.{◌∙◌, refl}
+use Rattle.rubis_script.proofs.Common.{◌∙◌, refl, at, are_outlets}
 use Rattle.rubis_engine.proofs.RunFacts.{if_none}
 use Rattle.rubis_reading.proofs.PieceFacts.{match-none, match-some}
-use Rattle.rubis_serving.specs.Serving.{at}
-use Rattle.rubis_serving.specs.Writers.{are_outlets}
 use Rattle.rubis_serving.proofs.ServedFacts.{moves-more, moves-none, over-on, stops-on}
 use Rattle.rubis_script.proofs.helped.serve.Goals as goal
 

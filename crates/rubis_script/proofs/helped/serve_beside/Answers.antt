@@ -1,5 +1,4 @@
-use Rattle.std.proofs.Common.{◌≡◌, rules}
-use Rattle.rubis_serving.specs.Serving.{at}
+use Rattle.rubis_script.proofs.Common.{◌≡◌, rules, at}
 use Rattle.rubis_script.proofs.StretchFacts.{ends-at}
 use Rattle.rubis_script.proofs.helped.serve_beside.Goals as goal
 

@@ -1,7 +1,5 @@
-use Rattle.std.proofs.Common.{◌≡◌, ◌∙◌, ◌∷◌, [], ap, decimal, subst, sym}
-use Rattle.std.specs.Prelude.{codes}
-use Rattle.rubis_model.specs.Site.{arrival_row, reply}
-use Rattle.rubis_engine.proofs.RowFacts.{on_ok}
+use Rattle.rubis_script.proofs.Common.{◌≡◌, ◌∙◌, ◌∷◌, [], ap, decimal, subst, sym, codes, reply, on_ok}
+use Rattle.rubis_model.specs.Site.{arrival_row}
 use Rattle.rubis_script.proofs.replies.write_arrival.Goals as goal
 
 pub returns-in-Released : goal.returns-in-Released

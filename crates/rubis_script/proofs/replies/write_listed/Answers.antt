@@ -1,7 +1,4 @@
-use Rattle.std.proofs.Common.{◌≡◌, ◌∷◌, [], length, decimal, rules, subst}
-use Rattle.std.specs.Prelude.{codes}
-use Rattle.rubis_model.specs.Site.{reply}
-use Rattle.rubis_engine.proofs.RowFacts.{on_ok}
+use Rattle.rubis_script.proofs.Common.{◌≡◌, ◌∷◌, [], length, decimal, rules, subst, codes, reply, on_ok}
 use Rattle.rubis_script.proofs.replies.write_listed.Goals as goal
 
 pub returns : goal.returns

@@ -1,8 +1,5 @@
-use Rattle.std.proofs.Common.{◌≡◌, ◌∷◌, [], rules, subst}
-use Rattle.std.specs.Prelude.{codes}
+use Rattle.rubis_script.proofs.Common.{◌≡◌, ◌∷◌, [], rules, subst, codes, reply, send_row, on_ok}
 use Rattle.rubis_message.specs.Grammar.{token_record}
-use Rattle.rubis_model.specs.Site.{reply, send_row}
-use Rattle.rubis_engine.proofs.RowFacts.{on_ok}
 use Rattle.rubis_script.proofs.replies.write_passed.Goals as goal
 
 pub returns : goal.returns

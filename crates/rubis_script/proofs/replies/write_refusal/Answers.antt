@@ -1,6 +1,5 @@
-use Rattle.std.proofs.Common.{◌≡◌, ◌∷◌, [], rules, subst}
+use Rattle.rubis_script.proofs.Common.{◌≡◌, ◌∷◌, [], rules, subst, on_ok}
 use Rattle.rubis_model.specs.Site.{refused_row}
-use Rattle.rubis_engine.proofs.RowFacts.{on_ok}
 use Rattle.rubis_script.proofs.replies.write_refusal.Goals as goal
 
 pub returns : goal.returns

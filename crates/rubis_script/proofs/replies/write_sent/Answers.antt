@@ -1,9 +1,6 @@
-use Rattle.std.proofs.Common.{◌≡◌, ◌∷◌, [], rules, subst}
-use Rattle.std.specs.Prelude.{codes}
+use Rattle.rubis_script.proofs.Common.{◌≡◌, ◌∷◌, [], rules, subst, codes, reply, send_row, on_ok}
 use Rattle.rubis_schema.specs.Ids.{id_text}
 use Rattle.rubis_message.specs.Grammar.{message_record}
-use Rattle.rubis_model.specs.Site.{reply, send_row}
-use Rattle.rubis_engine.proofs.RowFacts.{on_ok}
 use Rattle.rubis_script.proofs.replies.write_sent.Goals as goal
 
 pub returns-then-not-put_message : goal.returns-then-not-put_message

@@ -1,7 +1,5 @@
-use Rattle.std.proofs.Common.{◌++◌}
-use Rattle.rubis_engine.specs.Text.{rows_text}
+use Rattle.rubis_script.proofs.Common.{◌++◌, rows_text, ends_write}
 use Rattle.rubis_script.proofs.WindowFacts.{off_front, off_more, off_waited, rows_end, rows_part}
-use Rattle.rubis_engine.proofs.RunFacts.{ends_write}
 use Rattle.rubis_script.proofs.rows_out.write_rows.Goals as goal
 
 pub loop-preserved : goal.loop-preserved

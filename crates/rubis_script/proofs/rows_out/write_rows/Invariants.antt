@@ -1,5 +1,4 @@
-use Rattle.std.proofs.Common.{◌++◌}
-use Rattle.rubis_engine.specs.Text.{rows_text}
+use Rattle.rubis_script.proofs.Common.{◌++◌, rows_text}
 use Rattle.rubis_script.specs.Windows.{WritesOff}
 use Rattle.rubis_script.proofs.rows_out.write_rows.Given as goal
 

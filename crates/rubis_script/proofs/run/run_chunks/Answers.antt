@@ -1,5 +1,4 @@
-use Rattle.std.proofs.Common.{subst}
-use Rattle.rubis_replica.specs.State.{SiteState}
+use Rattle.rubis_script.proofs.Common.{subst, SiteState}
 use Rattle.rubis_serving.proofs.ServedFacts.{ends_led}
 use Rattle.rubis_script.specs.Desks.{LeadsSite, left_at}
 use Rattle.rubis_script.specs.Runs.{EndsWhole}

@@ -1,6 +1,4 @@
-use Rattle.std.proofs.Common.{subst}
-use Rattle.rubis_engine.specs.Progress.{IsRun}
-use Rattle.rubis_model.specs.Site.{Replica}
+use Rattle.rubis_script.proofs.Common.{subst, IsRun, Replica}
 use Rattle.rubis_script.specs.Headline.{StandsAsProcess, WritesAsProcess}
 use Rattle.rubis_script.specs.SiteRuns.{site_account}
 use Rattle.rubis_script.proofs.LeadFacts.{of_read_so}

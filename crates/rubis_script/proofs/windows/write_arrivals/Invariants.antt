@@ -1,5 +1,4 @@
-use Rattle.std.proofs.Common.{◌≡◌, ◌+◌, ◌++◌, drop}
-use Rattle.rubis_engine.specs.Text.{rows_text}
+use Rattle.rubis_script.proofs.Common.{◌≡◌, ◌+◌, ◌++◌, drop, rows_text}
 use Rattle.rubis_script.specs.Windows.{arrivals_rows}
 use Rattle.rubis_script.proofs.windows.write_arrivals.Given as goal
 

@@ -1,5 +1,4 @@
-use Rattle.std.proofs.Common.{sym, ap, ◌∙◌}
-use Rattle.std.specs.Prelude.{Some}
+use Rattle.rubis_shard.proofs.Common.{sym, ap, ◌∙◌, Some}
 use Rattle.rubis_shard.proofs.Linking.{chain_of_other, chain_of_user}
 use Rattle.rubis_shard.proofs.chains.chain_of.Goals as goal
 

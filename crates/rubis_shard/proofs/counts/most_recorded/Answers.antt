@@ -1,6 +1,5 @@
-use Rattle.std.proofs.Common.{ℕ, ◌≡◌, ◌+◌, ◌≤◌, length, arith}
+use Rattle.rubis_shard.proofs.Common.{ℕ, ◌≡◌, ◌+◌, ◌≤◌, length, arith, row_key}
 use Rattle.std.specs.FinMap as map
-use Rattle.rubis_schema.specs.Keys.{row_key}
 use Rattle.rubis_schema.specs.declared.row_keys.RowKey.TheVariants as key
 use Rattle.rubis_shard.specs.Listed.{recorded_from}
 use Rattle.rubis_shard.specs.Rows.{tables_in}

@@ -1,6 +1,5 @@
-use Rattle.std.proofs.Common.{◌∙◌}
-use Rattle.std.specs.Prelude.{Some, None}
-use Rattle.rubis_shadow.proofs.Rows.{row_stays, row_goes}
+use Rattle.rubis_shard.proofs.Common.{◌∙◌, Some, None, row_stays}
+use Rattle.rubis_shadow.proofs.Rows.{row_goes}
 use Rattle.rubis_shard.proofs.Changed.{not_false, not_true, removed_found}
 use Rattle.rubis_shard.proofs.map_rows.change_in.Goals as goal
 

@@ -1,6 +1,5 @@
-use Rattle.std.proofs.Common.{◌≡◌, ℕ, ◌+◌, ◌<◌, ◌≤◌, List, length, length-set, get_or, set, refl, sym, ap, ◌∙◌, subst, arith, rules}
-use Rattle.std.specs.Prelude.{Some, slice_get}
-use Rattle.std.proofs.lemmas.Option.{slice_get_read}
+use Rattle.rubis_shard.proofs.Common.{◌≡◌, ℕ, ◌+◌, ◌<◌, ◌≤◌, List, length, length-set, get_or, set, refl, sym, ap, ◌∙◌, subst, arith, rules, Some}
+use Rattle.rubis_shard.proofs.Common.{slice_get, slice_get_read}
 use Rattle.rubis_shard.specs.States.{ShardState, HoldsOwnRows, with_parts, held_by}
 use Rattle.rubis_shard.specs.Holdings.{AreInOrder, parts_at, numbered_of, emptied}
 use Rattle.rubis_shard.proofs.Homes.{folds_last_ok, folds_sooner, hollow_length, hollow_order, if_ok, own_back, ended_ok, ended_err}

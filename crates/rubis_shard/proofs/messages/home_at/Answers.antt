@@ -1,10 +1,5 @@
-use Rattle.std.proofs.Common.{◌≡◌, ℕ, refl, sym, ap, ◌∙◌}
-use Rattle.std.specs.Prelude.{Option, Some, None, option_map, slice_get}
-use Rattle.rubis_schema.specs.Keys.{home}
-use Rattle.rubis_schema.specs.declared.row_keys.RowKey.{RowKey}
+use Rattle.rubis_shard.proofs.Common.{◌≡◌, ℕ, refl, sym, ap, ◌∙◌, Option, Some, None, option_map, slice_get, home, RowKey, Effect, parts_of}
 use Rattle.rubis_shadow.specs.Shadows.{key_of}
-use Rattle.rubis_shadow.specs.declared.keyed_change.Effect.{Effect}
-use Rattle.rubis_model.specs.Log.{parts_of}
 use Rattle.rubis_shard.specs.Holdings.{core_of, home_or}
 use Rattle.rubis_shard.proofs.messages.home_at.Goals as goal
 

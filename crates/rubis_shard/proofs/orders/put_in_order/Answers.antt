@@ -1,10 +1,4 @@
-use Rattle.std.proofs.Common.{rules}
-use Rattle.std.specs.Ordering.{is_lt}
-use Rattle.std.proofs.lemmas.List.Sorted.{answers_always, ranks_by}
-use Rattle.rubis_schema.specs.Keys.{key_order}
-use Rattle.rubis_schema.specs.KeyLaws.{key_total}
-use Rattle.rubis_schema.specs.declared.row_keys.RowKey.{RowKey}
-use Rattle.rubis_schema.specs.declared.rows.Row.{Row}
+use Rattle.rubis_shard.proofs.Common.{rules, is_lt, answers_always, ranks_by, key_order, key_total, RowKey, Row}
 use Rattle.rubis_shard.proofs.orders.put_in_order.Goals as goal
 
 pub returns-clause-sorted : goal.returns-clause-sorted

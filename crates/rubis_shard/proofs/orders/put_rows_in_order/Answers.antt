@@ -1,8 +1,5 @@
-use Rattle.std.proofs.Common.{rules}
-use Rattle.std.specs.Ordering.{is_lt}
-use Rattle.std.proofs.lemmas.List.Sorted.{IsPermutation-map, answers_always, ranks_by}
-use Rattle.rubis_schema.specs.Keys.{key_order}
-use Rattle.rubis_schema.specs.KeyLaws.{key_total}
+use Rattle.rubis_shard.proofs.Common.{rules, is_lt, answers_always, ranks_by, key_order, key_total}
+use Rattle.std.proofs.lemmas.List.Sorted.{IsPermutation-map}
 use Rattle.rubis_shard.specs.Chains.{shown}
 use Rattle.rubis_shard.proofs.Picked.{Lent, shown_in_order}
 use Rattle.rubis_shard.proofs.orders.put_rows_in_order.Goals as goal

@@ -1,7 +1,4 @@
-use Rattle.std.proofs.Common.{◌++◌, List, sym, ap, subst, ◌∙◌}
-use Rattle.std.specs.List.Sorted.{IsPermutation}
-use Rattle.rubis_schema.specs.declared.row_keys.RowKey.{RowKey}
-use Rattle.rubis_schema.specs.declared.rows.Row.{Row}
+use Rattle.rubis_shard.proofs.Common.{◌++◌, List, sym, ap, subst, ◌∙◌, IsPermutation, RowKey, Row}
 use Rattle.rubis_shard.specs.Listed.{categories_of}
 use Rattle.rubis_shard.specs.Rows.{tables_in}
 use Rattle.rubis_shard.proofs.Categories.{categories_shown}

@@ -1,10 +1,5 @@
-use Rattle.std.proofs.Common.{◌≡◌, ◌++◌, List, sym, ap, ◌∙◌, arith}
-use Rattle.std.specs.Prelude.{Some, option_map, slice_get}
-use Rattle.std.specs.Map.Iter.{deref_pair}
-use Rattle.std.proofs.lemmas.List.{append-nil, drop_all}
-use Rattle.rubis_schema.specs.Keys.{row_key}
-use Rattle.rubis_schema.specs.declared.row_keys.RowKey.{RowKey}
-use Rattle.rubis_schema.specs.declared.rows.Row.{Row}
+use Rattle.rubis_shard.proofs.Common.{◌≡◌, ◌++◌, List, sym, ap, ◌∙◌, arith, Some, option_map, slice_get, deref_pair, append-nil, drop_all, row_key}
+use Rattle.rubis_shard.proofs.Common.{RowKey, Row}
 use Rattle.rubis_shard.specs.Listed.{listed_among, table_with}
 use Rattle.rubis_shard.specs.Rows.{kept_of}
 use Rattle.rubis_shard.proofs.OneTable.{pick_step, written_at, written_length}

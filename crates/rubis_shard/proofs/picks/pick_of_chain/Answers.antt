@@ -1,13 +1,7 @@
-use Rattle.std.proofs.Common.{◌≡◌, ◌+◌, ◌-◌, ◌<◌, ◌≤◌, ◌∷◌, [], ◌++◌, List, cond, length, take, reverse, refl, sym, ap, subst, ◌∙◌, arith, append_assoc, ◌&&◌}
-use Rattle.std.specs.Prelude.{Some, option_map, slice_get}
-use Rattle.std.specs.Map.Iter.{deref_pair}
-use Rattle.std.specs.List.Sorted.{IsPermutation}
-use Rattle.std.proofs.lemmas.List.{append-nil, length-map}
-use Rattle.std.proofs.lemmas.List.Sorted.{IsPermutation-append_right, IsPermutation-reverse, IsPermutation-sym}
-use Rattle.rubis_schema.specs.Keys.{row_key, holds}
-use Rattle.rubis_schema.specs.declared.row_keys.RowKey.{RowKey}
-use Rattle.rubis_schema.specs.declared.rows.Row.{Row}
-use Rattle.rubis_model.specs.Listings.{is_of}
+use Rattle.rubis_shard.proofs.Common.{◌≡◌, ◌+◌, ◌-◌, ◌<◌, ◌≤◌, ◌∷◌, [], ◌++◌, List, cond, length, take, reverse, refl, sym, ap, subst, ◌∙◌, arith}
+use Rattle.rubis_shard.proofs.Common.{append_assoc, ◌&&◌, Some, option_map, slice_get, deref_pair, IsPermutation, append-nil, length-map}
+use Rattle.rubis_shard.proofs.Common.{IsPermutation-append_right, IsPermutation-sym, row_key, holds, RowKey, Row, is_of}
+use Rattle.std.proofs.lemmas.List.Sorted.{IsPermutation-reverse}
 use Rattle.rubis_shard.specs.Chains.{chain_of, chains_of, last_among, last_before}
 use Rattle.rubis_shard.specs.Listed.{listed_among, table_with}
 use Rattle.rubis_shard.specs.Rows.{kept_of, linked_of}

@@ -1,7 +1,4 @@
-use Rattle.std.proofs.Common.{◌≡◌, ◌++◌, ◌<◌, ◌≤◌, ◌-◌, List, length, take, reverse}
-use Rattle.std.specs.Prelude.{get_or, None, Some}
-use Rattle.rubis_schema.specs.declared.row_keys.RowKey.{RowKey}
-use Rattle.rubis_schema.specs.declared.rows.Row.{Row}
+use Rattle.rubis_shard.proofs.Common.{◌≡◌, ◌++◌, ◌<◌, ◌≤◌, ◌-◌, List, length, take, reverse, get_or, None, Some, RowKey, Row}
 use Rattle.rubis_shard.specs.Chains.{chains_of}
 use Rattle.rubis_shard.specs.Listed.{listed_among, table_with}
 use Rattle.rubis_shard.specs.Rows.{kept_of, linked_of}

@@ -1,8 +1,5 @@
-use Rattle.std.proofs.Common.{◌≡◌, ◌++◌, List, drop, take, sym, ap, subst, ◌∙◌, append_assoc}
-use Rattle.std.specs.List.Sorted.{IsPermutation}
-use Rattle.std.proofs.lemmas.List.Sorted.{IsPermutation-append_left, IsPermutation-refl}
-use Rattle.rubis_schema.specs.declared.row_keys.RowKey.{RowKey}
-use Rattle.rubis_schema.specs.declared.rows.Row.{Row}
+use Rattle.rubis_shard.proofs.Common.{◌≡◌, ◌++◌, List, drop, take, sym, ap, subst, ◌∙◌, append_assoc, IsPermutation, IsPermutation-append_left}
+use Rattle.rubis_shard.proofs.Common.{IsPermutation-refl, RowKey, Row}
 use Rattle.rubis_shard.specs.Listed.{listed_among, listed_of, table_with}
 use Rattle.rubis_shard.specs.Rows.{kept_of, tables_in}
 use Rattle.rubis_shard.specs.declared.row_map.LinkedRows.{LinkedRows}

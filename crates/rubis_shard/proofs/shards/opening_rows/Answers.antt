@@ -1,14 +1,9 @@
-use Rattle.std.proofs.Common.{◌≡◌, ◌-◌, ◌<◌, ◌≤◌, ap, sym, ◌∙◌, arith, true, false}
-use Rattle.std.specs.Prelude.{None, is_none, nat_eq}
+use Rattle.rubis_shard.proofs.Common.{◌≡◌, ◌-◌, ◌<◌, ◌≤◌, ap, sym, ◌∙◌, arith, true, false, None, is_none, nat_eq, Decides-eqb, home, Tables}
+use Rattle.rubis_shard.proofs.Common.{categories_from, new_category, opening, put_then, part_of}
+use Rattle.rubis_shadow.proofs.Rows.{categories_more}
 use Rattle.std.specs.FinMap as map
-use Rattle.std.proofs.lemmas.Bool.Decides.{Decides-eqb}
-use Rattle.rubis_schema.specs.Keys.{home}
-use Rattle.rubis_schema.specs.Tables.{Tables}
 use Rattle.rubis_schema.specs.declared.row_keys.RowKey.TheVariants as key
-use Rattle.rubis_shadow.specs.Tables.{categories_from, new_category, opening}
-use Rattle.rubis_shadow.proofs.Rows.{categories_more, put_then}
 use Rattle.rubis_shard.specs.Rows.{tables_in}
-use Rattle.rubis_model.specs.Shares.{part_of}
 use Rattle.rubis_shard.proofs.Folds.{not_equal}
 use Rattle.rubis_shard.proofs.Openings.{not_open, part_empty, part_here, part_elsewhere}
 use Rattle.rubis_shard.proofs.shards.opening_rows.Goals as goal

@@ -1,8 +1,6 @@
-use Rattle.std.proofs.Common.{◌≡◌, ◌-◌}
+use Rattle.rubis_shard.proofs.Common.{◌≡◌, ◌-◌, categories_from, part_of}
 use Rattle.std.specs.FinMap as map
-use Rattle.rubis_shadow.specs.Tables.{categories_from}
 use Rattle.rubis_shard.specs.Rows.{tables_in}
-use Rattle.rubis_model.specs.Shares.{part_of}
 use Rattle.rubis_shard.proofs.shards.opening_rows.Given as goal
 
 abbrev pub invariant-loop-cat : goal.invariant-loop-cat

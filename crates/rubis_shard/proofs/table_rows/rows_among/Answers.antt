@@ -1,7 +1,5 @@
-use Rattle.std.proofs.Common.{◌≡◌, true, false, ◌∷◌, [], ◌++◌, List, sym, ap, ◌∙◌, map as each, Bor}
-use Rattle.std.proofs.lemmas.List.{append-nil, map-append}
-use Rattle.rubis_schema.specs.declared.row_keys.RowKey.{RowKey}
-use Rattle.rubis_schema.specs.declared.rows.Row.{Row}
+use Rattle.rubis_shard.proofs.Common.{◌≡◌, true, false, ◌∷◌, [], ◌++◌, List, sym, ap, ◌∙◌, map as each, Bor, append-nil, RowKey, Row}
+use Rattle.std.proofs.lemmas.List.{map-append}
 use Rattle.rubis_schema.specs.declared.listings.Listing.TheVariants as listing
 use Rattle.rubis_shard.specs.Listed.{listed_among}
 use Rattle.rubis_shard.specs.Chains.{shown, written}

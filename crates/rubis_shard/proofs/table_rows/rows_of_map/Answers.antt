@@ -1,6 +1,5 @@
-use Rattle.std.proofs.Common.{◌≡◌, sym, ap, subst, ◌∙◌, map as each}
+use Rattle.rubis_shard.proofs.Common.{◌≡◌, sym, ap, subst, ◌∙◌, map as each, Table}
 use Rattle.std.specs.Prelude.{IfOk}
-use Rattle.rubis_schema.specs.declared.row_keys.Table.{Table}
 use Rattle.rubis_schema.specs.declared.row_keys.RowKey.TheVariants as key
 use Rattle.rubis_schema.specs.declared.listings.Listing.TheVariants as listing
 use Rattle.rubis_shard.specs.Listed.{listed_among}

@@ -1,5 +1,4 @@
-use Rattle.std.proofs.Common.{sym, ap, ◌∙◌}
-use Rattle.rubis_schema.specs.Keys.{home}
+use Rattle.rubis_shard.proofs.Common.{sym, ap, ◌∙◌, home}
 use Rattle.rubis_shard.proofs.Single.{home_of_one}
 use Rattle.rubis_shard.proofs.tables.home_of.Goals as goal
 

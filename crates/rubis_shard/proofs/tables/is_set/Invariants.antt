@@ -1,5 +1,4 @@
-use Rattle.std.proofs.Common.{◌≡◌, ℕ, ◌<◌, length}
-use Rattle.std.specs.Prelude.{slice_get, Some}
+use Rattle.rubis_shard.proofs.Common.{◌≡◌, ℕ, ◌<◌, length, slice_get, Some}
 use Rattle.rubis_shard.specs.States.{ShardState}
 use Rattle.rubis_shard.proofs.tables.is_set.Given as goal
 

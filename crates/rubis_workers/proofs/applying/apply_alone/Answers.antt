@@ -1,6 +1,4 @@
-use Rattle.std.proofs.Common.{rules, ◌∙◌, length, take, subst, arith}
-use Rattle.rubis_model.specs.Log.{cores}
-use Rattle.rubis_shard.specs.Holdings.{HoldsLog}
+use Rattle.rubis_workers.proofs.Common.{rules, ◌∙◌, length, take, subst, arith, cores, HoldsLog}
 use Rattle.rubis_workers.specs.Logs.{StaysWithin}
 use Rattle.rubis_workers.proofs.Applied.{alone, ok_of}
 use Rattle.rubis_workers.proofs.applying.apply_alone.Goals as goal

@@ -1,8 +1,4 @@
-use Rattle.std.proofs.Common.{◌+◌, ◌∙◌, refl, subst, arith}
-use Rattle.std.specs.Prelude.{List, slice_range}
-use Rattle.rubis_model.specs.Log.{cores}
-use Rattle.rubis_shard.specs.States.{ShardState}
-use Rattle.rubis_pieces.specs.Following.{AreFollowed}
+use Rattle.rubis_workers.proofs.Common.{◌+◌, ◌∙◌, refl, subst, arith, List, slice_range, cores, ShardState, AreFollowed}
 use Rattle.rubis_workers.proofs.Applied.{nothing}
 use Rattle.rubis_workers.proofs.applying.apply_together.Goals as goal
 

@@ -1,8 +1,5 @@
-use Rattle.std.proofs.Common.{◌≡◌, ◌∙◌, ◌+◌, ◌-◌, ◌<◌, ◌≤◌, ℕ, List, length, map, sym, ap, subst, arith}
-use Rattle.std.specs.Prelude.{slice_index, slice_range}
-use Rattle.rubis_model.specs.Log.{cores}
-use Rattle.rubis_shard.specs.Holdings.{IsSet}
-use Rattle.rubis_pieces.specs.Following.{AreFollowed}
+use Rattle.rubis_workers.proofs.Common.{◌≡◌, ◌∙◌, ◌+◌, ◌-◌, ◌<◌, ◌≤◌, ℕ, List, length, map, sym, ap, subst, arith, slice_index, slice_range, cores}
+use Rattle.rubis_workers.proofs.Common.{IsSet, AreFollowed}
 use Rattle.rubis_workers.specs.Logs.{AreFolded}
 use Rattle.rubis_workers.proofs.Applied.{nothing, set_followed, together, whole, within_batch, log_within}
 use Rattle.rubis_workers.proofs.applying.put_back.Goals as goal

@@ -1,6 +1,4 @@
-use Rattle.std.proofs.Common.{◌≡◌, ℕ, ◌<◌, length}
-use Rattle.std.specs.Prelude.{slice_index}
-use Rattle.std.specs.Vec.{vec_capacity}
+use Rattle.rubis_workers.proofs.Common.{◌≡◌, ℕ, ◌<◌, length, slice_index, vec_capacity}
 use Rattle.rubis_workers.proofs.applying.stop_all.Given as goal
 
 abbrev pub invariant-loop : goal.invariant-loop

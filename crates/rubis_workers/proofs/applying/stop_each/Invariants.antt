@@ -1,6 +1,4 @@
-use Rattle.std.proofs.Common.{◌≡◌, ℕ, ◌+◌, ◌<◌, length, take, true, map as each}
-use Rattle.std.specs.Prelude.{slice_index}
-use Rattle.std.specs.Vec.{vec_capacity}
+use Rattle.rubis_workers.proofs.Common.{◌≡◌, ℕ, ◌+◌, ◌<◌, length, take, true, map as each, slice_index, vec_capacity}
 use Rattle.rubis_workers.proofs.applying.stop_each.Given as goal
 
 abbrev pub invariant-loop-at : goal.invariant-loop-at

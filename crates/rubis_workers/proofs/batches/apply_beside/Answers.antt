@@ -1,8 +1,5 @@
-use Rattle.std.proofs.Common.{rules, ◌≡◌, length, sym, ap, subst, arith}
-use Rattle.std.specs.List.{All}
-use Rattle.std.proofs.lemmas.List.Sorted.{All-permutation}
-use Rattle.rubis_pieces.specs.Batches.{IsFault, numbers_of, IsGathered, IsPiece, pieces_of}
-use Rattle.rubis_board.specs.Rule.{PassState}
+use Rattle.rubis_workers.proofs.Common.{rules, ◌≡◌, length, sym, ap, subst, arith, All, All-permutation, IsFault, numbers_of, IsGathered, IsPiece}
+use Rattle.rubis_workers.proofs.Common.{pieces_of, PassState}
 use Rattle.rubis_workers.specs.Work.{AreWorked}
 use Rattle.rubis_workers.proofs.Folded.{belong_length, all_pieces, all_taken, no_fault, gathered, applies}
 use Rattle.rubis_workers.proofs.batches.apply_beside.Goals as goal

@@ -1,8 +1,4 @@
-use Rattle.std.proofs.Common.{◌≡◌, [], ◌∷◌, ◌++◌, length, ap, ◌∙◌, sym, subst, arith}
-use Rattle.std.specs.List.Sorted.{IsPermutation}
-use Rattle.std.proofs.lemmas.List.{length-append}
-use Rattle.rubis_pieces.specs.declared.pieces.Piece.{Piece}
-use Rattle.rubis_pieces.specs.Batches.{pieces_of}
+use Rattle.rubis_workers.proofs.Common.{◌≡◌, [], ◌∷◌, ◌++◌, length, ap, ◌∙◌, sym, subst, arith, IsPermutation, length-append, Piece, pieces_of}
 use Rattle.rubis_workers.proofs.Folded.{pieces_last, one_posted}
 use Rattle.rubis_workers.proofs.batches.post_all.Goals as goal
 

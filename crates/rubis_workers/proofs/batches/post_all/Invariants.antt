@@ -1,6 +1,4 @@
-use Rattle.std.proofs.Common.{◌≡◌, ◌+◌, ◌++◌, length, vec_len}
-use Rattle.std.specs.List.Sorted.{IsPermutation}
-use Rattle.rubis_pieces.specs.Batches.{pieces_of}
+use Rattle.rubis_workers.proofs.Common.{◌≡◌, ◌+◌, ◌++◌, length, vec_len, IsPermutation, pieces_of}
 use Rattle.rubis_workers.proofs.batches.post_all.Given as goal
 
 abbrev pub invariant-loop : goal.invariant-loop

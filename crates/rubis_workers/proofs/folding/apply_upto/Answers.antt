@@ -1,6 +1,4 @@
-use Rattle.std.proofs.Common.{◌≡◌, ◌∷◌, [], ◌++◌, length, sym, subst, refl, take, ◌<◌, ◌∙◌, arith}
-use Rattle.rubis_model.specs.Log.{Core, cores}
-use Rattle.rubis_shard.specs.Holdings.{HoldsLog}
+use Rattle.rubis_workers.proofs.Common.{◌≡◌, ◌∷◌, [], ◌++◌, length, sym, subst, refl, take, ◌<◌, ◌∙◌, arith, Core, cores, HoldsLog}
 use Rattle.rubis_workers.specs.Logs.{AreWithin}
 use Rattle.rubis_workers.proofs.Applied.{next_held, next_within}
 use Rattle.rubis_workers.proofs.folding.apply_upto.Goals as goal

@@ -1,6 +1,4 @@
-use Rattle.std.proofs.Common.{◌≡◌, ◌<◌, length, take}
-use Rattle.rubis_model.specs.Log.{cores}
-use Rattle.rubis_shard.specs.Holdings.{HoldsLog}
+use Rattle.rubis_workers.proofs.Common.{◌≡◌, ◌<◌, length, take, cores, HoldsLog}
 use Rattle.rubis_workers.specs.Logs.{StaysWithin}
 use Rattle.rubis_workers.proofs.folding.apply_upto.Given as goal
 

@@ -1,8 +1,4 @@
-use Rattle.std.proofs.Common.{◌≡◌, ◌∙◌, get_or, length, sym, subst, arith, inl, inr}
-use Rattle.std.proofs.lemmas.List.{get_or_default}
-use Rattle.rubis_message.specs.Message.{IsMessage}
-use Rattle.rubis_shadow.specs.Shadows.{parts}
-use Rattle.rubis_shadow.specs.declared.shadows.Shadow.{Shadow}
+use Rattle.rubis_workers.proofs.Common.{◌≡◌, ◌∙◌, get_or, length, sym, subst, arith, inl, inr, get_or_default, IsMessage, parts, Shadow}
 use Rattle.rubis_workers.proofs.Applied.{below_or, count_more}
 use Rattle.rubis_workers.proofs.folding.count_parts.Goals as goal
 

@@ -1,7 +1,4 @@
-use Rattle.std.proofs.Common.{◌≡◌, ℕ, ◌*◌, ◌<◌, ◌≤◌, get_or, length, take}
-use Rattle.std.specs.List.{flat_map}
-use Rattle.rubis_message.specs.Message.{IsMessage, Message}
-use Rattle.rubis_model.specs.Log.{cores, parts_of}
+use Rattle.rubis_workers.proofs.Common.{◌≡◌, ℕ, ◌*◌, ◌<◌, ◌≤◌, get_or, length, take, flat_map, IsMessage, Message, cores, parts_of}
 use Rattle.rubis_workers.proofs.folding.count_parts.Given as goal
 
 abbrev pub invariant-loop-message : goal.invariant-loop-message

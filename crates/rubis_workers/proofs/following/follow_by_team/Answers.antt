@@ -1,14 +1,6 @@
-use Rattle.std.proofs.Common.{◌≡◌, ◌+◌, ◌<◌, ◌≤◌, ℕ, length, map as each, sym, ap, subst, arith}
-use Rattle.std.specs.Prelude.{Some, slice_get}
-use Rattle.std.specs.List.{All}
-use Rattle.std.specs.List.Sorted.{IsPermutation}
-use Rattle.std.proofs.lemmas.List.Sorted.{All-permutation, length_permutation}
-use Rattle.std.proofs.lemmas.Option.{slice_get_within}
-use Rattle.rubis_model.specs.Log.{cores}
+use Rattle.rubis_workers.proofs.Common.{◌≡◌, ◌+◌, ◌<◌, ◌≤◌, ℕ, length, map as each, sym, ap, subst, arith, Some, slice_get, All, IsPermutation}
+use Rattle.rubis_workers.proofs.Common.{All-permutation, length_permutation, slice_get_within, cores, ShardState, Piece, PassState}
 use Rattle.rubis_shard.specs.Holdings.{AreHomes}
-use Rattle.rubis_shard.specs.States.{ShardState}
-use Rattle.rubis_pieces.specs.declared.pieces.Piece.{Piece}
-use Rattle.rubis_board.specs.Rule.{PassState}
 use Rattle.rubis_workers.specs.Work.{bare}
 use Rattle.rubis_workers.proofs.Counts.{all_bare, counts_length}
 use Rattle.rubis_workers.proofs.following.follow_by_team.Goals as goal

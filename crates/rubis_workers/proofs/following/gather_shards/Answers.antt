@@ -1,8 +1,5 @@
-use Rattle.std.proofs.Common.{◌≡◌, length, map as each, ◌∙◌, subst}
-use Rattle.std.specs.List.Sorted.{IsPermutation}
-use Rattle.std.proofs.lemmas.List.{length-map}
-use Rattle.std.proofs.lemmas.List.Sorted.{IsPermutation-trans, length_permutation}
-use Rattle.rubis_pieces.specs.Batches.{IsFault, numbers_of, IsCounted}
+use Rattle.rubis_workers.proofs.Common.{◌≡◌, length, map as each, ◌∙◌, subst, IsPermutation, length-map, IsPermutation-trans, length_permutation}
+use Rattle.rubis_workers.proofs.Common.{IsFault, numbers_of, IsCounted}
 use Rattle.rubis_workers.specs.Work.{bare}
 use Rattle.rubis_workers.proofs.Counts.{followed, no_fault}
 use Rattle.rubis_workers.proofs.following.gather_shards.Goals as goal

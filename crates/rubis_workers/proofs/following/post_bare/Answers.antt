@@ -1,7 +1,4 @@
-use Rattle.std.proofs.Common.{◌≡◌, [], ◌∷◌, ◌++◌, length, map as each, ap, ◌∙◌, sym, subst, arith}
-use Rattle.std.specs.List.Sorted.{IsPermutation}
-use Rattle.std.proofs.lemmas.List.{length-append}
-use Rattle.rubis_pieces.specs.declared.pieces.Piece.{Piece}
+use Rattle.rubis_workers.proofs.Common.{◌≡◌, [], ◌∷◌, ◌++◌, length, map as each, ap, ◌∙◌, sym, subst, arith, IsPermutation, length-append, Piece}
 use Rattle.rubis_workers.specs.Work.{bare}
 use Rattle.rubis_workers.proofs.Counts.{bare_last}
 use Rattle.rubis_workers.proofs.following.post_bare.Goals as goal

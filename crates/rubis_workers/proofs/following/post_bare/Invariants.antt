@@ -1,5 +1,4 @@
-use Rattle.std.proofs.Common.{◌≡◌, ◌+◌, ◌++◌, length, map as each, vec_len}
-use Rattle.std.specs.List.Sorted.{IsPermutation}
+use Rattle.rubis_workers.proofs.Common.{◌≡◌, ◌+◌, ◌++◌, length, map as each, vec_len, IsPermutation}
 use Rattle.rubis_workers.specs.Work.{bare}
 use Rattle.rubis_workers.proofs.following.post_bare.Given as goal
 

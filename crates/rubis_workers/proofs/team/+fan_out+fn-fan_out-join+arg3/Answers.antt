@@ -1,6 +1,4 @@
-use Rattle.std.proofs.Common.{◌++◌, ap, sym, subst}
-use Rattle.std.specs.List.{AllZip}
-use Rattle.rubis_board.specs.Rule.{PassState}
+use Rattle.rubis_workers.proofs.Common.{◌++◌, ap, sym, subst, AllZip, PassState}
 use Rattle.rubis_workers.proofs.Folded.{zip_append, zip_length}
 use Rattle.rubis_workers.proofs.team.+fan_out+fn-fan_out-join+arg3.Goals as goal
 

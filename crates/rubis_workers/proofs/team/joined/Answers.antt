@@ -1,6 +1,4 @@
-use Rattle.std.proofs.Common.{length, ap, arith}
-use Rattle.std.proofs.lemmas.List.{length-append}
-use Rattle.rubis_board.specs.Rule.{PassState}
+use Rattle.rubis_workers.proofs.Common.{length, ap, arith, length-append, PassState}
 use Rattle.rubis_workers.proofs.Folded.{part_length}
 use Rattle.rubis_workers.proofs.team.joined.Goals as goal
 

@@ -1,7 +1,4 @@
-use Rattle.std.proofs.Common.{[], ◌∷◌, ◌++◌, length, ap, ◌∙◌, sym, subst, arith}
-use Rattle.std.specs.List.{All, AllZip}
-use Rattle.std.proofs.lemmas.List.{length-append}
-use Rattle.rubis_board.specs.Rule.{PassState}
+use Rattle.rubis_workers.proofs.Common.{[], ◌∷◌, ◌++◌, length, ap, ◌∙◌, sym, subst, arith, All, AllZip, length-append, PassState}
 use Rattle.rubis_workers.specs.Work.{having}
 use Rattle.rubis_workers.proofs.Folded.{part_length, last_is, zip_append, zip_length}
 use Rattle.rubis_workers.proofs.team.work.Goals as goal

@@ -1,6 +1,4 @@
-use Rattle.std.proofs.Common.{◌≡◌, ◌≤◌, length}
-use Rattle.std.specs.List.{AllZip}
-use Rattle.std.specs.Vec.{vec_capacity}
+use Rattle.rubis_workers.proofs.Common.{◌≡◌, ◌≤◌, length, AllZip, vec_capacity}
 use Rattle.rubis_workers.specs.Work.{having}
 use Rattle.rubis_workers.proofs.team.work.Given as goal
 

@@ -1,7 +1,4 @@
-use Rattle.std.proofs.Common.{◌∙◌, ap, length, subst, sym}
-use Rattle.rubis_model.specs.System.{World}
-use Rattle.rubis_model.specs.WorldRecords.{logs_of}
-use Rattle.rubis_audit.specs.Walks.{HaveMessagesAmong}
+use Rattle.rubis_world.proofs.Common.{◌∙◌, ap, length, subst, sym, World, logs_of, HaveMessagesAmong}
 use Rattle.rubis_world.proofs.checks.check.Goals as goal
 
 pub audit_hashed-requires-clause-among : goal.audit_hashed-requires-clause-among

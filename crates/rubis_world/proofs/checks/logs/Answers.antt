@@ -1,7 +1,4 @@
-use Rattle.std.proofs.Common.{◌++◌, ◌∷◌, [], ◌∙◌, ap, arith, sym}
-use Rattle.std.proofs.lemmas.List.FromFn.{map-range_with_len_more}
-use Rattle.rubis_model.specs.System.{World}
-use Rattle.rubis_model.specs.WorldRecords.{log_of}
+use Rattle.rubis_world.proofs.Common.{◌++◌, ◌∷◌, [], ◌∙◌, ap, arith, sym, map-range_with_len_more, World, log_of}
 use Rattle.rubis_world.proofs.checks.logs.Goals as goal
 
 pub places-preserved : goal.places-preserved

@@ -1,7 +1,4 @@
-use Rattle.std.proofs.Common.{◌≡◌}
-use Rattle.std.specs.Prelude.{map}
-use Rattle.std.specs.List.{range_with_len}
-use Rattle.rubis_model.specs.WorldRecords.{log_of}
+use Rattle.rubis_world.proofs.Common.{◌≡◌, map, range_with_len, log_of}
 use Rattle.rubis_world.specs.Worlds.{ComesTo}
 use Rattle.rubis_world.proofs.checks.logs.Given as goal
 

@@ -1,6 +1,4 @@
-use Rattle.std.proofs.Common.{subst}
-use Rattle.rubis_engine.specs.Progress.{IsRun}
-use Rattle.rubis_schema.specs.declared.limits.TheConstants.{RECORDS_MAX}
+use Rattle.rubis_world.proofs.Common.{subst, IsRun, RECORDS_MAX}
 use Rattle.rubis_world.specs.Running.{told_by_world}
 use Rattle.rubis_world.specs.Worlds.{WorldState}
 use Rattle.rubis_world.proofs.run.run_world.Goals as goal

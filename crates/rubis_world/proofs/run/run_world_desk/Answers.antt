@@ -1,5 +1,4 @@
-use Rattle.std.proofs.Common.{subst}
-use Rattle.rubis_engine.specs.Progress.{IsRun}
+use Rattle.rubis_world.proofs.Common.{subst, IsRun}
 use Rattle.rubis_world.specs.Running.{told_by_world}
 use Rattle.rubis_world.specs.Worlds.{WorldState}
 use Rattle.rubis_world.proofs.Leading.{tells_a_run, world_leads, world_run}

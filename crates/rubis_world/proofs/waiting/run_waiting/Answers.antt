@@ -1,7 +1,4 @@
-use Rattle.std.specs.Prelude.{None}
-use Rattle.rubis_model.specs.Site.{opening_at}
-use Rattle.rubis_schema.specs.declared.limits.TheConstants.{RECORDS_MAX}
-use Rattle.rubis_script.specs.Replica.{setup_place}
+use Rattle.rubis_world.proofs.Common.{None, opening_at, RECORDS_MAX, setup_place}
 use Rattle.rubis_world.proofs.Leading.{ends_early}
 use Rattle.rubis_world.proofs.waiting.run_waiting.Goals as goal
 

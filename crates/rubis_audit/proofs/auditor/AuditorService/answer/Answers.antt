@@ -1,8 +1,4 @@
-use Rattle.std.proofs.Common.{◌≡◌, ◌∙◌, ◌+◌, ap, refl, rules, subst, sym}
-use Rattle.std.specs.Prelude.{option_map}
-use Rattle.rubis_engine.specs.Accounts.{AnswersRecord}
-use Rattle.rubis_engine.specs.declared.service.Course.TheVariants.{Ends, GoesOn}
-use Rattle.rubis_engine.proofs.RunFacts.{answers-waiting}
+use Rattle.rubis_audit.proofs.Common.{◌≡◌, ◌∙◌, ◌+◌, ap, refl, rules, subst, sym, option_map, AnswersRecord, Ends, GoesOn, answers-waiting}
 use Rattle.rubis_audit.specs.Running.{line_as, account_from}
 use Rattle.rubis_audit.proofs.Collecting.{goes}
 use Rattle.rubis_audit.proofs.auditor.AuditorService.answer.Goals as goal

@@ -1,6 +1,4 @@
-use Rattle.std.proofs.Common.{◌≡◌, ◌≤◌, ◌∙◌, ap, arith, false, true, refl, rules, subst, sym}
-use Rattle.std.specs.Prelude.{Option, Some, None}
-use Rattle.rubis_engine.specs.Reading.{ReadsNext}
+use Rattle.rubis_audit.proofs.Common.{◌≡◌, ◌≤◌, ◌∙◌, ap, arith, false, true, refl, rules, subst, sym, Option, Some, None, ReadsNext}
 use Rattle.rubis_audit.specs.Checking.{CountsNext, HasChecked, HasCheckedAll, checker_after, fault_for, recent, tally_for}
 use Rattle.rubis_audit.specs.declared.checker.Tally.{Tally}
 use Rattle.rubis_audit.specs.declared.record_faults.RecordFault.{RecordFault}

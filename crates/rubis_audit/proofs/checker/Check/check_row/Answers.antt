@@ -1,6 +1,4 @@
-use Rattle.std.proofs.Common.{◌≡◌, ◌∙◌, ◌+◌, ◌++◌, None, ap, rules, sym}
-use Rattle.std.proofs.lemmas.List.{append-nil}
-use Rattle.rubis_engine.specs.Text.{rows_text}
+use Rattle.rubis_audit.proofs.Common.{◌≡◌, ◌∙◌, ◌+◌, ◌++◌, None, ap, rules, sym, append-nil, rows_text}
 use Rattle.rubis_audit.specs.Checking.{fault_for, no_lines, row_for}
 use Rattle.rubis_audit.proofs.checker.Check.check_row.Goals as goal
 

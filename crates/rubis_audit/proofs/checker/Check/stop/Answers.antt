@@ -1,6 +1,4 @@
-use Rattle.std.proofs.Common.{false, subst, sym}
-use Rattle.rubis_engine.specs.Reading.{ReadsNext}
-use Rattle.rubis_engine.proofs.RunFacts.{if_ok_so}
+use Rattle.rubis_audit.proofs.Common.{false, subst, sym, ReadsNext, if_ok_so}
 use Rattle.rubis_audit.specs.Checking.{HasCheckedAll, recent}
 use Rattle.rubis_audit.proofs.CheckFacts.{none_more}
 use Rattle.rubis_audit.proofs.checker.Check.stop.Goals as goal

@@ -1,5 +1,4 @@
-use Rattle.std.proofs.Common.{◌∙◌, sym}
-use Rattle.rubis_message.specs.Equal.{Decides-same_message}
+use Rattle.rubis_audit.proofs.Common.{◌∙◌, sym, Decides-same_message}
 use Rattle.rubis_audit.proofs.pools.MessagePool.found.Goals as goal
 
 pub returns-then-eq : goal.returns-then-eq

@@ -1,5 +1,4 @@
-use Rattle.std.proofs.Common.{ap}
-use Rattle.std.specs.Prelude.{option_map}
+use Rattle.rubis_audit.proofs.Common.{ap, option_map}
 use Rattle.rubis_audit.specs.Claimed.{rest_of}
 use Rattle.rubis_audit.proofs.Comparing.{never_done, none_more}
 use Rattle.rubis_audit.proofs.rows.Claimed.is_done.Goals as goal

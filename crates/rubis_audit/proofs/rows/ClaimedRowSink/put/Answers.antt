@@ -1,5 +1,4 @@
-use Rattle.std.proofs.Common.{◌∙◌, ap, sym}
-use Rattle.std.specs.Prelude.{option_and_then, option_map}
+use Rattle.rubis_audit.proofs.Common.{◌∙◌, ap, sym, option_and_then, option_map}
 use Rattle.rubis_audit.specs.Claimed.{behind_row}
 use Rattle.rubis_audit.proofs.rows.ClaimedRowSink.put.Goals as goal
 

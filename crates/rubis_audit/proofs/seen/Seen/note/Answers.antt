@@ -1,8 +1,5 @@
-use Rattle.std.proofs.Common.{◌∙◌, ap, sym, Some, None, cond}
-use Rattle.std.specs.Prelude.{◌==◌}
-use Rattle.std.specs.Option.{option_or}
+use Rattle.rubis_audit.proofs.Common.{◌∙◌, ap, sym, Some, None, cond, ◌==◌, option_or, same_id}
 use Rattle.std.proofs.lemmas.Result.{on_ok_weaker}
-use Rattle.rubis_schema.specs.Keys.{same_id}
 use Rattle.rubis_audit.proofs.Judging.{by_id_push, by_red_push, more_formed, none_known, seen_known}
 use Rattle.rubis_audit.proofs.seen.Seen.note.Goals as goal
 

@@ -1,10 +1,5 @@
-use Rattle.std.proofs.Common.{◌∙◌, ◌+◌, ◌≤◌, ap, arith, rules, subst, sym}
-use Rattle.std.specs.Prelude.{option_map}
-use Rattle.rubis_schema.specs.declared.limits.TheConstants.{COUNTED_MAX}
-use Rattle.rubis_laws.proofs.Audits.AuditReadings.{line_only}
-use Rattle.rubis_engine.specs.Accounts.{AnswersRecord}
-use Rattle.rubis_engine.specs.declared.service.Course.TheVariants.{Ends, GoesOn}
-use Rattle.rubis_engine.proofs.RunFacts.{answers-waiting}
+use Rattle.rubis_audit.proofs.Common.{◌∙◌, ◌+◌, ◌≤◌, ap, arith, rules, subst, sym, option_map, COUNTED_MAX, line_only, AnswersRecord, Ends, GoesOn}
+use Rattle.rubis_audit.proofs.Common.{answers-waiting}
 use Rattle.rubis_audit.specs.Running.{line_as, WidenerState, widening_from}
 use Rattle.rubis_audit.specs.Forms.{logs_at}
 use Rattle.rubis_audit.proofs.Placing.{goes}

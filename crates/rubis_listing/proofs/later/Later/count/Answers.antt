@@ -1,6 +1,4 @@
-use Rattle.std.proofs.Common.{arith}
-use Rattle.rubis_shard.specs.Listed.{number_of}
-use Rattle.rubis_shard.specs.Holdings.{union}
+use Rattle.rubis_listing.proofs.Common.{arith, number_of, union}
 use Rattle.rubis_listing.proofs.ByTable.{left_length}
 use Rattle.rubis_listing.proofs.later.Later.count.Goals as goal
 

@@ -1,10 +1,5 @@
-use Rattle.std.proofs.Common.{◌++◌, ap, sym, ◌∙◌}
-use Rattle.std.specs.Prelude.{Option}
+use Rattle.rubis_listing.proofs.Common.{◌++◌, ap, sym, ◌∙◌, Option, Table, rows_of, records_of, union}
 use Rattle.rubis_schema.specs.declared.listings.Listing.TheVariants as listing
-use Rattle.rubis_schema.specs.declared.row_keys.Table.{Table}
-use Rattle.rubis_shadow.specs.Tables.{rows_of}
-use Rattle.rubis_model.specs.Listings.{records_of}
-use Rattle.rubis_shard.specs.Holdings.{union}
 use Rattle.rubis_listing.specs.Parts.{rows_after}
 use Rattle.rubis_listing.proofs.ByTable.{left_after}
 use Rattle.rubis_listing.proofs.later.Later.next.Goals as goal

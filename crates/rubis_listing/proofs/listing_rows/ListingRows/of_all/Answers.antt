@@ -1,8 +1,5 @@
-use Rattle.std.proofs.Common.{rules, ◌≡◌, ◌≤◌, ◌++◌, [], ap, length, ◌∙◌, arith}
+use Rattle.rubis_listing.proofs.Common.{rules, ◌≡◌, ◌≤◌, ◌++◌, [], ap, length, ◌∙◌, arith, log_from, recorded_from, union}
 use Rattle.std.specs.FinMap as map
-use Rattle.rubis_model.specs.Listings.{log_from}
-use Rattle.rubis_shard.specs.Listed.{recorded_from}
-use Rattle.rubis_shard.specs.Holdings.{union}
 use Rattle.rubis_listing.specs.Parts.{rows_from_table}
 use Rattle.rubis_listing.proofs.ByTable.{all_left, left_length}
 use Rattle.rubis_listing.proofs.Making.{none}

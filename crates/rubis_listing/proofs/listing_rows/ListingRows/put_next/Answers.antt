@@ -1,6 +1,4 @@
-use Rattle.std.proofs.Common.{rules, arith, ◌≡◌, ◌≤◌, ◌∙◌, ◌+◌, ◌++◌, ap, sym}
-use Rattle.std.specs.Prelude.{None}
-use Rattle.rubis_model.specs.Listings.{log_from}
+use Rattle.rubis_listing.proofs.Common.{rules, arith, ◌≡◌, ◌≤◌, ◌∙◌, ◌+◌, ◌++◌, ap, sym, None, log_from}
 use Rattle.rubis_listing.specs.Parts.{later_rows, between, rows_from, size_of}
 use Rattle.rubis_listing.proofs.Making.{countable_none, countable_rest, next_rows, between_none}
 use Rattle.rubis_listing.proofs.listing_rows.ListingRows.put_next.Goals as goal

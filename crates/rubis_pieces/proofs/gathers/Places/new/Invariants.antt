@@ -1,5 +1,4 @@
-use Rattle.std.proofs.Common.{◌≡◌, ◌≤◌, length}
-use Rattle.std.specs.Vec.{vec_capacity}
+use Rattle.rubis_pieces.proofs.Common.{◌≡◌, ◌≤◌, length, vec_capacity}
 use Rattle.rubis_pieces.specs.Batches.{AllUnseen}
 use Rattle.rubis_pieces.proofs.gathers.Places.new.Given as goal
 

@@ -1,9 +1,7 @@
-use Rattle.std.proofs.Common.{rules, ◌≡◌, ◌<◌, ◌≤◌, ◌++◌, ◌∙◌, ◌+◌, ◌-◌, ℕ, List, ap, arith, drop, length, length-append, slice_range, subst, sym, take, false}
-use Rattle.std.proofs.Common.{true}
+use Rattle.rubis_reading.proofs.Common.{rules, ◌≡◌, ◌<◌, ◌≤◌, ◌++◌, ◌∙◌, ◌+◌, ◌-◌, ℕ, List, ap, arith, drop, length, length-append, slice_range}
+use Rattle.rubis_reading.proofs.Common.{subst, sym, take, false, true, Consumes, nat_tests, take-append-le}
 use Rattle.std.specs.Prelude.{nat_lt}
-use Rattle.std.specs.Io.KnownBytes.{Consumes}
-use Rattle.std.proofs.lemmas.Bool.Decides.{nat_tests}
-use Rattle.std.proofs.lemmas.List.{take-append-le, with_items_is}
+use Rattle.std.proofs.lemmas.List.{with_items_is}
 use Rattle.rubis_reading.proofs.ChunkFacts.{filled, unfilled, written-length}
 use Rattle.rubis_reading.proofs.buffer.Buffer.fill.Goals as goal
 

@@ -1,8 +1,6 @@
-use Rattle.std.proofs.Common.{◌++◌, ap, arith, false, length, length-append, refl, rules, subst, sym, true}
+use Rattle.rubis_reading.proofs.Common.{◌++◌, ap, arith, false, length, length-append, refl, rules, subst, sym, true, strip_bom, nat_tests}
 use Rattle.rubis_engine.proofs.RunFacts.{handed_on}
 use Rattle.rubis_reading.specs.declared.buffer.ChunkFault.TheVariants.{Read}
-use Rattle.csv.specs.Reading.{strip_bom}
-use Rattle.std.proofs.lemmas.Bool.Decides.{nat_tests}
 use Rattle.rubis_reading.specs.Streams.{HasLooked, EndsNoRecord}
 use Rattle.rubis_reading.proofs.ChunkFacts.{filled-come, filled-keeps, filled-on, held-come, held-keeps, nearer-none, still-held}
 use Rattle.rubis_reading.proofs.LookFacts.{marked-more}

@@ -1,6 +1,4 @@
-use Rattle.std.proofs.Common.{◌∙◌, ◌-◌, ap, arith, length, length-drop, refl}
-use Rattle.std.specs.Io.KnownBytes.{prepend_known}
-use Rattle.rubis_engine.specs.Text.{input_records}
+use Rattle.rubis_reading.proofs.Common.{◌∙◌, ◌-◌, ap, arith, length, length-drop, refl, prepend_known, input_records}
 use Rattle.rubis_reading.proofs.ChunkFacts.{handed-come, taken}
 use Rattle.rubis_reading.proofs.chunks.Chunks.pass.Goals as goal
 

@@ -1,6 +1,4 @@
-use Rattle.std.proofs.Common.{◌≡◌, ◌∙◌, ◌-◌, ◌++◌, ◌∷◌, [], ap, arith, drop, refl, subst, take}
-use Rattle.std.specs.Prelude.{None}
-use Rattle.rubis_crew.specs.States.{LeadState}
+use Rattle.rubis_reading.proofs.Common.{◌≡◌, ◌∙◌, ◌-◌, ◌++◌, ◌∷◌, [], ap, arith, drop, refl, subst, take, None, LeadState}
 use Rattle.rubis_reading.specs.Chunked.{IsChunk}
 use Rattle.rubis_reading.specs.declared.pieces.GivenPiece.{GivenPiece}
 use Rattle.rubis_reading.specs.declared.readings.Reading.{Reading}

@@ -1,5 +1,4 @@
-use Rattle.std.proofs.Common.{refl, subst}
-use Rattle.rubis_crew.specs.States.{IsBack, LeadState}
+use Rattle.rubis_reading.proofs.Common.{refl, subst, IsBack, LeadState}
 use Rattle.rubis_reading.specs.declared.readings.Reading.{Reading}
 use Rattle.rubis_reading.proofs.PieceFacts.{of_put}
 use Rattle.rubis_reading.proofs.pieces.Pieces.work.Goals as goal

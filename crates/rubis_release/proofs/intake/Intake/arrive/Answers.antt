@@ -1,6 +1,5 @@
-use Rattle.std.proofs.Common.{◌≡◌, ◌-◌, length, ap, ◌∙◌, sym, subst, arith}
+use Rattle.rubis_release.proofs.Common.{◌≡◌, ◌-◌, length, ap, ◌∙◌, sym, subst, arith, after_came}
 use Rattle.rubis_message.specs.declared.answers.Arrival.TheVariants.{Held, Released}
-use Rattle.rubis_model.specs.Site.{after_came}
 use Rattle.rubis_release.specs.Release.{Intake, IsAmong, AreKept, IsAdmitted}
 use Rattle.rubis_release.proofs.Keeping.{settling_longer}
 use Rattle.rubis_release.proofs.Intakes.{answer_is, came_is, came_kept, next_holds, none_released, some_released}

@@ -1,8 +1,5 @@
-use Rattle.std.proofs.Common.{◌≡◌, ap, ◌∙◌, refl, sym, subst, subst₂}
-use Rattle.rubis_clock.specs.declared.stamps.Stamp.{Stamp}
-use Rattle.rubis_message.specs.Message.{Message, IsMessage}
-use Rattle.rubis_shadow.specs.Shadows.{InLimits}
-use Rattle.rubis_model.specs.Site.{made, after_made, is_full, is_current, issued_after}
+use Rattle.rubis_release.proofs.Common.{◌≡◌, ap, ◌∙◌, refl, sym, subst, subst₂, Stamp, Message, IsMessage, InLimits, made, after_made, is_full}
+use Rattle.rubis_release.proofs.Common.{is_current, issued_after}
 use Rattle.rubis_release.specs.Release.{Intake, IsIntake, IsAmong}
 use Rattle.rubis_release.proofs.Intakes.{next_holds}
 use Rattle.rubis_release.proofs.Makes.{made_among, made_is_message, made_of, made_kept, made_is, held_for_blue, held_for_red}

@@ -1,7 +1,4 @@
-use Rattle.std.proofs.Common.{ap, ◌∙◌, sym, arith}
-use Rattle.std.specs.Prelude.{nat_lt}
-use Rattle.rubis_schema.specs.declared.ids.Id.{Id}
-use Rattle.rubis_model.specs.Site.{not_ours}
+use Rattle.rubis_release.proofs.Common.{ap, ◌∙◌, sym, arith, nat_lt, Id, not_ours}
 use Rattle.rubis_release.specs.Release.{Intake}
 use Rattle.rubis_release.proofs.Intakes.{sites_of_clock, not_ours_is}
 use Rattle.rubis_release.proofs.intake.Intake.is_not_ours.Goals as goal

@@ -1,10 +1,5 @@
-use Rattle.std.proofs.Common.{◌||◌, ap, ◌∙◌, sym, subst, arith}
-use Rattle.std.specs.List.{list_any}
-use Rattle.std.proofs.lemmas.Bool.{le-leb, lt-leb}
-use Rattle.rubis_schema.specs.Keys.{same_id}
-use Rattle.rubis_schema.specs.declared.ids.Id.{Id}
-use Rattle.rubis_message.specs.Message.{Message}
-use Rattle.rubis_model.specs.Site.{is_repeat}
+use Rattle.rubis_release.proofs.Common.{◌||◌, ap, ◌∙◌, sym, subst, arith, list_any, le-leb, same_id, Id, Message, is_repeat}
+use Rattle.std.proofs.lemmas.Bool.{lt-leb}
 use Rattle.rubis_release.specs.Release.{Intake, IsAmong}
 use Rattle.rubis_release.proofs.Intakes.{among_is, sites_of_clock, is_repeat_by_count}
 use Rattle.rubis_release.proofs.intake.Intake.is_repeat.Goals as goal

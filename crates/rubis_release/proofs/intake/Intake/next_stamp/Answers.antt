@@ -1,7 +1,4 @@
-use Rattle.std.proofs.Common.{◌≡◌, ◌+◌, true, ap, ◌∙◌, sym, arith}
-use Rattle.rubis_clock.specs.Clocks.{MessageCounts}
-use Rattle.rubis_shadow.specs.Shadows.{is_red}
-use Rattle.rubis_model.specs.Site.{made, is_current, red_for}
+use Rattle.rubis_release.proofs.Common.{◌≡◌, ◌+◌, true, ap, ◌∙◌, sym, arith, MessageCounts, is_red, made, is_current, red_for}
 use Rattle.rubis_release.specs.Release.{Intake}
 use Rattle.rubis_release.proofs.Intakes.{sites_of_clock, clock_is, count_is}
 use Rattle.rubis_release.proofs.Makes.{counted_few, reds_few, red_number, blue_number, built}

@@ -1,5 +1,4 @@
-use Rattle.std.proofs.Common.{List, [], ◌∷◌, ◌++◌, refl, ap, ◌∙◌, sym, subst, arith}
-use Rattle.rubis_message.specs.Message.{Message}
+use Rattle.rubis_release.proofs.Common.{List, [], ◌∷◌, ◌++◌, refl, ap, ◌∙◌, sym, subst, arith, Message}
 use Rattle.rubis_release.specs.Release.{IsAmong, Messages}
 use Rattle.rubis_release.proofs.Keeping.{counted_on}
 use Rattle.rubis_release.proofs.messages.Messages.release.Goals as goal

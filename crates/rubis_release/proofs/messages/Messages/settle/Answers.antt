@@ -1,6 +1,4 @@
-use Rattle.std.proofs.Common.{List, length, refl, ◌∙◌, sym, subst, arith}
-use Rattle.rubis_message.specs.Message.{Message}
-use Rattle.rubis_model.specs.Site.{Settles}
+use Rattle.rubis_release.proofs.Common.{List, length, refl, ◌∙◌, sym, subst, arith, Message, Settles}
 use Rattle.rubis_release.specs.Release.{NoneReady}
 use Rattle.rubis_release.proofs.Keeping.{sites_stay, counted_on, turn, at_rest}
 use Rattle.rubis_release.proofs.messages.Messages.settle.Goals as goal

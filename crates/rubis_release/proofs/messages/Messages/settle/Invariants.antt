@@ -1,6 +1,4 @@
-use Rattle.std.proofs.Common.{◌≡◌, List, length}
-use Rattle.rubis_message.specs.Message.{Message}
-use Rattle.rubis_model.specs.Site.{Settles}
+use Rattle.rubis_release.proofs.Common.{◌≡◌, List, length, Message, Settles}
 use Rattle.rubis_release.specs.Release.{AreCounted}
 use Rattle.rubis_release.proofs.messages.Messages.settle.Given as goal
 

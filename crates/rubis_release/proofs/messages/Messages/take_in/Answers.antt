@@ -1,8 +1,5 @@
-use Rattle.std.proofs.Common.{◌∷◌, [], ◌++◌, length, ap, ◌∙◌, sym, subst, subst₂, arith}
+use Rattle.rubis_release.proofs.Common.{◌∷◌, [], ◌++◌, length, ap, ◌∙◌, sym, subst, subst₂, arith, length_push, IsReady, MessageCounts, Settles}
 use mathlib.Core.Bool.{true≢false}
-use Rattle.std.proofs.lemmas.List.{length_push}
-use Rattle.rubis_clock.specs.Clocks.{IsReady, MessageCounts}
-use Rattle.rubis_model.specs.Site.{Settles}
 use Rattle.rubis_release.specs.Release.{IsAmong, AllAmong, NoneReady, clock_of, Messages}
 use Rattle.rubis_release.proofs.Keeping.{among_more, comes_first_ok, waits_on}
 use Rattle.rubis_release.proofs.messages.Messages.take_in.Goals as goal

@@ -1,6 +1,4 @@
-use Rattle.std.proofs.Common.{◌∙◌, arith}
-use Rattle.std.proofs.lemmas.Bool.Decides.{Decides-eqb}
-use Rattle.std.proofs.lemmas.List.{nil_from_length}
+use Rattle.rubis_release.proofs.Common.{◌∙◌, arith, Decides-eqb, nil_from_length}
 use Rattle.rubis_release.specs.Waiting.{somes}
 use Rattle.rubis_release.proofs.waiting.Waiting.close_gaps.Goals as goal
 

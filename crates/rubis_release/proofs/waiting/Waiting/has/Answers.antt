@@ -1,8 +1,5 @@
-use Rattle.std.proofs.Common.{◌≡◌, false, refl, rules, sym, ap, ◌∙◌}
-use Rattle.std.specs.List.{list_any}
+use Rattle.rubis_release.proofs.Common.{◌≡◌, false, refl, rules, sym, ap, ◌∙◌, list_any, same_id, Message}
 use Rattle.indexmap.specs.IndexMap.{get}
-use Rattle.rubis_schema.specs.Keys.{same_id}
-use Rattle.rubis_message.specs.Message.{Message}
 use Rattle.rubis_release.specs.Waiting.{is_there}
 use Rattle.rubis_release.proofs.Slots.{has_told, nothing_waits}
 use Rattle.rubis_release.proofs.waiting.Waiting.has.Goals as goal

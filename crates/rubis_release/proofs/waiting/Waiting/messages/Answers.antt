@@ -1,6 +1,4 @@
-use Rattle.std.proofs.Common.{◌∙◌, ◌++◌, ap, sym}
-use Rattle.std.specs.Prelude.{map}
-use Rattle.std.proofs.lemmas.List.{append-nil}
+use Rattle.rubis_release.proofs.Common.{◌∙◌, ◌++◌, ap, sym, map, append-nil}
 use Rattle.rubis_release.proofs.Slots.{messages_of, of_slots}
 use Rattle.rubis_release.proofs.waiting.Waiting.messages.Goals as goal
 

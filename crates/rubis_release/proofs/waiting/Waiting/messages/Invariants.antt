@@ -1,5 +1,4 @@
-use Rattle.std.proofs.Common.{◌≡◌, ◌++◌}
-use Rattle.std.specs.Prelude.{map}
+use Rattle.rubis_release.proofs.Common.{◌≡◌, ◌++◌, map}
 use Rattle.rubis_release.proofs.Slots.{messages_of}
 use Rattle.rubis_release.proofs.waiting.Waiting.messages.Given as goal
 

@@ -1,10 +1,4 @@
-use Rattle.std.proofs.Common.{List, [], ◌∷◌, ◌++◌, ap, ◌∙◌, sym, subst}
-use Rattle.std.specs.Prelude.{Some}
-use Rattle.std.specs.List.{list_any}
-use Rattle.indexmap.specs.IndexMap.{insert_entry}
-use Rattle.rubis_schema.specs.Keys.{same_id}
-use Rattle.rubis_schema.specs.declared.ids.Id.{Id}
-use Rattle.rubis_message.specs.Message.{Message}
+use Rattle.rubis_release.proofs.Common.{List, [], ◌∷◌, ◌++◌, ap, ◌∙◌, sym, subst, Some, list_any, insert_entry, same_id, Id, Message}
 use Rattle.rubis_release.specs.Waiting.{AreApart, AreSlots, somes}
 use Rattle.rubis_release.proofs.Slots.{new_last, slots_more, somes_append}
 use Rattle.rubis_release.proofs.waiting.Waiting.push.Goals as goal

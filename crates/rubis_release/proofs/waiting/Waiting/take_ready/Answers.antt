@@ -1,7 +1,5 @@
-use Rattle.std.proofs.Common.{◌≡◌, ◌+◌, length, refl, sym, ap, ◌∙◌, subst, arith}
-use Rattle.std.specs.Prelude.{Option, Some, None, MatchOption, slice_get}
-use Rattle.indexmap.specs.IndexMap.{set_value_at}
-use Rattle.rubis_message.specs.Message.{Message}
+use Rattle.rubis_release.proofs.Common.{◌≡◌, ◌+◌, length, refl, sym, ap, ◌∙◌, subst, arith, Option, Some, None, slice_get, set_value_at, Message}
+use Rattle.std.specs.Prelude.{MatchOption}
 use Rattle.rubis_release.specs.Release.{AllAmong, NoneReady}
 use Rattle.rubis_release.specs.Waiting.{AreSlots, NoneTaken, TakesFirst, somes}
 use Rattle.rubis_release.proofs.Slots.{nothing_waits, nothing_ready, none_of_slots, taken_first, slots_stay, values_at, un_some, no_some}

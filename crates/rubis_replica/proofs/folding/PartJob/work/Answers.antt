@@ -1,7 +1,4 @@
-use Rattle.std.proofs.Common.{◌+◌, ◌∙◌, ap, sym}
-use Rattle.std.specs.Arc.{arc_value}
-use Rattle.rubis_board.specs.Rule.{PassState}
-use Rattle.rubis_workers.specs.Work.{having}
+use Rattle.rubis_replica.proofs.Common.{◌+◌, ◌∙◌, ap, sym, arc_value, PassState, having}
 use Rattle.rubis_replica.specs.Folding.{messages_of}
 use Rattle.rubis_replica.specs.declared.folding.SharedBatch.{SharedBatch}
 use Rattle.rubis_replica.proofs.GivenOut.{as_folded, task_fits}

@@ -1,10 +1,7 @@
-use Rattle.std.proofs.Common.{true, ◌≡◌, ◌∙◌, ◌<◌, ◌≤◌, ◌++◌, length, take, drop, sym, ap, subst, arith}
-use Rattle.std.specs.Prelude.{Err, slice_range}
-use Rattle.rubis_model.specs.Log.{cores}
-use Rattle.rubis_workers.specs.Pieces.{AreFurther, HoldsTo, StopWithin}
+use Rattle.rubis_replica.proofs.Common.{true, ◌≡◌, ◌∙◌, ◌<◌, ◌≤◌, ◌++◌, length, take, drop, sym, ap, subst, arith, Err, slice_range, cores}
+use Rattle.rubis_replica.proofs.Common.{AreFurther, HoldsTo, StopWithin, parts_between}
 use Rattle.rubis_replica.specs.Follow.{Follower, FollowsLog, GoesOnTo, HasStops, end_of, left_of, resting_at}
 use Rattle.rubis_replica.specs.declared.progress.Stage.TheVariants.{Begun}
-use Rattle.rubis_workers.specs.Logs.{parts_between}
 use Rattle.rubis_replica.proofs.Standing.{begun_fewer, counted_by, follows_begun, follows_whole, left_fewer, stops_further, written_back}
 use Rattle.rubis_replica.proofs.follower.Follower.finish.Given as given
 use Rattle.rubis_replica.proofs.follower.Follower.finish.Goals as goal

@@ -1,5 +1,4 @@
-use Rattle.std.proofs.Common.{◌≡◌, ◌∙◌, ap, sym, subst}
-use Rattle.rubis_release.specs.Release.{Intake}
+use Rattle.rubis_replica.proofs.Common.{◌≡◌, ◌∙◌, ap, sym, subst, Intake}
 use Rattle.rubis_replica.specs.Follow.{CanFollow, ComesTo, Follower, IsTriedTo}
 use Rattle.rubis_replica.proofs.Standing.{comes_from, tried}
 use Rattle.rubis_replica.proofs.follower.Follower.follow_upto_by.Goals as goal

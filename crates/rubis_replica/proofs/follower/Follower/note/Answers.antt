@@ -1,6 +1,4 @@
-use Rattle.std.proofs.Common.{rules, true, ◌<◌, ap, refl, sym, ◌∙◌, subst, arith, inl, inr}
-use Rattle.std.specs.Prelude.{Err, length, slice_range}
-use Rattle.rubis_model.specs.Log.{cores}
+use Rattle.rubis_replica.proofs.Common.{rules, true, ◌<◌, ap, refl, sym, ◌∙◌, subst, arith, inl, inr, Err, length, slice_range, cores}
 use Rattle.rubis_replica.specs.Follow.{ComesTo, Follower, FollowsLog, HasStops, IsTriedTo, StandWithin, short}
 use Rattle.rubis_replica.specs.declared.progress.Progress.{Progress}
 use Rattle.rubis_replica.specs.declared.progress.Stage.TheVariants.{Begun}

@@ -1,5 +1,4 @@
-use Rattle.std.proofs.Common.{◌≡◌, List, length, ap, sym, subst, arith, rules}
-use Rattle.rubis_message.specs.Message.{Message}
+use Rattle.rubis_replica.proofs.Common.{◌≡◌, List, length, ap, sym, subst, arith, rules, Message}
 use Rattle.rubis_replica.specs.Follow.{Follower, FollowsLog, resting_at}
 use Rattle.rubis_replica.specs.declared.progress.Progress.{Progress}
 use Rattle.rubis_replica.specs.declared.progress.Stage.TheVariants.{Keeping}

@@ -1,6 +1,4 @@
-use Rattle.std.proofs.Common.{◌≡◌, sym, ap, subst}
-use Rattle.std.specs.Prelude.{All, List}
-use Rattle.rubis_message.specs.Message.{Message, sites_of}
+use Rattle.rubis_replica.proofs.Common.{◌≡◌, sym, ap, subst, All, List, Message, sites_of}
 use Rattle.rubis_replica.specs.State.{SiteState}
 use Rattle.rubis_replica.proofs.Standing.{log_counts}
 use Rattle.rubis_replica.proofs.site.Site.history.Goals as goal

@@ -1,10 +1,6 @@
-use Rattle.std.proofs.Common.{◌≡◌, sym, ap, ◌∙◌, subst, rules}
-use Rattle.std.specs.Prelude.{Ok, Err}
+use Rattle.rubis_replica.proofs.Common.{◌≡◌, sym, ap, ◌∙◌, subst, rules, Ok, Err, decision, row_by_key, Place, rows_at, standing_of, InLimits, union}
 use Rattle.rubis_generate.proofs.Granted.{red_allowed}
-use Rattle.rubis_generate.specs.Decision.{decision, row_by_key}
-use Rattle.rubis_model.specs.Site.{Place, is_current, rows_at, standing_of}
-use Rattle.rubis_shadow.specs.Shadows.{InLimits}
-use Rattle.rubis_workers.specs.Shard.{union}
+use Rattle.rubis_model.specs.Site.{is_current}
 use Rattle.rubis_replica.specs.State.{SiteState}
 use Rattle.rubis_replica.proofs.Deciding.{decided_limits, decision_at, same_decision, undecided}
 use Rattle.rubis_replica.proofs.Standing.{follows_made}

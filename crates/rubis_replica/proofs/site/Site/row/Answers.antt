@@ -1,6 +1,5 @@
-use Rattle.std.proofs.Common.{◌∙◌, ap}
+use Rattle.rubis_replica.proofs.Common.{◌∙◌, ap, Tables}
 use Rattle.std.specs.FinMap as map
-use Rattle.rubis_schema.specs.Tables.{Tables}
 use Rattle.rubis_replica.proofs.Deciding.{log_tables}
 use Rattle.rubis_replica.proofs.Listing.{applied_already}
 use Rattle.rubis_replica.proofs.site.Site.row.Goals as goal

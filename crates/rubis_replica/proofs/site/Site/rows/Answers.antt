@@ -1,8 +1,5 @@
-use Rattle.std.proofs.Common.{◌∙◌, ap, sym, subst}
-use Rattle.rubis_model.specs.Listings.{misfit_rows, table_rows}
-use Rattle.rubis_model.specs.Log.{cores, fold_of}
-use Rattle.rubis_model.specs.Site.{listing_rows}
-use Rattle.rubis_workers.specs.Pieces.{AreOfTheLog}
+use Rattle.rubis_replica.proofs.Common.{◌∙◌, ap, sym, subst, table_rows, cores, fold_of, listing_rows, AreOfTheLog}
+use Rattle.rubis_model.specs.Listings.{misfit_rows}
 use Rattle.rubis_replica.specs.State.{IsReadyFor}
 use Rattle.rubis_replica.proofs.Deciding.{log_misfits, log_tables}
 use Rattle.rubis_replica.proofs.Listing.{applied_already, if_rows, ready_tables, tables_shown}

@@ -1,7 +1,6 @@
-use Rattle.rubis_message.specs.declared.inputs.Input.TheVariants.{Asked}
+use Rattle.rubis_script.proofs.Common.{Asked, ends_memory, ends_so}
 use Rattle.rubis_message.specs.declared.requests.Request.TheVariants as request
 use Rattle.rubis_script.proofs.DeskFacts.{front-flushed, listed-flushed, prefix-unwritten}
-use Rattle.rubis_engine.proofs.RunFacts.{ends_memory, ends_so}
 use Rattle.rubis_script.proofs.desk.Desk.list_out.Goals as goal
 
 pub returns-in_err-flush-clause-listed : goal.returns-in_err-flush-clause-listed

@@ -1,7 +1,6 @@
-use Rattle.std.proofs.Common.{◌≡◌, rules, subst, sym}
+use Rattle.rubis_script.proofs.Common.{◌≡◌, rules, subst, sym, ends_memory, ends_so}
 use Rattle.rubis_message.specs.declared.inputs.Input.TheVariants as input
 use Rattle.rubis_message.specs.declared.requests.Request.TheVariants as request
-use Rattle.rubis_engine.proofs.RunFacts.{ends_memory, ends_so}
 use Rattle.rubis_script.specs.Desks.{WritesNext, WritesPrefixFrom}
 use Rattle.rubis_script.proofs.DeskFacts.{next-waiting, prefix-unwritten}
 use Rattle.rubis_script.proofs.desk.Desk.take.Goals as goal

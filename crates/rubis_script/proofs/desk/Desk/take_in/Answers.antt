@@ -1,9 +1,7 @@
-use Rattle.std.proofs.Common.{◌≡◌, ◌∙◌, ◌++◌, ap, arith, length, subst, sym}
-use Rattle.rubis_replica.specs.State.{TakesFirst}
+use Rattle.rubis_script.proofs.Common.{◌≡◌, ◌∙◌, ◌++◌, ap, arith, length, subst, sym, TakesFirst, rows_text}
 use Rattle.rubis_engine.proofs.RunFacts.{if_not_some}
 use Rattle.rubis_script.proofs.LeadFacts.{settles_all, taken_all}
 use Rattle.rubis_script.proofs.WindowFacts.{answers-few, flush_keeps, told-kept}
-use Rattle.rubis_engine.specs.Text.{rows_text}
 use Rattle.rubis_script.specs.Desks.{left_at}
 use Rattle.rubis_script.specs.Windows.{arrivals_rows}
 use Rattle.rubis_script.proofs.desk.Desk.take_in.Goals as goal

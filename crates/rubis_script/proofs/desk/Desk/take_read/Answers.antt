@@ -1,5 +1,4 @@
-use Rattle.std.proofs.Common.{◌≡◌, ◌∙◌, ap, rules, subst, sym}
-use Rattle.std.proofs.lemmas.Result.{on_ok_weaker}
+use Rattle.rubis_script.proofs.Common.{◌≡◌, ◌∙◌, ap, rules, subst, sym, on_ok_weaker}
 use Rattle.rubis_message.specs.declared.tokens.Packet.TheVariants as Packet
 use Rattle.rubis_message.specs.declared.inputs.Input.TheVariants as input
 use Rattle.rubis_script.specs.Desks.{TakesNext}

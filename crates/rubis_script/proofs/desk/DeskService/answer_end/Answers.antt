@@ -1,6 +1,4 @@
-use Rattle.std.proofs.Common.{◌∙◌, [], ◌++◌, ap, append-nil}
-use Rattle.std.proofs.lemmas.Result.{on_ok_weaker}
-use Rattle.rubis_engine.specs.Accounts.Ending.{AtEnd}
+use Rattle.rubis_script.proofs.Common.{◌∙◌, [], ◌++◌, ap, append-nil, on_ok_weaker, AtEnd}
 use Rattle.rubis_script.proofs.DeskFacts.{leads-settled}
 use Rattle.rubis_script.proofs.EndFacts.{rests-there, told-nothing}
 use Rattle.rubis_script.proofs.desk.DeskService.answer_end.Goals as goal

@@ -1,5 +1,4 @@
-use Rattle.std.proofs.lemmas.Result.{on_ok_weaker}
-use Rattle.rubis_engine.specs.Accounts.Ending.{Cut}
+use Rattle.rubis_script.proofs.Common.{on_ok_weaker, Cut}
 use Rattle.rubis_engine.proofs.RunFacts.{on_ok}
 use Rattle.rubis_script.proofs.DeskFacts.{leads-settled}
 use Rattle.rubis_script.proofs.EndFacts.{rests-there, told-nothing}

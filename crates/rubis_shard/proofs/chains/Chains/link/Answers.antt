@@ -1,8 +1,5 @@
-use Rattle.std.proofs.Common.{◌≡◌, ◌+◌, ◌++◌, ◌∷◌, [], suc, length-append, take, sym, ap, subst, ◌∙◌, arith}
-use Rattle.std.specs.Prelude.{option_map, Option, Some}
-use Rattle.std.specs.Map.Iter.{deref_pair}
-use Rattle.rubis_schema.specs.Keys.{row_key}
-use Rattle.rubis_schema.specs.declared.id_keys.IdKey.{IdKey}
+use Rattle.rubis_shard.proofs.Common.{◌≡◌, ◌+◌, ◌++◌, ◌∷◌, [], suc, length-append, take, sym, ap, subst, ◌∙◌, arith, option_map, Option, Some}
+use Rattle.rubis_shard.proofs.Common.{deref_pair, row_key, IdKey}
 use Rattle.rubis_shard.specs.Chains.{chains_of, Links, written}
 use Rattle.rubis_shard.proofs.Linking.{chain_at, chains_length, linked_links, take_next}
 use Rattle.rubis_shard.proofs.chains.Chains.link.Goals as goal

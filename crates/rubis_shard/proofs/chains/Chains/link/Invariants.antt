@@ -1,5 +1,4 @@
-use Rattle.std.proofs.Common.{◌≡◌, ◌≤◌, length, take}
-use Rattle.rubis_schema.specs.Keys.{row_key}
+use Rattle.rubis_shard.proofs.Common.{◌≡◌, ◌≤◌, length, take, row_key}
 use Rattle.rubis_shard.specs.Chains.{chains_of, Links, written}
 use Rattle.rubis_shard.proofs.chains.Chains.link.Given as goal
 

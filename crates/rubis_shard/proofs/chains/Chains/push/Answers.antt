@@ -1,7 +1,4 @@
-use Rattle.std.proofs.Common.{◌≡◌, ◌+◌, ◌++◌, ◌∷◌, [], ℕ, cond, length, ap, ◌∙◌, arith}
-use Rattle.std.specs.Prelude.{Some}
-use Rattle.std.specs.Map.{lookup}
-use Rattle.rubis_schema.specs.Keys.{same_id_key}
+use Rattle.rubis_shard.proofs.Common.{◌≡◌, ◌+◌, ◌++◌, ◌∷◌, [], ℕ, cond, length, ap, ◌∙◌, arith, Some, lookup, same_id_key}
 use Rattle.rubis_shard.specs.Chains.{is_in}
 use Rattle.rubis_shard.proofs.Linking.{links_push}
 use Rattle.rubis_shard.proofs.chains.Chains.push.Goals as goal

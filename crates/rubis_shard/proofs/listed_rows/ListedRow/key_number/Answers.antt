@@ -1,6 +1,4 @@
-use Rattle.std.proofs.Common.{ap, subst, arith}
-use Rattle.rubis_schema.specs.declared.row_keys.RowKey.{RowKey}
-use Rattle.rubis_schema.specs.declared.rows.Row.{Row}
+use Rattle.rubis_shard.proofs.Common.{ap, subst, arith, RowKey, Row}
 use Rattle.rubis_shard.specs.Listed.{key_number, IsListed}
 use Rattle.rubis_shard.proofs.Picked.{is_listed, numbered}
 use Rattle.rubis_shard.proofs.listed_rows.ListedRow.key_number.Goals as goal

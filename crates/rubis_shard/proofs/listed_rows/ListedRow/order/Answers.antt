@@ -1,5 +1,4 @@
-use Rattle.std.proofs.Common.{◌∙◌}
-use Rattle.std.specs.Ordering.{nat_cmp}
+use Rattle.rubis_shard.proofs.Common.{◌∙◌, nat_cmp}
 use Rattle.rubis_shard.proofs.Picked.{ordered}
 use Rattle.rubis_shard.proofs.listed_rows.ListedRow.order.Goals as goal
 

@@ -1,5 +1,4 @@
-use Rattle.std.proofs.Common.{sym, subst}
-use Rattle.rubis_schema.specs.Keys.{row_key, same_id_key}
+use Rattle.rubis_shard.proofs.Common.{sym, subst, row_key, same_id_key}
 use Rattle.rubis_shard.specs.Chains.{IsLinkedSoFar}
 use Rattle.rubis_shard.proofs.Changed.{altered_chains, row_stays_at}
 use Rattle.rubis_shard.proofs.InMaps.{kept_is_no_nick}

@@ -1,5 +1,4 @@
-use Rattle.std.proofs.Common.{length, arith}
-use Rattle.std.proofs.lemmas.List.{take_all}
+use Rattle.rubis_shard.proofs.Common.{length, arith, take_all}
 use Rattle.rubis_shard.specs.Rows.{kept_of}
 use Rattle.rubis_shard.proofs.OneTable.{written_length}
 use Rattle.rubis_shard.proofs.Linking.{if_done}

@@ -1,9 +1,6 @@
-use Rattle.std.proofs.Common.{◌≡◌, true, false, sym, ap, subst, ◌∙◌, refl}
+use Rattle.rubis_shard.proofs.Common.{◌≡◌, true, false, sym, ap, subst, ◌∙◌, refl, bytes_eq, nat_eq, row_key, same_id_key, FreesOnlyNicks, IsNick}
+use Rattle.rubis_shard.proofs.Common.{Effect}
 use Rattle.std.specs.FinMap as map
-use Rattle.std.specs.Prelude.{bytes_eq, nat_eq}
-use Rattle.rubis_schema.specs.Keys.{row_key, same_id_key}
-use Rattle.rubis_shadow.specs.Freed.{FreesOnlyNicks, IsNick}
-use Rattle.rubis_shadow.specs.declared.keyed_change.Effect.{Effect}
 use Rattle.rubis_shard.specs.Chains.{is_user}
 use Rattle.rubis_shard.proofs.Changed.{altered, altered_all, changed_tables, changed_misfit, row_stays_at}
 use Rattle.rubis_shard.proofs.InMaps.{found_at, found_there, kept_is_no_nick, user_with, other_with, nick_with, cat_with, same_entries, four, Four}

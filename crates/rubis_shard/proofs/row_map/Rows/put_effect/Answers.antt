@@ -1,9 +1,6 @@
-use Rattle.std.proofs.Common.{◌≡◌, sym, ap, ◌∙◌, refl, arith}
-use Rattle.std.specs.Prelude.{None}
+use Rattle.rubis_shard.proofs.Common.{◌≡◌, sym, ap, ◌∙◌, refl, arith, None, Tables, fits_as, after_none, misfit_none, none_of, put_then}
+use Rattle.rubis_shadow.proofs.Rows.{some_of, after_refused, misfit_refused, inserted, put_else}
 use Rattle.std.specs.FinMap as map
-use Rattle.rubis_schema.specs.Tables.{Tables}
-use Rattle.rubis_shadow.specs.Changes.{fits_as}
-use Rattle.rubis_shadow.proofs.Rows.{after_none, misfit_none, none_of, some_of, after_refused, misfit_refused, inserted, put_then, put_else}
 use Rattle.rubis_shard.specs.Rows.{tables_in}
 use Rattle.rubis_shard.proofs.row_map.Rows.put_effect.Goals as goal
 

@@ -1,6 +1,4 @@
-use Rattle.std.proofs.Common.{◌≡◌, true, false, refl, sym, ap, ◌∙◌}
-use Rattle.std.specs.Prelude.{is_none, Some}
-use Rattle.rubis_schema.specs.Keys.{row_key}
+use Rattle.rubis_shard.proofs.Common.{◌≡◌, true, false, refl, sym, ap, ◌∙◌, is_none, Some, row_key}
 use Rattle.rubis_shard.specs.Chains.{is_user}
 use Rattle.rubis_shard.proofs.InMaps.{all_put_in, found_at, found_there, user_with, other_with, nick_with, cat_with, same_entries, match_put, four, Four}
 use Rattle.rubis_shard.proofs.row_map.Rows.put_new.Goals as goal

@@ -1,7 +1,4 @@
-use Rattle.std.specs.Prelude.{slice_get}
-use Rattle.std.proofs.Common.{subst}
-use Rattle.rubis_shadow.specs.Tables.{HasBoxedRow}
-use Rattle.rubis_shadow.specs.Shadows.{parts}
+use Rattle.rubis_shard.proofs.Common.{slice_get, subst, HasBoxedRow, parts}
 use Rattle.rubis_shard.proofs.shard_store.Store.fold_comment.Goals as goal
 
 pub unreachable-requires : goal.unreachable-requires

@@ -1,5 +1,4 @@
-use Rattle.std.proofs.Common.{sym, ap, ◌∙◌, subst, rules}
-use Rattle.std.specs.List.{All}
+use Rattle.rubis_shard.proofs.Common.{sym, ap, ◌∙◌, subst, rules, All}
 use Rattle.rubis_shard.specs.States.{ShardState, IsHomeOf}
 use Rattle.rubis_shard.proofs.Folds.{folds_more, of_ok}
 use Rattle.rubis_shard.proofs.shards.Shard.apply.Goals as goal

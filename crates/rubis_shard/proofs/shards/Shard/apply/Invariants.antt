@@ -1,5 +1,4 @@
-use Rattle.std.proofs.Common.{◌≡◌}
-use Rattle.std.specs.Prelude.{slice_range}
+use Rattle.rubis_shard.proofs.Common.{◌≡◌, slice_range}
 use Rattle.rubis_shard.specs.States.{with_parts}
 use Rattle.rubis_shard.proofs.shards.Shard.apply.Given as goal
 

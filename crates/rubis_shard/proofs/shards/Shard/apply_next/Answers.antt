@@ -1,7 +1,4 @@
-use Rattle.std.proofs.Common.{◌≡◌, sym, ap, ◌∙◌, subst}
-use Rattle.std.specs.Prelude.{slice_get, Some}
-use Rattle.rubis_model.specs.Log.{step}
-use Rattle.rubis_model.specs.Shares.{part_of}
+use Rattle.rubis_shard.proofs.Common.{◌≡◌, sym, ap, ◌∙◌, subst, slice_get, Some, step, part_of}
 use Rattle.rubis_shard.specs.States.{ShardState, held_by}
 use Rattle.rubis_shard.specs.Holdings.{emptied}
 use Rattle.rubis_shard.proofs.Folds.{part_kept, home_of_one, if_some, part_at}

@@ -1,8 +1,5 @@
-use Rattle.std.proofs.Common.{◌≡◌, sym, ap, ◌∙◌, length, arith}
-use Rattle.std.specs.Prelude.{Option}
+use Rattle.rubis_shard.proofs.Common.{◌≡◌, sym, ap, ◌∙◌, length, arith, Option, Tables, part_of}
 use Rattle.std.specs.FinMap as map
-use Rattle.rubis_schema.specs.Tables.{Tables}
-use Rattle.rubis_model.specs.Shares.{part_of}
 use Rattle.rubis_shard.specs.Listed.{recorded_from, recorded_of}
 use Rattle.rubis_shard.specs.Rows.{tables_in}
 use Rattle.rubis_shard.specs.States.{ShardState, held_by, held_in}

@@ -1,6 +1,4 @@
-use Rattle.std.proofs.Common.{◌≡◌, sym, ap, ◌∙◌, subst}
-use Rattle.rubis_model.specs.Log.{fold_on}
-use Rattle.rubis_model.specs.Shares.{part_of}
+use Rattle.rubis_shard.proofs.Common.{◌≡◌, sym, ap, ◌∙◌, subst, fold_on, part_of}
 use Rattle.rubis_shard.specs.States.{ShardState, held_by}
 use Rattle.rubis_shard.specs.Holdings.{parts_at, numbered_of, emptied}
 use Rattle.rubis_shard.proofs.Parts.{own_after}

@@ -1,5 +1,4 @@
-use Rattle.std.proofs.Common.{◌≡◌, ap, ◌∙◌}
-use Rattle.rubis_model.specs.Shares.{part_of}
+use Rattle.rubis_shard.proofs.Common.{◌≡◌, ap, ◌∙◌, part_of}
 use Rattle.rubis_shard.specs.States.{ShardState, held_by}
 use Rattle.rubis_shard.specs.Holdings.{emptied}
 use Rattle.rubis_shard.proofs.Single.{all_rows}

@@ -1,7 +1,4 @@
-use Rattle.std.proofs.Common.{◌≡◌, sym, ap, ◌∙◌}
-use Rattle.rubis_shadow.specs.Tables.{opening}
-use Rattle.rubis_model.specs.Log.{Folded}
-use Rattle.rubis_model.specs.Shares.{part_of}
+use Rattle.rubis_shard.proofs.Common.{◌≡◌, sym, ap, ◌∙◌, opening, Folded, part_of}
 use Rattle.rubis_shard.specs.States.{held_by}
 use Rattle.rubis_shard.specs.declared.shard_store.Store.{Store}
 use Rattle.rubis_shard.proofs.Openings.{part_twice}

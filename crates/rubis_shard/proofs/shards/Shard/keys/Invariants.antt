@@ -1,5 +1,4 @@
-use Rattle.std.proofs.Common.{◌≡◌, take, map as each}
-use Rattle.std.specs.Map.{keys_of}
+use Rattle.rubis_shard.proofs.Common.{◌≡◌, take, map as each, keys_of}
 use Rattle.rubis_shard.specs.Chains.{shown}
 use Rattle.rubis_shard.proofs.shards.Shard.keys.Given as goal
 

@@ -1,9 +1,4 @@
-use Rattle.std.proofs.Common.{◌++◌, List, sym, subst, ◌∙◌}
-use Rattle.std.specs.List.Sorted.{IsPermutation}
-use Rattle.std.proofs.lemmas.List.{take_at}
-use Rattle.std.proofs.lemmas.List.Sorted.{IsPermutation-trans}
-use Rattle.rubis_schema.specs.declared.row_keys.RowKey.{RowKey}
-use Rattle.rubis_schema.specs.declared.rows.Row.{Row}
+use Rattle.rubis_shard.proofs.Common.{◌++◌, List, sym, subst, ◌∙◌, IsPermutation, take_at, IsPermutation-trans, RowKey, Row}
 use Rattle.rubis_shard.specs.Listed.{listed_of, table_with}
 use Rattle.rubis_shard.proofs.Picked.{listed_again}
 use Rattle.rubis_shard.proofs.shards.Shard.listed.Goals as goal

@@ -1,10 +1,4 @@
-use Rattle.std.proofs.Common.{◌≡◌, ◌++◌, [], List, sym, ap, subst, ◌∙◌}
-use Rattle.std.specs.Prelude.{Option}
-use Rattle.std.specs.List.Sorted.{IsPermutation}
-use Rattle.std.proofs.lemmas.List.{append-nil}
-use Rattle.std.proofs.lemmas.List.Sorted.{IsPermutation-refl}
-use Rattle.rubis_schema.specs.declared.row_keys.RowKey.{RowKey}
-use Rattle.rubis_schema.specs.declared.rows.Row.{Row}
+use Rattle.rubis_shard.proofs.Common.{◌≡◌, ◌++◌, [], List, sym, ap, subst, ◌∙◌, Option, IsPermutation, append-nil, IsPermutation-refl, RowKey, Row}
 use Rattle.rubis_shard.specs.Listed.{listed_of, table_with}
 use Rattle.rubis_shard.specs.States.{ShardState, held_in}
 use Rattle.rubis_shard.specs.declared.shard_store.Store.{Store}

@@ -1,7 +1,5 @@
-use Rattle.std.proofs.Common.{sym, ap, ◌∙◌}
+use Rattle.rubis_shard.proofs.Common.{sym, ap, ◌∙◌, key_order, Option}
 use Rattle.std.specs.FinMap as map
-use Rattle.rubis_schema.specs.Keys.{key_order}
-use Rattle.std.specs.Prelude.{Option}
 use Rattle.rubis_shard.specs.States.{ShardState, held_by, held_in}
 use Rattle.rubis_shard.specs.declared.shard_store.Store.{Store}
 use Rattle.rubis_shard.proofs.shards.Shard.row.Goals as goal

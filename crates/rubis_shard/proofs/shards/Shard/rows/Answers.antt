@@ -1,7 +1,5 @@
-use Rattle.std.proofs.Common.{sym, ap, ◌∙◌, map as each}
-use Rattle.std.specs.Prelude.{Option}
+use Rattle.rubis_shard.proofs.Common.{sym, ap, ◌∙◌, map as each, Option, rows_of}
 use Rattle.rubis_shard.specs.Chains.{shown}
-use Rattle.rubis_shadow.specs.Tables.{rows_of}
 use Rattle.rubis_shard.specs.States.{ShardState, held_in}
 use Rattle.rubis_shard.specs.declared.shard_store.Store.{Store}
 use Rattle.rubis_shard.proofs.Openings.{no_rows}

@@ -1,6 +1,4 @@
-use Rattle.std.proofs.Common.{◌≡◌, List, sym, subst, rules}
-use Rattle.std.specs.Prelude.{OnOk}
-use Rattle.std.proofs.lemmas.List.{take_at}
+use Rattle.rubis_shard.proofs.Common.{◌≡◌, List, sym, subst, rules, OnOk, take_at}
 use Rattle.rubis_shard.specs.States.{ShardState}
 use Rattle.rubis_shard.specs.Holdings.{core_of, numbered_of, AreInOrder, FoldsFrom}
 use Rattle.rubis_shard.proofs.Homes.{order_kept, takes_on_ok}

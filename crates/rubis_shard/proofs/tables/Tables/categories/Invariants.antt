@@ -1,5 +1,4 @@
-use Rattle.std.proofs.Common.{take}
-use Rattle.std.specs.List.Sorted.{IsPermutation}
+use Rattle.rubis_shard.proofs.Common.{take, IsPermutation}
 use Rattle.rubis_shard.proofs.Picked.{categories_by_shard}
 use Rattle.rubis_shard.proofs.tables.Tables.categories.Given as goal
 

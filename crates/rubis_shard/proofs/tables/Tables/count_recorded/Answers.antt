@@ -1,5 +1,4 @@
-use Rattle.std.proofs.Common.{rules, arith, ◌≡◌, ◌<◌, ◌≤◌, List, length, sym, ap, ◌∙◌}
-use Rattle.std.specs.Prelude.{slice_index_or}
+use Rattle.rubis_shard.proofs.Common.{rules, arith, ◌≡◌, ◌<◌, ◌≤◌, List, length, sym, ap, ◌∙◌, slice_index_or}
 use Rattle.std.specs.FinMap as map
 use Rattle.rubis_shard.specs.Listed.{number_of, recorded_from, recorded_of}
 use Rattle.rubis_shard.specs.Holdings.{union}

@@ -1,8 +1,4 @@
-use Rattle.std.proofs.Common.{List, ap, ◌∙◌, arith}
-use Rattle.std.proofs.lemmas.List.{take_all}
-use Rattle.std.specs.Map.{keys_of}
-use Rattle.rubis_schema.specs.declared.row_keys.RowKey.{RowKey}
-use Rattle.rubis_schema.specs.declared.rows.Row.{Row}
+use Rattle.rubis_shard.proofs.Common.{List, ap, ◌∙◌, arith, take_all, keys_of, RowKey, Row}
 use Rattle.rubis_shard.specs.Holdings.{union}
 use Rattle.rubis_shard.specs.Listed.{listed_of}
 use Rattle.rubis_shard.proofs.Grouped.{keys_grouped}

@@ -1,5 +1,4 @@
-use Rattle.std.proofs.Common.{◌≡◌, take}
-use Rattle.std.specs.Map.{keys_of}
+use Rattle.rubis_shard.proofs.Common.{◌≡◌, take, keys_of}
 use Rattle.rubis_shard.proofs.tables.Tables.group.Given as goal
 
 abbrev pub invariant-loop-row : goal.invariant-loop-row

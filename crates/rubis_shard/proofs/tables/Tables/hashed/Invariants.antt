@@ -1,5 +1,4 @@
-use Rattle.std.proofs.Common.{◌≡◌, ℕ, ◌<◌, length}
-use Rattle.std.specs.Prelude.{slice_get, Some}
+use Rattle.rubis_shard.proofs.Common.{◌≡◌, ℕ, ◌<◌, length, slice_get, Some}
 use Rattle.rubis_shard.specs.States.{opening_shard}
 use Rattle.rubis_shard.proofs.tables.Tables.hashed.Given as goal
 

@@ -1,10 +1,5 @@
-use Rattle.std.proofs.Common.{rules, ◌≡◌, ◌<◌, [], List, length, sym, ap, subst, ◌∙◌, arith}
-use Rattle.std.specs.Prelude.{slice_index_or}
-use Rattle.std.specs.List.Sorted.{IsPermutation}
-use Rattle.std.proofs.lemmas.List.{take_all, take_at}
-use Rattle.std.proofs.lemmas.List.Sorted.{IsPermutation-refl, IsPermutation-trans}
-use Rattle.rubis_schema.specs.declared.row_keys.RowKey.{RowKey}
-use Rattle.rubis_schema.specs.declared.rows.Row.{Row}
+use Rattle.rubis_shard.proofs.Common.{rules, ◌≡◌, ◌<◌, [], List, length, sym, ap, subst, ◌∙◌, arith, slice_index_or, IsPermutation, take_all, take_at}
+use Rattle.rubis_shard.proofs.Common.{IsPermutation-refl, IsPermutation-trans, RowKey, Row}
 use Rattle.rubis_shard.specs.States.{ShardState}
 use Rattle.rubis_shard.specs.Holdings.{union}
 use Rattle.rubis_shard.specs.Listed.{listed_of, table_with}

@@ -1,8 +1,5 @@
-use Rattle.std.proofs.Common.{◌≡◌, List, ap, subst, ◌∙◌, map as each, arith}
-use Rattle.std.specs.List.Sorted.{IsPermutation}
+use Rattle.rubis_shard.proofs.Common.{◌≡◌, List, ap, subst, ◌∙◌, map as each, arith, IsPermutation, take_all, take_at, rows_of}
 use Rattle.rubis_shard.specs.Chains.{shown}
-use Rattle.std.proofs.lemmas.List.{take_all, take_at}
-use Rattle.rubis_shadow.specs.Tables.{rows_of}
 use Rattle.rubis_shard.specs.States.{ShardState}
 use Rattle.rubis_shard.specs.Holdings.{union}
 use Rattle.rubis_shard.proofs.Listing.{rows_by_shard, union_listed}

@@ -1,6 +1,4 @@
-use Rattle.std.proofs.Common.{rules, ◌≡◌, List, length, set, refl, subst, arith}
-use Rattle.std.specs.Prelude.{Some, OnOk, slice_get}
-use Rattle.std.proofs.lemmas.Option.{slice_get_read}
+use Rattle.rubis_shard.proofs.Common.{rules, ◌≡◌, List, length, set, refl, subst, arith, Some, OnOk, slice_get, slice_get_read}
 use Rattle.rubis_shard.specs.States.{ShardState}
 use Rattle.rubis_shard.specs.Holdings.{AreInOrder, FoldsOn, parts_at, core_of, numbered_of, AreHomesOf}
 use Rattle.rubis_shard.proofs.Homes.{folds_one_ok, one_kept, order_set}

@@ -1,8 +1,5 @@
-use Rattle.std.proofs.Common.{◌≡◌, sym, ap, ◌∙◌, List, [], length, rules}
-use Rattle.std.specs.Prelude.{slice_get, Some}
+use Rattle.rubis_shard.proofs.Common.{◌≡◌, sym, ap, ◌∙◌, List, [], length, rules, slice_get, Some, slice_get_read, home}
 use Rattle.std.specs.FinMap as map
-use Rattle.std.proofs.lemmas.Option.{slice_get_read}
-use Rattle.rubis_schema.specs.Keys.{home}
 use Rattle.rubis_shard.specs.States.{ShardState}
 use Rattle.rubis_shard.specs.Holdings.{union}
 use Rattle.rubis_shard.proofs.Picked.{no_items}

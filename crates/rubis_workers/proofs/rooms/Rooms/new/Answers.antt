@@ -1,5 +1,4 @@
-use Rattle.std.proofs.Common.{sym, subst, arith}
-use Rattle.std.specs.List.{All}
+use Rattle.rubis_workers.proofs.Common.{sym, subst, arith, All}
 use Rattle.std.proofs.lemmas.List.Elements.{All-push}
 use Rattle.rubis_workers.specs.Work.{IsRoom}
 use Rattle.rubis_workers.proofs.rooms.Rooms.new.Goals as goal

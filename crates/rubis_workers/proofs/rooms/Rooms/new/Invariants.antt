@@ -1,5 +1,4 @@
-use Rattle.std.proofs.Common.{◌≡◌, ◌+◌, vec_len}
-use Rattle.std.specs.List.{All}
+use Rattle.rubis_workers.proofs.Common.{◌≡◌, ◌+◌, vec_len, All}
 use Rattle.rubis_workers.specs.Work.{IsRoom}
 use Rattle.rubis_workers.proofs.rooms.Rooms.new.Given as goal
 

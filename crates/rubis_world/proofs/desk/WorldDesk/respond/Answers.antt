@@ -1,8 +1,4 @@
-use Rattle.std.proofs.Common.{rules, ◌≡◌, Some, length}
-use Rattle.std.proofs.lemmas.Result.{on_ok_weaker}
-use Rattle.rubis_message.specs.WorldReadings.{world_input}
-use Rattle.rubis_message.specs.declared.world_inputs.WorldInput.TheVariants.{Asked, Delivered}
-use Rattle.rubis_model.specs.System.Event.{At, Deliver}
+use Rattle.rubis_world.proofs.Common.{rules, ◌≡◌, Some, length, on_ok_weaker, world_input, Asked, Delivered, At, Deliver}
 use Rattle.rubis_world.proofs.desk.WorldDesk.respond.Goals as goal
 
 pub returns-in-Asked-default-Some : goal.returns-in-Asked-default-Some

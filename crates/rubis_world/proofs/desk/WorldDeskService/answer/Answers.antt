@@ -1,5 +1,4 @@
-use Rattle.std.proofs.Common.{◌+◌}
-use Rattle.rubis_engine.specs.declared.service.Course.TheVariants.{GoesOn}
+use Rattle.rubis_world.proofs.Common.{◌+◌, GoesOn}
 use Rattle.rubis_engine.proofs.RunFacts.{answers-waiting, breaks-unwritten, ends_memory}
 use Rattle.rubis_world.specs.Running.{told_by_desk}
 use Rattle.rubis_world.proofs.Answering.{world_goes}

@@ -1,5 +1,4 @@
-use Rattle.std.proofs.lemmas.List.{append-nil}
-use Rattle.rubis_model.specs.WorldRecords.{world_answers}
+use Rattle.rubis_world.proofs.Common.{append-nil, world_answers}
 use Rattle.rubis_world.proofs.desk.WorldDeskService.answer_end.Goals as goal
 
 pub returns-clause-text : goal.returns-clause-text

@@ -1,5 +1,4 @@
-use Rattle.std.proofs.Common.{refl}
-use Rattle.rubis_model.specs.WorldRecords.{world_answers}
+use Rattle.rubis_world.proofs.Common.{refl, world_answers}
 use Rattle.rubis_world.proofs.desk.WorldDeskService.answer_held.Goals as goal
 
 pub returns-clause-keeps : goal.returns-clause-keeps

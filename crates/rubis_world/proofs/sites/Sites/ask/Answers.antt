@@ -1,8 +1,7 @@
-use Rattle.std.proofs.Common.{rules}
-use Rattle.std.specs.Prelude.{Ok}
+use Rattle.rubis_world.proofs.Common.{rules, Ok}
+use Rattle.rubis_model.specs.Site.{asked}
 use Rattle.rubis_message.specs.declared.answers.Happened.TheVariants as happened
 use Rattle.rubis_message.specs.declared.tokens.Packet.TheVariants as packet
-use Rattle.rubis_model.specs.Site.{asked}
 use Rattle.rubis_world.proofs.Moves.{are_at_places, asked_alone, read_behind, sends_fault, sends_on}
 use Rattle.rubis_world.proofs.sites.Sites.ask.Goals as goal
 

@@ -1,5 +1,4 @@
-use Rattle.std.proofs.Common.{rules, ◌≡◌, Some, length}
-use Rattle.rubis_model.specs.System.{packet_at}
+use Rattle.rubis_world.proofs.Common.{rules, ◌≡◌, Some, length, packet_at}
 use Rattle.rubis_world.proofs.Moves.{is_deliverable}
 use Rattle.rubis_world.proofs.sites.Sites.deliver.Goals as goal
 

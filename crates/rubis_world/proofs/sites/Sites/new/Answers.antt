@@ -1,6 +1,5 @@
-use Rattle.std.proofs.Common.{rules, ◌≡◌, ap, ◌∙◌}
-use Rattle.rubis_model.specs.Site.{opening_at}
-use Rattle.rubis_script.specs.Replica.{resting_at, Setup, setup_place, SiteState}
+use Rattle.rubis_world.proofs.Common.{rules, ◌≡◌, ap, ◌∙◌, opening_at, resting_at, setup_place, SiteState}
+use Rattle.rubis_script.specs.Replica.{Setup}
 use Rattle.rubis_world.proofs.Moves.{at_places, fresh_sites, one_more, starts, state_of}
 use Rattle.rubis_world.proofs.sites.Sites.new.Goals as goal
 

@@ -1,9 +1,8 @@
-use Rattle.std.proofs.Common.{rules}
-use Rattle.std.specs.Prelude.{Ok}
+use Rattle.rubis_world.proofs.Common.{rules, Ok}
 use Rattle.rubis_message.specs.declared.tokens.Token.{Token}
+use Rattle.rubis_model.specs.Site.{passed}
 use Rattle.rubis_message.specs.declared.answers.Happened.TheVariants as happened
 use Rattle.rubis_message.specs.declared.tokens.Packet.TheVariants as packet
-use Rattle.rubis_model.specs.Site.{passed}
 use Rattle.rubis_world.proofs.Moves.{are_at_places, asked_alone, never_behind, needs_none_behind, needs_none_never, sends_fault, sends_on}
 use Rattle.rubis_world.proofs.sites.Sites.pass.Goals as goal
 

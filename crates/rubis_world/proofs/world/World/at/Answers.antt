@@ -1,6 +1,4 @@
-use Rattle.std.proofs.Common.{length, subst, sym}
-use Rattle.rubis_model.specs.System.{IsEvent}
-use Rattle.rubis_model.specs.System.Event.{At}
+use Rattle.rubis_world.proofs.Common.{length, subst, sym, IsEvent, At}
 use Rattle.rubis_world.specs.Worlds.{WorldState}
 use Rattle.rubis_world.proofs.Moves.{answered, told}
 use Rattle.rubis_world.proofs.world.World.at.Goals as goal

@@ -1,5 +1,4 @@
-use Rattle.std.proofs.Common.{subst}
-use Rattle.rubis_model.specs.Laws.{InRun}
+use Rattle.rubis_world.proofs.Common.{subst, InRun}
 use Rattle.rubis_world.specs.Worlds.{WorldState}
 use Rattle.rubis_world.proofs.Moves.{told}
 use Rattle.rubis_world.proofs.world.World.packets.Goals as goal

@@ -1,7 +1,6 @@
-use Rattle.std.proofs.Common.{◌≡◌, ℕ, length}
-use Rattle.rubis_model.specs.Log.{cores}
-use Rattle.rubis_pieces.specs.Following.{AreFurther, HoldsTo, StopWithin}
-use Rattle.rubis_pieces.proofs.following.follow_rest.Given as goal
+use Rattle.rubis_workers.proofs.Common.{◌≡◌, ℕ, length, cores, HoldsTo}
+use Rattle.rubis_pieces.specs.Following.{AreFurther, StopWithin}
+use Rattle.rubis_workers.proofs.folding.follow_rest.Given as goal
 
 abbrev pub invariant-loop-number : goal.invariant-loop-number
 invariant-loop-number l = record {
