@@ -1,6 +1,6 @@
 -- How a run answers the questions of its input, and why a line is refused that is one.
 use Rattle.std.proofs.Common.{◌≡◌, ◌≤◌, ◌++◌, ◌∷◌, [], ℕ, List, None, Option, Some, arith, drop, false, length, sym, true, ◌∙◌, ◌+◌, inl, inr, Bool, cond, map}
-use Rattle.std.proofs.Common.{refl, ap, subst}
+use Rattle.std.proofs.Common.{refl, ap}
 use Rattle.std.proofs.lemmas.Bool.{le-leb}
 use Rattle.std.specs.Prelude.{bytes_eq, codes, slice_get}
 use Rattle.rubis_schema.specs.declared.row_keys.RowKey.{RowKey}
@@ -9,25 +9,18 @@ use Rattle.rubis_engine.specs.Text.{input_records, rows_text}
 use Rattle.rubis_keep.specs.Lines.{closes}
 use Rattle.rubis_keep.specs.Questions.{key_in, question_in, reply_rows, row_asked, refused_as, replied_in, question_of}
 use Rattle.rubis_keep.specs.declared.questions.Question.{Question}
-use Rattle.rubis_message.specs.Message.{Message}
 use Rattle.rubis_message.specs.declared.requests.Request.TheVariants as request
 use Rattle.rubis_message.specs.declared.tokens.Packet.TheVariants as packet
-use Rattle.rubis_message.specs.Inputs.{IsInput, input_of}
+use Rattle.rubis_message.specs.Inputs.{input_of}
 use Rattle.rubis_message.specs.declared.inputs.Input.{Input}
 use Rattle.rubis_message.specs.declared.inputs.Input.TheVariants.{Asked as ByUser, Came, Neither}
-use Rattle.rubis_replica.specs.State.{after_all, SiteState}
-use Rattle.rubis_engine.specs.Accounts.{AnswersRecord}
+use Rattle.rubis_model.specs.Processes.{site_after}
 use Rattle.rubis_engine.specs.Reading.{Advances, Gives, fields_now}
 use Rattle.rubis_engine.specs.declared.record_list.Records.{Records}
-use Rattle.rubis_engine.specs.declared.service.Course.TheVariants.{GoesOn}
-use Rattle.rubis_script.specs.Desks.{TakesNext, left_at}
-use Rattle.rubis_script.specs.Headline.{StepsOn}
-use Rattle.rubis_script.specs.declared.desk.Desk.{Desk}
+use Rattle.rubis_keep.specs.Telling.{grows-more}
 use Rattle.rubis_keep.specs.History.{Answers, Event, Grows, History, KeepsLines, Tells}
 use Rattle.rubis_keep.specs.History.Event.{Flushed, Kept, Replied, Shown, Told}
 use Rattle.rubis_keep.specs.Shortened.{state_after}
-use Rattle.rubis_keep.proofs.HistoryFacts.{grows-more}
-use Rattle.rubis_keep.proofs.ShortenFacts.{after-more}
 
 pub refused-open : (p : Place) (s : Replica) (n : ℕ) (line : List ℕ) {text : List ℕ} → length line ≤ 4096 → closes (drop 1 line) ≡ false
     → text ≡ rows_text (refused_as (codes "OpenQuote")) → text ≡ rows_text (reply_rows p s n line)
@@ -64,25 +57,12 @@ step-any p s n m (Came (packet.Msg x)) = refl
 step-any p s n m (Came (packet.Token t)) = refl
 step-any p s n m Neither = refl
 
--- a record that was read leads from one desk to the next
-pub reads-next : {T : Type 0} {d d2 : Desk T} {n : ℕ} {sink sink2 : List ℕ} {read : Input} {fields fields2 : List (List ℕ)}
-    → IsInput d.site.place.sites fields read → fields ≡ fields2 → TakesNext read n d d2 sink sink2
-    → AnswersRecord GoesOn (left_at d n) (left_at d2 (n + 1)) sink sink2 fields2 × StepsOn n
-    (input_of d.site.place.sites fields2) d.site d.window.items d2.site d2.window.items
-reads-next {d} {d2} {n} {fields2} is same took =
-    let means = ap (input_of d.site.place.sites) (sym same) ∙ is.means in (
-      took.text fields2 means,
-      subst (λ i. StepsOn n i d.site d.window.items d2.site d2.window.items) (sym means) took.leads,
-    )
-
-pub led-step : {p : Place} (s0 : Replica) (mid new : SiteState) (w w2 : List Message) (n : ℕ) (fields : List (List ℕ)) (done : List (List (List ℕ)))
-    → mid.place ≡ p → after_all mid.place mid.state w ≡ state_after p s0 done → StepsOn n (input_of mid.place.sites fields) mid w new w2
-    → (new.place ≡ p) × (after_all new.place new.state w2 ≡ state_after p s0 (done ++ fields ∷ []))
-led-step {p} s0 mid new w w2 n fields done same reached (place, step) = (
-  place ∙ same,
-  step ∙ (λ i. (input_step (same i) (reached i) n (input_of (same i).sites fields)).0)
-      ∙ step-any p (state_after p s0 done) n 1 (input_of p.sites fields) ∙ sym (after-more p s0 done fields),
-)
+-- and no number of any does
+pub states-alike : (p : Place) (s : Replica) (n : ℕ) (rows : List (List (List ℕ))) → site_after p s n rows ≡ state_after p s rows
+states-alike p s n [] = refl
+states-alike p s n (fields ∷ rows) =
+    ap (λ t. site_after p t (n + 1) rows) (step-any p s n 1 (input_of p.sites fields))
+    ∙ states-alike p (input_step p s 1 (input_of p.sites fields)).0 (n + 1) rows
 
 -- ---- what a line asks
 

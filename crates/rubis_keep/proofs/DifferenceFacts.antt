@@ -101,10 +101,6 @@ differs-there (Some old) text lines d h = differs-all h.came old text h.front h.
 
 -- ---- faults
 
-pub may-differ-more : (e : KeepFault) (P Q : Difference → Type 0) → ((d : Difference) → P d → Q d) → MayDiffer e P → MayDiffer e Q
-may-differ-more (fault.Differs d) P Q f p = f d p
-may-differ-more e P Q f p = p
-
 may-fail : (e : KeepFault) (P : Difference → Type 0) → IsFailure e → MayDiffer e P
 may-fail (fault.Differs d) P h = absurd h
 may-fail e P h = h

@@ -1,5 +1,5 @@
 -- What events do to the files of a site, and that these stay safe.
-use Rattle.std.specs.Prelude.{IsErr, IsErrAnd, MatchResult, OnOk, MatchBool}
+use Rattle.std.specs.Prelude.{IsErr, IsErrAnd, MatchResult, OnErr, OnOk, MatchBool}
 use Rattle.std.proofs.Common.{subst, sym, ◌≡◌, ◌∙◌, ◌≤◌, ◌+◌, ◌-◌, ◌++◌, ◌∷◌, [], ◌&&◌, ℕ, suc, true, false, List, Option, Some, None, IfSome, drop, eqb}
 use Rattle.std.proofs.Common.{get_or, length, take, refl, ap, arith, append_assoc, length-append, Bool, cond, map, Result, Ok, Err, take-append-drop, inl, inr}
 use lib.Pointwise.{pointwise}
@@ -13,6 +13,7 @@ use Rattle.std.specs.Io.KnownBytes.{Consumes, Appends, Keeps}
 use Rattle.rubis_engine.proofs.RunFacts.{take-more, more-bound}
 use Rattle.rubis_keep.specs.History.Event.{Flushed, Kept, Shown, Told}
 use Rattle.rubis_keep.specs.Lines.{AreSound}
+use Rattle.rubis_keep.specs.Telling.{answers-append, grows-more, grows-none, tells-more, told-append}
 use Rattle.rubis_keep.proofs.SoundFacts.{sound-front}
 
 -- what holds of the fault that was met holds of the one that is handed on
@@ -23,6 +24,10 @@ err-is P Q (Err x) e bad q = subst Q (sym bad) q
 pub ok-of-err : {T E : Type 0} (P : Type 0) (r : Result T E) → IsErr r → OnOk r P
 ok-of-err P (Ok x) e = absurd (cc e)
 ok-of-err P (Err x) e = tt
+
+pub err-weaker : {T E : Type 0} {P Q : Type 0} (r : Result T E) → (P → Q) → OnErr r P → OnErr r Q
+err-weaker (Ok x) f h = tt
+err-weaker (Err x) f h = f h
 
 -- ---- bytes that a writer took and a reader gave, one part after the other
 
@@ -38,10 +43,6 @@ consumes-more (Some x) (Some y) (Some z) xs ys f g = f ∙ ap (λ t. xs ++ t) g 
 
 pub some-is : {x y : List ℕ} → Some x ≡ Some y → x ≡ y
 some-is e = cc e
-
-pub none-right : (xs ys : List ℕ) → xs ++ ys ≡ [] → ys ≡ []
-none-right [] ys e = e
-none-right (x ∷ xs) ys e = absurd (cc e)
 
 -- ---- where texts differ
 
@@ -100,18 +101,6 @@ pub after-append : (s : FileState) (xs ys : List Event) → after_all s (xs ++ y
 after-append s [] ys = refl
 after-append s (e ∷ xs) ys = after-append (after s e) xs ys
 
-pub grows-none : (a : Option History) → Grows a a []
-grows-none None = tt
-grows-none (Some h) = ap (λ (es : List Event). record { start = h.start; events = es }) (sym (append-nil h.events))
-
-pub grows-more : (a b c : Option History) (xs ys : List Event) → Grows a b xs → Grows b c ys → Grows a c (xs ++ ys)
-grows-more None b c xs ys f g = tt
-grows-more (Some h) None c xs ys f g = absurd f
-grows-more (Some h) (Some h2) None xs ys f g = absurd g
-grows-more (Some h) (Some h2) (Some h3) xs ys f g =
-    g ∙ ap (λ (t : History). record { start = t.start; events = t.events ++ ys }) f
-    ∙ ap (λ (es : List Event). record { start = h.start; events = es }) (append_assoc h.events xs ys)
-
 pub now-more : (h : History) {h2 : History} (es : List Event) → h2 ≡ record { start = h.start; events = h.events ++ es } → now h2 ≡ after_all (now h) es
 now-more h es e = ap now e ∙ after-append h.start h.events es
 
@@ -134,18 +123,6 @@ only-tells live (Shown b ∷ es) due due2 s a =
     let r = only-tells live es a.0 due2 (after s (Shown b)) a.2 in
     record { kept = r.kept; flushed = r.flushed; cut = r.cut; begun = r.begun; out = r.out }
 only-tells live (e ∷ es) due due2 s a = absurd a
-
-pub answers-append : (live : Bool) (xs ys : List Event) (due mid due2 : List ℕ) → Answers live xs due mid → Answers live ys mid due2
-    → Answers live (xs ++ ys) due due2
-answers-append live [] ys due mid due2 a b = subst (λ d. Answers live ys d due2) a b
-answers-append live (Told c ∷ xs) ys due mid due2 a b = answers-append live xs ys (cond live (due ++ c ∷ []) due) mid due2 a b
-answers-append live (Shown c ∷ xs) ys due mid due2 a b = (a.0, a.1, answers-append live xs ys a.0 mid due2 a.2 b)
-answers-append live (e ∷ xs) ys due mid due2 a b = absurd a
-
-told-append : (xs ys : List Event) → told_of (xs ++ ys) ≡ told_of xs ++ told_of ys
-told-append [] ys = refl
-told-append (Told b ∷ xs) ys = ap (λ t. b ∷ t) (told-append xs ys)
-told-append (e ∷ xs) ys = told-append xs ys
 
 told-all : (text : List ℕ) → told_of (map (λ b. Told b) text) ≡ text
 told-all [] = refl
@@ -279,17 +256,6 @@ tells-out live None new t = tt
 tells-out live (Some h) None t = absurd t.1
 tells-out live (Some h) (Some h2) {due} t =
     ap (λ (s : FileState). s.out) (now-more h t.0 t.1) ∙ (only-tells live t.0 [] due (now h) t.2).out ∙ ap (λ x. (now h).out ++ x) t.3
-
-pub tells-more : (live : Bool) (a b c : Option History) {xs ys due : List ℕ} → Tells live a b xs [] → Tells live b c ys due → Tells live a c (xs ++ ys) due
-tells-more live a b c {xs} {due} f g = (
-  f.0 ++ g.0,
-  grows-more a b c f.0 g.0 f.1 g.1,
-  answers-append live f.0 g.0 [] [] due f.2 g.2,
-  told-append f.0 g.0 ∙ ap (λ t. t ++ told_of g.0) f.3 ∙ ap (λ t. xs ++ t) g.3,
-)
-
-pub tells-none : (live : Bool) (a : Option History) → Tells live a a [] []
-tells-none live a = ([], grows-none a, refl, refl)
 
 -- ---- what of them a run sees
 

@@ -7,6 +7,7 @@ pub mod LeftFacts
 pub mod CountFacts
 pub mod ShortenFacts
 pub mod AskFacts
+pub mod PutFacts
 pub mod FedFacts
 pub mod TurnFacts
 pub mod LifeFacts

@@ -10,7 +10,7 @@ use Rattle.rubis_engine.specs.Accounts.{Account, Ending}
 use Rattle.rubis_engine.specs.Accounts.Ending.{AtEnd, Cut}
 use Rattle.rubis_engine.specs.Text.{input_records}
 use Rattle.rubis_script.specs.SiteRuns.{site_account}
-use Rattle.rubis_keep.specs.Turns.{Answering, Fed, IsCause, IsIdle, IsOver, PutsFront, PutsOver, coming, Standing, left_of}
+use Rattle.rubis_keep.specs.Turns.{Answering, Fed, IsCause, IsIdle, IsOver, IsUnlike, PutsFront, PutsOver, coming, Standing, left_of}
 use Rattle.rubis_keep.specs.Faults.{HasMore, IsTrueFault, of_kept}
 use Rattle.rubis_keep.specs.History.{History, log_of, out_in, Ended, IsFrontOf, Lived}
 use Rattle.rubis_keep.specs.Lines.{AreSound, begun_after, is_marked, kept_after, kept_of, read_back, whole_after, whole_lines, IsWhole}
@@ -20,7 +20,8 @@ use Rattle.rubis_keep.specs.declared.fault.Difference.{Difference}
 use Rattle.rubis_keep.specs.declared.fault.KeepFault.{KeepFault}
 use Rattle.rubis_keep.specs.declared.fault.KeepFault.TheVariants as fault
 use Rattle.rubis_keep.proofs.DifferenceFacts.{more-left}
-use Rattle.rubis_keep.proofs.HistoryFacts.{consumes-none, none-right}
+use Rattle.rubis_keep.proofs.HistoryFacts.{consumes-none}
+use Rattle.rubis_keep.specs.Outlets.{none-right}
 use Rattle.rubis_keep.proofs.LineFacts.{begun-append, kept-append}
 use Rattle.rubis_keep.proofs.SoundFacts.{none-read, none-whole, records-append, kept-ends, kept-sound, sound-append, sound-back, sound-front, sound-kept}
 use Rattle.rubis_keep.proofs.SoundFacts.{whole-append-after, whole-ends, whole-rest, whole-sound, kept-whole, whole-append}
@@ -146,7 +147,7 @@ replayed {x} {y} {kept} {old} before fresh w idle end same none =
     record {
       found = (w.added, all_found ∙ sym (answered-text AtEnd h));
       told = w.text;
-      answered = record { text = h.text; place = h.place; state = h.state; count = h.count; whole = h.whole; idle = record { window = h.idle.window; empty = h.idle.empty } };
+      answered = record { text = h.text; place = h.place; state = h.state; count = h.count; whole = h.whole; idle = record { window = h.idle.window; empty = h.idle.empty; within = h.idle.within } };
       before_is = left_is ∙ ap (λ t. Some t) left;
       out_is = known old (out_in y.history) w.added (rw fresh.out at w.out) ∙ ap (λ t. Some t) all_found;
       length_is = omega (arith, w.length_is, fresh.len, size);
@@ -247,15 +248,10 @@ true-replay {x} {kept} {old} past2 history2 e fresh f = go e f.stopped.cause
     later : List (List (List ℕ))
     later = input_records (kept_after false (begun_after [] f.bytes) front.0)
 
-    unlike : (o : Option (List ℕ)) → o ≡ Some old
-        → IfSome o (λ old. (more : List (List (List ℕ))) → IsFrontOf old (coming x.at AtEnd (input_records f.chunk ++ more)) → ⊥)
+    unlike : IsUnlike (Some old) (coming x.at AtEnd (input_records f.chunk ++ later))
         → IsFrontOf old ((account_of x).text AtEnd (input_records (whole_lines kept))) → ⊥
-    unlike None is h = absurd (cc is)
-    unlike (Some known_old) is h = λ begins. h later (subst (λ o. IsFrontOf o (coming x.at AtEnd (input_records f.chunk ++ later))) (sym (same is))
-        (subst (IsFrontOf old) (ap ((account_of x).text AtEnd) front.1.records ∙ sym (fresh-text fresh AtEnd (input_records f.chunk ++ later))) begins))
-      where
-        same : Some known_old ≡ Some old → known_old ≡ old
-        same e = cc e
+    unlike h begins = h [] (subst (IsFrontOf old) (ap ((account_of x).text AtEnd) front.1.records
+        ∙ sym (fresh-text fresh AtEnd (input_records f.chunk ++ later)) ∙ sym (append-nil (coming x.at AtEnd (input_records f.chunk ++ later)))) begins)
 
     many : x.at.limit < x.at.answered + length (input_records f.chunk) → x.at.limit < length (input_records (whole_lines kept ++ []))
     many l =
@@ -265,7 +261,7 @@ true-replay {x} {kept} {old} past2 history2 e fresh f = go e f.stopped.cause
         omega (arith, l, fresh.answered, none, size, size2)
 
     go : (e : KeepFault) → IsCause (input_records f.chunk) x.at e → IsTrueFault x.at.limit (account_of x) kept old [] (of_kept e)
-    go (fault.Differs d) h = unlike x.at.before fresh.before h
+    go (fault.Differs d) h = unlike (rw fresh.before at h later)
     go fault.TooLong h = many h
     go (fault.Edited n) h = absurd h
     go e h = tt
@@ -451,13 +447,8 @@ pub true-live : {all : Account} {p : Place} {s : Replica} {kept told : List ℕ}
     → (f : Fell true z (left_of unread input2) history2 e) → IsTrueFault z.at.limit all kept old ((f.bytes ++ f.next) ++ unread) e
 true-live {all} {p} {s} {kept} {told} old {input} input2 unread history2 {z} e ready f = go e f.stopped.cause
   where
-    unlike : (o : Option (List ℕ)) → o ≡ Some []
-        → IfSome o (λ old. (more : List (List (List ℕ))) → IsFrontOf old (coming z.at AtEnd (input_records f.chunk ++ more)) → ⊥) → ⊥
-    unlike None is h = absurd (cc is)
-    unlike (Some left) is h = h [] (coming z.at AtEnd (input_records f.chunk ++ []), ap (λ t. t ++ coming z.at AtEnd (input_records f.chunk ++ [])) (same is))
-      where
-        same : Some left ≡ Some [] → left ≡ []
-        same e = cc e
+    unlike : (text : List ℕ) → IsUnlike (Some []) text → ⊥
+    unlike text h = h [] (text ++ [], refl)
 
     many : z.at.limit < z.at.answered + length (input_records f.chunk)
         → z.at.limit < length (input_records (whole_lines kept ++ kept_of ((f.bytes ++ f.next) ++ unread)))
@@ -476,7 +467,7 @@ true-live {all} {p} {s} {kept} {told} old {input} input2 unread history2 {z} e r
         omega (arith, l, ready.answered.count, records, first, size, size2)
 
     go : (e : KeepFault) → IsCause (input_records f.chunk) z.at e → IsTrueFault z.at.limit all kept old ((f.bytes ++ f.next) ++ unread) e
-    go (fault.Differs d) h = absurd (unlike z.at.before ready.before h)
+    go (fault.Differs d) h = absurd (unlike (coming z.at AtEnd (input_records f.chunk ++ [])) (rw ready.before at h []))
     go fault.TooLong h = many h
     go (fault.Edited n) h = absurd h
     go e h = tt

@@ -4,6 +4,7 @@ use Rattle.std.proofs.lemmas.List.{append-nil}
 use Rattle.std.specs.Io.KnownBytes.{Consumes}
 use Rattle.rubis_model.specs.Site.{Place, Replica}
 use Rattle.rubis_engine.specs.Accounts.{Account}
+use Rattle.rubis_keep.specs.Telling.{grows-more, grows-none}
 use Rattle.rubis_keep.specs.Turns.{Answering, Answered, Broke, IsAtRest, Standing, Turn, Turns, last, replied_to}
 use Rattle.rubis_keep.specs.Questions.{AreFirst, Reply, replied_in, reply_to, reply_rows, reply_text}
 use Rattle.rubis_keep.specs.Lines.{asked_by, Asked, asked_after, begun_after, kept_after, begun_bytes}
@@ -13,7 +14,7 @@ use Rattle.rubis_keep.specs.Lives.{HasAnswered}
 use Rattle.rubis_keep.specs.declared.fault.KeepFault.{KeepFault}
 use Rattle.rubis_keep.proofs.AskFacts.{IsSilent, front-silent, kept-silent, replied-append, silent-more, tells-silent}
 use Rattle.rubis_keep.proofs.SoundFacts.{asked-append}
-use Rattle.rubis_keep.proofs.HistoryFacts.{consumes-more, consumes-none, grows-more, grows-none}
+use Rattle.rubis_keep.proofs.HistoryFacts.{consumes-more, consumes-none}
 use Rattle.rubis_keep.proofs.LifeFacts.{answered-more}
 use Rattle.rubis_keep.proofs.LineFacts.{begun-append, kept-append}
 use Rattle.rubis_keep.proofs.TurnFacts.{reads-whole, turn-rests}

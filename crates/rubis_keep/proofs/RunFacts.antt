@@ -4,6 +4,7 @@ use Rattle.std.proofs.Common.{◌≤◌, map, ◌+◌, length, suc, take, zero, 
 use Rattle.std.specs.Prelude.{IfErr, MatchResult, OnOk, OnErr}
 use Rattle.std.specs.Io.KnownBytes.{IsAtEnd, Keeps, Consumes}
 use Rattle.rubis_model.specs.Site.{counts, Place, Replica}
+use Rattle.rubis_keep.specs.Telling.{grows-more, grows-none}
 use Rattle.rubis_keep.specs.Turns.{Answering, IsIdle, Breaks, Ends, IsAtRest, Standing, left_of, answering, last}
 use Rattle.rubis_keep.specs.Faults.{HasMore, MayDiffer, IsFailure, MayBeEdited, EndsTruly, IsTrueFault}
 use Rattle.rubis_keep.specs.History.{Grows, History, Event, FileState, IsShown, StaysSafe, Tells, after_all, kept_in, now, out_in, records_in, Ended, IsFrontOf}
@@ -14,8 +15,7 @@ use Rattle.rubis_keep.specs.Runs.{Begun, Fails, GoesOn, Replays, Runs, RunsInto,
 use Rattle.rubis_keep.specs.declared.fault.KeepFault.{KeepFault}
 use Rattle.rubis_keep.specs.declared.fault.KeepFault.TheVariants as fault
 use Rattle.rubis_keep.specs.declared.pages.Listed.{Listed}
-use Rattle.rubis_keep.proofs.HistoryFacts.{grows-more, grows-still, consumes-none, some-is, grows-none, now-more, stays-more, still-flushed, still-none}
-use Rattle.rubis_keep.proofs.HistoryFacts.{tells-log, tells-out}
+use Rattle.rubis_keep.proofs.HistoryFacts.{grows-still, consumes-none, some-is, now-more, stays-more, still-flushed, still-none, tells-log, tells-out}
 use Rattle.std.proofs.lemmas.List.{append-nil}
 use lib.Seq.{take-nil}
 use Rattle.rubis_engine.specs.Accounts.{Account}
@@ -77,7 +77,7 @@ begun-again y input mid history {unread} rests cut told none fresh = record {
   happened = grows-more y.history mid history (CutTo y.kept ∷ Flushed ∷ []) (Settled ∷ Began y.at.answered (counts y.at.place.sites y.at.state.log) ∷ []) cut told;
   is = λ i. record y { at = record y.at { is_live = true }; input = none-unread input none i; history = history; begun = fresh i };
   rests = record {
-    idle = record { window = rests.idle.window; empty = rests.idle.empty };
+    idle = record { window = rests.idle.window; empty = rests.idle.empty; within = rests.idle.within };
     begun = ([], tt, fresh);
     listed = rests.listed;
   };
@@ -220,7 +220,7 @@ ready {x} {y} {z} {kept} {old} {input} a b =
         state = r.answered.state;
         count = r.answered.count;
         whole = r.answered.whole;
-        idle = record { window = r.answered.idle.window; empty = r.answered.idle.empty };
+        idle = record { window = r.answered.idle.window; empty = r.answered.idle.empty; within = r.answered.idle.within };
       };
       before = r.before_is;
       input_is = refl;
@@ -576,12 +576,12 @@ new-site place state limit live before = record {
 }
 
 -- a clerk with nothing done
-pub new-clerk : {O F G : Type 0} (before : O → Option (List ℕ)) (c : Clerk G) (a : Answers O F) → (c.desk.window.items ≡ []) × (c.reply.sink ≡ []) × (c.answered ≡ 0)
+pub new-clerk : {O F G : Type 0} (before : O → Option (List ℕ)) (c : Clerk G) (a : Answers O F) → (c.desk.window.items ≡ []) × (c.served.reply.sink ≡ []) × (c.served.answered ≡ 0)
     → IsNew (answering before c a)
-new-clerk before c a fresh = record { idle = record { window = fresh.0; empty = fresh.1 }; none = fresh.2 }
+new-clerk before c a (window, empty, none) = record { idle = record { window = window; empty = empty; within = omega (arith, none) }; none = none }
 
 pub is-new : (place : Place) (state : Replica) (limit : ℕ) (live : Bool) (before : Option (List ℕ)) → IsNew (new-site place state limit live before)
-is-new place state limit live before = record { idle = record { window = refl; empty = refl }; none = refl }
+is-new place state limit live before = record { idle = record { window = refl; empty = refl; within = omega arith }; none = refl }
 
 pub runs-lived : {T : Type 0} (r : Result T KeepFault) (first past input input2 : Option (List ℕ)) {a : Answering} (h new : Option History)
     → IsNew a → Runs first past a input input2 h new r → OnOk r ((kept old : List ℕ) → Opens kept old first past (kept_in h) a.before (out_in h)

@@ -165,7 +165,7 @@ begin-rests {kept = kept} a =
     let h = a.answered in
     let cut = cut-lines a in
     record {
-      answered = rw cut (record { text = h.text; place = h.place; state = h.state; count = h.count; whole = h.whole; idle = record { window = h.idle.window; empty = h.idle.empty } });
+      answered = rw cut (record { text = h.text; place = h.place; state = h.state; count = h.count; whole = h.whole; idle = record { window = h.idle.window; empty = h.idle.empty; within = h.idle.within } });
       found = a.before;
       live = refl;
       sound = rw cut (whole-sound kept a.sound);

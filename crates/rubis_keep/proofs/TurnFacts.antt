@@ -7,6 +7,7 @@ use Rattle.rubis_replica.specs.State.{after_all}
 use Rattle.csv.proofs.WriteFacts.{appends-more, appends-none}
 use Rattle.rubis_engine.specs.Text.{input_records}
 use Rattle.rubis_engine.proofs.RunFacts.{front-kept as appends-kept}
+use Rattle.rubis_keep.specs.Telling.{grows-none, tells-more, tells-none}
 use Rattle.rubis_keep.specs.Turns.{Answering, Fed, IsIdle, Stopped, answering, Answered, Breaks, Broke, Ends, IsAtRest, IsBegun, Reads, Standing, Torn, Turn}
 use Rattle.rubis_keep.specs.Turns.{Turns, Unanswered, Unreplied, last, replied_to}
 use Rattle.rubis_keep.specs.Questions.{IsUnmoved, AreListed}
@@ -19,8 +20,8 @@ use Rattle.rubis_keep.specs.declared.answers.Answers.{Answers}
 use Rattle.rubis_keep.specs.declared.fault.KeepFault.{KeepFault}
 use Rattle.rubis_keep.specs.declared.site.Clerk.{Clerk}
 use Rattle.rubis_keep.proofs.FedFacts.{HasFed, HasStopped, fed-more, fed-none, stopped-failed, stopped-later}
-use Rattle.rubis_keep.proofs.HistoryFacts.{consumes-more, consumes-none, IsStill, front-log, front-out, grows-none, kept-log, kept-out, still-by, still-none}
-use Rattle.rubis_keep.proofs.HistoryFacts.{tells-log, tells-more, tells-none, tells-out}
+use Rattle.rubis_keep.proofs.HistoryFacts.{consumes-more, consumes-none, IsStill, front-log, front-out, kept-log, kept-out, still-by, still-none, tells-log}
+use Rattle.rubis_keep.proofs.HistoryFacts.{tells-out}
 use Rattle.rubis_keep.proofs.LineFacts.{begun-append, kept-append}
 use Rattle.rubis_keep.proofs.PageFacts.{listed-after}
 use Rattle.rubis_keep.proofs.SoundFacts.{none-read, none-whole, records-append, begun-no-end, kept-whole, whole-append}

@@ -6,5 +6,7 @@ pub mod Setups
 pub mod Questions
 pub mod Saying
 pub mod Turns
+pub mod Telling
+pub mod Outlets
 pub mod Lives
 pub mod Runs

@@ -234,8 +234,8 @@ RepliesIf asked old new r question text = MatchResult r (λ _. Grows old new (co
 pub record IsUnmoved {G : Type 0} (old new : Clerk G) : Type 0 where
   pub place : new.desk.site.place ≡ old.desk.site.place
   pub state : new.desk.site.state ≡ old.desk.site.state
-  pub answered : new.answered ≡ old.answered
+  pub answered : new.served.answered ≡ old.served.answered
   pub window : new.desk.window.items ≡ old.desk.window.items
   pub first : new.desk.first ≡ old.desk.first
-  pub sink : new.reply.sink ≡ old.reply.sink
+  pub sink : new.served.reply.sink ≡ old.served.reply.sink
   pub limit : new.limit ≡ old.limit

@@ -1,16 +1,19 @@
 -- How far a run over an input has come: it goes on by turns, each of which reads bytes, keeps and answers the lines that end in them.
-use Rattle.std.specs.Prelude.{◌≡◌, ◌≤◌, ◌<◌, ◌+◌, ◌++◌, ◌⊎◌, [], ℕ, Bool, IfSome, List, MatchResult, Option, Result, Some, length, ◌≢◌, ◌∷◌, MatchBool, ⊤, cond}
-use Rattle.std.specs.Prelude.{map, take, true}
+use Rattle.std.specs.Prelude.{◌≡◌, ◌≤◌, ◌<◌, ◌+◌, ◌++◌, ◌⊎◌, [], ℕ, Bool, IfSome, List, MatchResult, Option, Result, None, Some, length, ◌≢◌, ◌∷◌, MatchBool, ⊤}
+use Rattle.std.specs.Prelude.{cond, map, take, true}
 use Rattle.rubis_message.specs.Message.{Message}
-use Rattle.rubis_message.specs.declared.inputs.Input.{Input}
 use Rattle.rubis_model.specs.Site.{answers, Place, Replica}
 use Rattle.rubis_replica.specs.State.{after_all}
 use Rattle.rubis_engine.specs.Accounts.{Ending}
 use Rattle.rubis_engine.specs.Accounts.Ending.{AtEnd}
+use Rattle.rubis_engine.specs.declared.fault.RunFault.{RunFault}
+use Rattle.rubis_engine.specs.declared.fault.RunFault.TheVariants as run
 use Rattle.rubis_engine.specs.Text.{rows_text, input_records}
-use Rattle.rubis_reading.specs.Readings.{AreInputs}
 use Rattle.rubis_script.specs.Windows.{window_rows}
-use Rattle.rubis_keep.specs.Faults.{IsFailure}
+use Rattle.rubis_script.specs.Desks.{LeadsSite, left_at}
+use Rattle.rubis_script.specs.declared.desk.Desk.{Desk}
+use Rattle.rubis_serving.specs.Serving.{Serving, serving}
+use Rattle.rubis_keep.specs.Faults.{MayDiffer, IsFailure}
 use Rattle.rubis_keep.specs.History.{History, Tells, IsFrontOf, Grows, KeepsLines}
 use Rattle.rubis_keep.specs.Shortened.{state_after}
 use Rattle.rubis_keep.specs.declared.answers.Answers.{Answers}
@@ -43,9 +46,9 @@ answering before clerk answers = record {
   state = clerk.desk.site.state;
   held = clerk.desk.window.items;
   first = clerk.desk.first;
-  answered = clerk.answered;
+  answered = clerk.served.answered;
   limit = clerk.limit;
-  sink = clerk.reply.sink;
+  sink = clerk.served.reply.sink;
   is_live = answers.is_live;
   before = before answers.before;
 }
@@ -55,10 +58,11 @@ abbrev pub coming : Answering → Ending → List (List (List ℕ)) → List ℕ
 coming a ending records =
     a.sink ++ rows_text (window_rows a.place a.state a.first a.held ++ answers a.place (after_all a.place a.state a.held) (a.answered + 1) records)
 
--- nothing is held, and nothing waits to be put
+-- nothing is held, and nothing waits to be put; no more are answered than the limit
 pub record IsIdle (a : Answering) : Type 0 where
   pub window : a.held ≡ []
   pub empty : a.sink ≡ []
+  pub within : a.answered ≤ a.limit
 
 -- ---- a text that is put over answers of before
 
@@ -78,6 +82,42 @@ abbrev pub Puts : {T : Type 0} → Bool → Option (List ℕ) → Option (List �
 Puts live before before2 old new text r = MatchResult r (λ _. (added : List ℕ) × PutsOver before before2 added text × Tells live old new added [])
     (λ _. (added : List ℕ) × PutsFront before added text × ((due : List ℕ) × Tells live old new added due))
 
+-- whatever comes behind this text, what stood there isn't the beginning of it
+abbrev pub IsUnlike : Option (List ℕ) → List ℕ → Type 0
+IsUnlike before text = IfSome before (λ old. (rest : List ℕ) → IsFrontOf old (text ++ rest) → ⊥)
+
+-- ---- the answers of a site as an outlet
+
+-- a text was put
+pub record HasPut {O F : Type 0} (before : O → Option (List ℕ)) (history : F → Option History) (text : List ℕ) (a b : Answers O F) : Type 0 where
+  pub added : List ℕ
+  pub over : PutsOver (before a.before) (before b.before) added text
+  pub told : Tells a.is_live (history a.files) (history b.files) added []
+  pub live : b.is_live ≡ a.is_live
+  pub fault : b.fault ≡ a.fault
+
+-- some of it was, or none; where it was noted that what stood there differs, it did
+pub record HasTorn {O F : Type 0} (before : O → Option (List ℕ)) (history : F → Option History) (text : List ℕ) (a b : Answers O F) : Type 0 where
+  pub added : List ℕ
+  pub front : PutsFront (before a.before) added text
+  pub due : List ℕ
+  pub told : Tells a.is_live (history a.files) (history b.files) added due
+  pub noted : (b.fault ≡ a.fault) ⊎ ((e : KeepFault) × (b.fault ≡ Some e) × MayDiffer e (λ d. IsUnlike (before a.before) text))
+
+-- a run of a site that is kept
+abbrev pub keeping : {T O F : Type 0} → (O → Option (List ℕ)) → (F → Option History) → Serving (Desk T) (Answers O F)
+keeping before history = serving left_at LeadsSite (HasPut before history) (HasTorn before history)
+
+-- the fault that was noted, if one was: otherwise memory ran out
+abbrev pub fault_of : Option KeepFault → KeepFault
+fault_of (Some e) = e
+fault_of None = fault.Memory
+
+-- why a run ended so
+abbrev pub met : RunFault → Option KeepFault → KeepFault
+met run.TooLong noted = fault.TooLong
+met other noted = fault_of noted
+
 -- ---- records that are answered
 
 -- these records were answered, this text was put, of which `added` is new, and they led the site on
@@ -94,8 +134,7 @@ pub record Fed (rows : List (List (List ℕ))) (x y : Answering) (text added : L
 -- what is so if this fault comes before these records are answered: what stands there of before is no beginning of the answers to them,
 -- whatever follows; or they are more than are answered
 abbrev pub IsCause : List (List (List ℕ)) → Answering → KeepFault → Type 0
-IsCause rows x (fault.Differs d) =
-    IfSome x.before (λ old. (more : List (List (List ℕ))) → IsFrontOf old (coming x AtEnd (rows ++ more)) → ⊥)
+IsCause rows x (fault.Differs d) = (more : List (List (List ℕ))) → IsUnlike x.before (coming x AtEnd (rows ++ more))
 IsCause rows x fault.TooLong = x.limit < x.answered + length rows
 IsCause rows x other = IsFailure other
 
@@ -108,10 +147,6 @@ pub record Stopped (rows : List (List (List ℕ))) (x : Answering) (added : List
 abbrev pub Feeds : {T : Type 0} → List (List (List ℕ)) → Answering → Answering → Option History → Option History → Result T KeepFault → Type 0
 Feeds rows x y old new r = MatchResult r (λ _. (text added : List ℕ) × Fed rows x y text added × Tells x.is_live old new added [])
     (λ e. (added : List ℕ) × Stopped rows x added e × ((due : List ℕ) × Tells x.is_live old new added due))
-
--- so it is with records that are these inputs
-abbrev pub FeedsInputs : {T : Type 0} → List Input → Answering → Answering → Option History → Option History → Result T KeepFault → Type 0
-FeedsInputs ps x y old new r = (rows : List (List (List ℕ))) → AreInputs x.place.sites rows ps → Feeds rows x y old new r
 
 -- ---- how far a run over an input has come: it goes on by turns, each of which reads bytes, keeps and answers the lines that end in them, and answers a
 -- question if they end with one

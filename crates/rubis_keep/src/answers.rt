@@ -1,19 +1,19 @@
 //! Answers on their way to where those of before stand.
 
-ghost use Rattle.std.specs.Prelude.{◌≡◌, ◌≤◌, [], IfErr, IfOk, IfSome, MatchResult, OnOk, false, length, take};
+ghost use Rattle.std.specs.Prelude.{◌≡◌, ◌≤◌, [], IfErr, IfOk, IfSome, MatchResult, OnErr, OnOk, false, length, take};
 ghost use Rattle.std.specs.Io.KnownBytes.{IsAtEnd, Keeps};
-ghost use Rattle.rubis_keep.specs.Turns.{Puts};
+ghost use Rattle.rubis_keep.specs.Turns.{HasPut, HasTorn, Puts, fault_of, met};
 ghost use Rattle.rubis_keep.specs.Faults.{HasDifference, HasMore, MayDiffer, IsFailure};
 ghost use Rattle.rubis_keep.specs.History.{Tells, TellsFront};
 
 use crate::comparing::{compare, differ, ends_in};
 use crate::fault::KeepFault;
 use crate::site_files::SiteFiles;
-use rubis_engine::{Sink, read_through_signals};
+use rubis_engine::{Course, InputRecord, Reply, RunFault, Service, Sink, read_through_signals};
+use rubis_serving::Outlet;
 use std::alloc::Global;
 use std::io;
 use std::io::{ErrorKind, Read};
-use std::sync::Wait;
 
 /// Where answers go: those of before, with which they are compared as far as these go, and the files that they are appended to.
 #[derive(Drop)]
@@ -25,6 +25,8 @@ pub struct Answers<O, F> {
     text: Vec<u8>,
     // How many lines of those of before were found.
     lines: u64,
+    // Why a text couldn't be put.
+    pub(crate) fault: Option<KeepFault>,
     alloc: Global,
 }
 
@@ -41,6 +43,7 @@ impl<O, F> Answers<O, F> {
             is_live: false,
             text: Vec::new(alloc),
             lines: 0,
+            fault: None,
             alloc,
         }
     }
@@ -76,30 +79,24 @@ fn tell_once<F: SiteFiles>(files: &mut F, is_live: bool, text: &[u8]) -> Result<
     Ok(taken)
 }
 
-// Appends a text to `out`, and shows it if answers are shown. What a signal interrupted is written again, however often that happens.
-fn tell_all<T: Wait, F: SiteFiles>(
-    rt: &T,
-    files: &mut F,
-    is_live: bool,
-    text: &[u8],
-) -> Result<(), KeepFault>
+// Appends a text to `out`, and shows it if answers are shown. What a signal interrupted is written again, as often as can be counted.
+fn tell_all<F: SiteFiles>(files: &mut F, is_live: bool, text: &[u8]) -> Result<(), KeepFault>
     ensures told { MatchResult result (λ _. Tells is_live (F.history files.old) (F.history files.new) text.now [])
         (λ _. TellsFront is_live (F.history files.old) (F.history files.new) text.now) }
     ensures fault { IfErr result IsFailure }
 {
     let mut at = 0;
-    for _turn in rt.forever() {
+    for _turn in 0..u64::MAX {
         if at >= text.len() {
             return Ok(());
         }
         at += tell_once(files, is_live, &text[at..])?;
     }
-    unreachable!()
+    Err(KeepFault::WriteOut(io::Error::from(ErrorKind::Interrupted)))
 }
 
 // Finds a text in what stands there before, as far as that goes, and appends the rest. That many whole lines come before the text.
-fn put<T: Wait, O: Read, F: SiteFiles>(
-    rt: &T,
+fn put<O: Read, F: SiteFiles>(
     alloc: Global,
     before: &mut O,
     files: &mut F,
@@ -114,17 +111,15 @@ fn put<T: Wait, O: Read, F: SiteFiles>(
     if found > 0 {
         *lines = lines.saturating_add(ends_in(&text[..found]));
     }
-    tell_all(rt, files, is_live, &text[found..])
+    tell_all(files, is_live, &text[found..])
 }
 
 impl<O: Read, F: SiteFiles> Answers<O, F> {
-    /// Puts the text of a sink, which is empty then.
-    pub(crate) fn put_sink<T: Wait>(&mut self, rt: &T, sink: &mut Sink) -> Result<(), KeepFault>
-        ensures put { Puts self.old.is_live (O.remaining self.old.before) (O.remaining self.new.before) (F.history self.old.files) (F.history self.new.files)
-            sink.old result }
-        ensures sink { sink.new ≡ [] }
-        ensures live { self.new.is_live ≡ self.old.is_live }
-        ensures differs { IfErr result (λ e. MayDiffer e (λ d. IfSome (O.remaining self.old.before) (λ old. HasDifference old sink.old self.old.lines d))) }
+    // Puts the text at hand. Why that failed is noted.
+    fn put_text(&mut self) -> Result<(), RunFault>
+        ensures ok { OnOk result (HasPut O.remaining F.history self.old.text.items self.old self.new) }
+        ensures err { OnErr result (HasTorn O.remaining F.history self.old.text.items self.old self.new) }
+        ensures faults { IfErr result (λ e. e ≡ RunFault.Write) }
     {
         let Answers {
             before,
@@ -132,12 +127,37 @@ impl<O: Read, F: SiteFiles> Answers<O, F> {
             is_live,
             text,
             lines,
+            fault,
             alloc,
         } = self;
-        text.clear();
-        match sink.drain(text) {
-            Ok(()) => put(rt, *alloc, before, files, *is_live, text, lines),
-            Err(_) => Err(KeepFault::Memory),
+        match put(*alloc, before, files, *is_live, text, lines) {
+            Ok(()) => Ok(()),
+            Err(e) => {
+                *fault = Some(e);
+                Err(RunFault::Write)
+            }
+        }
+    }
+
+    // Why a text couldn't be put, or given: without a fault that was noted, memory ran out.
+    fn take_fault(&mut self) -> KeepFault
+        ensures fault { result ≡ fault_of self.old.fault }
+        ensures files { self.new.files ≡ self.old.files }
+    {
+        match self.fault.take() {
+            Some(fault) => fault,
+            None => KeepFault::Memory,
+        }
+    }
+
+    /// Why a run of the site ended so.
+    pub(crate) fn why(&mut self, fault: RunFault) -> KeepFault
+        ensures fault { result ≡ met fault self.old.fault }
+        ensures files { self.new.files ≡ self.old.files }
+    {
+        match fault {
+            RunFault::TooLong => KeepFault::TooLong,
+            RunFault::Read | RunFault::Memory | RunFault::Write => self.take_fault(),
         }
     }
 
@@ -155,4 +175,45 @@ impl<O: Read, F: SiteFiles> Answers<O, F> {
             Err(e) => Err(KeepFault::ReadOut(e)),
         }
     }
+}
+
+impl<O: Read, F: SiteFiles> Outlet for Answers<O, F> {
+    ghost use Rattle.rubis_keep.specs.Turns.{HasPut, HasTorn};
+    ghost use Rattle.rubis_keep.specs.Outlets.{are_outlets};
+
+    ghost puts = { HasPut O.remaining F.history };
+
+    ghost tears = { HasTorn O.remaining F.history };
+
+    #[inline(always)]
+    fn answer<S: Service>(
+        &mut self,
+        service: &mut S,
+        fields: &InputRecord,
+        reply: &mut Reply,
+    ) -> Result<Course, RunFault> {
+        self.text.clear();
+        let course = service.answer(fields, reply, &mut self.text)?;
+        if self.text.is_empty() {
+            return Ok(course);
+        }
+        self.put_text()?;
+        Ok(course)
+    }
+
+    #[inline(always)]
+    fn put_full(&mut self, sink: &mut Sink) -> Result<(), RunFault> {
+        if sink.is_full() {
+            return self.put_all(sink);
+        }
+        Ok(())
+    }
+
+    fn put_all(&mut self, sink: &mut Sink) -> Result<(), RunFault> {
+        self.text.clear();
+        sink.drain(&mut self.text)?;
+        self.put_text()
+    }
+
+    ghost laws = { are_outlets O.remaining F.history };
 }

@@ -319,7 +319,7 @@ pub(crate) fn turn_page<T: Threads + Wait + Sync>(
     ensures rows { IfOk result (λ sink. sink ≡ rows_text (page_rows page.now (rows_in clerk.old.desk.site.state page.now.listing))) }
 {
     let rows = take_rows(rt, clerk, listed.take(), &page.listing)?;
-    let sink = show_page(clerk.alloc, rows.as_slice(), page)?;
+    let sink = show_page(clerk.served.alloc, rows.as_slice(), page)?;
     if rows.len() <= HELD_MAX {
         *listed = Some(Listed {
             listing: page.listing,

@@ -37,7 +37,7 @@ fn next_lines<T: Threads + Wait + Sync, R: Read, O: Read, F: SiteFiles>(
         return Err(KeepFault::Memory);
     };
     let_go(&mut lines.listed, &lines.chunk);
-    feed_chunk(rt, &lines.chunk, clerk, answers)?;
+    feed_chunk(&lines.chunk, clerk, answers)?;
     lines.kept = len;
     Ok(came)
 }

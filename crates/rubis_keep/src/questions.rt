@@ -157,12 +157,12 @@ fn own_count<T>(clerk: &Clerk<'_, T>) -> u32
 
 // How far a site has come.
 fn state_of<T>(clerk: &Clerk<'_, T>) -> Result<Fields, AllocError>
-    ensures { IfOk result (λ fields. fields ≡ state_row clerk.now.desk.site.place clerk.now.desk.site.state clerk.now.answered) }
+    ensures { IfOk result (λ fields. fields ≡ state_row clerk.now.desk.site.place clerk.now.desk.site.state clerk.now.served.answered) }
 {
     let intake = clerk.desk.site.intake();
-    let mut fields = Fields::new(clerk.alloc);
+    let mut fields = Fields::new(clerk.served.alloc);
     fields.push_plain(b"state")?;
-    fields.push_number(clerk.answered)?;
+    fields.push_number(clerk.served.answered)?;
     fields.push_number(u64::from(own_count(clerk)))?;
     push_counts(&mut fields, intake.clock().deps().as_slice())?;
     match intake.token() {
@@ -176,10 +176,10 @@ fn state_of<T>(clerk: &Clerk<'_, T>) -> Result<Fields, AllocError>
 
 // Shows how far a site has come.
 fn show_state<T>(clerk: &Clerk<'_, T>) -> Result<Sink, AllocError>
-    ensures { IfOk result (λ sink. sink ≡ rows_text (state_row clerk.now.desk.site.place clerk.now.desk.site.state clerk.now.answered ∷ [])) }
+    ensures { IfOk result (λ sink. sink ≡ rows_text (state_row clerk.now.desk.site.place clerk.now.desk.site.state clerk.now.served.answered ∷ [])) }
 {
     let fields = state_of(clerk)?;
-    row(clerk.alloc, &fields)
+    row(clerk.served.alloc, &fields)
 }
 
 // Shows the rows of a listing.
@@ -189,13 +189,13 @@ fn show_listing<T: Threads + Wait + Sync>(
     listing: &Listing,
 ) -> Result<Sink, KeepFault>
     ensures same { IsUnmoved clerk.old clerk.new }
-    ensures rows { IfOk result (λ sink. sink ≡ rows_text (shown_to clerk.old.desk.site.place clerk.old.desk.site.state clerk.old.answered
+    ensures rows { IfOk result (λ sink. sink ≡ rows_text (shown_to clerk.old.desk.site.place clerk.old.desk.site.state clerk.old.served.answered
         (Some (Question.List listing.now)))) }
 {
-    let mut rows = Counted::new(Sink::new(clerk.alloc));
+    let mut rows = Counted::new(Sink::new(clerk.served.alloc));
     let desk = &mut clerk.desk;
     match desk.site.list_into(rt, listing, &mut rows) {
-        Ok(()) => Ok(show_counted(clerk.alloc, rows)?),
+        Ok(()) => Ok(show_counted(clerk.served.alloc, rows)?),
         Err(_) => Err(KeepFault::Memory),
     }
 }
@@ -220,7 +220,7 @@ fn show_row<T>(clerk: &Clerk<'_, T>, key: &RowKey) -> Result<Sink, AllocError>
     requires { clerk.now.desk.site.progress ≡ resting_at (length clerk.now.desk.site.state.log) }
     ensures { IfOk result (λ sink. sink ≡ rows_text (or_none (row_shown key.now (rows_at clerk.now.desk.site.state.log key.now)))) }
 {
-    let mut fields = Fields::new(clerk.alloc);
+    let mut fields = Fields::new(clerk.served.alloc);
     let has = match clerk.desk.site.row(key) {
         Some(found) => put_shown(&mut fields, key, found)?,
         None => false,
@@ -229,7 +229,7 @@ fn show_row<T>(clerk: &Clerk<'_, T>, key: &RowKey) -> Result<Sink, AllocError>
         fields.clear();
         fields.push_plain(b"none")?;
     }
-    row(clerk.alloc, &fields)
+    row(clerk.served.alloc, &fields)
 }
 
 // Applies all that is pending, and shows the row at a key.
@@ -239,7 +239,7 @@ fn look_up<T: Threads + Wait + Sync>(
     key: &RowKey,
 ) -> Result<Sink, KeepFault>
     ensures same { IsUnmoved clerk.old clerk.new }
-    ensures rows { IfOk result (λ sink. sink ≡ rows_text (shown_to clerk.old.desk.site.place clerk.old.desk.site.state clerk.old.answered
+    ensures rows { IfOk result (λ sink. sink ≡ rows_text (shown_to clerk.old.desk.site.place clerk.old.desk.site.state clerk.old.served.answered
         (Some (Question.Row key.now)))) }
 {
     let desk = &mut clerk.desk;
@@ -260,20 +260,20 @@ pub(crate) fn answer<T: Threads + Wait + Sync>(
     requires listed { AreListed clerk.old.desk.site.state listed.old }
     ensures same { IsUnmoved clerk.old clerk.new }
     ensures listed { AreListed clerk.old.desk.site.state listed.new }
-    ensures rows { IfOk result (λ sink. sink ≡ rows_text (reply_rows clerk.old.desk.site.place clerk.old.desk.site.state clerk.old.answered line.now)) }
+    ensures rows { IfOk result (λ sink. sink ≡ rows_text (reply_rows clerk.old.desk.site.place clerk.old.desk.site.state clerk.old.served.answered line.now)) }
 {
     if line.len() > LINE_MAX {
-        return Ok(refuse(clerk.alloc, b"TooLong")?);
+        return Ok(refuse(clerk.served.alloc, b"TooLong")?);
     }
     let rest = behind_first(line);
     if !closes(rest) {
-        return Ok(refuse(clerk.alloc, b"OpenQuote")?);
+        return Ok(refuse(clerk.served.alloc, b"OpenQuote")?);
     }
-    match read_line(clerk.alloc, rest, clerk.desk.sites())? {
+    match read_line(clerk.served.alloc, rest, clerk.desk.sites())? {
         Some(Question::List(listing)) => show_listing(rt, clerk, &listing),
         Some(Question::Page(page)) => turn_page(rt, clerk, listed, &page),
         Some(Question::Row(key)) => look_up(rt, clerk, &key),
         Some(Question::State) => Ok(show_state(clerk)?),
-        None => Ok(refuse(clerk.alloc, b"BadQuestion")?),
+        None => Ok(refuse(clerk.served.alloc, b"BadQuestion")?),
     }
 }

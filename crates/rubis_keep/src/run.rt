@@ -62,16 +62,16 @@ fn replay<T: Threads + Wait + Sync, P: Read, O: Read, F: SiteFiles>(
 // Says that all that was kept is answered.
 fn tell_replayed<T, F: SiteFiles>(clerk: &Clerk<'_, T>, files: &mut F) -> Result<(), KeepFault>
     ensures ok { OnOk result (Grows (F.history files.old) (F.history files.new)
-        (Settled ∷ Began clerk.now.answered (map (λ i. counted i clerk.now.desk.site.state.log) (range_with_len 0 clerk.now.desk.site.place.sites)) ∷ [])) }
+        (Settled ∷ Began clerk.now.served.answered (map (λ i. counted i clerk.now.desk.site.state.log) (range_with_len 0 clerk.now.desk.site.place.sites)) ∷ [])) }
     ensures err { OnErr result (Grows (F.history files.old) (F.history files.new) [] ⊎ Grows (F.history files.old) (F.history files.new) (Settled ∷ [])) }
     ensures fault { IfErr result IsFailure }
 {
     let site = &clerk.desk.site;
-    let counts = counts_of(clerk.alloc, site.history(), clerk.desk.sites())?;
+    let counts = counts_of(clerk.served.alloc, site.history(), clerk.desk.sites())?;
     if let Err(e) = files.settle() {
         return Err(KeepFault::WriteOut(e));
     }
-    match files.begin(clerk.answered, &counts) {
+    match files.begin(clerk.served.answered, &counts) {
         Ok(()) => Ok(()),
         Err(e) => Err(KeepFault::Show(e)),
     }
@@ -115,7 +115,7 @@ fn go_on<T: Threads + Wait + Sync, O: Read, F: SiteFiles, R: Read>(
         (R.remaining live.new) (F.history answers.new.files)) }
 {
     cut_and_flush(&mut answers.files, lines.kept)?;
-    lines.cutter = LineCutter::new(clerk.alloc);
+    lines.cutter = LineCutter::new(clerk.served.alloc);
     lines.unread.restart(PIECE);
     tell_replayed(clerk, &mut answers.files)?;
     answers.is_live = true;
@@ -136,7 +136,7 @@ fn run_lines<T: Threads + Wait + Sync, C: Read, P: Read, O: Read, F: SiteFiles, 
     ensures { Runs (C.remaining recording.old.first) (P.remaining recording.old.past) (answering O.remaining clerk.old answers.old)
         (R.remaining live.old) (R.remaining live.new) (F.history answers.old.files) (F.history answers.new.files) result }
 {
-    check_kept(rt, clerk.alloc, &mut recording.first)?;
+    check_kept(rt, clerk.served.alloc, &mut recording.first)?;
     flush(&mut answers.files)?;
     replay(rt, &mut recording.past, lines, clerk, answers)?;
     go_on(rt, live, lines, clerk, answers)
@@ -156,7 +156,7 @@ pub(crate) fn run_kept<T: Threads + Wait + Sync, C: Read, P: Read, O: Read, F: S
     ensures { Runs (C.remaining recording.old.first) (P.remaining recording.old.past) (answering O.remaining clerk.old answers.old)
         (R.remaining live.old) (R.remaining live.new) (F.history answers.old.files) (F.history answers.new.files) result }
 {
-    let unread = Unread::new(clerk.alloc, PIECE)?;
-    let mut lines = KeptLines::new(clerk.alloc, unread);
+    let unread = Unread::new(clerk.served.alloc, PIECE)?;
+    let mut lines = KeptLines::new(clerk.served.alloc, unread);
     run_lines(rt, recording, live, &mut lines, clerk, answers)
 }

@@ -15,22 +15,20 @@ use crate::answers::Answers;
 use crate::fault::KeepFault;
 use crate::run::{Recording, run_kept};
 use crate::site_files::SiteFiles;
-use rubis_engine::Reply;
 use rubis_script::{Config, Desk, SiteGate};
+use rubis_serving::Served;
 use std::alloc::{AllocError, Global};
 use std::io::Read;
 use std::mem;
 use std::sync::Wait;
 use std::thread::Threads;
 
-/// A site at its desk, what it answers a record with, how many records were answered or are held, and how many it answers.
+/// A site at its desk, what waits of its answers, with how many records were answered or are held, and how many it answers.
 #[derive(Drop)]
 pub struct Clerk<'a, T> {
     pub desk: Desk<'a, T>,
-    pub reply: Reply,
-    pub answered: u64,
+    pub served: Served,
     pub(crate) limit: u64,
-    pub(crate) alloc: Global,
 }
 
 impl<'a, T> Clerk<'a, T> {
@@ -42,15 +40,13 @@ impl<'a, T> Clerk<'a, T> {
         limit: u64,
     ) -> Result<Clerk<'a, T>, AllocError>
         ensures site { IfOk result (λ clerk. (clerk.desk.site.place ≡ setup_place config.now) × (clerk.desk.site.state ≡ opening_at config.now.site)) }
-        ensures fresh { IfOk result (λ clerk. (clerk.desk.window.items ≡ []) × (clerk.reply.sink ≡ []) × (clerk.answered ≡ 0)) }
+        ensures fresh { IfOk result (λ clerk. (clerk.desk.window.items ≡ []) × (clerk.served.reply.sink ≡ []) × (clerk.served.answered ≡ 0)) }
         ensures limit { IfOk result (λ clerk. clerk.limit ≡ limit) }
     {
         Ok(Clerk {
             desk: Desk::new(rt, alloc, config, SiteGate::free())?,
-            reply: Reply::new(alloc),
-            answered: 0,
+            served: Served::new(alloc),
             limit,
-            alloc,
         })
     }
 }

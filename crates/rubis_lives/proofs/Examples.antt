@@ -24,7 +24,8 @@ use Rattle.rubis_laws.proofs.Processes.AreARun.{is_itself, is_other}
 use Rattle.rubis_laws.proofs.Examples.ProcessExamples.{ann_answers, ann_is_answered, ann_is_asked, ann_is_sent, no_packet_asked, not_some}
 use Rattle.rubis_keep.specs.History.{Answers}
 use Rattle.rubis_keep.specs.Shortened.{state_after}
-use Rattle.rubis_keep.proofs.HistoryFacts.{answers-append, answers-shown, answers-told, safe-answers, safe-append, safe-keeps, safe-last}
+use Rattle.rubis_keep.specs.Telling.{answers-append}
+use Rattle.rubis_keep.proofs.HistoryFacts.{answers-shown, answers-told, safe-answers, safe-append, safe-keeps, safe-last}
 use Rattle.rubis_shadow.specs.declared.shadows.Ask.TheVariants as ask
 use Rattle.rubis_shadow.specs.declared.shadows.Shadow.TheVariants as shadow
 use Rattle.rubis_message.specs.declared.requests.Request.TheVariants as request

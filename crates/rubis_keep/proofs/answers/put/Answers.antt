@@ -1,6 +1,6 @@
 use Rattle.rubis_keep.proofs.DifferenceFacts.{only-fails}
 use Rattle.rubis_keep.proofs.HistoryFacts.{err-is}
-use Rattle.rubis_keep.proofs.FedFacts.{puts-none, puts-told}
+use Rattle.rubis_keep.proofs.PutFacts.{puts-none, puts-told}
 use Rattle.rubis_keep.proofs.answers.put.Goals as goal
 
 pub returns-in_err-found-clause-put : goal.returns-in_err-found-clause-put

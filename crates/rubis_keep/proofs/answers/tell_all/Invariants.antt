@@ -4,8 +4,6 @@ use Rattle.rubis_keep.proofs.answers.tell_all.Given as goal
 
 abbrev pub invariant-loop-turn : goal.invariant-loop-turn
 invariant-loop-turn g l = record {
-  next : (goal.iterator-loop-turn g).can_next l._turn-iterator;
-  ends : (goal.iterator-loop-turn g).is_finite l._turn-iterator;
   within : l.at ≤ length l.text;
   told : Tells l.is_live (g.F.SiteFiles.history l.fn.files) (g.F.SiteFiles.history l.files) (take l.at l.text) [];
 }

@@ -1,17 +1,26 @@
-use Rattle.std.proofs.Common.{[], sym, ◌∙◌}
-use Rattle.rubis_engine.specs.Text.{input_records}
-use Rattle.rubis_keep.proofs.HistoryFacts.{ok-of-err}
-use Rattle.rubis_keep.proofs.FedFacts.{feeds-empty, feeds-failed, feeds-on, no-more}
+use Rattle.std.proofs.Common.{◌∙◌, None, arith, refl, rules, sym}
+use Rattle.rubis_keep.proofs.FedFacts.{desk-fed, desk-stopped, feeds-empty}
 use Rattle.rubis_keep.proofs.feeding.feed_chunk.Goals as goal
 
 pub returns-then-is_empty-clause-fed : goal.returns-then-is_empty-clause-fed
 returns-then-is_empty-clause-fed g c = feeds-empty c.args.chunk.now _ _ (sym c.is_empty.ensures ∙ c.if-is_empty.true)
 
-pub returns-in_err-feed_text-clause-fed : goal.returns-in_err-feed_text-clause-fed
-returns-in_err-feed_text-clause-fed g c = feeds-failed _ _ _ c.from_residual.result c.from_residual.ensures.1 c.in_err-feed_text.ensures
+pub answer_chunk-requires : goal.answer_chunk-requires
+answer_chunk-requires g c = (search rules, c.requires.within)
 
-pub returns-in_err-feed_text-clause-idle : goal.returns-in_err-feed_text-clause-idle
-returns-in_err-feed_text-clause-idle g c = ok-of-err _ c.from_residual.result c.from_residual.ensures.0
+pub returns-in-Ok-clause-fed : goal.returns-in-Ok-clause-fed
+returns-in-Ok-clause-fed g c =
+    let (goes, settled, within) = c.in-Ok.ensures.answered in
+    desk-fed g.O.Read.remaining g.F.SiteFiles.history c.args.clerk.now c.answer_chunk.new.clerk (record c.args.answers.now { fault = None })
+    c.answer_chunk.new.answers c.answer_chunk.ensures.limit within goes settled
 
-pub returns-clause-fed : goal.returns-clause-fed
-returns-clause-fed g c = no-more (input_records c.args.chunk.now) _ _ _ _ c.finish.result (feeds-on [] _ _ _ _ c.finish.result c.in_ok-feed_text.ensures c.finish.ensures.fed)
+pub returns-in-Ok-clause-idle : goal.returns-in-Ok-clause-idle
+returns-in-Ok-clause-idle g c =
+    let (goes, settled, within) = c.in-Ok.ensures.answered in
+    let limit = c.answer_chunk.ensures.limit in
+    record { window = settled.rests.0; empty = settled.empty; within = omega (arith, within, limit) }
+
+pub returns-in-Err-clause-fed : goal.returns-in-Err-clause-fed
+returns-in-Err-clause-fed g c = rw (c.why.ensures.files, c.why.ensures.fault)
+    (desk-stopped g.O.Read.remaining g.F.SiteFiles.history c.args.clerk.now c.answer_chunk.new.clerk (record c.args.answers.now { fault = None })
+    c.answer_chunk.new.answers c.in-Err.fault _ refl c.in-Err.ensures.answered)

@@ -1,6 +1,7 @@
 use Rattle.std.proofs.Common.{[], arith, inl, inr, rules}
+use Rattle.rubis_keep.specs.Telling.{tells-none}
 use Rattle.rubis_keep.specs.declared.fault.KeepFault.TheVariants as fault
-use Rattle.rubis_keep.proofs.HistoryFacts.{err-is, tells-none}
+use Rattle.rubis_keep.proofs.HistoryFacts.{err-is}
 use Rattle.rubis_keep.proofs.FedFacts.{stopped-failed}
 use Rattle.rubis_keep.proofs.TurnFacts.{lines-answered, lines-torn, lines-unanswered, unread-torn}
 use Rattle.rubis_keep.proofs.pieces.next_lines.Goals as goal
@@ -22,7 +23,7 @@ returns-in_default-clause-answered g c = inr (inl (lines-unanswered _ _ _ _ _ c.
     (rw c.deref.ensures.value at c.in_ok-keep_chunk.ensures.kept) ([], stopped-failed _ _ fault.Memory tt, ([], tells-none _ _))))
 
 pub feed_chunk-requires : goal.feed_chunk-requires
-feed_chunk-requires g c = (search rules, record { window = c.requires.idle.window; empty = c.requires.idle.empty })
+feed_chunk-requires g c = (search rules, record { window = c.requires.idle.window; empty = c.requires.idle.empty; within = c.requires.idle.within })
 
 -- it could not be answered
 pub returns-in_err-feed_chunk-clause-answered : goal.returns-in_err-feed_chunk-clause-answered

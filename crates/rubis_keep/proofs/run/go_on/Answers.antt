@@ -22,7 +22,7 @@ pub answer_pieces-requires : goal.answer_pieces-requires
 answer_pieces-requires g c = (
   search rules,
   record {
-    idle = record { window = c.requires.idle.window; empty = c.requires.idle.empty };
+    idle = record { window = c.requires.idle.window; empty = c.requires.idle.empty; within = c.requires.idle.within };
     begun = ([], tt, c.new.ensures);
     listed = c.requires.listed;
   },

@@ -1,5 +1,6 @@
+use Rattle.rubis_keep.specs.Telling.{grows-none}
 use Rattle.rubis_keep.specs.declared.fault.KeepFault.TheVariants as fault
-use Rattle.rubis_keep.proofs.HistoryFacts.{err-is, grows-none}
+use Rattle.rubis_keep.proofs.HistoryFacts.{err-is}
 use Rattle.rubis_keep.proofs.RunFacts.{runs-unstarted}
 use Rattle.rubis_keep.proofs.run.run_kept.Goals as goal
 

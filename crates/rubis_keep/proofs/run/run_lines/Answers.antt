@@ -1,5 +1,6 @@
 use Rattle.std.proofs.Common.{inl, refl}
-use Rattle.rubis_keep.proofs.HistoryFacts.{err-is, grows-none}
+use Rattle.rubis_keep.specs.Telling.{grows-none}
+use Rattle.rubis_keep.proofs.HistoryFacts.{err-is}
 use Rattle.rubis_keep.proofs.RunFacts.{none-came, runs-end, runs-unreplayed, runs-unstarted}
 use Rattle.rubis_keep.proofs.run.run_lines.Goals as goal
 

@@ -1,8 +1,9 @@
-use Rattle.std.proofs.Common.{[], Some}
+use Rattle.std.proofs.Common.{[], Some, rules}
 use Rattle.rubis_model.specs.Site.{opening_at}
 use Rattle.rubis_script.specs.Replica.{setup_place}
+use Rattle.rubis_keep.specs.Telling.{grows-none}
 use Rattle.rubis_keep.specs.declared.fault.KeepFault.TheVariants as fault
-use Rattle.rubis_keep.proofs.HistoryFacts.{err-is, ok-of-err, grows-none}
+use Rattle.rubis_keep.proofs.HistoryFacts.{err-is, ok-of-err}
 use Rattle.rubis_keep.proofs.RunFacts.{is-new, new-clerk, new-site, opened-at, runs-ended, runs-lived, runs-reply, runs-safe, runs-true, runs-unstarted}
 use Rattle.rubis_keep.proofs.site.keep_site.Goals as goal
 
@@ -68,3 +69,9 @@ returns-clause-fault g c kept old o = rw (c.in_ok-clerk.ensures.site.0, c.in_ok-
     at (runs-true c.run_kept-ended.result _ _ _ _ _ _
     (new-clerk g.O.Read.remaining c.in_ok-clerk.clerk c.args.answers.now c.in_ok-clerk.ensures.fresh)
     c.run_kept-ended.ensures o)
+
+pub run_kept-ended-requires : goal.run_kept-ended-requires
+run_kept-ended-requires g c = (
+  search rules,
+  (new-clerk g.O.Read.remaining c.in_ok-clerk.clerk c.args.answers.now c.in_ok-clerk.ensures.fresh).idle,
+)
