@@ -2,8 +2,8 @@
 pub use Rattle.std.proofs.Common.{Bool, List, None, Option, Some, [], ap, append-nil, append_assoc, arith, cond, drop, eqb, false, inl, inr, length}
 pub use Rattle.std.proofs.Common.{length-append, refl, subst, suc, sym, take, true, zero, ℕ, ⊎_elim, ◌++◌, ◌+◌, ◌<◌, ◌∙◌, ◌∷◌, ◌≡◌, ◌≤◌, ◌⊎◌}
 pub use Rattle.std.specs.Prelude.{Err, MatchBool, Ok, Result, codes, map, nat_le, ⊤, ◌==◌, ◌||◌}
-pub use Rattle.csv.specs.Machine.{next_record}
-pub use Rattle.csv.specs.Writing.{escaped, fields_text, is_blank}
+unfoldable pub use Rattle.csv.specs.Machine.{next_record}
+unfoldable pub use Rattle.csv.specs.Writing.{escaped, fields_text, is_blank}
 pub use Rattle.std.proofs.lemmas.List.{append_cancel_left}
 pub use Rattle.std.proofs.lemmas.List.Concat.{flat_map-append}
 pub use Rattle.std.specs.Io.KnownBytes.{Consumes}

@@ -4,7 +4,8 @@ pub use Rattle.std.proofs.Common.{if◌then◌else◌, inl, inr, length, length-
 pub use Rattle.std.proofs.Common.{take-append-drop, true, zero, ℕ, ◌&&◌, ◌++◌, ◌+◌, ◌-◌, ◌<◌, ◌==◌, ◌||◌, ◌∙◌, ◌∷◌, ◌≡◌, ◌≤◌}
 pub use Rattle.std.specs.Prelude.{IfNone, IfSome, ⊤}
 pub use Rattle.csv.specs.Machine.{after_end, field_after, fields_after, in_field, is_end, start_record, step}
-pub use Rattle.csv.specs.Reading.{default_config, is_bom, strip_bom}
+pub use Rattle.csv.specs.Reading.{default_config, is_bom}
+unfoldable pub use Rattle.csv.specs.Reading.{strip_bom}
 pub use Rattle.csv.specs.declared.parser.Action.{Action}
 pub use Rattle.csv.specs.declared.parser.State.{State}
 pub use Rattle.std.proofs.Math.Seq.{take-append_seam}

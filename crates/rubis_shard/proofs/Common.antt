@@ -14,7 +14,8 @@ pub use Rattle.std.proofs.lemmas.List.Sorted.{IsPermutation-trans, answers_alway
 pub use Rattle.std.proofs.lemmas.Map.Made.{IsDistinct-keys_filter}
 pub use Rattle.std.proofs.lemmas.Option.{get_or_from_slice_get, slice_get-get_or, slice_get_read, slice_get_within}
 pub use Rattle.std.specs.FinMap.Entries.{below_all, is_sorted}
-pub use Rattle.std.specs.List.{All, AllByRecursion, IsDistinct}
+pub use Rattle.std.specs.List.{All, AllByRecursion}
+unfoldable pub use Rattle.std.specs.List.{IsDistinct}
 pub use Rattle.std.specs.List.Sorted.{IsPermutation, IsSortedByKey}
 pub use Rattle.std.specs.Map.{keys_of, lookup, set_value}
 pub use Rattle.std.specs.Map.Iter.{deref_pair}
