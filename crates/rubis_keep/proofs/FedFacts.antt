@@ -1,5 +1,5 @@
 -- How records are answered, and many together.
-use Rattle.std.proofs.Common.{◌≡◌, ◌==◌, true, ◌∙◌, ◌≤◌, ◌<◌, ◌+◌, ◌⊎◌, inl, inr, ◌++◌, ◌∷◌, [], ℕ, Bool, List, Option, Some, None, length, refl, sym, ap}
+use Rattle.std.proofs.Common.{◌≡◌, ◌==◌, true, ◌∙◌, ◌≤◌, ◌+◌, ◌⊎◌, inl, inr, ◌++◌, ◌∷◌, [], ℕ, Bool, List, Option, Some, None, length, refl, sym, ap}
 use Rattle.std.proofs.Common.{subst, arith, append_assoc, length-append}
 use Rattle.std.proofs.lemmas.List.{append-nil}
 use Rattle.rubis_engine.specs.Accounts.Ending.{AtEnd}
@@ -14,7 +14,7 @@ use Rattle.rubis_script.specs.declared.desk.Desk.{Desk}
 use Rattle.rubis_serving.proofs.GoFacts.{goes-tears, tears-as, tears-none}
 use Rattle.rubis_serving.specs.Serving.{AreAnswered, At, Fills, Goes, IsSettled, Tears, at}
 use Rattle.rubis_keep.specs.Telling.{tells-none}
-use Rattle.rubis_keep.specs.Turns.{Answering, Fed, IsCause, IsUnlike, PutsFront, Stopped, answering, coming, fault_of, keeping, met}
+use Rattle.rubis_keep.specs.Turns.{Answering, Fed, HasFed, HasStopped, IsCause, IsUnlike, PutsFront, Stopped, answering, coming, fault_of, keeping, met}
 use Rattle.rubis_keep.specs.Faults.{MayDiffer, IsFailure}
 use Rattle.rubis_keep.specs.History.{History, Tells, told_of}
 use Rattle.rubis_keep.specs.Outlets.{are_outlets, cancel, front-behind, front-none, over-no_text, over-text, unlike-later}
@@ -38,7 +38,6 @@ fed-none x = record {
   state = refl;
   count = omega arith;
   limit = refl;
-  within = λ l. l;
   live = refl;
 }
 
@@ -54,7 +53,6 @@ fed-more {rows} {rows2} {x} {y} {z} {text} {text2} {added} {added2} f g =
       state = g.state ∙ (λ i. state_after (f.place i) (f.state i) rows2) ∙ sym (after-append x.place (after_all x.place x.state x.held) rows rows2);
       count = omega (arith, f.count, g.count, size);
       limit = g.limit ∙ f.limit;
-      within = λ l. let few = f.within l in let more = g.within (omega (arith, few, f.limit)) in omega (arith, more, f.limit);
       live = g.live ∙ f.live;
     }
 
@@ -86,12 +84,6 @@ stopped-later {rows} {rows2} {x} {y} {text} {added} {added2} {e} f s = record {
 }
 
 -- ---- with what was told
-
-abbrev pub HasFed : List (List (List ℕ)) → Answering → Answering → Option History → Option History → Type 0
-HasFed rows x y a b = (text added : List ℕ) × Fed rows x y text added × Tells x.is_live a b added []
-
-abbrev pub HasStopped : List (List (List ℕ)) → Answering → Option History → Option History → KeepFault → Type 0
-HasStopped rows x a b e = (added : List ℕ) × Stopped rows x added e × ((due : List ℕ) × Tells x.is_live a b added due)
 
 -- a text of no bytes has none
 pub feeds-empty : (text : List ℕ) (x : Answering) (a : Option History) → (length text == 0) ≡ true → HasFed (input_records text) x x a a
@@ -146,11 +138,11 @@ module _ {T O F : Type 0} (before : O → Option (List ℕ)) (history : F → Op
       let size2 = length-append rows ([] ∷ []) in
       absurd (omega (arith, few, more, size, size2))
 
-  pub desk-fed : {rows : List (List (List ℕ))} (c c2 : Clerk T) (a a2 : Answers O F) → c2.limit ≡ c.limit → c2.served.answered ≤ c.limit
+  pub desk-fed : {rows : List (List (List ℕ))} (c c2 : Clerk T) (a a2 : Answers O F) → c2.limit ≡ c.limit
       → Goes (keeping before history) rows (at c.desk c.served a) (at c2.desk c2.served a2)
       → IsSettled (keeping {T = T} before history) (at c2.desk c2.served a2)
       → HasFed rows (answering before c a) (answering before c2 a2) (history a.files) (history a2.files)
-  desk-fed {rows} c c2 a a2 limit within f settled =
+  desk-fed {rows} c c2 a a2 limit f settled =
       let x = answering before c a in
       let (none, place, state) = f.led [] c2.desk settled.rests in (
         f.text,
@@ -164,7 +156,6 @@ module _ {T O F : Type 0} (before : O → Option (List ℕ)) (history : F → Op
               ∙ ap (state_after x.place (after_all x.place x.state x.held)) (append-nil rows);
           count = f.count;
           limit = limit;
-          within = λ l. within;
           live = f.put.live;
         },
         f.put.told,

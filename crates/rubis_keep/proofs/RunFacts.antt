@@ -184,7 +184,6 @@ record Again (x : Standing) (kept old : List ℕ) (y : Standing) : Type 0 where
   added : List ℕ
   told : Tells x.at.is_live x.history y.history added []
   limit : y.at.limit ≡ x.at.limit
-  within : x.at.answered ≤ x.at.limit → y.at.answered ≤ x.at.limit
 
 again : {x y : Standing} {kept old : List ℕ} → IsAtRest x → IsFresh kept old x → kept_in x.history ≡ Some kept → Replays x y → Again x kept old y
 again {x} {y} {kept} {old} rests fresh log r =
@@ -198,7 +197,6 @@ again {x} {y} {kept} {old} rests fresh log r =
       added = w.added;
       told = w.told refl;
       limit = w.fed.limit;
-      within = λ l. let few = w.fed.within l in few;
     })
 
 again-start : {kept old : List ℕ} {first past : Option (List ℕ)} {a : Answering} (h mid : Option History) {y : Standing} → IsNew a
@@ -373,18 +371,16 @@ run-true {x} {kept} {old} input input2 new e rests fresh log (inr (y, r, inr (z,
 
 -- no more records than the limit came
 run-within : {x y : Standing} {kept old : List ℕ} {input : Option (List ℕ)} (input2 : Option (List ℕ)) (new : Option History) → Again x kept old y
-    → x.at.answered ≤ x.at.limit → GoesOn y input input2 new
+    → GoesOn y input input2 new
     → (bytes : List ℕ) × Consumes input input2 bytes × (length (input_records (whole_lines kept ++ kept_of bytes)) ≤ x.at.limit)
-run-within {x} {y} {kept} {old} {input} input2 new a few (z, end, unread, b, e, is, happened) =
+run-within {x} {y} {kept} {old} {input} input2 new a (z, end, unread, b, e, is, happened) =
     let w = subst (λ (s : Standing). Went true z s) (sym e.last_is) (turns-went z e.turns b.rests e.are).0 in
     let begins = ready a b in
     let h = answered-more begins.answered w.fed w.whole e.rests.idle in
     let chunk = (w.cuts [] begins.begun).1 in
     let count = h.count ∙ ap (λ c. length (input_records (whole_lines kept ++ c))) chunk in
     let limit : z.at.limit ≡ y.at.limit = ap (λ (s : Standing). s.at.limit) b.is in
-    let many : z.at.answered ≡ y.at.answered = ap (λ (s : Standing). s.at.answered) b.is in
-    let first = a.within few in
-    let last = w.fed.within (omega (arith, first, limit, many)) in
+    let last = e.rests.idle.within in
     let same = a.limit in
     let same2 = w.fed.limit in (
       w.bytes,
@@ -603,9 +599,7 @@ runs-ended (Err e) first past input input2 {a} h new fresh (inr (mid, s, rest)) 
 pub runs-true : {T : Type 0} (r : Result T KeepFault) {kept old : List ℕ} (first past input input2 : Option (List ℕ)) {a : Answering} (h new : Option History)
     → IsNew a → Runs first past a input input2 h new r → Opens kept old first past (kept_in h) a.before (out_in h)
     → EndsTruly a.limit (site_account a.place a.state 1) kept old input input2 r
-runs-true (Ok u) first past input input2 h new fresh (mid, y, s, r, goes) o =
-    let none = fresh.none in
-    run-within input2 new (again-start h mid fresh o s r) (omega (arith, none)) goes
+runs-true (Ok u) first past input input2 h new fresh (mid, y, s, r, goes) o = run-within input2 new (again-start h mid fresh o s r) goes
 runs-true (Err e) {kept} {old} first past input input2 {a} h new fresh (inl (g, is, edited)) o =
     ([], rw is (consumes-none input), edited-true a.limit (site_account a.place a.state 1) old first e o.first_is edited)
 runs-true (Err e) first past input input2 {a} h new fresh (inr (mid, s, rest)) o =

@@ -8,8 +8,8 @@ use Rattle.csv.proofs.WriteFacts.{appends-more, appends-none}
 use Rattle.rubis_engine.specs.Text.{input_records}
 use Rattle.rubis_engine.proofs.RunFacts.{front-kept as appends-kept}
 use Rattle.rubis_keep.specs.Telling.{grows-none, tells-more, tells-none}
-use Rattle.rubis_keep.specs.Turns.{Answering, Fed, IsIdle, Stopped, answering, Answered, Breaks, Broke, Ends, IsAtRest, IsBegun, Reads, Standing, Torn, Turn}
-use Rattle.rubis_keep.specs.Turns.{Turns, Unanswered, Unreplied, last, replied_to}
+use Rattle.rubis_keep.specs.Turns.{Answering, Fed, HasFed, HasStopped, IsIdle, Stopped, answering, Answered, Breaks, Broke, Ends, IsAtRest, IsBegun, Reads, Standing}
+use Rattle.rubis_keep.specs.Turns.{Torn, Turn, Turns, Unanswered, Unreplied, last, replied_to}
 use Rattle.rubis_keep.specs.Questions.{IsUnmoved, AreListed}
 use Rattle.rubis_keep.specs.Faults.{IsFailure}
 use Rattle.rubis_keep.specs.History.{Grows, History, KeepsLines, Tells, log_of, out_in, IsFrontOf}
@@ -19,7 +19,7 @@ use Rattle.rubis_keep.specs.Shortened.{state_after}
 use Rattle.rubis_keep.specs.declared.answers.Answers.{Answers}
 use Rattle.rubis_keep.specs.declared.fault.KeepFault.{KeepFault}
 use Rattle.rubis_keep.specs.declared.site.Clerk.{Clerk}
-use Rattle.rubis_keep.proofs.FedFacts.{HasFed, HasStopped, fed-more, fed-none, stopped-failed, stopped-later}
+use Rattle.rubis_keep.proofs.FedFacts.{fed-more, fed-none, stopped-failed, stopped-later}
 use Rattle.rubis_keep.proofs.HistoryFacts.{consumes-more, consumes-none, IsStill, front-log, front-out, kept-log, kept-out, still-by, still-none, tells-log}
 use Rattle.rubis_keep.proofs.HistoryFacts.{tells-out}
 use Rattle.rubis_keep.proofs.LineFacts.{begun-append, kept-append}

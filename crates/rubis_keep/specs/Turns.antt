@@ -128,7 +128,6 @@ pub record Fed (rows : List (List (List ℕ))) (x y : Answering) (text added : L
   pub state : after_all y.place y.state y.held ≡ state_after x.place (after_all x.place x.state x.held) rows
   pub count : y.answered ≡ x.answered + length rows
   pub limit : y.limit ≡ x.limit
-  pub within : x.answered ≤ x.limit → y.answered ≤ x.limit
   pub live : y.is_live ≡ x.is_live
 
 -- what is so if this fault comes before these records are answered: what stands there of before is no beginning of the answers to them,
@@ -144,9 +143,14 @@ pub record Stopped (rows : List (List (List ℕ))) (x : Answering) (added : List
   pub cause : IsCause rows x e
 
 -- the records are answered, and what was added was told, and shown where answers are; or a fault came before they were
+abbrev pub HasFed : List (List (List ℕ)) → Answering → Answering → Option History → Option History → Type 0
+HasFed rows x y old new = (text added : List ℕ) × Fed rows x y text added × Tells x.is_live old new added []
+
+abbrev pub HasStopped : List (List (List ℕ)) → Answering → Option History → Option History → KeepFault → Type 0
+HasStopped rows x old new e = (added : List ℕ) × Stopped rows x added e × ((due : List ℕ) × Tells x.is_live old new added due)
+
 abbrev pub Feeds : {T : Type 0} → List (List (List ℕ)) → Answering → Answering → Option History → Option History → Result T KeepFault → Type 0
-Feeds rows x y old new r = MatchResult r (λ _. (text added : List ℕ) × Fed rows x y text added × Tells x.is_live old new added [])
-    (λ e. (added : List ℕ) × Stopped rows x added e × ((due : List ℕ) × Tells x.is_live old new added due))
+Feeds rows x y old new r = MatchResult r (λ _. HasFed rows x y old new) (HasStopped rows x old new)
 
 -- ---- how far a run over an input has come: it goes on by turns, each of which reads bytes, keeps and answers the lines that end in them, and answers a
 -- question if they end with one

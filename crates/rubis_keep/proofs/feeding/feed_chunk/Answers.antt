@@ -12,7 +12,7 @@ pub returns-in-Ok-clause-fed : goal.returns-in-Ok-clause-fed
 returns-in-Ok-clause-fed g c =
     let (goes, settled, within) = c.in-Ok.ensures.answered in
     desk-fed g.O.Read.remaining g.F.SiteFiles.history c.args.clerk.now c.answer_chunk.new.clerk (record c.args.answers.now { fault = None })
-    c.answer_chunk.new.answers c.answer_chunk.ensures.limit within goes settled
+    c.answer_chunk.new.answers c.answer_chunk.ensures.limit goes settled
 
 pub returns-in-Ok-clause-idle : goal.returns-in-Ok-clause-idle
 returns-in-Ok-clause-idle g c =
