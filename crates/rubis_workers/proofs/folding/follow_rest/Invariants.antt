@@ -3,7 +3,7 @@ use Rattle.rubis_pieces.specs.Following.{AreFurther, StopWithin}
 use Rattle.rubis_workers.proofs.folding.follow_rest.Given as goal
 
 abbrev pub invariant-loop-number : goal.invariant-loop-number
-invariant-loop-number l = record {
+invariant-loop-number g l = record {
   many : length l.tables ≡ length l.fn.tables;
   counts : length l.stops ≡ length l.fn.stops;
   further : AreFurther l.fn.stops l.stops;
