@@ -1,9 +1,9 @@
 #!/usr/bin/env python3
 """Looks through the names of the sources: lemmas, definitions and sets of rules that nothing names, names that are imported for clauses
-and proofs and that their file doesn't use, and types that share a name: scripts/unused.py
+and proofs and that their file doesn't use, or passed on and not imported, and types that share a name: scripts/unused.py
 
-A definition that only unused ones name is found too. An import is no use of a name, unless it hands the name on (`pub use`). Of
-definitions, answers to goals, examples, the files `Lib` and operators are left out."""
+A definition that only unused ones name is found too. An import is no use of a name, unless it hands the name on (`pub use`), and not for
+its own crate alone, as the files `Common` do. Of definitions, answers to goals, examples, the files `Lib` and operators are left out."""
 
 import collections
 import pathlib
@@ -80,7 +80,8 @@ def unnamed() -> list[str]:
     found: list[Definition] = []
     for file in sources("crates/*/*/**/*.antt"):
         text = COMMENT.sub("", file.read_text())
-        used.update(words_of("\n".join(line for line in text.split("\n") if not IMPORT.match(line) or "pub use" in line)))
+        hands_on = file.stem != "Common"
+        used.update(words_of("\n".join(line for line in text.split("\n") if not IMPORT.match(line) or hands_on and "pub use" in line)))
         if file.stem not in OF_GOALS and "Example" not in str(file):
             found += [it for it in definitions(file, text) if "◌" not in it.name]
     for file in sources("crates/*/src/**/*.rt"):
@@ -116,6 +117,20 @@ def idle() -> Iterator[str]:
                 yield from (f"{file.relative_to(TOP)}:{number}: nothing here uses {name}" for name in names if not is_used(name, text))
 
 
+def names_in(lines: str) -> set[str]:
+    """The names that `use` lines bring."""
+    return {name.split(" as ")[0].strip() for names in re.findall(r"\{(.*)\}", lines) for name in names.split(",")}
+
+
+def unasked() -> Iterator[str]:
+    """Each name that a crate's file `Common` passes on to its proofs and that none of them imports from there."""
+    for common in sources("crates/*/proofs/Common.antt"):
+        crate = common.parent.parent.name
+        uses = (line for file in sources(f"crates/{crate}/proofs/**/*.antt") for line in file.read_text().split("\n"))
+        asked = names_in("\n".join(line for line in uses if f"use Rattle.{crate}.proofs.Common." in line))
+        yield from (f"{common.relative_to(TOP)}: nothing imports {name}" for name in names_in(common.read_text()) - asked)
+
+
 def shared() -> Iterator[str]:
     """Each name that two types have."""
     first: dict[str, str] = {}
@@ -129,7 +144,7 @@ def shared() -> Iterator[str]:
 
 
 def main() -> int:
-    faults = sorted([*unnamed(), *idle(), *shared()])
+    faults = sorted([*unnamed(), *idle(), *unasked(), *shared()])
     return report("names of definitions, imports and types", len(faults) + 1, faults)
 
 

@@ -1,22 +1,18 @@
 -- How a run answers the questions of its input, and why a line is refused that is one.
-use Rattle.std.proofs.Common.{◌≡◌, ◌≤◌, ◌++◌, ◌∷◌, [], ℕ, List, None, Option, Some, arith, drop, false, length, sym, true, ◌∙◌, ◌+◌, inl, inr, Bool, cond, map}
-use Rattle.std.proofs.Common.{refl, ap}
+use Rattle.rubis_keep.proofs.Common.{◌≡◌, ◌≤◌, ◌++◌, ◌∷◌, [], ℕ, List, None, Option, Some, arith, drop, false, length, sym, true, ◌∙◌, ◌+◌, inl, inr}
+use Rattle.rubis_keep.proofs.Common.{Bool, cond, map, refl, ap, Place, Replica, input_step, input_records, rows_text, input_of, Advances, Gives}
+use Rattle.rubis_keep.proofs.Common.{fields_now, Records}
 use Rattle.std.proofs.lemmas.Bool.{le-leb}
 use Rattle.std.specs.Prelude.{bytes_eq, codes, slice_get}
 use Rattle.rubis_schema.specs.declared.row_keys.RowKey.{RowKey}
-use Rattle.rubis_model.specs.Site.{Place, Replica, input_step}
-use Rattle.rubis_engine.specs.Text.{input_records, rows_text}
+use Rattle.rubis_message.specs.declared.inputs.Input.{Input}
+use Rattle.rubis_message.specs.declared.inputs.Input.TheVariants.{Asked as ByUser, Came, Neither}
+use Rattle.rubis_model.specs.Processes.{site_after}
 use Rattle.rubis_keep.specs.Lines.{closes}
 use Rattle.rubis_keep.specs.Questions.{key_in, question_in, reply_rows, row_asked, refused_as, replied_in, question_of}
 use Rattle.rubis_keep.specs.declared.questions.Question.{Question}
 use Rattle.rubis_message.specs.declared.requests.Request.TheVariants as request
 use Rattle.rubis_message.specs.declared.tokens.Packet.TheVariants as packet
-use Rattle.rubis_message.specs.Inputs.{input_of}
-use Rattle.rubis_message.specs.declared.inputs.Input.{Input}
-use Rattle.rubis_message.specs.declared.inputs.Input.TheVariants.{Asked as ByUser, Came, Neither}
-use Rattle.rubis_model.specs.Processes.{site_after}
-use Rattle.rubis_engine.specs.Reading.{Advances, Gives, fields_now}
-use Rattle.rubis_engine.specs.declared.record_list.Records.{Records}
 use Rattle.rubis_keep.specs.Telling.{grows-more}
 use Rattle.rubis_keep.specs.History.{Answers, Event, Grows, History, KeepsLines, Tells}
 use Rattle.rubis_keep.specs.History.Event.{Flushed, Kept, Replied, Shown, Told}

@@ -1,14 +1,17 @@
 -- Where a text has its first line and its last one, and what is told of two texts that differ.
 use Rattle.std.proofs.Common.{◌≡◌, ◌≢◌, ◌∙◌, ◌≤◌, ◌<◌, ◌+◌, ◌^◌, ◌-◌, ◌++◌, ◌∷◌, ◌==◌, [], ℕ, All, List, Option, Some, None, IfSome, drop, get_or, length, min}
-use Rattle.std.proofs.Common.{not, take, refl, sym, ap, subst, take-append-drop, arith, length-append, Result, Ok, Err}
+use Rattle.std.proofs.Common.{not, take, refl, sym, ap, subst, take-append-drop, arith, length-append, Result, Ok, Err, true, false, zero, suc, cond}
 use Rattle.std.specs.List.{after_last, before_first, suffix_len}
-use Rattle.std.proofs.Math.Seq.{drop-append-add, take-length}
+use Rattle.std.proofs.Math.Seq.{drop-append-add, take-append-add, take-length}
+use lib.Seq.{take-nil}
 use Rattle.std.specs.Prelude.{IfErr, string_bytes}
 use Rattle.std.proofs.lemmas.Bool.{cond-true, eq-eqb, ne_eqb}
-use Rattle.std.proofs.lemmas.List.{get_or_append_left, length-drop, length-take-le}
+use Rattle.std.proofs.lemmas.Bool.Decides.{Decides-eqb}
+use Rattle.std.proofs.lemmas.List.{get_or_append_left, length-drop, length-take-le, take-append-le}
 use Rattle.std.proofs.lemmas.List.Elements.{All-get_or}
 use Rattle.std.proofs.lemmas.List.Sums.{common_prefix_len-le, position_or_len_is, suffix_len_is}
-use Rattle.rubis_keep.specs.Faults.{HasDifference, HasMore, IsDifference, MayDiffer, ends_in, last_line, same_in, shown_line, DiffersFrom, IsFailure}
+use Rattle.rubis_keep.specs.Faults.{HasDifference, HasMore, IsDifference, MayDiffer, TellsLine, ends_in, last_line, same_in, shown_line, DiffersFrom, IsFailure}
+use Rattle.rubis_keep.specs.Outlets.{ends-append, none-left}
 use Rattle.rubis_keep.specs.History.{IsFrontOf}
 use Rattle.rubis_keep.specs.declared.fault.Difference.{Difference}
 use Rattle.rubis_keep.specs.declared.fault.KeepFault.{KeepFault}
@@ -80,10 +83,6 @@ pub has-difference : (o : Option (List ℕ)) {came text : List ℕ} {lines : ℕ
 has-difference None f g h = tt
 has-difference (Some old) {came} f g h = record { came = came; front = f; differs = g; tells = h }
 
-none-left : (xs ys : List ℕ) → xs ++ ys ≡ [] → xs ≡ []
-none-left [] ys e = refl
-none-left (x ∷ xs) ys e = absurd (cc e)
-
 pub more-left : {old : List ℕ} {lines : ℕ} {d : Difference} → HasMore old lines d → old ≢ []
 more-left more none = more.some (none-left more.came more.front.0 (more.front.1 ∙ none))
 
@@ -108,3 +107,49 @@ may-fail e P h = h
 pub only-fails : {T : Type 0} (r : Result T KeepFault) (P : Difference → Type 0) → IfErr r IsFailure → IfErr r (λ e. MayDiffer e P)
 only-fails (Ok x) P h = tt
 only-fails (Err e) P h = may-fail e P h
+
+pub may-differ-more : (e : KeepFault) (P Q : Difference → Type 0) → ((d : Difference) → P d → Q d) → MayDiffer e P → MayDiffer e Q
+may-differ-more (fault.Differs d) P Q f p = f d p
+may-differ-more e P Q f p = p
+
+-- ---- the first line in which they differ
+
+-- texts that differ are as much alike as any that they begin
+same-longer : (xs ys more later : List ℕ) → DiffersFrom xs ys → same_in (xs ++ more) (ys ++ later) ≡ same_in xs ys
+same-longer [] ys more later d = absurd (omega (arith, d.2))
+same-longer (x ∷ xs) [] more later d = absurd (omega (arith, d.1))
+same-longer (x ∷ xs) (y ∷ ys) more later d =
+    elim (x == y) as (λ t. (x == y) ≡ t → cond t (1 + same_in (xs ++ more) (ys ++ later)) 0 ≡ cond t (1 + same_in xs ys) 0) [
+      | true ↦ λ same. ap (λ n. 1 + n) (same-longer xs ys more later (behind d ((Decides-eqb x y).0 same)))
+      | false ↦ λ differ. refl
+    ] refl
+  where
+    behind : DiffersFrom (x ∷ xs) (y ∷ ys) → x ≡ y → DiffersFrom xs ys
+    behind (zero, inside, there, differ) same = absurd (differ same)
+    behind (suc k, inside, there, differ) same = (k, omega (arith, inside), omega (arith, there), differ)
+
+line-longer : (came text : List ℕ) (more later : List ℕ) (lines : ℕ) (d : Difference) → DiffersFrom came text → TellsLine came text lines d
+    → TellsLine (came ++ more) (text ++ later) lines d
+line-longer came text more later lines d differs told =
+    subst (λ t. let number = lines + ends_in t + 1 in number < 2 ^ 64 → d.line ≡ number)
+    (sym (ap (λ n. take n (text ++ later)) (same-longer came text more later differs)
+    ∙ take-append-le (same_in came text) text later (common_prefix_len-le (λ x y. x == y) came text).1)) told
+
+pub line-there : (old text rest : List ℕ) (lines : ℕ) (d : Difference) → HasDifference old text lines d → TellsLine old (text ++ rest) lines d
+line-there old text rest lines d h =
+    subst (λ o. TellsLine o (text ++ rest) lines d) h.front.1 (line-longer h.came text h.front.0 rest lines d h.differs h.tells.line)
+
+-- nothing was to come, whatever stands there
+pub line-end : (came left : List ℕ) (lines : ℕ) (d : Difference) → TellsLine came [] lines d → TellsLine left [] lines d
+line-end came left lines d told = subst (λ t. let number = lines + ends_in t + 1 in number < 2 ^ 64 → d.line ≡ number)
+    (take-nil (same_in came []) ∙ sym (take-nil (same_in left []))) told
+
+-- it is the same where what comes before both is counted
+pub line-later : (text left rest : List ℕ) (lines lines2 : ℕ) (d : Difference) → (lines + ends_in text < 2 ^ 64 → lines2 ≡ lines + ends_in text)
+    → TellsLine left rest lines2 d → TellsLine (text ++ left) (text ++ rest) lines d
+line-later text left rest lines lines2 d counts told few =
+    let ends = ap (λ n. ends_in (take n (text ++ rest))) (same-after text left rest) ∙ ap ends_in (take-append-add text rest (same_in left rest))
+    ∙ ends-append text (take (same_in left rest) rest) in
+    let first = counts (omega (arith, few, ends)) in
+    let last = told (omega (arith, few, ends, first)) in
+    omega (arith, last, first, ends)

@@ -1,30 +1,27 @@
 -- How records are answered, and many together.
-use Rattle.std.proofs.Common.{◌≡◌, ◌==◌, true, ◌∙◌, ◌≤◌, ◌+◌, ◌⊎◌, inl, inr, ◌++◌, ◌∷◌, [], ℕ, Bool, List, Option, Some, None, length, refl, sym, ap}
-use Rattle.std.proofs.Common.{subst, arith, append_assoc, length-append}
-use Rattle.std.proofs.lemmas.List.{append-nil}
-use Rattle.rubis_engine.specs.Accounts.Ending.{AtEnd}
-use Rattle.std.specs.Prelude.{Err}
+use Rattle.rubis_keep.proofs.Common.{◌≡◌, ◌==◌, true, ◌∙◌, ◌≤◌, ◌+◌, ◌⊎◌, inl, inr, ◌++◌, ◌∷◌, [], ℕ, Bool, List, Option, Some, None, length, refl}
+use Rattle.rubis_keep.proofs.Common.{sym, ap, subst, arith, append_assoc, length-append, append-nil, AtEnd, Err, input_records, after_all, goes-tears}
+use Rattle.rubis_keep.proofs.Common.{tears-as, at}
 use Rattle.rubis_engine.specs.Progress.{ByEnd}
-use Rattle.rubis_engine.specs.Text.{input_records}
 use Rattle.rubis_engine.specs.declared.fault.RunFault.{RunFault}
-use Rattle.rubis_engine.specs.declared.fault.RunFault.TheVariants as run
 use Rattle.rubis_engine.specs.declared.fault.Count.{Count}
-use Rattle.rubis_replica.specs.State.{after_all}
 use Rattle.rubis_script.specs.declared.desk.Desk.{Desk}
-use Rattle.rubis_serving.proofs.GoFacts.{goes-tears, tears-as, tears-none}
-use Rattle.rubis_serving.specs.Serving.{AreAnswered, At, Fills, Goes, IsSettled, Tears, at}
+use Rattle.rubis_serving.proofs.GoFacts.{tears-none}
+use Rattle.rubis_serving.specs.Serving.{AreAnswered, At, Fills, Goes, IsSettled, Tears}
+use Rattle.rubis_engine.specs.declared.fault.RunFault.TheVariants as run
 use Rattle.rubis_keep.specs.Telling.{tells-none}
 use Rattle.rubis_keep.specs.Turns.{Answering, Fed, HasFed, HasStopped, IsCause, IsUnlike, PutsFront, Stopped, answering, coming, fault_of, keeping, met}
 use Rattle.rubis_keep.specs.Faults.{MayDiffer, IsFailure}
 use Rattle.rubis_keep.specs.History.{History, Tells, told_of}
-use Rattle.rubis_keep.specs.Outlets.{are_outlets, cancel, front-behind, front-none, over-no_text, over-text, unlike-later}
+use Rattle.rubis_keep.specs.Outlets.{are_outlets, counts-more, counts-none, front-none, over-no_text, over-text}
 use Rattle.rubis_keep.specs.Shortened.{state_after}
 use Rattle.rubis_keep.specs.declared.answers.Answers.{Answers}
 use Rattle.rubis_keep.specs.declared.fault.KeepFault.{KeepFault}
 use Rattle.rubis_keep.specs.declared.fault.KeepFault.TheVariants as fault
 use Rattle.rubis_keep.specs.declared.site.Clerk.{Clerk}
 use Rattle.rubis_keep.proofs.AskFacts.{states-alike}
-use Rattle.rubis_keep.proofs.PutFacts.{empty-is}
+use Rattle.rubis_keep.proofs.HistoryFacts.{cancel}
+use Rattle.rubis_keep.proofs.PutFacts.{empty-is, front-behind, torn-of, unlike-later}
 use Rattle.rubis_keep.proofs.SoundFacts.{none-read}
 use Rattle.rubis_keep.proofs.ShortenFacts.{after-append}
 
@@ -34,6 +31,7 @@ pub fed-none : (x : Answering) → Fed [] x x [] []
 fed-none x = record {
   says = λ e m. refl;
   put = over-no_text x.before;
+  counted = counts-none x.lines;
   place = refl;
   state = refl;
   count = omega arith;
@@ -49,6 +47,7 @@ fed-more {rows} {rows2} {x} {y} {z} {text} {text2} {added} {added2} f g =
       says = λ e m. ap (coming x e) (append_assoc rows rows2 m) ∙ f.says e (rows2 ++ m) ∙ ap (λ t. text ++ t) (g.says e m)
           ∙ sym (append_assoc text text2 (coming z e m));
       put = over-text x.before y.before z.before added added2 text text2 f.put g.put;
+      counted = counts-more x.lines y.lines z.lines added added2 text text2 f.counted g.counted;
       place = g.place ∙ f.place;
       state = g.state ∙ (λ i. state_after (f.place i) (f.state i) rows2) ∙ sym (after-append x.place (after_all x.place x.state x.held) rows rows2);
       count = omega (arith, f.count, g.count, size);
@@ -61,8 +60,8 @@ fed-more {rows} {rows2} {x} {y} {z} {text} {text2} {added} {added2} f g =
 cause-later : {rows : List (List (List ℕ))} (rows2 : List (List (List ℕ))) {x y : Answering} {text added : List ℕ} (e : KeepFault) → Fed rows x y text added → IsCause rows2 y e
     → IsCause (rows ++ rows2) x e
 cause-later {rows} rows2 {x} {y} {text} {added} (fault.Differs d) f h =
-    λ m. subst (IsUnlike x.before) (sym (ap (coming x AtEnd) (append_assoc rows rows2 m) ∙ f.says AtEnd (rows2 ++ m)))
-    (unlike-later x.before y.before added text (coming y AtEnd (rows2 ++ m)) f.put (h m))
+    λ m. subst (λ t. IsUnlike x.before x.lines t d) (sym (ap (coming x AtEnd) (append_assoc rows rows2 m) ∙ f.says AtEnd (rows2 ++ m)))
+    (unlike-later x.before y.before x.lines y.lines added text (coming y AtEnd (rows2 ++ m)) d f.put f.counted (h m))
 cause-later {rows} rows2 fault.TooLong f h = let size = length-append rows rows2 in omega (arith, h, f.count, f.limit, size)
 cause-later rows2 (fault.Edited n) f h = absurd h
 cause-later rows2 e f h = h
@@ -109,18 +108,18 @@ told-once live (Some s) (Some s2) old texts h =
     )
 
 noted-cause : (rows : List (List (List ℕ))) (x : Answering) (f : Option KeepFault)
-    → ((more : List (List (List ℕ))) → (f ≡ None) ⊎ ((e : KeepFault) × (f ≡ Some e) × MayDiffer e (λ d. IsUnlike x.before (coming x AtEnd (rows ++ more)))))
+    → ((more : List (List (List ℕ))) → (f ≡ None) ⊎ ((e : KeepFault) × (f ≡ Some e) × MayDiffer e (λ d. IsUnlike x.before x.lines (coming x AtEnd (rows ++ more)) d)))
     → IsCause rows x (fault_of f)
 noted-cause rows x None h = tt
 noted-cause rows x (Some e) h = go e (λ more. noted more (h more))
   where
     noted : (more : List (List (List ℕ)))
-        → (Some e ≡ None) ⊎ ((e2 : KeepFault) × (Some e ≡ Some e2) × MayDiffer e2 (λ d. IsUnlike x.before (coming x AtEnd (rows ++ more))))
-        → MayDiffer e (λ d. IsUnlike x.before (coming x AtEnd (rows ++ more)))
+        → (Some e ≡ None) ⊎ ((e2 : KeepFault) × (Some e ≡ Some e2) × MayDiffer e2 (λ d. IsUnlike x.before x.lines (coming x AtEnd (rows ++ more)) d))
+        → MayDiffer e (λ d. IsUnlike x.before x.lines (coming x AtEnd (rows ++ more)) d)
     noted more (inl none) = absurd (cc none)
-    noted more (inr (e2, is, m)) = let same : e2 ≡ e = cc is in subst (λ f. MayDiffer f (λ d. IsUnlike x.before (coming x AtEnd (rows ++ more)))) same m
+    noted more (inr (e2, is, m)) = let same : e2 ≡ e = cc is in subst (λ f. MayDiffer f (λ d. IsUnlike x.before x.lines (coming x AtEnd (rows ++ more)) d)) same m
 
-    go : (e : KeepFault) → ((more : List (List (List ℕ))) → MayDiffer e (λ d. IsUnlike x.before (coming x AtEnd (rows ++ more)))) → IsCause rows x e
+    go : (e : KeepFault) → ((more : List (List (List ℕ))) → MayDiffer e (λ d. IsUnlike x.before x.lines (coming x AtEnd (rows ++ more)) d)) → IsCause rows x e
     go (fault.Differs d) m = m
     go fault.TooLong m = absurd (m [])
     go (fault.Edited n) m = absurd (m [])
@@ -150,6 +149,7 @@ module _ {T O F : Type 0} (before : O → Option (List ℕ)) (history : F → Op
         record {
           says = f.told;
           put = f.put.over;
+          counted = f.put.counted;
           place = place;
           state = ap (after_all c2.desk.site.place c2.desk.site.state) none ∙ state
               ∙ states-alike x.place (after_all x.place x.state x.held) (c.served.answered + 1) (rows ++ [])
@@ -166,7 +166,7 @@ module _ {T O F : Type 0} (before : O → Option (List ℕ)) (history : F → Op
       × ((due : List ℕ) × Tells a.is_live (history a.files) (history a2.files) added due)
   torn-fed {rows} c a a2 t =
       told-once a.is_live (history a.files) (history a2.files) (before a.before) (λ more. coming (answering before c a) AtEnd (rows ++ more))
-      (λ more. let h = t.torn more in (h.added, h.front, (h.due, h.told)))
+      (λ more. let h = torn-of _ a a2 (t.torn more) in (h.added, h.front, (h.due, h.told)))
 
   pub desk-torn : {rows : List (List (List ℕ))} (c : Clerk T) (a a2 : Answers O F) → a.fault ≡ None
       → Tears (keeping {T = T} before history) rows (at c.desk c.served a) a2
@@ -177,8 +177,8 @@ module _ {T O F : Type 0} (before : O → Option (List ℕ)) (history : F → Op
         record {
           begins = h.1;
           cause = noted-cause rows (answering before c a) a2.fault
-              (λ more. subst (λ f. (a2.fault ≡ f) ⊎ ((e : KeepFault) × (a2.fault ≡ Some e) × MayDiffer e (λ d. IsUnlike (before a.before) (coming (answering before c a) AtEnd (rows ++ more)))))
-              none (t.torn more).noted);
+              (λ more. subst (λ f. (a2.fault ≡ f) ⊎ ((e : KeepFault) × (a2.fault ≡ Some e) × MayDiffer e (λ d. IsUnlike (before a.before) a.lines (coming (answering before c a) AtEnd (rows ++ more)) d)))
+              none (torn-of _ a a2 (t.torn more)).noted);
         },
         h.2,
       )

@@ -8,7 +8,7 @@ use Rattle.std.proofs.lemmas.List.{get_or-append-add, get_or_append_left, get_or
 use Rattle.std.proofs.lemmas.List.{append-nil, take_all}
 use Rattle.rubis_keep.specs.Faults.{DiffersFrom}
 use Rattle.rubis_keep.specs.History.{IsFrontOf, Answers, AreSafe, Event, FileState, Grows, History, IsSafe, StaysSafe, Tells, after, after_all, kept_in}
-use Rattle.rubis_keep.specs.History.{HasDone, HasKept, HasTold, IsShown, TellsFront, KeepsLines, Says, log_of, now, out_in, records_in, told_of}
+use Rattle.rubis_keep.specs.History.{HasDone, HasKept, IsShown, TellsFront, KeepsLines, Says, log_of, now, out_in, records_in, told_of}
 use Rattle.std.specs.Io.KnownBytes.{Consumes, Appends, Keeps}
 use Rattle.rubis_engine.proofs.RunFacts.{take-more, more-bound}
 use Rattle.rubis_keep.specs.History.Event.{Flushed, Kept, Shown, Told}
@@ -43,6 +43,10 @@ consumes-more (Some x) (Some y) (Some z) xs ys f g = f ∙ ap (λ t. xs ++ t) g 
 
 pub some-is : {x y : List ℕ} → Some x ≡ Some y → x ≡ y
 some-is e = cc e
+
+pub cancel : {A : Type 0} (front xs ys : List A) → front ++ xs ≡ front ++ ys → xs ≡ ys
+cancel [] xs ys e = e
+cancel (x ∷ front) xs ys e = cancel front xs ys (cc e)
 
 -- ---- where texts differ
 
@@ -324,12 +328,6 @@ once-torn a b c text n f g = (
   told-append (map (λ d. Told d) text) (map (λ d. Shown d) (take n text)) ∙ ap (λ t. told_of (map (λ d. Told d) text) ++ t) (shown-tells-none (take n text))
       ∙ append-nil (told_of (map (λ d. Told d) text)) ∙ told-all text,
 )
-
--- more is told after what was told
-pub told-more : {T E : Type 0} {live live2 : Bool} (live3 : Bool) (a b c : Option History) (r : Result T E) → live2 ≡ live → (text : List ℕ)
-    → Tells live a b text [] → HasTold live2 live3 b c r → HasTold live live3 a c r
-told-more {live} live3 a b c (Ok x) e text f t = (t.0 ∙ e, (text ++ t.1.0, tells-more live a b c f (subst (λ l. Tells l b c t.1.0 []) e t.1.1)))
-told-more {live} live3 a b c (Err x) e text f t = (t.0 ∙ e, (text ++ t.1.0, t.1.1, tells-more live a b c f (subst (λ l. Tells l b c t.1.0 t.1.1) e t.1.2)))
 
 pub match-err : {T E Q : Type 0} (P : Type 0) (r : Result T E) → IsErr r → Q → MatchResult r (λ _. P) (λ _. Q)
 match-err P (Ok x) e q = absurd (cc e)

@@ -33,10 +33,6 @@ pub drop-none : (n : ℕ) → drop n none-of ≡ []
 drop-none zero = refl
 drop-none (suc n) = refl
 
-pub take-none : (n : ℕ) → take n none-of ≡ []
-take-none zero = refl
-take-none (suc n) = refl
-
 pub left-end : {unread : List ℕ} (input : Option (List ℕ)) → unread ≡ [] → IsAtEnd input → IsAtEnd (left_of unread input)
 left-end None e end = tt
 left-end (Some xs) e end = ap (λ t. t ++ xs) e ∙ end

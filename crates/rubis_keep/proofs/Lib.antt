@@ -1,5 +1,5 @@
+pub mod Common
 pub mod LineFacts
-pub mod PageFacts
 pub mod HistoryFacts
 pub mod DifferenceFacts
 pub mod SoundFacts

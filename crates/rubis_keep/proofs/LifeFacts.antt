@@ -1,17 +1,12 @@
 -- What a run has answered, from its start to its end.
-use Rattle.std.proofs.Common.{◌≡◌, ◌∙◌, ◌<◌, ◌+◌, ◌⊎◌, inl, inr, ◌++◌, ◌∷◌, [], ℕ, true, false, List, Option, Some, None, IfSome, length, refl, sym, ap, subst}
-use Rattle.std.proofs.Common.{arith, append_assoc, length-append}
-use Rattle.std.proofs.lemmas.List.{append-nil}
-use Rattle.std.specs.Io.KnownBytes.{Appends, Consumes, IsAtEnd, Keeps}
-use Rattle.rubis_message.specs.Message.{Message}
-use Rattle.rubis_model.specs.Site.{answers, Place, Replica}
-use Rattle.rubis_replica.specs.State.{after_all}
-use Rattle.rubis_engine.specs.Accounts.{Account, Ending}
-use Rattle.rubis_engine.specs.Accounts.Ending.{AtEnd, Cut}
-use Rattle.rubis_engine.specs.Text.{input_records}
-use Rattle.rubis_script.specs.SiteRuns.{site_account}
+use Rattle.rubis_keep.proofs.Common.{◌≡◌, ◌∙◌, ◌<◌, ◌+◌, ◌⊎◌, inl, inr, ◌++◌, ◌∷◌, [], ℕ, true, false, List, Option, Some, None, IfSome, length, refl}
+use Rattle.rubis_keep.proofs.Common.{sym, ap, subst, arith, append_assoc, length-append, append-nil, Appends, Consumes, IsAtEnd, Keeps, Message}
+use Rattle.rubis_keep.proofs.Common.{Place, Replica, after_all, Account, AtEnd, input_records, site_account}
+use Rattle.rubis_model.specs.Site.{answers}
+use Rattle.rubis_engine.specs.Accounts.{Ending}
+use Rattle.rubis_engine.specs.Accounts.Ending.{Cut}
 use Rattle.rubis_keep.specs.Turns.{Answering, Fed, IsCause, IsIdle, IsOver, IsUnlike, PutsFront, PutsOver, coming, Standing, left_of}
-use Rattle.rubis_keep.specs.Faults.{HasMore, IsTrueFault, of_kept}
+use Rattle.rubis_keep.specs.Faults.{HasMore, IsTrueFault, TellsLine, of_kept}
 use Rattle.rubis_keep.specs.History.{History, log_of, out_in, Ended, IsFrontOf, Lived}
 use Rattle.rubis_keep.specs.Lines.{AreSound, begun_after, is_marked, kept_after, kept_of, read_back, whole_after, whole_lines, IsWhole}
 use Rattle.rubis_keep.specs.Lives.{HasAnswered, HasReplayed}
@@ -19,7 +14,7 @@ use Rattle.rubis_keep.specs.Shortened.{state_after}
 use Rattle.rubis_keep.specs.declared.fault.Difference.{Difference}
 use Rattle.rubis_keep.specs.declared.fault.KeepFault.{KeepFault}
 use Rattle.rubis_keep.specs.declared.fault.KeepFault.TheVariants as fault
-use Rattle.rubis_keep.proofs.DifferenceFacts.{more-left}
+use Rattle.rubis_keep.proofs.DifferenceFacts.{line-end, line-later, more-left}
 use Rattle.rubis_keep.proofs.HistoryFacts.{consumes-none}
 use Rattle.rubis_keep.specs.Outlets.{none-right}
 use Rattle.rubis_keep.proofs.LineFacts.{begun-append, kept-append}
@@ -101,6 +96,7 @@ pub record IsFresh (kept old : List ℕ) (x : Standing) : Type 0 where
   pub begun : x.begun ≡ []
   pub len : x.kept ≡ 0
   pub answered : x.at.answered ≡ 0
+  pub uncounted : x.at.lines ≡ 0
   pub idle : IsIdle x.at
   pub sound : AreSound [] kept
 
@@ -248,10 +244,12 @@ true-replay {x} {kept} {old} past2 history2 e fresh f = go e f.stopped.cause
     later : List (List (List ℕ))
     later = input_records (kept_after false (begun_after [] f.bytes) front.0)
 
-    unlike : IsUnlike (Some old) (coming x.at AtEnd (input_records f.chunk ++ later))
-        → IsFrontOf old ((account_of x).text AtEnd (input_records (whole_lines kept))) → ⊥
-    unlike h begins = h [] (subst (IsFrontOf old) (ap ((account_of x).text AtEnd) front.1.records
-        ∙ sym (fresh-text fresh AtEnd (input_records f.chunk ++ later)) ∙ sym (append-nil (coming x.at AtEnd (input_records f.chunk ++ later)))) begins)
+    text : List ℕ
+    text = (account_of x).text AtEnd (input_records (whole_lines kept))
+
+    unlike : (d : Difference) → IsUnlike (Some old) 0 (coming x.at AtEnd (input_records f.chunk ++ later)) d → (IsFrontOf old text → ⊥) × TellsLine old text 0 d
+    unlike d h = subst (λ t. (IsFrontOf old t → ⊥) × TellsLine old t 0 d) (append-nil (coming x.at AtEnd (input_records f.chunk ++ later))
+        ∙ fresh-text fresh AtEnd (input_records f.chunk ++ later) ∙ ap ((account_of x).text AtEnd) (sym front.1.records)) (h [])
 
     many : x.at.limit < x.at.answered + length (input_records f.chunk) → x.at.limit < length (input_records (whole_lines kept ++ []))
     many l =
@@ -261,32 +259,41 @@ true-replay {x} {kept} {old} past2 history2 e fresh f = go e f.stopped.cause
         omega (arith, l, fresh.answered, none, size, size2)
 
     go : (e : KeepFault) → IsCause (input_records f.chunk) x.at e → IsTrueFault x.at.limit (account_of x) kept old [] (of_kept e)
-    go (fault.Differs d) h = unlike (rw fresh.before at h later)
+    go (fault.Differs d) h = unlike d (rw (fresh.before, fresh.uncounted) at h later)
     go fault.TooLong h = many h
     go (fault.Edited n) h = absurd h
     go e h = tt
 
 -- more stands there of before than the answers
-pub true-left : {x y : Standing} {kept old : List ℕ} (lines : ℕ) (d : Difference) → IsFresh kept old x → (w : Went false x y) → IsIdle y.at → IsAtEnd y.input
-    → IfSome y.at.before (λ left. HasMore left lines d) → IsFrontOf old ((account_of x).text AtEnd (input_records (whole_lines kept))) → ⊥
-true-left {x} {y} {kept} {old} lines d fresh w idle end there (rest, e) =
+pub true-left : {x y : Standing} {kept old : List ℕ} (d : Difference) → IsFresh kept old x → (w : Went false x y) → IsIdle y.at → IsAtEnd y.input
+    → IfSome y.at.before (λ left. HasMore left y.at.lines d)
+    → (IsFrontOf old ((account_of x).text AtEnd (input_records (whole_lines kept))) → ⊥)
+    × TellsLine old ((account_of x).text AtEnd (input_records (whole_lines kept))) 0 d
+true-left {x} {y} {kept} {old} d fresh w idle end there =
     let put = put-of fresh w in
-    let some = more-left (subst (λ o. IfSome o (λ left. HasMore left lines d)) put.1 there) in
+    let more = subst (λ o. IfSome o (λ left. HasMore left y.at.lines d)) put.1 there in
     let bytes_are : w.bytes ≡ kept = at-end kept y.input w.bytes (rw fresh.input at w.taken) end in
     let chunk_is : w.chunk ≡ whole_lines kept = (w.cuts [] fresh.begun).1 ∙ ap (kept_after false []) bytes_are ∙ sound-kept [] kept fresh.sound in
     let h = answered-more (answered-none x.at fresh.idle fresh.answered) w.fed w.whole idle in
     let text : (account_of x).text AtEnd (input_records (whole_lines kept)) ≡ w.text = ap (λ k. (account_of x).text AtEnd (input_records k)) (sym chunk_is)
     ∙ answered-text AtEnd h in
-    behind w.text put.0 rest some (ap (λ t. t ++ rest) (sym (only put.2.0 put.2.1 some)) ∙ e ∙ text)
+    subst (λ t. (IsFrontOf old t → ⊥) × TellsLine old t 0 d) (sym text) (only put.0 more put.2.0 put.2.1)
   where
-    only : {added left : List ℕ} → old ++ added ≡ w.text ++ left → (added ≡ []) ⊎ (left ≡ []) → (left ≡ [] → ⊥) → old ≡ w.text ++ left
-    only e (inl none) some = sym (append-nil old) ∙ ap (λ t. old ++ t) (sym none) ∙ e
-    only e (inr none) some = absurd (some none)
-
     behind : (xs ys zs : List ℕ) → (ys ≡ [] → ⊥) → (xs ++ ys) ++ zs ≡ xs → ⊥
     behind [] [] zs some e = some refl
     behind [] (y ∷ ys) zs some e = cc e
     behind (x ∷ xs) ys zs some e = behind xs ys zs some (cc e)
+
+    only : (left : List ℕ) → HasMore left y.at.lines d → old ++ w.added ≡ w.text ++ left → (w.added ≡ []) ⊎ (left ≡ [])
+        → (IsFrontOf old w.text → ⊥) × TellsLine old w.text 0 d
+    only left more e (inr none) = absurd (more-left more none)
+    only left more e (inl none) =
+        let old_is : old ≡ w.text ++ left = sym (append-nil old) ∙ ap (λ t. old ++ t) (sym none) ∙ e in
+        let line = line-later w.text left [] x.at.lines y.at.lines d (w.fed.counted none) (line-end more.came left y.at.lines d more.tells.line) in (
+          λ (rest, f). behind w.text left rest (more-left more) (ap (λ t. t ++ rest) (sym old_is) ∙ f),
+          subst (λ n. TellsLine old w.text n d) fresh.uncounted (subst (λ o. TellsLine o w.text x.at.lines d) (sym old_is)
+              (subst (λ t. TellsLine (w.text ++ left) t x.at.lines d) (append-nil w.text) line)),
+        )
 
 -- ---- new records come
 
@@ -447,8 +454,8 @@ pub true-live : {all : Account} {p : Place} {s : Replica} {kept told : List ℕ}
     → (f : Fell true z (left_of unread input2) history2 e) → IsTrueFault z.at.limit all kept old ((f.bytes ++ f.next) ++ unread) e
 true-live {all} {p} {s} {kept} {told} old {input} input2 unread history2 {z} e ready f = go e f.stopped.cause
   where
-    unlike : (text : List ℕ) → IsUnlike (Some []) text → ⊥
-    unlike text h = h [] (text ++ [], refl)
+    unlike : (lines : ℕ) (text : List ℕ) (d : Difference) → IsUnlike (Some []) lines text d → ⊥
+    unlike lines text d h = (h []).0 (text ++ [], refl)
 
     many : z.at.limit < z.at.answered + length (input_records f.chunk)
         → z.at.limit < length (input_records (whole_lines kept ++ kept_of ((f.bytes ++ f.next) ++ unread)))
@@ -467,7 +474,7 @@ true-live {all} {p} {s} {kept} {told} old {input} input2 unread history2 {z} e r
         omega (arith, l, ready.answered.count, records, first, size, size2)
 
     go : (e : KeepFault) → IsCause (input_records f.chunk) z.at e → IsTrueFault z.at.limit all kept old ((f.bytes ++ f.next) ++ unread) e
-    go (fault.Differs d) h = absurd (unlike (coming z.at AtEnd (input_records f.chunk ++ [])) (rw ready.before at h []))
+    go (fault.Differs d) h = absurd (unlike z.at.lines (coming z.at AtEnd (input_records f.chunk ++ [])) d (rw ready.before at h []))
     go fault.TooLong h = many h
     go (fault.Edited n) h = absurd h
     go e h = tt

@@ -1,14 +1,12 @@
 -- How the lines of an input go on, and the questions among them.
-use Rattle.std.proofs.Common.{◌≡◌, ◌==◌, ◌||◌, ◌∷◌, [], ℕ, Bool, true, false, List, not, refl, ap, rules, ◌&&◌, ◌∙◌, ◌++◌, ◌+◌, ◌≤◌, ◌<◌, cond, eqb, leb}
-use Rattle.std.proofs.Common.{get_or, length, take, sym, arith, append_assoc, length-append}
+use Rattle.rubis_keep.proofs.Common.{◌≡◌, ◌==◌, ◌∷◌, [], ℕ, Bool, true, false, List, not, refl, ap, rules, ◌&&◌, ◌∙◌, ◌++◌, ◌+◌, ◌≤◌, ◌<◌, cond, eqb}
+use Rattle.rubis_keep.proofs.Common.{leb, get_or, length, take, sym, arith, append_assoc, length-append, step, default_config, State, length-take}
+use Rattle.rubis_keep.proofs.Common.{length-take-le, take_all, take_more, take-append-le}
+use Rattle.std.proofs.Common.{◌||◌}
 use Rattle.std.specs.List.{list_any}
-use Rattle.csv.specs.Machine.{step}
-use Rattle.csv.specs.Reading.{default_config}
-use Rattle.csv.specs.declared.parser.State.{State}
+use Rattle.std.proofs.lemmas.Bool.{leb-true, leb-false, lt-leb}
 use Rattle.csv.specs.declared.parser.State.TheVariants as st
 use Rattle.rubis_keep.specs.Lines.{closes, is_quoted, state_after, begun_bytes, begun_after, is_question, is_sound, kept_after, kept_line, kept_record}
-use Rattle.std.proofs.lemmas.Bool.{leb-true, leb-false, lt-leb}
-use Rattle.std.proofs.lemmas.List.{length-take, length-take-le, take_all, take_more, take-append-le}
 
 -- a quote, and whether one is among these bytes
 abbrev is_quote : ℕ → Bool

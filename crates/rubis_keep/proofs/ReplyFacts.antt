@@ -1,9 +1,6 @@
 -- The questions that a run answers, turn by turn, are those of its input.
-use Rattle.std.proofs.Common.{◌≡◌, ◌∙◌, ◌⊎◌, inl, inr, ◌++◌, ◌∷◌, [], ℕ, Bool, true, false, List, Option, cond, map, take, refl, sym, ap, subst, append_assoc}
-use Rattle.std.proofs.lemmas.List.{append-nil}
-use Rattle.std.specs.Io.KnownBytes.{Consumes}
-use Rattle.rubis_model.specs.Site.{Place, Replica}
-use Rattle.rubis_engine.specs.Accounts.{Account}
+use Rattle.rubis_keep.proofs.Common.{◌≡◌, ◌∙◌, ◌⊎◌, inl, inr, ◌++◌, ◌∷◌, [], ℕ, Bool, true, false, List, Option, cond, map, take, refl, sym, ap}
+use Rattle.rubis_keep.proofs.Common.{subst, append_assoc, append-nil, Consumes, Place, Replica, Account}
 use Rattle.rubis_keep.specs.Telling.{grows-more, grows-none}
 use Rattle.rubis_keep.specs.Turns.{Answering, Answered, Broke, IsAtRest, Standing, Turn, Turns, last, replied_to}
 use Rattle.rubis_keep.specs.Questions.{AreFirst, Reply, replied_in, reply_to, reply_rows, reply_text}

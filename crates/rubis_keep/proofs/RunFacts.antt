@@ -1,27 +1,20 @@
 -- How a run goes from its start to its end, and what follows for whoever calls it.
-use Rattle.std.proofs.Common.{◌≡◌, ◌⊎◌, inl, inr, ◌++◌, ◌∷◌, [], ℕ, Bool, true, false, List, Option, Some, None, IfSome, Result, Ok, Err, ap, refl, subst, ◌∙◌}
-use Rattle.std.proofs.Common.{◌≤◌, map, ◌+◌, length, suc, take, zero, sym, arith}
-use Rattle.std.specs.Prelude.{IfErr, MatchResult, OnOk, OnErr}
-use Rattle.std.specs.Io.KnownBytes.{IsAtEnd, Keeps, Consumes}
-use Rattle.rubis_model.specs.Site.{counts, Place, Replica}
+use Rattle.rubis_keep.proofs.Common.{◌≡◌, ◌⊎◌, inl, inr, ◌++◌, ◌∷◌, [], ℕ, Bool, true, false, List, Option, Some, None, IfSome, Result, Ok, Err, ap}
+use Rattle.rubis_keep.proofs.Common.{refl, subst, ◌∙◌, ◌≤◌, map, ◌+◌, length, suc, take, zero, sym, arith, IfErr, MatchResult, OnOk, OnErr, IsAtEnd}
+use Rattle.rubis_keep.proofs.Common.{Keeps, Consumes, counts, Place, Replica, append-nil, Account, AtEnd, input_records, site_account}
 use Rattle.rubis_keep.specs.Telling.{grows-more, grows-none}
 use Rattle.rubis_keep.specs.Turns.{Answering, IsIdle, Breaks, Ends, IsAtRest, Standing, left_of, answering, last}
-use Rattle.rubis_keep.specs.Faults.{HasMore, MayDiffer, IsFailure, MayBeEdited, EndsTruly, IsTrueFault}
+use Rattle.rubis_keep.specs.Faults.{HasMore, MayDiffer, IsEditedAt, IsFailure, MayBeEdited, EndsTruly, IsTrueFault}
 use Rattle.rubis_keep.specs.History.{Grows, History, Event, FileState, IsShown, StaysSafe, Tells, after_all, kept_in, now, out_in, records_in, Ended, IsFrontOf}
 use Rattle.rubis_keep.specs.History.{Lived, Opens}
 use Rattle.rubis_keep.specs.History.Event.{Began, CutTo, Flushed, Settled}
-use Rattle.rubis_keep.specs.Lines.{are_sound, AreSound, asked_after, begun_after, kept_after, kept_of, whole_lines}
+use Rattle.rubis_keep.specs.Lines.{AreSound, asked_after, begun_after, kept_after, kept_of, whole_lines}
 use Rattle.rubis_keep.specs.Runs.{Begun, Fails, GoesOn, Replays, Runs, RunsInto, Starts, Unreplayed, starting, beginning}
 use Rattle.rubis_keep.specs.declared.fault.KeepFault.{KeepFault}
 use Rattle.rubis_keep.specs.declared.fault.KeepFault.TheVariants as fault
 use Rattle.rubis_keep.specs.declared.pages.Listed.{Listed}
 use Rattle.rubis_keep.proofs.HistoryFacts.{grows-still, consumes-none, some-is, now-more, stays-more, still-flushed, still-none, tells-log, tells-out}
-use Rattle.std.proofs.lemmas.List.{append-nil}
 use lib.Seq.{take-nil}
-use Rattle.rubis_engine.specs.Accounts.{Account}
-use Rattle.rubis_engine.specs.Accounts.Ending.{AtEnd}
-use Rattle.rubis_engine.specs.Text.{input_records}
-use Rattle.rubis_script.specs.SiteRuns.{site_account}
 use Rattle.rubis_keep.specs.Questions.{AreFirst, RepliesTo, replied_in, replies, reply_to}
 use Rattle.rubis_keep.specs.Lives.{Found, HasReplayed, IsOpened, Rested}
 use Rattle.rubis_keep.specs.Saying.{says_by, says_of}
@@ -41,19 +34,19 @@ none-unread (Some xs) e = ap (λ t. Some (t ++ xs)) e
 
 -- ---- what was kept is answered again
 
-pub replay-ends : {T : Type 0} {x : Standing} (z : Standing) (before : Option (List ℕ)) {live : Bool} {history2 : Option History} (r : Result T KeepFault)
-    (lines : ℕ) → Ends false x z → OnOk r (IsAtEnd before × Keeps z.at.before before) → history2 ≡ z.history → live ≡ z.at.is_live
-    → IfErr r (λ e. MayDiffer e (λ d. IfSome z.at.before (λ left. HasMore left lines d)))
-    → MatchResult r (λ _. Replays x (record z { at = record z.at { is_live = live; before = before }; history = history2 })) (Unreplayed x history2)
-replay-ends z before (Ok u) lines e (none_left, same) still live differs = record {
+pub replay-ends : {T : Type 0} {x : Standing} (z : Standing) (before : Option (List ℕ)) {live : Bool} {lines : ℕ} {history2 : Option History}
+    (r : Result T KeepFault) → Ends false x z → OnOk r (IsAtEnd before × Keeps z.at.before before) → history2 ≡ z.history
+    → (live ≡ z.at.is_live) × (lines ≡ z.at.lines) → IfErr r (λ e. MayDiffer e (λ d. IfSome z.at.before (λ left. HasMore left z.at.lines d)))
+    → MatchResult r (λ _. Replays x (record z { at = record z.at { is_live = live; before = before; lines = lines }; history = history2 })) (Unreplayed x history2)
+replay-ends z before (Ok u) e (none_left, same) still (live, lines) differs = record {
   end = z;
   ends = e;
   before = before;
   same = same;
   none_left = none_left;
-  is = λ i. record z { at = record z.at { is_live = live i; before = before }; history = still i };
+  is = λ i. record z { at = record z.at { is_live = live i; before = before; lines = lines i }; history = still i };
 }
-replay-ends z before (Err met) lines e end still live differs = inr (z, e, still, (lines, differs))
+replay-ends z before (Err met) e end still same differs = inr (z, e, still, differs)
 
 -- ---- and new records come
 
@@ -105,7 +98,7 @@ none-came past a mid (fresh, none, len, unlisted) = λ i.
 pub starting-rests : (a : Answering) (past : Option (List ℕ)) (mid : Option History) → IsIdle a → IsAtRest (starting a past mid)
 starting-rests a past mid idle = record { idle = idle; begun = ([], tt, refl); listed = tt }
 
-failure-edited : (e : KeepFault) (P : Type 0) → IsFailure e → MayBeEdited e P
+failure-edited : (e : KeepFault) (P : ℕ → Type 0) → IsFailure e → MayBeEdited e P
 failure-edited (fault.Edited n) P h = absurd h
 failure-edited (fault.Differs d) P h = h
 failure-edited fault.TooLong P h = h
@@ -114,7 +107,7 @@ failure-edited e P h = h
 -- nothing has happened yet
 pub runs-unstarted : (first past : Option (List ℕ)) (a : Answering) (input : Option (List ℕ)) (old new : Option History) (e : KeepFault) → Grows old new []
     → IsFailure e → RunsInto first past a input input old new e
-runs-unstarted first past a input old new e g fails = inl (g, refl, failure-edited e (IfSome first (λ text. are_sound [] text ≡ false)) fails)
+runs-unstarted first past a input old new e g fails = inl (g, refl, failure-edited e (λ n. IfSome first (λ text. IsEditedAt text n)) fails)
 
 pub runs-unreplayed : {first past : Option (List ℕ)} {a : Answering} (input : Option (List ℕ)) {old mid new : Option History} {x : Standing} (e : KeepFault)
     → Starts first old mid → x ≡ starting a past mid → Unreplayed x new e → RunsInto first past a input input old new e
@@ -156,6 +149,7 @@ grown h (Some h2) es g = (h2, refl, now-more h es g)
 pub record IsNew (a : Answering) : Type 0 where
   pub idle : IsIdle a
   pub none : a.answered ≡ 0
+  pub uncounted : a.lines ≡ 0
 
 fresh-start : {kept old : List ℕ} {first past : Option (List ℕ)} {a : Answering} (h mid : Option History) → IsNew a
     → Opens kept old first past (kept_in h) a.before (out_in h) → Starts first h mid → IsFresh kept old (starting a past mid)
@@ -166,6 +160,7 @@ fresh-start h mid fresh o s = record {
   begun = refl;
   len = refl;
   answered = fresh.none;
+  uncounted = fresh.uncounted;
   idle = fresh.idle;
   sound = rw o.first_is at s.sound;
 }
@@ -318,12 +313,12 @@ run-ended {x} {kept} {old} input input2 new e rests fresh log (inr (y, r, inr (z
 
 -- ---- by which fault it ends
 
-left-true : {x z : Standing} {kept old : List ℕ} (e : KeepFault) (lines : ℕ) → IsFresh kept old x → (w : Went false x z) → IsIdle z.at → IsAtEnd z.input
-    → MayDiffer e (λ d. IfSome z.at.before (λ left. HasMore left lines d)) → IsTrueFault x.at.limit (account_of x) kept old [] e
-left-true (fault.Differs d) lines fresh w idle end h = true-left lines d fresh w idle end h
-left-true fault.TooLong lines fresh w idle end h = absurd h
-left-true (fault.Edited n) lines fresh w idle end h = absurd h
-left-true e lines fresh w idle end h = tt
+left-true : {x z : Standing} {kept old : List ℕ} (e : KeepFault) → IsFresh kept old x → (w : Went false x z) → IsIdle z.at → IsAtEnd z.input
+    → MayDiffer e (λ d. IfSome z.at.before (λ left. HasMore left z.at.lines d)) → IsTrueFault x.at.limit (account_of x) kept old [] e
+left-true (fault.Differs d) fresh w idle end h = true-left d fresh w idle end h
+left-true fault.TooLong fresh w idle end h = absurd h
+left-true (fault.Edited n) fresh w idle end h = absurd h
+left-true e fresh w idle end h = tt
 
 failure-true : (limit : ℕ) (all : Account) (kept old bytes : List ℕ) (e : KeepFault) → IsFailure e → IsTrueFault limit all kept old bytes e
 failure-true limit all kept old bytes (fault.Differs d) h = absurd h
@@ -332,15 +327,11 @@ failure-true limit all kept old bytes (fault.Edited n) h = absurd h
 failure-true limit all kept old bytes e h = tt
 
 edited-true : (limit : ℕ) (all : Account) {kept : List ℕ} (old : List ℕ) (first : Option (List ℕ)) (e : KeepFault) → first ≡ Some kept
-    → MayBeEdited e (IfSome first (λ text. are_sound [] text ≡ false)) → IsTrueFault limit all kept old [] e
-edited-true limit all old None e is h = absurd (cc is)
-edited-true limit all {kept} old (Some text) e is h = go e h
+    → MayBeEdited e (λ n. IfSome first (λ text. IsEditedAt text n)) → IsTrueFault limit all kept old [] e
+edited-true limit all {kept} old first e is h = go e (rw is at h)
   where
-    go : (e : KeepFault) → MayBeEdited e (are_sound [] text ≡ false) → IsTrueFault limit all kept old [] e
-    go (fault.Edited n) h = subst (λ t. are_sound [] t ≡ false) (same is) h
-      where
-        same : Some text ≡ Some kept → text ≡ kept
-        same e = cc e
+    go : (e : KeepFault) → MayBeEdited e (IsEditedAt kept) → IsTrueFault limit all kept old [] e
+    go (fault.Edited n) h = h
     go (fault.Differs d) h = absurd h
     go fault.TooLong h = absurd h
     go e h = tt
@@ -353,9 +344,9 @@ run-true {x} {kept} {old} input input2 new e rests fresh log (inl (is, inl (met,
   rw is (consumes-none input),
   rw by (true-replay past2 new met fresh (turns-fell x b.turns past2 new rests b.are b.broke)),
 )
-run-true {x} {kept} {old} input input2 new e rests fresh log (inl (is, inr (z, ends, happened, (lines, differs)))) =
+run-true {x} {kept} {old} input input2 new e rests fresh log (inl (is, inr (z, ends, happened, differs))) =
     let w = subst (λ (s : Standing). Went false x s) (sym ends.last_is) (turns-went x ends.turns rests ends.are).0 in
-    ([], rw is (consumes-none input), left-true e lines fresh w ends.rests.idle ends.end differs)
+    ([], rw is (consumes-none input), left-true e fresh w ends.rests.idle ends.end differs)
 run-true {x} {kept} {old} input input2 new e rests fresh log (inr (y, r, inl (n, g, is, fails))) =
     ([], rw is (consumes-none input), failure-true x.at.limit (account_of x) kept old [] e fails)
 run-true {x} {kept} {old} input input2 new e rests fresh log (inr (y, r, inr (z, unread, b, f))) =
@@ -569,15 +560,21 @@ new-site place state limit live before = record {
   sink = [];
   is_live = live;
   before = before;
+  lines = 0;
 }
 
 -- a clerk with nothing done
-pub new-clerk : {O F G : Type 0} (before : O → Option (List ℕ)) (c : Clerk G) (a : Answers O F) → (c.desk.window.items ≡ []) × (c.served.reply.sink ≡ []) × (c.served.answered ≡ 0)
-    → IsNew (answering before c a)
-new-clerk before c a (window, empty, none) = record { idle = record { window = window; empty = empty; within = omega (arith, none) }; none = none }
+pub new-clerk : {O F G : Type 0} (before : O → Option (List ℕ)) (c : Clerk G) (a : Answers O F)
+    → (c.desk.window.items ≡ []) × (c.served.reply.sink ≡ []) × (c.served.answered ≡ 0) → IsNew (answering before c (record a { lines = 0 }))
+new-clerk before c a (window, empty, none) = record {
+  idle = record { window = window; empty = empty; within = omega (arith, none) };
+  none = none;
+  uncounted = refl;
+}
 
 pub is-new : (place : Place) (state : Replica) (limit : ℕ) (live : Bool) (before : Option (List ℕ)) → IsNew (new-site place state limit live before)
-is-new place state limit live before = record { idle = record { window = refl; empty = refl; within = omega arith }; none = refl }
+is-new place state limit live before =
+    record { idle = record { window = refl; empty = refl; within = omega arith }; none = refl; uncounted = refl }
 
 pub runs-lived : {T : Type 0} (r : Result T KeepFault) (first past input input2 : Option (List ℕ)) {a : Answering} (h new : Option History)
     → IsNew a → Runs first past a input input2 h new r → OnOk r ((kept old : List ℕ) → Opens kept old first past (kept_in h) a.before (out_in h)

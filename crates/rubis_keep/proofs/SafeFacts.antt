@@ -1,12 +1,8 @@
 -- The files of a run stay safe, from its start on and turn by turn.
-use Rattle.std.proofs.Common.{◌≡◌, ◌∙◌, ◌+◌, ◌++◌, ◌∷◌, [], ℕ, Bool, true, false, List, Some, drop, length, suc, take, zero, refl, sym, ap, subst, append_assoc}
-use Rattle.std.proofs.Common.{take-append-drop, ◌⊎◌, inl, inr, Option, None, cond, map}
-use Rattle.std.proofs.lemmas.List.{append-nil}
+use Rattle.rubis_keep.proofs.Common.{◌≡◌, ◌∙◌, ◌+◌, ◌++◌, ◌∷◌, [], ℕ, Bool, true, false, List, Some, drop, length, suc, take, zero, refl, sym, ap}
+use Rattle.rubis_keep.proofs.Common.{subst, append_assoc, take-append-drop, ◌⊎◌, inl, inr, Option, None, cond, map, append-nil, Place, Replica}
+use Rattle.rubis_keep.proofs.Common.{counts, Account, AtEnd, input_records}
 use Rattle.std.proofs.Math.Seq.{take-append_seam}
-use Rattle.rubis_model.specs.Site.{Place, Replica, counts}
-use Rattle.rubis_engine.specs.Accounts.{Account}
-use Rattle.rubis_engine.specs.Accounts.Ending.{AtEnd}
-use Rattle.rubis_engine.specs.Text.{input_records}
 use Rattle.rubis_keep.specs.History.{Answers, AreSafe, Event, FileState, History, IsSafe, Says, StaysSafe, Tells, after, after_all, now, out_in, records_in}
 use Rattle.rubis_keep.specs.History.{told_of, IsFrontOf, Grows, KeepsLines}
 use Rattle.rubis_keep.specs.History.Event.{CutTo, Flushed, Shown, Told, Kept, Replied}

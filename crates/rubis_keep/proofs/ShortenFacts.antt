@@ -1,24 +1,18 @@
 -- Records that change nothing where they are read.
-use Rattle.std.proofs.Common.{◌≡◌, ◌∙◌, ◌++◌, ◌∷◌, [], ℕ, Bool, true, false, cond, drop, eqb, get_or, length, take, ◌<◌, ◌+◌, List, Option, inl, inr, refl, sym}
-use Rattle.std.proofs.Common.{ap, subst, append_assoc, append-nil}
-use Rattle.rubis_engine.specs.Text.{input_records}
-use Rattle.rubis_engine.specs.Reading.{Advances, Gives, fields_now}
-use Rattle.rubis_engine.specs.declared.record_list.Records.{Records}
+use Rattle.rubis_keep.proofs.Common.{◌≡◌, ◌∙◌, ◌++◌, ◌∷◌, [], ℕ, Bool, true, false, cond, drop, eqb, get_or, length, take, ◌<◌, ◌+◌, List, Option}
+use Rattle.rubis_keep.proofs.Common.{inl, inr, refl, sym, ap, subst, append_assoc, input_records, Advances, Gives, fields_now, Records, input_of}
+use Rattle.rubis_keep.proofs.Common.{input_step, Place, Replica, next_record, records_from, strip_bom, Appends, Consumes, IsAtEnd, IsTrue, None, Some}
+use Rattle.rubis_keep.proofs.Common.{take_more}
+use Rattle.std.proofs.Common.{append-nil}
 use Rattle.rubis_model.specs.Processes.{IsShortened}
-use Rattle.rubis_message.specs.Inputs.{input_of}
-use Rattle.rubis_model.specs.Site.{input_step, Place, Replica}
 use Rattle.rubis_script.specs.Replica.{SiteState}
 use Rattle.rubis_laws.proofs.Processes.Restarts.{nothing_left_out}
+use Rattle.std.proofs.lemmas.List.{take-append-drop}
 use Rattle.rubis_keep.specs.Lines.{AreSound, begun_after, is_sound, whole_lines, IsWhole}
 use Rattle.rubis_keep.specs.Shortened.{IsShort, Shortens, TakesRecord, TakesRecords, state_after}
 use Rattle.rubis_keep.proofs.LineFacts.{begun-append}
 use Rattle.rubis_keep.proofs.SoundFacts.{records-append, begun-line, begun-no-end, sound-append, sound-back, sound-front, sound-kept, sound-line}
 use Rattle.rubis_keep.proofs.SoundFacts.{whole-append-after, whole-rest, kept-whole, sound-whole}
-use Rattle.csv.specs.Machine.{next_record}
-use Rattle.csv.specs.Reading.{records_from, strip_bom}
-use Rattle.std.specs.Io.KnownBytes.{Appends, Consumes, IsAtEnd}
-use Rattle.std.specs.Prelude.{IsTrue, None, Some}
-use Rattle.std.proofs.lemmas.List.{take-append-drop, take_more}
 
 -- ---- record after record
 

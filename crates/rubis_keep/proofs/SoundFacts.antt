@@ -1,22 +1,22 @@
 -- Texts of lines that are kept as they are, cut off anywhere and gone on with, and the records in them.
-use Rattle.std.proofs.Common.{◌≡◌, ◌∙◌, ◌&&◌, ◌++◌, ◌∷◌, [], ℕ, Bool, true, false, not, List, cond, length, leb, eqb, refl, ap, drop, get_or, take, ◌<◌, ◌+◌}
-use Rattle.std.proofs.Common.{Option, Some, None, IfSome, sym, subst, append_assoc, ◌≤◌, zero, suc, if◌then◌else◌, arith, rules}
+use Rattle.rubis_keep.proofs.Common.{◌≡◌, ◌∙◌, ◌&&◌, ◌++◌, ◌∷◌, [], ℕ, Bool, true, false, not, List, cond, length, leb, eqb, refl, ap, drop, get_or}
+use Rattle.rubis_keep.proofs.Common.{take, ◌<◌, ◌+◌, Option, Some, None, IfSome, sym, subst, append_assoc, ◌≤◌, zero, suc, arith, rules, ◌-◌, ◌^◌}
+use Rattle.rubis_keep.proofs.Common.{◌==◌, length-append, min, step, next_record, default_config, records_from, strip_bom, State, Consumes, IsAtEnd}
+use Rattle.rubis_keep.proofs.Common.{IsTrue, MatchBool, append-nil, take-append-le, take_more, take-append-add, input_records, no_mark}
+use Rattle.std.proofs.Common.{if◌then◌else◌}
 use Rattle.std.proofs.lemmas.Bool.{and_parts, eqb-true}
-use Rattle.csv.specs.Machine.{step, ends_at_end, field_after, fields_after, is_end, next_record}
-use Rattle.csv.specs.Reading.{default_config, records_from, records_next, strip_bom}
-use Rattle.csv.specs.declared.parser.State.{State}
+use Rattle.csv.specs.Machine.{ends_at_end, field_after, fields_after, is_end}
+use Rattle.csv.specs.Reading.{records_next}
+use Rattle.std.proofs.lemmas.List.{take-append-drop}
+use Rattle.csv.specs.declared.parser.Action.{Action}
 use Rattle.csv.specs.declared.parser.State.TheVariants as st
 use Rattle.rubis_keep.specs.Lines.{broken, closes, is_marked, is_question, is_quoted, is_sound, kept_after, kept_line, kept_record, line_max, state_after}
 use Rattle.rubis_keep.specs.Lines.{IsWhole, AreSound, HasNoEnd, are_sound, begun_after, kept_of, read_back, whole_after, whole_lines, is_usual, CutsLines}
+use Rattle.rubis_keep.specs.Faults.{Counts, IsEdited, IsEditedAt, ends_in}
+use Rattle.rubis_keep.specs.Outlets.{counts-both, ends-append}
 use Rattle.rubis_keep.specs.Lines.{asked_by, begun_bytes, asked_after, asked_line, without_after}
 use Rattle.rubis_keep.proofs.LineFacts.{state-append, begun-append, begun-pushed, begun-stays, kept-append, kept_begun, question_begun}
-use Rattle.std.specs.Io.KnownBytes.{Consumes, IsAtEnd}
-use Rattle.std.specs.Prelude.{IsTrue, MatchBool}
-use Rattle.std.proofs.lemmas.List.{append-nil, take-append-drop, take_more}
-use Rattle.csv.specs.declared.parser.Action.{Action}
 use Rattle.csv.specs.declared.parser.Action.TheVariants as act
-use Rattle.rubis_engine.specs.Text.{input_records}
-use Rattle.rubis_engine.proofs.ReadBack.{no_mark}
 
 end-closes : (s : State) → is_quoted s ≡ false → (step default_config s 10).0 ≡ st.StartRecord
 end-closes st.InQuoted e = absurd (cc e)
@@ -146,12 +146,35 @@ are-sound line (b ∷ t) e =
       | false ↦ λ f. are-sound (line ++ b ∷ []) t f
     ] e
 
--- a line that ends at byte i isn't sound
-pub unsound-at : (line xs : List ℕ) (i : ℕ) (sound : Bool) → i < length xs → are_sound line (take i xs) ≡ true
-    → sound ≡ are_sound (begun_after line (take i xs)) (get_or xs i 0 ∷ []) → sound ≡ false → false ≡ are_sound line xs
-unsound-at line xs i sound h before at no_more =
-    sym (unsound-front line xs (i + 1)
-    (sound_take_more line xs i h ∙ ap (λ t. t && are_sound (begun_after line (take i xs)) (get_or xs i 0 ∷ [])) before ∙ sym at ∙ no_more))
+-- the line that ends at byte i is the first that isn't sound
+pub edited-at : (line xs : List ℕ) (i : ℕ) {sound : Bool} {lines lines2 : ℕ} → i < length xs → are_sound line (take i xs) ≡ true
+    → sound ≡ are_sound (begun_after line (take i xs)) (get_or xs i 0 ∷ []) → sound ≡ false → Counts lines lines2 (take i xs) → IsEdited line xs lines lines2
+edited-at line xs i h before at no_more counted = record {
+  at = i;
+  inside = h;
+  before = before;
+  there = sound_take_more line xs i h ∙ ap (λ t. t && are_sound (begun_after line (take i xs)) (get_or xs i 0 ∷ [])) before ∙ sym at ∙ no_more;
+  counted = counted;
+}
+
+pub unsound-at : {line xs : List ℕ} {lines lines2 : ℕ} → IsEdited line xs lines lines2 → false ≡ are_sound line xs
+unsound-at {line} {xs} e = sym (unsound-front line xs (e.at + 1) e.there)
+
+-- one byte more is counted, where it ends a line
+pub counts-end : (lines lines2 : ℕ) (xs : List ℕ) (i : ℕ) {lines3 : ℕ} → i < length xs → get_or xs i 0 ≡ 10 → Counts lines lines2 (take i xs)
+    → lines3 ≡ min (lines2 + 1) (2 ^ 64 - 1) → Counts lines lines3 (take (i + 1) xs)
+counts-end lines lines2 xs i h ends counted e few =
+    let more = ap ends_in (take_more xs i 0 h ∙ ap (λ b. take i xs ++ b ∷ []) ends) ∙ ends-append (take i xs) (10 ∷ []) in
+    let before = counted (omega (arith, few, more)) in
+    omega (arith, e, few, more, before)
+
+pub counts-on : (lines lines2 : ℕ) (xs : List ℕ) (i : ℕ) → i < length xs → (get_or xs i 0 == 10) ≡ false → Counts lines lines2 (take i xs)
+    → Counts lines lines2 (take (i + 1) xs)
+counts-on lines lines2 xs i h ends counted few =
+    let more = ap ends_in (take_more xs i 0 h) ∙ ends-append (take i xs) (get_or xs i 0 ∷ []) in
+    let none = ap (λ t. length (if t then get_or xs i 0 ∷ [] else [])) ends in
+    let before = counted (omega (arith, few, more, none)) in
+    omega (arith, few, more, none, before)
 
 -- all that a reader gave is sound
 pub sound-end : (old mid new : Option (List ℕ)) (bytes : List ℕ) {more : List ℕ} → Consumes old mid bytes → are_sound [] bytes ≡ true → Consumes mid new more
@@ -164,17 +187,34 @@ sound-end (Some x) (Some y) (Some z) bytes f s g none end =
     let all : x ≡ bytes = f ∙ ap (λ t. bytes ++ t) rest ∙ append-nil bytes in
     are-sound [] x (ap (are_sound []) all ∙ s)
 
--- a text is not sound of which a reader gave a beginning that isn't
-pub unsound-read : (old mid new : Option (List ℕ)) (bytes more : List ℕ) → Consumes old mid bytes → are_sound [] bytes ≡ true → Consumes mid new more
-    → are_sound (begun_after [] bytes) more ≡ false → IfSome old (λ text. are_sound [] text ≡ false)
-unsound-read None mid new bytes more f s g e = tt
-unsound-read (Some x) None new bytes more f s g e = absurd f
-unsound-read (Some x) (Some y) None bytes more f s g e = absurd g
-unsound-read (Some x) (Some y) (Some z) bytes more f s g e =
-    let on : are_sound (begun_after [] bytes) y ≡ false =
-    ap (are_sound (begun_after [] bytes)) g ∙ are-sound-append (begun_after [] bytes) more z
-    ∙ ap (λ t. t && are_sound (begun_after (begun_after [] bytes) more) z) e in
-    ap (are_sound []) f ∙ are-sound-append [] bytes y ∙ ap (λ t. t && are_sound (begun_after [] bytes) y) s ∙ on
+-- what a reader gave first is sound, and then a line isn't
+edited-later : (bytes more rest : List ℕ) {lines lines2 : ℕ} → are_sound [] bytes ≡ true → Counts 0 lines bytes
+    → IsEdited (begun_after [] bytes) more lines lines2 → IsEdited [] (bytes ++ (more ++ rest)) 0 lines2
+edited-later bytes more rest {lines} {lines2} s counted e =
+    let inside = e.inside in
+    let size = length-append bytes (more ++ rest) in
+    let size2 = length-append more rest in
+    let after : length bytes + e.at + 1 ≡ length bytes + (e.at + 1) = omega arith in
+    let front = take-append-add bytes (more ++ rest) e.at ∙ ap (λ t. bytes ++ t) (take-append-le e.at more rest (omega (arith, inside))) in
+    let next = ap (λ n. take n (bytes ++ (more ++ rest))) after ∙ take-append-add bytes (more ++ rest) (e.at + 1)
+    ∙ ap (λ t. bytes ++ t) (take-append-le (e.at + 1) more rest (omega (arith, inside))) in
+    record {
+      at = length bytes + e.at;
+      inside = omega (arith, size, size2, inside);
+      before = ap (are_sound []) front ∙ sound_more [] bytes (take e.at more) s e.before;
+      there = ap (are_sound []) next ∙ are-sound-append [] bytes (take (e.at + 1) more)
+          ∙ ap (λ t. t && are_sound (begun_after [] bytes) (take (e.at + 1) more)) s ∙ e.there;
+      counted = subst (Counts 0 lines2) (sym front) (counts-both 0 lines lines2 bytes (take e.at more) counted e.counted);
+    }
+
+pub edited-read : (old mid new : Option (List ℕ)) (bytes more : List ℕ) {lines lines2 number : ℕ} → Consumes old mid bytes → are_sound [] bytes ≡ true
+    → Counts 0 lines bytes → Consumes mid new more → IsEdited (begun_after [] bytes) more lines lines2 → number ≡ min (lines2 + 1) (2 ^ 64 - 1)
+    → IfSome old (λ text. IsEditedAt text number)
+edited-read None mid new bytes more f s counted g e told = tt
+edited-read (Some x) None new bytes more f s counted g e told = absurd f
+edited-read (Some x) (Some y) None bytes more f s counted g e told = absurd g
+edited-read (Some x) (Some y) (Some z) bytes more {lines} {lines2} f s counted g e told =
+    (lines2, subst (λ t. IsEdited [] t 0 lines2) (sym (f ∙ ap (λ t. bytes ++ t) g)) (edited-later bytes more z s counted e), told)
 
 -- what is read of such a text is its whole lines
 pub sound-kept : (line t : List ℕ) → AreSound line t → kept_after false line t ≡ whole_after line t

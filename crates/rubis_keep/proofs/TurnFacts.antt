@@ -1,11 +1,7 @@
 -- How a run goes on, turn by turn, and what has come of its turns.
-use Rattle.std.proofs.Common.{◌≡◌, ◌∙◌, ◌≤◌, ◌+◌, ◌⊎◌, inl, inr, ◌++◌, ◌∷◌, [], ℕ, Bool, true, false, List, Option, Some, None, cond, drop, length, map, refl}
-use Rattle.std.proofs.Common.{take, take-append-drop, sym, ap, subst, arith, length-append}
-use Rattle.std.proofs.lemmas.List.{append-nil}
-use Rattle.std.specs.Io.KnownBytes.{Appends, Consumes, IsAtEnd, Keeps}
-use Rattle.rubis_replica.specs.State.{after_all}
-use Rattle.csv.proofs.WriteFacts.{appends-more, appends-none}
-use Rattle.rubis_engine.specs.Text.{input_records}
+use Rattle.rubis_keep.proofs.Common.{◌≡◌, ◌∙◌, ◌≤◌, ◌+◌, ◌⊎◌, inl, inr, ◌++◌, ◌∷◌, [], ℕ, Bool, true, false, List, Option, Some, None, cond, drop}
+use Rattle.rubis_keep.proofs.Common.{length, map, refl, take, take-append-drop, sym, ap, subst, arith, length-append, append-nil, Appends, Consumes}
+use Rattle.rubis_keep.proofs.Common.{IsAtEnd, Keeps, Place, Replica, after_all, appends-more, appends-none, input_records}
 use Rattle.rubis_engine.proofs.RunFacts.{front-kept as appends-kept}
 use Rattle.rubis_keep.specs.Telling.{grows-none, tells-more, tells-none}
 use Rattle.rubis_keep.specs.Turns.{Answering, Fed, HasFed, HasStopped, IsIdle, Stopped, answering, Answered, Breaks, Broke, Ends, IsAtRest, IsBegun, Reads, Standing}
@@ -18,12 +14,12 @@ use Rattle.rubis_keep.specs.Lines.{begun_after, kept_after, begun_bytes, IsWhole
 use Rattle.rubis_keep.specs.Shortened.{state_after}
 use Rattle.rubis_keep.specs.declared.answers.Answers.{Answers}
 use Rattle.rubis_keep.specs.declared.fault.KeepFault.{KeepFault}
+use Rattle.rubis_keep.specs.declared.pages.Listed.{Listed}
 use Rattle.rubis_keep.specs.declared.site.Clerk.{Clerk}
 use Rattle.rubis_keep.proofs.FedFacts.{fed-more, fed-none, stopped-failed, stopped-later}
 use Rattle.rubis_keep.proofs.HistoryFacts.{consumes-more, consumes-none, IsStill, front-log, front-out, kept-log, kept-out, still-by, still-none, tells-log}
 use Rattle.rubis_keep.proofs.HistoryFacts.{tells-out}
 use Rattle.rubis_keep.proofs.LineFacts.{begun-append, kept-append}
-use Rattle.rubis_keep.proofs.PageFacts.{listed-after}
 use Rattle.rubis_keep.proofs.SoundFacts.{none-read, none-whole, records-append, begun-no-end, kept-whole, whole-append}
 
 -- ---- one turn more
@@ -358,6 +354,14 @@ pub led-idle : {rows : List (List (List ℕ))} {x y : Answering} {text added : L
     → y.state ≡ state_after x.place x.state rows
 led-idle {rows} {x} {y} i j f = sym (ap (λ w. after_all y.place y.state w) j.window) ∙ f.state ∙ ap (λ w. state_after x.place (after_all x.place x.state w) rows) i.window
 
+-- what is held of a listing is let go where records are answered, and stays right where none are
+listed-after : (p : Place) (s : Replica) {s2 : Replica} {records : List ℕ} {old new : Option Listed} → AreListed s old
+    → (new ≡ None) ⊎ ((records ≡ []) × (new ≡ old)) → s2 ≡ state_after p s (input_records records) → AreListed s2 new
+listed-after p s {s2} h (inl none) led = subst (AreListed s2) (sym none) tt
+listed-after p s {new} h (inr same) led =
+    subst (λ x. AreListed x new) (sym (led ∙ ap (λ r. state_after p s (input_records r)) same.0 ∙ ap (state_after p s) none-read))
+    (subst (AreListed s) (sym same.1) h)
+
 pub lines-answered : {keeps asked : Bool} (x y : Standing) (mid : Option History) {chunk question : List ℕ}
     → Reads keeps asked x.input y.input x.begun y.begun chunk question → IsAtRest x → KeepsLines keeps x.history mid chunk
     → HasFed (input_records chunk) x.at y.at mid y.history → IsIdle y.at → (y.listed ≡ None) ⊎ ((chunk ≡ []) × (y.listed ≡ x.listed))
@@ -380,8 +384,8 @@ lines-answered x y mid {chunk} r rests kept (text, added, f, told) idle listed l
 }
 
 pub unmoved-at : {O F G : Type 0} (before : O → Option (List ℕ)) {c c2 : Clerk G} (a a2 : Answers O F) → IsUnmoved c c2
-    → (a2.before ≡ a.before) × (a2.is_live ≡ a.is_live) → answering before c2 a2 ≡ answering before c a
-unmoved-at before a a2 u (same, live) = λ i. record {
+    → a2 ≡ record a { files = a2.files } → answering before c2 a2 ≡ answering before c a
+unmoved-at before a a2 u same = λ i. record {
   place = u.place i;
   state = u.state i;
   held = u.window i;
@@ -389,8 +393,9 @@ unmoved-at before a a2 u (same, live) = λ i. record {
   answered = u.answered i;
   limit = u.limit i;
   sink = u.sink i;
-  is_live = live i;
-  before = before (same i);
+  is_live = (same i).is_live;
+  before = before (same i).before;
+  lines = (same i).lines;
 }
 
 -- and its question was answered, if it asked one

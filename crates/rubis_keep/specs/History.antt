@@ -221,11 +221,6 @@ Tells live old new text due = (events : List Event) × Grows old new events × A
 abbrev pub TellsFront : Bool → Option History → Option History → List ℕ → Type 0
 TellsFront live old new text = (n : ℕ) × (n ≤ length text) × (due : List ℕ) × Tells live old new (take n text) due
 
--- a run that shows its answers, or doesn't, goes on so; what it told was shown, or at a fault some of it may not be
-abbrev pub HasTold : {T E : Type 0} → Bool → Bool → Option History → Option History → Result T E → Type 0
-HasTold live live2 old new r = (live2 ≡ live)
-    × MatchResult r (λ _. (text : List ℕ) × Tells live old new text []) (λ _. (text : List ℕ) × (due : List ℕ) × Tells live old new text due)
-
 -- ---- lines that are kept
 
 -- a run that keeps lines has kept these, and flushed them

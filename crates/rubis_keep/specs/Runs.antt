@@ -4,10 +4,10 @@ use Rattle.std.specs.Prelude.{◌≡◌, ◌∷◌, ◌⊎◌, [], ℕ, IfSome, 
 use Rattle.std.specs.Io.KnownBytes.{IsAtEnd, Keeps}
 use Rattle.rubis_model.specs.Site.{counts}
 use Rattle.rubis_keep.specs.Turns.{Answering, Breaks, Ends, IsAtRest, Standing, left_of}
-use Rattle.rubis_keep.specs.Faults.{HasMore, MayDiffer, IsFailure, MayBeEdited, of_kept}
+use Rattle.rubis_keep.specs.Faults.{HasMore, MayDiffer, IsEditedAt, IsFailure, MayBeEdited, of_kept}
 use Rattle.rubis_keep.specs.History.{Event, Grows, History}
 use Rattle.rubis_keep.specs.History.Event.{Began, CutTo, Flushed, Settled}
-use Rattle.rubis_keep.specs.Lines.{AreSound, are_sound}
+use Rattle.rubis_keep.specs.Lines.{AreSound}
 use Rattle.rubis_keep.specs.declared.fault.KeepFault.{KeepFault}
 
 -- ---- what was kept is answered again
@@ -34,7 +34,7 @@ pub record Replays (x y : Standing) : Type 0 where
 abbrev pub Unreplayed : Standing → Option History → KeepFault → Type 0
 Unreplayed x history2 e = ((met : KeepFault) × (past2 : Option (List ℕ)) × Breaks false x past2 history2 met × (e ≡ of_kept met))
     ⊎ ((end : Standing) × Ends false x end × (history2 ≡ end.history)
-    × ((lines : ℕ) × MayDiffer e (λ d. IfSome end.at.before (λ left. HasMore left lines d))))
+    × MayDiffer e (λ d. IfSome end.at.before (λ left. HasMore left end.at.lines d)))
 
 -- ---- and new records come
 
@@ -68,7 +68,7 @@ RunsOut first past a input input2 old new = (mid : Option History) × (y : Stand
 abbrev pub RunsInto : Option (List ℕ) → Option (List ℕ) → Answering → Option (List ℕ) → Option (List ℕ) → Option History → Option History
     → KeepFault → Type 0
 RunsInto first past a input input2 old new e =
-    (Grows old new [] × (input2 ≡ input) × MayBeEdited e (IfSome first (λ text. are_sound [] text ≡ false)))
+    (Grows old new [] × (input2 ≡ input) × MayBeEdited e (λ n. IfSome first (λ text. IsEditedAt text n)))
     ⊎ ((mid : Option History) × Starts first old mid × (((input2 ≡ input) × Unreplayed (starting a past mid) new e)
     ⊎ ((y : Standing) × Replays (starting a past mid) y × Fails y input input2 new e)))
 

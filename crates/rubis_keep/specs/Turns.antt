@@ -13,10 +13,11 @@ use Rattle.rubis_script.specs.Windows.{window_rows}
 use Rattle.rubis_script.specs.Desks.{LeadsSite, left_at}
 use Rattle.rubis_script.specs.declared.desk.Desk.{Desk}
 use Rattle.rubis_serving.specs.Serving.{Serving, serving}
-use Rattle.rubis_keep.specs.Faults.{MayDiffer, IsFailure}
+use Rattle.rubis_keep.specs.Faults.{Counts, MayDiffer, IsFailure, TellsLine}
 use Rattle.rubis_keep.specs.History.{History, Tells, IsFrontOf, Grows, KeepsLines}
 use Rattle.rubis_keep.specs.Shortened.{state_after}
 use Rattle.rubis_keep.specs.declared.answers.Answers.{Answers}
+use Rattle.rubis_keep.specs.declared.fault.Difference.{Difference}
 use Rattle.rubis_keep.specs.declared.fault.KeepFault.{KeepFault}
 use Rattle.rubis_keep.specs.declared.fault.KeepFault.TheVariants as fault
 use Rattle.rubis_keep.specs.declared.site.Clerk.{Clerk}
@@ -28,7 +29,7 @@ use Rattle.rubis_keep.specs.declared.keeping.KeptLines.{KeptLines}
 use Rattle.rubis_keep.specs.declared.pages.Listed.{Listed}
 
 -- a site that answers: the messages that it holds, the first of which was that record; how many records are answered or held, and how many
--- are at most; what waits to be put, whether answers are shown, and what is left of the answers of before
+-- are at most; what waits to be put, whether answers are shown, and what is left of the answers of before, with how many lines were found
 pub record Answering : Type 0 where
   pub place : Place
   pub state : Replica
@@ -39,6 +40,7 @@ pub record Answering : Type 0 where
   pub sink : List ℕ
   pub is_live : Bool
   pub before : Option (List ℕ)
+  pub lines : ℕ
 
 abbrev pub answering : {O F G : Type 0} → (O → Option (List ℕ)) → Clerk G → Answers O F → Answering
 answering before clerk answers = record {
@@ -51,6 +53,7 @@ answering before clerk answers = record {
   sink = clerk.served.reply.sink;
   is_live = answers.is_live;
   before = before answers.before;
+  lines = answers.lines;
 }
 
 -- the text that is still to be put, if these records come next and then the run ends so
@@ -73,18 +76,23 @@ IsOver old left added text = (old ++ added ≡ text ++ left) × ((added ≡ []) 
 abbrev pub PutsOver : Option (List ℕ) → Option (List ℕ) → List ℕ → List ℕ → Type 0
 PutsOver before before2 added text = IfSome before (λ old. (left : List ℕ) × (before2 ≡ Some left) × IsOver old left added text)
 
+-- where all of it was found, its lines are counted
+abbrev pub CountsOn : ℕ → ℕ → List ℕ → List ℕ → Type 0
+CountsOn lines lines2 added text = added ≡ [] → Counts lines lines2 text
+
 -- nothing was added, or what stands there then is the beginning of this text
 abbrev pub PutsFront : Option (List ℕ) → List ℕ → List ℕ → Type 0
 PutsFront before added text = IfSome before (λ old. (added ≡ []) ⊎ IsFrontOf (old ++ added) text)
 
 -- a text was put, and told and shown where answers are; or a fault came, and some of it was
-abbrev pub Puts : {T : Type 0} → Bool → Option (List ℕ) → Option (List ℕ) → Option History → Option History → List ℕ → Result T KeepFault → Type 0
-Puts live before before2 old new text r = MatchResult r (λ _. (added : List ℕ) × PutsOver before before2 added text × Tells live old new added [])
+abbrev pub Puts : {T : Type 0} → Bool → Option (List ℕ) → Option (List ℕ) → ℕ → ℕ → Option History → Option History → List ℕ → Result T KeepFault → Type 0
+Puts live before before2 lines lines2 old new text r = MatchResult r
+    (λ _. (added : List ℕ) × PutsOver before before2 added text × CountsOn lines lines2 added text × Tells live old new added [])
     (λ _. (added : List ℕ) × PutsFront before added text × ((due : List ℕ) × Tells live old new added due))
 
--- whatever comes behind this text, what stood there isn't the beginning of it
-abbrev pub IsUnlike : Option (List ℕ) → List ℕ → Type 0
-IsUnlike before text = IfSome before (λ old. (rest : List ℕ) → IsFrontOf old (text ++ rest) → ⊥)
+-- whatever comes behind this text, what stood there isn't the beginning of it, and the first line in which they differ is told
+abbrev pub IsUnlike : Option (List ℕ) → ℕ → List ℕ → Difference → Type 0
+IsUnlike before lines text d = IfSome before (λ old. (rest : List ℕ) → (IsFrontOf old (text ++ rest) → ⊥) × TellsLine old (text ++ rest) lines d)
 
 -- ---- the answers of a site as an outlet
 
@@ -92,21 +100,32 @@ IsUnlike before text = IfSome before (λ old. (rest : List ℕ) → IsFrontOf ol
 pub record HasPut {O F : Type 0} (before : O → Option (List ℕ)) (history : F → Option History) (text : List ℕ) (a b : Answers O F) : Type 0 where
   pub added : List ℕ
   pub over : PutsOver (before a.before) (before b.before) added text
+  pub counted : CountsOn a.lines b.lines added text
   pub told : Tells a.is_live (history a.files) (history b.files) added []
   pub live : b.is_live ≡ a.is_live
   pub fault : b.fault ≡ a.fault
 
--- some of it was, or none; where it was noted that what stood there differs, it did
+-- something failed: some of it was, or none; where it was noted that what stood there differs, it did
 pub record HasTorn {O F : Type 0} (before : O → Option (List ℕ)) (history : F → Option History) (text : List ℕ) (a b : Answers O F) : Type 0 where
   pub added : List ℕ
   pub front : PutsFront (before a.before) added text
   pub due : List ℕ
   pub told : Tells a.is_live (history a.files) (history b.files) added due
-  pub noted : (b.fault ≡ a.fault) ⊎ ((e : KeepFault) × (b.fault ≡ Some e) × MayDiffer e (λ d. IsUnlike (before a.before) text))
+  pub noted : (b.fault ≡ a.fault) ⊎ ((e : KeepFault) × (b.fault ≡ Some e) × MayDiffer e (λ d. IsUnlike (before a.before) a.lines text d))
+
+-- the front of it was put, and something failed as the next of it was to be
+pub record HasTornOff {O F : Type 0} (before : O → Option (List ℕ)) (history : F → Option History) (text : List ℕ) (a b : Answers O F) : Type 0 where
+  pub front : List ℕ
+  pub next : List ℕ
+  pub later : List ℕ
+  pub parts : front ++ (next ++ later) ≡ text
+  pub mid : Answers O F
+  pub put : HasPut before history front a mid
+  pub torn : HasTorn before history next mid b
 
 -- a run of a site that is kept
 abbrev pub keeping : {T O F : Type 0} → (O → Option (List ℕ)) → (F → Option History) → Serving (Desk T) (Answers O F)
-keeping before history = serving left_at LeadsSite (HasPut before history) (HasTorn before history)
+keeping before history = serving left_at LeadsSite (HasPut before history) (HasTornOff before history)
 
 -- the fault that was noted, if one was: otherwise memory ran out
 abbrev pub fault_of : Option KeepFault → KeepFault
@@ -124,6 +143,7 @@ met other noted = fault_of noted
 pub record Fed (rows : List (List (List ℕ))) (x y : Answering) (text added : List ℕ) : Type 0 where
   pub says : (ending : Ending) (more : List (List (List ℕ))) → coming x ending (rows ++ more) ≡ text ++ coming y ending more
   pub put : PutsOver x.before y.before added text
+  pub counted : CountsOn x.lines y.lines added text
   pub place : y.place ≡ x.place
   pub state : after_all y.place y.state y.held ≡ state_after x.place (after_all x.place x.state x.held) rows
   pub count : y.answered ≡ x.answered + length rows
@@ -133,7 +153,7 @@ pub record Fed (rows : List (List (List ℕ))) (x y : Answering) (text added : L
 -- what is so if this fault comes before these records are answered: what stands there of before is no beginning of the answers to them,
 -- whatever follows; or they are more than are answered
 abbrev pub IsCause : List (List (List ℕ)) → Answering → KeepFault → Type 0
-IsCause rows x (fault.Differs d) = (more : List (List (List ℕ))) → IsUnlike x.before (coming x AtEnd (rows ++ more))
+IsCause rows x (fault.Differs d) = (more : List (List (List ℕ))) → IsUnlike x.before x.lines (coming x AtEnd (rows ++ more)) d
 IsCause rows x fault.TooLong = x.limit < x.answered + length rows
 IsCause rows x other = IsFailure other
 

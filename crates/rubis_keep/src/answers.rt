@@ -24,7 +24,7 @@ pub struct Answers<O, F> {
     pub(crate) is_live: bool,
     text: Vec<u8>,
     // How many lines of those of before were found.
-    lines: u64,
+    pub(crate) lines: u64,
     // Why a text couldn't be put.
     pub(crate) fault: Option<KeepFault>,
     alloc: Global,
@@ -104,7 +104,7 @@ fn put<O: Read, F: SiteFiles>(
     text: &[u8],
     lines: &mut u64,
 ) -> Result<(), KeepFault>
-    ensures put { Puts is_live (O.remaining before.old) (O.remaining before.new) (F.history files.old) (F.history files.new) text.now result }
+    ensures put { Puts is_live (O.remaining before.old) (O.remaining before.new) lines.old lines.new (F.history files.old) (F.history files.new) text.now result }
     ensures differs { IfErr result (λ e. MayDiffer e (λ d. IfSome (O.remaining before.old) (λ old. HasDifference old text.now lines.old d))) }
 {
     let found = compare(alloc, before, text, *lines)?;
@@ -165,7 +165,7 @@ impl<O: Read, F: SiteFiles> Answers<O, F> {
     pub(crate) fn check_end(&mut self) -> Result<(), KeepFault>
         ensures end { OnOk result (IsAtEnd (O.remaining self.new.before) × Keeps (O.remaining self.old.before) (O.remaining self.new.before)) }
         ensures files { self.new.files ≡ self.old.files }
-        ensures live { self.new.is_live ≡ self.old.is_live }
+        ensures same { (self.new.is_live ≡ self.old.is_live) × (self.new.lines ≡ self.old.lines) }
         ensures differs { IfErr result (λ e. MayDiffer e (λ d. IfSome (O.remaining self.old.before) (λ old. HasMore old self.old.lines d))) }
     {
         let mut next = [0; 256];
@@ -178,12 +178,12 @@ impl<O: Read, F: SiteFiles> Answers<O, F> {
 }
 
 impl<O: Read, F: SiteFiles> Outlet for Answers<O, F> {
-    ghost use Rattle.rubis_keep.specs.Turns.{HasPut, HasTorn};
+    ghost use Rattle.rubis_keep.specs.Turns.{HasPut, HasTornOff};
     ghost use Rattle.rubis_keep.specs.Outlets.{are_outlets};
 
     ghost puts = { HasPut O.remaining F.history };
 
-    ghost tears = { HasTorn O.remaining F.history };
+    ghost tears = { HasTornOff O.remaining F.history };
 
     #[inline(always)]
     fn answer<S: Service>(

@@ -1,7 +1,7 @@
 //! What was kept, read through before it is answered again.
 
-ghost use Rattle.std.specs.Prelude.{◌≡◌, ◌∷◌, ◌<◌, [], ℕ, List, IfErr, IfOk, IfSome, OnOk, false, true};
-ghost use Rattle.rubis_keep.specs.Faults.{MayBeEdited};
+ghost use Rattle.std.specs.Prelude.{◌≡◌, ◌∷◌, ◌<◌, [], ℕ, List, IfErr, IfOk, IfSome, MatchBool, OnOk, true};
+ghost use Rattle.rubis_keep.specs.Faults.{Counts, IsEdited, IsEditedAt, MayBeEdited};
 ghost use Rattle.rubis_keep.specs.Lines.{AreSound, are_sound, begun_after, begun_bytes};
 
 use crate::fault::KeepFault;
@@ -37,6 +37,8 @@ fn check_bytes(begun: &mut Vec<u8>, piece: &[u8], lines: &mut u64) -> Result<boo
     ensures sound { IfOk result (λ sound. (line : List ℕ) → begun.old.items ≡ begun_bytes line → sound ≡ are_sound line piece.now) }
     ensures begun { IfOk result (λ sound. sound ≡ true → (line : List ℕ) → begun.old.items ≡ begun_bytes line
         → begun.new.items ≡ begun_bytes (begun_after line piece.now)) }
+    ensures lines { IfOk result (λ sound. MatchBool sound (Counts lines.old lines.new piece.now)
+        ((line : List ℕ) → begun.old.items ≡ begun_bytes line → IsEdited line piece.now lines.old lines.new)) }
 {
     for byte in piece {
         if !check_byte(begun, *byte)? {
@@ -56,7 +58,7 @@ pub(crate) fn check_kept<T: Wait, C: Read>(
     kept: &mut C,
 ) -> Result<(), KeepFault>
     ensures sound { OnOk result (IfSome (C.remaining kept.old) (λ text. AreSound [] text)) }
-    ensures edited { IfErr result (λ e. MayBeEdited e (IfSome (C.remaining kept.old) (λ text. are_sound [] text ≡ false))) }
+    ensures edited { IfErr result (λ e. MayBeEdited e (λ n. IfSome (C.remaining kept.old) (λ text. IsEditedAt text n))) }
 {
     let mut piece = [0; PIECE];
     let mut begun = Vec::new(alloc);

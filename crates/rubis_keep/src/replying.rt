@@ -49,7 +49,7 @@ pub(crate) fn reply_if<T: Threads + Wait + Sync, O: Read, F: SiteFiles>(
 ) -> Result<(), KeepFault>
     requires listed { AreListed clerk.old.desk.site.state listed.old }
     ensures same { IsUnmoved clerk.old clerk.new }
-    ensures before { (answers.new.before ≡ answers.old.before) × (answers.new.is_live ≡ answers.old.is_live) }
+    ensures before { answers.new ≡ record answers.old { files = answers.new.files } }
     ensures listed { AreListed clerk.old.desk.site.state listed.new }
     ensures replied { RepliesIf is_asked (F.history answers.old.files) (F.history answers.new.files) result question.now
         (reply_text (reply_rows clerk.old.desk.site.place clerk.old.desk.site.state clerk.old.served.answered question.now)) }

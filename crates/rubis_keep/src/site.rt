@@ -96,6 +96,7 @@ pub fn keep_site<T: Threads + Wait + Sync, C: Read, P: Read, O: Read, F: SiteFil
         → EndsTruly limit (site_account (setup_place config.now) (opening_at config.now.site) 1) kept old (R.remaining live.old) (R.remaining live.new) result }
 {
     let mut clerk = Clerk::new(rt, answers.alloc(), config, limit)?;
+    answers.lines = 0;
     let ended = run_kept(rt, recording, live, &mut clerk, answers);
     mem::forget(clerk);
     ended

@@ -1,5 +1,4 @@
-use Rattle.std.proofs.Common.{[], rules}
-use Rattle.rubis_engine.proofs.RunFacts.{more-bound}
+use Rattle.rubis_keep.proofs.Common.{[], rules, more-bound}
 use Rattle.rubis_keep.specs.Telling.{tells-none}
 use Rattle.rubis_keep.proofs.HistoryFacts.{err-is, match-err, tells-front, tells-grown, tells-whole}
 use Rattle.rubis_keep.proofs.answers.tell_all.Goals as goal

@@ -1,5 +1,4 @@
-use Rattle.std.proofs.Common.{◌∙◌, rules}
-use Rattle.std.proofs.lemmas.Bool.{ne_eqb}
+use Rattle.rubis_keep.proofs.Common.{◌∙◌, rules, ne_eqb}
 use Rattle.rubis_keep.proofs.LineFacts.{begun-pushed, begun-stays, sound-ended}
 use Rattle.rubis_keep.proofs.checking.check_byte.Goals as goal
 

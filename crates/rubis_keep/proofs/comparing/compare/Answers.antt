@@ -1,8 +1,5 @@
-use Rattle.std.proofs.Common.{◌∙◌, drop, take, arith, subst, sym}
-use Rattle.std.proofs.lemmas.List.{length-take, take-append-le}
-use Rattle.std.specs.Io.KnownBytes.{Consumes}
-use Rattle.rubis_keep.proofs.DifferenceFacts.{has-difference}
-use Rattle.rubis_keep.specs.Outlets.{may-differ-more}
+use Rattle.rubis_keep.proofs.Common.{◌∙◌, drop, take, arith, subst, sym, length-take, take-append-le, Consumes}
+use Rattle.rubis_keep.proofs.DifferenceFacts.{has-difference, may-differ-more}
 use Rattle.rubis_keep.proofs.HistoryFacts.{consumes-front, differs-later, front-consumed}
 use Rattle.rubis_keep.proofs.comparing.compare.Goals as goal
 

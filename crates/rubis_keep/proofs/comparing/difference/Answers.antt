@@ -1,5 +1,4 @@
-use Rattle.std.proofs.Common.{◌∙◌, ap, arith}
-use Rattle.std.proofs.lemmas.List.{take_rest}
+use Rattle.rubis_keep.proofs.Common.{◌∙◌, ap, arith, take_rest}
 use Rattle.rubis_keep.specs.Faults.{ends_in, last_line, same_in}
 use Rattle.rubis_keep.proofs.DifferenceFacts.{is-difference, shown-of}
 use Rattle.rubis_keep.proofs.comparing.difference.Goals as goal

@@ -1,6 +1,5 @@
-use Rattle.std.proofs.Common.{◌∙◌, ◌==◌, ap, rules, take}
+use Rattle.rubis_keep.proofs.Common.{◌∙◌, ◌==◌, ap, rules, take, before_first}
 use Rattle.std.proofs.lemmas.List.{take_min}
-use Rattle.std.specs.List.{before_first}
 use Rattle.rubis_keep.proofs.DifferenceFacts.{first-line-all, first-line-at}
 use Rattle.rubis_keep.proofs.comparing.first_line.Goals as goal
 

@@ -1,5 +1,4 @@
-use Rattle.std.proofs.Common.{◌∙◌, ◌+◌, rules}
-use Rattle.std.proofs.lemmas.List.{take_rest}
+use Rattle.rubis_keep.proofs.Common.{◌∙◌, ◌+◌, rules, take_rest}
 use Rattle.rubis_keep.proofs.DifferenceFacts.{last-line-all, last-line-at}
 use Rattle.rubis_keep.proofs.comparing.last_line.Goals as goal
 

@@ -1,5 +1,4 @@
-use Rattle.std.proofs.Common.{◌≡◌, ◌≤◌, ◌+◌, drop}
-use Rattle.rubis_model.specs.Site.{counted}
+use Rattle.rubis_keep.proofs.Common.{◌≡◌, ◌≤◌, ◌+◌, drop, counted}
 use Rattle.rubis_keep.proofs.counts.count_of.Given as goal
 
 abbrev pub invariant-loop-message : goal.invariant-loop-message

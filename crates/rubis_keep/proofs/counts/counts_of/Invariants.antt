@@ -1,6 +1,4 @@
-use Rattle.std.proofs.Common.{◌≡◌, map}
-use Rattle.std.specs.List.{range_with_len}
-use Rattle.rubis_model.specs.Site.{counted}
+use Rattle.rubis_keep.proofs.Common.{◌≡◌, map, range_with_len, counted}
 use Rattle.rubis_keep.proofs.counts.counts_of.Given as goal
 
 abbrev pub invariant-loop-site : goal.invariant-loop-site

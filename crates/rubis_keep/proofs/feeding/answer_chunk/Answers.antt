@@ -1,8 +1,7 @@
-use Rattle.std.proofs.Common.{append-nil, arith}
-use Rattle.rubis_engine.specs.Text.{input_records}
-use Rattle.rubis_engine.proofs.RunFacts.{ends_on, ends_so}
-use Rattle.rubis_serving.specs.Serving.{at}
-use Rattle.rubis_serving.proofs.GoFacts.{goes-as, goes-more, goes-tears, tears-as}
+use Rattle.rubis_keep.proofs.Common.{arith, input_records, ends_on, at, goes-tears, tears-as}
+use Rattle.std.proofs.Common.{append-nil}
+use Rattle.rubis_engine.proofs.RunFacts.{ends_so}
+use Rattle.rubis_serving.proofs.GoFacts.{goes-as, goes-more}
 use Rattle.rubis_keep.specs.Outlets.{are_outlets}
 use Rattle.rubis_keep.proofs.FedFacts.{desk-goes}
 use Rattle.rubis_keep.proofs.feeding.answer_chunk.Goals as goal

@@ -1,5 +1,4 @@
-use Rattle.std.proofs.Common.{rules}
-use Rattle.rubis_engine.proofs.RunFacts.{more-bound}
+use Rattle.rubis_keep.proofs.Common.{rules, more-bound}
 use Rattle.rubis_keep.specs.Telling.{grows-none}
 use Rattle.rubis_keep.proofs.HistoryFacts.{grows-front, grows-still, kept-end}
 use Rattle.rubis_keep.proofs.keeping.keep_lines.Goals as goal

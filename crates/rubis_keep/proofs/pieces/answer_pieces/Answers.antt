@@ -1,5 +1,4 @@
-use Rattle.std.proofs.Common.{rules}
-use Rattle.std.proofs.lemmas.Bool.{MatchBool-at_false}
+use Rattle.rubis_keep.proofs.Common.{rules, MatchBool-at_false}
 use Rattle.rubis_keep.proofs.HistoryFacts.{err-is}
 use Rattle.rubis_keep.proofs.TurnFacts.{turned-breaks, turned-ends, turned-more, turned-none}
 use Rattle.rubis_keep.proofs.pieces.answer_pieces.Goals as goal

@@ -1,6 +1,4 @@
-use Rattle.std.proofs.Common.{◌∙◌, Some, false, true}
-use Rattle.rubis_engine.proofs.RunFacts.{takes-at}
-use Rattle.rubis_engine.specs.Text.{input_records}
+use Rattle.rubis_keep.proofs.Common.{◌∙◌, Some, false, true, takes-at, input_records}
 use Rattle.rubis_keep.proofs.AskFacts.{question-many, question-none, question-one}
 use Rattle.rubis_keep.proofs.questions.question_in.Goals as goal
 

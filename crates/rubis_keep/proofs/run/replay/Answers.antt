@@ -4,8 +4,8 @@ use Rattle.rubis_keep.proofs.run.replay.Goals as goal
 
 -- what was kept is answered
 pub returns-in-Ok : goal.returns-in-Ok
-returns-in-Ok g c = replay-ends _ _ c.check_end.result c.answer_pieces.new.answers.lines c.in-Ok.ensures c.check_end.ensures.end
-    (ap g.F.SiteFiles.history c.check_end.ensures.files) c.check_end.ensures.live c.check_end.ensures.differs
+returns-in-Ok g c = replay-ends _ _ c.check_end.result c.in-Ok.ensures c.check_end.ensures.end
+    (ap g.F.SiteFiles.history c.check_end.ensures.files) c.check_end.ensures.same c.check_end.ensures.differs
 
 -- it could not be
 pub returns-in-Err : goal.returns-in-Err

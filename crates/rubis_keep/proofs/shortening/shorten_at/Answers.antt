@@ -1,6 +1,4 @@
-use Rattle.std.proofs.Common.{◌≡◌, ◌∙◌, ◌++◌, [], ap, refl, rules, subst, take}
-use Rattle.std.specs.Io.KnownBytes.{Appends}
-use Rattle.csv.proofs.WriteFacts.{appends-more, appends-none}
+use Rattle.rubis_keep.proofs.Common.{◌≡◌, ◌∙◌, ◌++◌, [], ap, refl, rules, subst, take, Appends, appends-more, appends-none}
 use Rattle.rubis_keep.proofs.HistoryFacts.{consumes-more, consumes-none}
 use Rattle.rubis_keep.proofs.ShortenFacts.{piece-taken, short-ends, short-more, short-starts}
 use Rattle.rubis_keep.proofs.shortening.shorten_at.Goals as goal

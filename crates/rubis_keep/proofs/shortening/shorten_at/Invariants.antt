@@ -1,5 +1,4 @@
-use Rattle.std.proofs.Common.{◌≡◌, [], ℕ, List}
-use Rattle.std.specs.Io.KnownBytes.{Appends, Consumes}
+use Rattle.rubis_keep.proofs.Common.{◌≡◌, [], ℕ, List, Appends, Consumes}
 use Rattle.rubis_keep.specs.Lines.{AreSound}
 use Rattle.rubis_keep.specs.Shortened.{IsShort}
 use Rattle.rubis_keep.proofs.shortening.shorten_at.Given as goal

@@ -1,5 +1,4 @@
-use Rattle.std.proofs.Common.{false, true}
-use Rattle.rubis_engine.proofs.RunFacts.{takes-at}
+use Rattle.rubis_keep.proofs.Common.{false, true, takes-at}
 use Rattle.rubis_keep.proofs.ShortenFacts.{line-ends, line-more, line-starts}
 use Rattle.rubis_keep.proofs.shortening.take_line.Goals as goal
 

@@ -1,6 +1,5 @@
+use Rattle.rubis_keep.proofs.Common.{input_records, Some}
 use Rattle.rubis_engine.specs.Reading.{bytes_left}
-use Rattle.rubis_engine.specs.Text.{input_records}
-use Rattle.std.specs.Prelude.{Some}
 use Rattle.rubis_keep.proofs.ShortenFacts.{SoFar}
 use Rattle.rubis_keep.proofs.shortening.take_line.Given as goal
 

@@ -1,5 +1,4 @@
-use Rattle.std.proofs.Common.{◌∙◌, ◌++◌, [], ◌+◌, arith, refl, rules, subst, sym, take}
-use Rattle.std.proofs.lemmas.List.{append-nil, take_all}
+use Rattle.rubis_keep.proofs.Common.{◌∙◌, ◌++◌, [], ◌+◌, arith, refl, rules, subst, sym, take, append-nil, take_all}
 use Rattle.rubis_keep.specs.Lines.{AreSound}
 use Rattle.rubis_keep.specs.Shortened.{IsShort}
 use Rattle.rubis_keep.proofs.ShortenFacts.{at-place, done_more, front-sound}

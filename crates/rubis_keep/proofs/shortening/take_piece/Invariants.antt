@@ -1,5 +1,4 @@
-use Rattle.std.proofs.Common.{◌≡◌, ◌++◌, [], ℕ, List, take}
-use Rattle.rubis_model.specs.Site.{Replica}
+use Rattle.rubis_keep.proofs.Common.{◌≡◌, ◌++◌, [], ℕ, List, take, Replica}
 use Rattle.rubis_keep.specs.Lines.{AreSound}
 use Rattle.rubis_keep.specs.Shortened.{IsShort}
 use Rattle.rubis_keep.proofs.shortening.take_piece.Given as goal

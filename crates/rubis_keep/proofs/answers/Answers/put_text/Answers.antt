@@ -1,11 +1,12 @@
 use Rattle.std.proofs.Common.{inr, refl}
-use Rattle.rubis_keep.specs.Outlets.{may-differ-more}
+use Rattle.rubis_keep.proofs.DifferenceFacts.{may-differ-more}
 use Rattle.rubis_keep.proofs.PutFacts.{differs-unlike}
 use Rattle.rubis_keep.proofs.answers.Answers.put_text.Goals as goal
 
 pub returns-in-Ok-clause-ok : goal.returns-in-Ok-clause-ok
 returns-in-Ok-clause-ok g c =
-    let (added, over, told) = rw c.deref.ensures.value at c.in-Ok.ensures.put in record { added = added; over = over; told = told; live = refl; fault = refl }
+    let (added, over, counted, told) = rw c.deref.ensures.value at c.in-Ok.ensures.put in
+    record { added = added; over = over; counted = counted; told = told; live = refl; fault = refl }
 
 pub returns-in-Err-clause-err : goal.returns-in-Err-clause-err
 returns-in-Err-clause-err g c =

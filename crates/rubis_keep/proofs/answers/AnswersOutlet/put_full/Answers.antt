@@ -1,5 +1,4 @@
-use Rattle.std.proofs.Common.{[], refl}
-use Rattle.std.proofs.lemmas.Result.{on_ok_weaker}
+use Rattle.rubis_keep.proofs.Common.{[], refl, on_ok_weaker}
 use Rattle.rubis_serving.proofs.GoFacts.{all-some}
 use Rattle.rubis_keep.specs.Turns.{HasPut}
 use Rattle.rubis_keep.specs.Outlets.{put-none}

@@ -1,6 +1,4 @@
-use Rattle.std.proofs.Common.{◌≡◌, ◌&&◌, ◌∙◌, ◌++◌, ◌∷◌, ◌+◌, [], ap, append_assoc, false, refl, rules, sym, take, true}
-use Rattle.std.proofs.lemmas.Bool.{ne_eqb}
-use Rattle.std.proofs.lemmas.List.{append-nil}
+use Rattle.rubis_keep.proofs.Common.{◌≡◌, ◌&&◌, ◌∙◌, ◌++◌, ◌∷◌, ◌+◌, [], ap, append_assoc, false, refl, rules, sym, take, true, ne_eqb, append-nil}
 use Rattle.rubis_keep.specs.Lines.{begun_after, is_question, is_sound, kept_record}
 use Rattle.rubis_keep.proofs.SoundFacts.{cut-ended, cut-next, cut-none, cut-pushed, cut-stays}
 use Rattle.rubis_keep.proofs.lines.LineCutter.take.Goals.{then-len-le-LINE_MAX+in_ok-push, else-len-le-LINE_MAX, else-asks-via-then-asks+else-eq}

@@ -1,6 +1,5 @@
-use Rattle.std.proofs.Common.{◌≡◌, ◌∙◌, ◌-◌, [], ap, arith, drop, length, rules, subst, sym, take}
+use Rattle.rubis_keep.proofs.Common.{◌≡◌, ◌∙◌, ◌-◌, [], ap, arith, drop, length, rules, subst, sym, take, Consumes}
 use Rattle.std.proofs.lemmas.List.{with_items_is}
-use Rattle.std.specs.Io.KnownBytes.{Consumes}
 use Rattle.rubis_keep.specs.Turns.{left_of}
 use Rattle.rubis_keep.proofs.LeftFacts.{left-filled}
 use Rattle.rubis_keep.proofs.unread.Unread.fill.Goals as goal
