@@ -14,7 +14,8 @@ use rubis_pool_core::{Event, Pool, run};
 use rubis_shard::Tables;
 use rubis_tests::purchases::{SCHEDULE, both_pieces, has_purchase, piece, two_shares};
 use rubis_workers::{
-    Free, LogBatch, Pace, Unstarted, Worked, Workers, apply_all, apply_batch, apply_beside, follow_rest,
+    Free, LogBatch, Pace, Unstarted, Worked, Workers, apply_all, apply_batch, apply_beside,
+    follow_rest,
 };
 use std::sync::Arc;
 
