@@ -7,12 +7,15 @@ use crate::telling::{Host, Stop, TRIES, tell_fault, tell_refused};
 use rubis_message::Arrival;
 use rubis_schema::{Fields, Items, Listing, Refusal};
 use rubis_tests::records::Window;
-use rubis_world::{Arrived, Config, Fault, Free, Site};
+use rubis_world::{Arrived, Config, Fault, Site, SiteGate, Watch};
+use std::alloc::Global;
+use std::sync::Arc;
 
-/// The second of two sites.
+/// The second of two sites, and what is seen at its gate.
 #[derive(Drop)]
 pub struct Peer {
-    pub site: Site,
+    pub site: Site<SiteGate>,
+    watch: Arc<Watch, Global>,
     ghost two: { site.place.sites ≡ 2 },
 }
 
@@ -20,13 +23,32 @@ impl Peer {
     /// A site with five shards and four workers, and batches of that many messages.
     pub fn new(rt: &impl Host, batch: u32) -> Result<Peer, Stop> {
         let config = Config::new(1, 2, 5, 4, batch, 1000).ok_or(Stop::GaveUp)?;
-        let site = Site::new(rt.alloc(), &config, Free)?;
-        Ok(Peer { site })
+        let watch = Arc::new(rt.alloc(), Watch::new(rt.alloc(), 5, 1)?).or(Err(Stop::Refused))?;
+        let gate = SiteGate::watched(Arc::try_clone(&watch).or(Err(Stop::GaveUp))?);
+        let site = Site::new(rt.alloc(), &config, gate)?;
+        Ok(Peer { site, watch })
     }
 
     // How much the site has taken in.
     fn released(&self) -> usize {
         self.site.history().len()
+    }
+
+    // How often the gate was called for each of the shards.
+    fn calls(&self) -> [u64; 5] {
+        [0, 1, 2, 3, 4].map(|shard| self.watch.count(shard))
+    }
+
+    // Applies what is left of a batch, and tells how many parts that were. The gate is called once for each shard.
+    fn catch_up(&mut self, rt: &impl Host) -> Result<(), Stop> {
+        let once_more = self.calls().map(|count| count.saturating_add(1));
+        let parts = self.site.catch_up().or(Err(Stop::GaveUp))?;
+        if self.calls() != once_more {
+            let _ = println!(rt; "? Site::catch_up: the gate wasn't called once for each shard");
+            return Err(Stop::GaveUp);
+        }
+        let _ = println!(rt; "! Site::catch_up: {parts} parts");
+        Ok(())
     }
 
     // Tells what a fault left of a site that had released that many messages, and applies what is left if the site is behind.
@@ -42,8 +64,7 @@ impl Peer {
             Fault::Memory => tell_refused(rt, name, same && !self.site.is_behind()),
             Fault::Behind => {
                 tell_fault(rt, name, "behind", same);
-                let parts = self.site.catch_up().or(Err(Stop::GaveUp))?;
-                let _ = println!(rt; "! Site::catch_up: {parts} parts");
+                self.catch_up(rt)?;
             }
             Fault::Refused(_) => return Err(Stop::GaveUp),
         }
