@@ -16,7 +16,7 @@ use rubis_pieces::split;
 use rubis_schema::Listing;
 use rubis_shard::{Shard, Share};
 use rubis_workers::{
-    LogBatch, Pace, Tables, Worked, Workers, apply_all, apply_batch, apply_beside,
+    LogBatch, Pace, Tables, Worked, Workers, apply_all, apply_batch, apply_beside, follow_rest,
 };
 use rubis_world::{Gate, SiteGate, Watch};
 use std::alloc::Global;
@@ -324,5 +324,21 @@ fn rest_after(rt: &impl Rig, count: u32) -> Result<usize, Fail> {
 fn the_pace_knows_how_many_shards_others_took(rt: HostRuntime) -> Result<(), Fail> {
     let (worth, less) = (rest_after(&rt, 1_280)?, rest_after(&rt, 1_276)?);
     assert_eq!(rt; (worth, less), (0, 1));
+    Ok(())
+}
+
+// Nothing of the batch is done on any of the shards, as after an application that found no room to begin.
+#[test]
+fn the_rest_of_a_batch_calls_the_gate_for_each_shard(rt: HostRuntime) -> Result<(), Fail> {
+    let (alloc, mut stops) = (rt.alloc(), [0_usize; 5]);
+    let log = many_messages(alloc, 10)?.messages;
+    if log.len() > 1_000_000 {
+        return Err(Fail::from("too many"));
+    }
+    let watch = Arc::new(alloc, Watch::new(alloc, 5, 1)?)?;
+    let gate = SiteGate::watched(Arc::try_clone(&watch).or(Err("an owner"))?);
+    let mut tables = Tables::new(alloc, 5)?;
+    follow_rest(&mut tables, &log, &mut stops, log.len(), &gate);
+    assert_eq!(rt; (counts_of(&watch), stops), ([1; 5], [10; 5]));
     Ok(())
 }

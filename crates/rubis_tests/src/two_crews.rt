@@ -1,11 +1,12 @@
-//! Tests of helpers of two crews, each of which has an end of its own.
+//! Tests of helpers of two crews, each of which has an end of its own: that they wake, work at once, and leave.
 
 ghost use Rattle.std.specs.Prelude.{◌≡◌, true, [], IfOk};
 ghost use Rattle.rubis_crew.specs.Both.{IsAt};
 
-use crate::gates::is_set_in_time;
+use crate::gates::Holders;
 use crate::rigs::Rig;
 use rubis_crew::{Both, Crew, Found, Helper, Job, Lead};
+use rubis_world::Gate;
 use std::alloc::AllocError;
 use std::sync::Wait;
 use std::sync::atomic::{AtomicBool, Ordering};
@@ -13,8 +14,8 @@ use std::test::Fail;
 use std::thread;
 use std::time::Duration;
 
-// For how many turns the one who gives jobs waits for what a helper does.
-const TURNS: u64 = 10_000_000;
+// For how many naps the one who gives jobs waits for what a helper does: for some ten seconds.
+const NAPS: u32 = 60_000;
 
 // How many jobs are given to each crew, and as many to the second once the first is ended.
 const JOBS: u32 = 10;
@@ -39,6 +40,26 @@ impl Job for Doubling {
     }
 }
 
+// A job at which a helper is held as at a gate.
+#[derive(Drop)]
+struct Holding<'a> {
+    holders: &'a Holders,
+}
+
+impl<'a> Job for Holding<'a> {
+    type Output = ();
+
+    ghost use Rattle.std.specs.Prelude.{⊤};
+
+    ghost Fits = { λ holding. ⊤ };
+
+    ghost Worked = { λ holding result. ⊤ };
+
+    fn work<R: Wait>(self, _rt: &R) {
+        Gate::taken(&self.holders, 0);
+    }
+}
+
 // A crew that doubles numbers, and the permission to give it jobs.
 type Doublers = Crew<Doubling>;
 
@@ -46,13 +67,13 @@ type Giver = Lead<Doubling>;
 
 // The permissions to give jobs to two crews.
 #[derive(Drop)]
-struct Leads {
-    first: Giver,
-    second: Giver,
+struct Leads<J: Job> {
+    first: Lead<J>,
+    second: Lead<J>,
 }
 
 // Two crews for two helpers, of which the second was made beside the first.
-fn two_crews(rt: &impl Rig) -> Result<(Doublers, Doublers, Leads), AllocError>
+fn two_crews<J: Job>(rt: &impl Rig) -> Result<(Crew<J>, Crew<J>, Leads<J>), AllocError>
     ensures { IfOk result (λ made. (made.2.first.crew ≡ made.0.id) × (made.2.second.crew ≡ made.1.id)) }
 {
     let (first, mut lead) = Crew::new(rt, rt.alloc(), 2, 2)?;
@@ -72,21 +93,55 @@ fn two_crews(rt: &impl Rig) -> Result<(Doublers, Doublers, Leads), AllocError>
     }
 }
 
-// Gives a job to helpers that sleep by now, and returns the result, which comes before any helper leaves.
-fn wake(rt: &impl Rig, crew: &Doublers, lead: &mut Giver, left: &AtomicBool, number: u32) -> u64
+// Lets the helpers run.
+fn nap(rt: &impl Rig) {
+    thread::sleep(rt, Duration::from_micros(100));
+}
+
+// Waits for a result, which comes before any helper leaves.
+fn wait_for_one<J: Job>(
+    rt: &impl Rig,
+    crew: &Crew<J>,
+    lead: &mut Lead<J>,
+    left: &AtomicBool,
+) -> J::Output
     requires { lead.old.crew ≡ crew.now.id }
     ensures { lead.new.crew ≡ crew.now.id }
 {
-    thread::sleep(rt, Duration::from_millis(2));
-    assert!(rt; crew.give(rt, lead, Doubling { number }).is_ok());
-    for _ in 0..TURNS {
+    for _ in 0..NAPS {
         if let Some(back) = crew.take_back(rt, lead) {
             return back.result;
         }
         assert!(rt; !left.load(Ordering::SeqCst), "the helpers left");
-        thread::yield_now();
+        nap(rt);
     }
     panic!(rt; "no helper came for a job")
+}
+
+// Waits until the helpers left.
+fn wait_for_the_end(rt: &impl Rig, left: &AtomicBool) {
+    for _ in 0..NAPS {
+        if left.load(Ordering::SeqCst) {
+            return;
+        }
+        nap(rt);
+    }
+    panic!(rt; "a helper was told of no end")
+}
+
+// Leaves the helpers time to find no job, and to fall asleep.
+fn let_them_sleep(rt: &impl Rig) {
+    thread::sleep(rt, Duration::from_millis(2));
+}
+
+// Gives a job to helpers that sleep, and returns the result.
+fn wake(rt: &impl Rig, crew: &Doublers, lead: &mut Giver, left: &AtomicBool, number: u32) -> u64
+    requires { lead.old.crew ≡ crew.now.id }
+    ensures { lead.new.crew ≡ crew.now.id }
+{
+    let_them_sleep(rt);
+    assert!(rt; crew.give(rt, lead, Doubling { number }).is_ok());
+    wait_for_one(rt, crew, lead, left)
 }
 
 // Gives jobs to the crew one by one, and returns the sum of the results.
@@ -106,7 +161,7 @@ fn wake_in_turn(
     rt: &impl Rig,
     first: &Doublers,
     second: &Doublers,
-    leads: &mut Leads,
+    leads: &mut Leads<Doubling>,
     left: &AtomicBool,
 ) -> u64
     requires { (leads.old.first.crew ≡ first.now.id) × (leads.old.second.crew ≡ second.now.id) }
@@ -121,12 +176,13 @@ fn wake_in_turn(
     sum
 }
 
-// Ends a crew to which all results came back.
-fn end(rt: &impl Rig, crew: &Doublers, lead: &mut Giver)
+// Ends a crew to which all results came back, and whose helpers sleep.
+fn end<J: Job>(rt: &impl Rig, crew: &Crew<J>, lead: &mut Lead<J>)
     requires { lead.old.crew ≡ crew.now.id }
     ensures { (lead.new.crew ≡ crew.now.id) × (lead.new.ended ≡ true) × (lead.new.given ≡ []) }
 {
     assert!(rt; lead.out() == 0);
+    let_them_sleep(rt);
     crew.end(rt, lead);
 }
 
@@ -135,9 +191,9 @@ fn lead_both(
     rt: &impl Rig,
     first: &Doublers,
     second: &Doublers,
-    mut leads: Leads,
+    mut leads: Leads<Doubling>,
     left: &AtomicBool,
-) -> (u64, Leads)
+) -> (u64, Leads<Doubling>)
     requires { (leads.first.crew ≡ first.now.id) × (leads.second.crew ≡ second.now.id) }
     ensures first { (result.1.first.crew ≡ first.now.id) × (result.1.first.ended ≡ true) × (result.1.first.given ≡ []) }
     ensures second { (result.1.second.crew ≡ second.now.id) × (result.1.second.ended ≡ true) × (result.1.second.given ≡ []) }
@@ -146,16 +202,16 @@ fn lead_both(
     end(rt, first, &mut leads.first);
     let more = wake_often(rt, second, &mut leads.second, left);
     end(rt, second, &mut leads.second);
-    assert!(rt; is_set_in_time(left), "a helper was told of no end");
+    wait_for_the_end(rt, left);
     (both.wrapping_add(more), leads)
 }
 
 // Has the helper stay, alone or with all others, and says when they left.
-fn stay(
+fn stay<J: Job>(
     rt: &impl Rig,
-    first: &Doublers,
-    second: &Doublers,
-    mut helper: Both<Doubling, Doubling>,
+    first: &Crew<J>,
+    second: &Crew<J>,
+    mut helper: Both<J, J>,
     all: bool,
     left: &AtomicBool,
 )
@@ -193,10 +249,10 @@ fn lead_beside(
     rt: &impl Rig,
     first: &Doublers,
     second: &Doublers,
-    mut leads: Leads,
+    mut leads: Leads<Doubling>,
     mut own: Helper<Doubling>,
     left: &AtomicBool,
-) -> Leads
+) -> Leads<Doubling>
     requires leads { (leads.first.crew ≡ first.now.id) × (leads.second.crew ≡ second.now.id) }
     requires own { own.crew ≡ first.now.id }
     ensures first { (result.first.crew ≡ first.now.id) × (result.first.ended ≡ true) × (result.first.given ≡ []) }
@@ -206,7 +262,7 @@ fn lead_beside(
     wake_often(rt, second, &mut leads.second, left);
     assert_eq!(rt; first.help(rt, &mut own), Found::Over);
     end(rt, second, &mut leads.second);
-    assert!(rt; is_set_in_time(left), "a helper was told of no end");
+    wait_for_the_end(rt, left);
     leads
 }
 
@@ -226,5 +282,62 @@ fn a_helper_of_two_crews_takes_one_end_of_each(rt: HostRuntime) -> Result<(), Fa
     );
     let jobs = (first.close(leads.first), second.close(leads.second));
     assert_eq!(rt; jobs, (0, 10));
+    Ok(())
+}
+
+// Gives two jobs to the first crew, does none of them, and ends both crews.
+fn lead_holding<'a>(
+    rt: &impl Rig,
+    first: &Crew<Holding<'a>>,
+    second: &Crew<Holding<'a>>,
+    mut leads: Leads<Holding<'a>>,
+    holders: &'a Holders,
+    left: &AtomicBool,
+) -> Leads<Holding<'a>>
+    requires { (leads.first.crew ≡ first.now.id) × (leads.second.crew ≡ second.now.id) }
+    ensures first { (result.first.crew ≡ first.now.id) × (result.first.ended ≡ true) × (result.first.given ≡ []) }
+    ensures second { (result.second.crew ≡ second.now.id) × (result.second.ended ≡ true) × (result.second.given ≡ []) }
+{
+    let (one, other) = (Holding { holders }, Holding { holders });
+    assert!(rt; first.give(rt, &mut leads.first, one).is_ok());
+    assert!(rt; first.give(rt, &mut leads.first, other).is_ok());
+    wait_for_one(rt, first, &mut leads.first, left);
+    wait_for_one(rt, first, &mut leads.first, left);
+    end(rt, first, &mut leads.first);
+    end(rt, second, &mut leads.second);
+    leads
+}
+
+// Each of two jobs holds its helper until the other is at work too.
+#[test]
+fn both_helpers_of_two_crews_work_at_once(rt: HostRuntime) -> Result<(), Fail> {
+    let holders = Holders::new(2);
+    let (first, second, mut leads) = two_crews(&rt)?;
+    let helper = Both::new(
+        first.helper(&mut leads.first),
+        second.helper(&mut leads.second),
+    );
+    let left = AtomicBool::new(false);
+    let ((), leads) = thread::join(
+        &rt,
+        || stay(&rt, &first, &second, helper, true, &left),
+        || lead_holding(&rt, &first, &second, leads, &holders, &left),
+    );
+    first.close(leads.first);
+    second.close(leads.second);
+    assert_eq!(rt; holders.most(), 2);
+    Ok(())
+}
+
+// The helper looks for a job only after the one who gives jobs has looked for one that nobody took.
+#[test]
+fn an_end_is_left_to_the_helper(rt: HostRuntime) -> Result<(), Fail> {
+    let (crew, mut lead) = Doublers::new(&rt, rt.alloc(), 1, 1)?;
+    let mut helper = crew.helper(&mut lead);
+    end(&rt, &crew, &mut lead);
+    let unworked = crew.take_unworked(&rt, &mut lead);
+    assert!(rt; unworked.is_none());
+    assert_eq!(rt; crew.help(&rt, &mut helper), Found::Over);
+    crew.close(lead);
     Ok(())
 }
