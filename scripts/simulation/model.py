@@ -666,7 +666,9 @@ class Steps:
         self._rebuild(slot, made)
 
     def takes_over(self, made: "Folder", site: int) -> None:
-        """It takes the place of a site elsewhere, of which other folders go on."""
+        """It takes the place of a site elsewhere, of which other folders go on. One that it made before, without hearing that, never opens."""
+        for slot in self.slots:
+            slot.takes_over = slot.takes_over and slot.site != site
         made.slot = self._another(site)
         self._rebuild(made.slot, made)
         made.slot.takes_over = True
