@@ -5,14 +5,14 @@ import asyncio
 import os
 from typing import TYPE_CHECKING, Any
 
-from .carrier.ledger import packets_of, tokens_of
+from .carrier.ledger import kept_in, sends_of
 from .carrier.over_files import FileLink
 from .carrier.shop import Link
-from .carrier.steps import CallAll, IsRunning, Kept, KeptOf, SayLeave, SayWant, SeeHere, SeenHere, UpElsewhere
+from .carrier.steps import CallAll, IsRunning, Kept, KeptOf, Packets, SayLeave, SayWant, SeeHere, SeenHere, SentHere, UpElsewhere
 from .lives import Seen
 from .requests import Request
 from .signals import done
-from .site import KeptSite, unchanged
+from .site import KeptSite, lines_of, unchanged
 
 if TYPE_CHECKING:
     from .site import KeptSite
@@ -61,8 +61,14 @@ async def kept_of(folder: str, step: KeptOf) -> Kept | None:
     its = f"{folder}/{step.keeper}"
 
     def read() -> Kept | None:
-        return (list(packets_of(unchanged(its), step.origin, step.after)), tokens_of(unchanged(its))) if os.path.exists(f"{its}/kept") else None
+        is_there = os.path.exists(f"{its}/kept")
+        return kept_in(unchanged(its), lines_of(f"{its}/out"), step.origin, step.after) if is_there else None
     return await asyncio.to_thread(read)
+
+
+def sent_here(folder: str, site: int) -> Packets:
+    """What stands in the file `out` of a site in this folder."""
+    return sends_of(lines_of(f"{folder}/{site}/out"))
 
 
 class LinkOverFiles(FileLink, Carrying):
@@ -79,6 +85,8 @@ class LinkOverFiles(FileLink, Carrying):
     async def do(self, step: tuple[Any, ...]) -> Any:
         if isinstance(step, KeptOf):
             return await kept_of(self.shop.folder, step)
+        if isinstance(step, SentHere):
+            return await asyncio.to_thread(sent_here, self.shop.folder, step.site)
         match step:
             case SayWant(site, known):
                 self.shop.hear_want(site, known)

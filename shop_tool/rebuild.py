@@ -17,7 +17,7 @@ from .carrier.steps import CallAll, KeptOf, Replay, Result, SeenHere, SentHere, 
 from .ends import Fault, Status
 from .folders import swapped, synced
 from .kept_keys import has_keys, put_fixed_keys
-from .link import kept_of
+from .link import kept_of, sent_here
 from .lives import Seen, lives_of, take_place
 from .signals import done
 from .site import FENCED, keep_command, lines_of
@@ -92,7 +92,7 @@ def done_here(step: tuple[Any, ...], folder: str, now: settings.Settings) -> Any
     """Does a step that needs no server."""
     match step:
         case SentHere(site):
-            return sends_of(lines_of(f"{folder}/{site}/out"))
+            return sent_here(folder, site)
         case Replay(site, records):
             return replayed(site, records, folder, now)
 

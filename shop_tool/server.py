@@ -243,7 +243,7 @@ class Server:
         return "\n".join([f"site,{site.number}", *(line.split(",", 3)[3] for line in log), *tables]) + "\n"
 
     async def _have(self, site: KeptSite, origin: int, after: int) -> dict[str, Any]:
-        """What a site has of another one beyond a number, and all tokens that came to it: for a rebuild of the other."""
+        """What a site has of another one beyond a number, and all tokens that came to it, or went to the other: for a rebuild of that."""
         messages, tokens = await kept_of(self.shop.folder, KeptOf(site.number, origin, after)) or ([], [])
         return {"messages": [text_of(text) for _, text in messages], "tokens": [text_of(text) for text in tokens]}
 

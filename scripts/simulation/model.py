@@ -16,8 +16,8 @@ comes. Some things happen otherwise than the model has them, and are written as 
   it is no news, and written as unknown.
 - Where a second folder of a site opens, the first one is closed; if its process sends something all the same, it opens again just before,
   or goes on, if something has more of the site by then.
-- A folder that has lost passes, and whose site doesn't have the token, is made again with them before it starts: the start learns of them
-  from the others, and takes no token that it had before.
+- A folder that has lost passes, and whose site doesn't have the token, is made again with them before it starts, if nobody in reach knows
+  that the turns before went to it: the start learns of the turns from the others, and takes no token that it had before.
 - A folder that is made again has what was found, without passes that nobody has any more. Where it lacks what the old one had, the old one
   is lost first.
 
@@ -235,13 +235,15 @@ class Steps:
                 self._open(slot, None)
 
     def _learn_passes(self, slot: Slot, folder: "Folder") -> None:
-        """Where a folder has lost passes, and its site doesn't have the token, the start learns of them from the others."""
+        """Where a folder has lost passes, its site doesn't have the token, and nobody in reach knows who gave it the turns before, the start
+        learns from the others only that there were these turns."""
         if not slot.start:
             return
         taken, beyond, is_cut_off = slot.taken(), slot.behind(), self._is_cut_off(folder)
         step, had, passes = slot.start
-        places = [other.packets for other in self.slots if beyond(other.packets) and self._reaches(folder, other, is_cut_off)]
-        lost = {packet: None for place in places + self.streams * (not is_cut_off) for packet in beyond(place) if packet in self.passes[:passes]}
+        places = [other.packets for other in self.slots if self._reaches(folder, other, is_cut_off)] + self.streams * (not is_cut_off)
+        given = {packet[2] for place in places for packet in place if packet[0] == "p" and packet[3] == slot.site}
+        lost = {packet: None for place in places for packet in beyond(place) if packet in self.passes[:passes] and packet[2] - 1 not in given}
         is_without = slot.last("p") > taken or not taken and slot.site or folder.keeper and folder.keeper.site.issued is None
         if lost and is_without:
             self._put(slot, [*had, *lost], before=step)
@@ -259,14 +261,15 @@ class Steps:
         return self.world.is_over_server and not any(its.reaches() for its in self.world.supervisors() if its.machine is folder.machine)
 
     def _reaches(self, folder: "Folder", other: Slot, is_cut_off: bool) -> bool:
-        """Whether what another folder has is known where this one opens: it is beside it, or its site says it to all."""
-        now, said = self.world.clock.now, self.world.server.said
+        """Whether what another folder has is known where this one opens: it is beside it, or its own supervisor says it to all."""
+        now = self.world.clock.now
         for supervisor in self.world.supervisors():
             for number, site in supervisor.sites.items():
                 if site.folder.slot is other:
                     if supervisor.machine is folder.machine:
                         return site.known.is_set
-                    is_said = number in said and said[number][0] > now and not (folder.slot and folder.slot.site == other.site)
+                    until, said = self.world.server.said.get(number, (0.0, {}))
+                    is_said = until > now and said["by"] == supervisor.named_of(number) and not (folder.slot and folder.slot.site == other.site)
                     return is_said and not is_cut_off and supervisor.reaches() and supervisor.paused_until < now and site.compared.is_set \
                         and not site.fenced_by
         return False

@@ -8,12 +8,11 @@ from collections.abc import Callable
 from typing import Any
 
 from shop_tool.carrier.asking import Ask
-from shop_tool.carrier.ledger import packets_of, sends_of, tokens_of
+from shop_tool.carrier.ledger import kept_in, sends_of
 from shop_tool.carrier.lives import life_text, placed
-from shop_tool.carrier.opening import HEARD_SECONDS
+from shop_tool.carrier.opening import HEARD_SECONDS, said_in_status
 from shop_tool.carrier.over_files import FileLink
 from shop_tool.carrier.over_server import ServerLink
-from shop_tool.carrier.publisher import greatest_said
 from shop_tool.carrier.rebuilding import UNCHANGED
 from shop_tool.carrier.records import Purpose, text_of
 from shop_tool.carrier.shop import HAND_OVER_SECONDS, Shop
@@ -198,7 +197,7 @@ def greatest_of(folder: Folder, site: int) -> int:
 
 def turns_of(folder: Folder) -> list[int]:
     """The turns of the tokens there."""
-    return [int(text.split(b",")[2]) for text in tokens_of(folder.unchanged())]
+    return [int(text.split(b",")[2]) for text in folder.unchanged() if text.startswith(b"token,") and text.endswith(b"\n")]
 
 
 class SimulatedSite(Site):
@@ -385,8 +384,7 @@ class Process:
         folder = self.machine.folders.get(keeper)
         if not folder or not folder.is_there or "kept" not in folder.files:
             return None
-        lines = folder.unchanged()
-        return list(packets_of(lines, origin, after)), tokens_of(lines)
+        return kept_in(folder.unchanged(), folder.lines("out"), origin, after)
 
     def takes_over(self, site: int) -> None:
         """Puts the folder that was made in the place of a site elsewhere."""
@@ -641,7 +639,7 @@ class Supervisor(Process, Shop):
         site.keys.read(folder.lines("keys"), self.unix_time())
         has_all = answered is not None and "kept" in folder.files and len(folder.files["kept"].data) >= answered
         if folder.fenced:
-            site.fence(folder.fenced)
+            site.fence(folder.fenced, outlasts=True)
         self.begin_site(site, answered if has_all else None)
 
     def _opened(self, site: Site, answered: int) -> None:
@@ -690,7 +688,7 @@ class Supervisor(Process, Shop):
             if place[0] > messages or place in own and own[place] != text:
                 raise Violation(f"site {site.number} is opened with {messages} messages, and its stream has {text!r} at {place}")
         for number, (until, said) in self.world.server.said.items():
-            if number not in self.sites and until > self.clock.now and greatest_said(said, site.number) > messages:
+            if number not in self.sites and until > self.clock.now and said_in_status(said, number, site.number).greatest > messages:
                 raise Violation(f"site {site.number} is opened with {messages} messages, and site {number} says that it has {said['has']}")
 
     def _look_at_those_that_ran_on(self, site: Site, opens: StandIn) -> None:

@@ -29,6 +29,16 @@ def passes_to(site: int, turn: int, texts: Iterable[bytes]) -> list[bytes]:
     return [text for its, text in sorted(tokens) if its > turn]
 
 
+def tokens_in(origin: int, upto: Place | None = None) -> Steps[list[bytes]]:
+    """The tokens that stand in a stream, up to a place."""
+    tokens: list[bytes] = []
+    after = NOWHERE
+    while (upto is None or after < upto) and (page := (yield PageOf(origin, after, upto))).entries:
+        tokens += page.tokens
+        after = page.last
+    return tokens
+
+
 class Reader:
     def __init__(self, link: "ServerLink", site: Site) -> None:
         self.link, self.site = link, site
@@ -72,19 +82,9 @@ class Reader:
         """Gives the site the tokens that stand where it doesn't read any more."""
         site, marks = self.site, (yield Marks())
         for origin in to_search(self.marks, marks):
-            if origin in at and (tokens := passes_to(site.number, site.ledger.turn, (yield from self._tokens(origin, at[origin])))):
+            if origin in at and (tokens := passes_to(site.number, site.ledger.turn, (yield from tokens_in(origin, at[origin])))):
                 yield from site.shop.feed(site, tokens)
         self.marks = marks
-
-    @staticmethod
-    def _tokens(origin: int, upto: Place) -> Steps[list[bytes]]:
-        """The tokens that stand in a stream up to a place."""
-        tokens: list[bytes] = []
-        after = NOWHERE
-        while after < upto and (page := (yield PageOf(origin, after, upto))).entries:
-            tokens += page.tokens
-            after = page.last
-        return tokens
 
     def _has_hole(self, origin: int, before: Place, places: list[Place]) -> bool:
         """Whether a message is missing between these, which happens only where entries were deleted."""

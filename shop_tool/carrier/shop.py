@@ -1,13 +1,13 @@
 """The sites of one supervisor: what they are given of each other, and the token, as they want it, hold it and pass it on."""
 
 import abc
-from collections.abc import Callable, Collection, Mapping
+from collections.abc import Callable, Collection, Mapping, Sequence
 from typing import Any
 
 from ..ends import Fault, Status
 from .ledger import Prefix
 from .lives import life_text
-from .opening import may_open_unseen, why_behind, why_passed_on
+from .opening import Said, may_open_unseen, said_by, said_in_packets, why_behind, why_passed_on
 from .records import Message, Purpose, Token, packet_of, why_not_one_record
 from .site import Pending, Site, State
 from .steps import CallAll, Flag, IsRunning, KeptOf, SayLeave, SayWant, Signal, Steps, UpElsewhere, Wait
@@ -127,8 +127,7 @@ class Shop(abc.ABC):
         others = [other for other in self.sites.values() if other is not site]
         if not all(other.tried.is_set and other.known.is_set for other in others):
             return False
-        has = {other.number: other.ledger.have[site.number].greatest for other in others}
-        return _why_behind(site, has, {other.number: other.ledger.turn for other in others}) is None
+        return _why_behind(site, [said_by(other.ledger, site.number) for other in others]) is None
 
     def _opened(self, site: Site, answered: int) -> None:
         site.witness = self.witness_of(site, answered)
@@ -176,19 +175,18 @@ class Shop(abc.ABC):
                 return to == site.number and turn > site.ledger.turn and turn >= self.wants.turn
         return False
 
-    def why_behind(self, site: Site, has: dict[int, int], turns: dict[int, int]) -> Steps[str | None]:
-        """Why a site can't go on of which sites elsewhere have so many messages, and have had the token at these turns, or sites of this
-        folder have."""
+    def why_behind(self, site: Site, elsewhere: Sequence[Said] = ()) -> Steps[str | None]:
+        """Why a site can't go on of which sites elsewhere say this: they have more of it, or sites of this folder have."""
+        said = [*elsewhere]
         for other in self.sites.values():
             if other is not site:
                 yield Wait(other.tried)
                 if other.known.is_set:
-                    has[other.number], turns[other.number] = other.ledger.have[site.number].greatest, other.ledger.turn
+                    said.append(said_by(other.ledger, site.number))
                 elif kept := (yield KeptOf(other.number, site.number, 0)):      # it can't be started
-                    has[other.number] = max((number for number, _ in kept[0]), default=0)
-                    turns[other.number] = max((token.turn for text in kept[1] if isinstance(token := packet_of(text), Token)), default=0)
-        self.wants.known(max(turns.values(), default=0))
-        return _why_behind(site, has, turns)
+                    said.append(said_in_packets(other.number, site.number, *kept))
+        self.wants.known(max((its.turn for its in said), default=0))
+        return _why_behind(site, said)
 
     def behind(self, site: Site) -> dict[int, int]:
         """How many messages of each other site it hasn't, of those that were sent."""
@@ -203,6 +201,7 @@ class Shop(abc.ABC):
         return {"site": site.number, "state": state, "life": life_text(site.lives), "own": ledger.sends.messages, "turn": ledger.turn,
                 "has": {str(origin): have.upto for origin, have in enumerate(ledger.have) if origin != site.number},
                 "greatest": {str(origin): have.greatest for origin, have in enumerate(ledger.have) if origin != site.number},
+                "gave": {str(to): turns for to, turns in enumerate(ledger.gave) if any(turns)},
                 "holds_token": ledger.holds_token and site.known.is_set}
 
     # The token.
@@ -315,7 +314,7 @@ class Shop(abc.ABC):
         return turns
 
 
-def _why_behind(site: Site, has: Mapping[int, int], turns: Mapping[int, int]) -> str | None:
-    """Why a site can't go on of which others have so many messages, and have had the token at these turns."""
-    held = site.ledger.turn if site.ledger.holds_token else None
-    return why_behind(site.number, site.ledger.sends.messages, has) or why_passed_on(site.number, held, turns)
+def _why_behind(site: Site, said: Sequence[Said]) -> str | None:
+    """Why a site can't go on of which others say this."""
+    ledger = site.ledger
+    return why_behind(site.number, ledger.sends.messages, said) or why_passed_on(site.number, ledger.turn, ledger.holds_token, said)

@@ -8,9 +8,10 @@ from shop_tool.carrier.over_files import BATCH, FileLink
 from shop_tool.carrier.reader import BLOCK_SECONDS, Reader
 from shop_tool.carrier.records import Purpose
 from shop_tool.carrier.site import Disagreement, State
-from shop_tool.carrier.steps import CallAll, IsRunning, Marks, Page, PageOf, Read, Say, SayLeave, SayWant, Steps, UpElsewhere, Wait
+from shop_tool.carrier.steps import (CallAll, IsRunning, KeptOf, Marks, Packets, Page, PageOf, Read, Say, SayLeave, SayWant, SeenHere, SentHere, Steps,
+                                     UpElsewhere, Wait)
 from shop_tool.ends import Fault
-from shop_tool.tests.shops import Known, OverServer, Supervisor
+from shop_tool.tests.shops import Known, OverServer, Supervisor, done
 
 TOKEN, ANN = b"token,1,2,1,0", b"msg,1,0,1,1,0:0,user,ann"
 
@@ -234,6 +235,45 @@ class Reading(unittest.TestCase):
 
     def test_a_site_that_is_full(self) -> None:
         self.assertFalse(self.fed([ANN], b"reply,1,refused,2,Full\n"))
+
+
+class Fenced(unittest.TestCase):
+    """What the other site is given of one that is fenced, over files."""
+
+    item, other = (b"msg,1,0,2,0,1:0,item,0.1,%b,7,1,1,0" % name for name in (b"lamp", b"vase"))
+    sent: Packets = [((1, 0), ANN), ((1, 1), TOKEN), ((2, 0), item)]
+
+    def given(self, has: Packets, sent: Packets, outlasts: bool = True, seen: str | None = None) -> bytes:
+        """What site 1, which has these messages, is given of site 0, which was fenced by an earlier start, and whose `out` has that."""
+        shop = Supervisor(FileLink, 2)
+        site, reads = shop.sites.values()
+        assert isinstance(shop.link, FileLink)
+        site.known.clear()
+        site.fence("site 1 has 9 messages of it", outlasts)
+        for (number, _), _ in has:
+            reads.ledger.have[0].add(number)
+        reads.start()
+        answers = {SentHere: sent, KeptOf: ([(number, text) for (number, _), text in has], []), SeenHere: seen}
+        done(shop.link.compare(site), answers)
+        done(shop.link.read(reads), answers, 3)
+        return reads.given
+
+    def test_what_the_other_lacks(self) -> None:
+        self.assertEqual(self.given([], self.sent), b"\n".join([ANN, TOKEN, self.item, b""]))
+        self.assertEqual(self.given(self.sent[:1], self.sent, seen="1 a"), b"\n".join([TOKEN, self.item, b""]))
+        self.assertEqual(self.given([*self.sent[::2], ((3, 0), b"msg,..")], self.sent), b"")
+
+    def test_nothing_of_one_whose_folder_does_not_say_why(self) -> None:
+        """As one of which a line was changed."""
+        self.assertEqual(self.given([], self.sent, outlasts=False), b"")
+
+    def test_nothing_where_another_past_is_known(self) -> None:
+        self.assertEqual(self.given([((2, 0), self.other)], self.sent), b"")
+        self.assertEqual(self.given([], self.sent, seen="1 b"), b"", "its folder is a copy")
+
+    def test_nothing_behind_a_line_that_was_changed(self) -> None:
+        for strange in (b"msg,1,0,1,0,0:0,comment", b"msg,1,1,2,0,0:0,comment", b"msg,1,0", b"token,1"):
+            self.assertEqual(self.given([], [self.sent[0], ((2, 0), strange), self.sent[1]]), ANN + b"\n")
 
 
 class HandingOver(unittest.TestCase):
