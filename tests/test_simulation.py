@@ -30,7 +30,7 @@ def expect_kept(seed: str, numbers: range, decider: pathlib.Path | None, counted
         for played in decided(str(decider), plays) if decider else plays:
             assert not played.broken, told(played, None)
             assert all(played.least[name] >= least for name, least in LEAST.items()), f"{played.seed} has {played.least}"
-            kinds = ("IsKilled", "IsLost", "IsPutBack", "TakesOver", "Rebuilds", "fenced", "cut-off")
+            kinds = ("IsKilled", "IsLost", "IsPutBack", "TakesOver", "Rebuilds", "fenced", "cut-off", "full", "IsRaised")
             events.update(f"with {kind}" for kind in kinds if played.counts.get(kind))
             events.update([f"not all looked at: {played.excused}"] if played.excused else [])
             events.update([f"up to a step that the model doesn't have: {played.why_none}"] if played.why_none else [])

@@ -102,6 +102,7 @@ class Slot:
         self.draining: "Keeper | None" = None           # the keeper that outlives its supervisor
         self.is_stored = False                          # a copy that nobody sees unless it is put back
         self.takes_over = False                         # a standby made it, and it isn't open yet
+        self.has_room = True                            # its site takes messages
 
     def last(self, kind: str) -> int:
         """The number of the last message of its site, or the last turn that this passed on."""
@@ -277,6 +278,16 @@ class Steps:
     def keeper_starts(self, folder: "Folder") -> None:
         if folder.slot:
             self._add("KeeperStarts", folder.slot.number)
+
+    def has_room(self, folder: "Folder", has_room: bool) -> None:
+        """A keeper has read all of a folder, or has kept something: its site is full by then, or isn't any more, as it was raised, or lost some."""
+        slot = folder.slot
+        if slot and slot.life and slot.start and has_room != slot.has_room:
+            if has_room:
+                self._add("IsRaised", slot.number, before=slot.start[0])
+            else:
+                self._add("Fills", slot.number)
+            slot.has_room = has_room
 
     def supervisor_ended(self, folder: "Folder", keeper: "Keeper | None") -> None:
         slot = folder.slot

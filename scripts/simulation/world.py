@@ -30,10 +30,11 @@ from .clock import Clock, Task
 from .disk import File, Folder, Keeper, Machine
 from .model import Steps as ModelSteps
 from .server import WRITES, Server
-from .stand_in import StandIn
+from .stand_in import MOST, StandIn
 
 OVER = (StateOf, Read, Tell, Hear, Owner, Append, Connect)      # some steps over the server, the most frequent ones
 STOP_SECONDS, END_SECONDS, LAST_SECONDS, LOOK_SECONDS = 30.0, 3.0, 2.0, 1.0
+FEW = 10, 60        # how many messages each site keeps of a shop whose sites are to be full
 
 
 class Violation(Exception):
@@ -56,6 +57,8 @@ class World:
         self.sites = self.dice.choice([2, 2, 3, 3, 4, 5])
         self.is_over_server = self.dice.random() < 0.65
         self.is_synced = self.dice.random() < 0.4
+        keep = random.Random(f"{seed} keep")
+        self.keep = keep.randint(*FEW) if keep.random() < 0.15 else MOST    # how many messages each site keeps at first
         self.server = Server(self.clock, self.sites, self.dice.random() < 0.4)
         self.machines = self._machines()
         self.steps = ModelSteps(self)       # the run as a list of the model's steps
@@ -141,14 +144,13 @@ class World:
             for site, folder in machine.folders.items():
                 if folder.yields and site == number:
                     continue        # it told ok only of what stands in the stream
-                if folder not in seen and not self.is_unreached:
+                if folder not in seen and not self.is_unreached and self._is_silent(machine, site):
                     sent = sum(text.startswith(b"msg,") for text in folder.sent()) if site == number else 0
                     turns = turns_of(folder)
                     self.is_unreached = max(sent, greatest_of(folder, number)) > own or held is not None and max(turns, default=0) > held
                     # Where a later turn is known, a token that came before isn't taken again.
                     passed = max((turn for turn in turns if self.passed_by.get(turn) == number), default=0)
-                    if passed > max(known, opens.turn + 1) and self._is_silent(machine, site):
-                        self.is_unreached = True
+                    self.is_unreached |= passed > max(known, opens.turn + 1)
 
     def answered(self, keeper: Keeper, record: bytes, said: bytes) -> None:
         """A site has answered a record."""
@@ -187,6 +189,7 @@ class World:
                 self.note("Reads")
             case b"refused":
                 self.note("Refuses")
+                self.note("full", fields[4] == b"Full")
 
 
 def greatest_of(folder: Folder, site: int) -> int:
@@ -400,7 +403,7 @@ class Process:
     def replay(self, number: int, records: list[Any]) -> None:
         """Has a fresh folder beside a site's folder that is given these records."""
         made = Folder(self.world, self.machine)
-        site = StandIn(number, self.world.sites)
+        site = StandIn(number, self.world.sites, made.keep)
         kept, out = made.file("kept"), made.file("out")
         for given in records:
             said = site.answer(given.record)
@@ -688,8 +691,9 @@ class Supervisor(Process, Shop):
             if place[0] > messages or place in own and own[place] != text:
                 raise Violation(f"site {site.number} is opened with {messages} messages, and its stream has {text!r} at {place}")
         for number, (until, said) in self.world.server.said.items():
-            if number not in self.sites and until > self.clock.now and said_in_status(said, number, site.number).greatest > messages:
-                raise Violation(f"site {site.number} is opened with {messages} messages, and site {number} says that it has {said['has']}")
+            its = said_in_status(said, number, site.number)
+            if number not in self.sites and until > self.clock.now and (its.greatest > messages or held is not None and its.turn > held):
+                raise Violation(f"site {site.number} is opened with {messages} messages and the token of turn {held}, and site {number} says {its}")
 
     def _look_at_those_that_ran_on(self, site: Site, opens: StandIn) -> None:
         """The server came back a moment ago, and may have lost its end: a site whose folder may lack something is opened only once the sites

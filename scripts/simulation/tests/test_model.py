@@ -84,6 +84,14 @@ class Written(unittest.TestCase):
         self.steps.opens(made[-1])
         self.assertEqual(self.steps.lines()[-1], "TakesBack,0")
 
+    def test_a_site_that_was_full_is_raised_before_it_starts(self) -> None:
+        self.steps.has_room(self.folder, False)
+        self.steps.supervisor_ended(self.folder, None)
+        self.steps.starts(self.folder, "2 b")
+        for _ in range(2):
+            self.steps.has_room(self.folder, True)
+        self.assertEqual(self.steps.lines()[1:], ["Fills,0", "IsKilled,0", "IsRaised,0", "Starts,0"])
+
     def test_what_was_passed_before_the_token_came_is_no_news(self) -> None:
         slot = Slot(0, 0)
         slot.packets.append(("p", 1, 8, 0, 0))
