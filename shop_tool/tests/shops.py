@@ -3,18 +3,23 @@
 import contextlib
 import errno
 from collections.abc import Callable
-from typing import Any
+from typing import Any, Generic, TypeVar
 
 from shop_tool.carrier.over_server import ServerLink
 from shop_tool.carrier.shop import Link, Shop
 from shop_tool.carrier.site import Site
 from shop_tool.carrier.steps import Steps, Wait
+from shop_tool.ends import Fault
+
+Linked = TypeVar("Linked", bound=Link)
 
 
 class Known(Site):
     """A site whose files nobody looks at."""
 
-    def __init__(self, shop: Shop, number: int) -> None:
+    shop: "Supervisor[Any]"
+
+    def __init__(self, shop: "Supervisor[Any]", number: int) -> None:
         super().__init__(shop, number, lambda pieces: [], lambda name: None)
         self.lives = ["a"]
         self.written: str | None = None     # why it is stopped for good, as its folder says
@@ -23,11 +28,25 @@ class Known(Site):
         self.is_full = False                # whether the disk has no room
         self.is_written_as_yielding = False
         self.known.set()
+        self.tried.set()
 
     def start(self) -> None:
         """It is up, and takes asks."""
         self.opened.set()
         self.up.set()
+
+    def read_on(self, kept: bytes, out: bytes, count: int) -> None:
+        """Its keeper has died, and so many records stand in its files, with these behind what was answered."""
+        self.up.clear()
+        lines, pieces = iter(kept.splitlines(keepends=True)), iter([out])
+        for _ in self.catch_up(count, lambda: next(lines, b""), lambda: next(pieces, b"")):
+            pass
+
+    def again(self) -> bytes:
+        """What it is given when it is up again."""
+        self.given = b""
+        self.come_up()
+        return self.given
 
     def write(self, data: bytes) -> None:
         self.given += data
@@ -57,14 +76,17 @@ class Known(Site):
         self.written = text
 
 
-class Supervisor(Shop):
-    def __init__(self, link: Callable[[Shop], Link], sites: int, is_alone: bool = False) -> None:
+class Supervisor(Shop, Generic[Linked]):
+    link: Linked
+    sites: dict[int, Known]
+
+    def __init__(self, link: Callable[[Shop], Linked], sites: int, is_alone: bool = False) -> None:
         super().__init__(2, is_alone)
         self.time, self.begun = 0.0, list[Steps[None]]()
         self.events: list[str] = []
         self.taken: list[int] = []
         self.forgotten: list[int] = []
-        self.sites: dict[int, Known] = {number: Known(self, number) for number in range(sites)}
+        self.sites = {number: Known(self, number) for number in range(sites)}
         self.link = link(self)
 
     def now(self) -> float:
@@ -120,3 +142,11 @@ def done(steps: Steps[Any], answers: dict[type, Any], upto: int | None = None) -
                 break
             said = True if isinstance(step, Wait) else answers[type(step)]
     return asked
+
+
+def fault_of(steps: Steps[Any], said: Any = None) -> str:
+    """The fault with which steps end that are told this."""
+    try:
+        raise AssertionError(f"they go on: {steps.send(said)}")
+    except Fault as fault:
+        return fault.text

@@ -9,8 +9,7 @@ from shop_tool.carrier.asking import Ask
 from shop_tool.carrier.keys import LEAST_LINES, SECONDS, Keys, is_key
 from shop_tool.carrier.over_files import FileLink
 from shop_tool.carrier.steps import Say, Steps, Wait
-from shop_tool.ends import Fault
-from shop_tool.tests.shops import Supervisor
+from shop_tool.tests.shops import Supervisor, fault_of
 
 BOB, CAT = b"comment,0.3,0.2,0.1,5,bob", b"comment,0.3,0.2,0.1,5,cat"
 NO = b"reply,%d,refused,6,NoUser\n"
@@ -134,11 +133,6 @@ class Asking(unittest.TestCase):
         self.out += text
         self.site.take(text)
 
-    def fault(self, steps: Steps[None], sent: object = None) -> str:
-        with self.assertRaises(Fault) as raised:
-            steps.send(sent)
-        return raised.exception.text
-
     def numbers(self) -> list[int]:
         return [json.loads(line)["number"] for line in self.site.key_lines.splitlines()]
 
@@ -211,9 +205,9 @@ class Asking(unittest.TestCase):
     def test_one_whose_time_is_over_is_known_by_its_key(self) -> None:
         first, second = self.ask(BOB), self.ask(BOB)
         first.send(None)
-        self.assertIn("it may still be accepted", self.fault(first, False))
+        self.assertIn("it may still be accepted", fault_of(first, False))
         second.send(None)
-        self.assertIn("isn't known yet", self.fault(second, False))
+        self.assertIn("isn't known yet", fault_of(second, False))
         self.answers(NO % 1)
         self.assertIsInstance(self.ask(BOB).send(None), Say)
 
@@ -224,18 +218,14 @@ class Asking(unittest.TestCase):
         gone.close()
         asked = self.ask(BOB)
         asked.send(None)
-        self.site.up.clear()
-        for _ in self.site.catch_up(1, iter([CAT + b"\n", b""]).__next__, iter([NO % 1, b""]).__next__):
-            pass
-        self.site.given = b""
-        self.site.come_up()
-        self.assertEqual((self.site.given, self.numbers()), (BOB + b"\n", [2]))
+        self.site.read_on(CAT + b"\n", NO % 1, 1)
+        self.assertEqual((self.site.again(), self.numbers()), (BOB + b"\n", [2]))
 
     def test_where_its_key_can_t_be_written_it_isn_t_given(self) -> None:
         self.site.is_full = True
         steps = self.ask(BOB)
         steps.send(None)
-        self.assertEqual(self.fault(steps, True), "site 1: its keys can't be written (No space left on device); nothing was given to it")
+        self.assertEqual(fault_of(steps, True), "site 1: its keys can't be written (No space left on device); nothing was given to it")
         self.assertEqual((self.site.given, list(self.site.line)), (b"", []))
         self.site.is_full = False
         self.ask(BOB).send(None)
@@ -260,4 +250,4 @@ class Asking(unittest.TestCase):
         self.site.fence("it is a copy")
         self.site.end()
         self.assertTrue(told)
-        self.assertIn("site 1: it is a copy; nothing was given to it by this request", self.fault(second, True))
+        self.assertIn("site 1: it is a copy; nothing was given to it by this request", fault_of(second, True))

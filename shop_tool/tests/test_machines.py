@@ -11,7 +11,7 @@ from shop_tool.carrier.site import Disagreement, State
 from shop_tool.carrier.steps import (CallAll, IsRunning, KeptOf, Marks, Packets, Page, PageOf, Read, Say, SayLeave, SayWant, SeenHere, SentHere, Steps,
                                      UpElsewhere, Wait)
 from shop_tool.ends import Fault
-from shop_tool.tests.shops import Known, OverServer, Supervisor, done
+from shop_tool.tests.shops import Known, OverServer, Supervisor, done, fault_of
 
 TOKEN, ANN = b"token,1,2,1,0", b"msg,1,0,1,1,0:0,user,ann"
 
@@ -27,11 +27,6 @@ class Asking(unittest.TestCase):
         self.shop = Supervisor(FileLink, 2)
         self.site = self.shop.sites[1]
         self.site.start()
-
-    def fault(self, steps: Steps[None], said: Any = None) -> str:
-        with self.assertRaises(Fault) as raised:
-            steps.send(said)
-        return raised.exception.text
 
     def test_an_answer_is_said(self) -> None:
         steps = ask(self.site).run([b"item,0.1,lamp,7,1,1,0"])
@@ -60,13 +55,13 @@ class Asking(unittest.TestCase):
         steps.send(True)
         self.assertIsInstance(steps.send(False), Say)
         self.assertEqual(steps.send(None), IsRunning(0, 0.5))
-        self.assertEqual(self.fault(steps, True), "site 1: site 0 has the token (turn 0); not accepted within 3 s")
+        self.assertEqual(fault_of(steps, True), "site 1: site 0 has the token (turn 0); not accepted within 3 s")
 
     def test_one_that_was_given_and_is_not_answered_may_still_be_accepted(self) -> None:
         steps = ask(self.site).run([b"user,bob"])
         steps.send(None)
         self.assertIn("it may still be accepted, as record 1 of `shop log 1`; once another record stands there, it never will be",
-                      self.fault(steps, False))
+                      fault_of(steps, False))
 
     def test_it_has_its_number_by_the_records_in_front_of_it(self) -> None:
         """Questions are in front of it too, and one whose answer has come; it keeps its number where the keeper died."""
@@ -79,7 +74,7 @@ class Asking(unittest.TestCase):
         pieces = iter([b"reply,2,refused,3,NoToken\n"])
         reading = self.site.catch_up(3, lambda: b"user,cat\n", lambda: next(pieces, b""))
         reading.send(None)
-        self.assertIn("as record 3 of `shop log 1`", self.fault(steps, False))
+        self.assertIn("as record 3 of `shop log 1`", fault_of(steps, False))
 
     def test_each_of_several_has_its_own_when_the_site_ends(self) -> None:
         several = [ask(self.site).run([b"user,bob"]), ask(self.site).run([b"user,cat"])]
@@ -87,13 +82,13 @@ class Asking(unittest.TestCase):
             steps.send(None)
         self.site.end()
         for number, steps in enumerate(several, 1):
-            self.assertIn(f"being stopped; it may still be accepted, as record {number} of", self.fault(steps, True))
+            self.assertIn(f"being stopped; it may still be accepted, as record {number} of", fault_of(steps, True))
 
     def test_one_that_was_not_given_is_not_given_any_more(self) -> None:
         self.site.up.clear()
         steps = ask(self.site).run([b"user,bob"])
         steps.send(None)
-        self.assertIn("nothing was given to it", self.fault(steps, False))
+        self.assertIn("nothing was given to it", fault_of(steps, False))
         self.site.come_up()
         self.assertEqual(self.site.given, b"")
 
@@ -110,7 +105,7 @@ class Asking(unittest.TestCase):
         self.site.fence("it is a copy")
         self.site.end()
         self.assertEqual(self.site.state, State.FENCED)
-        self.assertIn("site 1: it is a copy; it may still be accepted", self.fault(steps, True))
+        self.assertIn("site 1: it is a copy; it may still be accepted", fault_of(steps, True))
 
 
 class Keeping(unittest.TestCase):
@@ -120,18 +115,13 @@ class Keeping(unittest.TestCase):
         site = Supervisor(FileLink, 2).sites[1]
         site.start()
         site.give([b"user,bob", b"user,cat"])
-        site.up.clear()
-        lines, pieces = iter(kept.splitlines(keepends=True)), iter([out])
-        for _ in site.catch_up(count, lambda: next(lines, b""), lambda: next(pieces, b"")):
-            pass
+        site.read_on(kept, out, count)
         return site
 
     def test_what_was_kept_is_answered_and_the_rest_is_given_again(self) -> None:
         site = self.caught_up(b"user,bob\n", b"reply,1,refused,3,NoToken\n", 1)
         self.assertEqual([pending.record for pending in site.line], [b"user,cat"])
-        site.given = b""
-        site.come_up()
-        self.assertEqual(site.given, b"user,cat\n")
+        self.assertEqual(site.again(), b"user,cat\n")
 
     def test_what_was_not_given_stops_it(self) -> None:
         self.assertRaises(Disagreement, self.caught_up, b"user,eve\n", b"reply,1,refused,3,NoToken\n", 1)
@@ -163,13 +153,8 @@ class Questioning(unittest.TestCase):
     def test_one_whose_keeper_died_is_asked_again(self) -> None:
         self.site.give([b"?state"], Purpose.QUESTION)
         self.site.give([b"user,bob"])
-        self.site.up.clear()
-        lines, pieces = iter([b"user,bob\n", b""]), iter([b"reply,1,refused,3,NoToken\n", b""])
-        for _ in self.site.catch_up(1, lines.__next__, pieces.__next__):
-            pass
-        self.site.given = b""
-        self.site.come_up()
-        self.assertEqual(self.site.given, b"?state\n")
+        self.site.read_on(b"user,bob\n", b"reply,1,refused,3,NoToken\n", 1)
+        self.assertEqual(self.site.again(), b"?state\n")
 
     def test_an_answer_to_something_else_stops_the_site(self) -> None:
         self.site.give([b"?state"], Purpose.QUESTION)
@@ -190,7 +175,6 @@ class Reading(unittest.TestCase):
         del self.shop.sites[0]
         self.site = self.shop.sites[1]
         self.site.start()
-        assert isinstance(self.shop.link, OverServer)
         self.link = self.shop.link
         self.link.marks = [b"a", b"b"]
 
@@ -247,7 +231,6 @@ class Fenced(unittest.TestCase):
         """What site 1, which has these messages, is given of site 0, which was fenced by an earlier start, and whose `out` has that."""
         shop = Supervisor(FileLink, 2)
         site, reads = shop.sites.values()
-        assert isinstance(shop.link, FileLink)
         site.known.clear()
         site.fence("site 1 has 9 messages of it", outlasts)
         for (number, _), _ in has:

@@ -98,10 +98,7 @@ class Opening(unittest.TestCase):
         self.assertEqual(why_passed_on(0, 4, False, [Said(1, 0, 5, (2, 5)), Said(2, 0, 6, ())]), why)
         self.assertEqual(why_passed_on(0, 4, False, [Said(1, 0, 5, (0, 5)), Said(2, 0, 6, (0, 6))]), why)
 
-    def test_what_the_others_say(self) -> None:
-        """In a status, also that of a version of before, and by what stands in a stream or a folder."""
-        status = {"turn": 6, "has": {"0": 2}, "greatest": {"0": 4}, "gave": {"0": [3, 6]}}
-        self.assertEqual(said_in_status(status, 1, 0), Said(1, 4, 6, [3, 6]))
+    def test_what_a_version_of_before_says_and_what_stands_in_a_stream_or_a_folder(self) -> None:
         self.assertEqual(said_in_status({"turn": 6, "has": {"0": 2}}, 1, 0), Said(1, 2, 6, ()))
         self.assertEqual(said_in_packets(1, 0, [(2, b"msg,.."), (4, b"msg,..")], [b"token,1,3,0,9", b"token,1,5,2,9"]), Said(1, 4, 5, [3]))
 

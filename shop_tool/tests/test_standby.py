@@ -9,8 +9,7 @@ from shop_tool.carrier.publisher import Publisher
 from shop_tool.carrier.standby import LOOK_SECONDS, Standby
 from shop_tool.carrier.steps import (Entries, Owner, Page, PageOf, Replay, Rewrite, Say, SayYields, SeeHere, SeeLife, SeenHere, SentHere, Sites, StandBy,
                                      State, Statuses, StreamState, TakeOver, Wait)
-from shop_tool.ends import Fault
-from shop_tool.tests.shops import Known, OverServer, Supervisor, done
+from shop_tool.tests.shops import OverServer, Supervisor, done, fault_of
 
 ANN = b"msg,1,1,1,0,0:0,user,ann"
 LIFE = "1 a"
@@ -26,9 +25,8 @@ class Yielding(unittest.TestCase):
     def setUp(self) -> None:
         self.shop = Supervisor(OverServer, 2)
         self.shop.sites = {1: self.shop.sites[1]}
-        self.site: Known = self.shop.sites[1]
+        self.site = self.shop.sites[1]
         self.site.start()
-        assert isinstance(self.shop.link, OverServer)
         self.link = self.shop.link
         self.publisher = Publisher(self.link, self.site)
 
@@ -95,9 +93,7 @@ class Yielding(unittest.TestCase):
             self.site.take(b"reply,2,ok,1.2\nsend,msg,1,1,2,0,0:1,item,0.1,lamp,7,1,1,0\n")
             steps.send(True)
             self.site.fenced_by = fenced_by
-            with self.assertRaises(Fault) as raised:
-                steps.send(bool(fenced_by))
-            self.assertIn("; whether it was accepted isn't known (shop log 1)", raised.exception.text)
+            self.assertIn("; whether it was accepted isn't known (shop log 1)", fault_of(steps, bool(fenced_by)))
 
     def test_a_refusal_is_said_once_what_was_sent_before_it_is_published(self) -> None:
         """It may rest on that: with the site's place taken, the user whose nickname it names never was."""
@@ -107,10 +103,7 @@ class Yielding(unittest.TestCase):
         steps.send(None)
         self.site.take(b"reply,2,refused,2,NickTaken\n")
         self.assertIsInstance(steps.send(True), Wait)
-        with self.assertRaises(Fault) as raised:
-            steps.send(False)
-        self.assertIn("its answer is not published within 3 s", raised.exception.text)
-        self.assertIn("; not accepted", raised.exception.text)
+        self.assertRegex(fault_of(steps, False), "its answer is not published within 3 s .*; not accepted")
 
     def test_of_records_behind_a_refusal_it_is_not_known(self) -> None:
         """They were given together with the refused one, and may be accepted."""
@@ -121,9 +114,7 @@ class Yielding(unittest.TestCase):
         self.site.take(b"reply,2,refused,6,NoUser\n")
         self.site.take(b"reply,3,ok,1.2\nsend,msg,1,1,2,0,0:1,comment,0.1,0.1,0.2,5,good\n")
         steps.send(True)
-        with self.assertRaises(Fault) as raised:
-            steps.send(False)
-        self.assertIn("; whether it was accepted isn't known (shop log 1)", raised.exception.text)
+        self.assertIn("; whether it was accepted isn't known (shop log 1)", fault_of(steps, False))
 
     def test_a_refusal_before_which_nothing_was_sent_is_said_at_once(self) -> None:
         self.site.yields = True
@@ -138,7 +129,6 @@ class StandingBy(unittest.TestCase):
 
     def setUp(self) -> None:
         self.shop = Supervisor(OverServer, 1)
-        assert isinstance(self.shop.link, OverServer)
         self.shop.after = 30.0
         self.standby = Standby(self.shop.link, 1)
         self.state = stream((1, 0), yields=LIFE)
