@@ -21,9 +21,10 @@ comes. Some things happen otherwise than the model has them, and are written as 
 - A folder that is made again has what was found, without passes that nobody has any more. Where it lacks what the old one had, the old one
   is lost first.
 
-One thing that happens is no step of the model, since its laws don't hold where it does; the steps that it comes to are known as such before
-anybody decides. A site opens, and a folder or a stream has more of it that it doesn't reach: which supervisors run, and what they know, says
-whether it does. Or somebody reads what a process sends whose supervisor is gone."""
+Three things that happen are no steps of the model; the steps that they come to are known as such before anybody decides. A site opens, and
+a folder or a stream has more of it that it doesn't reach: which supervisors run, and what they know, says whether it does. Somebody reads what
+a process sends whose supervisor is gone. Or a site passes a token on that a rebuild of another one made again: it went to a site that had had a
+later one, and that has lost its folder since."""
 
 import contextlib
 from collections.abc import Callable, Generator, Iterable, Sequence
@@ -49,6 +50,7 @@ UNKNOWN = ("may still be accepted", "isn't known", "published", "accepted here")
 # What happens and is no step of the model.
 UNREACHED = "a site is opened that doesn't reach what has more of it"
 WENT_ON = "somebody reads what a process sends after its life has ended"
+MADE_AGAIN = "a site passes a token on that a rebuild made again"
 
 
 class Step:
@@ -467,10 +469,13 @@ class Steps:
             self.known.setdefault(sent_in(rest), packet_of(keeper, fields, rest, 0))
 
     def _look_at_name(self, step: Step, packet: Packet, next_one: int) -> None:
-        """A folder has sent a packet: its name is the next one, if no packet stands there that its process sent as it went on."""
+        """A folder has sent a packet: its name is the next one, if no packet stands there that its process sent as it went on, nor one that no
+        folder sent."""
         names = {its[:3] for its in self.gone_on}
         if packet[2] != next_one and (*packet[:2], next_one) in names:
             step.why_none = WENT_ON
+        elif packet[0] == "p" and packet[2] > 1 and not any(its[2:4] == (packet[2] - 1, packet[1]) for its in self.passes):
+            step.why_none = MADE_AGAIN
 
     # What a server has.
 

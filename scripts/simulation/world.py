@@ -81,7 +81,6 @@ class World:
         self.is_unreached = False           # a site was opened of which a folder has more that couldn't be reached
         self.turn = (0, 0, 0)                                       # of the last token, from and to which site
         self.passes: dict[int, bytes] = {}                          # the last token of each turn
-        self.passed_by: dict[int, int] = {}                         # which site passed it
 
     def _machines(self) -> list[Machine]:
         if not self.is_over_server or self.dice.random() < 0.15:
@@ -136,21 +135,16 @@ class World:
                        and site in supervisor.sites and supervisor.sites[site].compared.is_set and not supervisor.sites[site].fenced_by
                        for supervisor in self.supervisors())
 
-    def note_unreached(self, number: int, seen: list[Folder], opens: StandIn, known: int) -> None:
-        """A site is opened whose supervisor knows of this turn of the token: notes whether a folder has more of it that can't be reached, or
-        has had the token since. Those that it had to see, its own and those beside it, were looked at before, and excuse nothing."""
-        own, held = opens.release.counts[number], opens.turn if opens.issued is not None else None
+    def note_unreached(self, number: int, seen: list[Folder], own: int) -> None:
+        """A site is opened with so many messages: notes whether a folder has more of it whose site can't say so. Those that it had to see, its
+        own and those beside it, were looked at before, and excuse nothing."""
         for machine in self.machines:
             for site, folder in machine.folders.items():
                 if folder.yields and site == number:
                     continue        # it told ok only of what stands in the stream
-                if folder not in seen and not self.is_unreached and self._is_silent(machine, site):
+                if folder not in seen and self._is_silent(machine, site):
                     sent = sum(text.startswith(b"msg,") for text in folder.sent()) if site == number else 0
-                    turns = turns_of(folder)
-                    self.is_unreached = max(sent, greatest_of(folder, number)) > own or held is not None and max(turns, default=0) > held
-                    # Where a later turn is known, a token that came before isn't taken again.
-                    passed = max((turn for turn in turns if self.passed_by.get(turn) == number), default=0)
-                    self.is_unreached |= passed > max(known, opens.turn + 1)
+                    self.is_unreached = self.is_unreached or max(sent, greatest_of(folder, number)) > own
 
     def answered(self, keeper: Keeper, record: bytes, said: bytes) -> None:
         """A site has answered a record."""
@@ -182,7 +176,7 @@ class World:
                     self.turn = turn, site, to
                 if (before := self.passes.get(turn, text)) != text and before not in self.yielding and self._is_anywhere(before):
                     self.excused.add((site, -turn))
-                self.passes[turn], self.passed_by[turn] = text, site
+                self.passes[turn] = text
                 if keeper.folder.yields:
                     self.yielding.add(text)
             case b"holding" | b"released" | b"held":
@@ -683,7 +677,7 @@ class Supervisor(Process, Shop):
                 raise Violation(f"site {site.number} is opened with {messages} messages, and site {other.number} beside it has {has}")
             if held is not None and (turn := max(turns_of(other.folder), default=0)) > held:
                 raise Violation(f"site {site.number} is opened with the token of turn {held}, and site {other.number} beside it has had that of {turn}")
-        self.world.note_unreached(site.number, seen, keeper.site, self.wants.turn)
+        self.world.note_unreached(site.number, seen, messages)
         own = dict(sends_of(keeper.folder.lines("out")))
         if not isinstance(self.link, SimulatedServerLink) or not self.reaches() or f"publish {site.number}" in self.link.down:
             return

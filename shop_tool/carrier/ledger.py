@@ -5,7 +5,7 @@ from array import array
 from collections.abc import Callable, Iterable, Sequence
 
 from .answers import Answer
-from .records import Message, Token, packet_of
+from .records import Message, Token, packet_of, token_of
 from .release import Release
 
 # The place of a packet among those of its site: (n, t) is the t-th token after own message n, and (n, 0) that message. It is the id of
@@ -90,13 +90,6 @@ class Sends:
         """The packet at this place, if one was sent there."""
         index = self.count_upto(place) - 1
         return self.read(index, index + 1)[0][1] if index >= 0 and self.place(index) == place else None
-
-    def message(self, number: int) -> bytes | None:
-        """Own message `number`, if it was sent."""
-        if not 1 <= number <= self.messages:
-            return None
-        index = bisect.bisect_left(self._numbers, number)
-        return self.read(index, index + 1)[0][1]
 
 
 class Ledger:
@@ -212,7 +205,7 @@ def kept_in(kept: Iterable[bytes], out: Iterable[bytes], origin: int, after: int
         elif packet and packet.origin == origin and packet.number > after:
             messages.append((packet.number, line[:-1]))
     passed = [line[5:-1] for line in out if line.startswith(b"send,token,") and line.endswith(b"\n")]
-    return messages, tokens + [text for text in passed if isinstance(packet := packet_of(text), Token) and packet.to == origin]
+    return messages, tokens + [text for text in passed if (token := token_of(text)) and token.to == origin]
 
 
 def sends_of(out: Iterable[bytes]) -> list[tuple[Place, bytes]]:

@@ -5,7 +5,7 @@ from typing import Any, NamedTuple
 
 from .ledger import Ledger, Place
 from .lives import Standing
-from .records import Token, packet_of
+from .records import token_of
 
 HEARD_SECONDS = 6.0     # until then a supervisor that runs has made its connections again, and has said how its sites are
 
@@ -32,15 +32,9 @@ def said_in_status(status: Mapping[str, Any], by: int, of: int) -> Said:
 
 def said_in_packets(by: int, of: int, messages: Iterable[tuple[int, bytes]], tokens: Iterable[bytes]) -> Said:
     """What its files or its stream have: messages of the other one, with their numbers, and tokens that it took or passed on."""
-    turns = [packet for text in tokens if isinstance(packet := packet_of(text), Token)]
+    turns = [token for text in tokens if (token := token_of(text))]
     return Said(by, max((number for number, _ in messages), default=0), max((token.turn for token in turns), default=0),
                 [token.turn for token in turns if token.to == of])
-
-
-def may_open_unseen(is_alone: bool, has_all: bool) -> bool:
-    """Whether a site takes asks before it is compared with what the others have of it, where that can't be seen: it is known that its
-    folder has all that it answered, or its operator takes the risk."""
-    return is_alone or has_all
 
 
 def must_compare_all(standing: Standing, is_alone: bool) -> bool:

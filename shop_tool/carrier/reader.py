@@ -6,7 +6,7 @@ from typing import TYPE_CHECKING
 from ..ends import Fault
 from .ledger import NOWHERE, Place
 from .over_files import BATCH, FULL_WAIT
-from .records import Token, packet_of
+from .records import token_of
 from .site import Site
 from .steps import Mark, Marks, Packets, PageOf, Read, Steps, Wait
 
@@ -25,7 +25,7 @@ def to_search(seen: Sequence[Mark] | None, now: Sequence[Mark]) -> list[int]:
 
 def passes_to(site: int, turn: int, texts: Iterable[bytes]) -> list[bytes]:
     """The tokens for a site, of turns above the one that it had last, in their order."""
-    tokens = [(packet.turn, text) for text in texts if isinstance(packet := packet_of(text), Token) and packet.to == site]
+    tokens = [(token.turn, text) for text in texts if (token := token_of(text)) and token.to == site]
     return [text for its, text in sorted(tokens) if its > turn]
 
 

@@ -12,7 +12,7 @@ from typing import NamedTuple
 from ..ends import Fault, Status
 from .ledger import NOWHERE, is_of
 from .lives import count_of
-from .records import Message, Token, ask_of, bytes_of, packet_of
+from .records import Message, Token, ask_of, bytes_of, packet_of, token_of
 from .steps import (Adopt, CallAll, Entries, Kept, KeptOf, Owner, Packets, Replay, Rewrite, SeenHere, SentHere, State, Statuses, Steps, StreamState,
                     Swap, TakeOver, TakePlace, Wait)
 
@@ -171,11 +171,6 @@ def adopted(site: int) -> Steps[None]:
     state: StreamState = yield State(site)
     yield Adopt(site, (yield Owner(site)), False)
     yield TakePlace(site, count_of(state.life))
-
-
-def token_of(text: bytes) -> Token | None:
-    packet = packet_of(text)
-    return packet if isinstance(packet, Token) else None
 
 
 def seller_in(text: bytes) -> bytes | None:

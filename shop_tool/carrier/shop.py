@@ -7,7 +7,7 @@ from typing import Any
 from ..ends import Fault, Status
 from .ledger import Prefix
 from .lives import life_text
-from .opening import Said, may_open_unseen, said_by, said_in_packets, why_behind, why_passed_on
+from .opening import Said, said_by, said_in_packets, why_behind, why_passed_on
 from .records import Message, Purpose, Token, packet_of, why_not_one_record
 from .site import Pending, Site, State
 from .steps import CallAll, Flag, IsRunning, KeptOf, SayLeave, SayWant, Signal, Steps, UpElsewhere, Wait
@@ -118,7 +118,7 @@ class Shop(abc.ABC):
         """What the others have of the site can't be seen. It takes asks all the same, before it is compared, if its folder lacks nothing, as far
         as the sites here know, or if its operator takes the risk."""
         has_all = site.answered is not None and site.known.is_set and self._has_all_of(site)
-        if not site.opened.is_set and may_open_unseen(self.is_alone, has_all):
+        if not site.opened.is_set and (self.is_alone or has_all):
             self._opened(site, site.answered or 0)
 
     def _has_all_of(self, site: Site) -> bool:

@@ -144,6 +144,12 @@ def done(steps: Steps[Any], answers: dict[type, Any], upto: int | None = None) -
     return asked
 
 
+def begun(steps: Steps[Any]) -> Steps[Any]:
+    """Steps of which the first is being done."""
+    steps.send(None)
+    return steps
+
+
 def fault_of(steps: Steps[Any], said: Any = None) -> str:
     """The fault with which steps end that are told this."""
     try:

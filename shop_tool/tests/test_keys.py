@@ -9,7 +9,7 @@ from shop_tool.carrier.asking import Ask
 from shop_tool.carrier.keys import LEAST_LINES, SECONDS, Keys, is_key
 from shop_tool.carrier.over_files import FileLink
 from shop_tool.carrier.steps import Say, Steps, Wait
-from shop_tool.tests.shops import Supervisor, fault_of
+from shop_tool.tests.shops import Supervisor, begun, fault_of
 
 BOB, CAT = b"comment,0.3,0.2,0.1,5,bob", b"comment,0.3,0.2,0.1,5,cat"
 NO = b"reply,%d,refused,6,NoUser\n"
@@ -144,8 +144,7 @@ class Asking(unittest.TestCase):
         self.assertEqual(self.site.given, CAT + b"\n" + BOB + b"\n")
 
     def test_asked_again_it_gets_the_first_answer(self) -> None:
-        first = self.ask(BOB)
-        first.send(None)
+        first = begun(self.ask(BOB))
         self.answers(NO % 1)
         answer = first.send(True)
         self.assertRaises(StopIteration, first.send, None)
@@ -193,8 +192,7 @@ class Asking(unittest.TestCase):
         self.assertIsInstance(second.send(True), Say)
 
     def test_one_that_waited_for_the_token_in_vain_may_be_given_again(self) -> None:
-        first = self.ask(b"user,bob")
-        first.send(None)
+        first = begun(self.ask(b"user,bob"))
         self.answers(b"reply,1,refused,3,NoToken\n")
         first.send(True)
         first.send(False)
@@ -213,18 +211,15 @@ class Asking(unittest.TestCase):
 
     def test_one_that_was_never_kept_is_given_again_under_its_next_number(self) -> None:
         self.site.give([CAT])
-        gone = self.ask(CAT, names=(b"gone",))
-        gone.send(None)
+        gone = begun(self.ask(CAT, names=(b"gone",)))
         gone.close()
-        asked = self.ask(BOB)
-        asked.send(None)
+        asked = begun(self.ask(BOB))
         self.site.read_on(CAT + b"\n", NO % 1, 1)
         self.assertEqual((self.site.again(), self.numbers()), (BOB + b"\n", [2]))
 
     def test_where_its_key_can_t_be_written_it_isn_t_given(self) -> None:
         self.site.is_full = True
-        steps = self.ask(BOB)
-        steps.send(None)
+        steps = begun(self.ask(BOB))
         self.assertEqual(fault_of(steps, True), "site 1: its keys can't be written (No space left on device); nothing was given to it")
         self.assertEqual((self.site.given, list(self.site.line)), (b"", []))
         self.site.is_full = False
@@ -232,8 +227,7 @@ class Asking(unittest.TestCase):
         self.assertEqual(self.site.given, BOB + b"\n")
 
     def test_many_go_together_but_for_what_is_known(self) -> None:
-        steps = self.ask(BOB, CAT, CAT, CAT, names=(b"a", b"b", b"b", None))
-        steps.send(None)
+        steps = begun(self.ask(BOB, CAT, CAT, CAT, names=(b"a", b"b", b"b", None)))
         self.assertEqual(self.site.given, BOB + b"\n" + CAT + b"\n")
         self.answers(NO % 1 + NO % 2)
         self.assertEqual([steps.send(True), steps.send(None), steps.send(None)][2].is_again, True)     # type: ignore[attr-defined]

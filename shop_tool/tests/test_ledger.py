@@ -71,7 +71,7 @@ class Notes(unittest.TestCase):
         self.assertEqual([place for place, _ in sends.read(0, len(sends))], [(1, 0), (1, 1), (2, 0), (3, 0), (3, 1)])
         self.assertEqual([text for _, text in sends.read(1, 3)], [b"token,1,1,1,1", b"msg,1,0,2,0,1:0,comment,0.1,0.1,1.1,1,x"])
         self.assertEqual([sends.count_upto(place) for place in ((0, 0), (1, 0), (1, 1), (1, 9), (3, 0), (9, 0))], [0, 1, 2, 2, 4, 5])
-        self.assertEqual((sends.message(3), sends.message(4), sends.message(0)), (b"msg,1,0,3,4,2:2,bid,0.3,0.1,5", None, None))
+        self.assertEqual((sends.at((3, 0)), sends.at((4, 0)), sends.at((0, 0))), (b"msg,1,0,3,4,2:2,bid,0.3,0.1,5", None, None))
         self.assertEqual(sends.last, (3, 1))
 
     def test_what_it_has_of_another_site(self) -> None:

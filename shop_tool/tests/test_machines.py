@@ -11,7 +11,7 @@ from shop_tool.carrier.site import Disagreement, State
 from shop_tool.carrier.steps import (CallAll, IsRunning, KeptOf, Marks, Packets, Page, PageOf, Read, Say, SayLeave, SayWant, SeenHere, SentHere, Steps,
                                      UpElsewhere, Wait)
 from shop_tool.ends import Fault
-from shop_tool.tests.shops import Known, OverServer, Supervisor, done, fault_of
+from shop_tool.tests.shops import Known, OverServer, Supervisor, begun, done, fault_of
 
 TOKEN, ANN = b"token,1,2,1,0", b"msg,1,0,1,1,0:0,user,ann"
 
@@ -38,8 +38,7 @@ class Asking(unittest.TestCase):
         self.assertRaises(StopIteration, steps.send, None)
 
     def test_one_that_is_refused_for_want_of_the_token_is_asked_once_more(self) -> None:
-        steps = ask(self.site).run([b"user,bob"])
-        steps.send(None)
+        steps = begun(ask(self.site).run([b"user,bob"]))
         self.site.take(b"reply,1,refused,3,NoToken\n")
         self.assertEqual(steps.send(True), Wait(self.site.token_came, 3.0))
         self.assertEqual(self.shop.begun[0].send(None), SayWant(1, 0))
@@ -49,8 +48,7 @@ class Asking(unittest.TestCase):
         self.assertEqual(self.site.given, b"user,bob\nlist,misfits\nuser,bob\n")
 
     def test_when_the_token_does_not_come_it_is_not_accepted(self) -> None:
-        steps = ask(self.site).run([b"user,bob", b"user,cat"])
-        steps.send(None)
+        steps = begun(ask(self.site).run([b"user,bob", b"user,cat"]))
         self.site.take(b"reply,1,refused,3,NoToken\n")
         steps.send(True)
         self.assertIsInstance(steps.send(False), Say)
@@ -58,8 +56,7 @@ class Asking(unittest.TestCase):
         self.assertEqual(fault_of(steps, True), "site 1: site 0 has the token (turn 0); not accepted within 3 s")
 
     def test_one_that_was_given_and_is_not_answered_may_still_be_accepted(self) -> None:
-        steps = ask(self.site).run([b"user,bob"])
-        steps.send(None)
+        steps = begun(ask(self.site).run([b"user,bob"]))
         self.assertIn("it may still be accepted, as record 1 of `shop log 1`; once another record stands there, it never will be",
                       fault_of(steps, False))
 
@@ -67,8 +64,7 @@ class Asking(unittest.TestCase):
         """Questions are in front of it too, and one whose answer has come; it keeps its number where the keeper died."""
         self.site.give([b"user,ann", b"user,cat"])
         self.site.give([b"?state"], Purpose.QUESTION)
-        steps = ask(self.site).run([b"user,bob"])
-        steps.send(None)
+        steps = begun(ask(self.site).run([b"user,bob"]))
         self.site.take(b"reply,1,refused,3,NoToken\n")
         self.site.up.clear()
         pieces = iter([b"reply,2,refused,3,NoToken\n"])
@@ -86,22 +82,19 @@ class Asking(unittest.TestCase):
 
     def test_one_that_was_not_given_is_not_given_any_more(self) -> None:
         self.site.up.clear()
-        steps = ask(self.site).run([b"user,bob"])
-        steps.send(None)
+        steps = begun(ask(self.site).run([b"user,bob"]))
         self.assertIn("nothing was given to it", fault_of(steps, False))
         self.site.come_up()
         self.assertEqual(self.site.given, b"")
 
     def test_an_asker_who_leaves_takes_along_what_was_not_given(self) -> None:
         self.site.up.clear()
-        steps = ask(self.site).run([b"user,bob"])
-        steps.send(None)
+        steps = begun(ask(self.site).run([b"user,bob"]))
         steps.close()
         self.assertFalse(self.site.line)
 
     def test_a_site_that_ends(self) -> None:
-        steps = ask(self.site).run([b"user,bob"])
-        steps.send(None)
+        steps = begun(ask(self.site).run([b"user,bob"]))
         self.site.fence("it is a copy")
         self.site.end()
         self.assertEqual(self.site.state, State.FENCED)

@@ -8,8 +8,8 @@ from unittest import mock
 from shop_tool import lives, witness
 from shop_tool.carrier.ledger import Place
 from shop_tool.carrier.lives import Standing, life_text, standing, takes_place, why_other
-from shop_tool.carrier.opening import (Said, may_open_unseen, must_compare_all, runs_elsewhere, said_in_packets, said_in_status, strange_packet,
-                                       why_behind, why_passed_on)
+from shop_tool.carrier.opening import (Said, must_compare_all, runs_elsewhere, said_in_packets, said_in_status, strange_packet, why_behind,
+                                       why_passed_on)
 from shop_tool.lives import begin_life, lives_of, take_place
 
 
@@ -65,11 +65,6 @@ class Lives(unittest.TestCase):
 
 
 class Opening(unittest.TestCase):
-    def test_who_opens_unseen(self) -> None:
-        self.assertTrue(may_open_unseen(True, False))
-        self.assertTrue(may_open_unseen(False, True))
-        self.assertFalse(may_open_unseen(False, False))
-
     def test_when_all_is_compared(self) -> None:
         self.assertFalse(must_compare_all(Standing.NEXT, False))
         self.assertTrue(must_compare_all(Standing.NEXT, True))

@@ -9,7 +9,7 @@ from shop_tool.carrier.publisher import Publisher
 from shop_tool.carrier.standby import LOOK_SECONDS, Standby
 from shop_tool.carrier.steps import (Entries, Owner, Page, PageOf, Replay, Rewrite, Say, SayYields, SeeHere, SeeLife, SeenHere, SentHere, Sites, StandBy,
                                      State, Statuses, StreamState, TakeOver, Wait)
-from shop_tool.tests.shops import OverServer, Supervisor, done, fault_of
+from shop_tool.tests.shops import OverServer, Supervisor, begun, done, fault_of
 
 ANN = b"msg,1,1,1,0,0:0,user,ann"
 LIFE = "1 a"
@@ -87,8 +87,7 @@ class Yielding(unittest.TestCase):
         self.site.yields = True
         for fenced_by in (None, "b/1 has it"):
             self.accept()
-            steps = Ask(self.site, 3.0, fetches_token=True).run([b"list,misfits"])
-            steps.send(None)
+            steps = begun(Ask(self.site, 3.0, fetches_token=True).run([b"list,misfits"]))
             self.site.fenced_by = None
             self.site.take(b"reply,2,ok,1.2\nsend,msg,1,1,2,0,0:1,item,0.1,lamp,7,1,1,0\n")
             steps.send(True)
@@ -99,8 +98,7 @@ class Yielding(unittest.TestCase):
         """It may rest on that: with the site's place taken, the user whose nickname it names never was."""
         self.site.yields = True
         self.accept()
-        steps = Ask(self.site, 3.0, fetches_token=True).run([b"user,ann"])
-        steps.send(None)
+        steps = begun(Ask(self.site, 3.0, fetches_token=True).run([b"user,ann"]))
         self.site.take(b"reply,2,refused,2,NickTaken\n")
         self.assertIsInstance(steps.send(True), Wait)
         self.assertRegex(fault_of(steps, False), "its answer is not published within 3 s .*; not accepted")
@@ -109,8 +107,7 @@ class Yielding(unittest.TestCase):
         """They were given together with the refused one, and may be accepted."""
         self.site.yields = True
         self.accept()
-        steps = Ask(self.site, 3.0, fetches_token=True).run([b"comment,0.9,0.1,0.2,5,good", b"comment,0.1,0.1,0.2,5,good"])
-        steps.send(None)
+        steps = begun(Ask(self.site, 3.0, fetches_token=True).run([b"comment,0.9,0.1,0.2,5,good", b"comment,0.1,0.1,0.2,5,good"]))
         self.site.take(b"reply,2,refused,6,NoUser\n")
         self.site.take(b"reply,3,ok,1.2\nsend,msg,1,1,2,0,0:1,comment,0.1,0.1,0.2,5,good\n")
         steps.send(True)
@@ -118,8 +115,7 @@ class Yielding(unittest.TestCase):
 
     def test_a_refusal_before_which_nothing_was_sent_is_said_at_once(self) -> None:
         self.site.yields = True
-        steps = Ask(self.site, 3.0, fetches_token=True).run([b"item,0.1,lamp,7,1,1,0"])
-        steps.send(None)
+        steps = begun(Ask(self.site, 3.0, fetches_token=True).run([b"item,0.1,lamp,7,1,1,0"]))
         self.site.take(b"reply,1,refused,6,NoUser\n")
         self.assertIsInstance(steps.send(True), Say)
 
