@@ -54,22 +54,23 @@ class Known(Site):
     def kill(self) -> None:
         pass
 
-    def write_keys(self, lines: bytes) -> None:
+    def need_room(self) -> None:
         if self.is_full:
             raise OSError(errno.ENOSPC, "No space left on device")
+
+    def write_keys(self, lines: bytes) -> None:
+        self.need_room()
         self.key_lines += lines
 
     def put_keys(self, lines: bytes) -> None:
         self.key_lines = lines
 
     def write_sums(self, lines: bytes) -> None:
-        if self.is_full:
-            raise OSError(errno.ENOSPC, "No space left on device")
+        self.need_room()
         self.sum_lines += lines
 
     def write_yields(self, yields: bool) -> None:
-        if self.is_full:
-            raise OSError(errno.ENOSPC, "No space left on device")
+        self.need_room()
         self.is_written_as_yielding = yields
 
     def write_fence(self, text: str) -> None:
