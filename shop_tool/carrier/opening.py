@@ -79,8 +79,3 @@ def why_other_count(over: str, there: int, here: int) -> str | None:
 def strange_packet(entries: Iterable[tuple[Place, bytes]], sent: Callable[[Place], bytes | None]) -> Place | None:
     """The first packet that others have of a site and that isn't the one that its folder sent at that place."""
     return next((place for place, text in entries if sent(place) != text), None)
-
-
-def runs_elsewhere(status: Mapping[str, Any] | None, by: str) -> bool:
-    """Whether a status on the server may be that of another supervisor: not of this folder's, which holds the folder and so is the last."""
-    return status is not None and status.get("by") != by

@@ -5,7 +5,7 @@ from typing import TYPE_CHECKING
 
 from .ledger import NOWHERE, Place
 from .lives import Standing, life_text, standing, takes_place, why_other
-from .opening import must_compare_all, must_hear_all, runs_elsewhere, said_in_packets, said_in_status, strange_packet, why_other_count
+from .opening import must_compare_all, must_hear_all, said_in_packets, said_in_status, strange_packet, why_other_count
 from .over_files import BATCH
 from .reader import tokens_in
 from .site import Site
@@ -150,11 +150,10 @@ class Publisher:
             self.told = None
 
     def _waited_for_another(self) -> Steps[bool]:
-        """Whether it was said that another supervisor runs the site, and isn't any more. What one said that was killed stays for some
-        seconds; one that says it again is running."""
+        """Whether it was said that another supervisor runs the site, and isn't any more: not this folder's, which holds the folder and so is the
+        last. What one said that was killed stays for some seconds; one that says it again is running."""
         first = None
-        while runs_elsewhere(status := (yield Statuses()).get(self.site.number), self.link.named(self.site)):
-            assert status
+        while (status := (yield Statuses()).get(self.site.number)) and status.get("by") != self.link.named(self.site):
             self.site.doubt()
             if first not in (None, status.get("told")):
                 raise Elsewhere(f"{str(status.get('by')).split(' ', 2)[-1]} runs it (shop adopt {self.site.number}, if that is gone for good)")

@@ -8,7 +8,8 @@ from typing import Any, Generic, TypeVar
 from shop_tool.carrier.over_server import ServerLink
 from shop_tool.carrier.shop import Link, Shop
 from shop_tool.carrier.site import Site
-from shop_tool.carrier.steps import Steps, Wait
+from shop_tool.carrier.steps import (Owner, Page, PageOf, Rewrite, SayYields, SeeHere, SeeLife, SeenHere, Sites, State, Statuses, Steps, StreamState,
+                                     Wait)
 from shop_tool.ends import Fault
 
 Linked = TypeVar("Linked", bound=Link)
@@ -130,6 +131,13 @@ class OverServer(ServerLink):
 
     def called(self, site: Site, fields: dict[bytes, bytes]) -> Callable[[], None]:
         return lambda: None
+
+
+def answers(**changed: Any) -> dict[type, Any]:
+    """What the server says of a site: its stream, with these changes, the statuses of others, and the life that was seen `here`."""
+    state = StreamState(0, (0, 0), b"", (0, 0), "")._replace(**{key: value for key, value in changed.items() if key not in ("statuses", "here")})
+    return {State: state, PageOf: Page(0, (0, 0), b"", []), Owner: "me:1 here:0", Statuses: changed.get("statuses", {}), SeeLife: True,
+            SeenHere: changed.get("here"), SeeHere: None, Sites: 2, SayYields: True, Rewrite: True, type(None): None}
 
 
 def done(steps: Steps[Any], answers: dict[type, Any], upto: int | None = None) -> list[tuple[Any, ...]]:

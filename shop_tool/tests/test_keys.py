@@ -6,7 +6,7 @@ from unittest import mock
 
 from shop_tool.carrier.answers import Answer
 from shop_tool.carrier.asking import Ask
-from shop_tool.carrier.keys import LEAST_LINES, SECONDS, Keys, is_key
+from shop_tool.carrier.keys import LEAST_LINES, SECONDS, Keys
 from shop_tool.carrier.over_files import FileLink
 from shop_tool.carrier.steps import Say, Steps, Wait
 from shop_tool.tests.shops import Supervisor, begun, fault_of
@@ -28,11 +28,6 @@ class File(unittest.TestCase):
     def line(self, number: int, name: bytes = b"k", record: bytes = BOB, at: int = 0) -> bytes:
         keys = Keys()
         return keys.give(keys.hold(name, record, at), number)
-
-    def test_keys_are_printable(self) -> None:
-        self.assertTrue(is_key(b" ~" * 127 + b"x"))
-        for text in (b"", b"x" * 256, b"a\tb", b"\xc3\xa9", b"a\n"):
-            self.assertFalse(is_key(text), text)
 
     def test_a_record_with_its_number_is_the_ask(self) -> None:
         keys = self.keys(self.line(3))
@@ -153,13 +148,6 @@ class Asking(unittest.TestCase):
         assert isinstance(step, Say) and isinstance(answer, Say)
         self.assertTrue(step.is_again and step.answer.lines == answer.answer.lines)
         self.assertRaises(StopIteration, again.send, None)
-        self.assertEqual(self.site.given, BOB + b"\n")
-
-    def test_another_record_is_refused(self) -> None:
-        self.ask(BOB).send(None)
-        step = self.ask(CAT).send(None)
-        assert isinstance(step, Say)
-        self.assertEqual(step.answer.refusal, "KeyTaken")
         self.assertEqual(self.site.given, BOB + b"\n")
 
     def test_one_that_is_asked_twice_at_once_is_given_once(self) -> None:

@@ -217,7 +217,7 @@ class Reading(unittest.TestCase):
 class Fenced(unittest.TestCase):
     """What the other site is given of one that is fenced, over files."""
 
-    item, other = (b"msg,1,0,2,0,1:0,item,0.1,%b,7,1,1,0" % name for name in (b"lamp", b"vase"))
+    item = b"msg,1,0,2,0,1:0,item,0.1,lamp,7,1,1,0"
     sent: Packets = [((1, 0), ANN), ((1, 1), TOKEN), ((2, 0), item)]
 
     def given(self, has: Packets, sent: Packets, outlasts: bool = True, seen: str | None = None) -> bytes:
@@ -239,13 +239,11 @@ class Fenced(unittest.TestCase):
         self.assertEqual(self.given(self.sent[:1], self.sent, seen="1 a"), b"\n".join([TOKEN, self.item, b""]))
         self.assertEqual(self.given([*self.sent[::2], ((3, 0), b"msg,..")], self.sent), b"")
 
-    def test_nothing_of_one_whose_folder_does_not_say_why(self) -> None:
+    def test_nothing_where_another_past_is_known_or_its_folder_does_not_say_why(self) -> None:
         """As one of which a line was changed."""
-        self.assertEqual(self.given([], self.sent, outlasts=False), b"")
-
-    def test_nothing_where_another_past_is_known(self) -> None:
-        self.assertEqual(self.given([((2, 0), self.other)], self.sent), b"")
+        self.assertEqual(self.given([((2, 0), b"msg,1,0,2,0,1:0,item,0.1,vase,7,1,1,0")], self.sent), b"")
         self.assertEqual(self.given([], self.sent, seen="1 b"), b"", "its folder is a copy")
+        self.assertEqual(self.given([], self.sent, outlasts=False), b"")
 
     def test_nothing_behind_a_line_that_was_changed(self) -> None:
         for strange in (b"msg,1,0,1,0,0:0,comment", b"msg,1,1,2,0,0:0,comment", b"msg,1,0", b"token,1"):

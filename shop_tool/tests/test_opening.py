@@ -8,8 +8,7 @@ from unittest import mock
 from shop_tool import lives, witness
 from shop_tool.carrier.ledger import Place
 from shop_tool.carrier.lives import Standing, life_text, standing, takes_place, why_other
-from shop_tool.carrier.opening import (Said, must_compare_all, runs_elsewhere, said_in_packets, said_in_status, strange_packet, why_behind,
-                                       why_passed_on)
+from shop_tool.carrier.opening import Said, must_compare_all, said_in_packets, said_in_status, strange_packet, why_behind, why_passed_on
 from shop_tool.lives import begin_life, lives_of, take_place
 
 
@@ -102,11 +101,6 @@ class Opening(unittest.TestCase):
         self.assertIsNone(strange_packet([((1, 0), b"a"), ((2, 0), b"b")], sent.get))
         self.assertEqual(strange_packet([((1, 0), b"a"), ((2, 0), b"c")], sent.get), (2, 0))
         self.assertEqual(strange_packet([((1, 0), b"a"), ((1, 2), b"token")], sent.get), (1, 2))
-
-    def test_who_runs_it(self) -> None:
-        self.assertFalse(runs_elsewhere(None, "me"))
-        self.assertFalse(runs_elsewhere({"by": "me"}, "me"))
-        self.assertTrue(runs_elsewhere({"by": "another"}, "me"))
 
 
 class Memory(unittest.TestCase):

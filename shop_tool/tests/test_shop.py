@@ -8,15 +8,8 @@ from shop_tool.carrier.opening import HEARD_SECONDS, Said, said_by, said_in_stat
 from shop_tool.carrier.over_files import FileLink
 from shop_tool.carrier.publisher import Publisher
 from shop_tool.carrier.site import State as SiteState
-from shop_tool.carrier.steps import Owner, Page, PageOf, SeeHere, SeeLife, SeenHere, Sites, State, Statuses, StreamState
-from shop_tool.tests.shops import Known, OverServer, Supervisor, done
-
-
-def answers(**changed: Any) -> dict[type, Any]:
-    """What the server says of site 0: a stream with these changes, the statuses of others, and the life that was seen `here`."""
-    state = StreamState(0, (0, 0), b"", (0, 0), "")._replace(**{key: value for key, value in changed.items() if key not in ("statuses", "here")})
-    return {State: state, PageOf: Page(0, (0, 0), b"", []), Owner: "me:1 here:0", Statuses: changed.get("statuses", {}), SeeLife: True,
-            SeenHere: changed.get("here"), SeeHere: None, Sites: 2, type(None): None}
+from shop_tool.carrier.steps import Owner, SeeLife, Sites, State
+from shop_tool.tests.shops import Known, OverServer, Supervisor, answers, done
 
 
 def published(said: dict[type, Any]) -> Known:
@@ -107,16 +100,13 @@ class Compared(unittest.TestCase):
         self.assertEqual(site.fenced_by, "the server had its packet 3-0, and its folder ends with 0-0 (shop rebuild 0)")
         self.assertEqual(site.written, site.fenced_by)
 
-    def test_another_folder_that_has_it_may_go(self) -> None:
-        site = published(answers() | {Owner: "other:1 elsewhere:0"})
-        self.assertIn("elsewhere:0 has it", site.fenced_by or "")
-        self.assertIsNone(site.written)
-        self.assertEqual(site.shop.forgotten, [0])      # a start that can't see that doesn't take the folder for the last one that was asked
-
-    def test_a_shop_of_another_number_of_sites_may_go(self) -> None:
-        site = published(answers() | {Sites: 3})
-        self.assertEqual(site.fenced_by, "the server is a shop with --sites 3, and this folder has --sites 2")
-        self.assertIsNone(site.written)
+    def test_another_folder_that_has_it_may_go_and_so_may_a_shop_of_another_number_of_sites(self) -> None:
+        other: list[tuple[type, Any, str]] = [(Owner, "other:1 elsewhere:0", "elsewhere:0 has it"), (Sites, 3, "the server is a shop with --sites 3")]
+        for step, said, why in other:
+            site = published(answers() | {step: said})
+            self.assertIn(why, site.fenced_by or "")
+            self.assertIsNone(site.written)
+            self.assertEqual(site.shop.forgotten, [0])      # a start that can't see that doesn't take the folder for the last one that was asked
 
     def test_the_token_of_a_later_turn_is_elsewhere(self) -> None:
         site = published(answers(statuses={1: {"has": {"0": 0}, "turn": 2}}))

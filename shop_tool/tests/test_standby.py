@@ -7,9 +7,8 @@ from shop_tool.carrier.asking import Ask
 from shop_tool.carrier.ledger import Place
 from shop_tool.carrier.publisher import Publisher
 from shop_tool.carrier.standby import LOOK_SECONDS, Standby
-from shop_tool.carrier.steps import (Entries, Owner, Page, PageOf, Replay, Rewrite, Say, SayYields, SeeHere, SeeLife, SeenHere, SentHere, Sites, StandBy,
-                                     State, Statuses, StreamState, TakeOver, Wait)
-from shop_tool.tests.shops import OverServer, Supervisor, begun, done, fault_of
+from shop_tool.carrier.steps import Entries, Replay, Rewrite, Say, SayYields, SentHere, StandBy, State, Statuses, StreamState, TakeOver, Wait
+from shop_tool.tests.shops import OverServer, Supervisor, answers, begun, done, fault_of
 
 ANN = b"msg,1,1,1,0,0:0,user,ann"
 LIFE = "1 a"
@@ -37,10 +36,7 @@ class Yielding(unittest.TestCase):
         self.site.take(b"reply,1,ok,1.1\nsend,%b\n" % ANN)
 
     def compare(self, state: StreamState) -> list[tuple[Any, ...]]:
-        others = {0: {"has": {"1": 0}, "turn": 0}}
-        answers = {State: state, Owner: "me:1 here:0", Statuses: others, SeeLife: True, PageOf: Page(0, (0, 0), b"", []), SayYields: True, Rewrite: True,
-                   SeenHere: None, SeeHere: None, Sites: 2}
-        return done(self.publisher._compare(), answers)
+        return done(self.publisher._compare(), answers(statuses={0: {"has": {"1": 0}, "turn": 0}}) | {State: state})
 
     def test_without_a_standby_nothing_is_said(self) -> None:
         steps = self.compare(stream())
@@ -61,8 +57,7 @@ class Yielding(unittest.TestCase):
 
     def test_without_its_standby_it_goes_on_once_the_server_knows(self) -> None:
         self.compare(stream(standby="c"))
-        answers = {State: stream(yields=LIFE), Owner: "me:1 here:0", SayYields: False, Sites: 2}
-        self.assertIn(SayYields(1, LIFE, ""), done(self.publisher._compare(), answers | {Statuses: {}}))
+        self.assertIn(SayYields(1, LIFE, ""), done(self.publisher._compare(), answers() | {State: stream(yields=LIFE), SayYields: False}))
         self.assertTrue(self.site.yields)
         self.compare(stream(yields=LIFE))
         self.assertFalse(self.site.yields or self.site.is_written_as_yielding)
