@@ -103,6 +103,7 @@ class Slot:
         self.harms: list[Callable[[], object]] = []       # what happened to its files while it ran
         self.draining: "Keeper | None" = None           # the keeper that outlives its supervisor
         self.is_stored = False                          # a copy that nobody sees unless it is put back
+        self.goes_into: Slot | None = None              # the folder that was put back to it last, maybe in a life that hasn't ended
         self.takes_over = False                         # a standby made it, and it isn't open yet
         self.has_room = True                            # its site takes messages
 
@@ -489,7 +490,7 @@ class Steps:
             self.yielding.remove(site)
 
     def sends(self, machine: "Machine", texts: Iterable[bytes]) -> None:
-        """A supervisor begins to append these packets."""
+        """A supervisor begins to append these packets, or to write a stream anew with them."""
         slots = [folder.slot for folder in machine.folders.values() if folder.slot and folder.slot.life]
         for packet in (self.known[text] for text in texts if text in self.known):
             if slot := next((slot for slot in slots if packet in slot.packets), None):
@@ -586,11 +587,14 @@ class Steps:
         if not slot or not its:
             return
         folder.slot = None
-        made.slot = slot
+        made.slot = its.goes_into = slot
+        self._harm(slot, partial(self._put_back, its, slot))
+
+    def _put_back(self, its: Slot, slot: Slot) -> None:
         if its in self.unseen:      # it was as good as lost where a site was opened: that site didn't reach it
             loss, its.packets, opened = self.unseen.pop(its)
             loss.is_void, opened.why_none = True, UNREACHED
-        self._harm(slot, partial(self._copy, its, slot))
+        self._copy(its, slot)
 
     def lost(self, folder: "Folder", made: "Folder | None" = None) -> None:
         """Another one is in its place, or nobody comes back to this copy."""
@@ -598,7 +602,7 @@ class Steps:
             folder.slot = None
             if made:
                 made.slot = slot
-            self._harm(slot, partial(self._lose, slot))
+            self._harm(slot.goes_into or slot, partial(self._lose, slot))
 
     def _note_lost(self, step: Step, slot: Slot) -> None:
         """By this step a folder loses some of what it has; it is stopped then."""

@@ -443,7 +443,7 @@ class Process:
         if isinstance(step, Connect):
             task.connection = server.times if self.reaches() else None
             return task.answer()
-        if isinstance(step, Append):
+        if isinstance(step, (Append, Rewrite)):
             self.world.steps.sends(self.machine, [text for _, text in step.packets])
         if isinstance(step, WRITES) and not self.world.is_calm and dice.random() < 0.004:
             self.world.note("late")

@@ -201,7 +201,8 @@ class Asking(unittest.TestCase):
         self.site.give([CAT])
         gone = begun(self.ask(CAT, names=(b"gone",)))
         gone.close()
-        asked = begun(self.ask(BOB))
+        asked = self.ask(BOB)
+        asked.send(None)
         self.site.read_on(CAT + b"\n", NO % 1, 1)
         self.assertEqual((self.site.again(), self.numbers()), (BOB + b"\n", [2]))
 

@@ -1,15 +1,14 @@
 """The machines of the carrier, step by step: an asker, what gives a site packets, and a stop that hands the token over."""
 
 import unittest
-from typing import Any
 
 from shop_tool.carrier.asking import Ask
 from shop_tool.carrier.over_files import BATCH, FileLink
 from shop_tool.carrier.reader import BLOCK_SECONDS, Reader
 from shop_tool.carrier.records import Purpose
 from shop_tool.carrier.site import Disagreement, State
-from shop_tool.carrier.steps import (CallAll, IsRunning, KeptOf, Marks, Packets, Page, PageOf, Read, Say, SayLeave, SayWant, SeenHere, SentHere, Steps,
-                                     UpElsewhere, Wait)
+from shop_tool.carrier.steps import (CallAll, IsRunning, KeptOf, Marks, Packets, Page, PageOf, Read, Say, SayLeave, SayWant, SeenHere, SentHere, UpElsewhere,
+                                     Wait)
 from shop_tool.ends import Fault
 from shop_tool.tests.shops import Known, OverServer, Supervisor, begun, done, fault_of
 
