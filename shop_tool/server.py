@@ -21,6 +21,7 @@ from .carrier.steps import KeptOf, Steps
 from .carrier.steps import Say as SayAnswer
 from .carrier.told import FORM, unanswered
 from .ends import Fault, Status
+from .link import kept_of
 from .reads import Reads
 from .requests import (REQUEST_BYTES, Request, asks_of, field, listing_of, message_of, no_request, page_of, request_of, row_of_request, seconds_of,
                        site_of)
@@ -242,8 +243,8 @@ class Server:
         return "\n".join([f"site,{site.number}", *(line.split(",", 3)[3] for line in log), *tables]) + "\n"
 
     async def _have(self, site: KeptSite, origin: int, after: int) -> dict[str, Any]:
-        """What a site has of another one beyond a number, and all tokens that came to it, or went to the other: for a rebuild of that."""
-        messages, tokens = await self.shop.link.here.do(KeptOf(site.number, origin, after)) or ([], [])
+        """What a site has of another one beyond a number, and all tokens that came to it: for a rebuild of the other."""
+        messages, tokens = await kept_of(self.shop.folder, KeptOf(site.number, origin, after)) or ([], [])
         return {"messages": [text_of(text) for _, text in messages], "tokens": [text_of(text) for text in tokens]}
 
     def _cut(self) -> dict[int, dict[str, int]]:

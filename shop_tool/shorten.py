@@ -9,7 +9,7 @@ from . import program
 from .carrier.sums import why_changed
 from .ends import Fault, Status
 from .kept_keys import has_keys, put_fixed_keys
-from .site import SUMS, checked, keep_command, lines_of
+from .site import SUMS, checked, keep_command
 from .stopped import stopped_shop
 
 
@@ -38,4 +38,5 @@ def _run(site: int, command: list[str]) -> None:
 
 
 def count_lines(path: str) -> int:
-    return sum(line.endswith(b"\n") for line in lines_of(path))
+    with open(path, "rb") as file:
+        return sum(line.endswith(b"\n") for line in file)

@@ -15,8 +15,6 @@
 """
 
 import asyncio
-import contextlib
-import itertools
 import json
 import os
 import socket
@@ -351,10 +349,12 @@ STEPS = {State: "state", Owner: "owner", Sites: "count_of_first", Adopt: "adopt"
 
 def status_in(key: str, text: bytes) -> dict[str, Any]:
     """The status of a site; a fault where a key has none, since the site may run all the same: nobody takes its place."""
-    with contextlib.suppress(ValueError, RecursionError, TypeError, KeyError, AttributeError):
-        said: dict[str, Any] = json.loads(text)
-        numbers = [said["turn"], *said["has"].values(), *said.get("greatest", {}).values(), *itertools.chain(*said.get("gave", {}).values())]
-        if isinstance(said["state"], str) and all(isinstance(number, int) for number in numbers):
+    try:
+        said = json.loads(text)
+    except (ValueError, RecursionError):
+        said = None
+    if isinstance(said, dict) and isinstance(said.get("state"), str) and isinstance(said.get("turn"), int):
+        if all(isinstance(its, dict) and all(isinstance(count, int) for count in its.values()) for its in (said.get("has"), said.get("greatest", {}))):
             return said
     raise OSError(f"the key {key} has something else than the status of a site (redis-cli del {key})")
 

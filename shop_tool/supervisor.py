@@ -222,7 +222,7 @@ class Supervisor(Shop):
         site.yields = os.path.exists(f"{site.folder}/{YIELDS}")
         site.keys.read(keys, self.unix_time())
         if why_fenced:
-            site.fence(why_fenced, outlasts=True)
+            site.fence(why_fenced)
         self.begin_site(site, answered if has_all(kept, answered) else None)
 
     def begins(self, site: KeptSite) -> bool:

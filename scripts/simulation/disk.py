@@ -6,9 +6,7 @@ import random
 from collections.abc import Callable, Sequence
 from typing import TYPE_CHECKING, Any, NamedTuple
 
-from shop_tool.carrier.answers import AnswerReader
 from shop_tool.carrier.files import File as Seen
-from shop_tool.carrier.keys import Keys
 
 from .remembered import compared
 from .stand_in import StandIn, records_of
@@ -54,7 +52,6 @@ class Folder:
         self.lives: list[str] = []
         self.fenced: str | None = None      # why it is never started again
         self.yields = False                 # its site has a standby
-        self.keep: int = machine.keep       # how many messages its site keeps
         self.noted = 0                      # how many of its records the run has taken down
         self.keeper: "Keeper | None" = None  # who holds its lock
         self.past: Past | None = None       # so that the next keeper needn't answer all of `kept` again
@@ -68,7 +65,7 @@ class Folder:
         """A copy of it, with other files of the same bytes."""
         made = Folder(self.world, machine)
         made.files = {name: File(self.world.new_number(), bytes(file.data)) for name, file in self.files.items()}
-        made.lives, made.noted, made.fenced, made.yields, made.keep = list(self.lives), self.noted, self.fenced, self.yields, self.keep
+        made.lives, made.noted, made.fenced, made.yields = list(self.lives), self.noted, self.fenced, self.yields
         made.packets = list(self.packets)
         return made
 
@@ -76,7 +73,7 @@ class Folder:
         """Has what an older copy has, in the same folder."""
         again = older.copied(self.machine)
         self.files, self.lives, self.noted, self.fenced, self.yields = again.files, again.lives, again.noted, again.fenced, again.yields
-        self.packets, self.keep = again.packets, again.keep
+        self.packets = again.packets
 
     def file(self, name: str) -> File:
         if name not in self.files:
@@ -119,25 +116,6 @@ class Folder:
         count, changed = self.checked()
         return self.lines("kept")[:None if changed is None else count]
 
-    def shorten(self, site: int) -> bool:
-        """As `shop shorten`: leaves in `kept` only the records that changed something, and each key its answer. False if no keeper would start."""
-        records, one = [line[:-1] for line in self.whole_lines()], StandIn(site, self.world.sites, self.keep)
-        said = [one.answer(record) for record in records]
-        text, keys, start = b"".join(said), Keys(), 0
-        if not self.is_there or self.keeper or self.checked()[1] is not None or not text.startswith(self._bytes("out")):
-            return False
-        keys.read(self.lines("keys"), self.world.clock.now)
-        answers = AnswerReader().feed(text)
-        for number, (record, answer) in enumerate(zip(records, answers), 1):
-            keys.note(number, record, answer, start)
-            start += answer.size
-        left = [at for at, answer in enumerate(answers) if answer.kind in (b"ok", b"passed", b"released", b"held", b"holding")]
-        self.packets = [self.packets[at] for at in left]
-        made = {"kept": b"".join(records[at] + b"\n" for at in left), "keys": keys.fixed(lambda pieces: [text[at:at + size] for at, size in pieces])}
-        self.files = {name: File(self.world.new_number(), data) for name, data in made.items()}
-        self.noted, self.past = len(left), None
-        return True
-
     def sent(self) -> list[bytes]:
         """The packets in its file `out`."""
         return [line[5:-1] for line in self.lines("out") if line.startswith(b"send,") and line.endswith(b"\n")]
@@ -148,9 +126,8 @@ class Machine:
 
     def __init__(self, world: "World", name: str, here: Sequence[int], identity: str | None = None) -> None:
         self.world, self.name, self.here = world, name, list(here)
-        self.keep: int = world.keep         # how many messages a new folder's site keeps
         self.identity = identity or name    # a clone of a disk has that of the original
-        self.folders: dict[int, Folder] = {site: Folder(world, self) for site in here}
+        self.folders = {site: Folder(world, self) for site in here}
         self.seen: dict[int, str] = {}      # over files: the life of each site that the others saw
         self.memory: dict[str, tuple[str, int, int]] = {}
         self.boot = world.new_number()
@@ -163,13 +140,6 @@ class Machine:
         first = folder.lives[0] if folder.lives else ""
         if first in self.memory and self.memory[first][2] == folder.inode:
             del self.memory[first]
-
-    def raise_keep(self, keep: int) -> None:
-        """An operator has its sites keep more messages, while they are stopped. Where one can't be started, its folder keeps as many as before."""
-        self.keep = keep
-        for site, folder in self.folders.items():
-            if folder.shorten(site):
-                folder.keep = keep
 
     def lose_power(self, dice: random.Random) -> list[Folder]:
         """The power goes, and files lose what isn't on the disk; the folders of which that takes something that was kept."""
@@ -188,7 +158,7 @@ class Machine:
             made.folders[site] = folder.copied(made)
             if is_clone:
                 made.folders[site].inode = folder.inode
-        made.seen, made.keep = copy.copy(self.seen), self.keep
+        made.seen = copy.copy(self.seen)
         return made
 
 
@@ -198,7 +168,7 @@ class Keeper:
     def __init__(self, folder: Folder, number: int, told: Callable[[], None]) -> None:
         self.folder, self.number, self._told = folder, number, told
         self.world, self.clock, self.dice = folder.world, folder.world.clock, folder.world.dice
-        self.site: StandIn = StandIn(number, self.world.sites, folder.keep)
+        self.site: StandIn = StandIn(number, self.world.sites)
         self.input: list[bytes] = []
         self.is_closed = False          # its input has ended
         self.is_heard = True            # somebody reads its output
@@ -288,7 +258,6 @@ class Keeper:
     def _is_read(self) -> None:
         """All of `kept` is answered."""
         self.folder.past = Past(bytes(self.kept.data), bytes(self.said), self.site)
-        self.world.steps.has_room(self.folder, not self.site.is_full)
 
     def _keep(self) -> None:
         """Keeps what one read of its input gives."""

@@ -16,15 +16,14 @@ comes. Some things happen otherwise than the model has them, and are written as 
   it is no news, and written as unknown.
 - Where a second folder of a site opens, the first one is closed; if its process sends something all the same, it opens again just before,
   or goes on, if something has more of the site by then.
-- A folder that has lost passes, and whose site doesn't have the token, is made again with them before it starts, if nobody in reach knows
-  that the turns before went to it: the start learns of the turns from the others, and takes no token that it had before.
+- A folder that has lost passes, and whose site doesn't have the token, is made again with them before it starts: the start learns of them
+  from the others, and takes no token that it had before.
 - A folder that is made again has what was found, without passes that nobody has any more. Where it lacks what the old one had, the old one
   is lost first.
 
-Three things that happen are no steps of the model; the steps that they come to are known as such before anybody decides. A site opens, and
-a folder or a stream has more of it that it doesn't reach: which supervisors run, and what they know, says whether it does. Somebody reads what
-a process sends whose supervisor is gone. Or a site passes a token on that a rebuild of another one made again: it went to a site that had had a
-later one, and that has lost its folder since."""
+One thing that happens is no step of the model, since its laws don't hold where it does; the steps that it comes to are known as such before
+anybody decides. A site opens, and a folder or a stream has more of it that it doesn't reach: which supervisors run, and what they know, says
+whether it does. Or somebody reads what a process sends whose supervisor is gone."""
 
 import contextlib
 from collections.abc import Callable, Generator, Iterable, Sequence
@@ -50,7 +49,6 @@ UNKNOWN = ("may still be accepted", "isn't known", "published", "accepted here")
 # What happens and is no step of the model.
 UNREACHED = "a site is opened that doesn't reach what has more of it"
 WENT_ON = "somebody reads what a process sends after its life has ended"
-MADE_AGAIN = "a site passes a token on that a rebuild made again"
 
 
 class Step:
@@ -103,9 +101,7 @@ class Slot:
         self.harms: list[Callable[[], object]] = []       # what happened to its files while it ran
         self.draining: "Keeper | None" = None           # the keeper that outlives its supervisor
         self.is_stored = False                          # a copy that nobody sees unless it is put back
-        self.goes_into: Slot | None = None              # the folder that was put back to it last, maybe in a life that hasn't ended
         self.takes_over = False                         # a standby made it, and it isn't open yet
-        self.has_room = True                            # its site takes messages
 
     def last(self, kind: str) -> int:
         """The number of the last message of its site, or the last turn that this passed on."""
@@ -239,15 +235,13 @@ class Steps:
                 self._open(slot, None)
 
     def _learn_passes(self, slot: Slot, folder: "Folder") -> None:
-        """Where a folder has lost passes, its site doesn't have the token, and nobody in reach knows who gave it the turns before, the start
-        learns from the others only that there were these turns."""
+        """Where a folder has lost passes, and its site doesn't have the token, the start learns of them from the others."""
         if not slot.start:
             return
         taken, beyond, is_cut_off = slot.taken(), slot.behind(), self._is_cut_off(folder)
         step, had, passes = slot.start
-        places = [other.packets for other in self.slots if self._reaches(folder, other, is_cut_off)] + self.streams * (not is_cut_off)
-        given = {packet[2] for place in places for packet in place if packet[0] == "p" and packet[3] == slot.site}
-        lost = {packet: None for place in places for packet in beyond(place) if packet in self.passes[:passes] and packet[2] - 1 not in given}
+        places = [other.packets for other in self.slots if beyond(other.packets) and self._reaches(folder, other, is_cut_off)]
+        lost = {packet: None for place in places + self.streams * (not is_cut_off) for packet in beyond(place) if packet in self.passes[:passes]}
         is_without = slot.last("p") > taken or not taken and slot.site or folder.keeper and folder.keeper.site.issued is None
         if lost and is_without:
             self._put(slot, [*had, *lost], before=step)
@@ -265,15 +259,14 @@ class Steps:
         return self.world.is_over_server and not any(its.reaches() for its in self.world.supervisors() if its.machine is folder.machine)
 
     def _reaches(self, folder: "Folder", other: Slot, is_cut_off: bool) -> bool:
-        """Whether what another folder has is known where this one opens: it is beside it, or its own supervisor says it to all."""
-        now = self.world.clock.now
+        """Whether what another folder has is known where this one opens: it is beside it, or its site says it to all."""
+        now, said = self.world.clock.now, self.world.server.said
         for supervisor in self.world.supervisors():
             for number, site in supervisor.sites.items():
                 if site.folder.slot is other:
                     if supervisor.machine is folder.machine:
                         return site.known.is_set
-                    until, said = self.world.server.said.get(number, (0.0, {}))
-                    is_said = until > now and said["by"] == supervisor.named_of(number) and not (folder.slot and folder.slot.site == other.site)
+                    is_said = number in said and said[number][0] > now and not (folder.slot and folder.slot.site == other.site)
                     return is_said and not is_cut_off and supervisor.reaches() and supervisor.paused_until < now and site.compared.is_set \
                         and not site.fenced_by
         return False
@@ -281,16 +274,6 @@ class Steps:
     def keeper_starts(self, folder: "Folder") -> None:
         if folder.slot:
             self._add("KeeperStarts", folder.slot.number)
-
-    def has_room(self, folder: "Folder", has_room: bool) -> None:
-        """A keeper has read all of a folder, or has kept something: its site is full by then, or isn't any more, as it was raised, or lost some."""
-        slot = folder.slot
-        if slot and slot.life and slot.start and has_room != slot.has_room:
-            if has_room:
-                self._add("IsRaised", slot.number, before=slot.start[0])
-            else:
-                self._add("Fills", slot.number)
-            slot.has_room = has_room
 
     def supervisor_ended(self, folder: "Folder", keeper: "Keeper | None") -> None:
         slot = folder.slot
@@ -470,13 +453,10 @@ class Steps:
             self.known.setdefault(sent_in(rest), packet_of(keeper, fields, rest, 0))
 
     def _look_at_name(self, step: Step, packet: Packet, next_one: int) -> None:
-        """A folder has sent a packet: its name is the next one, if no packet stands there that its process sent as it went on, nor one that no
-        folder sent."""
+        """A folder has sent a packet: its name is the next one, if no packet stands there that its process sent as it went on."""
         names = {its[:3] for its in self.gone_on}
         if packet[2] != next_one and (*packet[:2], next_one) in names:
             step.why_none = WENT_ON
-        elif packet[0] == "p" and packet[2] > 1 and not any(its[2:4] == (packet[2] - 1, packet[1]) for its in self.passes):
-            step.why_none = MADE_AGAIN
 
     # What a server has.
 
@@ -490,7 +470,7 @@ class Steps:
             self.yielding.remove(site)
 
     def sends(self, machine: "Machine", texts: Iterable[bytes]) -> None:
-        """A supervisor begins to append these packets, or to write a stream anew with them."""
+        """A supervisor begins to append these packets."""
         slots = [folder.slot for folder in machine.folders.values() if folder.slot and folder.slot.life]
         for packet in (self.known[text] for text in texts if text in self.known):
             if slot := next((slot for slot in slots if packet in slot.packets), None):
@@ -587,14 +567,11 @@ class Steps:
         if not slot or not its:
             return
         folder.slot = None
-        made.slot = its.goes_into = slot
-        self._harm(slot, partial(self._put_back, its, slot))
-
-    def _put_back(self, its: Slot, slot: Slot) -> None:
+        made.slot = slot
         if its in self.unseen:      # it was as good as lost where a site was opened: that site didn't reach it
             loss, its.packets, opened = self.unseen.pop(its)
             loss.is_void, opened.why_none = True, UNREACHED
-        self._copy(its, slot)
+        self._harm(slot, partial(self._copy, its, slot))
 
     def lost(self, folder: "Folder", made: "Folder | None" = None) -> None:
         """Another one is in its place, or nobody comes back to this copy."""
@@ -602,7 +579,7 @@ class Steps:
             folder.slot = None
             if made:
                 made.slot = slot
-            self._harm(slot.goes_into or slot, partial(self._lose, slot))
+            self._harm(slot, partial(self._lose, slot))
 
     def _note_lost(self, step: Step, slot: Slot) -> None:
         """By this step a folder loses some of what it has; it is stopped then."""
@@ -689,9 +666,7 @@ class Steps:
         self._rebuild(slot, made)
 
     def takes_over(self, made: "Folder", site: int) -> None:
-        """It takes the place of a site elsewhere, of which other folders go on. One that it made before, without hearing that, never opens."""
-        for slot in self.slots:
-            slot.takes_over = slot.takes_over and slot.site != site
+        """It takes the place of a site elsewhere, of which other folders go on."""
         made.slot = self._another(site)
         self._rebuild(made.slot, made)
         made.slot.takes_over = True

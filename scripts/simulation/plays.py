@@ -9,7 +9,7 @@ from shrink import smaller
 
 from .askers import asked
 from .run import Run
-from .stand_in import MOST, StandIn, records_of
+from .stand_in import StandIn, records_of
 from .without import taken_out
 from .world import Violation
 
@@ -99,7 +99,7 @@ def compared(program: str, seed: str) -> int:
     """That the simulated sites answer as the program does, on records as askers and other sites give them; how many these are."""
     dice = random.Random(seed)
     sites = dice.randint(2, 5)
-    stand_ins = [StandIn(site, sites, dice.choice([MOST, 200])) for site in range(sites)]
+    stand_ins = [StandIn(site, sites) for site in range(sites)]
     given: list[list[bytes]] = [[] for _ in range(sites)]
     said: list[bytes] = [b""] * sites
     packets, before = list[bytes](), set[bytes]()
@@ -114,8 +114,8 @@ def compared(program: str, seed: str) -> int:
                 given[site].append(record)
                 said[site] += answer
     for site in range(sites):
-        command = [program, "site", "--site", str(site), "--sites", str(sites), "--keep", str(stand_ins[site].keep)]
-        done = subprocess.run(command, input=b"".join(record + b"\n" for record in given[site]), capture_output=True, check=True)
+        done = subprocess.run([program, "site", "--site", str(site), "--sites", str(sites)], input=b"".join(record + b"\n" for record in given[site]),
+                              capture_output=True, check=True)
         if done.stdout != said[site]:
             at = next(at for at, (one, other) in enumerate(zip(done.stdout.split(b"\n"), said[site].split(b"\n"))) if one != other)
             raise ValueError(f"site {site} answers {done.stdout.splitlines()[at]!r}, and the simulated one {said[site].splitlines()[at]!r}")

@@ -14,7 +14,6 @@ from .askers import Asker, KeyedAsker, asked
 from .disk import Folder, Machine
 from .faults import FAULTS, Faults
 from .remembered import packet_of
-from .stand_in import MOST
 from .world import Command, SimulatedSite, Supervisor, Violation, World
 
 ASKS, FAULTS_OF_A_RUN, QUESTIONS = (58, 75), (12, 18), (8, 14)
@@ -41,7 +40,6 @@ class Run:
         self.resting: dict[str, float] = {}             # until when a machine isn't started
         self.commands: dict[str, Command] = {}
         self.to_rebuild: dict[str, list[tuple[int, str]]] = {}
-        self.to_raise: set[str] = set()                 # machines with a site that is full
         self.tries: dict[int, int] = {}
         self.tainted: dict[int, tuple[float, str]] = {}     # folders to which something happened, by their number: when, and what
         self.changed: list[tuple[Folder, list[bytes]]] = []
@@ -144,9 +142,6 @@ class Run:
                 self._look_at(supervisor)
             elif self.to_rebuild.get(machine.name):
                 self._mend(machine, *self.to_rebuild[machine.name].pop())
-            elif machine.name in self.to_raise:
-                self.to_raise.remove(machine.name)
-                self._raise(machine)
             elif world.is_calm or world.dice.random() < 0.4:
                 self._start(machine)
         world.clock.after(0.5 if world.is_calm else 0.5 + world.dice.random(), self._operate)
@@ -166,9 +161,6 @@ class Run:
                 supervisor.machine.here.remove(site.number)
                 self.world.steps.lost(site.folder)
             return
-        if not sick and not supervisor.is_leaving and self._is_small(supervisor):
-            supervisor.stop()
-            self.to_raise.add(supervisor.machine.name)
         if sick and not supervisor.is_leaving and (self.world.is_calm or self.world.dice.random() < 0.3):
             supervisor.stop()
             self.to_rebuild[supervisor.machine.name] = [(site.number, site.fenced_by or "") for site in sick]
@@ -192,17 +184,6 @@ class Run:
         machine.folders[number].files.pop("out", None)
         self.world.steps.lost_end(machine.folders[number])
 
-    def _is_small(self, supervisor: Supervisor) -> bool:
-        """Whether its sites have to keep more: one is full, and an operator has seen that; or one doesn't keep all that is asked at last."""
-        up = [site for site in supervisor.sites.values() if site.up.is_set]
-        if self.world.is_calm:
-            return any(site.folder.keep < MOST for site in up)
-        return any(site.keeper and site.keeper.site.is_full for site in up) and self.world.dice.random() < 0.1
-
-    def _raise(self, machine: Machine) -> None:
-        self.world.note("IsRaised")
-        machine.raise_keep(MOST if self.world.is_calm else 2 * machine.keep)
-
     def _rebuild(self, machine: Machine, number: int) -> None:
         world, command = self.world, Command(self.world, machine)
         self.tries[number] = self.tries.get(number, 0) + 1
@@ -216,8 +197,6 @@ class Run:
             self.may_be_lost = self.may_be_lost or anyway
             if fault and not isinstance(fault, (Fault, Broken)):
                 raise fault
-            if isinstance(fault, Fault) and "Full" in fault.text:
-                self._raise(machine)
             self.note_losses()
         command.spawn(rebuild.over_server() if world.is_over_server else rebuild.over_files(), ended)
 

@@ -74,8 +74,8 @@ def is_message(message: Message, version: int, sites: int) -> bool:
 class StandIn:
     """A site: what it has released, what waits, the rows that decide, and the token."""
 
-    def __init__(self, site: int, sites: int, keep: int = MOST) -> None:
-        self.site, self.sites, self.keep = site, sites, keep
+    def __init__(self, site: int, sites: int) -> None:
+        self.site, self.sites = site, sites
         self.records = 0
         self.release: Release[Message] = Release(sites)
         self.log: list[tuple[Message, bytes]] = []          # the messages that it has released, with their texts
@@ -83,10 +83,6 @@ class StandIn:
         self.texts: dict[tuple[int, int], bytes] = {}
         self.issued: int | None = 0 if site == 0 else None  # red numbers, if it holds the token
         self.turn = 0
-
-    @property
-    def is_full(self) -> bool:
-        return len(self.log) + len(self.release.waiting) >= self.keep
 
     def answer(self, record: bytes) -> bytes:
         """The lines of its answer."""
@@ -121,8 +117,6 @@ class StandIn:
         kind, *fields = ask
         if not in_limits(KINDS[kind].asked, tuple(fields), self.sites):
             raise Refused(1, "BadRecord")
-        if self.is_full:
-            raise Refused(2, "Full")
         if kind in RED:
             if self.issued is None:
                 raise Refused(3, "NoToken")
@@ -156,8 +150,6 @@ class StandIn:
             raise Refused(20, "NotOurs")
         if is_here:
             return b"repeat"
-        if self.is_full:
-            raise Refused(2, "Full")
         self.texts[name] = record
         released = self.release.arrive(message)
         for each in released:

@@ -8,11 +8,12 @@ from collections.abc import Callable
 from typing import Any
 
 from shop_tool.carrier.asking import Ask
-from shop_tool.carrier.ledger import kept_in, sends_of
+from shop_tool.carrier.ledger import packets_of, sends_of, tokens_of
 from shop_tool.carrier.lives import life_text, placed
-from shop_tool.carrier.opening import HEARD_SECONDS, said_in_status
+from shop_tool.carrier.opening import HEARD_SECONDS
 from shop_tool.carrier.over_files import FileLink
 from shop_tool.carrier.over_server import ServerLink
+from shop_tool.carrier.publisher import greatest_said
 from shop_tool.carrier.rebuilding import UNCHANGED
 from shop_tool.carrier.records import Purpose, text_of
 from shop_tool.carrier.shop import HAND_OVER_SECONDS, Shop
@@ -30,11 +31,10 @@ from .clock import Clock, Task
 from .disk import File, Folder, Keeper, Machine
 from .model import Steps as ModelSteps
 from .server import WRITES, Server
-from .stand_in import MOST, StandIn
+from .stand_in import StandIn
 
 OVER = (StateOf, Read, Tell, Hear, Owner, Append, Connect)      # some steps over the server, the most frequent ones
 STOP_SECONDS, END_SECONDS, LAST_SECONDS, LOOK_SECONDS = 30.0, 3.0, 2.0, 1.0
-FEW = 10, 60        # how many messages each site keeps of a shop whose sites are to be full
 
 
 class Violation(Exception):
@@ -57,8 +57,6 @@ class World:
         self.sites = self.dice.choice([2, 2, 3, 3, 4, 5])
         self.is_over_server = self.dice.random() < 0.65
         self.is_synced = self.dice.random() < 0.4
-        keep = random.Random(f"{seed} keep")
-        self.keep = keep.randint(*FEW) if keep.random() < 0.15 else MOST    # how many messages each site keeps at first
         self.server = Server(self.clock, self.sites, self.dice.random() < 0.4)
         self.machines = self._machines()
         self.steps = ModelSteps(self)       # the run as a list of the model's steps
@@ -81,6 +79,7 @@ class World:
         self.is_unreached = False           # a site was opened of which a folder has more that couldn't be reached
         self.turn = (0, 0, 0)                                       # of the last token, from and to which site
         self.passes: dict[int, bytes] = {}                          # the last token of each turn
+        self.passed_by: dict[int, int] = {}                         # which site passed it
 
     def _machines(self) -> list[Machine]:
         if not self.is_over_server or self.dice.random() < 0.15:
@@ -135,16 +134,22 @@ class World:
                        and site in supervisor.sites and supervisor.sites[site].compared.is_set and not supervisor.sites[site].fenced_by
                        for supervisor in self.supervisors())
 
-    def note_unreached(self, number: int, seen: list[Folder], own: int) -> None:
-        """A site is opened with so many messages: notes whether a folder has more of it whose site can't say so. Those that it had to see, its
-        own and those beside it, were looked at before, and excuse nothing."""
+    def note_unreached(self, number: int, seen: list[Folder], opens: StandIn, known: int) -> None:
+        """A site is opened whose supervisor knows of this turn of the token: notes whether a folder has more of it that can't be reached, or
+        has had the token since. Those that it had to see, its own and those beside it, were looked at before, and excuse nothing."""
+        own, held = opens.release.counts[number], opens.turn if opens.issued is not None else None
         for machine in self.machines:
             for site, folder in machine.folders.items():
                 if folder.yields and site == number:
                     continue        # it told ok only of what stands in the stream
-                if folder not in seen and self._is_silent(machine, site):
+                if folder not in seen and not self.is_unreached:
                     sent = sum(text.startswith(b"msg,") for text in folder.sent()) if site == number else 0
-                    self.is_unreached = self.is_unreached or max(sent, greatest_of(folder, number)) > own
+                    turns = turns_of(folder)
+                    self.is_unreached = max(sent, greatest_of(folder, number)) > own or held is not None and max(turns, default=0) > held
+                    # Where a later turn is known, a token that came before isn't taken again.
+                    passed = max((turn for turn in turns if self.passed_by.get(turn) == number), default=0)
+                    if passed > max(known, opens.turn + 1) and self._is_silent(machine, site):
+                        self.is_unreached = True
 
     def answered(self, keeper: Keeper, record: bytes, said: bytes) -> None:
         """A site has answered a record."""
@@ -176,14 +181,13 @@ class World:
                     self.turn = turn, site, to
                 if (before := self.passes.get(turn, text)) != text and before not in self.yielding and self._is_anywhere(before):
                     self.excused.add((site, -turn))
-                self.passes[turn] = text
+                self.passes[turn], self.passed_by[turn] = text, site
                 if keeper.folder.yields:
                     self.yielding.add(text)
             case b"holding" | b"released" | b"held":
                 self.note("Reads")
             case b"refused":
                 self.note("Refuses")
-                self.note("full", fields[4] == b"Full")
 
 
 def greatest_of(folder: Folder, site: int) -> int:
@@ -194,7 +198,7 @@ def greatest_of(folder: Folder, site: int) -> int:
 
 def turns_of(folder: Folder) -> list[int]:
     """The turns of the tokens there."""
-    return [int(text.split(b",")[2]) for text in folder.unchanged() if text.startswith(b"token,") and text.endswith(b"\n")]
+    return [int(text.split(b",")[2]) for text in tokens_of(folder.unchanged())]
 
 
 class SimulatedSite(Site):
@@ -381,7 +385,8 @@ class Process:
         folder = self.machine.folders.get(keeper)
         if not folder or not folder.is_there or "kept" not in folder.files:
             return None
-        return kept_in(folder.unchanged(), folder.lines("out"), origin, after)
+        lines = folder.unchanged()
+        return list(packets_of(lines, origin, after)), tokens_of(lines)
 
     def takes_over(self, site: int) -> None:
         """Puts the folder that was made in the place of a site elsewhere."""
@@ -397,7 +402,7 @@ class Process:
     def replay(self, number: int, records: list[Any]) -> None:
         """Has a fresh folder beside a site's folder that is given these records."""
         made = Folder(self.world, self.machine)
-        site = StandIn(number, self.world.sites, made.keep)
+        site = StandIn(number, self.world.sites)
         kept, out = made.file("kept"), made.file("out")
         for given in records:
             said = site.answer(given.record)
@@ -443,7 +448,7 @@ class Process:
         if isinstance(step, Connect):
             task.connection = server.times if self.reaches() else None
             return task.answer()
-        if isinstance(step, (Append, Rewrite)):
+        if isinstance(step, Append):
             self.world.steps.sends(self.machine, [text for _, text in step.packets])
         if isinstance(step, WRITES) and not self.world.is_calm and dice.random() < 0.004:
             self.world.note("late")
@@ -636,7 +641,7 @@ class Supervisor(Process, Shop):
         site.keys.read(folder.lines("keys"), self.unix_time())
         has_all = answered is not None and "kept" in folder.files and len(folder.files["kept"].data) >= answered
         if folder.fenced:
-            site.fence(folder.fenced, outlasts=True)
+            site.fence(folder.fenced)
         self.begin_site(site, answered if has_all else None)
 
     def _opened(self, site: Site, answered: int) -> None:
@@ -677,7 +682,7 @@ class Supervisor(Process, Shop):
                 raise Violation(f"site {site.number} is opened with {messages} messages, and site {other.number} beside it has {has}")
             if held is not None and (turn := max(turns_of(other.folder), default=0)) > held:
                 raise Violation(f"site {site.number} is opened with the token of turn {held}, and site {other.number} beside it has had that of {turn}")
-        self.world.note_unreached(site.number, seen, messages)
+        self.world.note_unreached(site.number, seen, keeper.site, self.wants.turn)
         own = dict(sends_of(keeper.folder.lines("out")))
         if not isinstance(self.link, SimulatedServerLink) or not self.reaches() or f"publish {site.number}" in self.link.down:
             return
@@ -685,9 +690,8 @@ class Supervisor(Process, Shop):
             if place[0] > messages or place in own and own[place] != text:
                 raise Violation(f"site {site.number} is opened with {messages} messages, and its stream has {text!r} at {place}")
         for number, (until, said) in self.world.server.said.items():
-            its = said_in_status(said, number, site.number)
-            if number not in self.sites and until > self.clock.now and (its.greatest > messages or held is not None and its.turn > held):
-                raise Violation(f"site {site.number} is opened with {messages} messages and the token of turn {held}, and site {number} says {its}")
+            if number not in self.sites and until > self.clock.now and greatest_said(said, site.number) > messages:
+                raise Violation(f"site {site.number} is opened with {messages} messages, and site {number} says that it has {said['has']}")
 
     def _look_at_those_that_ran_on(self, site: Site, opens: StandIn) -> None:
         """The server came back a moment ago, and may have lost its end: a site whose folder may lack something is opened only once the sites

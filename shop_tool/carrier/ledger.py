@@ -2,10 +2,10 @@
 
 import bisect
 from array import array
-from collections.abc import Callable, Iterable, Sequence
+from collections.abc import Callable, Iterable, Iterator, Sequence
 
 from .answers import Answer
-from .records import Message, Token, packet_of, token_of
+from .records import Message, Token, packet_of
 from .release import Release
 
 # The place of a packet among those of its site: (n, t) is the t-th token after own message n, and (n, 0) that message. It is the id of
@@ -91,6 +91,13 @@ class Sends:
         index = self.count_upto(place) - 1
         return self.read(index, index + 1)[0][1] if index >= 0 and self.place(index) == place else None
 
+    def message(self, number: int) -> bytes | None:
+        """Own message `number`, if it was sent."""
+        if not 1 <= number <= self.messages:
+            return None
+        index = bisect.bisect_left(self._numbers, number)
+        return self.read(index, index + 1)[0][1]
+
 
 class Ledger:
     """The state of one site that its supervisor needs. `note` takes each kept record with its answer, in their order."""
@@ -107,7 +114,6 @@ class Ledger:
         self.holds_token = site == 0
         self.turn = 0               # of the token that it took or passed last
         self.issued = 0             # red numbers issued before the token came
-        self.gave = [(0, 0)] * sites    # the last two turns at which it passed the token on to each site
 
     @property
     def messages(self) -> int:
@@ -177,7 +183,6 @@ class Ledger:
                 self.red.add(packet.red)
         elif isinstance(packet, Token):
             self.holds_token, self.turn = False, packet.turn
-            self.gave[packet.to] = self.gave[packet.to][1], packet.turn
         return packet
 
     def _came(self, record: bytes) -> None:
@@ -194,18 +199,12 @@ class Ledger:
             self.holds_token, self.turn, self.issued = True, packet.turn, packet.issued
 
 
-def kept_in(kept: Iterable[bytes], out: Iterable[bytes], origin: int, after: int) -> tuple[list[tuple[int, bytes]], list[bytes]]:
-    """What stands in the files of another site: messages of this one with a number above `after`, each with its number, and the tokens that
-    came to the other one, or that it passed on to this one; a torn last line is none."""
-    messages, tokens = list[tuple[int, bytes]](), list[bytes]()
+def packets_of(kept: Iterable[bytes], origin: int, after: int) -> Iterator[tuple[int, bytes]]:
+    """Messages of a site with a number above `after` among the lines of a file `kept`, each with its number; a torn last line is none."""
     for line in kept:
-        packet = packet_of(line[:-1]) if line.startswith((b"msg,", b"token,")) and line.endswith(b"\n") else None
-        if isinstance(packet, Token):
-            tokens.append(line[:-1])
-        elif packet and packet.origin == origin and packet.number > after:
-            messages.append((packet.number, line[:-1]))
-    passed = [line[5:-1] for line in out if line.startswith(b"send,token,") and line.endswith(b"\n")]
-    return messages, tokens + [text for text in passed if (token := token_of(text)) and token.to == origin]
+        packet = packet_of(line[:-1]) if line.startswith(b"msg,") and line.endswith(b"\n") else None
+        if isinstance(packet, Message) and packet.origin == origin and packet.number > after:
+            yield packet.number, line[:-1]
 
 
 def sends_of(out: Iterable[bytes]) -> list[tuple[Place, bytes]]:
@@ -219,8 +218,6 @@ def sends_of(out: Iterable[bytes]) -> list[tuple[Place, bytes]]:
     return sends
 
 
-def is_of(site: int, place: Place, packet: Message | Token | None) -> bool:
-    """Whether a packet is the site's that stands at that place; a token doesn't say whose it is."""
-    if isinstance(packet, Message):
-        return (packet.origin, packet.number, 0) == (site, *place)
-    return packet is not None and place[1] > 0
+def tokens_of(kept: Iterable[bytes]) -> list[bytes]:
+    """The tokens among the lines of a file `kept`; a torn last line is none."""
+    return [line[:-1] for line in kept if line.startswith(b"token,") and line.endswith(b"\n")]

@@ -1,13 +1,13 @@
 """Publishes what one site sends: brings its stream on the server up to date, and compares the site with it."""
 
 import hashlib
-from typing import TYPE_CHECKING
+from collections.abc import Mapping
+from typing import TYPE_CHECKING, Any
 
 from .ledger import NOWHERE, Place
 from .lives import Standing, life_text, standing, takes_place, why_other
-from .opening import must_compare_all, must_hear_all, said_in_packets, said_in_status, strange_packet, why_other_count
+from .opening import must_compare_all, must_hear_all, runs_elsewhere, strange_packet, why_other_count
 from .over_files import BATCH
-from .reader import tokens_in
 from .site import Site
 from .steps import (Adopt, Append, Entries, Owner, Packets, Page, PageOf, Rewrite, SayYields, SeeHere, SeeLife, SeenHere, Sites, State, Statuses, Steps,
                     StreamState, Wait)
@@ -150,10 +150,11 @@ class Publisher:
             self.told = None
 
     def _waited_for_another(self) -> Steps[bool]:
-        """Whether it was said that another supervisor runs the site, and isn't any more: not this folder's, which holds the folder and so is the
-        last. What one said that was killed stays for some seconds; one that says it again is running."""
+        """Whether it was said that another supervisor runs the site, and isn't any more. What one said that was killed stays for some
+        seconds; one that says it again is running."""
         first = None
-        while (status := (yield Statuses()).get(self.site.number)) and status.get("by") != self.link.named(self.site):
+        while runs_elsewhere(status := (yield Statuses()).get(self.site.number), self.link.named(self.site)):
+            assert status
             self.site.doubt()
             if first not in (None, status.get("told")):
                 raise Elsewhere(f"{str(status.get('by')).split(' ', 2)[-1]} runs it (shop adopt {self.site.number}, if that is gone for good)")
@@ -184,11 +185,9 @@ class Publisher:
         was_here, seconds = bool((yield SeenHere(site.number))), shop.now() - self.began
         must_hear = must_hear_all(is_forgotten, was_here, site.answered is not None, shop.is_alone, seconds)
         site.silent = [other for other in range(shop.count) if other not in shop.sites and other not in statuses] if must_hear else []
-        said = [said_in_status(status, other, site.number) for other, status in statuses.items()]
-        if site.answered is None and not site.silent:
-            for other in (other for other in range(shop.count) if other not in shop.sites):
-                said.append(said_in_packets(other, site.number, (), (yield from tokens_in(other))))
-        return (yield from shop.why_behind(site, said))
+        has = {other: greatest_said(status, site.number) for other, status in statuses.items()}
+        turns = {other: status["turn"] for other, status in statuses.items()}
+        return (yield from shop.why_behind(site, has, turns))
 
     def _waited_for_others(self) -> Steps[bool]:
         """Whether a site elsewhere had to say first what it has. Until then this one says what it has itself, since they may wait for it."""
@@ -228,6 +227,12 @@ class Publisher:
                 if place := strange_packet(entries, sends.at):
                     return place
             after = page.last
+
+
+def greatest_said(status: Mapping[str, Any], site: int) -> int:
+    """The greatest number of a site's messages that another site says it has. A version of before says only how many it has without a gap."""
+    number: int = status.get("greatest", status["has"]).get(str(site), 0)
+    return number
 
 
 def shown(place: Place) -> str:

@@ -10,9 +10,9 @@ from collections.abc import Iterator, Sequence
 from typing import NamedTuple
 
 from ..ends import Fault, Status
-from .ledger import NOWHERE, is_of
+from .ledger import NOWHERE
 from .lives import count_of
-from .records import Message, Token, ask_of, bytes_of, packet_of, token_of
+from .records import Message, Token, ask_of, bytes_of, packet_of
 from .steps import (Adopt, CallAll, Entries, Kept, KeptOf, Owner, Packets, Replay, Rewrite, SeenHere, SentHere, State, Statuses, Steps, StreamState,
                     Swap, TakeOver, TakePlace, Wait)
 
@@ -173,6 +173,11 @@ def adopted(site: int) -> Steps[None]:
     yield TakePlace(site, count_of(state.life))
 
 
+def token_of(text: bytes) -> Token | None:
+    packet = packet_of(text)
+    return packet if isinstance(packet, Token) else None
+
+
 def seller_in(text: bytes) -> bytes | None:
     """The seller in the message of an item."""
     fields = text.split(b",", 8)
@@ -188,13 +193,13 @@ class Past:
         self.passed: dict[int, tuple[int, bytes]] = {}  # its tokens by turn, each with the number of its message before
         for (number, token), text in streams[site]:
             packet = packet_of(text)
-            if not is_of(site, (number, token), packet):
+            if isinstance(packet, Token) and token:
+                self.passed[packet.turn] = (number, text)
+            elif isinstance(packet, Message) and (packet.origin, packet.number, 0) == (site, number, token):
+                self.own[number] = text
+            else:
                 raise Fault(Status.REFUSED, f"the stream of site {site} has an entry {number}-{token} that isn't its packet "
                             f"(redis-cli xdel): {UNCHANGED}")
-            if isinstance(packet, Token):
-                self.passed[packet.turn] = (number, text)
-            else:
-                self.own[number] = text
         self.tokens = {turn.turn: (turn, text) for stream in streams for _, text in stream if (turn := token_of(text))}
         self.left: list[tuple[int, int, bytes]] = []    # the messages of other sites in its folder, each with its site and number
         self.taken: dict[int, int] = {}                 # the last turn that is known to have come to each site

@@ -163,12 +163,6 @@ def packet_of(text: bytes) -> Message | Token | None:
     return None
 
 
-def token_of(text: bytes) -> Token | None:
-    """The same, of a token alone."""
-    packet = packet_of(text)
-    return packet if isinstance(packet, Token) else None
-
-
 def ask_of(shadow: bytes, seller_of: Callable[[bytes], bytes]) -> bytes:
     """The ask that was answered by a message with this shadow; `seller_of` knows the seller of an item by its id."""
     fields = shadow.split(b",")

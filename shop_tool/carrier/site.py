@@ -84,7 +84,6 @@ class Site(abc.ABC):
         self.fault: tuple[str, str] | None = None   # the last one: when, and what
         self.faults = 0
         self.fenced_by: str | None = None
-        self.is_marked = False                      # its folder says why
         self.line: collections.deque[Pending] = collections.deque()     # the first is answered next
         self.reader = AnswerReader()
         self.lives: list[str] = []                  # of its folder; the last has begun with this supervisor
@@ -248,7 +247,7 @@ class Site(abc.ABC):
         if not self.fenced_by:
             if outlasts:
                 self.write_fence(text)
-            self.fenced_by, self.is_marked = text, outlasts
+            self.fenced_by = text
             self.note_fault(text)
             self.opened.set()
             self.compared.set()

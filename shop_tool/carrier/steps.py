@@ -98,8 +98,8 @@ IsRunning = NamedTuple("IsRunning", [("site", int), ("seconds", float)])
 # The sites that other supervisors say are up.
 UpElsewhere = NamedTuple("UpElsewhere", [])
 
-# The messages of a site above a number that stand in the file `kept` of another one here, each with its number, all tokens that stand
-# there, and those that this one passed on to the first: a Kept; None if there is no such file.
+# The messages of a site above a number that stand in the file `kept` of another one here, each with its number, and all tokens that stand
+# there: a Kept; None if there is no such file.
 KeptOf = NamedTuple("KeptOf", [("keeper", int), ("origin", int), ("after", int)])
 
 Kept = tuple[list[tuple[int, bytes]], list[bytes]]

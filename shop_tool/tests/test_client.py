@@ -44,6 +44,14 @@ class Calls(unittest.TestCase):
         self.assertEqual(caught.exception.status, Status.AWAY)
         return caught.exception.text
 
+    def test_none_is_there(self) -> None:
+        self.assertIn("is not running", self.told(ASK))
+
+    def test_it_hangs(self) -> None:
+        self.listen()
+        self.assertIn("gave no answer within 0.1 s; whether it was accepted isn't known (shop log 2)", self.told(ASK))
+        self.assertTrue(self.told({"op": "status", "timeout": 0.1}).endswith("gave no answer within 0.1 s"))
+
     def test_it_takes_no_connection(self) -> None:
         self.listen()
         waiting = []

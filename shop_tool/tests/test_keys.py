@@ -6,10 +6,11 @@ from unittest import mock
 
 from shop_tool.carrier.answers import Answer
 from shop_tool.carrier.asking import Ask
-from shop_tool.carrier.keys import LEAST_LINES, SECONDS, Keys
+from shop_tool.carrier.keys import LEAST_LINES, SECONDS, Keys, is_key
 from shop_tool.carrier.over_files import FileLink
 from shop_tool.carrier.steps import Say, Steps, Wait
-from shop_tool.tests.shops import Supervisor, begun, fault_of
+from shop_tool.ends import Fault
+from shop_tool.tests.shops import Supervisor
 
 BOB, CAT = b"comment,0.3,0.2,0.1,5,bob", b"comment,0.3,0.2,0.1,5,cat"
 NO = b"reply,%d,refused,6,NoUser\n"
@@ -28,6 +29,11 @@ class File(unittest.TestCase):
     def line(self, number: int, name: bytes = b"k", record: bytes = BOB, at: int = 0) -> bytes:
         keys = Keys()
         return keys.give(keys.hold(name, record, at), number)
+
+    def test_keys_are_printable(self) -> None:
+        self.assertTrue(is_key(b" ~" * 127 + b"x"))
+        for text in (b"", b"x" * 256, b"a\tb", b"\xc3\xa9", b"a\n"):
+            self.assertFalse(is_key(text), text)
 
     def test_a_record_with_its_number_is_the_ask(self) -> None:
         keys = self.keys(self.line(3))
@@ -128,6 +134,11 @@ class Asking(unittest.TestCase):
         self.out += text
         self.site.take(text)
 
+    def fault(self, steps: Steps[None], sent: object = None) -> str:
+        with self.assertRaises(Fault) as raised:
+            steps.send(sent)
+        return raised.exception.text
+
     def numbers(self) -> list[int]:
         return [json.loads(line)["number"] for line in self.site.key_lines.splitlines()]
 
@@ -139,7 +150,8 @@ class Asking(unittest.TestCase):
         self.assertEqual(self.site.given, CAT + b"\n" + BOB + b"\n")
 
     def test_asked_again_it_gets_the_first_answer(self) -> None:
-        first = begun(self.ask(BOB))
+        first = self.ask(BOB)
+        first.send(None)
         self.answers(NO % 1)
         answer = first.send(True)
         self.assertRaises(StopIteration, first.send, None)
@@ -148,6 +160,13 @@ class Asking(unittest.TestCase):
         assert isinstance(step, Say) and isinstance(answer, Say)
         self.assertTrue(step.is_again and step.answer.lines == answer.answer.lines)
         self.assertRaises(StopIteration, again.send, None)
+        self.assertEqual(self.site.given, BOB + b"\n")
+
+    def test_another_record_is_refused(self) -> None:
+        self.ask(BOB).send(None)
+        step = self.ask(CAT).send(None)
+        assert isinstance(step, Say)
+        self.assertEqual(step.answer.refusal, "KeyTaken")
         self.assertEqual(self.site.given, BOB + b"\n")
 
     def test_one_that_is_asked_twice_at_once_is_given_once(self) -> None:
@@ -180,7 +199,8 @@ class Asking(unittest.TestCase):
         self.assertIsInstance(second.send(True), Say)
 
     def test_one_that_waited_for_the_token_in_vain_may_be_given_again(self) -> None:
-        first = begun(self.ask(b"user,bob"))
+        first = self.ask(b"user,bob")
+        first.send(None)
         self.answers(b"reply,1,refused,3,NoToken\n")
         first.send(True)
         first.send(False)
@@ -191,32 +211,39 @@ class Asking(unittest.TestCase):
     def test_one_whose_time_is_over_is_known_by_its_key(self) -> None:
         first, second = self.ask(BOB), self.ask(BOB)
         first.send(None)
-        self.assertIn("it may still be accepted", fault_of(first, False))
+        self.assertIn("it may still be accepted", self.fault(first, False))
         second.send(None)
-        self.assertIn("isn't known yet", fault_of(second, False))
+        self.assertIn("isn't known yet", self.fault(second, False))
         self.answers(NO % 1)
         self.assertIsInstance(self.ask(BOB).send(None), Say)
 
     def test_one_that_was_never_kept_is_given_again_under_its_next_number(self) -> None:
         self.site.give([CAT])
-        gone = begun(self.ask(CAT, names=(b"gone",)))
+        gone = self.ask(CAT, names=(b"gone",))
+        gone.send(None)
         gone.close()
         asked = self.ask(BOB)
         asked.send(None)
-        self.site.read_on(CAT + b"\n", NO % 1, 1)
-        self.assertEqual((self.site.again(), self.numbers()), (BOB + b"\n", [2]))
+        self.site.up.clear()
+        for _ in self.site.catch_up(1, iter([CAT + b"\n", b""]).__next__, iter([NO % 1, b""]).__next__):
+            pass
+        self.site.given = b""
+        self.site.come_up()
+        self.assertEqual((self.site.given, self.numbers()), (BOB + b"\n", [2]))
 
     def test_where_its_key_can_t_be_written_it_isn_t_given(self) -> None:
         self.site.is_full = True
-        steps = begun(self.ask(BOB))
-        self.assertEqual(fault_of(steps, True), "site 1: its keys can't be written (No space left on device); nothing was given to it")
+        steps = self.ask(BOB)
+        steps.send(None)
+        self.assertEqual(self.fault(steps, True), "site 1: its keys can't be written (No space left on device); nothing was given to it")
         self.assertEqual((self.site.given, list(self.site.line)), (b"", []))
         self.site.is_full = False
         self.ask(BOB).send(None)
         self.assertEqual(self.site.given, BOB + b"\n")
 
     def test_many_go_together_but_for_what_is_known(self) -> None:
-        steps = begun(self.ask(BOB, CAT, CAT, CAT, names=(b"a", b"b", b"b", None)))
+        steps = self.ask(BOB, CAT, CAT, CAT, names=(b"a", b"b", b"b", None))
+        steps.send(None)
         self.assertEqual(self.site.given, BOB + b"\n" + CAT + b"\n")
         self.answers(NO % 1 + NO % 2)
         self.assertEqual([steps.send(True), steps.send(None), steps.send(None)][2].is_again, True)     # type: ignore[attr-defined]
@@ -233,4 +260,4 @@ class Asking(unittest.TestCase):
         self.site.fence("it is a copy")
         self.site.end()
         self.assertTrue(told)
-        self.assertIn("site 1: it is a copy; nothing was given to it by this request", fault_of(second, True))
+        self.assertIn("site 1: it is a copy; nothing was given to it by this request", self.fault(second, True))

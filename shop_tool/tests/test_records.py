@@ -29,8 +29,11 @@ class OneRecord(unittest.TestCase):
 
 
 class Packets(unittest.TestCase):
-    def test_a_message_and_a_token(self) -> None:
-        self.assertEqual(packet_of(b'msg,1,2,7,3,4:5:6,item,0.1,"a, b",7,1,1,0'), Message(2, 7, 3, (4, 5, 6), b'item,0.1,"a, b",7,1,1,0'))
+    def test_a_message(self) -> None:
+        packet = packet_of(b'msg,1,2,7,3,4:5:6,item,0.1,"a, b",7,1,1,0')
+        self.assertEqual(packet, Message(2, 7, 3, (4, 5, 6), b'item,0.1,"a, b",7,1,1,0'))
+
+    def test_a_token(self) -> None:
         self.assertEqual(packet_of(b"token,1,4,2,9"), Token(4, 2, 9))
 
     def test_other_lines(self) -> None:

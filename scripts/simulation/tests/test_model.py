@@ -72,26 +72,6 @@ class Written(unittest.TestCase):
         self.assertEqual(self.steps.lines()[-2:], [f"Starts,{number}", f"TakesOver,{number}"])
         self.assertTrue(self.slot.is_open)
 
-    def test_a_standby_that_took_over_twice_takes_its_yield_back(self) -> None:
-        """It didn't hear that it had the site after the first time: that folder never opens."""
-        self.steps.yields(0, True)
-        made = [self.folder.copied(self.folder.machine) for _ in range(2)]
-        for each in made:
-            each.packets = []
-            self.steps.takes_over(each, 0)
-        self.world.server.lives[0] = "2 b"
-        self.steps.starts(made[-1], "2 b")
-        self.steps.opens(made[-1])
-        self.assertEqual(self.steps.lines()[-1], "TakesBack,0")
-
-    def test_a_site_that_was_full_is_raised_before_it_starts(self) -> None:
-        self.steps.has_room(self.folder, False)
-        self.steps.supervisor_ended(self.folder, None)
-        self.steps.starts(self.folder, "2 b")
-        for _ in range(2):
-            self.steps.has_room(self.folder, True)
-        self.assertEqual(self.steps.lines()[1:], ["Fills,0", "IsKilled,0", "IsRaised,0", "Starts,0"])
-
     def test_what_was_passed_before_the_token_came_is_no_news(self) -> None:
         slot = Slot(0, 0)
         slot.packets.append(("p", 1, 8, 0, 0))
