@@ -7,9 +7,9 @@ use crate::gates::Holders;
 use crate::rigs::Rig;
 use rubis_crew::{Both, Crew, Found, Helper, Job, Lead};
 use rubis_world::Gate;
-use std::alloc::AllocError;
-use std::sync::Wait;
+use std::alloc::{AllocError, Global};
 use std::sync::atomic::{AtomicBool, Ordering};
+use std::sync::{Arc, Wait};
 use std::test::Fail;
 use std::thread;
 use std::time::Duration;
@@ -42,11 +42,11 @@ impl Job for Doubling {
 
 // A job at which a helper is held as at a gate.
 #[derive(Drop)]
-struct Holding<'a> {
-    holders: &'a Holders,
+struct Holding {
+    holders: Arc<Holders, Global>,
 }
 
-impl<'a> Job for Holding<'a> {
+impl Job for Holding {
     type Output = ();
 
     ghost use Rattle.std.specs.Prelude.{⊤};
@@ -56,7 +56,8 @@ impl<'a> Job for Holding<'a> {
     ghost Worked = { λ holding result. ⊤ };
 
     fn work<R: Wait>(self, _rt: &R) {
-        Gate::taken(&self.holders, 0);
+        let holders: &Holders = &self.holders;
+        Gate::taken(&holders, 0);
     }
 }
 
@@ -285,22 +286,21 @@ fn a_helper_of_two_crews_takes_one_end_of_each(rt: HostRuntime) -> Result<(), Fa
     Ok(())
 }
 
-// Gives two jobs to the first crew, does none of them, and ends both crews.
-fn lead_holding<'a>(
+// Gives the jobs to the first crew, does none of them, and ends both crews.
+fn lead_holding(
     rt: &impl Rig,
-    first: &Crew<Holding<'a>>,
-    second: &Crew<Holding<'a>>,
-    mut leads: Leads<Holding<'a>>,
-    holders: &'a Holders,
+    first: &Crew<Holding>,
+    second: &Crew<Holding>,
+    mut leads: Leads<Holding>,
+    jobs: (Holding, Holding),
     left: &AtomicBool,
-) -> Leads<Holding<'a>>
+) -> Leads<Holding>
     requires { (leads.first.crew ≡ first.now.id) × (leads.second.crew ≡ second.now.id) }
     ensures first { (result.first.crew ≡ first.now.id) × (result.first.ended ≡ true) × (result.first.given ≡ []) }
     ensures second { (result.second.crew ≡ second.now.id) × (result.second.ended ≡ true) × (result.second.given ≡ []) }
 {
-    let (one, other) = (Holding { holders }, Holding { holders });
-    assert!(rt; first.give(rt, &mut leads.first, one).is_ok());
-    assert!(rt; first.give(rt, &mut leads.first, other).is_ok());
+    assert!(rt; first.give(rt, &mut leads.first, jobs.0).is_ok());
+    assert!(rt; first.give(rt, &mut leads.first, jobs.1).is_ok());
     wait_for_one(rt, first, &mut leads.first, left);
     wait_for_one(rt, first, &mut leads.first, left);
     end(rt, first, &mut leads.first);
@@ -308,10 +308,18 @@ fn lead_holding<'a>(
     leads
 }
 
+// A job at which these hold a helper.
+fn hold(holders: &Arc<Holders, Global>) -> Result<Holding, Fail> {
+    Ok(Holding {
+        holders: Arc::try_clone(holders).or(Err("an owner"))?,
+    })
+}
+
 // Each of two jobs holds its helper until the other is at work too.
 #[test]
 fn both_helpers_of_two_crews_work_at_once(rt: HostRuntime) -> Result<(), Fail> {
-    let holders = Holders::new(2);
+    let holders = Arc::new(rt.alloc(), Holders::new(2))?;
+    let jobs = (hold(&holders)?, hold(&holders)?);
     let (first, second, mut leads) = two_crews(&rt)?;
     let helper = Both::new(
         first.helper(&mut leads.first),
@@ -321,7 +329,7 @@ fn both_helpers_of_two_crews_work_at_once(rt: HostRuntime) -> Result<(), Fail> {
     let ((), leads) = thread::join(
         &rt,
         || stay(&rt, &first, &second, helper, true, &left),
-        || lead_holding(&rt, &first, &second, leads, &holders, &left),
+        || lead_holding(&rt, &first, &second, leads, jobs, &left),
     );
     first.close(leads.first);
     second.close(leads.second);
