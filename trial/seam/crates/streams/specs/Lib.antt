@@ -1,2 +1,0 @@
-pub mod Chunked
-pub mod Sources
