@@ -51,7 +51,7 @@ complete -c shop -n "not __fish_seen_subcommand_from $commands" -a ask -d 'ask a
 complete -c shop -n "__fish_seen_subcommand_from ask" -l json -d 'print an object for each answer'
 complete -c shop -n "__fish_seen_subcommand_from ask" -l raw -d 'print the lines of the site'
 complete -c shop -n "__fish_seen_subcommand_from ask" -l no-wait -d 'don\'t fetch the token: a site without it answers NoToken'
-complete -c shop -n "__fish_seen_subcommand_from ask" -l key -x -d 'of one record: asked again within a day under this key, it isn\'t accepted a second time, and gets the answer that it got'
+complete -c shop -n "__fish_seen_subcommand_from ask" -l key -x -d 'of one record: asked again under this key, it isn\'t accepted a second time, and gets the id that it got'
 complete -c shop -n "__fish_seen_subcommand_from ask" -l keys -x -d 'of several records: the n-th has the key PREFIX.n'
 complete -c shop -n "__fish_seen_subcommand_from ask" -l published -d 'end only once the server, or over files another site, has what was accepted'
 complete -c shop -n "__fish_seen_subcommand_from ask" -l timeout -x -d 'seconds until it gives up; 10 by default'

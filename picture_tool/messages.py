@@ -83,11 +83,17 @@ def _message_of(fields: tuple[str, ...]) -> Message:
 
 def records_of(text: str) -> list[Fields]:
     """The records of a text, each as its fields. An empty line is none."""
-    return [fields for fields in csv.reader(io.StringIO(text, newline="")) if fields]
+    return [_without_key(fields) for fields in csv.reader(io.StringIO(text, newline="")) if fields]
 
 
 def fields_of(line: str) -> Fields:
-    return next(csv.reader([line]), [])
+    return _without_key(next(csv.reader([line]), []))
+
+
+def _without_key(fields: Fields) -> Fields:
+    """An ask, or a packet that is sent or comes, is drawn as if it had no key."""
+    at = fields[:1] == ["send"]
+    return fields[:at] + fields[at + 2:] if fields[at:at + 1] == ["key"] and len(fields) > at + 2 else fields
 
 
 def is_number(text: str) -> bool:

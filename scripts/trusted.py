@@ -3,7 +3,7 @@
 
 PROGRAM is the built rubis. The list has the libraries of the toolchain that the program's crates stand on, and those below them; the C
 functions whose contracts the proof assumes, by `rt check --list-axioms`; those that the program calls, by its symbols; and the seams: the
-types of files that a trait says of what happens to them, which no contract can.
+functions that make a call and add what happens by it to a history, in files named seam.rt, where reading has to show that the two agree.
 
 With --write it is written, in crates/rubis_app, where the crates below are proved: on a new machine that check would take as long as the
 gate. Else the libraries and the seams are compared, and that the program calls no C function beyond the list. The last line says how many
@@ -58,9 +58,13 @@ def called(tools: pathlib.Path, program: str) -> list[str]:
 
 
 def seams() -> list[str]:
-    """The types of files whose history nothing can prove: what implements `SiteFiles` in the program's crates."""
-    return [f"{path.parent.parent.name}::{path.stem}::{name}" for path in sorted((TOP / "crates").glob("*/src/*.rt"))
-            for name in re.findall(r"^impl\b.* SiteFiles for (\w+)", path.read_text(), re.M)]
+    """The functions whose events nothing can prove: those of the files named seam.rt that begin a history or add to it."""
+    found = []
+    for path in sorted((TOP / "crates").glob("*/src/seam.rt")):
+        parts = re.split(r"\bfn (\w+)", path.read_text())[1:]
+        found += [f"{path.parent.parent.name}::seam::{name}" for name, text in zip(parts[::2], parts[1::2])
+                  if re.search(r"History::new\(\)|\.(?:past|came|went)\.add\(", text)]
+    return sorted(set(found))
 
 
 def listed() -> dict[str, list[str]]:

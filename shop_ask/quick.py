@@ -129,7 +129,7 @@ def asked(words: list[str]) -> Begun | None:
 def is_printed(answer: dict[str, object]) -> bool:
     """Prints an answer, if it is plain: the ask was accepted."""
     lines = answer.get("lines")
-    if not isinstance(lines, list) or (head := lines[0].split(",", 2))[2].partition(",")[0] not in ("ok", "passed"):
+    if not isinstance(lines, list) or (head := lines[0].split(",", 2)[2]).partition(",")[0] not in ("ok", "again", "passed"):
         return False
-    text = f"{head[2]}\n".encode()
+    text = head.replace("again", "ok").encode() + b"\n"
     return os.write(1, text) == len(text)

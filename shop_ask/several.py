@@ -8,7 +8,7 @@ from json.encoder import encode_basestring_ascii as json_of     # type: ignore[a
 from typing import TYPE_CHECKING, Any
 
 from shop_ask.lines import Pieces, Reader
-from shop_tool.carrier.records import text_of
+from shop_tool.carrier.records import bare, text_of
 from shop_tool.carrier.steps import Say, Signal, Wait
 from shop_tool.ends import Fault, Status
 from shop_tool.requests import REQUEST_BYTES, Request, field, no_request, request_of, site_of
@@ -167,8 +167,7 @@ class Asked:
     def _say(self, step: Say) -> None:
         self.site.count(step.answer)
         lines = ", ".join([json_of(text_of(line)) for line in step.answer.lines])
-        again = ', "again": true' if step.is_again else ""
-        self.several.together.write(f'{{"call": {self.name}, "record": {json_of(text_of(step.record))}, "lines": [{lines}]{again}}}\n'.encode())
+        self.several.together.write(f'{{"call": {self.name}, "record": {json_of(text_of(bare(step.record)))}, "lines": [{lines}]}}\n'.encode())
 
     def _end(self, fault: Fault | None) -> None:
         del self.several.serving[self.name]

@@ -10,9 +10,8 @@ from typing import Any
 from shop_ask.quick import Begun
 
 from . import client
-from .carrier.keys import KEY_BYTES, is_key
+from .carrier.records import BYTES_OF_A_RECORD, COLUMNS, KEY_BYTES, REFUSALS, bare, bytes_of, is_key, row_of, text_of, why_not_one_record
 from .ends import Fault, Status
-from .carrier.records import BYTES_OF_A_RECORD, COLUMNS, REFUSALS, row_of, text_of, why_not_one_record
 from .render import shown
 
 PIECE = 1000        # how many records of standard input are asked by one request
@@ -29,7 +28,7 @@ def ask(args: argparse.Namespace) -> int:
     try:
         for records in given:
             request = _request(args, records, 0 if begun else printer.count)
-            for answer in client.begun(args.folder, request, begun) if begun else client.call(args.folder, request):
+            for answer in client.asked(args.folder, request, begun):
                 client.raise_fault(answer)
                 if not answer.get("end"):
                     printer.show(client.member(answer, "record"), client.member(answer, "lines"))
@@ -109,7 +108,7 @@ class Printer:
         if head[2] == "rows":
             print("".join(f"{line[4:]}\n" for line in lines[1:]), end="", flush=True)
             return
-        print(",".join(head[2:]), flush=True)
+        print(",".join(head[2:] if head[2] != "again" else ["ok", *head[3:]]), flush=True)
         if head[2] == "refused":
             print(f"shop: {shown(record)}: {shown(self._meaning(head[4], record))}", file=sys.stderr)
 
@@ -130,7 +129,9 @@ class Printer:
             case "refused":
                 said |= {"code": int(head[3]), "refusal": head[4], "meaning": self._meaning(head[4], record)}
             case "ok":
-                said |= {"id": head[3], "message": lines[1][5:]}
+                said |= {"id": head[3], "message": text_of(bare(bytes_of(lines[1][5:])))}
+            case "again":
+                said |= {"answer": "ok", "id": head[3], "again": True}
             case "rows":
                 from .reading import with_nulls
                 said["rows"] = [with_nulls(row_of(line)) if line.split(",")[1] in COLUMNS else line[4:] for line in lines[1:]]

@@ -22,7 +22,7 @@ from .times import stamp
 FORM = 1                    # of the file
 CONTENTS = "contents.json"  # its last member: the form, and the sizes and sums of the others, so that a torn file is seen
 SIZED = ("out", "kept")     # of a site, each up to a size; in this order, since a start refuses an `out` that has more than its `kept`
-WHOLE = ("setup", "life", "keys", "fenced", "yields")
+WHOLE = ("setup", "life", "fenced", "yields")
 PIECE = 1 << 20
 
 

@@ -169,7 +169,7 @@ class CommandLine:
   shop ask 0 - < records            the records on standard input, one a line
   shop ask 1 bid,0.3,0.2,500        a site that needs the token fetches it
   shop ask 1 list,bids,0.3
-  shop ask 0 bid,0.3,0.2,500 --key order-17         said again, it is the same bid, and gets the same answer
+  shop ask 0 bid,0.3,0.2,500 --key order-17         said again, it is the same bid, and gets the same id
   shop ask 0 - --keys monday < records              the same for each record; one that was cut goes on
 """)
         self.site(parser)
@@ -179,8 +179,8 @@ class CommandLine:
         shown.add_argument("--raw", action="store_true", help="print the lines of the site")
         parser.add_argument("--no-wait", action="store_true", help="don't fetch the token: a site without it answers NoToken")
         keys = parser.add_mutually_exclusive_group()
-        keys.add_argument("--key", metavar="KEY", help="of one record: asked again within a day under this key, it isn't accepted a second "
-                          "time, and gets the answer that it got")
+        keys.add_argument("--key", metavar="KEY", help="of one record: asked again under this key, it isn't accepted a second time, and gets "
+                          "the id that it got")
         keys.add_argument("--keys", metavar="PREFIX", help="of several records: the n-th has the key PREFIX.n")
         published = "end only once the server, or over files another site, has what was accepted"
         parser.add_argument("--published", action="store_true", help=published)

@@ -9,9 +9,12 @@ from typing import IO, Any
 
 from shop_ask.quick import CONNECT_SECONDS, MARGIN, Begun
 
-from .ends import Fault, Status
+from .ends import Ended, Fault, Status
 from .lock import holder_of
 from .carrier.told import unanswered
+
+
+AGAIN_SECONDS = 0.1     # until an ask is asked again
 
 
 def connect(folder: str, seconds: float = CONNECT_SECONDS) -> socket.socket | None:
@@ -53,6 +56,42 @@ def call(folder: str, request: dict[str, Any], seconds: float | None = None) -> 
     yield from _told(line, folder, request, seconds, until, json.dumps(request).encode() + b"\n", b"")
 
 
+def asked(folder: str, request: dict[str, Any], begun_: Begun | None) -> Iterator[dict[str, Any]]:
+    """The supervisor's answers to asks, which may be begun. Those under keys are asked again if it ends before it answers."""
+    again, answers = Again(request), begun(folder, request, begun_) if begun_ else call(folder, request)
+    while True:
+        try:
+            for answer in answers:
+                again.note(answer)
+                yield answer
+            return
+        except Fault as fault:
+            again.look_at(fault)
+        time.sleep(AGAIN_SECONDS)
+        answers = call(folder, again.request)
+
+
+class Again:
+    """What is left of a request of asks that is made again as long as it has time, if all of them have keys: each is accepted once."""
+
+    def __init__(self, request: dict[str, Any]) -> None:
+        self.request, self.until = request, time.monotonic() + request["timeout"]
+        self.ended: Ended | None = None
+
+    def note(self, answer: dict[str, Any]) -> None:
+        """The first ask that is left is answered."""
+        if "record" in answer and self.request.get("keys"):
+            self.request = self.request | {name: self.request[name][1:] for name in ("records", "keys")}
+
+    def look_at(self, fault: Fault) -> None:
+        """Raises the fault if the rest can't be asked again. While there is no supervisor, it is still the first one's that it ended."""
+        if isinstance(fault, Ended) and all(self.request.get("keys") or [None]) and not any(text.startswith("pass,") for text in self.request["records"]):
+            self.ended = self.ended or fault
+        if not self.ended or time.monotonic() > self.until:
+            raise self.ended or fault
+        self.request = self.request | {"timeout": left(self.until)}
+
+
 def begun(folder: str, request: dict[str, Any], begun: Begun) -> Iterator[dict[str, Any]]:
     """The rest of the answers to a request that was begun."""
     file, come, _, until = begun
@@ -77,7 +116,7 @@ def _told(line: socket.socket, folder: str, request: dict[str, Any], seconds: fl
             raise Fault(Status.AWAY, f"the supervisor of {folder} gave no answer within {round(seconds or 0, 2):g} s{unanswered(request)}") from None
         except OSError:
             pass
-    raise Fault(Status.AWAY, f"the supervisor of {folder} ended before it answered{unanswered(request) or ' (shop log)'}")
+    raise Ended(Status.AWAY, f"the supervisor of {folder} ended before it answered{unanswered(request) or ' (shop log)'}")
 
 
 def _lines_of(file: IO[bytes], come: bytes) -> Iterator[bytes]:

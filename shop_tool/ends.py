@@ -17,3 +17,7 @@ class Fault(Exception):
         super().__init__(text)
         self.status = status
         self.text = text
+
+
+class Ended(Fault):
+    """That the supervisor ended before it answered."""

@@ -5,6 +5,7 @@ from collections.abc import Sequence
 from typing import Any
 
 from .carrier.release import Release, Stamped
+from .render import columns
 
 SHOWN = 3       # how many waiting messages a row of the text shows
 
@@ -95,9 +96,4 @@ def grid_cells(grid: Grid) -> list[list[str]]:
 
 def grid_text(grid: Grid) -> str:
     """The grid for a terminal."""
-    lines = grid_cells(grid)
-    widths = [max(len(line[at]) for line in lines) for at in range(len(lines[0]))]
-    said = ["  ".join(cell.ljust(width) for cell, width in zip(line, widths)).rstrip() for line in lines]
-    if any(row.holds for row in grid.rows):
-        said.append("* holds the token")
-    return "".join(line + "\n" for line in said)
+    return columns(grid_cells(grid)) + ("* holds the token\n" if any(row.holds for row in grid.rows) else "")

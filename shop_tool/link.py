@@ -2,17 +2,15 @@
 
 import abc
 import asyncio
-import os
 from typing import TYPE_CHECKING, Any
 
-from .carrier.ledger import packets_of, tokens_of
+from . import here
 from .carrier.over_files import FileLink
 from .carrier.shop import Link
-from .carrier.steps import CallAll, IsRunning, Kept, KeptOf, SayLeave, SayWant, SeeHere, SeenHere, UpElsewhere
-from .lives import Seen
+from .carrier.steps import CallAll, IsRunning, SayLeave, SayWant, UpElsewhere
 from .requests import Request
 from .signals import done
-from .site import KeptSite, unchanged
+from .site import KeptSite
 
 if TYPE_CHECKING:
     from .site import KeptSite
@@ -21,6 +19,8 @@ if TYPE_CHECKING:
 
 class Carrying(Link):
     """A link as the supervisor and its socket use it."""
+
+    here: here.Here
 
     @abc.abstractmethod
     async def run(self) -> None:
@@ -56,38 +56,25 @@ class Carrying(Link):
         return None
 
 
-async def kept_of(folder: str, step: KeptOf) -> Kept | None:
-    """What stands in the file `kept` of a site in this folder."""
-    its = f"{folder}/{step.keeper}"
-
-    def read() -> Kept | None:
-        return (list(packets_of(unchanged(its), step.origin, step.after)), tokens_of(unchanged(its))) if os.path.exists(f"{its}/kept") else None
-    return await asyncio.to_thread(read)
-
-
 class LinkOverFiles(FileLink, Carrying):
     shop: "Supervisor"
 
     def __init__(self, shop: "Supervisor") -> None:
         super().__init__(shop)
-        self.seen = Seen(shop.folder)
+        self.here = here.Here(shop.folder, shop.settings)
 
     async def run(self) -> None:
         sites = self.shop.sites.values()
         await asyncio.gather(*(done(steps, self.do) for site in sites for steps in (self.compare(site), self.read(site))))
 
     async def do(self, step: tuple[Any, ...]) -> Any:
-        if isinstance(step, KeptOf):
-            return await kept_of(self.shop.folder, step)
+        if isinstance(step, here.STEPS):
+            return await self.here.do(step)
         match step:
             case SayWant(site, known):
                 self.shop.hear_want(site, known)
             case IsRunning(site):
                 return self.shop.sites[site].up.is_set
-            case SeenHere(site):
-                return self.seen[site]
-            case SeeHere(site, life):
-                self.seen[site] = life
             case UpElsewhere():
                 return set()
             case CallAll():
@@ -98,4 +85,4 @@ class LinkOverFiles(FileLink, Carrying):
                 raise NotImplementedError(step)
 
     async def message(self, origin: int, number: int) -> bytes | None:
-        return self.shop.sites[origin].ledger.sends.message(number)
+        return self.shop.sites[origin].ledger.sends.at((number, 0))

@@ -62,19 +62,19 @@ def build() -> str:
     return digest.hexdigest()
 
 
-def answers_questions(program: str, *places: str) -> bool:
-    """Whether the program answers questions, lines that begin with `?`. An older one keeps them as records, so it has to be seen: in a
-    temporary folder, or where those are full in one of these places."""
+def known_by(program: str, *places: str) -> tuple[bool, bool]:
+    """Whether the program answers questions, lines that begin with `?`, and whether it knows keys. An older one keeps them as records, so it
+    has to be seen: in a temporary folder, or where those are full in one of these places."""
     why = ""
     for place in (None, *places):
         try:
             with tempfile.TemporaryDirectory(dir=place) as folder:
-                done = subprocess.run([program, "keep", f"{folder}/0"], input=b"?state\n", capture_output=True)
+                done = subprocess.run([program, "keep", f"{folder}/0"], input=b"?state\nkey,k,user,a\n", capture_output=True)
         except OSError as fault:
             why = why or fault.strerror or str(fault)
             continue
         if done.stdout.startswith(b"kept,"):
-            return b"\n?state," in done.stdout
+            return b"\n?state," in done.stdout, b"\nsend,key,k," in done.stdout
         why = why or done.stderr.decode("utf-8", "replace").strip()
     raise Fault(Status.AWAY, f"it can't be tried whether {program} answers questions: {why}")
 

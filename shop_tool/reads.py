@@ -8,7 +8,7 @@ import time
 from typing import TYPE_CHECKING
 
 from .carrier.answers import Answer
-from .carrier.records import COLUMNS, REFUSALS, Purpose, bytes_of, fields_of, line_of, row_of, text_of
+from .carrier.records import COLUMNS, REFUSALS, Purpose, bare, bytes_of, fields_of, line_of, row_of, text_of
 from .carrier.site import Pending
 from .ends import Fault, Status
 from .requests import message_of
@@ -167,7 +167,7 @@ class Reads:
             return b"list,categories" if table == "category" else b"list,users"
         name = message_of({"id": key}, self.shop.settings.sites)
         message = await self.shop.link.message(*name) if name else None
-        shadow = fields_of(text_of(message))[6:] if message else [""]
+        shadow = fields_of(text_of(bare(message)))[6:] if message else [""]
         match table, shadow[0]:
             case "item", "item":
                 return bytes_of(f"list,items,{shadow[3]}")

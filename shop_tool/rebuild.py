@@ -4,23 +4,17 @@ import argparse
 import asyncio
 import contextlib
 import os
-import shutil
-import subprocess
 from typing import Any
 
-from . import program, settings, witness
-from .carrier.answers import AnswerReader
-from .carrier.ledger import sends_of
+from . import here, settings, witness
 from .carrier.lives import count_of, life_text
-from .carrier.rebuilding import UNCHANGED, Given, Rebuild, adopted
-from .carrier.steps import CallAll, KeptOf, Replay, Result, SeenHere, SentHere, Steps, Swap, TakeOver, TakePlace
+from .carrier.rebuilding import UNCHANGED, Rebuild, adopted
+from .carrier.steps import CallAll, Result, Steps, Swap, TakeOver, TakePlace
 from .ends import Fault, Status
-from .folders import swapped, synced
-from .kept_keys import has_keys, put_fixed_keys
-from .link import kept_of
-from .lives import Seen, lives_of, take_place
+from .folders import swapped
+from .lives import lives_of, take_place
 from .signals import done
-from .site import FENCED, keep_command, lines_of
+from .site import FENCED
 from .stopped import stopped_shop
 from .streams import Streams, faults, reason_of
 
@@ -49,7 +43,7 @@ class Stopped:
     """The folder of a shop that is stopped, and its server."""
 
     def __init__(self, folder: str, now: settings.Settings) -> None:
-        self.folder, self.now = folder, now
+        self.folder, self.now, self.here = folder, now, here.Here(folder, now)
         self.lost: str | None = None        # where the folder is whose place another one took
 
     def done(self, steps: Steps[Result]) -> Result:
@@ -65,18 +59,13 @@ class Stopped:
             raise Fault(Status.AWAY, f"{self.now.shown_over}: {reason_of(fault)}; {UNCHANGED}") from fault
 
     async def do(self, step: tuple[Any, ...]) -> Any:
-        if isinstance(step, KeptOf):
-            return await kept_of(self.folder, step)
+        if isinstance(step, here.STEPS):
+            return await self.here.do(step)
         match step:
-            case SentHere() | Replay():
-                return done_here(step, self.folder, self.now)
-            case SeenHere(site):
-                return Seen(self.folder)[site]
             case CallAll(request, sites, seconds):
                 return {site: await self.server.call(request, site, seconds) for site in sites}
             case Swap(site, starts):
                 take_place(f"{self.folder}/{site}.new", max(starts, len(lives_of(f"{self.folder}/{site}"))))
-                keep_keys(f"{self.folder}/{site}")
                 for other in self.now.here:     # it may bring a later turn of the token than they know
                     witness.forget(its := f"{os.path.realpath(self.folder)}/{other}", lives_of(its))
                 self.lost = swapped(self.folder, site)
@@ -88,44 +77,12 @@ class Stopped:
         return await self.server.do(step)
 
 
-def done_here(step: tuple[Any, ...], folder: str, now: settings.Settings) -> Any:
-    """Does a step that needs no server."""
-    match step:
-        case SentHere(site):
-            return sends_of(lines_of(f"{folder}/{site}/out"))
-        case Replay(site, records):
-            return replayed(site, records, folder, now)
-
-
 async def took_over(step: TakeOver, folder: str, server: Streams) -> bool:
-    """Has the folder SITE.new take the place of a site that runs nowhere; False if the server doesn't give it that."""
+    """Has the folder SITE.new take the place of a site that runs nowhere; False if the server doesn't give it that. The life that is seen from
+    then on counts more than the one before: that may be of a folder that took the site over too, and hasn't begun a life of its own."""
     new = f"{folder}/{step.site}.new"
-    take_place(new, count_of(step.life))
+    take_place(new, count_of(step.life) + 1)
     if not await server.take_over(step.site, step.life, step.last, life_text(lives_of(new))):
         return False
     swapped(folder, step.site)
     return True
-
-
-def replayed(site: int, steps: list[Given], folder: str, now: settings.Settings) -> None:
-    """Gives the steps to a fresh site in the folder SITE.new."""
-    new = f"{folder}/{site}.new"
-    shutil.rmtree(new, ignore_errors=True)
-    given = b"".join(step.record + b"\n" for step in steps)
-    done = subprocess.run(keep_command(new, site, now, program.path()), input=given, stdout=subprocess.PIPE)
-    answers = AnswerReader().feed(done.stdout.partition(b"\n")[2])
-    for step, answer in zip(steps, answers):
-        if answer.packet != step.packet or answer.refusal:
-            want = step.packet.decode() if step.packet else "nothing"
-            raise Fault(Status.REFUSED, f"{step.record.decode()} sends {want} no more, but {answer.lines}: {UNCHANGED}")
-    if done.returncode or len(answers) < len(steps):
-        raise Fault(Status.REFUSED, f"the site in {new} ended with status {done.returncode}: {UNCHANGED}")
-    for name in ("kept", "out", ""):
-        synced(f"{new}/{name}")
-
-
-def keep_keys(folder: str) -> None:
-    """Takes the keys of a folder along to the one that takes its place, as far as their answers are known and true there."""
-    with contextlib.suppress(OSError, ValueError):      # it lost what it takes to know them
-        if has_keys(folder):
-            put_fixed_keys(folder, f"{folder}.new", {text for _, text in sends_of(lines_of(f"{folder}.new/out"))})

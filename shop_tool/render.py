@@ -20,9 +20,9 @@ def _escaped(code: int) -> str:
     return f"\\x{code:02x}" if code < 0x100 else f"\\u{code:04x}" if code < 0x10000 else f"\\U{code:08x}"
 
 
-def coloured(text: str, colour: str) -> str:
+def coloured(text: str, colour: str | None) -> str:
     """The text in a colour where standard output is a terminal that has some."""
-    if not sys.stdout.isatty() or os.environ.get("NO_COLOR") or os.environ.get("TERM") == "dumb":
+    if not colour or not sys.stdout.isatty() or os.environ.get("NO_COLOR") or os.environ.get("TERM") == "dumb":
         return text
     return f"\x1b[{colour}m{text}\x1b[0m"
 
@@ -34,25 +34,20 @@ def confirmed(question: str, otherwise: str) -> bool:
     return input(f"{question} [y/N] ").strip().lower() in ("y", "yes")
 
 
-def print_columns(rows: list[list[str]], colours: dict[str, str] | None = None) -> None:
-    """Prints rows with each column as wide as its widest cell; `colours` has those of whole cells."""
+def columns(rows: list[list[str]], colours: dict[str, str] | None = None) -> str:
+    """Rows with each column as wide as its widest cell, a line each; `colours` has those of whole cells."""
     rows = [[shown(cell) for cell in row] for row in rows]
     widths = [max(len(row[at]) for row in rows) for at in range(len(rows[0]))]
-    for row in rows:
-        padded = [cell.ljust(width) for cell, width in zip(row, widths)]
-        padded[-1] = padded[-1].rstrip()
-        print("  ".join(coloured(text, colours[cell]) if colours and cell in colours else text for text, cell in zip(padded, row)).rstrip())
+    return "".join("  ".join(coloured(cell, (colours or {}).get(cell)) + " " * (width - len(cell)) for cell, width in zip(row, widths)).rstrip() + "\n"
+                   for row in rows)
 
 
 def print_rows(kind: str, rows: list[Row]) -> None:
     """Prints rows of one kind under the names of their columns."""
     names = COLUMNS[kind]
-    print_columns([names] + [[str(row[name]) for name in names] for row in rows])
+    print(columns([names] + [[str(row[name]) for name in names] for row in rows]), end="")
 
 
 def print_fields(row: Row) -> None:
     """Prints one row with a line for each column."""
-    names = COLUMNS[str(row["kind"])]
-    width = max(map(len, names))
-    for name in names:
-        print(f"{name.ljust(width)}  {shown(str(row[name]))}".rstrip())
+    print(columns([[name, str(row[name])] for name in COLUMNS[str(row["kind"])]]), end="")

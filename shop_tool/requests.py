@@ -5,8 +5,7 @@ import re
 from typing import Any, NamedTuple, TypeVar
 
 from .ends import Fault, Status
-from .carrier.keys import KEY_BYTES, is_key
-from .carrier.records import COLUMNS, Purpose, bytes_of, line_of, text_of, why_not_one_record
+from .carrier.records import ASKS, COLUMNS, KEY_BYTES, Purpose, bytes_of, is_key, kind_of, line_of, text_of, under, why_not_one_record
 
 REQUEST_BYTES = 16 << 20
 RECORDS_OF_A_REQUEST = ROWS_OF_A_PAGE = 10_000
@@ -19,8 +18,7 @@ Value = TypeVar("Value")
 class AskRequest(NamedTuple):
     """What `ask` says."""
 
-    records: list[bytes]
-    names: list[bytes | None]       # the keys of the records, or nothing if none has one
+    records: list[bytes]    # under their keys
     fetches_token: bool     # or a site without it answers NoToken
     published: bool         # ok is said only once the others find the message
 
@@ -70,23 +68,21 @@ def asks_of(request: Request) -> AskRequest:
     if len(records) > RECORDS_OF_A_REQUEST:
         raise Fault(Status.MISUSE, f"a request has at most {RECORDS_OF_A_REQUEST} records; nothing was asked")
     checked = [_record_of(text, Purpose.ASK) for text in records]
-    return AskRequest(checked, _names_of(request, len(checked)), field(request, "fetch", bool), bool(request.get("published")))
+    if request.get("keys") is not None:
+        keys = field(request, "keys", list)
+        if len(keys) != len(checked):
+            raise no_request(f"there are {len(keys)} `keys` for {len(checked)} records")
+        checked = [*map(_under, keys, checked)]
+    return AskRequest(checked, field(request, "fetch", bool), bool(request.get("published")))
 
 
-def _names_of(request: Request, records: int) -> list[bytes | None]:
-    """The keys under which records are asked."""
-    if request.get("keys") is None:
-        return []
-    keys = field(request, "keys", list)
-    if len(keys) != records:
-        raise no_request(f"there are {len(keys)} `keys` for {records} records")
-    return [None if key is None else _name_of(key) for key in keys]
-
-
-def _name_of(key: Any) -> bytes:
+def _under(key: Any, record: bytes) -> bytes:
+    """A record under its key, if it has one. What changes no table needs none."""
+    if key is None:
+        return record
     if not isinstance(key, str) or not key.isascii() or not is_key(name := bytes_of(key)):
         raise Fault(Status.MISUSE, f"{str(key)[:80]!r}: a key has 1 to {KEY_BYTES} printable ASCII characters; nothing was asked")
-    return name
+    return under(name, record) if kind_of(record) in ASKS else record
 
 
 def listing_of(request: Request) -> bytes:

@@ -17,7 +17,7 @@ from .carrier.answers import AnswerReader, KeptReader
 from .ends import Fault, Status
 from .grid import grid_of_status, grid_text
 from .carrier.records import fields_of, text_of
-from .render import GREEN, RED, YELLOW, coloured, print_columns, shown
+from .render import GREEN, RED, YELLOW, coloured, columns, shown
 
 STARTED_BY_OPTIONS = ("sites", "here", "over", "sync", "keep", "batch", "shards", "workers", "standby", "after")
 STOP_SECONDS = 60.0
@@ -174,7 +174,7 @@ def _print_status(shop: dict[str, Any]) -> None:
             str(site["site"]), state_text(site), site["since"], str(site["records"]), str(site["messages"]), behind or "-",
             f"{site['published']}/{site['sent']}", str(site["waiting"]), str(site["starts"]), site["fault"] or "-"])
     colours = {"up": GREEN} | dict.fromkeys(["starting", "waiting", "away"], YELLOW)
-    print_columns(rows, colours | dict.fromkeys(["down", "fenced", "ended", "full", "silent"], RED))
+    print(columns(rows, colours | dict.fromkeys(["down", "fenced", "ended", "full", "silent"], RED)), end="")
     grid = grid_of_status(shop)
     if shop["sites"] > 1 and grid.columns:
         print(f"\n{grid_text(grid)}", end="")

@@ -16,12 +16,11 @@ from shop_ask.lines import Reader
 from shop_ask.several import READER_SECONDS, UNREAD_BYTES, Several
 
 from .carrier.asking import Ask
-from .carrier.records import text_of
+from .carrier.records import bare, text_of
 from .carrier.steps import KeptOf, Steps
 from .carrier.steps import Say as SayAnswer
 from .carrier.told import FORM, unanswered
 from .ends import Fault, Status
-from .link import kept_of
 from .reads import Reads
 from .requests import (REQUEST_BYTES, Request, asks_of, field, listing_of, message_of, no_request, page_of, request_of, row_of_request, seconds_of,
                        site_of)
@@ -225,15 +224,14 @@ class Server:
         asked, seconds = asks_of(request), seconds_of(request)
         if self.shop.is_leaving:
             raise Fault(Status.AWAY, "the shop is being stopped; nothing was asked")
-        return Ask(site, seconds, asked.fetches_token, asked.published).run(asked.records, asked.names)
+        return Ask(site, seconds, asked.fetches_token, asked.published).run(asked.records)
 
     async def _ask(self, site: KeptSite, request: Request, say: Say) -> None:
         async def do(step: tuple[Any, ...]) -> Any:
             if not isinstance(step, SayAnswer):
                 return await self.shop.link.do(step)
             site.count(step.answer)
-            answer = {"record": text_of(step.record), "lines": [text_of(line) for line in step.answer.lines]}
-            return await say(answer | {"again": True} if step.is_again else answer)
+            return await say({"record": text_of(bare(step.record)), "lines": [text_of(line) for line in step.answer.lines]})
 
         await done(self.ask_of(site, request), do)
 
@@ -243,8 +241,8 @@ class Server:
         return "\n".join([f"site,{site.number}", *(line.split(",", 3)[3] for line in log), *tables]) + "\n"
 
     async def _have(self, site: KeptSite, origin: int, after: int) -> dict[str, Any]:
-        """What a site has of another one beyond a number, and all tokens that came to it: for a rebuild of the other."""
-        messages, tokens = await kept_of(self.shop.folder, KeptOf(site.number, origin, after)) or ([], [])
+        """What a site has of another one beyond a number, and all tokens that came to it, or went to the other: for a rebuild of that."""
+        messages, tokens = await self.shop.link.here.do(KeptOf(site.number, origin, after)) or ([], [])
         return {"messages": [text_of(text) for _, text in messages], "tokens": [text_of(text) for text in tokens]}
 
     def _cut(self) -> dict[int, dict[str, int]]:

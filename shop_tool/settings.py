@@ -8,6 +8,7 @@ import re
 from typing import Any
 
 from .ends import Fault, Status
+from .folders import put
 from .program import refuses as program_refuses
 from .carrier.records import MESSAGES_OF_A_SITE, SITES_OF_A_SHOP
 
@@ -190,13 +191,6 @@ def put_back(folder: str, before: Settings | None) -> None:
 
 
 def write(folder: str, settings: Settings) -> None:
-    """Writes the settings, if they are new, so that a crash leaves the old or the new ones."""
-    if read(folder) == settings:
-        return
-    # A URL may have a password, so nobody else reads this.
-    file = os.open(f"{path_of(folder)}.new", os.O_WRONLY | os.O_CREAT | os.O_TRUNC, 0o600)
-    with os.fdopen(file, "w") as text:
-        text.write(to_text(settings))
-        text.flush()
-        os.fsync(text.fileno())
-    os.rename(f"{path_of(folder)}.new", path_of(folder))
+    """Writes the settings, if they are new."""
+    if read(folder) != settings:
+        put(path_of(folder), to_text(settings))     # its owner's alone: a URL may have a password

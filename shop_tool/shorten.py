@@ -8,8 +8,7 @@ import subprocess
 from . import program
 from .carrier.sums import why_changed
 from .ends import Fault, Status
-from .kept_keys import has_keys, put_fixed_keys
-from .site import SUMS, checked, keep_command
+from .site import KEYS, SUMS, checked, keep_command, lines_of
 from .stopped import stopped_shop
 
 
@@ -20,13 +19,10 @@ def shorten(args: argparse.Namespace) -> int:
     before, folder = count_lines(kept), f"{args.folder}/{args.site}"
     if line := checked(folder)[1]:
         raise Fault(Status.REFUSED, f"site {args.site}: {why_changed(args.site, line)}")
-    command = keep_command(folder, args.site, now, program.path())
-    if has_keys(folder):
-        _run(args.site, command)        # completes `out`, where their answers are found by numbers that change now
-        put_fixed_keys(folder, folder)
-    with contextlib.suppress(FileNotFoundError):
-        os.unlink(f"{folder}/{SUMS}")   # other lines stand in their places now; the next start writes them
-    _run(args.site, [*command, "--shorten"])
+    for name in (SUMS, KEYS):       # other lines stand in their places now; the next start writes sums anew
+        with contextlib.suppress(FileNotFoundError):
+            os.unlink(f"{folder}/{name}")
+    _run(args.site, [*keep_command(folder, args.site, now, program.path()), "--shorten"])
     print(f"site {args.site}: {count_lines(kept)} of {before} records are left")
     return Status.WELL
 
@@ -38,5 +34,4 @@ def _run(site: int, command: list[str]) -> None:
 
 
 def count_lines(path: str) -> int:
-    with open(path, "rb") as file:
-        return sum(line.endswith(b"\n") for line in file)
+    return sum(line.endswith(b"\n") for line in lines_of(path))

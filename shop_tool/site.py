@@ -14,7 +14,7 @@ from .carrier.files import File
 from .carrier.records import text_of
 from .carrier.site import FIRST_WAIT, LAST_WAIT, Disagreement, Site, State
 from .carrier.sums import LINE_BYTES, compared, why_changed
-from .folders import put, synced
+from .folders import put
 from .settings import Settings
 from .signals import done, waited
 from .times import stamp
@@ -23,7 +23,7 @@ if TYPE_CHECKING:
     from .supervisor import Supervisor
 
 PIECE = 1 << 16
-KEYS = "keys"           # the file in a site's folder that has the keys of asks
+KEYS = "keys"           # the file in a site's folder in which a version of before wrote keys of asks
 SUMS = "sums"           # the file in a site's folder that has the sums of the lines of `kept`
 YIELDS = "yields"       # the file in a site's folder that says that the site has a standby
 FENCED = "fenced"       # the file in a site's folder that says why it is never started again
@@ -44,7 +44,6 @@ class KeptSite(Site):
         self.since = stamp()
         self.process: asyncio.subprocess.Process | None = None
         self.answers: collections.Counter[str] = collections.Counter()     # that askers were told, by what they are
-        self._keys: int | None = None       # the file of keys, once there was one to write
         self._sums = -1                     # the file of sums, once it is open
         self.is_changed = False             # a line of `kept` isn't as its sum says
         self.has_begun = False              # the life of its folder has, that is this supervisor's
@@ -137,29 +136,6 @@ class KeptSite(Site):
         if self.process and self.process.stdin:
             self.process.stdin.write(data)
 
-    def write_keys(self, lines: bytes) -> None:
-        path = f"{self.folder}/{KEYS}"
-        if not (os.path.exists(path) if self._keys is None else is_at(path, self._keys)):
-            self.put_keys(self.keys.text(self.shop.unix_time()))        # somebody has removed it, or it is the first time
-        if self._keys is None:
-            self._keys = os.open(path, os.O_WRONLY | os.O_CREAT | os.O_APPEND, 0o600)
-            synced(self.folder)
-        size = os.fstat(self._keys).st_size
-        try:
-            if os.write(self._keys, lines) < len(lines):
-                raise OSError(errno.ENOSPC, os.strerror(errno.ENOSPC))
-            if self.shop.settings.sync:
-                os.fdatasync(self._keys)
-        except OSError:
-            os.ftruncate(self._keys, size)      # else the next line would begin behind a part of these
-            raise
-
-    def put_keys(self, lines: bytes) -> None:
-        put(f"{self.folder}/{KEYS}", lines.decode())
-        if self._keys is not None:
-            os.close(self._keys)
-            self._keys = None
-
     def open_sums(self) -> int | None:
         """Opens the file of sums, before the keeper is started; the number of a line of `kept` that was changed."""
         self.sums.count, changed = checked(self.folder)
@@ -220,12 +196,6 @@ def file_at(path: str) -> File | None:
     except OSError:
         return None
     return File(found.st_dev, found.st_ino, found.st_size)
-
-
-def is_at(path: str, file: int) -> bool:
-    """Whether an open file is the one of this path."""
-    found, is_open = file_at(path), os.fstat(file)
-    return found is not None and found[:2] == (is_open.st_dev, is_open.st_ino)
 
 
 def read_pieces(path: str, pieces: Sequence[tuple[int, int]]) -> list[bytes]:

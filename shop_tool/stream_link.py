@@ -6,14 +6,13 @@ import time
 from collections.abc import Callable, Sequence
 from typing import TYPE_CHECKING, Any, cast
 
+from . import here
 from .carrier.over_files import UP
 from .carrier.over_server import ServerLink
 from .carrier.site import Site
-from .carrier.steps import (Broken, CallAll, Connect, IsRunning, KeptOf, Replay, SayLeave, SayWant, SeeHere, SeenHere, SentHere, TakeOver,
-                            UpElsewhere)
-from .link import Carrying, kept_of
-from .lives import Seen
-from .rebuild import done_here, took_over
+from .carrier.steps import Broken, CallAll, Connect, IsRunning, SayLeave, SayWant, TakeOver, UpElsewhere
+from .link import Carrying
+from .rebuild import took_over
 from .requests import Request, request_of
 from .signals import done
 from .site import KeptSite
@@ -30,7 +29,7 @@ class StreamLink(ServerLink, Carrying):
 
     def __init__(self, shop: "Supervisor") -> None:
         super().__init__(shop, shop.settings.shown_over)
-        self.main, self.seen = Streams(shop.settings, shop.folder), Seen(shop.folder)
+        self.main, self.here = Streams(shop.settings, shop.folder), here.Here(shop.folder, shop.settings)
 
     def named(self, site: Site) -> str:
         return run_by(cast(KeptSite, site).folder)
@@ -129,7 +128,7 @@ class StreamLink(ServerLink, Carrying):
 
     async def message(self, origin: int, number: int) -> bytes | None:
         if origin in self.shop.sites:
-            return self.shop.sites[origin].ledger.sends.message(number)
+            return self.shop.sites[origin].ledger.sends.at((number, 0))
         with contextlib.suppress(*faults()):
             return await self.main.message(origin, number)
         return None
@@ -144,17 +143,10 @@ class Connection:
 
     async def do(self, step: tuple[Any, ...]) -> Any:
         folder, settings = self.link.shop.folder, self.link.shop.settings
-        if isinstance(step, KeptOf):
-            return await kept_of(folder, step)
-        if isinstance(step, (SentHere, Replay)):
-            return await asyncio.to_thread(done_here, step, folder, settings)
+        if isinstance(step, here.STEPS):
+            return await self.link.here.do(step)
         if isinstance(step, CallAll):
             return await self.link.do(step)
-        if isinstance(step, SeenHere):
-            return self.link.seen[step.site]
-        if isinstance(step, SeeHere):
-            self.link.seen[step.site] = step.life
-            return None
         try:
             if isinstance(step, Connect):
                 await self.close()

@@ -3,6 +3,7 @@
 | key | what it has |
 |---|---|
 | NAME:sites | how many sites the shop has |
+| NAME:keys | that the machines of all sites have said that they know keys of asks, or that the shop began with such a one |
 | NAME:SITE | a stream: the site's packets in the order in which it sent them; message n is n-0, and the t-th token after it n-t |
 | NAME:mark:SITE | a random number that is drawn whenever the site's stream is begun or written anew |
 | NAME:life:SITE | the life of the site's folder that was compared with its stream last |
@@ -15,13 +16,15 @@
 """
 
 import asyncio
+import contextlib
+import itertools
 import json
 import os
 import socket
 import ssl
 import time
 import zlib
-from collections.abc import Iterable
+from collections.abc import Iterable, Sequence
 from typing import Any
 
 from .carrier.ledger import Place
@@ -99,9 +102,10 @@ if (redis.call('GET', KEYS[6]) or '') == ARGV[5] then redis.call('DEL', KEYS[6])
 return 1
 """
 
-# Gives a site to a folder, if the one has it still that the caller knows. It hasn't said yet that it yields.
+# Gives a site to a folder, if the one has it still that the caller knows, and so is the life that was seen last. It hasn't said yet that it
+# yields.
 ADOPT = b"""
-if (redis.call('GET', KEYS[1]) or '') ~= ARGV[1] then return 0 end
+if (redis.call('GET', KEYS[1]) or '') ~= ARGV[1] or (redis.call('GET', KEYS[3]) or '') ~= ARGV[4] then return 0 end
 redis.call('MSET', KEYS[1], ARGV[2], KEYS[2], ARGV[3])
 return 1
 """
@@ -277,15 +281,17 @@ class Streams:
 
     async def count_of_first(self, count: int) -> int:
         """The same; it is `count` from now on, if nobody has said so yet."""
-        await self.redis.set(self.key("sites"), await self.count() or count, nx=True)
+        if (known := await self.count()) is None:
+            await self.redis.set(self.key("keys"), 1)
+        await self.redis.set(self.key("sites"), known or count, nx=True)
         return await self.count() or count
 
-    async def adopt(self, site: int, before: str, is_fresh: bool) -> bool:
+    async def adopt(self, site: int, before: str, is_fresh: bool, life: str) -> bool:
         owner = owner_text(f"{self.folder}/{site}", ".new" if is_fresh else "")
-        keys = [self.key(f"{what}:{site}") for what in ("owner", "yields")]
-        return bool(await self._adopt(keys=keys, args=[bytes_of(before), bytes_of(owner), no_life()]))
+        keys = [self.key(f"{what}:{site}") for what in ("owner", "yields", "life")]
+        return bool(await self._adopt(keys=keys, args=[bytes_of(before), bytes_of(owner), no_life(), life]))
 
-    async def tell(self, statuses: dict[int, dict[str, Any]]) -> tuple[list[int], list[Mark]]:
+    async def tell(self, statuses: dict[int, dict[str, Any]]) -> tuple[list[int], list[Mark], Sequence[int]]:
         pipe = self.redis.pipeline(transaction=False)
         for site in range(self.sites):
             pipe.xrevrange(self.key(site), count=1)
@@ -294,8 +300,18 @@ class Streams:
             said = status | {"form": FORM, "told": time.time_ns(), "by": run_by(f"{self.folder}/{site}")}
             pipe.set(self.key(f"status:{site}"), json.dumps(said), px=int(1000 * STATUS_SECONDS))
             pipe.set(self.key("sites"), self.sites, nx=True)        # a server that has lost it
+        pipe.get(self.key("keys"))
         found = await pipe.execute()
-        return [place_of(last[0][0])[0] if last else 0 for last in found[:self.sites]], found[self.sites]
+        without_keys = () if found[-1] else tuple(await self._without_keys())
+        return [place_of(last[0][0])[0] if last else 0 for last in found[:self.sites]], found[self.sites], without_keys
+
+    async def _without_keys(self) -> list[int]:
+        """The sites whose machines don't say that they know keys; that none is left is written down, for those that aren't running then."""
+        statuses = await self.statuses()
+        lacking = [site for site in range(self.sites) if not statuses.get(site, {}).get("keys")]
+        if not lacking:
+            await self.redis.set(self.key("keys"), 1)
+        return lacking
 
     async def forget(self, sites: Iterable[int]) -> None:
         """Takes back the statuses of sites that are stopped."""
@@ -349,12 +365,10 @@ STEPS = {State: "state", Owner: "owner", Sites: "count_of_first", Adopt: "adopt"
 
 def status_in(key: str, text: bytes) -> dict[str, Any]:
     """The status of a site; a fault where a key has none, since the site may run all the same: nobody takes its place."""
-    try:
-        said = json.loads(text)
-    except (ValueError, RecursionError):
-        said = None
-    if isinstance(said, dict) and isinstance(said.get("state"), str) and isinstance(said.get("turn"), int):
-        if all(isinstance(its, dict) and all(isinstance(count, int) for count in its.values()) for its in (said.get("has"), said.get("greatest", {}))):
+    with contextlib.suppress(ValueError, RecursionError, TypeError, KeyError, AttributeError):
+        said: dict[str, Any] = json.loads(text)
+        numbers = [said["turn"], *said["has"].values(), *said.get("greatest", {}).values(), *itertools.chain(*said.get("gave", {}).values())]
+        if isinstance(said["state"], str) and all(isinstance(number, int) for number in numbers):
             return said
     raise OSError(f"the key {key} has something else than the status of a site (redis-cli del {key})")
 

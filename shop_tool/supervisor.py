@@ -20,7 +20,7 @@ from .grid import waits_of
 from .lives import begin_life, lives_of
 from .lock import take_lock
 from .open_files import Faults, take_more
-from .program import answers_questions
+from .program import known_by
 from .reads import STATE
 from .render import shown
 from .settings import FILES, Settings, moved_here, write
@@ -63,7 +63,7 @@ class Supervisor(Shop):
     def __init__(self, folder: str, settings: Settings, program: str, is_alone: bool, upgrades: bool = False) -> None:
         super().__init__(settings.sites, is_alone)
         self.folder, self.settings, self.program, self.upgrades = os.path.realpath(folder), settings, program, upgrades
-        self.asks_questions = answers_questions(program, MEMORY, self.folder)
+        self.asks_questions, self.knows_keys = known_by(program, MEMORY, self.folder)
         self.prints_events = "SHOP_READY" not in os.environ     # it runs in the foreground, or for systemd
         self.since = stamp()
         self.status_at_end = Status.WELL
@@ -220,9 +220,11 @@ class Supervisor(Shop):
             site.is_changed = True
             site.fence(why_changed(site.number, line))
         site.yields = os.path.exists(f"{site.folder}/{YIELDS}")
-        site.keys.read(keys, self.unix_time())
+        site.old_keys.read(keys, self.unix_time())
+        if keys and not site.old_keys:
+            os.unlink(f"{site.folder}/{KEYS}")      # their day is over
         if why_fenced:
-            site.fence(why_fenced)
+            site.fence(why_fenced, outlasts=True)
         self.begin_site(site, answered if has_all(kept, answered) else None)
 
     def begins(self, site: KeptSite) -> bool:

@@ -1,16 +1,17 @@
 """Asks: what a request asks, as JSON or CSV, and the answers to it."""
 
+import asyncio
 import json
 import re
 from collections.abc import AsyncIterator
 from typing import Any, NamedTuple
 
-from shop_tool.carrier.keys import KEY_BYTES, is_key
-from shop_tool.carrier.records import BYTES_OF_A_RECORD, bytes_of, line_of, why_not_one_record
+from shop_tool.carrier.records import BYTES_OF_A_RECORD, KEY_BYTES, bytes_of, is_key, line_of, why_not_one_record
+from shop_tool.client import AGAIN_SECONDS, Again
 from shop_tool.ends import Fault
-from shop_tool.requests import RECORDS_OF_A_REQUEST, REQUEST_BYTES
+from shop_tool.requests import RECORDS_OF_A_REQUEST, REQUEST_BYTES, Request
 
-from .line import Line
+from .line import Answer, Line
 from .problems import Problem, of_fault, refused
 
 PIECE = 500         # how many of the asks of one request go to the supervisor at once
@@ -40,7 +41,7 @@ class Told(NamedTuple):
 
     record: str
     head: list[str]         # the fields of its first line
-    is_again: bool          # an ask under the same key got it before
+    is_again: bool          # an ask under the same key was accepted before, with this id
     meaning: str | None = None      # of a refusal, where more is known than its name says
 
     @property
@@ -158,7 +159,9 @@ def check(asks: list[One]) -> None:
 
 
 def told_of(answer: dict[str, Any]) -> Told:
-    return Told(answer["record"], answer["lines"][0].split(","), "again" in answer)
+    head = answer["lines"][0].split(",")
+    is_again = head[2] == "again"
+    return Told(answer["record"], [*head[:2], "ok", *head[3:]] if is_again else head, is_again)
 
 
 class Options(NamedTuple):
@@ -178,15 +181,29 @@ async def asked(line: Line, site: int, asks: list[One], options: Options) -> Asy
         if any(ask.key is not None for ask in some):
             request["keys"] = [ask.key for ask in some]
         try:
-            if len(some) == 1:
-                for answer in await line.whole(request):
-                    yield told_of(answer)
-                continue
-            async for answer in line.call(request):
-                if not answer.get("end"):
-                    yield told_of(answer)
+            async for answer in _answers(line, request):
+                yield told_of(answer)
         except Fault as fault:
             raise of_fault(fault, is_ask=True) from fault
+
+
+async def _answers(line: Line, request: Request) -> AsyncIterator[Answer]:
+    """The answers to a request of asks. Those under keys are asked again if the supervisor ends before it answers."""
+    again = Again(request)
+    while True:
+        try:
+            if len(again.request["records"]) == 1:
+                for answer in await line.whole(again.request):
+                    yield answer
+                return
+            async for answer in line.call(again.request):
+                if answer.get("end"):
+                    return
+                again.note(answer)
+                yield answer
+        except Fault as fault:
+            again.look_at(fault)
+        await asyncio.sleep(AGAIN_SECONDS)
 
 
 # A byte takes at most six in JSON: a longer request would have the supervisor close the one connection that all requests share.

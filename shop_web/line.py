@@ -11,7 +11,7 @@ from shop_ask.lines import Pieces, Reader
 from shop_ask.quick import CONNECT_SECONDS, MARGIN
 from shop_tool.carrier.told import unanswered
 from shop_tool.client import away, raise_fault
-from shop_tool.ends import Fault, Status
+from shop_tool.ends import Ended, Fault, Status
 from shop_tool.requests import Request
 from shop_tool.signals import Together
 
@@ -97,7 +97,7 @@ class Line:
                 writer.write(json.dumps({"leave": name}).encode() + b"\n")
 
     def _ended(self, request: Request) -> Fault:
-        return Fault(Status.AWAY, f"the supervisor of {self.folder} ended before it answered{unanswered(request) or ' (shop log)'}")
+        return Ended(Status.AWAY, f"the supervisor of {self.folder} ended before it answered{unanswered(request) or ' (shop log)'}")
 
     def _no_answer(self, request: Request, seconds: float) -> Fault:
         return Fault(Status.AWAY, f"the supervisor of {self.folder} gave no answer within {round(seconds, 2):g} s{unanswered(request)}")

@@ -59,7 +59,7 @@ LAST = "Last-Event-ID"
 HEADERS: dict[str, tuple[Schema, str]] = {
     LAST: (text("^[0-9]+-[0-9]+$", 40, "10977425-93"), "the id of the last event that the reader has: it gets those behind it"),
     KEY: (ASK_KEY,
-          "asked again with this key, within a day and at the same site, the ask isn't given a second time and gets the answer that it got"),
+          "asked again with this key, the ask isn't accepted a second time and gets the id that it got; a red one at any site, a blue one at the same"),
 }
 OF_ASKS = ("BadRecord", "Full", "NoToken", "RedBehind", "NickTaken", "NoUser", "NoItem", "Closed", "LowBid", "StockShort", "NotSeller", "OwnItem",
            "NoBuyNow", "SelfComment", "KeyTaken", "BadRequest", "NotFound", "TooLong", "OtherContent", "Away", "Unknown")

@@ -2,8 +2,7 @@
 
 from typing import Any
 
-from shop_tool.carrier.keys import KEY_BYTES
-from shop_tool.carrier.records import BYTES_OF_A_RECORD, COLUMNS, MESSAGES_OF_A_SITE, NUMBERS, RECORDS_OF_A_RUN, SITES_OF_A_SHOP
+from shop_tool.carrier.records import BYTES_OF_A_RECORD, COLUMNS, KEY_BYTES, MESSAGES_OF_A_SITE, NUMBERS, RECORDS_OF_A_RUN, SITES_OF_A_SHOP
 
 from .asks import FIELDS
 from .problems import KINDS

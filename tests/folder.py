@@ -105,6 +105,12 @@ class Folder:
         found: dict[str, Any] = self.status(folder)["site"][number]
         return found
 
+    def keeper(self, number: int, folder: str = "auction") -> int:
+        """The process that keeps a site, once there is one: after a kill the next may be still to come."""
+        self.wait(f"a process of site {number}", lambda: self.site(number, folder)["pid"])
+        process: int = self.site(number, folder)["pid"]
+        return process
+
     def text(self, name: str) -> str:
         return (self.path / name).read_text()
 

@@ -80,7 +80,7 @@ def test_a_backup_has_each_file_of_a_site(at: Folder) -> None:
 
     def files(folder: str) -> dict[str, bytes]:
         return {path.name: path.read_bytes() for path in (at.path / folder / "0").iterdir() if path.name not in ("lock", "sums")}
-    assert files("other") == files("auction") and len(files("other")) == 7, f"{files('other').keys()} of {files('auction').keys()}"
+    assert files("other") == files("auction") and len(files("other")) == 6, f"{files('other').keys()} of {files('auction').keys()}"
 
 
 def test_while_it_is_asked(at: Folder) -> None:

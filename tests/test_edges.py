@@ -278,6 +278,20 @@ def test_interrupted_read(options: str, program: pathlib.Path, counted: Counted)
     counted("edge runs", 1)
 
 
+@pytest.mark.parametrize("options", ["--workers 1", "--workers 2"])
+def test_many_pieces(options: str, program: pathlib.Path, counted: Counted) -> None:
+    """20,000 records, each of them written once the one before it is answered, so that no read gives two."""
+    with subprocess.Popen([program, "site", *options.split()], stdin=subprocess.PIPE, stdout=subprocess.PIPE) as site:
+        assert site.stdin and site.stdout
+        for number in range(1, 20_001):
+            site.stdin.write(b"x\n")
+            site.stdin.flush()
+            assert site.stdout.readline() == malformed(number), f"rubis site {options}: record {number}"
+        site.stdin.close()
+    assert site.returncode == 0
+    counted("edge runs", 1)
+
+
 def test_failed_writes(program: pathlib.Path, counted: Counted) -> None:
     """Output that can't be written; a run that has nothing to write is well all the same."""
     runs = [("site", b"user,ann\n"), ("world", b"x\n"), ("audit", b""), ("lack", b"site,0\n"), ("check", b""), ("widen", b"site,0\n"),

@@ -109,7 +109,7 @@ def test_asked_again(at: Folder) -> None:
     at.run("./shop stop auction")
     away = web.ask(0, "user,dan", "d")
     assert (away.status, away.headers["retry-after"]) == (503, "1"), f"no shop: {away}"
-    made = [line for line in at.text("auction/0/out").splitlines() if line.startswith("send,msg")]
+    made = [line for line in at.text("auction/0/out").splitlines() if line.startswith("send,key,")]
     assert len(made) == 3, f"what was accepted: {made}"
 
 

@@ -2,20 +2,22 @@
 
 Askers ask at random sites, red and blue asks, and write down what they were told. Meanwhile `kill -9` hits a site, a supervisor or the
 server. Over `everysec` and `always` there are two supervisors and a redis-server with that appendfsync; with `everysec` the server also
-loses the end of its file at times, as after a power failure. `Course` has what else goes wrong. Where no folder loses anything, half of the
-asks have keys: one that isn't answered is asked again until it is, and some that were answered are asked once more, and have to get the
-same answer. Where something is lost, what was told before it was published may be gone; so may a message that stood nowhere but in a
-folder that loses it, since the server had just lost its end.
+loses the end of its file at times, as after a power failure. `Course` has what else goes wrong. Half of the asks have keys: one that isn't
+answered is asked again until it is, a red one of any site, and some that were accepted are asked once more, and have to get the same id.
+Where something is lost, what was told before it was published may be gone; so may a message that stood nowhere but in a folder that loses
+it, since the server had just lost its end.
 
 At the end a red ask at each site is accepted, all sites have equal logs as sets and equal tables, the audit says Agree, each accepted ask
-is in the logs once, as it was asked, none that was told *not accepted* is, and where no folder loses anything, one that was told which
-record it would be is that one if it was accepted. The figures are printed (`pytest -rP` shows them)."""
+is in the logs once, as it was asked, under each key there is one, none that was told *not accepted* is there, and where no folder loses
+anything, one that was told which record it would be is that one if it was accepted. The figures are printed (`pytest -rP` shows them)."""
 
 import collections
+import contextlib
 import json
 import os
 import pathlib
 import re
+import resource
 import shutil
 import threading
 import time
@@ -24,7 +26,7 @@ from typing import Any, NamedTuple
 import pytest
 
 from shop_tool import client
-from shop_tool.carrier.records import Message, ask_of, packet_of
+from shop_tool.carrier.records import RED, UNDECIDED, Message, ask_of, bare, bytes_of, key_in, packet_of, text_of
 from shop_tool.ends import Fault
 from tests.conftest import Extent
 from tests.folder import Counted, Folder, sends
@@ -46,6 +48,7 @@ class Course(NamedTuple):
     disks: bool = False             # a site's folder is lost
     power: bool = False             # a site's files lose their ends
     older: bool = False             # a site's folder is put back to a copy
+    full: bool = False              # the files of a folder can't grow for some time
     published: bool = False         # asks end once another site, or the server, has them
     elsewhere: bool = False         # any supervisor is asked for any site
     sites: int = 4
@@ -68,9 +71,10 @@ class Asked:
         self.items: list[tuple[str, str]] = []              # with their sellers
         self.bad: list[str] = []
         self.told: dict[str, float] = {}                    # when the askers of these messages were told of them
-        self.lost: set[str] = set()                         # those that stood nowhere but in a folder that lost them
+        self.lost: set[str] = set()                         # the ids of those that stood nowhere but in a folder that lost them
         self.again = 0                                      # asked again under their keys, since no answer had come
         self.same = 0                                       # and once more, after the answer
+        self.keys = 0                                       # under which an ask was accepted
 
 
 class Tagged(Known):
@@ -110,7 +114,7 @@ class Asker(threading.Thread):
     def run(self) -> None:
         while not self.trial.ending.is_set():
             record, site = self.fields.record(), self.dice.randrange(self.trial.course.sites)
-            if self.trial.has_keys and self.dice.random() < 0.5:
+            if self.dice.random() < 0.5:
                 self.ask_by_key(site, record, f"{self.number}.{self.fields.turn}")
                 continue
             try:
@@ -119,24 +123,30 @@ class Asker(threading.Thread):
                 self.told_fault(site, record, fault)
 
     def ask_by_key(self, site: int, record: str, key: str) -> None:
-        """Asks until an answer comes, and then maybe once more, when the answer has to be the same."""
-        asked, first = self.trial.asked, None
+        """Asks until an answer comes, what is red at any site, and then maybe once more, when the id has to be the same."""
+        asked, first, is_red = self.trial.asked, None, record.split(",")[0].encode() in RED
         for _ in range(TRIES):
+            at = self.dice.randrange(self.trial.course.sites) if is_red and self.dice.often(0.5) else site
             try:
-                lines = self.ask(site, record, key)
+                head = self.ask(at, record, key)
             except Fault as fault:
                 self.note_fault(fault)
                 asked.again += first is None
                 continue
-            if first and lines != first:
-                asked.bad.append(f"{record} was answered {first} under its key, and then {lines}")
-            if first or self.dice.random() < 0.7:
+            if head[2] == "refused" and (first or head[4] in UNDECIDED):
+                if head[4] not in (*UNDECIDED, "Full") and first not in asked.lost:
+                    asked.bad.append(f"{record} was accepted as {first} under its key, and then answered {head}")
+                continue
+            if first not in (None, head[3]) and first not in asked.lost:
+                asked.bad.append(f"{record} was accepted as {first} under its key, and then as {head[3]}")
+            if first or head[2] in ("refused", "rows") or self.dice.random() < 0.7:
                 asked.same += first is not None
                 return
-            first = lines
+            first = head[3]
         asked.open += first is None
 
     def ask(self, site: int, record: str, key: str | None = None) -> list[str]:
+        """The first line of the answer."""
         course, asked, began = self.trial.course, self.trial.asked, time.monotonic()
         request = {"op": "ask", "site": site, "records": [record], "keys": [key] if key else None, "timeout": course.timeout, "fetch": True,
                    "published": course.published}
@@ -148,13 +158,14 @@ class Asker(threading.Thread):
         head = lines[0].split(",")
         if head[2] == "refused":
             asked.refused[head[4]] += 1
-        elif head[2] == "ok" and asked.accepted.get(head[3], ("", ""))[0] != (key and record):
-            if head[3] in asked.accepted and not asked.lost & {asked.accepted[head[3]][1], lines[1][5:]}:
+        elif head[2] in ("ok", "again") and (head[2] == "ok" or asked.accepted.get(head[3], ("", ""))[0] != record):
+            message = lines[1][5:] if head[2] == "ok" else ""
+            if head[3] in asked.accepted and head[3] not in asked.lost:
                 asked.bad.append(f"{head[3]} was given to {record} and to {asked.accepted[head[3]][0]}")
-            asked.accepted[head[3]] = (record, lines[1][5:])
-            asked.told[lines[1][5:]] = time.monotonic()
+            asked.accepted[head[3]] = (record, message)
+            asked.told[head[3]] = time.monotonic()
             self.fields.note(head[3], record.split(","))
-        return lines
+        return head
 
     def told_fault(self, site: int, record: str, fault: Fault) -> None:
         asked = self.trial.asked
@@ -179,7 +190,7 @@ class Trial:
     def __init__(self, course: Course, at: Folder) -> None:
         self.course, self.at, self.dice = course, at, Dice(course.seed)
         self.asked, self.ending = Asked(), threading.Event()
-        self.has_keys = not (course.disks or course.power or course.older)
+        self.loses = course.disks or course.power or course.older
         self.kills: collections.Counter[str] = collections.Counter()
         half = course.sites // 2
         groups = [range(course.sites)] if course.over == "files" else [range(half), range(half, course.sites)]
@@ -209,6 +220,7 @@ class Trial:
         folder = self.dice.choice(list(self.parts))
         kinds = ["site", "site", "supervisor"] + ["server"] * 2 * (self.server is not None)
         kinds += ["disk"] * self.course.disks + ["power"] * 4 * self.course.power + ["older"] * 8 * self.course.older
+        kinds += ["full"] * 4 * self.course.full
         kind = self.dice.choice(kinds)
         try:
             state = self.status(folder)
@@ -250,8 +262,8 @@ class Trial:
         shutil.rmtree(f"{folder}/{number}")
         self.rebuild(folder, number)
         again = sends(self.at, f"{folder}/{number}")
-        for kind in ("msg", "token"):       # how they stand among each other isn't determined where nobody but others had them
-            was, now = ([text for text in packets if text.startswith(kind)] for packets in (sent, again))
+        for is_token in (False, True):      # how they stand among each other isn't determined where nobody but others had them
+            was, now = ([text for text in packets if text.startswith("token") == is_token] for packets in (sent, again))
             if now != was[:len(now)]:
                 self.asked.bad.append(f"site {number} was rebuilt with other packets")
         self.kills["packets lost with the disk"] += len(sent) - len(again)
@@ -280,6 +292,16 @@ class Trial:
         self.mend(folder, number, "older")
         return True
 
+    def kill_full(self, folder: str, state: dict[str, Any], site: dict[str, Any]) -> bool:
+        """The files of a folder get no longer than one of them is: a supervisor and its keepers, also those that it starts meanwhile."""
+        size = os.path.getsize(f"{folder}/{site['site']}/{self.dice.choice(['kept', 'out'])}") + self.dice.randrange(500)
+        for limit in (size, resource.RLIM_INFINITY):
+            for process in (state["pid"], *(one["pid"] for one in self.status(folder)["site"] if one["site"] in self.parts[folder])):
+                with contextlib.suppress(ProcessLookupError, TypeError):        # there is none just then
+                    resource.prlimit(process, resource.RLIMIT_FSIZE, (limit, resource.RLIM_INFINITY))
+            time.sleep(self.dice.random())
+        return True
+
     def about_to_lose(self, folder: str, state: dict[str, Any], site: dict[str, Any]) -> int:
         """Ends what runs a site whose folder is about to lose something: its number. Of what was told before the server lost its end, some
         messages may stand nowhere else: then their numbers may be given again. What was told since stands in a stream."""
@@ -294,8 +316,9 @@ class Trial:
             for other in sites:
                 if other != number and os.path.exists(f"{part}/{other}/kept"):
                     elsewhere |= set(pathlib.Path(part, str(other), "kept").read_text(errors="replace").split("\n"))
-        sent = {text for text in sends(self.at, f"{folder}/{number}") if text.startswith("msg,")}
-        lost = {text for text in sent - elsewhere if self.asked.told.get(text, self.lost_end) < self.lost_end}
+        only_here = [packet_of(bytes_of(text)) for text in set(sends(self.at, f"{folder}/{number}")) - elsewhere]
+        names = [f"{packet.origin}.{packet.number}" for packet in only_here if isinstance(packet, Message)]
+        lost = {name for name in names if self.asked.told.get(name, self.lost_end) < self.lost_end}
         self.kills["messages that only the folder had"] += len(lost - self.asked.lost)
         self.asked.lost |= lost
         return number
@@ -372,7 +395,7 @@ class Trial:
         return {
             "over": self.course.over, "seed": self.course.seed, "kills": dict(self.kills),
             "asks answered": len(spans), "accepted": len(asked.accepted), "not told": asked.open, "of these told a number": len(asked.numbered),
-            "asked again by key": asked.again, "and after the answer": asked.same,
+            "accepted under keys": asked.keys, "asked again by key": asked.again, "and after the answer": asked.same,
             "of these accepted": len(messages[0]) - len(asked.accepted), "told: not accepted": len(asked.never),
             "refused": dict(asked.refused), "faults told": dict(asked.faults), "token passes": passes, "messages": len(messages[0]),
             "answered within ms (half, 99 of 100, all)": [round(1000 * seconds) for seconds in within],
@@ -383,24 +406,29 @@ class Trial:
         asked = self.asked
         messages = {".".join(line.split(",")[2:4]): line for line in log}
         sellers = {name.encode(): line.split(",")[7].encode() for name, line in messages.items() if line.split(",")[6] == "item"}
-        asks: collections.Counter[str] = collections.Counter()
-        for line in messages.values():
+        asked_as = {}
+        for name, line in messages.items():
             packet = packet_of(line.encode())
             assert isinstance(packet, Message)
-            asks[ask_of(packet.shadow, lambda item: sellers[item]).decode()] += 1
+            asked_as[name] = ask_of(packet.shadow, lambda item: sellers[item]).decode()
+        asks = collections.Counter(asked_as.values())
         for name, (record, message) in asked.accepted.items():
-            if messages.get(name) != message and message not in asked.lost:
+            if name not in asked.lost and (name not in messages or message and messages[name] != text_of(bare(bytes_of(message)))):
                 asked.bad.append(f"{name} was accepted as {message}, and the logs have {messages.get(name)}")
-            elif asks[record] == 0 and message not in asked.lost:
-                asked.bad.append(f"the asker of {record} was told {message}")
+            elif name not in asked.lost and asked_as[name] != record:
+                asked.bad.append(f"the asker of {record} was told {name}, which is {asked_as[name]}")
         for record, count in asks.items():
             if count > 1 and record.split(",")[0] in COUNTED:
                 asked.bad.append(f"{record} was accepted {count} times")
         for record in asked.never:
             if asks[record] and record.split(",")[0] in COUNTED:
                 asked.bad.append(f"{record} was told as not accepted, and is in the logs")
+        under = collections.Counter(key for folder, sites in self.parts.items() for site in sites for text in sends(self.at, f"{folder}/{site}")
+                                    if (key := key_in(bytes_of(text))))
+        asked.bad += [f"under {key!r} {count} asks were accepted" for key, count in under.items() if count > 1]
+        asked.keys = len(under)
         kept = {site: pathlib.Path(folder, str(site), "kept").read_text().split("\n") for folder, sites in self.parts.items() for site in sites}
-        for site, number, record in asked.numbered if self.has_keys else ():
+        for site, number, record in asked.numbered if not self.loses else ():
             if asks[record] and record.split(",")[0] in COUNTED and kept[site][number - 1:number] != [record]:
                 asked.bad.append(f"{record} was told to be record {number} of site {site}, and is another one")
 
@@ -410,6 +438,7 @@ COURSES = {
     "files": Course(0, 15), "everysec": Course(0, 15, "everysec"), "always": Course(0, 4, "always"),
     "elsewhere": Course(0, 4, "everysec", elsewhere=True), "disks": Course(0, 6, "everysec", disks=True, published=True),
     "power": Course(0, 6, "everysec", power=True, published=True), "older": Course(0, 6, "everysec", older=True, published=True),
+    "full": Course(0, 6, full=True),
 }
 
 
@@ -420,5 +449,6 @@ def test_kills(name: str, at: Folder, extent: Extent, counted: Counted) -> None:
     trial = Trial(COURSES[name]._replace(seed=extent.seed, kills=extent.count(COURSES[name].kills)), at)
     print(json.dumps(trial.run(), indent=1))
     assert not trial.asked.bad, "\n".join(trial.asked.bad)
-    counted("kills of shops' parts", sum(trial.kills[kind] for kind in ("site", "supervisor", "server", "disk", "power", "older")))
+    counted("kills of shops' parts", sum(trial.kills[kind] for kind in ("site", "supervisor", "server", "disk", "power", "older", "full")))
+    counted("keys under which an ask was accepted once", trial.asked.keys)
     counted("asks answered while parts are killed", len(trial.asked.seconds))

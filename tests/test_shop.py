@@ -12,7 +12,7 @@ import time
 from collections.abc import Callable
 
 from measure_shop import processor_seconds, to_socket
-from shop_tool.program import answers_questions
+from shop_tool.program import known_by
 from tests.folder import SALE, SECONDS, Folder
 from tests.needs import PYTHON, TOP, need
 from tests.server import Server
@@ -114,7 +114,7 @@ def test_rows(at: Folder) -> None:
 def test_reads_leave_nothing(at: Folder) -> None:
     """10,000 rows, 1,000 listings and 100 audits leave `kept` and `out` as they were, byte for byte, and write no event."""
     at.run("./shop start auction --sites 2")
-    assert answers_questions(str(at.path / "rubis")), "the program answers questions"
+    assert known_by(str(at.path / "rubis")) == (True, True), "the program answers questions, and knows keys"
     at.shop(f"ask 0 {SALE} bid,0.3,0.2,500 comment,0.3,0.2,0.1,5,good buy,0.3,0.2,1")
     at.run("seq -f bid,0.3,0.2,1%05.0f 300 | ./shop -C auction ask 0 -")
     at.shop("wait 1")
@@ -162,7 +162,7 @@ tempfile.mkdtemp = mkdtemp
 
 def test_reads_where_temporary_folders_are_full(at: Folder) -> None:
     """Where no temporary folder can be made, a start still sees that the program answers questions, and reads leave nothing."""
-    assert answers_questions(str(at.path / "rubis")), "the program answers questions"
+    assert known_by(str(at.path / "rubis")) == (True, True), "the program answers questions, and knows keys"
     (at.path / "sitecustomize.py").write_text(FULL)
     at.run(f"PYTHONPATH={at.path} ./shop start auction --sites 2")
     at.shop("ask 0 user,ann")
@@ -233,7 +233,7 @@ def test_follow(at: Folder) -> None:
         at.start(f"sh -c 'exec ./shop -C auction log 0 -f -n 9999 > log.{number}'")
         at.start(f"sh -c 'exec ./shop -C auction log -f -n 9999 > events.{number}'")
         if number % 2:
-            at.kill(at.site(0)["pid"])
+            at.kill(at.keeper(0))
         time.sleep(0.1)
     assert asker.wait(SECONDS) == 0, "the asker's status"
     at.shop("ask 0 user,zed")
@@ -270,7 +270,7 @@ def test_kill(at: Folder) -> None:
     """After kill -9 of a site and of the supervisor the shop stands where it stood, torn lines or not."""
     at.start_sale(2)
     for turn in range(3):
-        at.kill(at.site(0)["pid"])
+        at.kill(at.keeper(0))
         assert at.shop(f"ask 0 bid,0.3,0.2,{500 + turn}") == f"ok,0.{4 + turn}\n", "an asker sees nothing of it"
     supervisor = at.status()["pid"]
     at.kill(supervisor)

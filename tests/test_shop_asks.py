@@ -1,6 +1,7 @@
 """Asks of the command `shop`: their ways, keys, connections, limits and times."""
 
 import concurrent.futures
+import hashlib
 import itertools
 import json
 import os
@@ -13,8 +14,9 @@ from typing import Any
 import pytest
 
 from measure_shop import ask_by_socket, driven, is_whole_line, seconds_of, to_socket
-from tests.folder import SALE, SECONDS, Folder, Strace, kilobytes_of
+from tests.folder import SALE, SECONDS, Folder, kilobytes_of
 from tests.needs import PYTHON
+from tests.web import Web
 
 
 def test_asks_that_are_quick(at: Folder) -> None:
@@ -154,60 +156,105 @@ def test_time_of_asks_over_kept_connections(at: Folder) -> None:
 
 
 def test_keys(at: Folder) -> None:
-    """An ask is accepted once under its key and always gets that answer, whatever is killed in between; another record is refused."""
+    """An ask is accepted once under its key and always told its id, whatever is killed in between, and a red one by any site. Another one is
+    refused, red and blue ones are apart, and a refusal isn't remembered."""
     at.run("./shop start auction --sites 2")
     assert at.shop("ask 0 user,ann --key a") == "ok,0.1\n" == at.shop("ask 0 user,ann --key a"), "asked again"
     assert at.shop("ask 0 user,bob --key a", 1, "another record was asked under that key") == "refused,40,KeyTaken\n", "another record"
     at.run_at_once({
         "./shop -C auction ask 0 user,bob user,cat --key b": "--key is for one record",
         f"./shop -C auction ask 0 user,bob --key {'x' * 256}": "a key has 1 to 255 printable ASCII characters",
+        "./shop -C auction ask 0 key,b,user,bob": "a key is said beside its ask",
     }, 2)
     lamp = "item,0.1,lamp,7,3,100,80"
-    assert at.shop(f"ask 0 user,bob {lamp} --keys m") == "ok,0.2\nok,0.3\n", "keys of several"
-    assert at.shop("ask 0 user,ann --key b", 1) == at.shop("ask 0 user,ann --key b", 1) == "refused,5,NickTaken\n", "a refusal"
+    assert at.shop(f"ask 0 user,bob {lamp} list,users --keys m").startswith("ok,0.2\nok,0.3\nuser,0.1,ann"), "keys of several"
+    assert at.shop("ask 0 user,ann --key b", 1) == "refused,5,NickTaken\n", "a refusal"
+    assert at.shop("ask 0 user,eve --key b") == "ok,0.4\n", "which uses no key up"
+    assert at.shop(f"ask 0 {lamp} --key b") == "ok,0.5\n", "a blue ask under the key of a red one"
+    assert at.shop("ask 1 user,ann --key a") == "ok,0.1\n", "a red ask that another site has accepted"
+    at.shop("ask 1 user,dan --key a", 1, "another record was asked under that key")
+    said = at.said(b'{"op": "ask", "site": 1, "records": ["user,ann"], "keys": ["a"], "timeout": 5, "fetch": true}')[0]
+    assert said["record"] == "user,ann" and said["lines"][0].endswith(",again,0.1"), f"what the socket says: {said}"
+    assert json.loads(at.shop("ask 1 user,ann --key a --json")) == {"record": "user,ann", "answer": "ok", "id": "0.1", "again": True}, "as JSON"
+    asked = f"ask 0 user,bob {lamp} user,cat --keys m"
     at.kill(at.site(0)["pid"])
-    assert at.shop(f"ask 0 user,bob {lamp} user,cat --keys m") == "ok,0.2\nok,0.3\nok,0.4\n", "the keeper was killed"
+    assert at.shop("ask 0 user,bob --key m.1") == "ok,0.2\n", "the keeper was killed"
     at.kill(at.status()["pid"])
     at.goes_on("./shop start auction", "0 user,ann --key a", "0.1", "the supervisor was killed")
-    first = at.shop("ask 1 user,dan --key a --raw")
-    said = at.said(b'{"op": "ask", "site": 1, "records": ["user,dan"], "keys": ["a"], "timeout": 5, "fetch": true}')[0]
-    assert said["again"] and said["lines"] == first.splitlines() and "ok,1.1\n" in first, f"a key of another site, where the token comes: {first}, {said}"
     # An ask that its keeper got and didn't keep is given again, once; one that it kept is answered.
     keeper = at.site(0)["pid"]
     with at.standing_still(keeper):
-        at.shop("ask 0 user,eve --key e --timeout 0.3", 3, "it may still be accepted")
-        at.shop("ask 0 user,eve --key e --timeout 0.3", 3, "whether what was asked under its key is accepted isn't known yet")
-    first = at.shop("ask 0 user,eve --key e")
-    assert first.startswith("ok,") and first == at.shop("ask 0 user,eve --key e"), f"once it goes on: {first}"
+        for _ in range(2):
+            at.shop(f"ask 0 {lamp} --key e --timeout 0.3", 3, "it may still be accepted")
+    first = at.shop(f"ask 0 {lamp} --key e")
+    assert first == "ok,0.6\n" == at.shop(f"ask 0 {lamp} --key e"), "once it goes on"
     os.kill(keeper, signal.SIGSTOP)
-    at.shop("ask 0 user,fay --key f --timeout 0.3", 3, "it may still be accepted")
+    at.shop(f"ask 0 {lamp} --key f --timeout 0.3", 3, "it may still be accepted")
     at.kill(keeper)
-    first = at.shop("ask 0 user,fay --key f")
-    assert first.startswith("ok,") and first == at.shop("ask 0 user,fay --key f"), f"it was never kept: {first}"
-    os.unlink(at.path / "auction/0/keys")
-    assert at.shop("ask 0 user,ann --key z", 1) == "refused,5,NickTaken\n", "what is written once the file was removed"
-    assert at.text("auction/0/keys").count("\n") > 5, "all that is known is written again"
-    at.shop("stop")
-    log = at.text("auction/0/kept").splitlines()
-    assert at.shop("shorten 0").startswith("site 0: "), "shortened"
-    at.run("./shop start auction")
-    assert at.shop("ask 0 user,ann --key b", 1) == "refused,5,NickTaken\n", "a refusal that was taken out"
-    assert at.shop(f"ask 0 user,bob {lamp} user,cat --keys m") == "ok,0.2\nok,0.3\nok,0.4\n", "shortened"
-    at.shop("stop")
-    at.shop("rebuild 0")
-    at.run("./shop start auction")
-    assert at.shop(f"ask 0 user,bob {lamp} user,cat --keys m") == "ok,0.2\nok,0.3\nok,0.4\n", "made again"
-    for record in ("user,ann", "user,bob", "user,cat", lamp, "user,eve", "user,fay"):
-        made = [line for line in at.text("auction/0/out").splitlines() if line.startswith("send,msg,") and line.endswith("," + record)]
-        assert len(made) == 1, f"{record} was accepted {len(made)} times: {log}"
+    assert at.shop(f"ask 0 {lamp} --key f") == "ok,0.7\n" == at.shop(f"ask 0 {lamp} --key f"), "it was never kept"
+    assert at.shop(asked) == "ok,0.2\nok,0.3\nok,0.8\n", "an ask of several goes on"
+    for command in ("shorten", "rebuild"):
+        at.shop("stop")
+        at.shop(f"{command} 0")
+        at.run("./shop start auction")
+        assert at.shop(asked) == "ok,0.2\nok,0.3\nok,0.8\n", command
     assert at.shop("audit") == "audit,Agree\n", "the audit"
-    os.unlink(at.path / "auction/0/keys")
-    at.shop("stop")
+
+
+def test_asks_under_keys_that_outlive_the_supervisor(at: Folder) -> None:
+    """An ask under a key that was begun when the supervisor was killed is asked again by the command, and by `shop serve`, once there is another
+    one; without a key it isn't."""
     at.run("./shop start auction")
-    os.mkdir(at.path / "auction/0/keys")
-    at.shop("ask 0 user,gus --key g", 3, "its keys can't be written (Is a directory); nothing was given to it")
-    os.rmdir(at.path / "auction/0/keys")
-    assert at.shop("ask 0 user,gus --key g").startswith("ok,"), "once it can"
+    web = Web(at)
+    with concurrent.futures.ThreadPoolExecutor() as pool:
+        supervisor = at.status()["pid"]
+        with at.standing_still(at.site(0)["pid"]):
+            told = [pool.submit(at.run, f"./shop -C auction ask 0 user,{name} {key} 2>&1; true") for name, key in (("ann", "--key a"), ("cat", ""))]
+            served = [pool.submit(web.ask, 0, f"user,{name}", key) for name, key in (("bob", "b"), ("dan", None))]
+            at.wait("the asks", lambda: at.site(0)["waiting"] == 4)
+            at.kill(supervisor)
+        at.run("./shop start auction")
+        assert re.fullmatch("ok,0.[1-4]\n", told[0].result()) and "ended before it answered" in told[1].result(), f"told: {told[0].result()}"
+        assert [said.result().status for said in served] == [201, 504], f"over HTTP: {served[0].result()}"
+    made = [line for line in at.text("auction/0/out").splitlines() if line.startswith("send,key,")]
+    assert len(made) == 2, f"what was accepted under keys: {made}"
+
+
+def test_a_key_of_a_message_that_is_lost(at: Folder) -> None:
+    """A key is known as long as its message is there: an ask may be told that a key is taken by one that is lost later, with its folder."""
+    at.run("./shop start auction; ./shop stop auction; cp -r auction older; ./shop start auction")
+    assert at.shop("ask 0 user,ann --key a") == "ok,0.1\n", "the first"
+    assert at.shop("ask 0 user,bob --key a", 1) == "refused,40,KeyTaken\n", "another one"
+    at.run("./shop stop auction; rm -r auction; mv older auction")
+    at.goes_on("./shop start auction", "0 user,bob --key a", "0.1", "once the first is lost")
+
+
+def test_keys_of_a_version_before(at: Folder) -> None:
+    """What a version of before wrote down beside a site is known for a day from when it was asked, until the site is shortened; its file isn't
+    written any more, and goes when its day is over."""
+    at.start_sale()
+    sums = {record: hashlib.blake2b(record.encode(), digest_size=16).hexdigest() for record in ("user,ann", "user,bob", "user,cat")}
+    at.shop("ask 0 user,ann", 1)
+    asked = [("a", "user,ann", 1), ("b", "user,bob", 2), ("never kept", "user,cat", 9), ("refused", "user,ann", 4)]
+
+    def write(ago: int) -> None:
+        lines = [{"key": key, "at": int(time.time()) - ago, "sum": sums[record], "number": number} for key, record, number in asked]
+        (at.path / "auction/0/keys").write_text("".join(json.dumps(line) + "\n" for line in lines))
+        at.run("./shop start auction")
+
+    at.shop("stop")
+    write(80_000)
+    assert at.shop("ask 0 user,ann --key a") == "ok,0.1\n" == at.shop("ask 0 user,ann --key a"), "the answer of then"
+    assert json.loads(at.shop("ask 0 user,bob --key b --json")) == {"record": "user,bob", "answer": "ok", "id": "0.2", "again": True}, "as JSON"
+    assert at.shop("ask 0 user,ann --key refused", 1) == "refused,5,NickTaken\n", "a refusal of then"
+    at.shop("ask 0 user,cat --key a", 1, "another record was asked under that key")
+    assert at.shop("ask 0 user,cat --key 'never kept'") == "ok,0.4\n" == at.shop("ask 0 user,cat --key 'never kept'"), "one that was never kept"
+    at.shop("stop")
+    at.shop("shorten 0")
+    assert not (at.path / "auction/0/keys").exists(), "the numbers are others now"
+    write(90_000)
+    assert not (at.path / "auction/0/keys").exists(), "their day is over"
+    assert at.shop("ask 0 user,ann --key a", 1) == "refused,5,NickTaken\n", "a key that nobody knows"
 
 
 def test_asks_that_are_cut(at: Folder) -> None:
@@ -223,17 +270,6 @@ def test_asks_that_are_cut(at: Folder) -> None:
         said = at.text("said")
         assert said.startswith("ok,0.1\nok,0.2\n") and said.endswith("(answered: the first 2); the same command again goes on\n"), f"what it says: {said}"
     assert at.shop("ask 0 user,ann user,bob user,cat --keys m") == "ok,0.1\nok,0.2\nok,0.3\n", "the same again"
-
-
-def test_keys_are_flushed(at: Folder, strace: Strace) -> None:
-    """With --sync a key is on the disk before the site is given its ask; the keys of what comes together with one flush."""
-    at.run("./shop start auction --sync")
-    with strace(at.status()["pid"], "write,fdatasync") as lines:
-        at.shop("ask 0 user,ann --key first")
-        at.shop("ask 0 'item,0.1,a,7,1,5,0' 'item,0.1,b,7,1,5,0' --keys m")
-    calls = [line for line in lines if "/keys>" in line or "user,ann\\n" in line or "item,0.1," in line and "pipe:" in line]
-    kinds = ["key" if "write" in line and "/keys>" in line else "flush" if "fdatasync" in line else "ask" for line in calls]
-    assert kinds == ["key", "flush", "ask", "key", "flush", "ask"], "the order: " + "\n".join(calls)
 
 
 def test_away(at: Folder) -> None:
@@ -258,14 +294,13 @@ def test_away(at: Folder) -> None:
 def test_time_out(at: Folder) -> None:
     """Where a site or the supervisor hangs, a command ends when its time is over, and says what isn't known and how it is found out."""
     at.start_sale(2)
-    at.shop("ask 0 user,zoe --key z")
+    at.shop("ask 0 user,zoe")
     keeper, supervisor = at.site(0)["pid"], at.status()["pid"]
     with at.standing_still(keeper):
         for number, name in enumerate(("hal", "eve"), 5):
             how = f"as record {number} of `shop log 0`; once another record stands there, it never will be"
             at.shop(f"ask 0 user,{name} --timeout 1", 3, f"it may still be accepted, {how}")
-        assert at.shop("ask 0 user,zoe --key z") == "ok,0.4\n", "an answer that is given again comes after what the askers were told"
-        assert "reply,5," not in at.shop("log 0"), "it decides nothing"
+        assert "reply,5," not in at.shop("log 0"), "nothing is decided"
     assert at.shop("ask 0 user,cat") == "ok,0.7\n", "it goes on"
     found = at.shop("log 0")
     assert "< user,hal\n> reply,5,ok,0.5\n" in found and "< user,eve\n> reply,6,ok,0.6\n" in found, f"what the askers find: {found}"

@@ -151,6 +151,35 @@ def test_older_copy_that_lacks_a_pass(at: Folder) -> None:
     assert at.shop("audit") == "audit,Agree\n", "the audit"
 
 
+def test_lost_what_came_and_went(at: Folder) -> None:
+    """A folder has lost that the token came and was passed on, and says truly that it doesn't hold it: that turn would be passed on twice."""
+    at.run("./shop start auction --sites 2")
+    for site, turn in ((0, 1), (1, 2), (0, 3)):
+        at.shop(f"pass {site} {1 - site}")
+        at.wait("the token", lambda: at.status()["token"] == 1 - site and at.status()["token_turn"] == turn)
+    at.run("./shop stop auction; sed -i '$d' auction/0/kept; sed -i '$d' auction/0/kept; for line in 1 2 3; do sed -i '$d' auction/0/out; done")
+    why = "site 1 has had the token of turn 3, and its folder doesn't know that it had that of turn 2 (shop rebuild 0)"
+    at.accepts_nothing("./shop start auction", why, "0 user,eve")
+    at.goes_on("./shop stop auction; ./shop -C auction rebuild 0; ./shop start auction", "0 user,cat", "0.1", "it goes on", audit="auction")
+
+
+def test_what_a_fenced_site_sent_is_carried(at: Folder) -> None:
+    """Over files, to a site whose folder has lost most of it, with the token; nothing is written into its folder."""
+    at.start_sale(3, published=True)
+    at.shop("pass 0 2")
+    assert at.shop("ask 0 item,0.1,vase,7,1,1,0 --published") == "ok,0.4\n", "what only its folder loses"
+    at.wait("the token", lambda: at.status()["token"] == 2)
+    at.read_all(1, 2)
+    at.run("./shop stop auction; sed -i '$d' auction/0/kept; sed -i '$d' auction/0/out; sed -i '$d' auction/0/out; sed -i '2,$d' auction/2/kept auction/2/out")
+    at.run("./shop start auction", 3, "site 1 has 4 messages of it, and its folder has 3 (shop rebuild 0)")
+    was = at.text("auction/0/kept"), at.text("auction/0/out")
+    for start in ("true", "./shop stop auction; sed -i '2,$d' auction/2/kept auction/2/out; ./shop start auction || true"):     # it is fenced as that begins
+        at.run(start)
+        at.wait("what it sent", lambda: at.site(2)["messages"] == 3 and at.status()["token"] == 2)
+    assert at.shop("ask 2 user,cat") == "ok,2.1\n", "the token is there"
+    assert (at.text("auction/0/kept"), at.text("auction/0/out")) == was, "its folder"
+
+
 def test_fenced_for_good(at: Folder, server: Server) -> None:
     """A folder is lost, and its site is fenced; then the server loses all: it is fenced still, and goes on once it is rebuilt."""
     at.shop("wait 2", folder="b")

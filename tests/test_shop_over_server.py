@@ -34,6 +34,30 @@ def test_streams(at: Folder) -> None:
     at.run("./shop stop b")
 
 
+def test_keys(at: Folder, server: Server) -> None:
+    """Until each machine has said that it knows keys, an ask with one is refused by name, and others aren't; from then on it is taken, whoever is
+    there. While the server is away, a blue ask may be accepted at two sites under one key; a red one is told again by any site."""
+    server.say("set auction:sites 3")       # as a version of before has begun the shop
+    at.run(f"./shop start a --sites 3 --here 0,1 --over {server.over}")
+    why = "of site 2 none has: upgrade shop and rubis on every machine, and start it; nothing was given to it by this request"
+    at.shop("ask 0 user,ann --key k", 3, why, "a")
+    assert at.shop("ask 0 user,bob", folder="a") == "ok,0.1\n", "without a key"
+    at.run(f"./shop start b --sites 3 --here 2 --over {server.over}")
+    at.wait("that all know keys", lambda: at.run("./shop -C a ask 0 user,ann --key k 2>&1; true") == "ok,0.2\n")
+    assert at.shop("ask 2 user,ann --key k", folder="b") == "ok,0.2\n", "a red ask again, at another site"
+    assert server.say("xrange auction:0 2-0 2-0").split("\n")[2] == "key,k,msg,1,0,2,2,1:0:0,user,ann", "what goes to others"
+    lamp = "item,0.1,lamp,7,3,100,80"
+    server.kill()
+    assert (at.shop(f"ask 0 {lamp} --key k", folder="a"), at.shop(f"ask 2 {lamp} --key k", folder="b")) == ("ok,0.3\n", "ok,2.1\n"), "a blue ask at two"
+    server.start()
+    at.run("./shop stop b; ./shop stop a; ./shop start a")
+    assert at.shop(f"ask 0 {lamp} --key k", folder="a") == "ok,0.3\n", "one of the machines is away"
+    at.run("./shop start b")
+    at.read_all(0, 1, folder="a")
+    assert at.shop(f"ask 1 {lamp} --key k", folder="a") in ("ok,0.3\n", "ok,2.1\n"), "whichever came first"
+    at.shop("audit", folder="a")
+
+
 def test_another_number_of_sites(at: Folder, server: Server) -> None:
     """A machine that joins with another number of sites is refused, and leaves nothing behind, also where the server comes later, or lost
     all meanwhile."""

@@ -1,14 +1,18 @@
 """A machine that stands by for another one."""
 
 import json
+import os
+import signal
 import time
 
 import pytest
 
 from measure_shop import free_port
-from tests.folder import SALE, SECONDS, Folder
+from tests.conftest import Extent
+from tests.folder import SALE, SECONDS, Counted, Folder
 from tests.needs import PYTHON
 from tests.server import Server
+from tests.test_kills import Course, Trial
 
 pytestmark = pytest.mark.server
 
@@ -162,3 +166,50 @@ def test_standby_that_comes_and_goes(at: Folder, server: Server) -> None:
     at.wait("that it has no standby", lambda: not at.site(2, "b")["yields"])
     server.kill()
     assert at.shop("ask 2 comment,0.3,0.2,0.1,2,three", folder="b") == "ok,2.3\n", "it goes on as before"
+
+
+class TakeOvers(Trial):
+    """Sites 0 and 1 are in a; 2 is in b, for which c stands by, or the other way round. Its machine is killed, or stands still, again and again."""
+
+    def __init__(self, course: Course, at: Folder) -> None:
+        super().__init__(course, at)
+        self.parts = dict(zip((str(at.path / name) for name in "abc"), ([0, 1], [2], list[int]())))
+
+    def start(self, folder: str) -> None:
+        assert self.server
+        here = ",".join(map(str, self.parts[folder]))
+        self.shop(f"start --sites 3 --here '{here}' --over {self.server.over}" + " --standby 2 --after 1" * (not here), folder)
+
+    def kill(self) -> bool:
+        assert self.server
+        _, *two = self.parts
+        holder, other = sorted(two, key=lambda folder: not self.parts[folder])
+        yields(self.at, self.server)
+        time.sleep(self.dice.random())
+        state, is_killed = self.status(holder), self.dice.often(0.7)
+        for process in (state["pid"], state["site"][2]["pid"]):
+            if is_killed:
+                self.at.kill(process)
+            else:
+                os.kill(process, signal.SIGSTOP)
+        self.at.wait("the standby", lambda: json.loads(self.at.text(f"{other}/shop.json"))["here"] == [2])
+        self.parts[holder], self.parts[other] = [], [2]
+        if not is_killed:
+            for process in (state["site"][2]["pid"], state["pid"]):
+                os.kill(process, signal.SIGCONT)
+            self.at.wait("that it is fenced", lambda: self.status(holder)["site"][2]["state"] != "up" or self.status(holder)["site"][2]["pid"] is None)
+            self.shop("stop", holder)
+        self.start(holder)
+        self.kills["killed" if is_killed else "stood still"] += 1
+        return True
+
+
+@pytest.mark.kill
+@pytest.mark.slow
+def test_take_overs_under_asks(at: Folder, extent: Extent, counted: Counted) -> None:
+    """What is asked under keys, here or there, is accepted once, and each asker is told what is in the logs, whoever runs the site."""
+    trial = TakeOvers(Course(extent.seed, extent.count(3), "always", elsewhere=True, sites=3), at)
+    print(json.dumps(trial.run(), indent=1))
+    assert not trial.asked.bad, "\n".join(trial.asked.bad)
+    counted("take-overs under asks", sum(trial.kills.values()))
+    counted("keys under which an ask was accepted once", trial.asked.keys)

@@ -30,7 +30,7 @@ def expect_kept(seed: str, numbers: range, decider: pathlib.Path | None, counted
         for played in decided(str(decider), plays) if decider else plays:
             assert not played.broken, told(played, None)
             assert all(played.least[name] >= least for name, least in LEAST.items()), f"{played.seed} has {played.least}"
-            kinds = ("IsKilled", "IsLost", "IsPutBack", "TakesOver", "Rebuilds", "fenced", "cut-off")
+            kinds = ("IsKilled", "IsLost", "IsPutBack", "TakesOver", "Rebuilds", "fenced", "cut-off", "full", "IsRaised")
             events.update(f"with {kind}" for kind in kinds if played.counts.get(kind))
             events.update([f"not all looked at: {played.excused}"] if played.excused else [])
             events.update([f"up to a step that the model doesn't have: {played.why_none}"] if played.why_none else [])
@@ -63,12 +63,12 @@ def test_opens_beside_a_site_that_cannot_say_what_it_has(seed: str) -> None:
 
 @pytest.mark.parametrize("rule", RULES)
 def test_rules_are_as_defined(rule: str, extent: Extent) -> None:
-    """What a rule of `shop` lets happen is a step of the model, and else it is none, but for the differences that PROMISES names."""
+    """What a rule of `shop` lets happen is a step of the model, and else it is none."""
     states = drawn(rule, str(extent.seed), 400)
     answers = answers_of(str(built("rubis_decider")), [state.lines for state in states])
     for state, answer in zip(states, answers):
         assert answer in (None, len(state.lines) - 1), f"an earlier step may not happen: {state.lines} at {answer}"
-        assert state.takes == (answer is None) or state.may_differ and state.takes, f"{state.lines}: shop takes it: {state.takes}"
+        assert state.takes == (answer is None), f"{state.lines}: shop takes it: {state.takes}"
 
 
 def test_answers(program: pathlib.Path, extent: Extent, counted: Counted) -> None:

@@ -62,9 +62,9 @@ def test_all_who_draw() -> None:
     import simulation.askers
     import traffic
     import workloads
-    from tests import test_keep, test_kills, test_network
+    from tests import test_keep, test_keep_keys, test_kills, test_network
     classes = subclasses(Fields)
-    who = (traffic, cases, workloads, simulation.askers, test_keep, test_kills, test_network)
+    who = (traffic, cases, workloads, simulation.askers, test_keep, test_keep_keys, test_kills, test_network)
     assert {module.__name__ for module in who} == {one.__module__ for one in classes}
     draws = {FIELDS[field].draws for kind in KINDS.values() for field in kind.asked}
     for one in set(classes) - {traffic.Known}:

@@ -33,7 +33,8 @@ def test_beside_the_version_before(server: Server) -> None:
     at.run(f"{old} start a --sites 3 --here 0 --over {server.over}")
     at.run(f"./shop start b --sites 3 --here 1,2 --over {server.over}")
     assert at.run(f"{old} -C a ask 0 user,ann") == "ok,0.1\n"
-    assert at.run(f"{old} -C a ask 1 user,bob --key k") == at.run(f"{old} -C a ask 1 user,bob --key k") == "ok,1.1\n"
+    at.run(f"{old} -C a ask 1 user,bob --key k", 3, "site 1 takes no keys until each machine has said that it knows them")
+    assert at.run(f"{old} -C a ask 1 user,bob") == "ok,1.1\n"
     assert at.run("./shop -C b ask 0 item,0.1,lamp,7,3,100,80 --key k") == at.run("./shop -C b ask 0 item,0.1,lamp,7,3,100,80 --key k") == "ok,0.2\n"
     at.run("./shop -C b ask 0 user,ann", 1, "the nickname belongs to a user")
     for shop, folder in ((old, "a"), ("./shop", "b")):

@@ -97,6 +97,15 @@ class Conversations(unittest.TestCase):
         self.assertEqual([row.has for row in run.rows], [(2, 0)])
         self.assertEqual([event.kind for event in run.events if run.lanes[event.lane].site == 1], [Kind.HELD, Kind.RELEASED, Kind.RELEASED])
 
+    def test_keys_are_not_drawn(self) -> None:
+        """Nor what is answered again under one."""
+        run = read("$ rubis keep 1 --site 1 --sites 2\n> key,k,user,bob\nreply,1,refused,3,NoToken\n> key,\"a, b\",msg,1,0,1,1,0:0,user,ann\n"
+                   "reply,2,released,1\n> key,k,item,0.1,x,1,1,1,0\nreply,3,ok,1.1\nsend,key,k,msg,1,1,1,0,1:0,item,0.1,x,1,1,1,0\n"
+                   "> key,k,item,0.1,x,1,1,1,0\nreply,4,again,1.1\n")
+        self.assertEqual([(event.kind, event.message.record if event.message else event.text) for event in run.events if run.lanes[event.lane].site == 1],
+                         [(Kind.REFUSED, "NoToken: user,bob"), (Kind.RELEASED, "msg,1,0,1,1,0:0,user,ann"),
+                          (Kind.MADE, "msg,1,1,1,0,1:0,item,0.1,x,1,1,1,0")])
+
     def test_messages_that_count_other_sites(self) -> None:
         with self.assertRaisesRegex(Fault, "a message counts 3 sites, and there are 2"):
             read(CONVERSATION.replace("--sites 3", "--sites 2"))

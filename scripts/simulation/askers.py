@@ -6,7 +6,7 @@ import re
 from collections.abc import Callable
 from typing import TYPE_CHECKING, Any
 
-from shop_tool.carrier.records import bytes_of, text_of
+from shop_tool.carrier.records import RED, UNDECIDED, bytes_of, kind_of, text_of, under
 from traffic import Dice, Fields
 
 from .world import SimulatedSite, Supervisor, Violation, heard
@@ -15,7 +15,8 @@ if TYPE_CHECKING:
     from .clock import Task
     from .world import World
 
-KEYED_TRIES = 4         # how often one asks again once it was answered; three times as often before
+KEYED_TRIES = 4         # how often one asks again once it was accepted; three times as often before
+KEYS = 8                # how many keys there are for blue asks at one site; red asks are under any of them
 MARGIN = 2.0            # as the client's: seconds beyond its time-out that a request has
 # What a fault says of the records behind those that were answered: the first of these that it has.
 SAID = {"may still be accepted": "unknown", "isn't known": "unknown", "nothing was given to it": "not-given", "nothing more was given to it": "not-given",
@@ -35,7 +36,7 @@ class Told:
     def of_answer(cls, site: int, record: bytes, line: str) -> "Told":
         """What an answer says. One that a request ends with, since the token didn't come, is no acceptance either."""
         head = line.split(",")
-        if head[2] != "ok":
+        if head[2] not in ("ok", "again"):
             return cls(site, record, "refused")
         origin, number = map(int, head[3].split("."))
         return cls(site, record, "ok", (origin, number))
@@ -93,7 +94,7 @@ class Asker:
                 record = next(records, None)
                 if record != bytes_of(answer["record"]):
                     raise Violation(f"the answer to {answer['record']!r} came where {record!r} was asked")
-                self.told.append(Told.of_answer(self.site, record, answer["lines"][0]))
+                self.told.append(Told.of_answer(self.site, self._as_asked(record), answer["lines"][0]))
             else:
                 last = answer.get("fault", "")
         found = NUMBER.search(last)
@@ -101,7 +102,7 @@ class Asker:
         for at, record in enumerate(records):
             if not what:
                 raise Violation(f"an asker isn't told what came of a record: {last or 'there is neither an answer nor a fault'}")
-            self.told.append(Told(self.site, record, what, number=int(found[1]) + at if found else None))
+            self.told.append(Told(self.site, self._as_asked(record), what, number=int(found[1]) + at if found else None))
         here = self.supervisor.sites.get(self.site) if self.supervisor else None
         if here and self.published and not last:
             self._look_at_published(here)
@@ -109,16 +110,19 @@ class Asker:
             note_told(self.world, self.told)
         self.on_end()
 
+    def _as_asked(self, record: bytes) -> bytes:
+        return under(self.key.encode(), record) if self.key else record
+
     def _look_at_published(self, here: SimulatedSite) -> None:
-        """What was accepted is where the others find it, unless the server lost something meanwhile."""
+        """What was accepted is where the others find it, unless the server lost something meanwhile; of what is answered again, before."""
         world = self.world
-        texts = {world.text_of.get(told.record, told.record) for told in self.told if told.what == "ok"}
+        texts = {world.text_of.get(told.record, told.record) for told, answer in zip(self.told, self.answers) if ",ok," in answer["lines"][0]}
         if world.is_over_server:
-            found = {text for _, text in world.server.streams[self.site].entries}
+            found = {text for stream in world.server.streams for _, text in stream.entries}
             if world.server.times != self.server_times:
                 return
         else:
-            found = {line[:-1] for site in here.shop.sites.values() if site is not here for line in site.folder.lines("kept")}
+            found = {line[:-1] for site in here.shop.sites.values() for line in site.folder.lines("kept")}      # its own has none that it sent
         if not texts <= found and here.folder.is_whole and len(here.shop.sites) > 1 - world.is_over_server:
             raise Violation(f"{sorted(texts - found)} were told published, and nobody else has them")
 
@@ -129,15 +133,18 @@ def note_told(world: "World", told: list[Told]) -> None:
 
 
 class KeyedAsker:
-    """Asks one record under a key, again and again until it is answered, and then some times more: it always gets that answer."""
+    """Asks one record under a key, again and again until it is accepted, and then some times more: it always gets the id that it got. What is red
+    it asks of any site. Others may ask something else under that key."""
 
     def __init__(self, world: "World", at: Callable[[], Supervisor | None], site: int, record: bytes, dice: random.Random) -> None:
         self.world, self.at, self.site, self.record, self.dice = world, at, site, record, dice
-        self.key = f"key {world.new_number()}"
-        self.first: list[str] | None = None     # the answer
-        self.told: list[Told] = []              # what it was told last
+        self.is_red = kind_of(record) in RED
+        self.key = f"key, {dice.randrange(world.sites) if self.is_red else site}.{dice.randrange(KEYS)}"
+        self.line = under(self.key.encode(), record)
+        self.first: Told | None = None          # that it is accepted
+        self.told: list[Told] = []              # what it knows at last
+        self.wrong: str | None = None           # what it was told otherwise, though nothing was lost that it knows of
         self.tries = 0
-        world.keyed[record] = site
         world.note("IsAsked")
         self._ask()
 
@@ -154,30 +161,43 @@ class KeyedAsker:
     def _ask(self) -> None:
         self.tries += 1
         self.world.note("asked-by-key" if self.tries == 1 else "asked-again")
+        site = self.dice.randrange(self.world.sites) if self.is_red and self.dice.random() < 0.5 else self.site
         seconds = self.dice.choice([0.05, 0.1, 0.5, 3.0, 10.0])
-        self.asker = Asker(self.world, self.at(), self.site, [self.record], seconds, False, self.key, lambda: self.world.clock.soon(self._ended))
+        is_published = self.dice.random() < 0.15
+        self.asker = Asker(self.world, self.at(), site, [self.record], seconds, is_published, self.key, lambda: self.world.clock.soon(self._ended))
         if self.dice.random() < 0.1:
             self.world.clock.after(self.dice.random() * 0.1, self.asker.leave)
 
     def _ended(self) -> None:
-        lines = next((answer["lines"] for answer in self.asker.answers if "record" in answer), None)
-        if lines and not {"NoToken", "RedBehind"} & set(lines[0].split(",")):
-            if self.first is None:
-                self.first = lines
-            elif lines != self.first and self.world.knows_keys(self.site):
-                raise Violation(f"{self.record!r} was answered {self.first} under its key, and then {lines}")
+        told, = self.asker.told
+        if self.first and self._is_another(told):
+            self.wrong = f"{self.line!r} was accepted as {self.first.id}, and then answered {self.asker.answers}"
+        if told.what == "ok":
+            self.first = self.first or told
         if self.tries < (KEYED_TRIES if self.first else 3 * KEYED_TRIES) and not self.world.is_calm:
             return self.world.clock.after(self.dice.choice([0.0, 0.05, 0.5, 3.0]), self._ask)
         self.told = [self._last()]
         note_told(self.world, self.told)
 
+    def _is_another(self, told: Told) -> bool:
+        """Whether that can't be told of an ask that was accepted: another id, or a refusal that says more than that a site doesn't know it yet."""
+        assert self.first
+        if told.what == "refused":
+            head = str(self.asker.answers[0]["lines"][0]).split(",")
+            return head[4] not in (*UNDECIDED, "Full") and told.site not in self.world.taken_over and not self._is_lost()
+        return told.what == "ok" and told.id != self.first.id and not self._is_lost()
+
+    def _is_lost(self) -> bool:
+        """Whether the message is lost that it was told."""
+        assert self.first and self.first.id
+        text = self.world.made.get(self.first.id)
+        return text is None or self.world.is_gone(text)
+
     def _last(self) -> Told:
-        """What it knows at last. A try that failed says nothing of those before it."""
-        if self.tries == 1:
-            return self.asker.told[0]
-        if not self.first or not self.world.knows_keys(self.site):
-            return Told(self.site, self.record, "unknown")
-        return Told.of_answer(self.site, self.record, self.first[0])
+        """What it knows at last. A try that failed, or was refused, says nothing of the others."""
+        if self.first and not self._is_lost():
+            return self.first
+        return self.asker.told[0] if self.tries == 1 else Told(self.site, self.line, "unknown")
 
 
 class Unique(Fields):

@@ -6,6 +6,7 @@ import random
 from collections.abc import Callable, Sequence
 from typing import TYPE_CHECKING, Any, NamedTuple
 
+from shop_tool.carrier.answers import AnswerReader
 from shop_tool.carrier.files import File as Seen
 
 from .remembered import compared
@@ -52,6 +53,7 @@ class Folder:
         self.lives: list[str] = []
         self.fenced: str | None = None      # why it is never started again
         self.yields = False                 # its site has a standby
+        self.keep: int = machine.keep       # how many messages its site keeps
         self.noted = 0                      # how many of its records the run has taken down
         self.keeper: "Keeper | None" = None  # who holds its lock
         self.past: Past | None = None       # so that the next keeper needn't answer all of `kept` again
@@ -65,7 +67,7 @@ class Folder:
         """A copy of it, with other files of the same bytes."""
         made = Folder(self.world, machine)
         made.files = {name: File(self.world.new_number(), bytes(file.data)) for name, file in self.files.items()}
-        made.lives, made.noted, made.fenced, made.yields = list(self.lives), self.noted, self.fenced, self.yields
+        made.lives, made.noted, made.fenced, made.yields, made.keep = list(self.lives), self.noted, self.fenced, self.yields, self.keep
         made.packets = list(self.packets)
         return made
 
@@ -73,7 +75,7 @@ class Folder:
         """Has what an older copy has, in the same folder."""
         again = older.copied(self.machine)
         self.files, self.lives, self.noted, self.fenced, self.yields = again.files, again.lives, again.noted, again.fenced, again.yields
-        self.packets = again.packets
+        self.packets, self.keep = again.packets, again.keep
 
     def file(self, name: str) -> File:
         if name not in self.files:
@@ -116,6 +118,19 @@ class Folder:
         count, changed = self.checked()
         return self.lines("kept")[:None if changed is None else count]
 
+    def shorten(self, site: int) -> bool:
+        """As `shop shorten`: leaves in `kept` only the records that changed something. False if no keeper would start."""
+        records, one = [line[:-1] for line in self.whole_lines()], StandIn(site, self.world.sites, self.keep)
+        said = [one.answer(record) for record in records]
+        text = b"".join(said)
+        if not self.is_there or self.keeper or self.checked()[1] is not None or not text.startswith(self._bytes("out")):
+            return False
+        left = [at for at, answer in enumerate(AnswerReader().feed(text)) if answer.kind in (b"ok", b"passed", b"released", b"held", b"holding")]
+        self.packets = [self.packets[at] for at in left]
+        self.files = {"kept": File(self.world.new_number(), b"".join(records[at] + b"\n" for at in left))}
+        self.noted, self.past = len(left), None
+        return True
+
     def sent(self) -> list[bytes]:
         """The packets in its file `out`."""
         return [line[5:-1] for line in self.lines("out") if line.startswith(b"send,") and line.endswith(b"\n")]
@@ -126,8 +141,9 @@ class Machine:
 
     def __init__(self, world: "World", name: str, here: Sequence[int], identity: str | None = None) -> None:
         self.world, self.name, self.here = world, name, list(here)
+        self.keep: int = world.keep         # how many messages a new folder's site keeps
         self.identity = identity or name    # a clone of a disk has that of the original
-        self.folders = {site: Folder(world, self) for site in here}
+        self.folders: dict[int, Folder] = {site: Folder(world, self) for site in here}
         self.seen: dict[int, str] = {}      # over files: the life of each site that the others saw
         self.memory: dict[str, tuple[str, int, int]] = {}
         self.boot = world.new_number()
@@ -141,13 +157,18 @@ class Machine:
         if first in self.memory and self.memory[first][2] == folder.inode:
             del self.memory[first]
 
+    def raise_keep(self, keep: int) -> None:
+        """An operator has its sites keep more messages, while they are stopped. Where one can't be started, its folder keeps as many as before."""
+        self.keep = keep
+        for site, folder in self.folders.items():
+            if folder.shorten(site):
+                folder.keep = keep
+
     def lose_power(self, dice: random.Random) -> list[Folder]:
         """The power goes, and files lose what isn't on the disk; the folders of which that takes something that was kept."""
         self.memory, self.boot = {}, self.world.new_number()
         for folder in self.folders.values():
             folder.has_lost = [folder.file(name).lose_end(dice) for name in ("kept", "out")][0]
-            if "keys" in folder.files and folder.files["keys"].lose_end(dice):
-                self.world.lost_keys |= set(self.here)
             folder.file("sums").lose_end(dice)
         return [folder for folder in self.folders.values() if folder.has_lost]
 
@@ -158,7 +179,7 @@ class Machine:
             made.folders[site] = folder.copied(made)
             if is_clone:
                 made.folders[site].inode = folder.inode
-        made.seen = copy.copy(self.seen)
+        made.seen, made.keep = copy.copy(self.seen), self.keep
         return made
 
 
@@ -168,7 +189,7 @@ class Keeper:
     def __init__(self, folder: Folder, number: int, told: Callable[[], None]) -> None:
         self.folder, self.number, self._told = folder, number, told
         self.world, self.clock, self.dice = folder.world, folder.world.clock, folder.world.dice
-        self.site: StandIn = StandIn(number, self.world.sites)
+        self.site: StandIn = StandIn(number, self.world.sites, folder.keep)
         self.input: list[bytes] = []
         self.is_closed = False          # its input has ended
         self.is_heard = True            # somebody reads its output
@@ -258,6 +279,7 @@ class Keeper:
     def _is_read(self) -> None:
         """All of `kept` is answered."""
         self.folder.past = Past(bytes(self.kept.data), bytes(self.said), self.site)
+        self.world.steps.has_room(self.folder, not self.site.is_full)
 
     def _keep(self) -> None:
         """Keeps what one read of its input gives."""

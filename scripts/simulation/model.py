@@ -12,28 +12,29 @@ comes. Some things happen otherwise than the model has them, and are written as 
   folder that runs is written when its life ends, since the site goes on in files that nobody finds again; that it lost its end before a
   keeper of this life had its files, in front of its start. Of a folder that loses its end, or is changed, what its site sent stands on as
   far as it is in `out`.
-- An ask that is asked again under its key is another one. Its answer, if another one got it, is told of that one; and of an earlier life
-  it is no news, and written as unknown.
+- An ask that is asked again under its key is another one. That it is answered again is told of the one that was accepted; and of an earlier
+  life, or of another site, it is no news, and written as unknown.
 - Where a second folder of a site opens, the first one is closed; if its process sends something all the same, it opens again just before,
   or goes on, if something has more of the site by then.
-- A folder that has lost passes, and whose site doesn't have the token, is made again with them before it starts: the start learns of them
-  from the others, and takes no token that it had before.
+- A folder that has lost passes, and whose site doesn't have the token, is made again with them before it starts, if nobody in reach knows
+  that the turns before went to it: the start learns of the turns from the others, and takes no token that it had before. So is one that a
+  rebuild gave a pass which nobody had any more, once the first one comes back: the folder has that turn.
 - A folder that is made again has what was found, without passes that nobody has any more. Where it lacks what the old one had, the old one
   is lost first.
 
-One thing that happens is no step of the model, since its laws don't hold where it does; the steps that it comes to are known as such before
-anybody decides. A site opens, and a folder or a stream has more of it that it doesn't reach: which supervisors run, and what they know, says
-whether it does. Or somebody reads what a process sends whose supervisor is gone."""
+Three things that happen are no steps of the model; the steps that they come to are known as such before anybody decides. A site opens, and
+folders or streams have more of it of which it reaches none: which supervisors run, and what they had said when it looked, says whether it does.
+Somebody reads what a process sends whose supervisor is gone. Or a site passes a token on that a rebuild of another one made again: it went to a
+site that had had a later one, and that has lost its folder since."""
 
 import contextlib
 from collections.abc import Callable, Generator, Iterable, Sequence
 from functools import partial
-from typing import TYPE_CHECKING, Any
+from typing import TYPE_CHECKING, Any, cast
 
 from shop_tool.carrier.answers import Answer
 from shop_tool.carrier.asking import Ask
-from shop_tool.carrier.keys import UNDECIDED
-from shop_tool.carrier.records import bytes_of
+from shop_tool.carrier.records import UNDECIDED, bytes_of, token_of
 from shop_tool.carrier.steps import Say
 
 if TYPE_CHECKING:
@@ -49,6 +50,7 @@ UNKNOWN = ("may still be accepted", "isn't known", "published", "accepted here")
 # What happens and is no step of the model.
 UNREACHED = "a site is opened that doesn't reach what has more of it"
 WENT_ON = "somebody reads what a process sends after its life has ended"
+MADE_AGAIN = "a site passes a token on that a rebuild made again"
 
 
 class Step:
@@ -101,7 +103,9 @@ class Slot:
         self.harms: list[Callable[[], object]] = []       # what happened to its files while it ran
         self.draining: "Keeper | None" = None           # the keeper that outlives its supervisor
         self.is_stored = False                          # a copy that nobody sees unless it is put back
+        self.goes_into: Slot | None = None              # the folder that was put back to it last, maybe in a life that hasn't ended
         self.takes_over = False                         # a standby made it, and it isn't open yet
+        self.has_room = True                            # its site takes messages
 
     def last(self, kind: str) -> int:
         """The number of the last message of its site, or the last turn that this passed on."""
@@ -126,7 +130,7 @@ class Steps:
         self.slots: list[Slot] = []
         self.streams: list[list[Packet]] = [[] for _ in range(world.sites)]
         self.begun = self.asks = 0
-        self.told: int = 0                              # the ask whose answer is said
+        self.told: tuple[int, "Folder"] | None = None   # the ask whose answer is said, and the folder of its site
         self.yielding: set[int] = set()                 # the sites that yield to a standby
         self.uncompared: set[int] = set()               # those of which a folder was opened that was compared with nothing
         self.under_way: dict[Packet, tuple[Step | None, Slot]] = {}     # the packets that were sent to the server: behind which step, from where
@@ -235,13 +239,17 @@ class Steps:
                 self._open(slot, None)
 
     def _learn_passes(self, slot: Slot, folder: "Folder") -> None:
-        """Where a folder has lost passes, and its site doesn't have the token, the start learns of them from the others."""
+        """Where a folder has lost passes, its site doesn't have the token, and nobody in reach knows who gave it the turns before, the start
+        learns from the others only that there were these turns. And a rebuild made some again that nobody had, which have come back since."""
         if not slot.start:
             return
         taken, beyond, is_cut_off = slot.taken(), slot.behind(), self._is_cut_off(folder)
         step, had, passes = slot.start
-        places = [other.packets for other in self.slots if beyond(other.packets) and self._reaches(folder, other, is_cut_off)]
-        lost = {packet: None for place in places + self.streams * (not is_cut_off) for packet in beyond(place) if packet in self.passes[:passes]}
+        places = [other.packets for other in self.slots if self._reaches(folder, other, is_cut_off)] + self.streams * (not is_cut_off)
+        given = {packet[2] for place in places for packet in place if packet[0] == "p" and packet[3] == slot.site}
+        passed = max((token.turn for text in folder.sent() if (token := token_of(text))), default=0)
+        lost = {packet: None for place in places for packet in beyond(place)
+                if packet in self.passes[:passes] and (packet[2] - 1 not in given or packet[2] <= passed)}
         is_without = slot.last("p") > taken or not taken and slot.site or folder.keeper and folder.keeper.site.issued is None
         if lost and is_without:
             self._put(slot, [*had, *lost], before=step)
@@ -249,31 +257,50 @@ class Steps:
             slot.packets[len(had):len(had)] = lost
 
     def _is_unreached(self, folder: "Folder", slot: Slot) -> bool:
-        """Whether a site opens that doesn't reach what has more of it."""
+        """Whether a site opens that doesn't reach what has more of it. What it reaches excuses nothing."""
         beyond, is_cut_off = slot.behind(), self._is_cut_off(folder)
-        return is_cut_off and any(map(beyond, self.streams)) or \
-            any(beyond(other.packets) and not self._reaches(folder, other, is_cut_off) for other in self.slots)
+        reached = [self._reaches(folder, other, is_cut_off) for other in self.slots if beyond(other.packets)]
+        reached += [not is_cut_off for stream in self.streams if beyond(stream)]
+        return bool(reached) and not any(reached)
+
+    def _site_of(self, folder: "Folder") -> "SimulatedSite | None":
+        """What runs a folder."""
+        return next((site for supervisor in self.world.supervisors() for site in supervisor.sites.values() if site.folder is folder), None)
 
     def _is_cut_off(self, folder: "Folder") -> bool:
-        """Whether the supervisor of a folder doesn't reach the server."""
-        return self.world.is_over_server and not any(its.reaches() for its in self.world.supervisors() if its.machine is folder.machine)
+        """Whether the supervisor of a folder doesn't reach the server, or opened the site while its stream couldn't be seen."""
+        own = self._site_of(folder)
+        reaches = any(its.reaches() for its in self.world.supervisors() if its.machine is folder.machine)
+        return self.world.is_over_server and (not reaches or own is not None and own.is_unseen)
 
     def _reaches(self, folder: "Folder", other: Slot, is_cut_off: bool) -> bool:
-        """Whether what another folder has is known where this one opens: it is beside it, or its site says it to all."""
-        now, said = self.world.clock.now, self.world.server.said
+        """Whether what another folder has is known where this one opens: it is beside it, or its own supervisor says it to all, and said so when
+        this one's looked."""
+        now, own = self.world.clock.now, self._site_of(folder)
         for supervisor in self.world.supervisors():
             for number, site in supervisor.sites.items():
                 if site.folder.slot is other:
                     if supervisor.machine is folder.machine:
                         return site.known.is_set
-                    is_said = number in said and said[number][0] > now and not (folder.slot and folder.slot.site == other.site)
-                    return is_said and not is_cut_off and supervisor.reaches() and supervisor.paused_until < now and site.compared.is_set \
-                        and not site.fenced_by
+                    until, said = self.world.server.said.get(number, (0.0, {}))
+                    is_said = until > now and said["by"] == supervisor.named_of(number) and not (folder.slot and folder.slot.site == other.site)
+                    is_heard = is_said and not is_cut_off and (not own or own.hears(number, said))
+                    return is_heard and supervisor.reaches() and supervisor.paused_until < now and site.compared.is_set and not site.fenced_by
         return False
 
     def keeper_starts(self, folder: "Folder") -> None:
         if folder.slot:
             self._add("KeeperStarts", folder.slot.number)
+
+    def has_room(self, folder: "Folder", has_room: bool) -> None:
+        """A keeper has read all of a folder, or has kept something: its site is full by then, or isn't any more, as it was raised, or lost some."""
+        slot = folder.slot
+        if slot and slot.life and slot.start and has_room != slot.has_room:
+            if has_room:
+                self._add("IsRaised", slot.number, before=slot.start[0])
+            else:
+                self._add("Fills", slot.number)
+            slot.has_room = has_room
 
     def supervisor_ended(self, folder: "Folder", keeper: "Keeper | None") -> None:
         slot = folder.slot
@@ -338,7 +365,9 @@ class Steps:
     def gives(self, folder: "Folder", keeper: "Keeper | None", record: bytes) -> None:
         slot = folder.slot
         if slot and (asks := slot.waiting.get(record)):
-            slot.given.append(Given(keeper, record, asks[0], self._add("Gives", slot.number, asks[0], is_void=True)))
+            others = {its.ask for its in slot.given} | slot.refused | {slot.accepted.get(record)}       # that are asked under the same key
+            ask = next((ask for ask in asks if ask not in others), asks[0])
+            slot.given.append(Given(keeper, record, ask, self._add("Gives", slot.number, ask, is_void=True)))
 
     def asking(self, asks: Sequence[int], ask: Ask, run: Generator[tuple[Any, ...], Any, None]) -> Generator[tuple[Any, ...], Any, None]:
         """The steps of the asker of these, of whom it is noted whose answer is said."""
@@ -347,30 +376,30 @@ class Steps:
             while True:
                 step = goes_on()
                 if isinstance(step, Say):
-                    self.told = asks[ask.answered]
+                    self.told = asks[ask.answered], cast("SimulatedSite", ask.site).folder
                 try:
                     goes_on = partial(run.send, (yield step))
                 except BaseException as raised:
                     goes_on = partial(run.throw, raised)
 
-    def says(self, sites: Iterable["SimulatedSite"], record: bytes, answer: Answer, is_again: bool) -> None:
+    def says(self, record: bytes, answer: Answer) -> None:
         """An asker is told an answer."""
-        ask = self.told
-        for site in sites:
-            slot, head = site.folder.slot, answer.head
-            if not slot or not (record in slot.waiting if slot.life else record in slot.accepted):
-                continue
-            if head[2] == b"ok" and (not is_again or record in slot.accepted):
-                word = "TellsPublished" if site.yields or slot.site in self.yielding else "TellsOk"
-                ask, number = slot.accepted.get(record, 0), int(head[3].split(b".")[1])
-                packet = "m", slot.site, number, ask
-                lost = self.last.get(packet) if site.yields and packet not in self.streams[slot.site] else None
-                self._add(word, slot.number, ask, number, before=lost[0] if lost else None if slot.life else slot.end)
-            elif answer.refusal in UNDECIDED:
-                self._add("TellsNothing", slot.number, ask)
-                slot.waiting[record] = [other for other in slot.waiting.get(record, []) if other != ask]
-            elif is_again:
-                self._add("TellsUnknown", slot.number, ask)
+        assert self.told
+        (ask, folder), head = self.told, answer.head
+        slot = folder.slot
+        if not slot or not (record in slot.waiting if slot.life else record in slot.accepted):
+            return
+        if head[2] == b"ok" or head[2] == b"again" and record in slot.accepted:
+            word = "TellsPublished" if folder.yields or slot.site in self.yielding else "TellsOk"
+            ask, number = slot.accepted.get(record, 0), int(head[3].split(b".")[1])
+            packet = "m", slot.site, number, ask
+            lost = self.last.get(packet) if folder.yields and packet not in self.streams[slot.site] else None
+            self._add(word, slot.number, ask, number, before=lost[0] if lost else None if slot.life else slot.end)
+        elif answer.refusal in UNDECIDED:
+            self._add("TellsNothing", slot.number, ask)
+            slot.waiting[record] = [other for other in slot.waiting.get(record, []) if other != ask]
+        elif head[2] == b"again":
+            self._add("TellsUnknown", slot.number, ask)
 
     def says_fault(self, folder: "Folder", asks: Sequence[int], text: str) -> None:
         """What an asker is told of those of its records that have no answer."""
@@ -405,7 +434,7 @@ class Steps:
         given = next((given for given in slot.given if given.keeper is keeper and given.record == record), None)
         if given:
             slot.given.remove(given)
-            given.step.is_void = fields[2] == b"refused" and fields[4].decode() in UNDECIDED
+            given.step.is_void = fields[2] == b"again" or fields[2] == b"refused" and fields[4].decode() in UNDECIDED
             if slot.was_closed and not given.step.is_void:      # it is open again by then
                 self._open_again(slot)
                 self.list.append(self.list.pop(self.list.index(given.step)))
@@ -453,10 +482,13 @@ class Steps:
             self.known.setdefault(sent_in(rest), packet_of(keeper, fields, rest, 0))
 
     def _look_at_name(self, step: Step, packet: Packet, next_one: int) -> None:
-        """A folder has sent a packet: its name is the next one, if no packet stands there that its process sent as it went on."""
+        """A folder has sent a packet: its name is the next one, if no packet stands there that its process sent as it went on, nor one that no
+        folder sent."""
         names = {its[:3] for its in self.gone_on}
         if packet[2] != next_one and (*packet[:2], next_one) in names:
             step.why_none = WENT_ON
+        elif packet[0] == "p" and packet[2] > 1 and not any(its[2:4] == (packet[2] - 1, packet[1]) for its in self.passes):
+            step.why_none = MADE_AGAIN
 
     # What a server has.
 
@@ -470,7 +502,7 @@ class Steps:
             self.yielding.remove(site)
 
     def sends(self, machine: "Machine", texts: Iterable[bytes]) -> None:
-        """A supervisor begins to append these packets."""
+        """A supervisor begins to append these packets, or to write a stream anew with them."""
         slots = [folder.slot for folder in machine.folders.values() if folder.slot and folder.slot.life]
         for packet in (self.known[text] for text in texts if text in self.known):
             if slot := next((slot for slot in slots if packet in slot.packets), None):
@@ -567,11 +599,14 @@ class Steps:
         if not slot or not its:
             return
         folder.slot = None
-        made.slot = slot
+        made.slot = its.goes_into = slot
+        self._harm(slot, partial(self._put_back, its, slot))
+
+    def _put_back(self, its: Slot, slot: Slot) -> None:
         if its in self.unseen:      # it was as good as lost where a site was opened: that site didn't reach it
             loss, its.packets, opened = self.unseen.pop(its)
             loss.is_void, opened.why_none = True, UNREACHED
-        self._harm(slot, partial(self._copy, its, slot))
+        self._copy(its, slot)
 
     def lost(self, folder: "Folder", made: "Folder | None" = None) -> None:
         """Another one is in its place, or nobody comes back to this copy."""
@@ -579,7 +614,7 @@ class Steps:
             folder.slot = None
             if made:
                 made.slot = slot
-            self._harm(slot, partial(self._lose, slot))
+            self._harm(slot.goes_into or slot, partial(self._lose, slot))
 
     def _note_lost(self, step: Step, slot: Slot) -> None:
         """By this step a folder loses some of what it has; it is stopped then."""
@@ -666,7 +701,9 @@ class Steps:
         self._rebuild(slot, made)
 
     def takes_over(self, made: "Folder", site: int) -> None:
-        """It takes the place of a site elsewhere, of which other folders go on."""
+        """It takes the place of a site elsewhere, of which other folders go on. One that it made before, without hearing that, never opens."""
+        for slot in self.slots:
+            slot.takes_over = slot.takes_over and slot.site != site
         made.slot = self._another(site)
         self._rebuild(made.slot, made)
         made.slot.takes_over = True

@@ -2,14 +2,16 @@
 
 import random
 import subprocess
+import tempfile
 import traceback
 from typing import NamedTuple
 
+from shop_tool.carrier.records import under
 from shrink import smaller
 
 from .askers import asked
 from .run import Run
-from .stand_in import StandIn, records_of
+from .stand_in import MOST, StandIn, records_of
 from .without import taken_out
 from .world import Violation
 
@@ -96,16 +98,19 @@ def decided(decider: str, plays: list[Played]) -> list[Played]:
 
 
 def compared(program: str, seed: str) -> int:
-    """That the simulated sites answer as the program does, on records as askers and other sites give them; how many these are."""
+    """That the simulated sites answer as the program does, on records as askers and other sites give them, half of the asks under some keys; how
+    many these are."""
     dice = random.Random(seed)
     sites = dice.randint(2, 5)
-    stand_ins = [StandIn(site, sites) for site in range(sites)]
+    stand_ins = [StandIn(site, sites, dice.choice([MOST, 200])) for site in range(sites)]
     given: list[list[bytes]] = [[] for _ in range(sites)]
     said: list[bytes] = [b""] * sites
     packets, before = list[bytes](), set[bytes]()
     for number in range(RECORDS):
         site = dice.randrange(sites)
         records = [dice.choice(packets)] if packets and dice.random() < 0.5 else asked(dice, number, sites, before)
+        records = [under(b'a "key", %d' % dice.randrange(RECORDS // 20), record) if dice.random() < 0.5 and b"\n" not in record else record
+                   for record in records]
         records += [b"pass,%d" % dice.randrange(sites + 1)] if dice.random() < 0.1 else []
         for line in (line for record in records for line in record.split(b"\n")):
             for record in records_of(line.rstrip(b"\r")):
@@ -114,11 +119,13 @@ def compared(program: str, seed: str) -> int:
                 given[site].append(record)
                 said[site] += answer
     for site in range(sites):
-        done = subprocess.run([program, "site", "--site", str(site), "--sites", str(sites)], input=b"".join(record + b"\n" for record in given[site]),
-                              capture_output=True, check=True)
-        if done.stdout != said[site]:
-            at = next(at for at, (one, other) in enumerate(zip(done.stdout.split(b"\n"), said[site].split(b"\n"))) if one != other)
-            raise ValueError(f"site {site} answers {done.stdout.splitlines()[at]!r}, and the simulated one {said[site].splitlines()[at]!r}")
+        with tempfile.TemporaryDirectory() as folder:
+            command = [program, "keep", f"{folder}/0", "--site", str(site), "--sites", str(sites), "--keep", str(stand_ins[site].keep)]
+            done = subprocess.run(command, input=b"".join(record + b"\n" for record in given[site]), capture_output=True, check=True)
+        answers = done.stdout.partition(b"\n")[2]
+        if answers != said[site]:
+            at = next(at for at, (one, other) in enumerate(zip(answers.split(b"\n"), said[site].split(b"\n"))) if one != other)
+            raise ValueError(f"site {site} answers {answers.splitlines()[at]!r}, and the simulated one {said[site].splitlines()[at]!r}")
     return sum(map(len, given))
 
 

@@ -2,10 +2,10 @@
 
 import functools
 
-from shop_tool.carrier import asking, ledger, reader, rebuilding, records, shop, sums
+from shop_tool.carrier import asking, ledger, rebuilding, records, shop, sums
 
 packet_of = functools.lru_cache(1 << 12)(records.packet_of)
-for module in (asking, ledger, reader, rebuilding, shop):
+for module in (asking, ledger, rebuilding, records, shop):
     setattr(module, "packet_of", packet_of)
 setattr(sums, "sum_of", functools.lru_cache(1 << 14)(sums.sum_of))
 

@@ -4,19 +4,21 @@ happen: the proved program that decides lists is the judge (SHOP.md, *Rules*).""
 import random
 from typing import NamedTuple
 
-from shop_tool.carrier.opening import why_behind, why_passed_on
+from shop_tool.carrier.asking import Ask
+from shop_tool.carrier.opening import Said, why_behind, why_passed_on
 from shop_tool.carrier.records import why_not_one_record
+from shop_tool.carrier.steps import Say
 from shop_tool.carrier.told import Once, is_called
+from shop_tool.tests.shops import OverServer, Supervisor, begun
 
 TEXTS = {0: b"", 1: b"user,ann", 2: b"user,ann\nuser,bob", 3: b"user,ann\nuser,bob\nuser,eve"}     # by how many records they are
 
 
 class Drawn(NamedTuple):
-    """A list of steps, whether `shop` takes its last one, and whether it may take one that the model refuses."""
+    """A list of steps, and whether `shop` takes its last one."""
 
     lines: list[str]
     takes: bool
-    may_differ: bool = False
 
 
 def asked(folder: int, ask: int, life: int) -> list[str]:
@@ -24,35 +26,43 @@ def asked(folder: int, ask: int, life: int) -> list[str]:
 
 
 def opens(dice: random.Random) -> Drawn:
-    """Two sites send messages and pass the token to each other, and read some of that; then folder 0 is put back, and its site opens."""
-    lines = ["Files", "Starts,0", "Opens,0", "Starts,1", "Opens,1"]
-    kept: list[list[tuple[str, int]]] = [[], []]        # of each site: its messages, the turns that it passed, took
-    numbers, turn, holder, asks = [0, 0], 0, 0, 0
-    read = [0, 0]                                       # how many messages of each site the other one has
-    for _ in range(dice.randint(1, 9)):
-        site = dice.randrange(2)
-        what = dice.choice(["sends", "reads", "passes"])
-        if what == "sends":
-            asks, numbers[site] = asks + 1, numbers[site] + 1
-            lines += asked(site, asks, site + 1)
-            kept[site].append(("own", asks))
-        elif what == "reads" and read[1 - site] < numbers[1 - site]:
-            read[1 - site] += 1
-            ask = [ask for kind, ask in kept[1 - site] if kind == "own"][read[1 - site] - 1]
-            lines.append(f"Reads,{site},{1 - site},{read[1 - site]},{ask}")
-            kept[site].append(("other", 0))
-        elif what == "passes":
-            turn, other = turn + 1, 1 - holder
-            lines += [f"Passes,{holder},{other}", f"Reads,{other},{holder},{turn},{other},{numbers[holder]}"]
-            kept[holder].append(("passed", turn))
-            kept[other].append(("took", turn))
-            holder = other
+    """Some sites send messages and pass the token to each other, and read some of that; then folder 0 is put back, and its site opens."""
+    count = dice.randint(2, 3)
+    lines = ["Files", *(f"{word},{site}" for site in range(count) for word in ("Starts", "Opens"))]
+    kept: list[list[tuple[str, int]]] = [[] for _ in range(count)]      # of each site: its messages, the turns that it passed, took
+    gave: dict[int, list[int]] = {site: [] for site in range(count)}    # the turns at which each gave the token to site 0
+    had = [0] * count                                                   # the last turn of each
+    turn, holder, passed = 0, 0, ""                                     # the last pass, while nobody has read it
+    asks: list[list[int]] = [[] for _ in range(count)]
+    read = [[0] * count for _ in range(count)]                          # how many messages each has of each other one
+    for _ in range(dice.randint(1, 14)):
+        site, other = dice.sample(range(count), 2)
+        match dice.choice(["sends", "reads", "passes", "passes", "takes"]):
+            case "sends":
+                ask = sum(map(len, asks)) + 1
+                asks[site].append(ask)
+                lines += asked(site, ask, site + 1)
+                kept[site].append(("own", ask))
+            case "reads" if read[site][other] < len(asks[other]):
+                read[site][other] += 1
+                lines.append(f"Reads,{site},{other},{read[site][other]},{asks[other][read[site][other] - 1]}")
+                kept[site].append(("other", 0))
+            case "passes" if not passed:
+                to = site if site != holder else other
+                turn, passed = turn + 1, f"{holder},{turn + 1},{to},{len(asks[holder])}"
+                lines.append(f"Passes,{holder},{to}")
+                kept[holder].append(("passed", turn))
+                gave[holder] += [turn] * (to == 0)
+                had[holder], holder = turn, to
+            case "takes" if passed:
+                lines.append(f"Reads,{holder},{passed}")
+                kept[holder].append(("took", turn))
+                had[holder], passed = turn, ""
     left = kept[0][:dice.randint(0, len(kept[0]))]
-    passed, took = (max((number for kind, number in left if kind == its), default=0) for its in ("passed", "took"))
-    held = took if took >= passed else None
-    own = sum(kind == "own" for kind, _ in left)
-    why = why_behind(0, own, {1: read[0]}) or why_passed_on(0, held, {1: turn})
-    return Drawn([*lines, "IsKilled,0", f"LosesEnd,0,{len(left)}", "MachineStarts,0", "Starts,0", "Opens,0"], why is None, may_differ=held is None)
+    last, took = (max((number for kind, number in left if kind in kinds), default=0) for kinds in (("passed", "took"), ("took",)))
+    said = [Said(site, read[site][0], had[site], gave[site][-2:]) for site in range(1, count)]
+    why = why_behind(0, sum(kind == "own" for kind, _ in left), said) or why_passed_on(0, last, took == last, said)
+    return Drawn([*lines, "IsKilled,0", f"LosesEnd,0,{len(left)}", "MachineStarts,0", "Starts,0", "Opens,0"], why is None)
 
 
 def serves(dice: random.Random) -> Drawn:
@@ -66,7 +76,23 @@ def serves(dice: random.Random) -> Drawn:
                  takes if times == 1 or first else is_called(f"{life} a", f"{own} a") and why_not_one_record(TEXTS[records]) is None)
 
 
-RULES = {"opens": opens, "serves": serves}
+def tells(dice: random.Random) -> Drawn:
+    """A site, which has a standby or hasn't, has accepted some asks, one of them with --published; some of their messages stand in its stream."""
+    site, sent, yields = Supervisor(OverServer, 1).sites[0], dice.randint(1, 4), dice.random() < 0.5
+    site.start()
+    site.yields = yields
+    stands, told, published = dice.randint(0, sent), dice.randint(1, sent), dice.random() < 0.5
+    askers, records = [], range(1, sent + 1)
+    for number in records:
+        askers.append(begun(Ask(site, 3.0, False, published).run([b"item,0.1,lamp,7,1,1,0"])))
+        site.take(b"reply,%d,ok,0.%d\nsend,msg,1,0,%d,0,%d:0,item,0.1,lamp,7,1,1,0\n" % (number, number, number, number - 1))
+    site.shop.link.counts[0] = stands
+    lines = ["Server", "Starts,0", "Opens,0", *(line for number in records for line in asked(0, number, 1)), *["Yields,0"] * yields]
+    lines += [f"Appends,0,0,{number},{number}" for number in records[:stands]]
+    return Drawn([*lines, f"{'TellsPublished' if yields or published else 'TellsOk'},0,{told},{told}"], isinstance(askers[told - 1].send(True), Say))
+
+
+RULES = {"opens": opens, "serves": serves, "tells": tells}
 
 
 def drawn(rule: str, seed: str, count: int) -> list[Drawn]:

@@ -1,11 +1,12 @@
 """One run: a shop is asked while things go wrong, then nothing goes wrong any more, and the promises are looked at."""
 
+import collections
 import functools
 import random
 from collections.abc import Iterable
 
 from shop_tool.carrier.rebuilding import Rebuild
-from shop_tool.carrier.records import Message, Token, why_not_one_record
+from shop_tool.carrier.records import ASKS, Message, Token, bare, key_in, kind_of, why_not_one_record
 from shop_tool.carrier.site import State
 from shop_tool.carrier.steps import Broken
 from shop_tool.ends import Fault
@@ -14,9 +15,10 @@ from .askers import Asker, KeyedAsker, asked
 from .disk import Folder, Machine
 from .faults import FAULTS, Faults
 from .remembered import packet_of
+from .stand_in import MOST
 from .world import Command, SimulatedSite, Supervisor, Violation, World
 
-ASKS, FAULTS_OF_A_RUN, QUESTIONS = (58, 75), (12, 18), (8, 14)
+ASKS_OF_A_RUN, FAULTS_OF_A_RUN, QUESTIONS = (58, 75), (12, 18), (8, 14)
 FAULT_SECONDS = 30.0        # how long things go wrong
 CALM_SECONDS = 240.0        # how long it may take then until all goes on
 WELL_SECONDS = 3.0          # how long it has to be well
@@ -40,6 +42,7 @@ class Run:
         self.resting: dict[str, float] = {}             # until when a machine isn't started
         self.commands: dict[str, Command] = {}
         self.to_rebuild: dict[str, list[tuple[int, str]]] = {}
+        self.to_raise: set[str] = set()                 # machines with a site that is full
         self.tries: dict[int, int] = {}
         self.tainted: dict[int, tuple[float, str]] = {}     # folders to which something happened, by their number: when, and what
         self.changed: list[tuple[Folder, list[bytes]]] = []
@@ -53,7 +56,7 @@ class Run:
     def play(self) -> None:
         """Plays it to its end; a Violation if a promise is broken."""
         plan = random.Random(f"{self.seed} plan")
-        events = [(plan.uniform(0.3, FAULT_SECONDS + 1), "ask", str(plan.random())) for _ in range(plan.randint(*ASKS))]
+        events = [(plan.uniform(0.3, FAULT_SECONDS + 1), "ask", str(plan.random())) for _ in range(plan.randint(*ASKS_OF_A_RUN))]
         events += [(plan.uniform(1, FAULT_SECONDS), plan.choices(list(FAULTS), list(FAULTS.values()))[0], str(plan.random()))
                    for _ in range(plan.randint(*FAULTS_OF_A_RUN))]
         events += [(plan.uniform(0.3, FAULT_SECONDS), "question", str(plan.random())) for _ in range(plan.randint(*QUESTIONS))]
@@ -102,7 +105,7 @@ class Run:
         if self.copies and dice.random() < 0.25:
             supervisor = dice.choice(self.copies)
         records = asked(dice, number, world.sites, self.asked)
-        if dice.random() < 0.3 and not why_not_one_record(records[0]):
+        if dice.random() < 0.3 and kind_of(records[0]) in ASKS and not why_not_one_record(records[0]):
             def here() -> Supervisor | None:
                 return self.supervisors.get(at.name)
             self.askers.append(KeyedAsker(world, here, site, records[0], dice))
@@ -142,6 +145,9 @@ class Run:
                 self._look_at(supervisor)
             elif self.to_rebuild.get(machine.name):
                 self._mend(machine, *self.to_rebuild[machine.name].pop())
+            elif machine.name in self.to_raise:
+                self.to_raise.remove(machine.name)
+                self._raise(machine)
             elif world.is_calm or world.dice.random() < 0.4:
                 self._start(machine)
         world.clock.after(0.5 if world.is_calm else 0.5 + world.dice.random(), self._operate)
@@ -161,6 +167,9 @@ class Run:
                 supervisor.machine.here.remove(site.number)
                 self.world.steps.lost(site.folder)
             return
+        if not sick and not supervisor.is_leaving and self._is_small(supervisor):
+            supervisor.stop()
+            self.to_raise.add(supervisor.machine.name)
         if sick and not supervisor.is_leaving and (self.world.is_calm or self.world.dice.random() < 0.3):
             supervisor.stop()
             self.to_rebuild[supervisor.machine.name] = [(site.number, site.fenced_by or "") for site in sick]
@@ -184,6 +193,17 @@ class Run:
         machine.folders[number].files.pop("out", None)
         self.world.steps.lost_end(machine.folders[number])
 
+    def _is_small(self, supervisor: Supervisor) -> bool:
+        """Whether its sites have to keep more: one is full, and an operator has seen that; or one doesn't keep all that is asked at last."""
+        up = [site for site in supervisor.sites.values() if site.up.is_set]
+        if self.world.is_calm:
+            return any(site.folder.keep < MOST for site in up)
+        return any(site.keeper and site.keeper.site.is_full for site in up) and self.world.dice.random() < 0.1
+
+    def _raise(self, machine: Machine) -> None:
+        self.world.note("IsRaised")
+        machine.raise_keep(MOST if self.world.is_calm else 2 * machine.keep)
+
     def _rebuild(self, machine: Machine, number: int) -> None:
         world, command = self.world, Command(self.world, machine)
         self.tries[number] = self.tries.get(number, 0) + 1
@@ -197,6 +217,8 @@ class Run:
             self.may_be_lost = self.may_be_lost or anyway
             if fault and not isinstance(fault, (Fault, Broken)):
                 raise fault
+            if isinstance(fault, Fault) and "Full" in fault.text:
+                self._raise(machine)
             self.note_losses()
         command.spawn(rebuild.over_server() if world.is_over_server else rebuild.over_files(), ended)
 
@@ -236,8 +258,6 @@ class Run:
         """Something happened to these folders; they aren't whole any more, unless that is said."""
         for folder in folders:
             self.world.note(what)
-            self.world.lost_keys |= {number for machine in [*self.world.machines, folder.machine] for number, its in machine.folders.items()
-                                     if its is folder}
             self.tainted[folder.inode] = self.world.clock.now, what
             folder.is_whole = folder.is_whole and is_whole
         self.note_losses()
@@ -362,6 +382,8 @@ class Run:
                 raise Violation(f"{told.record!r} was told ok,{told.id}, and was accepted as {sorted(accepted)}")
         if self.why_excused():
             return
+        if wrong := next((asker.wrong for asker in self.askers if isinstance(asker, KeyedAsker) and asker.wrong), None):
+            raise Violation(wrong)
         logs = {site.number: site.keeper.site for site in self._sites() if site.keeper}
         texts = {number: {text for _, text in site.log} for number, site in logs.items()}
         if any(site.release.waiting for site in logs.values()):
@@ -369,7 +391,10 @@ class Run:
         if len({frozenset(log) for log in texts.values()}) > 1:
             common = set.intersection(*texts.values())
             raise Violation(f"the logs differ: { {number: sorted(log - common)[:3] for number, log in texts.items()} }")
+        under = collections.Counter((key, message.red > 0) for message, text in logs[0].log if (key := key_in(text)))
+        if twice := [key for key, count in under.items() if count > 1]:
+            raise Violation(f"two asks were accepted under one key: {twice}, in {[text for _, text in logs[0].log if key_in(text)]}")
         ids = {(message.origin, message.number): message.shadow for message, _ in logs[0].log}
         for told in (told for asker in self.askers for told in asker.told if told.what == "ok"):
-            if told.id and world.text_of[told.record] not in world.lost and ids.get(told.id) != world.text_of[told.record].split(b",", 6)[6]:
+            if told.id and world.text_of[told.record] not in world.lost and ids.get(told.id) != bare(world.text_of[told.record]).split(b",", 6)[6]:
                 raise Violation(f"{told.record!r} was told ok,{told.id}, and there the logs have {ids.get(told.id)!r}")

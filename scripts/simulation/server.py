@@ -95,15 +95,15 @@ class Server:
                 for site, status in statuses.items():
                     said = status | {"told": by.clock.now, "by": by.named_of(site)}
                     self.said[site] = self.clock.now + STATUS_SECONDS, said
-                return [stream.last[0] for stream in self.streams], list(self.marks)
+                return [stream.last[0] for stream in self.streams], list(self.marks), ()
             case Hear(after):
                 return [(b"%d" % number, fields) for number, fields in self.wants[bisect_right(self.wants, int(after), key=number_of):]]
             case Owner(site):
                 return self.owners[site]
             case Sites(_):
                 return self.sites
-            case Adopt(site, before, is_fresh):
-                if self.owners[site] != before:
+            case Adopt(site, before, is_fresh, life):
+                if self.owners[site] != before or self.lives[site] != life:
                     return False
                 self._set("owners", site, by.owner_text(site, is_fresh))
                 self._set("yields", site, f"none {by.world.new_number()}")
@@ -171,7 +171,7 @@ class Server:
         if self.streams[site].last != last or self.said.get(site, (0.0, {}))[0] > self.clock.now or not self.lives[site] == self.yields[site] == life:
             return False
         assert by.made
-        by.made.lives = placed([], count_of(life), f"{by.world.new_number():x}")
+        by.made.lives = placed([], count_of(life) + 1, f"{by.world.new_number():x}")
         for name, text in (("lives", now := life_text(by.made.lives)), ("yields", now), ("owners", by.owner_text(site, True))):
             self._set(name, site, text)
         if self.standbys[site] == by.machine.name:

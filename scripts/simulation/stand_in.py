@@ -4,13 +4,14 @@ import functools
 import re
 from collections.abc import Iterator
 
-from shop_tool.carrier.records import Message, Token
+from shop_tool.carrier.records import BYTES_OF_A_RECORD, Message, Token, bare, key_in
 from shop_tool.carrier.release import Release
 from traffic import FIELDS, ID, KINDS, NUMBER, RED, Rows, form_of
 
 from .remembered import packet_of
 
 MOST = 1_000_000
+KEY_ROOM = 517          # how much longer a line may be that begins with a key
 _NUMBER = NUMBER.encode()
 _ASKS = {kind.encode(): form_of(kind, it.asked) for kind, it in KINDS.items()}
 _SHADOWS = {kind.encode(): form_of(kind, it.told) for kind, it in KINDS.items()}
@@ -71,18 +72,29 @@ def is_message(message: Message, version: int, sites: int) -> bool:
             and max(message.red, *message.deps) <= MOST)
 
 
-class StandIn:
-    """A site: what it has released, what waits, the rows that decide, and the token."""
+def asked_part(kind: str, *fields: str) -> tuple[str, ...]:
+    """What of an ask, or of what a message does, tells it from another ask: not who closes or restocks an item, nor what that comes to."""
+    count = {"close": 1}.get(kind, len(fields))
+    return kind, *(fields[::len(fields) - 1] if kind in ("restock", "rename") else fields[:count])
 
-    def __init__(self, site: int, sites: int) -> None:
-        self.site, self.sites = site, sites
+
+class StandIn:
+    """A site: what it has released, what waits, under which keys, the rows that decide, and the token."""
+
+    def __init__(self, site: int, sites: int, keep: int = MOST) -> None:
+        self.site, self.sites, self.keep = site, sites, keep
         self.records = 0
         self.release: Release[Message] = Release(sites)
         self.log: list[tuple[Message, bytes]] = []          # the messages that it has released, with their texts
         self.rows = Rows()
         self.texts: dict[tuple[int, int], bytes] = {}
+        self.known: dict[tuple[bytes, bool], tuple[bytes, tuple[str, ...]]] = {}    # the first message under each key, red and blue ones apart
         self.issued: int | None = 0 if site == 0 else None  # red numbers, if it holds the token
         self.turn = 0
+
+    @property
+    def is_full(self) -> bool:
+        return len(self.log) + len(self.release.waiting) >= self.keep
 
     def answer(self, record: bytes) -> bytes:
         """The lines of its answer."""
@@ -94,8 +106,8 @@ class StandIn:
         return b"reply,%d,%b\n" % (self.records, said)
 
     def _answer(self, record: bytes) -> bytes:
-        found = read(record)
-        if not found:
+        key, found = key_in(record), read(bare(record))
+        if not found or key and found[0] in (b"list", b"pass"):
             raise Refused(1, "BadRecord")
         kind, fields = found
         match kind:
@@ -108,15 +120,21 @@ class StandIn:
             case b"token":
                 return self._token(record)
         ask = [kind.decode(), *(field.decode() for field in fields)]
+        if not in_limits(KINDS[ask[0]].asked, tuple(ask[1:]), self.sites):
+            raise Refused(1, "BadRecord")
+        if known := self.known.get((key, ask[0] in RED)):
+            if known[1] != asked_part(*ask):
+                raise Refused(40, "KeyTaken")
+            return b"again," + known[0]
         self._check(ask)
         shadow = self.rows.shadow(ask)
-        return self._made(record if shadow == ask else ",".join(shadow).encode(), ask[0])
+        return self._made(key, bare(record) if shadow == ask else ",".join(shadow).encode(), ask[0])
 
     def _check(self, ask: list[str]) -> None:
         """Refuses an ask, by the first refusal that holds."""
-        kind, *fields = ask
-        if not in_limits(KINDS[kind].asked, tuple(fields), self.sites):
-            raise Refused(1, "BadRecord")
+        kind = ask[0]
+        if self.is_full:
+            raise Refused(2, "Full")
         if kind in RED:
             if self.issued is None:
                 raise Refused(3, "NoToken")
@@ -125,17 +143,17 @@ class StandIn:
         if name := self.rows.refusal(ask):
             raise Refused(_CODES[name], name)
 
-    def _made(self, shadow: bytes, kind: str) -> bytes:
+    def _made(self, key: bytes, shadow: bytes, kind: str) -> bytes:
         red = 0
         if kind in RED:
             red = self.release.reds + 1
             self.issued = red
         number = self.release.counts[self.site] + 1
         deps = b":".join(b"%d" % count for count in self.release.counts)
-        text = b"msg,%d,%d,%d,%d,%b,%b" % (KINDS[kind].version, self.site, number, red, deps, shadow)
+        text = b"%bmsg,%d,%d,%d,%d,%b,%b" % (key, KINDS[kind].version, self.site, number, red, deps, shadow)
         message = packet_of(text)
         assert isinstance(message, Message)
-        self.texts[self.site, number] = text
+        self._note(message, text)
         for released in [message, *self.release.made(message)]:
             self._release(released)
         return b"ok,%d.%d\nsend,%b" % (self.site, number, text)
@@ -150,11 +168,21 @@ class StandIn:
             raise Refused(20, "NotOurs")
         if is_here:
             return b"repeat"
-        self.texts[name] = record
+        if self.is_full:
+            raise Refused(2, "Full")
+        self._note(message, record)
         released = self.release.arrive(message)
         for each in released:
             self._release(each)
         return b"released,%d" % len(released) if released else b"held"
+
+    def _note(self, message: Message, text: bytes) -> None:
+        """A message is made here, or comes; from now on its key is known."""
+        self.texts[message.origin, message.number] = text
+        shadow = shadow_of(message.shadow, self.sites)
+        assert shadow
+        if key := key_in(text):
+            self.known.setdefault((key, message.red > 0), (b"%d.%d" % message[:2], asked_part(*shadow)))
 
     def _release(self, message: Message) -> None:
         name = f"{message.origin}.{message.number}"
@@ -186,4 +214,5 @@ def records_of(line: bytes) -> Iterator[bytes]:
     """What a keeper takes a line of its input for: none if it is empty, and `broken` if it can't be a record by itself."""
     if not line:
         return
-    yield b"broken" if line.startswith(b"\xef") or len(line) > 4096 or line.count(b'"') % 2 else line
+    most = BYTES_OF_A_RECORD + KEY_ROOM * line.startswith(b"key,")
+    yield b"broken" if line.startswith(b"\xef") or len(line) > most or line.count(b'"') % 2 else line

@@ -6,11 +6,11 @@ from unittest import mock
 
 from shop_tool.carrier.asking import Ask
 from shop_tool.carrier.files import Files
-from shop_tool.carrier.keys import Keys
 from shop_tool.carrier.lives import Standing
 from shop_tool.carrier.opening import must_hear_all
 from shop_tool.carrier.over_server import ServerLink
-from shop_tool.carrier.records import Purpose, why_not_one_record
+from shop_tool.carrier.rebuilding import Given
+from shop_tool.carrier.records import Purpose, bare, why_not_one_record
 from shop_tool.carrier.shop import Shop
 from shop_tool.carrier.site import Site
 from shop_tool.carrier.sums import compared
@@ -20,6 +20,7 @@ from .world import Rules
 # Where records are looked at before a site is given them.
 LOOKS = ("shop_tool.carrier.site", "shop_tool.carrier.shop", "shop_tool.requests")
 
+feed, stands = Shop.feed, Ask._stands
 
 # What is replaced of the carrier, or of the harness, where a rule is taken out.
 RULES: dict[str, list[Any]] = {
@@ -36,8 +37,10 @@ RULES: dict[str, list[Any]] = {
     "9-lives": [mock.patch(f"shop_tool.carrier.{name}.standing", lambda *_: Standing.NEXT) for name in ("publisher", "over_files")],
     "11": [mock.patch.object(Rules, "hands_over", False)],
     "hear": [mock.patch("shop_tool.carrier.publisher.must_hear_all", lambda is_forgotten, *more: is_forgotten and must_hear_all(is_forgotten, *more))],
-    "keys-read": [mock.patch.object(Keys, "read", lambda *_: None)],
-    "keys-given": [mock.patch.object(Keys, "find", lambda keys, name, _: key if (key := keys._keys.get(name)) and key.is_answered else None)],
+    "packet-key": [mock.patch.object(Shop, "feed", lambda shop, site, packets: feed(shop, site, [*map(bare, packets)]))],
+    "rebuilt-key": [mock.patch("shop_tool.carrier.rebuilding.Given", lambda record, packet: Given(bare(record), packet and bare(packet)))],
+    "again-stands": [mock.patch.object(Ask, "_stands", lambda ask, answer, is_last: iter(()) if answer.kind == b"again" or answer.refusal == "KeyTaken"
+                                       else stands(ask, answer, is_last))],
     "told-number": [mock.patch.object(Site, "numbered", lambda site: ((pending, site.ledger.records + 1) for pending in site.line))],
     "standby-told": [mock.patch.object(Ask, "_stands", lambda *_: iter(()))],
     "turns": [mock.patch("shop_tool.carrier.shop.why_passed_on", lambda *_: None)],

@@ -8,14 +8,13 @@ from collections.abc import Callable
 from typing import Any
 
 from shop_tool.carrier.asking import Ask
-from shop_tool.carrier.ledger import packets_of, sends_of, tokens_of
+from shop_tool.carrier.ledger import kept_in, sends_of
 from shop_tool.carrier.lives import life_text, placed
-from shop_tool.carrier.opening import HEARD_SECONDS
+from shop_tool.carrier.opening import HEARD_SECONDS, said_in_status
 from shop_tool.carrier.over_files import FileLink
 from shop_tool.carrier.over_server import ServerLink
-from shop_tool.carrier.publisher import greatest_said
 from shop_tool.carrier.rebuilding import UNCHANGED
-from shop_tool.carrier.records import Purpose, text_of
+from shop_tool.carrier.records import Message, Purpose, bare, key_in, text_of
 from shop_tool.carrier.shop import HAND_OVER_SECONDS, Shop
 from shop_tool.carrier.site import FIRST_WAIT, LAST_WAIT, Disagreement, Pending, Site, State
 from shop_tool.carrier.steps import State as StateOf
@@ -28,13 +27,15 @@ from shop_tool.ends import Fault, Status
 from shop_tool.requests import Request, asks_of
 
 from .clock import Clock, Task
-from .disk import File, Folder, Keeper, Machine
+from .disk import Folder, Keeper, Machine
 from .model import Steps as ModelSteps
+from .remembered import packet_of
 from .server import WRITES, Server
-from .stand_in import StandIn
+from .stand_in import MOST, StandIn
 
 OVER = (StateOf, Read, Tell, Hear, Owner, Append, Connect)      # some steps over the server, the most frequent ones
 STOP_SECONDS, END_SECONDS, LAST_SECONDS, LOOK_SECONDS = 30.0, 3.0, 2.0, 1.0
+FEW = 10, 60        # how many messages each site keeps of a shop whose sites are to be full
 
 
 class Violation(Exception):
@@ -57,6 +58,8 @@ class World:
         self.sites = self.dice.choice([2, 2, 3, 3, 4, 5])
         self.is_over_server = self.dice.random() < 0.65
         self.is_synced = self.dice.random() < 0.4
+        keep = random.Random(f"{seed} keep")
+        self.keep = keep.randint(*FEW) if keep.random() < 0.15 else MOST    # how many messages each site keeps at first
         self.server = Server(self.clock, self.sites, self.dice.random() < 0.4)
         self.machines = self._machines()
         self.steps = ModelSteps(self)       # the run as a list of the model's steps
@@ -72,14 +75,12 @@ class World:
         self.yielding: set[bytes] = set()   # packets that a folder sent while it yielded to a standby: they count once they stand in a stream
         self.text_of: dict[bytes, bytes] = {}                       # the message that each ask became
         self.numbers_of: dict[bytes, int] = {}      # which of its site's records each of these was
-        self.keyed: dict[bytes, int] = {}           # the sites of asks that are asked again under keys
-        self.lost_keys: set[int] = set()            # sites of which a folder lost something, and so maybe keys
         self.lost: set[bytes] = set()                               # messages of which nothing whole was left
         self.excused: set[tuple[int, int]] = set()  # ids, and turns as negative numbers, that were given twice as they may be
         self.is_unreached = False           # a site was opened of which a folder has more that couldn't be reached
         self.turn = (0, 0, 0)                                       # of the last token, from and to which site
         self.passes: dict[int, bytes] = {}                          # the last token of each turn
-        self.passed_by: dict[int, int] = {}                         # which site passed it
+        self.passed_by_copies: set[bytes] = set()                   # those that a copy of a folder passed, as long as it ran
 
     def _machines(self) -> list[Machine]:
         if not self.is_over_server or self.dice.random() < 0.15:
@@ -113,9 +114,9 @@ class World:
         letter."""
         self.counts[word] += times
 
-    def knows_keys(self, site: int) -> bool:
-        """Whether nothing was taken from a folder of a site that had its keys, and no standby, which has none, took its place."""
-        return site not in self.lost_keys | self.taken_over and not self.excused
+    def is_gone(self, text: bytes) -> bool:
+        """Whether a message is lost, or may be out of the reach of a site: then its key may be used again."""
+        return text in self.lost or bool(self.excused) or self.is_unreached or not self._is_anywhere(text)
 
     def _is_anywhere(self, text: bytes) -> bool:
         """Whether a folder or a stream has a message."""
@@ -125,7 +126,7 @@ class World:
 
     def note_brought_back(self, older: Folder) -> None:
         """A folder is put back to a copy: notes whether that has packets that nothing else has any more, and that no site could see."""
-        packets = [line[:-1] for line in older.lines("kept") if line.startswith((b"msg,", b"token,"))] + older.sent()
+        packets = [line[:-1] for line in older.lines("kept") if packet_of(line[:-1])] + older.sent()
         self.is_unreached = self.is_unreached or not all(map(self._is_anywhere, packets))
 
     def _is_silent(self, machine: Machine, site: int) -> bool:
@@ -134,22 +135,16 @@ class World:
                        and site in supervisor.sites and supervisor.sites[site].compared.is_set and not supervisor.sites[site].fenced_by
                        for supervisor in self.supervisors())
 
-    def note_unreached(self, number: int, seen: list[Folder], opens: StandIn, known: int) -> None:
-        """A site is opened whose supervisor knows of this turn of the token: notes whether a folder has more of it that can't be reached, or
-        has had the token since. Those that it had to see, its own and those beside it, were looked at before, and excuse nothing."""
-        own, held = opens.release.counts[number], opens.turn if opens.issued is not None else None
+    def note_unreached(self, number: int, seen: list[Folder], own: int) -> None:
+        """A site is opened with that many messages: notes whether a folder has more of it whose site can't say so. Those that it had to see, its
+        own and those beside it, were looked at before, and excuse nothing."""
         for machine in self.machines:
             for site, folder in machine.folders.items():
                 if folder.yields and site == number:
                     continue        # it told ok only of what stands in the stream
-                if folder not in seen and not self.is_unreached:
-                    sent = sum(text.startswith(b"msg,") for text in folder.sent()) if site == number else 0
-                    turns = turns_of(folder)
-                    self.is_unreached = max(sent, greatest_of(folder, number)) > own or held is not None and max(turns, default=0) > held
-                    # Where a later turn is known, a token that came before isn't taken again.
-                    passed = max((turn for turn in turns if self.passed_by.get(turn) == number), default=0)
-                    if passed > max(known, opens.turn + 1) and self._is_silent(machine, site):
-                        self.is_unreached = True
+                if folder not in seen and self._is_silent(machine, site):
+                    sent = sum(not text.startswith(b"token,") for text in folder.sent()) if site == number else 0
+                    self.is_unreached = self.is_unreached or max(sent, greatest_of(folder, number)) > own
 
     def answered(self, keeper: Keeper, record: bytes, said: bytes) -> None:
         """A site has answered a record."""
@@ -163,7 +158,7 @@ class World:
                 self.note("Accepts")
                 self.accepted.setdefault(record, set()).add(name)
                 self.numbers_of[record] = int(fields[1])
-                if len(self.accepted[record]) > 1 and (record not in self.keyed or self.knows_keys(site)):
+                if len(self.accepted[record]) > 1 and not key_in(record):
                     raise Violation(f"one ask was accepted twice: {record!r} as {sorted(self.accepted[record])}")
                 if (before := self.made.get(name, text)) != text and before not in self.yielding:
                     if self._is_anywhere(before):
@@ -179,26 +174,33 @@ class World:
                 self.note("Passes")
                 if turn > self.turn[0]:
                     self.turn = turn, site, to
-                if (before := self.passes.get(turn, text)) != text and before not in self.yielding and self._is_anywhere(before):
+                is_known = (before := self.passes.get(turn, text)) in self.passed_by_copies or self._is_anywhere(before)
+                if before != text and before not in self.yielding and is_known:
                     self.excused.add((site, -turn))
-                self.passes[turn], self.passed_by[turn] = text, site
+                self.passes[turn] = text
+                if not any(keeper.folder is folder for machine in self.machines for folder in machine.folders.values()):
+                    self.passed_by_copies.add(text)
                 if keeper.folder.yields:
                     self.yielding.add(text)
             case b"holding" | b"released" | b"held":
                 self.note("Reads")
+            case b"again":
+                self.note("again")
             case b"refused":
                 self.note("Refuses")
+                self.note("full", fields[4] == b"Full")
+                self.note("key-taken", fields[4] == b"KeyTaken")
 
 
 def greatest_of(folder: Folder, site: int) -> int:
     """The greatest number of a site's message in a folder's `kept`, in front of the first line that was changed."""
-    whole = (line for line in folder.unchanged() if line.startswith(b"msg,1,%d," % site) and line.endswith(b"\n"))
-    return max((int(line.split(b",", 4)[3]) for line in whole), default=0)
+    packets = (packet_of(line[:-1]) for line in folder.unchanged() if line.endswith(b"\n"))
+    return max((packet.number for packet in packets if isinstance(packet, Message) and packet.origin == site), default=0)
 
 
 def turns_of(folder: Folder) -> list[int]:
     """The turns of the tokens there."""
-    return [int(text.split(b",")[2]) for text in tokens_of(folder.unchanged())]
+    return [int(text.split(b",")[2]) for text in folder.unchanged() if text.startswith(b"token,") and text.endswith(b"\n")]
 
 
 class SimulatedSite(Site):
@@ -209,10 +211,16 @@ class SimulatedSite(Site):
         super().__init__(shop, number, lambda pieces: self.folder.read_out(pieces), lambda name: self.folder.look(name))
         self.keeper: Keeper | None = None
         self.output = Signal()
+        self.is_unseen: bool = False    # it was opened while its stream couldn't be seen
+        self.looked: dict[int, str] | None = None   # who said how each site is when it was last looked, before it opened, at what they have of it
 
     @property
     def folder(self) -> Folder:
         return self.machine.folders[self.number]
+
+    def hears(self, number: int, status: dict[str, Any]) -> bool:
+        """Whether its start knows this status: what is said only after the look comes too late for that."""
+        return self.looked is None or self.looked.get(number) == status["by"]
 
     def write(self, data: bytes) -> None:
         if self.keeper:
@@ -242,15 +250,6 @@ class SimulatedSite(Site):
             self.shop.world.note("fenced")
             self.shop.fenced.append((self.number, text))
         super().fence(text, outlasts)
-
-    def write_keys(self, lines: bytes) -> None:
-        file = self.folder.file("keys")
-        file.data += lines
-        if self.shop.world.is_synced:
-            file.synced = len(file.data)
-
-    def put_keys(self, lines: bytes) -> None:
-        self.folder.files["keys"] = File(self.shop.world.new_number(), lines)
 
     def open_sums(self) -> None:
         """As the shell's: takes in the sums of `kept`; stops the site for good if a line isn't as its sum says."""
@@ -385,8 +384,7 @@ class Process:
         folder = self.machine.folders.get(keeper)
         if not folder or not folder.is_there or "kept" not in folder.files:
             return None
-        lines = folder.unchanged()
-        return list(packets_of(lines, origin, after)), tokens_of(lines)
+        return kept_in(folder.unchanged(), folder.lines("out"), origin, after)
 
     def takes_over(self, site: int) -> None:
         """Puts the folder that was made in the place of a site elsewhere."""
@@ -402,7 +400,7 @@ class Process:
     def replay(self, number: int, records: list[Any]) -> None:
         """Has a fresh folder beside a site's folder that is given these records."""
         made = Folder(self.world, self.machine)
-        site = StandIn(number, self.world.sites)
+        site = StandIn(number, self.world.sites, made.keep)
         kept, out = made.file("kept"), made.file("out")
         for given in records:
             said = site.answer(given.record)
@@ -448,7 +446,7 @@ class Process:
         if isinstance(step, Connect):
             task.connection = server.times if self.reaches() else None
             return task.answer()
-        if isinstance(step, Append):
+        if isinstance(step, (Append, Rewrite)):
             self.world.steps.sends(self.machine, [text for _, text in step.packets])
         if isinstance(step, WRITES) and not self.world.is_calm and dice.random() < 0.004:
             self.world.note("late")
@@ -505,7 +503,7 @@ class Process:
                     self.world.steps.appends(self.machine, text)
             case SayYields(site, _, life) if said:
                 self.world.steps.yields(site, bool(life))
-            case Adopt(site, _, _) if said:
+            case Adopt(site, _, _, _) if said:
                 self.world.steps.yields(site, False)
             case SeeLife(site, _, life, _) if said and self.world.server.yields[site] != life:
                 self.world.steps.yields(site, False)
@@ -638,13 +636,13 @@ class Supervisor(Process, Shop):
         self.world.steps.starts(folder, life_text(site.lives))
         site.open_sums()
         site.yields = folder.yields
-        site.keys.read(folder.lines("keys"), self.unix_time())
         has_all = answered is not None and "kept" in folder.files and len(folder.files["kept"].data) >= answered
         if folder.fenced:
-            site.fence(folder.fenced)
+            site.fence(folder.fenced, outlasts=True)
         self.begin_site(site, answered if has_all else None)
 
     def _opened(self, site: Site, answered: int) -> None:
+        self.sites[site.number].is_unseen = isinstance(self.link, SimulatedServerLink) and self.link.is_unseen(site)
         super()._opened(site, answered)
         if site.up.is_set and not site.fenced_by:
             self.world.steps.opens(self.sites[site.number].folder)
@@ -682,7 +680,7 @@ class Supervisor(Process, Shop):
                 raise Violation(f"site {site.number} is opened with {messages} messages, and site {other.number} beside it has {has}")
             if held is not None and (turn := max(turns_of(other.folder), default=0)) > held:
                 raise Violation(f"site {site.number} is opened with the token of turn {held}, and site {other.number} beside it has had that of {turn}")
-        self.world.note_unreached(site.number, seen, keeper.site, self.wants.turn)
+        self.world.note_unreached(site.number, seen, messages)
         own = dict(sends_of(keeper.folder.lines("out")))
         if not isinstance(self.link, SimulatedServerLink) or not self.reaches() or f"publish {site.number}" in self.link.down:
             return
@@ -690,8 +688,10 @@ class Supervisor(Process, Shop):
             if place[0] > messages or place in own and own[place] != text:
                 raise Violation(f"site {site.number} is opened with {messages} messages, and its stream has {text!r} at {place}")
         for number, (until, said) in self.world.server.said.items():
-            if number not in self.sites and until > self.clock.now and greatest_said(said, site.number) > messages:
-                raise Violation(f"site {site.number} is opened with {messages} messages, and site {number} says that it has {said['has']}")
+            its = said_in_status(said, number, site.number)
+            is_heard = until > self.clock.now and number != site.number and self.sites[site.number].hears(number, said)
+            if is_heard and (its.greatest > messages or held is not None and its.turn > held):
+                raise Violation(f"site {site.number} is opened with {messages} messages and the token of turn {held}, and site {number} says {its}")
 
     def _look_at_those_that_ran_on(self, site: Site, opens: StandIn) -> None:
         """The server came back a moment ago, and may have lost its end: a site whose folder may lack something is opened only once the sites
@@ -732,8 +732,8 @@ class Supervisor(Process, Shop):
         server, is_over_server = self.world.server, self.world.is_over_server
         said: Any = None
         match step:
-            case Say(record, answer, is_again):
-                self.world.steps.says(self.sites.values(), record, answer, is_again)
+            case Say(record, answer):
+                self.world.steps.says(record, answer)
                 if task.hear:
                     task.hear(record, answer)
             case SeeHere(site, life):
@@ -755,6 +755,11 @@ class Supervisor(Process, Shop):
             case _:
                 return super().do(task, step)
         task.answer(said)
+
+    def _note(self, step: tuple[Any, ...], said: Any) -> None:
+        if isinstance(step, StateOf) and step.site in self.sites and not self.sites[step.site].opened.is_set:
+            self.sites[step.site].looked = {number: status["by"] for number, status in self.world.server.do(self, Statuses()).items()}
+        super()._note(step, said)
 
     def took_over(self, site: int) -> None:
         if site not in self.machine.here:
@@ -808,7 +813,7 @@ class Supervisor(Process, Shop):
         ask = Ask(site, request["timeout"], asked.fetches_token, asked.published)
         steps.serves(site.folder, asks, asked.records)
         try:
-            yield from steps.asking(asks, ask, ask.run(asked.records, asked.names))
+            yield from steps.asking(asks, ask, ask.run(asked.records))
         except Fault as fault:
             steps.says_fault(site.folder, asks[ask.answered:], fault.text)
             raise
@@ -906,7 +911,7 @@ class Supervisor(Process, Shop):
 
 
 def heard(answers: list[dict[str, Any]], record: bytes, answer: Any) -> None:
-    answers.append({"record": text_of(record), "lines": [text_of(line) for line in answer.lines]})
+    answers.append({"record": text_of(bare(record)), "lines": [text_of(line) for line in answer.lines]})
 
 
 class Command(Process):

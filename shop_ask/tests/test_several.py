@@ -52,14 +52,14 @@ class Asks(unittest.IsolatedAsyncioTestCase):
             heard.append((yield Wait(was)))
             heard.append((yield Wait(signal, 60.0)))
             yield Say(b"user,ann", OK)
-            yield Say(b"user,\xff", OK, True)
+            yield Say(b"key,k,user,\xff", OK)
         self.ask(steps)
         self.assertEqual((await self.said(), list(self.several.serving)), ([], [7]))
         signal.tell()
         self.assertEqual(heard, [True])             # what tells it isn't held up by what comes of it
         lines = [line.decode() for line in OK.lines]
         self.assertEqual(await self.said(), [{"call": 7, "record": "user,ann", "lines": lines},
-                                             {"call": 7, "record": "user,\udcff", "lines": lines, "again": True}, {"call": 7, "end": True}])
+                                             {"call": 7, "record": "user,\udcff", "lines": lines}, {"call": 7, "end": True}])
         self.assertEqual((heard, self.several.serving), ([True, True], {}))
 
     async def test_its_time_is_over(self) -> None:

@@ -4,16 +4,13 @@ from collections.abc import Sequence
 
 from ..ends import Fault, Status
 from .answers import Answer
-from .keys import TAKEN, Key
-from .records import RED, Message, kind_of, packet_of
+from .records import RED, UNDECIDED, Message, key_in, kind_of, packet_of
 from .site import Gone, Pending, Site, State
 from .steps import Say, Steps, Wait
-from .told import counts_unknown, not_given, under_key
+from .told import counts_unknown, not_given
 
 WINDOW = 64         # how many records of one asker are with the site at once, where that changes no answer
 ASK_AGAIN = 1.0     # seconds
-
-Name = bytes | None     # the key of a record, if it has one
 
 
 class Ask:
@@ -23,8 +20,7 @@ class Ask:
         self.site, self.seconds, self.fetches_token = site, seconds, fetches_token
         self.published = published      # ok is said only once the message is where the others find it, so that the loss of this disk keeps it
         self.until = site.shop.now() + seconds
-        self.names: Sequence[Name] = ()
-        self.keys: list[Key] = []       # those that this asker is at
+        self.records: Sequence[bytes] = ()
         self.answered = 0
         self.was_refused = False        # the record that is asked was answered NoToken or RedBehind
 
@@ -32,10 +28,9 @@ class Ask:
     def left(self) -> float:
         return max(self.until - self.site.shop.now(), 0.001)
 
-    def run(self, records: list[bytes], names: Sequence[Name] = ()) -> Steps[None]:
-        """Asks them all, those that have keys under these. A Fault says what is known of the rest when the time is over, or the site is
-        gone."""
-        self.names = names = names or [None] * len(records)
+    def run(self, records: list[bytes]) -> Steps[None]:
+        """Asks them all. A Fault says what is known of the rest when the time is over, or the site is gone."""
+        self.records = records
         if not self.site.opened.is_set and not (yield Wait(self.site.opened, self.left)):
             if not self.site.up.is_set:
                 raise self._no_answer(None)
@@ -43,51 +38,34 @@ class Ask:
                         f"({self.site.shop.link.state}); {self._not_given()}")
         try:
             while (at := self.answered) < len(records):
-                name = names[at]
-                if name and (yield from self._was_asked(records[at], name)):
-                    continue
-                end = self._window_end(records, at)
-                yield from self._ask(records[at:end], names[at:end])
+                if answer := self._answer_of_before(records[at]):
+                    yield from self._say(records[at], answer)
+                else:
+                    yield from self._ask(records[at:self._window_end(records, at)])
         except Gone as gone:
             raise Fault(gone.status, f"{gone.why}; {gone.unknown or self._not_given()}") from None
 
-    def _key(self, name: Name) -> Key | None:
-        return self.site.keys.find(name, self.site.shop.unix_time()) if name else None
-
-    def _was_asked(self, record: bytes, name: bytes) -> Steps[bool]:
-        """Says the answer that an ask under this key got before, or that another asker gets now; False once the key is free."""
-        site = self.site
-        while key := self._key(name):
-            if site.has_lost_files() or site.shop.stopping.is_set:
-                raise site.gone()
-            if not key.is_of(record):
-                yield from self._say(record, TAKEN)
-                return True
-            if key.is_answered:
-                yield from self._say(record, key.answer(site.read_out), is_again=True)
-                return True
-            if not (yield Wait(key.changed, self.left)):
-                raise self._no_answer(None)
-        return False
+    def _answer_of_before(self, record: bytes) -> Answer | None:
+        """What a version of before, which wrote keys down beside the site, has answered under its key."""
+        return self.site.old_keys.answer(record, self.site.shop.unix_time()) if self.site.old_keys else None
 
     def _window_end(self, records: list[bytes], at: int) -> int:
-        """Several are given at once only where none can be answered NoToken or RedBehind, after which it is asked again; and only where no
-        key is known already, or where none has one."""
-        site, names = self.site, self.names
+        """Several are given at once only where none can be answered NoToken or RedBehind, after which it is asked again."""
+        site = self.site
         any_kind = not self.fetches_token or (site.ledger.holds_token and not site.is_passing and site.hold.used_since is not None)
         end = at + 1
         while end < len(records) and end - at < WINDOW and (any_kind or not {kind_of(records[end]), kind_of(records[end - 1])} & RED):
-            name = names[end]
-            if (name is None) != (names[at] is None) or name and (name in names[at:end] or self._key(name)):
+            if self._answer_of_before(records[end]):
                 break
             end += 1
         return end
 
-    def _ask(self, window: list[bytes], names: Sequence[Name]) -> Steps[None]:
-        site, now = self.site, self.site.shop.unix_time()
+    def _ask(self, window: list[bytes]) -> Steps[None]:
+        site = self.site
+        if any(map(key_in, window)):
+            yield from self._all_know_keys()
         is_red = any(kind_of(record) in RED for record in window)
         site.red_askers += is_red
-        self.keys = [site.keys.hold(name, record, now) for name, record in zip(names, window) if name]
         try:
             self.was_refused = False
             pending = yield from self._asked(window)
@@ -99,24 +77,33 @@ class Ask:
             yield from self._say_all(pending)
         finally:
             site.red_askers -= is_red
-            for key in self.keys:
-                site.keys.let_go(key)
             site.shop.pass_on(site)
+
+    def _all_know_keys(self) -> Steps[None]:
+        """Returns once it is known that all machines of the shop know keys: on one of before no packet with a key gets any further."""
+        shop = self.site.shop
+        while (lacking := shop.link.without_keys if shop.knows_keys else [self.site.number]) is None:
+            if not (yield Wait(shop.progress, self.left)):
+                raise Fault(Status.AWAY, f"site {self.site.number}: it isn't known yet whether all machines know keys ({shop.link.state}); "
+                            f"{self._not_given()}")
+        if lacking:
+            raise Fault(Status.AWAY, f"site {self.site.number} takes no keys until each machine has said that it knows them, and of site "
+                        f"{', '.join(map(str, lacking))} none has: upgrade shop and rubis on every machine, and start it; {self._not_given()}")
 
     def _say_all(self, answered: list[Pending], are_more: bool = False) -> Steps[None]:
         """Says the answers of records that were given at once, of all or of the first ones."""
         for at, each in enumerate(answered):
             yield from self._say(each.record, each.result(), is_last=at == len(answered) - 1 and not are_more)
 
-    def _say(self, record: bytes, answer: Answer, is_again: bool = False, is_last: bool = True) -> Steps[None]:
-        if self.site.yields or self.published and answer.packet:
+    def _say(self, record: bytes, answer: Answer, is_last: bool = True) -> Steps[None]:
+        if self.site.yields or self.published and (answer.packet or answer.kind == b"again"):
             yield from self._stands(answer, is_last)
-        yield Say(record, answer, is_again)
+        yield Say(record, answer)
         self.answered += 1
 
     def _stands(self, answer: Answer, is_last: bool) -> Steps[None]:
         """Returns once what the site had sent by this answer is where the others find it. Where a standby takes its place nothing else counts,
-        so that no refusal may rest on it either."""
+        so that no refusal may rest on it either, nor what is answered again."""
         site, sends = self.site, self.site.ledger.sends
         packet = packet_of(answer.packet) if answer.packet else None
         count = sends.count_upto((packet.number, 0)) if isinstance(packet, Message) else len(sends)
@@ -135,7 +122,7 @@ class Ask:
 
     def _asked(self, window: list[bytes]) -> Steps[list[Pending]]:
         """Gives these records and waits for their answers, which come in their order."""
-        pending = self.site.give(window, keys=self.keys)
+        pending = self.site.give(window)
         try:
             if (yield Wait(pending[-1].done, self.left)) or pending[-1].done.is_set:
                 return pending
@@ -154,16 +141,13 @@ class Ask:
         return Fault(Status.AWAY, f"site {site.number} is {site.state}{why}: no answer within {self.seconds:g} s; {what}")
 
     def _not_given(self) -> str:
-        """What is said of the records that this asker hasn't given: the first of them may be known by its key."""
-        key = self._key(next(iter(self.names[self.answered:]), None))
-        if key and (key not in self.keys or key.number or key.is_answered):
-            return under_key(self.answered)
-        return not_given(self.answered, self.was_refused)
+        """What is said of the records that this asker hasn't given: the first of them may have been asked under its key before."""
+        return not_given(self.answered, self.was_refused, any(map(key_in, self.records[self.answered:self.answered + 1])))
 
     def _is_settled(self, pending: Pending) -> Steps[bool]:
         """False once what it was refused for may have changed: the token came, or the red messages before it did."""
         site, refusal = self.site, pending.result().refusal
-        if refusal not in ("NoToken", "RedBehind"):
+        if refusal not in UNDECIDED:
             return True
         waiting = site.shop.fetch_token(site, self.left) if refusal == "NoToken" else self._red_messages(pending.releases)
         if not (yield from waiting):

@@ -2,10 +2,10 @@
 
 import bisect
 from array import array
-from collections.abc import Callable, Iterable, Iterator, Sequence
+from collections.abc import Callable, Iterable, Sequence
 
 from .answers import Answer
-from .records import Message, Token, packet_of
+from .records import Message, Token, bare, packet_of, token_of
 from .release import Release
 
 # The place of a packet among those of its site: (n, t) is the t-th token after own message n, and (n, 0) that message. It is the id of
@@ -91,13 +91,6 @@ class Sends:
         index = self.count_upto(place) - 1
         return self.read(index, index + 1)[0][1] if index >= 0 and self.place(index) == place else None
 
-    def message(self, number: int) -> bytes | None:
-        """Own message `number`, if it was sent."""
-        if not 1 <= number <= self.messages:
-            return None
-        index = bisect.bisect_left(self._numbers, number)
-        return self.read(index, index + 1)[0][1]
-
 
 class Ledger:
     """The state of one site that its supervisor needs. `note` takes each kept record with its answer, in their order."""
@@ -114,6 +107,7 @@ class Ledger:
         self.holds_token = site == 0
         self.turn = 0               # of the token that it took or passed last
         self.issued = 0             # red numbers issued before the token came
+        self.gave = [(0, 0)] * sites    # the last two turns at which it passed the token on to each site
 
     @property
     def messages(self) -> int:
@@ -139,13 +133,13 @@ class Ledger:
         released alone, while none waited. False, and nothing is taken in, for any other."""
         head = answer.lines[0].split(b",", 4)
         kind = head[2]
-        if kind == b"refused":
+        if kind in (b"refused", b"again"):
             pass
         elif self.release.waiting:
             return False
         elif kind == b"ok":
             text = answer.lines[1]
-            _, word, _, _, _, red, _ = text.split(b",", 6)
+            word, _, _, _, red, _ = bare(text[5:]).split(b",", 5)
             if word != b"msg":
                 return False
             self.sends.add(True, self.out_bytes + len(answer.lines[0]) + 6, len(text) - 5)
@@ -153,7 +147,7 @@ class Ledger:
             if red != b"0":
                 self._is_red(int(red))
         elif kind == b"released" and head[3] == b"1":
-            _, _, origin, number, red, _ = record.split(b",", 5)
+            _, _, origin, number, red, _ = bare(record).split(b",", 5)
             site = int(origin)
             if site == self.site or self.release.counts[site] + 1 != int(number):
                 return False
@@ -183,6 +177,7 @@ class Ledger:
                 self.red.add(packet.red)
         elif isinstance(packet, Token):
             self.holds_token, self.turn = False, packet.turn
+            self.gave[packet.to] = self.gave[packet.to][1], packet.turn
         return packet
 
     def _came(self, record: bytes) -> None:
@@ -199,12 +194,18 @@ class Ledger:
             self.holds_token, self.turn, self.issued = True, packet.turn, packet.issued
 
 
-def packets_of(kept: Iterable[bytes], origin: int, after: int) -> Iterator[tuple[int, bytes]]:
-    """Messages of a site with a number above `after` among the lines of a file `kept`, each with its number; a torn last line is none."""
+def kept_in(kept: Iterable[bytes], out: Iterable[bytes], origin: int, after: int) -> tuple[list[tuple[int, bytes]], list[bytes]]:
+    """What stands in the files of another site: messages of this one with a number above `after`, each with its number, and the tokens that
+    came to the other one, or that it passed on to this one; a torn last line is none."""
+    messages, tokens = list[tuple[int, bytes]](), list[bytes]()
     for line in kept:
-        packet = packet_of(line[:-1]) if line.startswith(b"msg,") and line.endswith(b"\n") else None
-        if isinstance(packet, Message) and packet.origin == origin and packet.number > after:
-            yield packet.number, line[:-1]
+        packet = packet_of(line[:-1]) if line.startswith((b"msg,", b"token,", b"key,")) and line.endswith(b"\n") else None
+        if isinstance(packet, Token):
+            tokens.append(line[:-1])
+        elif packet and packet.origin == origin and packet.number > after:
+            messages.append((packet.number, line[:-1]))
+    passed = [line[5:-1] for line in out if line.startswith(b"send,token,") and line.endswith(b"\n")]
+    return messages, tokens + [text for text in passed if (token := token_of(text)) and token.to == origin]
 
 
 def sends_of(out: Iterable[bytes]) -> list[tuple[Place, bytes]]:
@@ -213,11 +214,13 @@ def sends_of(out: Iterable[bytes]) -> list[tuple[Place, bytes]]:
     number = token = 0
     for line in out:
         if line.startswith(b"send,") and line.endswith(b"\n"):
-            number, token = (number + 1, 0) if line.startswith(b"send,msg,") else (number, token + 1)
+            number, token = (number, token + 1) if line.startswith(b"send,token,") else (number + 1, 0)
             sends.append(((number, token), line[5:-1]))
     return sends
 
 
-def tokens_of(kept: Iterable[bytes]) -> list[bytes]:
-    """The tokens among the lines of a file `kept`; a torn last line is none."""
-    return [line[:-1] for line in kept if line.startswith(b"token,") and line.endswith(b"\n")]
+def is_of(site: int, place: Place, packet: Message | Token | None) -> bool:
+    """Whether a packet is the site's that stands at that place; a token doesn't say whose it is."""
+    if isinstance(packet, Message):
+        return (packet.origin, packet.number, 0) == (site, *place)
+    return packet is not None and place[1] > 0

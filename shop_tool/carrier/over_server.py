@@ -33,6 +33,7 @@ class ServerLink(Link):
         self.tops = [0] * shop.count                # how many messages the stream of each site has
         self.marks: list[Mark] = []                 # of the streams, as they were seen last
         self.counts: dict[int, int] = {}            # how many packets of each site here are in its stream
+        self.without_keys = None
         self.calls = Once()
 
     @abc.abstractmethod
@@ -105,8 +106,10 @@ class ServerLink(Link):
                     yield from self._append_for(origin)
 
     def look(self) -> Steps[None]:
-        """Says how the sites here are, and sees what the streams have."""
-        self.tops, self.marks = yield Tell({site.number: self.shop.status_of(site) for site in self.own_sites()})
+        """Says how the sites here are, and sees what the streams have, and which machines know keys, until it has seen that all do."""
+        statuses = {site.number: self.shop.status_of(site) | {"keys": self.shop.knows_keys} for site in self.own_sites()}
+        self.tops, self.marks, without_keys = yield Tell(statuses)
+        self.without_keys = () if self.without_keys == () else without_keys
         self.shop.progress.tell()
 
     def own_sites(self) -> list[Site]:

@@ -1,13 +1,13 @@
 """Publishes what one site sends: brings its stream on the server up to date, and compares the site with it."""
 
 import hashlib
-from collections.abc import Mapping
-from typing import TYPE_CHECKING, Any
+from typing import TYPE_CHECKING
 
 from .ledger import NOWHERE, Place
 from .lives import Standing, life_text, standing, takes_place, why_other
-from .opening import must_compare_all, must_hear_all, runs_elsewhere, strange_packet, why_other_count
+from .opening import must_compare_all, must_hear_all, said_in_packets, said_in_status, strange_packet, why_other_count
 from .over_files import BATCH
+from .reader import tokens_in
 from .site import Site
 from .steps import (Adopt, Append, Entries, Owner, Packets, Page, PageOf, Rewrite, SayYields, SeeHere, SeeLife, SeenHere, Sites, State, Statuses, Steps,
                     StreamState, Wait)
@@ -119,7 +119,7 @@ class Publisher:
             raise Fenced(why)
         if its == own:
             return True
-        is_taken: bool = yield Adopt(site.number, owner, False)
+        is_taken: bool = yield Adopt(site.number, owner, False, state.life)
         return is_taken
 
     def _yield(self) -> None:
@@ -150,11 +150,10 @@ class Publisher:
             self.told = None
 
     def _waited_for_another(self) -> Steps[bool]:
-        """Whether it was said that another supervisor runs the site, and isn't any more. What one said that was killed stays for some
-        seconds; one that says it again is running."""
+        """Whether it was said that another supervisor runs the site, and isn't any more: not this folder's, which holds the folder and so is the
+        last. What one said that was killed stays for some seconds; one that says it again is running."""
         first = None
-        while runs_elsewhere(status := (yield Statuses()).get(self.site.number), self.link.named(self.site)):
-            assert status
+        while (status := (yield Statuses()).get(self.site.number)) and status.get("by") != self.link.named(self.site):
             self.site.doubt()
             if first not in (None, status.get("told")):
                 raise Elsewhere(f"{str(status.get('by')).split(' ', 2)[-1]} runs it (shop adopt {self.site.number}, if that is gone for good)")
@@ -177,17 +176,19 @@ class Publisher:
                 f"(shop rebuild {self.site.number})")
 
     def _why_behind(self, state: StreamState) -> Steps[str | None]:
-        """Why its folder can't be the one that the other sites know: one of them has more of it. Notes which of them have to say first what
-        they have."""
+        """Why its folder can't be the one that the other sites know: one of them has more of it, or a process elsewhere whose place a folder here
+        took. Notes which of them have to say first what they have."""
         site, shop = self.site, self.site.shop
-        statuses = {other: status for other, status in (yield Statuses()).items() if other not in shop.sites}
+        statuses = {other: status for other, status in (yield Statuses()).items() if other != site.number}
         is_forgotten = (state.greatest, state.life) == (NOWHERE, "")
         was_here, seconds = bool((yield SeenHere(site.number))), shop.now() - self.began
         must_hear = must_hear_all(is_forgotten, was_here, site.answered is not None, shop.is_alone, seconds)
         site.silent = [other for other in range(shop.count) if other not in shop.sites and other not in statuses] if must_hear else []
-        has = {other: greatest_said(status, site.number) for other, status in statuses.items()}
-        turns = {other: status["turn"] for other, status in statuses.items()}
-        return (yield from shop.why_behind(site, has, turns))
+        said = [said_in_status(status, other, site.number) for other, status in statuses.items()]
+        if site.answered is None and not site.silent:
+            for other in (other for other in range(shop.count) if other not in shop.sites):
+                said.append(said_in_packets(other, site.number, (), (yield from tokens_in(other))))
+        return (yield from shop.why_behind(site, said))
 
     def _waited_for_others(self) -> Steps[bool]:
         """Whether a site elsewhere had to say first what it has. Until then this one says what it has itself, since they may wait for it."""
@@ -227,12 +228,6 @@ class Publisher:
                 if place := strange_packet(entries, sends.at):
                     return place
             after = page.last
-
-
-def greatest_said(status: Mapping[str, Any], site: int) -> int:
-    """The greatest number of a site's messages that another site says it has. A version of before says only how many it has without a gap."""
-    number: int = status.get("greatest", status["has"]).get(str(site), 0)
-    return number
 
 
 def shown(place: Place) -> str:

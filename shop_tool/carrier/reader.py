@@ -6,7 +6,7 @@ from typing import TYPE_CHECKING
 from ..ends import Fault
 from .ledger import NOWHERE, Place
 from .over_files import BATCH, FULL_WAIT
-from .records import Token, packet_of
+from .records import token_of
 from .site import Site
 from .steps import Mark, Marks, Packets, PageOf, Read, Steps, Wait
 
@@ -25,8 +25,18 @@ def to_search(seen: Sequence[Mark] | None, now: Sequence[Mark]) -> list[int]:
 
 def passes_to(site: int, turn: int, texts: Iterable[bytes]) -> list[bytes]:
     """The tokens for a site, of turns above the one that it had last, in their order."""
-    tokens = [(packet.turn, text) for text in texts if isinstance(packet := packet_of(text), Token) and packet.to == site]
+    tokens = [(token.turn, text) for text in texts if (token := token_of(text)) and token.to == site]
     return [text for its, text in sorted(tokens) if its > turn]
+
+
+def tokens_in(origin: int, upto: Place | None = None) -> Steps[list[bytes]]:
+    """The tokens that stand in a stream, up to a place."""
+    tokens: list[bytes] = []
+    after = NOWHERE
+    while (upto is None or after < upto) and (page := (yield PageOf(origin, after, upto))).entries:
+        tokens += page.tokens
+        after = page.last
+    return tokens
 
 
 class Reader:
@@ -72,19 +82,9 @@ class Reader:
         """Gives the site the tokens that stand where it doesn't read any more."""
         site, marks = self.site, (yield Marks())
         for origin in to_search(self.marks, marks):
-            if origin in at and (tokens := passes_to(site.number, site.ledger.turn, (yield from self._tokens(origin, at[origin])))):
+            if origin in at and (tokens := passes_to(site.number, site.ledger.turn, (yield from tokens_in(origin, at[origin])))):
                 yield from site.shop.feed(site, tokens)
         self.marks = marks
-
-    @staticmethod
-    def _tokens(origin: int, upto: Place) -> Steps[list[bytes]]:
-        """The tokens that stand in a stream up to a place."""
-        tokens: list[bytes] = []
-        after = NOWHERE
-        while after < upto and (page := (yield PageOf(origin, after, upto))).entries:
-            tokens += page.tokens
-            after = page.last
-        return tokens
 
     def _has_hole(self, origin: int, before: Place, places: list[Place]) -> bool:
         """Whether a message is missing between these, which happens only where entries were deleted."""

@@ -10,9 +10,9 @@ from collections.abc import Iterator, Sequence
 from typing import NamedTuple
 
 from ..ends import Fault, Status
-from .ledger import NOWHERE
+from .ledger import NOWHERE, is_of
 from .lives import count_of
-from .records import Message, Token, ask_of, bytes_of, packet_of
+from .records import Message, Token, ask_of, bare, bytes_of, key_in, packet_of, token_of
 from .steps import (Adopt, CallAll, Entries, Kept, KeptOf, Owner, Packets, Replay, Rewrite, SeenHere, SentHere, State, Statuses, Steps, StreamState,
                     Swap, TakeOver, TakePlace, Wait)
 
@@ -60,7 +60,7 @@ class Rebuild:
         yield Replay(self.site, list(past.steps()))
         yield from statuses_without(self.site)
         state = yield State(self.site)
-        if not (yield Adopt(self.site, owner, True)):
+        if not (yield Adopt(self.site, owner, True, state.life)):
             raise Fault(Status.REFUSED, f"another folder has taken site {self.site}: {UNCHANGED}")
         yield Swap(self.site, count_of(state.life))
         return len(past.packets())
@@ -88,21 +88,22 @@ class Rebuild:
                 yielding.append(other)
         return yielding
 
-    def _past_on_server(self, may_be_gone: Sequence[int] = ()) -> Steps[tuple["Past", Packets]]:
-        """What is known of its past, and the packets in its stream. Some sites may say nothing, if all that their own streams rest on stands in
-        the streams."""
+    def _past_on_server(self, may_be_gone: Sequence[int] | None = None) -> Steps[tuple["Past", Packets]]:
+        """What is known of its past, and the packets in its stream. Where it yields, what its folder here sent beyond that doesn't count, and some
+        sites may say nothing, if all that their own streams rest on stands in the streams."""
         statuses = yield from statuses_without(self.site)
         streams: list[Packets] = []
         for other in range(self.count):
             streams.append((yield from entries_of(other)))
-        was, told = streams[self.site], (yield SentHere(self.site))
+        was = streams[self.site]
+        told = (yield SentHere(self.site)) if may_be_gone is None else was
         past = Past(self.site, [told if other == self.site and told[:len(was)] == was else stream for other, stream in enumerate(streams)])
         silent = []
         for other in range(self.count):
             if other != self.site and not (other in self.here and (yield from self._add_kept(past, other))):
                 if other not in statuses or not (yield from self._ask_other(past, other)):
                     silent.append(other)
-        self._refuse_silent([other for other in silent if other not in may_be_gone or not rests_on(streams, other)], "isn't running")
+        self._refuse_silent([other for other in silent if other not in (may_be_gone or ()) or not rests_on(streams, other)], "isn't running")
         yield from self._add_left(past)
         return past, was
 
@@ -169,18 +170,13 @@ def adopted(site: int) -> Steps[None]:
     """Gives the site to this folder, in the place of the one that was seen."""
     yield from statuses_without(site)
     state: StreamState = yield State(site)
-    yield Adopt(site, (yield Owner(site)), False)
+    yield Adopt(site, (yield Owner(site)), False, state.life)
     yield TakePlace(site, count_of(state.life))
-
-
-def token_of(text: bytes) -> Token | None:
-    packet = packet_of(text)
-    return packet if isinstance(packet, Token) else None
 
 
 def seller_in(text: bytes) -> bytes | None:
     """The seller in the message of an item."""
-    fields = text.split(b",", 8)
+    fields = bare(text).split(b",", 8)
     return fields[7] if fields[6] == b"item" else None
 
 
@@ -193,13 +189,13 @@ class Past:
         self.passed: dict[int, tuple[int, bytes]] = {}  # its tokens by turn, each with the number of its message before
         for (number, token), text in streams[site]:
             packet = packet_of(text)
-            if isinstance(packet, Token) and token:
-                self.passed[packet.turn] = (number, text)
-            elif isinstance(packet, Message) and (packet.origin, packet.number, 0) == (site, number, token):
-                self.own[number] = text
-            else:
+            if not is_of(site, (number, token), packet):
                 raise Fault(Status.REFUSED, f"the stream of site {site} has an entry {number}-{token} that isn't its packet "
                             f"(redis-cli xdel): {UNCHANGED}")
+            if isinstance(packet, Token):
+                self.passed[packet.turn] = (number, text)
+            else:
+                self.own[number] = text
         self.tokens = {turn.turn: (turn, text) for stream in streams for _, text in stream if (turn := token_of(text))}
         self.left: list[tuple[int, int, bytes]] = []    # the messages of other sites in its folder, each with its site and number
         self.taken: dict[int, int] = {}                 # the last turn that is known to have come to each site
@@ -287,7 +283,7 @@ class Past:
                         if given[site] not in others[site]:
                             raise Fault(Status.REFUSED, f"the stream of site {site} lacks message {site}.{given[site]}: {UNCHANGED}")
                         yield Given(others[site][given[site]], None)
-                ask, is_red = ask_of(packet.shadow, lambda item: sellers.get(item, b"")), packet.red > 0
+                ask, is_red = key_in(text) + ask_of(packet.shadow, lambda item: sellers.get(item, b"")), packet.red > 0
             else:
                 assert packet
                 ask, is_red = b"pass,%d" % packet.to, True

@@ -8,11 +8,13 @@ from typing import NamedTuple
 
 RECORDS_OF_A_RUN = 4_000_000
 BYTES_OF_A_RECORD = 4096
+KEY_BYTES = 255             # how long the key of an ask is at most
 SITES_OF_A_SHOP = 16
 MESSAGES_OF_A_SITE = 1_000_000
 
 # Asks that only the holder of the token accepts.
 RED = frozenset({b"user", b"bid", b"buy", b"close", b"rename"})
+ASKS = RED | {b"item", b"comment", b"restock"}
 
 COLUMNS: dict[str, list[str]] = {
     "user": ["id", "nickname", "items", "bought", "rating", "comments"],
@@ -54,8 +56,13 @@ REFUSALS = {
     "KeyTaken": "another record was asked under that key",
 }
 
+# Refusals that decide nothing: the ask waits for what it lacks, and is given again.
+UNDECIDED = ("NoToken", "RedBehind")
+
 _FIELD = rb'(?:"(?:[^"]|"")*"|[^",]*)'
 _ONE_RECORD = re.compile(_FIELD + rb"(?:," + _FIELD + rb")*")
+_KEY = re.compile(rb"[ -~]{1,%d}" % KEY_BYTES)
+_IS_UNDER = re.compile(rb'key,(?:[ !#-+\--~]{1,%d}|"(?:[ !#-~]|""){1,%d}"),(?!token,)' % (KEY_BYTES, KEY_BYTES))
 
 Row = dict[str, "int | str"]
 
@@ -69,9 +76,29 @@ def bytes_of(text: str) -> bytes:
     return text.encode("utf-8", "surrogateescape")
 
 
+def is_key(text: bytes) -> bool:
+    return bool(_KEY.fullmatch(text))
+
+
+def under(key: bytes, record: bytes) -> bytes:
+    """An ask or a message under a key, which goes wherever the record goes."""
+    return b"key,%b,%b" % (bytes_of(line_of([text_of(key)])), record)
+
+
+def key_in(text: bytes) -> bytes:
+    """The beginning of a record or packet that says its key; empty if it has none."""
+    found = _IS_UNDER.match(text) if text.startswith(b"key,") else None
+    return found[0] if found else b""
+
+
+def bare(text: bytes) -> bytes:
+    """A record or packet without its key."""
+    return text[len(key_in(text)):] if text.startswith(b"key,") else text
+
+
 def kind_of(record: bytes) -> bytes:
-    """The first field of a record."""
-    return record.split(b",", 1)[0]
+    """The first field of a record, behind its key."""
+    return bare(record).split(b",", 1)[0]
 
 
 class Purpose(enum.Enum):
@@ -99,7 +126,7 @@ def why_not_one_record(record: bytes, purpose: Purpose = Purpose.ASK) -> str | N
         return "the first field of a record has no quotes"
     if b'"' in record and not _ONE_RECORD.fullmatch(record):
         return "its quotes don't close, or stand inside a field"
-    return _why_not_for(purpose, kind_of(record))
+    return _why_not_for(purpose, record.split(b",", 1)[0])
 
 
 def _why_not_for(purpose: Purpose, kind: bytes) -> str | None:
@@ -108,6 +135,8 @@ def _why_not_for(purpose: Purpose, kind: bytes) -> str | None:
         return None if is_packet else "it is no packet"
     if is_packet:
         return "packets of other sites come by themselves"
+    if kind == b"key":
+        return "a key is said beside its ask (--key)"
     if purpose == Purpose.LISTING and kind != b"list":
         return "it is no listing"
     return None
@@ -151,8 +180,8 @@ class Token(NamedTuple):
 
 
 def packet_of(text: bytes) -> Message | Token | None:
-    """Reads a packet that a site sent; None for another line."""
-    fields = text.split(b",", 6)
+    """Reads a packet that a site sent, under a key or none; None for another line."""
+    fields = bare(text).split(b",", 6)
     try:
         if fields[0] == b"msg" and len(fields) == 7:
             return Message(int(fields[2]), int(fields[3]), int(fields[4]), tuple(map(int, fields[5].split(b":"))), fields[6])
@@ -161,6 +190,12 @@ def packet_of(text: bytes) -> Message | Token | None:
     except ValueError:
         pass
     return None
+
+
+def token_of(text: bytes) -> Token | None:
+    """The same, of a token alone."""
+    packet = packet_of(text)
+    return packet if isinstance(packet, Token) else None
 
 
 def ask_of(shadow: bytes, seller_of: Callable[[bytes], bytes]) -> bytes:

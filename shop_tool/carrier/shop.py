@@ -1,14 +1,14 @@
 """The sites of one supervisor: what they are given of each other, and the token, as they want it, hold it and pass it on."""
 
 import abc
-from collections.abc import Callable, Collection, Mapping
+from collections.abc import Callable, Collection, Mapping, Sequence
 from typing import Any
 
 from ..ends import Fault, Status
 from .ledger import Prefix
 from .lives import life_text
-from .opening import may_open_unseen, why_behind, why_passed_on
-from .records import Message, Purpose, Token, packet_of, why_not_one_record
+from .opening import Said, said_by, said_in_packets, why_behind, why_passed_on
+from .records import Message, Purpose, Token, bare, packet_of, why_not_one_record
 from .site import Pending, Site, State
 from .steps import CallAll, Flag, IsRunning, KeptOf, SayLeave, SayWant, Signal, Steps, UpElsewhere, Wait
 from .turns import SAY_AGAIN, Wants, taker
@@ -24,6 +24,7 @@ class Link(abc.ABC):
     """What carries packets."""
 
     is_here = True      # what the others have of a site can always be seen
+    without_keys: Sequence[int] | None = ()     # the sites whose machines may not know keys; None as long as it isn't known which
 
     @property
     @abc.abstractmethod
@@ -50,6 +51,7 @@ class Shop(abc.ABC):
     def __init__(self, count: int, is_alone: bool) -> None:
         self.count = count                          # how many sites the shop has, here and elsewhere
         self.is_alone = is_alone
+        self.knows_keys = True                      # its sites know keys of asks
         self.standby: tuple[int, ...] = ()          # the sites elsewhere whose place it takes once they have been gone for some time
         self.after = 0.0                            # how long, in seconds
         self.wants = Wants()
@@ -118,7 +120,7 @@ class Shop(abc.ABC):
         """What the others have of the site can't be seen. It takes asks all the same, before it is compared, if its folder lacks nothing, as far
         as the sites here know, or if its operator takes the risk."""
         has_all = site.answered is not None and site.known.is_set and self._has_all_of(site)
-        if not site.opened.is_set and may_open_unseen(self.is_alone, has_all):
+        if not site.opened.is_set and (self.is_alone or has_all):
             self._opened(site, site.answered or 0)
 
     def _has_all_of(self, site: Site) -> bool:
@@ -127,8 +129,7 @@ class Shop(abc.ABC):
         others = [other for other in self.sites.values() if other is not site]
         if not all(other.tried.is_set and other.known.is_set for other in others):
             return False
-        has = {other.number: other.ledger.have[site.number].greatest for other in others}
-        return _why_behind(site, has, {other.number: other.ledger.turn for other in others}) is None
+        return _why_behind(site, [said_by(other.ledger, site.number) for other in others]) is None
 
     def _opened(self, site: Site, answered: int) -> None:
         site.witness = self.witness_of(site, answered)
@@ -164,7 +165,7 @@ class Shop(abc.ABC):
         return not is_full
 
     def _is_new(self, site: Site, text: bytes) -> bool:
-        if why := why_not_one_record(text, Purpose.PACKET):
+        if why := why_not_one_record(bare(text), Purpose.PACKET):
             site.note_fault(f"{text[:80]!r} isn't given to it: {why}")
             return False
         match packet_of(text):
@@ -176,19 +177,18 @@ class Shop(abc.ABC):
                 return to == site.number and turn > site.ledger.turn and turn >= self.wants.turn
         return False
 
-    def why_behind(self, site: Site, has: dict[int, int], turns: dict[int, int]) -> Steps[str | None]:
-        """Why a site can't go on of which sites elsewhere have so many messages, and have had the token at these turns, or sites of this
-        folder have."""
+    def why_behind(self, site: Site, elsewhere: Sequence[Said] = ()) -> Steps[str | None]:
+        """Why a site can't go on of which sites elsewhere say this: they have more of it, or sites of this folder have."""
+        said = [*elsewhere]
         for other in self.sites.values():
             if other is not site:
                 yield Wait(other.tried)
                 if other.known.is_set:
-                    has[other.number], turns[other.number] = other.ledger.have[site.number].greatest, other.ledger.turn
+                    said.append(said_by(other.ledger, site.number))
                 elif kept := (yield KeptOf(other.number, site.number, 0)):      # it can't be started
-                    has[other.number] = max((number for number, _ in kept[0]), default=0)
-                    turns[other.number] = max((token.turn for text in kept[1] if isinstance(token := packet_of(text), Token)), default=0)
-        self.wants.known(max(turns.values(), default=0))
-        return _why_behind(site, has, turns)
+                    said.append(said_in_packets(other.number, site.number, *kept))
+        self.wants.known(max((its.turn for its in said), default=0))
+        return _why_behind(site, said)
 
     def behind(self, site: Site) -> dict[int, int]:
         """How many messages of each other site it hasn't, of those that were sent."""
@@ -203,6 +203,7 @@ class Shop(abc.ABC):
         return {"site": site.number, "state": state, "life": life_text(site.lives), "own": ledger.sends.messages, "turn": ledger.turn,
                 "has": {str(origin): have.upto for origin, have in enumerate(ledger.have) if origin != site.number},
                 "greatest": {str(origin): have.greatest for origin, have in enumerate(ledger.have) if origin != site.number},
+                "gave": {str(to): turns for to, turns in enumerate(ledger.gave) if any(turns)},
                 "holds_token": ledger.holds_token and site.known.is_set}
 
     # The token.
@@ -315,7 +316,7 @@ class Shop(abc.ABC):
         return turns
 
 
-def _why_behind(site: Site, has: Mapping[int, int], turns: Mapping[int, int]) -> str | None:
-    """Why a site can't go on of which others have so many messages, and have had the token at these turns."""
-    held = site.ledger.turn if site.ledger.holds_token else None
-    return why_behind(site.number, site.ledger.sends.messages, has) or why_passed_on(site.number, held, turns)
+def _why_behind(site: Site, said: Sequence[Said]) -> str | None:
+    """Why a site can't go on of which others say this."""
+    ledger = site.ledger
+    return why_behind(site.number, ledger.sends.messages, said) or why_passed_on(site.number, ledger.turn, ledger.holds_token, said)

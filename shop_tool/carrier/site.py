@@ -2,18 +2,17 @@
 
 import abc
 import collections
-import contextlib
 import enum
 import itertools
-from collections.abc import Callable, Iterator, Sequence
+from collections.abc import Callable, Iterator
 from typing import TYPE_CHECKING
 
 from ..ends import Fault, Status
 from .answers import Answer, AnswerReader, KeptReader
 from .files import Files, Look
-from .keys import Key, Keys
 from .ledger import Ledger, ReadOut
-from .records import Purpose, Token, text_of, why_not_one_record
+from .old_keys import OldKeys
+from .records import Purpose, Token, bare, text_of, why_not_one_record
 from .steps import Flag, Signal, Steps, Wait
 from .sums import Sums
 from .told import counts_unknown, not_given, not_known
@@ -51,12 +50,11 @@ class Gone(Fault):
 class Pending:
     """One record on its way through a site."""
 
-    __slots__ = ("record", "key", "is_question", "done", "answer", "gone", "is_given", "is_left", "releases", "records")
+    __slots__ = ("record", "is_question", "done", "answer", "gone", "is_given", "is_left", "releases", "records")
 
-    def __init__(self, record: bytes, key: Key | None = None) -> None:
+    def __init__(self, record: bytes) -> None:
         self.record = record
         self.is_question = record.startswith(b"?")      # it isn't kept, and has no number
-        self.key = key
         self.done = Flag()
         self.answer: Answer | None = None
         self.gone: Gone | None = None
@@ -77,13 +75,14 @@ class Site(abc.ABC):
     def __init__(self, shop: "Shop", number: int, read_out: ReadOut, look: Look) -> None:
         self.shop, self.number = shop, number
         self.ledger = Ledger(number, shop.count, read_out)
-        self.keys, self.read_out, self.sums = Keys(), read_out, Sums()
+        self.old_keys, self.sums = OldKeys(), Sums()
         self.files = Files(number, look)
         self.state = State.STARTING
         self.starts = 0
         self.fault: tuple[str, str] | None = None   # the last one: when, and what
         self.faults = 0
         self.fenced_by: str | None = None
+        self.is_marked = False                      # its folder says why
         self.line: collections.deque[Pending] = collections.deque()     # the first is answered next
         self.reader = AnswerReader()
         self.lives: list[str] = []                  # of its folder; the last has begun with this supervisor
@@ -110,14 +109,6 @@ class Site(abc.ABC):
     @abc.abstractmethod
     def write(self, data: bytes) -> None:
         """Gives its keeper these bytes."""
-
-    @abc.abstractmethod
-    def write_keys(self, lines: bytes) -> None:
-        """Writes these lines behind those of keys in its folder, or none of them and an OSError."""
-
-    @abc.abstractmethod
-    def put_keys(self, lines: bytes) -> None:
-        """Puts these lines in the place of all lines of keys."""
 
     @abc.abstractmethod
     def write_sums(self, lines: bytes) -> None:
@@ -158,9 +149,10 @@ class Site(abc.ABC):
         is_past = not self.known.is_set
         while data := next_piece():
             for answer in self.reader.feed(data):
-                (record, size), start = records.next(), self.ledger.out_bytes
+                record, size = records.next()
+                if is_past and self.old_keys:
+                    self.old_keys.note(self.ledger.records + 1, record, answer)
                 if is_past and self.ledger.note_plain(record, answer, size):
-                    self.keys.note(self.ledger.records, record, answer, start)
                     continue
                 pending = next(given, None)
                 if self.known.is_set and (not pending or pending.record != record):
@@ -175,13 +167,9 @@ class Site(abc.ABC):
         self.files.read(self.ledger.kept_bytes, self.ledger.out_bytes)
         # What is left wasn't kept, so it is given again, unless nobody waits for it.
         self.line = collections.deque(pending for pending in self.line if not pending.done.is_set and not pending.is_left)
-        self.keys.kept(count)
 
     def come_up(self) -> None:
         """All that it kept is known: it gets what it was given and didn't keep."""
-        if self.keys.is_stale:
-            self.put_keys(self.keys.text(self.shop.unix_time()))
-            self.keys.is_stale = False      # and not before: on a full disk the old lines stay, and the site isn't up
         self.known.set()
         self.silent_since = None
         self.become(State.UP)
@@ -247,7 +235,7 @@ class Site(abc.ABC):
         if not self.fenced_by:
             if outlasts:
                 self.write_fence(text)
-            self.fenced_by = text
+            self.fenced_by, self.is_marked = text, outlasts
             self.note_fault(text)
             self.opened.set()
             self.compared.set()
@@ -268,7 +256,6 @@ class Site(abc.ABC):
                 pending.gone = self.gone(number if pending.is_given and not pending.is_question else None)
                 pending.done.set()
         self.line.clear()
-        self.keys.end()
         self.token_came.tell()
         self.released.tell()
 
@@ -290,15 +277,15 @@ class Site(abc.ABC):
 
     # Records.
 
-    def give(self, records: list[bytes], purpose: Purpose = Purpose.ASK, keys: Sequence[Key | None] = ()) -> list[Pending]:
-        """Gives it records, one behind the other, and some of them with keys. Each is given again when the keeper died before it kept it.
-        What isn't one record would shift the answers of all that come after it, so nothing else gets through here."""
+    def give(self, records: list[bytes], purpose: Purpose = Purpose.ASK) -> list[Pending]:
+        """Gives it records, one behind the other. Each is given again when the keeper died before it kept it. What isn't one record would
+        shift the answers of all that come after it, so nothing else gets through here."""
         for record in records:
-            if why := why_not_one_record(record, purpose):
+            if why := why_not_one_record(bare(record), purpose):
                 raise Fault(Status.MISUSE, f"{text_of(record[:80])!r}: {why}; nothing was asked")
         if self.fenced_by or self.shop.stopping.is_set:
             raise self.gone()
-        given = [Pending(record, key) for record, key in itertools.zip_longest(records, keys)]
+        given = [*map(Pending, records)]
         self.line.extend(given)
         if self.up.is_set and not self.gives_soon:
             self.gives_soon = True          # what comes together is written together
@@ -322,9 +309,7 @@ class Site(abc.ABC):
         return [pending.record for pending in self.line if pending.is_given and not pending.done.is_set and not pending.is_question]
 
     def _write(self, pending: list[Pending]) -> None:
-        """Gives the keeper the last records of its line, once their keys are written."""
-        if any(each.key for each in pending):
-            pending = self._with_keys_written(pending)
+        """Gives the keeper the last records of its line."""
         if not pending:
             return
         self.write(b"".join(each.record + b"\n" for each in pending))
@@ -340,32 +325,8 @@ class Site(abc.ABC):
         """How long it hasn't answered what it was given; 0 where it isn't up."""
         return self.shop.now() - self.silent_since if self.up.is_set and self.silent_since is not None else 0.0
 
-    def _with_keys_written(self, pending: list[Pending]) -> list[Pending]:
-        """Those of these that may be given, which are the last of the line: none whose key can't be written."""
-        now = self.shop.unix_time()
-        if self.keys.is_long(now):
-            with contextlib.suppress(OSError):
-                self.put_keys(self.keys.text(now))
-        records = [each for each in pending if not each.is_question]
-        before = self.ledger.records + sum(not each.is_question for each in self.line) - len(records)
-        lines = b"".join([self.keys.give(each.key, number) for number, each in enumerate(records, before + 1) if each.key])
-        try:
-            self.write_keys(lines)
-            return pending
-        except OSError as fault:
-            gone = Gone(f"site {self.number}: its keys can't be written ({fault.strerror})", None)
-        for each in pending:
-            if each.key:
-                self.keys.take_back(each.key)
-                each.gone = gone
-                each.done.set()
-        self.line = collections.deque(each for each in self.line if not each.done.is_set)
-        return [each for each in pending if not each.done.is_set]
-
     def _note(self, record: bytes, answer: Answer, size: int | None = None) -> None:
-        start = self.ledger.out_bytes
         sent = self.ledger.note(record, answer, size)
-        self.keys.note(self.ledger.records, record, answer, start)
         if self.witness:
             self.witness(self.ledger.kept_bytes)
         kind = answer.kind

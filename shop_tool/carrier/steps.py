@@ -76,11 +76,10 @@ class Wait(NamedTuple):
 
 
 class Say(NamedTuple):
-    """An asker is told the answer to a record; `is_again` if an ask under the same key got it before."""
+    """An asker is told the answer to a record, which may be under a key."""
 
     record: bytes
     answer: Any
-    is_again: bool = False
 
 
 # A turn of the token is asked for: all supervisors hear it.
@@ -98,8 +97,8 @@ IsRunning = NamedTuple("IsRunning", [("site", int), ("seconds", float)])
 # The sites that other supervisors say are up.
 UpElsewhere = NamedTuple("UpElsewhere", [])
 
-# The messages of a site above a number that stand in the file `kept` of another one here, each with its number, and all tokens that stand
-# there: a Kept; None if there is no such file.
+# The messages of a site above a number that stand in the file `kept` of another one here, each with its number, all tokens that stand
+# there, and those that this one passed on to the first: a Kept; None if there is no such file.
 KeptOf = NamedTuple("KeptOf", [("keeper", int), ("origin", int), ("after", int)])
 
 Kept = tuple[list[tuple[int, bytes]], list[bytes]]
@@ -135,14 +134,14 @@ Owner = NamedTuple("Owner", [("site", int)])
 # How many sites the shop on the server has, by whoever came first; that is this folder's number, if nobody came before.
 Sites = NamedTuple("Sites", [("count", int)])
 
-# Gives a site to its folder here, or to the fresh one beside it; False if another folder than `before` has it now. Only once that folder's
-# life says that it yields does a standby take its place.
-Adopt = NamedTuple("Adopt", [("site", int), ("before", str), ("is_fresh", bool)])
+# Gives a site to its folder here, or to the fresh one beside it; False if another folder than `before` has it now, or another life than
+# `life` was seen last, as of a standby that has taken its place. Only once the folder's life says that it yields does a standby do that.
+Adopt = NamedTuple("Adopt", [("site", int), ("before", str), ("is_fresh", bool), ("life", str)])
 
 # The statuses of all sites that run.
 Statuses = NamedTuple("Statuses", [])
 
-# Writes statuses of sites; how many messages each stream has, and its mark.
+# Writes statuses of sites; how many messages each stream has, its mark, and the sites whose machines haven't said yet that they know keys.
 Tell = NamedTuple("Tell", [("statuses", dict[int, dict[str, Any]])])
 
 # Writes down the life of a site's folder; False if another one was since `before` was, or its stream has another last entry.

@@ -7,27 +7,22 @@ accepted, just that is said, with how it is found out.
 from typing import Any
 
 
-def not_given(answered: int = 0, was_refused: bool = False) -> str:
+def not_given(answered: int = 0, was_refused: bool = False, has_key: bool = False) -> str:
     """Of records that no site will be given: one that it refused for want of the token, or the first and the rest of a request of which so
-    many were answered before."""
-    return "not accepted" if was_refused else "nothing more was given to it" if answered else "nothing was given to it"
+    many were answered before. What the first was asked under its key by another request isn't known."""
+    what = "not accepted" if was_refused else "nothing more was given to it" if answered else "nothing was given to it"
+    return f"{what} by this request" if has_key else what
 
 
 def not_known(site: int, number: int) -> str:
     """Of a record that a site was given and hasn't answered: it keeps it as its record of that number, or never. That another answer came
-    says nothing: it may be an earlier one, which is given again under its key."""
+    says nothing: it may be that of an earlier request."""
     return f"it may still be accepted, as record {number} of `shop log {site}`; once another record stands there, it never will be"
 
 
 def counts_unknown(site: int) -> str:
     """Of a record that a site with a standby was given: if the standby takes its place, only what stands in its stream counts."""
     return f"whether it was accepted isn't known (shop log {site})"
-
-
-def under_key(answered: int) -> str:
-    """Of records that no site was given by this request, of which `answered` were answered before: an earlier one has asked the first of them
-    under its key, or another one does now."""
-    return f"{not_given(answered)} by this request, and whether what was asked under its key is accepted isn't known yet"
 
 
 def unanswered(request: dict[str, Any]) -> str:

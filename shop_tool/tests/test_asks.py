@@ -4,7 +4,7 @@ import argparse
 import unittest
 
 from shop_tool.asks import _request
-from shop_tool.carrier.keys import KEY_BYTES
+from shop_tool.carrier.records import KEY_BYTES
 from shop_tool.ends import Fault
 
 

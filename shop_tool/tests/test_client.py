@@ -1,5 +1,6 @@
 """What a client says of a supervisor that doesn't answer."""
 
+import json
 import os
 import socket
 import tempfile
@@ -9,7 +10,7 @@ from typing import Any
 from unittest import mock
 
 from shop_tool import client
-from shop_tool.ends import Fault, Status
+from shop_tool.ends import Ended, Fault, Status
 
 ASK: dict[str, Any] = {"op": "ask", "site": 2, "records": ["user,ann"], "timeout": 0.1}
 
@@ -19,6 +20,7 @@ class Calls(unittest.TestCase):
         folder = tempfile.TemporaryDirectory()
         self.addCleanup(folder.cleanup)
         self.folder = folder.name
+        self.asked: list[dict[str, Any]] = []
         self.socket = socket.socket(socket.AF_UNIX)
         self.addCleanup(self.socket.close)
         margin = mock.patch.object(client, "MARGIN", 0.1)
@@ -32,25 +34,18 @@ class Calls(unittest.TestCase):
         if says is not None:
             threading.Thread(target=self._answer, args=(says,), daemon=True).start()
 
-    def _answer(self, says: bytes) -> None:
-        line, _ = self.socket.accept()
-        with line:
-            line.recv(1 << 16)
-            line.sendall(says)
+    def _answer(self, *says: bytes) -> None:
+        for said in says:
+            line, _ = self.socket.accept()
+            with line:
+                self.asked.append(json.loads(line.recv(1 << 16)))
+                line.sendall(said)
 
     def told(self, request: dict[str, Any]) -> str:
         with self.assertRaises(Fault) as caught:
             list(client.call(self.folder, request))
         self.assertEqual(caught.exception.status, Status.AWAY)
         return caught.exception.text
-
-    def test_none_is_there(self) -> None:
-        self.assertIn("is not running", self.told(ASK))
-
-    def test_it_hangs(self) -> None:
-        self.listen()
-        self.assertIn("gave no answer within 0.1 s; whether it was accepted isn't known (shop log 2)", self.told(ASK))
-        self.assertTrue(self.told({"op": "status", "timeout": 0.1}).endswith("gave no answer within 0.1 s"))
 
     def test_it_takes_no_connection(self) -> None:
         self.listen()
@@ -68,6 +63,29 @@ class Calls(unittest.TestCase):
             with self.subTest(says=says):
                 self.listen(says)
                 self.assertIn("ended before it answered; whether it was accepted isn't known (shop log 2)", self.told(ASK))
+                self.socket.close()
+                os.unlink(f"{self.folder}/sock")
+                self.socket = socket.socket(socket.AF_UNIX)
+                self.addCleanup(self.socket.close)
+
+    def test_what_has_keys_is_asked_again_from_where_it_ended(self) -> None:
+        answers = [b'{"record": "user,%b"}\n' % name for name in (b"ann", b"bob")]
+        for keys, count in ((["a", "b"], 2), (["a", None], 1), (None, 1)):
+            with self.subTest(keys=keys):
+                self.asked.clear()
+                self.socket.bind(f"{self.folder}/sock")
+                self.socket.listen(1)
+                said = (answers[0], answers[1] + b'{"end": true}\n')[:count]
+                answering = threading.Thread(target=self._answer, args=said, daemon=True)
+                answering.start()
+                steps = client.asked(self.folder, {"op": "ask", "site": 2, "records": ["user,ann", "user,bob"], "timeout": 5.0, "keys": keys}, None)
+                if count == 1:
+                    self.assertRaises(Ended, list, steps)
+                else:
+                    self.assertEqual([answer.get("record") for answer in steps], ["user,ann", "user,bob", None])
+                    self.assertEqual((self.asked[1]["records"], self.asked[1]["keys"]), (["user,bob"], ["b"]))
+                answering.join()
+                self.assertEqual(len(self.asked), count)
                 self.socket.close()
                 os.unlink(f"{self.folder}/sock")
                 self.socket = socket.socket(socket.AF_UNIX)

@@ -4,7 +4,7 @@ import os
 import tempfile
 import unittest
 
-from shop_tool.carrier.files import File, is_there, why_lost
+from shop_tool.carrier.files import File, is_there
 from shop_tool.site import file_at
 
 
@@ -31,9 +31,3 @@ class Files(unittest.TestCase):
                 self.assertFalse(is_there(was, file_at(path), was.size))
                 os.rename(f"{path}.aside", path)
                 self.assertTrue(is_there(was, file_at(path), was.size))
-
-    def test_what_to_do(self) -> None:
-        self.assertIsNone(why_lost(2, True, True, True))
-        self.assertIn("folder is gone (stop the shop, put it back or say shop rebuild 2", why_lost(2, False, False, False) or "")
-        self.assertIn("`kept` was removed or changed", why_lost(2, True, False, False) or "")
-        self.assertIn("`kept` is enough", why_lost(2, True, True, False) or "")

@@ -4,7 +4,8 @@ import unittest
 from array import array
 
 from shop_tool.carrier.answers import AnswerReader
-from shop_tool.carrier.ledger import Ledger, Prefix, packets_of, tokens_of
+from shop_tool.carrier.ledger import Ledger, Prefix, kept_in, sends_of
+from shop_tool.carrier.records import ASKS, kind_of
 
 KEPT = [b"user,ann", b"pass,1", b"user,bob", b"comment,0.1,0.1,1.1,1,x", b"msg,1,1,2,3,1:1,user,cat", b"msg,1,1,1,2,1:0,user,dan",
         b"token,1,2,0,3", b"bid,0.3,0.1,5", b"pass,1"]
@@ -56,7 +57,7 @@ class Notes(unittest.TestCase):
 
     def test_the_token(self) -> None:
         self.assertEqual(self.states, [(True, 0)] + [(False, 1)] * 5 + [(True, 2)] * 2 + [(False, 3)])
-        self.assertEqual(self.ledger.issued, 3)
+        self.assertEqual((self.ledger.issued, self.ledger.gave), (3, [(0, 0), (1, 3)]))
 
     def test_what_it_has(self) -> None:
         self.assertEqual([prefix.upto for prefix in self.ledger.have], [0, 2])
@@ -71,15 +72,32 @@ class Notes(unittest.TestCase):
         self.assertEqual([place for place, _ in sends.read(0, len(sends))], [(1, 0), (1, 1), (2, 0), (3, 0), (3, 1)])
         self.assertEqual([text for _, text in sends.read(1, 3)], [b"token,1,1,1,1", b"msg,1,0,2,0,1:0,comment,0.1,0.1,1.1,1,x"])
         self.assertEqual([sends.count_upto(place) for place in ((0, 0), (1, 0), (1, 1), (1, 9), (3, 0), (9, 0))], [0, 1, 2, 2, 4, 5])
-        self.assertEqual((sends.message(3), sends.message(4), sends.message(0)), (b"msg,1,0,3,4,2:2,bid,0.3,0.1,5", None, None))
+        self.assertEqual((sends.at((3, 0)), sends.at((4, 0)), sends.at((0, 0))), (b"msg,1,0,3,4,2:2,bid,0.3,0.1,5", None, None))
         self.assertEqual(sends.last, (3, 1))
 
-    def test_packets_of_another_site(self) -> None:
-        lines = [record + b"\n" for record in KEPT]
-        self.assertEqual(list(packets_of(lines, 1, 1)), [(2, KEPT[4])])
-        self.assertEqual(tokens_of(lines), [KEPT[6]])
+    def test_what_it_has_of_another_site(self) -> None:
+        """Of the tokens those that came to it, and those that it passed on to that one."""
+        lines, out = [record + b"\n" for record in KEPT], OUT.splitlines(keepends=True)
+        self.assertEqual(kept_in(lines, out, 1, 1), ([(2, KEPT[4])], [KEPT[6], b"token,1,1,1,1", b"token,1,3,1,4"]))
+        self.assertEqual(kept_in(lines, out, 2, 0), ([], [KEPT[6]]))
+
+    def test_what_is_under_keys_is_what_it_would_be_without(self) -> None:
+        """Answered again is no news, and an ask under a key is no packet."""
+        keyed = [b"key,k%d,%b" % (at, record) if kind_of(record) in ASKS | {b"msg"} else record for at, record in enumerate(KEPT)]
+        out = OUT.replace(b"send,msg", b'send,key,"a, b",msg')
+        read = [kept_in([record + b"\n" for record in keyed], out.splitlines(keepends=True), 1, 1), sends_of(out.splitlines(keepends=True))]
+        self.assertEqual(read, [([(2, keyed[4])], [KEPT[6], b"token,1,1,1,1", b"token,1,3,1,4"]),
+                                [(place, text.replace(b"msg", b'key,"a, b",msg')) for place, text in self.ledger.sends.read(0, 5)]])
+        for is_plain in (False, True):
+            other = Ledger(0, 2, lambda pieces: [out[start:start + size] for start, size in pieces])
+            for record, answer in zip([*keyed, keyed[0]], AnswerReader().feed(out + b"reply,10,again,0.1\n"), strict=True):
+                if not (is_plain and other.note_plain(record, answer, len(record) + 1)):
+                    other.note(record, answer)
+            self.assertEqual(other.sends.read(0, 5), read[1])
+            self.assertEqual((vars(other.release), other.red.upto, other.turn), (vars(self.ledger.release), 4, 3))
 
     def test_a_line_that_is_being_written_is_none(self) -> None:
         """Its beginning may look like a packet that nobody sent."""
-        self.assertEqual(list(packets_of([KEPT[4] + b"\n", b"msg,1,1,3,0,1:2,user,ca"], 1, 0)), [(2, KEPT[4])])
-        self.assertEqual(tokens_of([b"token,1,2,0,1"]), [])
+        lines = [KEPT[4] + b"\n", b"msg,1,1,3,0,1:2,user,ca"]
+        self.assertEqual(kept_in(lines, [b"send,token,1,3,1,4"], 1, 0), ([(2, KEPT[4])], []))
+        self.assertEqual(kept_in([b"token,1,2,0,1"], [], 1, 0), ([], []))

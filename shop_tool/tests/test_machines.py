@@ -1,16 +1,16 @@
 """The machines of the carrier, step by step: an asker, what gives a site packets, and a stop that hands the token over."""
 
 import unittest
-from typing import Any
 
 from shop_tool.carrier.asking import Ask
 from shop_tool.carrier.over_files import BATCH, FileLink
 from shop_tool.carrier.reader import BLOCK_SECONDS, Reader
 from shop_tool.carrier.records import Purpose
 from shop_tool.carrier.site import Disagreement, State
-from shop_tool.carrier.steps import CallAll, IsRunning, Marks, Page, PageOf, Read, Say, SayLeave, SayWant, Steps, UpElsewhere, Wait
+from shop_tool.carrier.steps import (CallAll, IsRunning, KeptOf, Marks, Packets, Page, PageOf, Read, Say, SayLeave, SayWant, SeenHere, SentHere, UpElsewhere,
+                                     Wait)
 from shop_tool.ends import Fault
-from shop_tool.tests.shops import Known, OverServer, Supervisor
+from shop_tool.tests.shops import Known, OverServer, Supervisor, begun, done, fault_of
 
 TOKEN, ANN = b"token,1,2,1,0", b"msg,1,0,1,1,0:0,user,ann"
 
@@ -27,11 +27,6 @@ class Asking(unittest.TestCase):
         self.site = self.shop.sites[1]
         self.site.start()
 
-    def fault(self, steps: Steps[None], said: Any = None) -> str:
-        with self.assertRaises(Fault) as raised:
-            steps.send(said)
-        return raised.exception.text
-
     def test_an_answer_is_said(self) -> None:
         steps = ask(self.site).run([b"item,0.1,lamp,7,1,1,0"])
         self.assertEqual(steps.send(None), Wait(self.site.line[0].done, 3.0))
@@ -42,8 +37,7 @@ class Asking(unittest.TestCase):
         self.assertRaises(StopIteration, steps.send, None)
 
     def test_one_that_is_refused_for_want_of_the_token_is_asked_once_more(self) -> None:
-        steps = ask(self.site).run([b"user,bob"])
-        steps.send(None)
+        steps = begun(ask(self.site).run([b"user,bob"]))
         self.site.take(b"reply,1,refused,3,NoToken\n")
         self.assertEqual(steps.send(True), Wait(self.site.token_came, 3.0))
         self.assertEqual(self.shop.begun[0].send(None), SayWant(1, 0))
@@ -53,32 +47,29 @@ class Asking(unittest.TestCase):
         self.assertEqual(self.site.given, b"user,bob\nlist,misfits\nuser,bob\n")
 
     def test_when_the_token_does_not_come_it_is_not_accepted(self) -> None:
-        steps = ask(self.site).run([b"user,bob", b"user,cat"])
-        steps.send(None)
+        steps = begun(ask(self.site).run([b"user,bob", b"user,cat"]))
         self.site.take(b"reply,1,refused,3,NoToken\n")
         steps.send(True)
         self.assertIsInstance(steps.send(False), Say)
         self.assertEqual(steps.send(None), IsRunning(0, 0.5))
-        self.assertEqual(self.fault(steps, True), "site 1: site 0 has the token (turn 0); not accepted within 3 s")
+        self.assertEqual(fault_of(steps, True), "site 1: site 0 has the token (turn 0); not accepted within 3 s")
 
     def test_one_that_was_given_and_is_not_answered_may_still_be_accepted(self) -> None:
-        steps = ask(self.site).run([b"user,bob"])
-        steps.send(None)
+        steps = begun(ask(self.site).run([b"user,bob"]))
         self.assertIn("it may still be accepted, as record 1 of `shop log 1`; once another record stands there, it never will be",
-                      self.fault(steps, False))
+                      fault_of(steps, False))
 
     def test_it_has_its_number_by_the_records_in_front_of_it(self) -> None:
         """Questions are in front of it too, and one whose answer has come; it keeps its number where the keeper died."""
         self.site.give([b"user,ann", b"user,cat"])
         self.site.give([b"?state"], Purpose.QUESTION)
-        steps = ask(self.site).run([b"user,bob"])
-        steps.send(None)
+        steps = begun(ask(self.site).run([b"user,bob"]))
         self.site.take(b"reply,1,refused,3,NoToken\n")
         self.site.up.clear()
         pieces = iter([b"reply,2,refused,3,NoToken\n"])
         reading = self.site.catch_up(3, lambda: b"user,cat\n", lambda: next(pieces, b""))
         reading.send(None)
-        self.assertIn("as record 3 of `shop log 1`", self.fault(steps, False))
+        self.assertIn("as record 3 of `shop log 1`", fault_of(steps, False))
 
     def test_each_of_several_has_its_own_when_the_site_ends(self) -> None:
         several = [ask(self.site).run([b"user,bob"]), ask(self.site).run([b"user,cat"])]
@@ -86,30 +77,27 @@ class Asking(unittest.TestCase):
             steps.send(None)
         self.site.end()
         for number, steps in enumerate(several, 1):
-            self.assertIn(f"being stopped; it may still be accepted, as record {number} of", self.fault(steps, True))
+            self.assertIn(f"being stopped; it may still be accepted, as record {number} of", fault_of(steps, True))
 
     def test_one_that_was_not_given_is_not_given_any_more(self) -> None:
         self.site.up.clear()
-        steps = ask(self.site).run([b"user,bob"])
-        steps.send(None)
-        self.assertIn("nothing was given to it", self.fault(steps, False))
+        steps = begun(ask(self.site).run([b"user,bob"]))
+        self.assertIn("nothing was given to it", fault_of(steps, False))
         self.site.come_up()
         self.assertEqual(self.site.given, b"")
 
     def test_an_asker_who_leaves_takes_along_what_was_not_given(self) -> None:
         self.site.up.clear()
-        steps = ask(self.site).run([b"user,bob"])
-        steps.send(None)
+        steps = begun(ask(self.site).run([b"user,bob"]))
         steps.close()
         self.assertFalse(self.site.line)
 
     def test_a_site_that_ends(self) -> None:
-        steps = ask(self.site).run([b"user,bob"])
-        steps.send(None)
+        steps = begun(ask(self.site).run([b"user,bob"]))
         self.site.fence("it is a copy")
         self.site.end()
         self.assertEqual(self.site.state, State.FENCED)
-        self.assertIn("site 1: it is a copy; it may still be accepted", self.fault(steps, True))
+        self.assertIn("site 1: it is a copy; it may still be accepted", fault_of(steps, True))
 
 
 class Keeping(unittest.TestCase):
@@ -119,18 +107,13 @@ class Keeping(unittest.TestCase):
         site = Supervisor(FileLink, 2).sites[1]
         site.start()
         site.give([b"user,bob", b"user,cat"])
-        site.up.clear()
-        lines, pieces = iter(kept.splitlines(keepends=True)), iter([out])
-        for _ in site.catch_up(count, lambda: next(lines, b""), lambda: next(pieces, b"")):
-            pass
+        site.read_on(kept, out, count)
         return site
 
     def test_what_was_kept_is_answered_and_the_rest_is_given_again(self) -> None:
         site = self.caught_up(b"user,bob\n", b"reply,1,refused,3,NoToken\n", 1)
         self.assertEqual([pending.record for pending in site.line], [b"user,cat"])
-        site.given = b""
-        site.come_up()
-        self.assertEqual(site.given, b"user,cat\n")
+        self.assertEqual(site.again(), b"user,cat\n")
 
     def test_what_was_not_given_stops_it(self) -> None:
         self.assertRaises(Disagreement, self.caught_up, b"user,eve\n", b"reply,1,refused,3,NoToken\n", 1)
@@ -156,19 +139,14 @@ class Questioning(unittest.TestCase):
 
     def test_it_isn_t_counted_among_records(self) -> None:
         self.site.give([b"?state"], Purpose.QUESTION)
-        ask(self.site).run([b"comment,0.3,0.2,0.1,5,a"], [b"k"]).send(None)
-        self.assertIn(b'"number": 1}', self.site.key_lines)
+        steps = begun(ask(self.site).run([b"comment,0.3,0.2,0.1,5,a"]))
+        self.assertIn("as record 1 of", fault_of(steps, False))
 
     def test_one_whose_keeper_died_is_asked_again(self) -> None:
         self.site.give([b"?state"], Purpose.QUESTION)
         self.site.give([b"user,bob"])
-        self.site.up.clear()
-        lines, pieces = iter([b"user,bob\n", b""]), iter([b"reply,1,refused,3,NoToken\n", b""])
-        for _ in self.site.catch_up(1, lines.__next__, pieces.__next__):
-            pass
-        self.site.given = b""
-        self.site.come_up()
-        self.assertEqual(self.site.given, b"?state\n")
+        self.site.read_on(b"user,bob\n", b"reply,1,refused,3,NoToken\n", 1)
+        self.assertEqual(self.site.again(), b"?state\n")
 
     def test_an_answer_to_something_else_stops_the_site(self) -> None:
         self.site.give([b"?state"], Purpose.QUESTION)
@@ -189,7 +167,6 @@ class Reading(unittest.TestCase):
         del self.shop.sites[0]
         self.site = self.shop.sites[1]
         self.site.start()
-        assert isinstance(self.shop.link, OverServer)
         self.link = self.shop.link
         self.link.marks = [b"a", b"b"]
 
@@ -226,6 +203,11 @@ class Reading(unittest.TestCase):
         self.assertEqual(self.site.given, ANN + b"\n")
         self.assertTrue(self.fed([ANN], b""))
 
+    def test_it_is_given_with_its_key(self) -> None:
+        self.assertTrue(self.fed([b"key,k," + ANN, b"key,k," + TOKEN], b"reply,1,released,1\n"))
+        self.assertEqual(self.site.given, b"key,k," + ANN + b"\n")
+        self.assertIn("it is no packet", str(self.site.fault))
+
     def test_a_token_that_was_here_already_is_not_given(self) -> None:
         """Another site has had a later turn; the folder has lost that this one came and went."""
         self.shop.wants.known(5)
@@ -234,6 +216,42 @@ class Reading(unittest.TestCase):
 
     def test_a_site_that_is_full(self) -> None:
         self.assertFalse(self.fed([ANN], b"reply,1,refused,2,Full\n"))
+
+
+class Fenced(unittest.TestCase):
+    """What the other site is given of one that is fenced, over files."""
+
+    item = b"msg,1,0,2,0,1:0,item,0.1,lamp,7,1,1,0"
+    sent: Packets = [((1, 0), ANN), ((1, 1), TOKEN), ((2, 0), item)]
+
+    def given(self, has: Packets, sent: Packets, outlasts: bool = True, seen: str | None = None) -> bytes:
+        """What site 1, which has these messages, is given of site 0, which was fenced by an earlier start, and whose `out` has that."""
+        shop = Supervisor(FileLink, 2)
+        site, reads = shop.sites.values()
+        site.known.clear()
+        site.fence("site 1 has 9 messages of it", outlasts)
+        for (number, _), _ in has:
+            reads.ledger.have[0].add(number)
+        reads.start()
+        answers = {SentHere: sent, KeptOf: ([(number, text) for (number, _), text in has], []), SeenHere: seen}
+        done(shop.link.compare(site), answers)
+        done(shop.link.read(reads), answers, 3)
+        return reads.given
+
+    def test_what_the_other_lacks(self) -> None:
+        self.assertEqual(self.given([], self.sent), b"\n".join([ANN, TOKEN, self.item, b""]))
+        self.assertEqual(self.given(self.sent[:1], self.sent, seen="1 a"), b"\n".join([TOKEN, self.item, b""]))
+        self.assertEqual(self.given([*self.sent[::2], ((3, 0), b"msg,..")], self.sent), b"")
+
+    def test_nothing_where_another_past_is_known_or_its_folder_does_not_say_why(self) -> None:
+        """As one of which a line was changed."""
+        self.assertEqual(self.given([((2, 0), b"msg,1,0,2,0,1:0,item,0.1,vase,7,1,1,0")], self.sent), b"")
+        self.assertEqual(self.given([], self.sent, seen="1 b"), b"", "its folder is a copy")
+        self.assertEqual(self.given([], self.sent, outlasts=False), b"")
+
+    def test_nothing_behind_a_line_that_was_changed(self) -> None:
+        for strange in (b"msg,1,0,1,0,0:0,comment", b"msg,1,1,2,0,0:0,comment", b"msg,1,0", b"token,1"):
+            self.assertEqual(self.given([], [self.sent[0], ((2, 0), strange), self.sent[1]]), ANN + b"\n")
 
 
 class HandingOver(unittest.TestCase):

@@ -8,7 +8,7 @@ from unittest import mock
 from shop_tool import lives, witness
 from shop_tool.carrier.ledger import Place
 from shop_tool.carrier.lives import Standing, life_text, standing, takes_place, why_other
-from shop_tool.carrier.opening import may_open_unseen, must_compare_all, runs_elsewhere, strange_packet, why_behind, why_passed_on
+from shop_tool.carrier.opening import Said, must_compare_all, said_in_packets, said_in_status, strange_packet, why_behind, why_passed_on
 from shop_tool.lives import begin_life, lives_of, take_place
 
 
@@ -64,39 +64,43 @@ class Lives(unittest.TestCase):
 
 
 class Opening(unittest.TestCase):
-    def test_who_opens_unseen(self) -> None:
-        self.assertTrue(may_open_unseen(True, False))
-        self.assertTrue(may_open_unseen(False, True))
-        self.assertFalse(may_open_unseen(False, False))
-
     def test_when_all_is_compared(self) -> None:
         self.assertFalse(must_compare_all(Standing.NEXT, False))
         self.assertTrue(must_compare_all(Standing.NEXT, True))
         self.assertTrue(must_compare_all(Standing.AHEAD, False))
 
     def test_another_site_has_more(self) -> None:
-        self.assertIsNone(why_behind(0, 3, {}))
-        self.assertIsNone(why_behind(0, 3, {1: 3, 2: 0}))
-        self.assertEqual(why_behind(0, 3, {1: 4, 2: 5}), "site 2 has 5 messages of it, and its folder has 3 (shop rebuild 0)")
+        self.assertIsNone(why_behind(0, 3, []))
+        self.assertIsNone(why_behind(0, 3, [Said(1, 3, 0, ()), Said(2, 0, 0, ())]))
+        self.assertEqual(why_behind(0, 3, [Said(1, 4, 0, ()), Said(2, 5, 0, ())]),
+                         "site 2 has 5 messages of it, and its folder has 3 (shop rebuild 0)")
 
     def test_another_site_has_had_the_token_since(self) -> None:
         """A folder that lost nothing but a pass has as many messages as before, and would hold the token a second time."""
-        self.assertIsNone(why_passed_on(0, None, {1: 9}))
-        self.assertIsNone(why_passed_on(0, 4, {}))
-        self.assertIsNone(why_passed_on(0, 4, {1: 3, 2: 0}))
-        self.assertEqual(why_passed_on(0, 4, {1: 5, 2: 6}),
+        self.assertIsNone(why_passed_on(0, 4, True, []))
+        self.assertIsNone(why_passed_on(0, 4, True, [Said(1, 0, 3, ()), Said(2, 0, 0, ())]))
+        self.assertIsNone(why_passed_on(0, 4, False, [Said(1, 0, 9, ())]))
+        self.assertEqual(why_passed_on(0, 4, True, [Said(1, 0, 5, ()), Said(2, 0, 6, ())]),
                          "site 2 has had the token of turn 6, and its folder holds that of turn 4 (shop rebuild 0)")
+
+    def test_it_has_passed_on_a_turn_that_its_folder_has_lost(self) -> None:
+        """Another site gave it the token at a later turn than its folder has, and somebody has had a later one since: also where it is on its
+        way to it again."""
+        self.assertIsNone(why_passed_on(0, 4, False, [Said(1, 0, 4, (2, 4)), Said(2, 0, 9, ())]))
+        self.assertIsNone(why_passed_on(0, 4, False, [Said(1, 0, 5, (2, 5)), Said(2, 0, 5, ())]), "nobody has passed that on")
+        why = "site 2 has had the token of turn 6, and its folder doesn't know that it had that of turn 5 (shop rebuild 0)"
+        self.assertEqual(why_passed_on(0, 4, False, [Said(1, 0, 5, (2, 5)), Said(2, 0, 6, ())]), why)
+        self.assertEqual(why_passed_on(0, 4, False, [Said(1, 0, 5, (0, 5)), Said(2, 0, 6, (0, 6))]), why)
+
+    def test_what_a_version_of_before_says_and_what_stands_in_a_stream_or_a_folder(self) -> None:
+        self.assertEqual(said_in_status({"turn": 6, "has": {"0": 2}}, 1, 0), Said(1, 2, 6, ()))
+        self.assertEqual(said_in_packets(1, 0, [(2, b"msg,.."), (4, b"msg,..")], [b"token,1,3,0,9", b"token,1,5,2,9"]), Said(1, 4, 5, [3]))
 
     def test_a_packet_that_it_did_not_send(self) -> None:
         sent: dict[Place, bytes] = {(1, 0): b"a", (1, 1): b"token", (2, 0): b"b"}
         self.assertIsNone(strange_packet([((1, 0), b"a"), ((2, 0), b"b")], sent.get))
         self.assertEqual(strange_packet([((1, 0), b"a"), ((2, 0), b"c")], sent.get), (2, 0))
         self.assertEqual(strange_packet([((1, 0), b"a"), ((1, 2), b"token")], sent.get), (1, 2))
-
-    def test_who_runs_it(self) -> None:
-        self.assertFalse(runs_elsewhere(None, "me"))
-        self.assertFalse(runs_elsewhere({"by": "me"}, "me"))
-        self.assertTrue(runs_elsewhere({"by": "another"}, "me"))
 
 
 class Memory(unittest.TestCase):

@@ -7,7 +7,6 @@ import unittest
 from unittest import mock
 
 from shop_tool import program
-from shop_tool.ends import Fault
 
 
 class Program(unittest.TestCase):
@@ -25,7 +24,3 @@ class Program(unittest.TestCase):
 
     def test_it_is_itself_where_it_knows_no_other(self) -> None:
         self.assertEqual(self.found("[ $1 = --version ] && echo rubis 1 || { echo usage; exit 2; }"), "./rubis")
-
-    def test_one_that_cannot_run_is_a_fault(self) -> None:
-        with self.assertRaises(Fault):
-            self.found("exit 3")

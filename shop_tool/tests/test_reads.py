@@ -29,7 +29,7 @@ class Site:
 
     def give(self, records: list[bytes], purpose: Purpose) -> list[Pending]:
         self.begun.append(time.monotonic())
-        given = [Pending(record, None) for record in records]
+        given = [Pending(record) for record in records]
         self.line.extend(given)
 
         def end() -> None:

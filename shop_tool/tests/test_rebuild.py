@@ -5,6 +5,7 @@ import unittest
 from shop_tool.ends import Fault
 from shop_tool.carrier.ledger import Place
 from shop_tool.carrier.rebuilding import Past
+from shop_tool.carrier.records import under
 
 ANN, ITEM = b"msg,1,0,1,1,0:0,user,ann", b"msg,1,0,2,0,1:0,item,0.1,lamp,7,1,1,0"
 BID, CLOSE = b"msg,1,1,1,2,2:0,bid,0.2,1.9,5", b"msg,1,0,3,3,2:1,close,0.2,7,1.1"
@@ -22,6 +23,13 @@ class Steps(unittest.TestCase):
         past = Past(0, [ZERO, ONE])
         self.assertEqual(records(past), [b"user,ann", b"pass,1", b"item,0.1,lamp,7,1,1,0", BID, BACK, b"close,0.2,0.1", b"pass,1"])
         self.assertEqual([step.packet for step in past.steps() if step.packet], [packet for _, packet in ZERO])
+
+    def test_asks_under_their_keys(self) -> None:
+        keyed = [(place, under(b'a, "b"', text) if text in (ANN, ITEM, CLOSE, BID) else text) for place, text in [*ZERO, *ONE]]
+        past = Past(0, [keyed[:len(ZERO)], keyed[len(ZERO):]])
+        self.assertEqual(records(past), [text if text.startswith((b"pass", b"token")) else under(b'a, "b"', text)
+                                         for text in (b"user,ann", b"pass,1", b"item,0.1,lamp,7,1,1,0", BID, BACK, b"close,0.2,0.1", b"pass,1")])
+        self.assertEqual([step.packet for step in past.steps() if step.packet], [packet for _, packet in keyed[:len(ZERO)]])
 
     def test_a_token_that_it_took_and_did_not_use(self) -> None:
         past = Past(1, [ZERO, ONE])

@@ -3,7 +3,7 @@
 import unittest
 
 from shop_tool.carrier.records import (
-    BYTES_OF_A_RECORD, Message, Purpose, Token, ask_of, fields_of, line_of, packet_of, row_of, why_not_one_record)
+    BYTES_OF_A_RECORD, Message, Purpose, Token, ask_of, bare, fields_of, key_in, kind_of, line_of, packet_of, row_of, under, why_not_one_record)
 
 
 class OneRecord(unittest.TestCase):
@@ -15,7 +15,7 @@ class OneRecord(unittest.TestCase):
 
     def test_what_would_swallow_or_lose_others(self) -> None:
         for record in (b'user,"eve', b'item,0.1,a"b,"c,7,1,1,0', b"user,dan\rrest", b"user,dan\nuser,eve", b"x" * (BYTES_OF_A_RECORD + 1),
-                       b"\xef\xbb\xbfuser,ann", b"\xef", b"msg,1,0,1,1,0,user,ann", b"token,1,1,1,0", b'"user",ann'):
+                       b"\xef\xbb\xbfuser,ann", b"\xef", b"msg,1,0,1,1,0,user,ann", b"token,1,1,1,0", b'"user",ann', b"key,k,user,ann"):
             with self.subTest(record=record[:40]):
                 self.assertIsNotNone(why_not_one_record(record))
 
@@ -29,12 +29,24 @@ class OneRecord(unittest.TestCase):
 
 
 class Packets(unittest.TestCase):
-    def test_a_message(self) -> None:
-        packet = packet_of(b'msg,1,2,7,3,4:5:6,item,0.1,"a, b",7,1,1,0')
-        self.assertEqual(packet, Message(2, 7, 3, (4, 5, 6), b'item,0.1,"a, b",7,1,1,0'))
-
-    def test_a_token(self) -> None:
+    def test_a_message_and_a_token(self) -> None:
+        self.assertEqual(packet_of(b'msg,1,2,7,3,4:5:6,item,0.1,"a, b",7,1,1,0'), Message(2, 7, 3, (4, 5, 6), b'item,0.1,"a, b",7,1,1,0'))
         self.assertEqual(packet_of(b"token,1,4,2,9"), Token(4, 2, 9))
+
+    def test_what_is_under_a_key(self) -> None:
+        """The key goes with the text, and what the record or packet is says what stands behind it."""
+        for key, text in ((b"k", b"key,k,"), (b"a, b", b'key,"a, b",'), (b'"', b'key,"""",'), (b" ~" * 127 + b"x", b"key," + b" ~" * 127 + b"x,"),
+                          (b'"' * 255, b'key,"' + b'""' * 255 + b'",')):
+            for record in (b"user,ann", b'msg,1,2,7,3,4:5:6,item,0.1,"a, b",7,1,1,0', b"x"):
+                self.assertEqual((under(key, record), key_in(text + record), bare(text + record)), (text + record, text, record))
+                self.assertEqual((packet_of(text + record), kind_of(text + record)), (packet_of(record), record.split(b",")[0]))
+
+    def test_what_is_under_no_key(self) -> None:
+        """A token has none, and what isn't a key stands in front of nothing."""
+        for line in (b"key,k,token,1,4,2,9", b"key,,user,ann", b"key,k", b"key," + b"k" * 256 + b",user,ann", b"key,\xe9,user,ann", b"key,\t,user,ann",
+                     b'key,"k,user,ann', b'key,k"k,user,ann', b"Key,k,user,ann"):
+            self.assertEqual((key_in(line), bare(line), packet_of(line)), (b"", line, None))
+            self.assertIsNotNone(why_not_one_record(bare(line), Purpose.PACKET))
 
     def test_other_lines(self) -> None:
         for line in (b"", b"user,ann", b"msg,1,0,1", b"token,1,x,1,0", b"msg,1,0,1,1,:,user,ann", b"token,1,1,1,0,0"):

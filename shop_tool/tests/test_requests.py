@@ -32,8 +32,10 @@ class Requests(unittest.TestCase):
         for records in (None, "user,ann", [7], [None], ["user,ann", ""], ["\ud800"], ["user,ann"] * (RECORDS_OF_A_REQUEST + 1)):
             self.refused(asks_of, {"records": records, "fetch": True})
         self.refused(asks_of, {"records": ["user,ann"]})
-
-        for key in (7, "", "\ud800", "\udcff", "a\n", "a" * 256):
+        keyed = asks_of({"records": ["user,ann", "list,users", "user,bob"], "keys": [" ~" * 127 + "x", "k", None], "fetch": True})
+        self.assertEqual(keyed.records, [b"key," + b" ~" * 127 + b"x,user,ann", b"list,users", b"user,bob"])
+        self.refused(asks_of, {"records": ["key,k,user,ann"], "fetch": True})
+        for key in (7, "", "\ud800", "\udcff", "a\n", "a\tb", "\xe9", "a" * 256):
             self.refused(asks_of, {"records": ["user,ann"], "keys": [key], "fetch": True})
 
     def test_rows(self) -> None:

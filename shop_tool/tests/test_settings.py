@@ -40,7 +40,7 @@ class Starts(unittest.TestCase):
     def test_a_standby(self) -> None:
         """One says which sites it stands by for; then none of the others has to run here, and its file is as before where it stands by for none."""
         over = {"sites": 3, "over": "redis://host/auction"}
-        now = settings.changed(f"{self.folder}/new", over | {"standby": (2,), "after": 5.0})
+        now = settings.changed(f"{self.folder}/new", over | {"standby": (2,), "after": 5.0, "sync": True, "shards": 9})
         self.assertEqual((now.here, now.standby, now.after), ((), (2,), 5.0))
         self.assertEqual(settings.from_text(settings.to_text(now)), now)
         taken = settings.moved_here(now, 2)
@@ -63,10 +63,6 @@ class Starts(unittest.TestCase):
         for setup, why in (("setup,0,3,1000,1", "is site 0 of 3, and keeps 1000"), ("setup,1,2,10,1", "is site 1 of 2, and keeps 10"),
                            ("setup,1,3,1001,1", "is site 1 of 3, and keeps 1001")):
             self.assertEqual(settings.why_another_site(setup, 1, now), why)
-
-    def test_they_are_handed_on(self) -> None:
-        now = settings.Settings(sites=3, here=(0, 2), over="redis://host/auction", sync=True, shards=9)
-        self.assertEqual(settings.from_text(settings.to_text(now)), now)
 
     def test_a_spoilt_file_is_a_fault(self) -> None:
         """So is one in which a value isn't of its type, as after an edit by hand."""

@@ -7,12 +7,11 @@ from shop_tool.carrier.asking import Ask
 from shop_tool.carrier.ledger import Place
 from shop_tool.carrier.publisher import Publisher
 from shop_tool.carrier.standby import LOOK_SECONDS, Standby
-from shop_tool.carrier.steps import (Entries, Owner, Page, PageOf, Replay, Rewrite, Say, SayYields, SeeHere, SeeLife, SeenHere, SentHere, Sites, StandBy,
-                                     State, Statuses, StreamState, TakeOver, Wait)
-from shop_tool.ends import Fault
-from shop_tool.tests.shops import Known, OverServer, Supervisor, done
+from shop_tool.carrier.steps import Entries, Replay, Rewrite, Say, SayYields, SentHere, StandBy, State, Statuses, StreamState, TakeOver, Wait
+from shop_tool.tests.shops import OverServer, Supervisor, answers, begun, done, fault_of
 
 ANN = b"msg,1,1,1,0,0:0,user,ann"
+BOB = b"msg,1,1,2,2,0:1,user,bob"
 LIFE = "1 a"
 
 
@@ -26,23 +25,18 @@ class Yielding(unittest.TestCase):
     def setUp(self) -> None:
         self.shop = Supervisor(OverServer, 2)
         self.shop.sites = {1: self.shop.sites[1]}
-        self.site: Known = self.shop.sites[1]
+        self.site = self.shop.sites[1]
         self.site.start()
-        assert isinstance(self.shop.link, OverServer)
         self.link = self.shop.link
         self.publisher = Publisher(self.link, self.site)
 
     def accept(self) -> None:
-        self.site.read_out = lambda pieces: [ANN]
-        self.site.ledger.sends._read_out = self.site.read_out
+        self.site.ledger.sends._read_out = lambda pieces: [ANN]
         self.site.give([b"user,ann"])
         self.site.take(b"reply,1,ok,1.1\nsend,%b\n" % ANN)
 
     def compare(self, state: StreamState) -> list[tuple[Any, ...]]:
-        others = {0: {"has": {"1": 0}, "turn": 0}}
-        answers = {State: state, Owner: "me:1 here:0", Statuses: others, SeeLife: True, PageOf: Page(0, (0, 0), b"", []), SayYields: True, Rewrite: True,
-                   SeenHere: None, SeeHere: None, Sites: 2}
-        return done(self.publisher._compare(), answers)
+        return done(self.publisher._compare(), answers(statuses={0: {"has": {"1": 0}, "turn": 0}}) | {State: state})
 
     def test_without_a_standby_nothing_is_said(self) -> None:
         steps = self.compare(stream())
@@ -63,8 +57,7 @@ class Yielding(unittest.TestCase):
 
     def test_without_its_standby_it_goes_on_once_the_server_knows(self) -> None:
         self.compare(stream(standby="c"))
-        answers = {State: stream(yields=LIFE), Owner: "me:1 here:0", SayYields: False, Sites: 2}
-        self.assertIn(SayYields(1, LIFE, ""), done(self.publisher._compare(), answers | {Statuses: {}}))
+        self.assertIn(SayYields(1, LIFE, ""), done(self.publisher._compare(), answers() | {State: stream(yields=LIFE), SayYields: False}))
         self.assertTrue(self.site.yields)
         self.compare(stream(yields=LIFE))
         self.assertFalse(self.site.yields or self.site.is_written_as_yielding)
@@ -89,46 +82,45 @@ class Yielding(unittest.TestCase):
         self.site.yields = True
         for fenced_by in (None, "b/1 has it"):
             self.accept()
-            steps = Ask(self.site, 3.0, fetches_token=True).run([b"list,misfits"])
-            steps.send(None)
+            steps = begun(Ask(self.site, 3.0, fetches_token=True).run([b"list,misfits"]))
             self.site.fenced_by = None
             self.site.take(b"reply,2,ok,1.2\nsend,msg,1,1,2,0,0:1,item,0.1,lamp,7,1,1,0\n")
             steps.send(True)
             self.site.fenced_by = fenced_by
-            with self.assertRaises(Fault) as raised:
-                steps.send(bool(fenced_by))
-            self.assertIn("; whether it was accepted isn't known (shop log 1)", raised.exception.text)
+            self.assertIn("; whether it was accepted isn't known (shop log 1)", fault_of(steps, bool(fenced_by)))
 
     def test_a_refusal_is_said_once_what_was_sent_before_it_is_published(self) -> None:
         """It may rest on that: with the site's place taken, the user whose nickname it names never was."""
         self.site.yields = True
         self.accept()
-        steps = Ask(self.site, 3.0, fetches_token=True).run([b"user,ann"])
-        steps.send(None)
+        steps = begun(Ask(self.site, 3.0, fetches_token=True).run([b"user,ann"]))
         self.site.take(b"reply,2,refused,2,NickTaken\n")
         self.assertIsInstance(steps.send(True), Wait)
-        with self.assertRaises(Fault) as raised:
-            steps.send(False)
-        self.assertIn("its answer is not published within 3 s", raised.exception.text)
-        self.assertIn("; not accepted", raised.exception.text)
+        self.assertRegex(fault_of(steps, False), "its answer is not published within 3 s .*; not accepted")
+
+    def test_nor_is_one_told_that_it_was_accepted_before(self) -> None:
+        """Nor that its key is taken: where the place of the site is taken, what these rest on never was."""
+        self.site.yields, self.link.without_keys = True, ()
+        self.accept()
+        for number, answer in enumerate((b"again,1.1", b"refused,40,KeyTaken"), 2):
+            steps = begun(Ask(self.site, 3.0, fetches_token=True).run([b"key,k,user,ann"]))
+            self.site.take(b"reply,%d,%b\n" % (number, answer))
+            self.assertIsInstance(steps.send(True), Wait)
+            self.assertIn("its answer is not published within 3 s", fault_of(steps, False))
 
     def test_of_records_behind_a_refusal_it_is_not_known(self) -> None:
         """They were given together with the refused one, and may be accepted."""
         self.site.yields = True
         self.accept()
-        steps = Ask(self.site, 3.0, fetches_token=True).run([b"comment,0.9,0.1,0.2,5,good", b"comment,0.1,0.1,0.2,5,good"])
-        steps.send(None)
+        steps = begun(Ask(self.site, 3.0, fetches_token=True).run([b"comment,0.9,0.1,0.2,5,good", b"comment,0.1,0.1,0.2,5,good"]))
         self.site.take(b"reply,2,refused,6,NoUser\n")
         self.site.take(b"reply,3,ok,1.2\nsend,msg,1,1,2,0,0:1,comment,0.1,0.1,0.2,5,good\n")
         steps.send(True)
-        with self.assertRaises(Fault) as raised:
-            steps.send(False)
-        self.assertIn("; whether it was accepted isn't known (shop log 1)", raised.exception.text)
+        self.assertIn("; whether it was accepted isn't known (shop log 1)", fault_of(steps, False))
 
     def test_a_refusal_before_which_nothing_was_sent_is_said_at_once(self) -> None:
         self.site.yields = True
-        steps = Ask(self.site, 3.0, fetches_token=True).run([b"item,0.1,lamp,7,1,1,0"])
-        steps.send(None)
+        steps = begun(Ask(self.site, 3.0, fetches_token=True).run([b"item,0.1,lamp,7,1,1,0"]))
         self.site.take(b"reply,1,refused,6,NoUser\n")
         self.assertIsInstance(steps.send(True), Say)
 
@@ -138,7 +130,6 @@ class StandingBy(unittest.TestCase):
 
     def setUp(self) -> None:
         self.shop = Supervisor(OverServer, 1)
-        assert isinstance(self.shop.link, OverServer)
         self.shop.after = 30.0
         self.standby = Standby(self.shop.link, 1)
         self.state = stream((1, 0), yields=LIFE)
@@ -165,7 +156,7 @@ class StandingBy(unittest.TestCase):
                     case Entries(site, after):
                         said = [entry for entry in self.entries.get(site, []) if entry[0] > after]
                     case SentHere():
-                        said = []
+                        said = [*self.entries[1], ((2, 0), BOB)]    # a folder of it from before stands here
                     case TakeOver():
                         said = took_over
                     case Replay():

@@ -2,7 +2,7 @@
 
 import unittest
 
-from shop_tool.carrier.told import Once, is_called, not_given, not_known, unanswered
+from shop_tool.carrier.told import Once, is_called, not_given
 
 
 class Told(unittest.TestCase):
@@ -11,13 +11,6 @@ class Told(unittest.TestCase):
         self.assertEqual(not_given(3), "nothing more was given to it")
         for answered in (0, 3):
             self.assertEqual(not_given(answered, was_refused=True), "not accepted")
-
-    def test_how_it_is_found_out(self) -> None:
-        self.assertIn("as record 17 of `shop log 2`; once another record stands there, it never will be", not_known(2, 17))
-        self.assertIn("shop log 2", unanswered({"op": "ask", "site": 2}))
-
-    def test_only_asks_change_something(self) -> None:
-        self.assertEqual(unanswered({"op": "list", "site": 2}), "")
 
 
 class Calls(unittest.TestCase):

@@ -11,4 +11,5 @@ status_of folder.NoSite = 2
 status_of folder.NotBelow = 2
 status_of (folder.IsOther setup) = 2
 status_of (folder.IsOld version) = 2
+status_of folder.HasKeys = 2
 status_of other = 1

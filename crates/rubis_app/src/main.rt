@@ -6,23 +6,32 @@ ghost use Rattle.std.specs.Prelude.{◌≡◌, ◌⊎◌, ◌<◌, ◌≤◌, �
 ghost use Rattle.rubis_schema.specs.declared.limits.TheConstants.{SITES_MAX};
 ghost use Rattle.std.specs.Option.{SomeIff};
 ghost use Rattle.std.specs.Process.{exit_status};
+ghost use Rattle.rubis_reading.specs.Chunked.{OfInput};
+ghost use Rattle.rubis_script.specs.Replica.{setup_place};
+ghost use Rattle.rubis_script.specs.ByStatus.{IsRunOfStatus};
 ghost use Rattle.rubis_world.specs.Script.{IsSetup};
-ghost use Rattle.rubis_command.specs.Setups.{setup_of};
+ghost use Rattle.rubis_command.specs.Setups.{site_setup};
 ghost use Rattle.rubis_command.specs.Statuses.{IsRunStatus, IsStatus, IsStatusOf};
 ghost use Rattle.rubis_app.specs.Setups.{names_a_site, waiting_options, wanted_of, world_setup_of};
 ghost use Rattle.rubis_world.specs.Worlds.{IsWorldSetup};
 ghost use Rattle.rubis_app.specs.Statuses.{status_of};
 
-use rubis_audit::{Auditor, Grammar, LogQuestion, Tally, run_auditor, run_check, run_widen};
+use rubis_audit::{
+    Auditor, Grammar, LogQuestion, Tally, Widener, run_auditor_chunks, run_check, run_widen_chunks,
+};
 use rubis_command::{
     CheckOptions, FAULT, Invocation, KeepOptions, LackOptions, MISUSE, NOT_WELL, Options, ReadAs,
     SetupOptions, Widening, end, fail, misuse, read_site, read_words, words_of,
 };
+use rubis_engine::Outgoing;
 use rubis_keep::{FolderFault, Setup as Place, Wanted, keep_folder};
+use rubis_reading::Chunks;
 use rubis_schema::{Hashes, KEEP_MAX, RECORDS_MAX, SITES_MAX};
-use rubis_script::run_last_site;
-use rubis_world::{Count, RunFault, WorldConfig, WorldDesk, run_waiting, run_world_desk};
+use rubis_script::{chunks_for, run_last_site};
+use rubis_serving::BLOCK;
+use rubis_world::{Count, RunFault, WorldConfig, WorldDesk, run_waiting, run_world_chunks};
 use std::fs::{File, Files};
+use std::io::{Read, Write};
 use std::process::ExitCode;
 use std::random::RandomSource;
 use std::rt::Clock;
@@ -41,22 +50,37 @@ fn end_audit<R: Eprint>(rt: &R, ended: Result<Count, RunFault>, is_well: bool) -
     }
 }
 
-// Runs a site over standard input and output.
-fn run_one<R: Print + Eprint + Input + AllocGlobal + RandomSource + Threads + Wait + Sync>(
+// Runs a site over a text that nothing was read of, and says by the status how that ended.
+fn run_one<R: Eprint + AllocGlobal + RandomSource + Threads + Wait + Sync, I: Read, O: Write>(
     rt: &R,
     options: &Options,
+    chunks: &mut Chunks<I>,
+    writer: &mut O,
 ) -> ExitCode
-    ensures misuse { ¬ IsSetup (setup_of options.now) → exit_status result ≡ 2 }
-    ensures runs { IsSetup (setup_of options.now) → IsRunStatus (exit_status result) }
+    ensures misuse { ¬ IsSetup (site_setup options.now) → exit_status result ≡ 2 }
+    ensures runs { IsSetup (site_setup options.now) → IsRunStatus (exit_status result) }
     ensures status { IsStatus (exit_status result) }
+    ensures answers { IsSetup (site_setup options.now) → OfInput I.remaining chunks.old chunks.new (λ input.
+        IsRunOfStatus (setup_place (site_setup options.now)) input (O.contents writer.old) (O.contents writer.new) (exit_status result)) }
 {
     let config = match read_site(rt, options) {
         Ok(config) => config,
         Err(status) => return status,
     };
-    let mut writer = io::writer(rt);
-    let ended = run_last_site(rt, rt.alloc(), rt.reader(), &mut writer, &config);
+    let ended = run_last_site(rt, rt.alloc(), chunks, writer, &config);
     end(rt, ended)
+}
+
+// Runs a site over standard input and output.
+fn run_streams<R: Print + Eprint + Input + AllocGlobal + RandomSource + Threads + Wait + Sync>(
+    rt: &R,
+    options: &Options,
+) -> ExitCode
+    ensures { IsStatus (exit_status result) }
+{
+    let mut chunks = chunks_for(rt.alloc(), rt.reader(), options.setup.workers);
+    let mut writer = Outgoing::new(io::writer(rt));
+    run_one(rt, options, &mut chunks, &mut writer)
 }
 
 // The configuration of several sites, if each number is within its limits.
@@ -78,8 +102,9 @@ fn answer_world<R: Print + Input + AllocGlobal + Threads + Wait + Sync>(
     config: &WorldConfig,
 ) -> Result<Count, RunFault> {
     let mut desk = WorldDesk::new(rt, rt.alloc(), config)?;
-    let mut writer = io::writer(rt);
-    let ended = run_world_desk(rt.alloc(), rt.reader(), &mut writer, &mut desk, RECORDS_MAX);
+    let mut chunks = Chunks::new(rt.alloc(), rt.reader(), BLOCK);
+    let mut writer = Outgoing::new(io::writer(rt));
+    let ended = run_world_chunks(rt.alloc(), &mut chunks, &mut writer, &mut desk, RECORDS_MAX);
     mem::forget(desk);
     ended
 }
@@ -116,8 +141,9 @@ fn audit_logs<R: Print + Eprint + Input + AllocGlobal + RandomSource>(
         return misuse(rt, "there are too many sites");
     }
     let mut auditor = Auditor::hashed(rt.alloc(), sites, asked, Hashes::random(rt));
-    let mut writer = io::writer(rt);
-    let ended = run_auditor(rt.alloc(), rt.reader(), &mut writer, &mut auditor);
+    let mut chunks = Chunks::new(rt.alloc(), rt.reader(), BLOCK);
+    let mut writer = Outgoing::new(io::writer(rt));
+    let ended = run_auditor_chunks(rt.alloc(), &mut chunks, &mut writer, &mut auditor);
     let is_well = auditor.is_well();
     mem::forget(auditor);
     end_audit(rt, ended, is_well || !by_status)
@@ -145,18 +171,19 @@ fn run_waits<R: Print + Eprint + Input + AllocGlobal + RandomSource + Threads + 
     rt: &R,
     options: &LackOptions,
 ) -> ExitCode
-    ensures misuse { ¬ IsSetup (setup_of (waiting_options options.now)) → exit_status result ≡ 2 }
-    ensures runs { IsSetup (setup_of (waiting_options options.now)) → IsRunStatus (exit_status result) }
+    ensures misuse { ¬ IsSetup (site_setup (waiting_options options.now)) → exit_status result ≡ 2 }
+    ensures runs { IsSetup (site_setup (waiting_options options.now)) → IsRunStatus (exit_status result) }
     ensures status { IsStatus (exit_status result) }
 {
     let config = match read_site(rt, &waiting_options(options)) {
         Ok(config) => config,
         Err(status) => return status,
     };
-    let mut writer = io::writer(rt);
+    let mut chunks = chunks_for(rt.alloc(), rt.reader(), 1);
+    let mut writer = Outgoing::new(io::writer(rt));
     end(
         rt,
-        run_waiting(rt, rt.alloc(), rt.reader(), &mut writer, &config),
+        run_waiting(rt, rt.alloc(), &mut chunks, &mut writer, &config),
     )
 }
 
@@ -232,14 +259,10 @@ fn run_widener<R: Print + Eprint + Input + AllocGlobal>(rt: &R, counts: &Widenin
     if counts.to > SITES_MAX {
         return misuse(rt, "there are too many sites");
     }
-    let mut writer = io::writer(rt);
-    let ended = run_widen(
-        rt.alloc(),
-        rt.reader(),
-        &mut writer,
-        counts.sites,
-        counts.to,
-    );
+    let mut widener = Widener::new(rt.alloc(), counts.sites, counts.to);
+    let mut chunks = Chunks::new(rt.alloc(), rt.reader(), BLOCK);
+    let mut writer = Outgoing::new(io::writer(rt));
+    let ended = run_widen_chunks(rt.alloc(), &mut chunks, &mut writer, &mut widener);
     end(rt, ended)
 }
 
@@ -275,6 +298,9 @@ fn tell_misuse<R: Eprint>(rt: &R, folder: &str, fault: &FolderFault) -> io::Resu
                 "fault: {folder} has answers of version {version}: --upgrade writes them anew"
             )
         }
+        FolderFault::HasKeys => {
+            eprintln!(rt; "fault: {folder} has records that begin with key: --shorten drops them")
+        }
         _ => Ok(()),
     }
 }
@@ -302,7 +328,8 @@ fn status_of(fault: &FolderFault) -> u8
         | FolderFault::NoSite
         | FolderFault::NotBelow
         | FolderFault::IsOther(_)
-        | FolderFault::IsOld(_) => MISUSE,
+        | FolderFault::IsOld(_)
+        | FolderFault::HasKeys => MISUSE,
         _ => FAULT,
     }
 }
@@ -371,7 +398,7 @@ fn obey<
     ensures { IsStatus (exit_status result) }
 {
     match asked {
-        Invocation::Site(options) => run_one(rt, options),
+        Invocation::Site(options) => run_streams(rt, options),
         Invocation::World(setup) => run_sites(rt, setup),
         Invocation::Audit(options) => audit_logs(
             rt,

@@ -1,6 +1,6 @@
 -- How an auditor goes on with the records that it reads.
 use Rattle.rubis_audit.proofs.Common.{ℕ, ◌≡◌, ◌∙◌, List, [], ◌∷◌, Bool, true, false, cond, refl, ap, Option, Some, None, ◌+◌, ◌++◌, sym, subst}
-use Rattle.rubis_audit.proofs.Common.{⊎_elim, arith, ◌≢◌, ◌≤◌, bytes_eq, nat_lt, option_and_then, option_map, Ok, reverse, suc, IfSome, option_or}
+use Rattle.rubis_audit.proofs.Common.{⊎_elim, arith, ◌≢◌, ◌≤◌, bytes_eq, nat_lt, option_and_then, option_map, Ok, reverse, suc, option_or}
 use Rattle.rubis_audit.proofs.Common.{packet_of, Line, line_of, logs_after, with_line, audit_of, Begin, Claim, Message, sites_of, Log, verdict, Has}
 use Rattle.rubis_audit.proofs.Common.{has_reverse, push_cases, AnswersRecord, rows_text, input_records, GoesOn, Ends, Appends, COUNTED_MAX, Agree}
 use Rattle.rubis_audit.proofs.Common.{Found, HasNoMark, no_mark, rows_back}
@@ -14,7 +14,7 @@ use Rattle.std.proofs.lemmas.List.{append_cancel_left}
 use Rattle.rubis_message.specs.declared.answers.Verdict.{Verdict}
 use Rattle.rubis_laws.proofs.Audits.Verdicts.{agreed_audits_are_sound}
 use Rattle.rubis_engine.specs.Progress.{IsDone}
-use Rattle.rubis_audit.specs.Running.{begin_of, is_row, AreRead, HasMessagesAmong, IsCurrentAmong, account_from, answer_text, logs_so_far, read_behind}
+use Rattle.rubis_audit.specs.Running.{begin_of, is_row, AreForAuditor, HasMessagesAmong, IsCurrentAmong, account_from, answer_text, logs_so_far, read_behind}
 use Rattle.rubis_audit.specs.Running.{rows_for, AuditorState, AgreesOnSoundLogs, agreed_text}
 use Rattle.rubis_audit.specs.Walks.{HaveMessagesAmong}
 use Rattle.rubis_audit.specs.declared.auditor.LogQuestion.{LogQuestion}
@@ -98,23 +98,23 @@ pushed_among sites current log log2 m c e s among other f u h =
     ⊎_elim (λ l. among log c u l) (λ r. ap sites_of r ∙ s)
     (push_cases u m log.messages (subst (Has u) (ap (λ (x : Log). x.messages) (sym (some_same log2 other f) ∙ e)) h))
 
-all_among : (sites : ℕ) (ended : List Log) (current : Option Log) → AreRead sites ended current → (log : Log) → Has log (reverse (logs_so_far ended current)) →
+all_among : (sites : ℕ) (ended : List Log) (current : Option Log) → AreForAuditor sites ended current → (log : Log) → Has log (reverse (logs_so_far ended current)) →
     HasMessagesAmong sites log
 all_among sites ended None a log h = absurd (has_reverse log [] h)
 all_among sites ended (Some x) a log h =
     ⊎_elim (λ e. a.current_among log (ap Some (sym e))) (λ r. a.ended_among log (has_reverse log ended r)) (has_reverse log (x ∷ reverse ended) h)
 
 -- the log that was read is appended to those that ended, or all stay
-ended_all : {E : Type 0} (r : Result (Unit {0}) E) (sites : ℕ) (ended ended2 : List Log) (current : Option Log) → AreRead sites ended current
+ended_all : {E : Type 0} (r : Result (Unit {0}) E) (sites : ℕ) (ended ended2 : List Log) (current : Option Log) → AreForAuditor sites ended current
     → OnOk r (ended2 ≡ reverse (logs_so_far ended current)) → OnErr r (ended2 ≡ ended) → (log : Log) → Has log ended2 → HasMessagesAmong sites log
 ended_all (Ok u) sites ended ended2 current a ok err log h = all_among sites ended current a log (subst (Has log) ok h)
 ended_all (Err e) sites ended ended2 current a ok err log h = a.ended_among log (subst (Has log) err h)
 
 -- a log begins
 pub begun : {E : Type 0} (r : Result (Unit {0}) E) (sites : ℕ) (ended ended2 : List Log) (current current2 : Option Log) (log2 : Log) →
-    AreRead sites ended current
+    AreForAuditor sites ended current
     → OnOk r (ended2 ≡ reverse (logs_so_far ended current)) → OnErr r (ended2 ≡ ended) → current2 ≡ Some log2 → log2.messages ≡ []
-    → AreRead sites ended2 current2
+    → AreForAuditor sites ended2 current2
 begun r sites ended ended2 current current2 log2 a ok err c none = record {
   few = a.few;
   ended_among = ended_all r sites ended ended2 current a ok err;
@@ -122,9 +122,9 @@ begun r sites ended ended2 current current2 log2 a ok err c none = record {
 }
 
 -- no log is read any more
-pub all_ended : {E : Type 0} (r : Result (Unit {0}) E) (sites : ℕ) (ended ended2 : List Log) (current current2 : Option Log) → AreRead sites ended current
+pub all_ended : {E : Type 0} (r : Result (Unit {0}) E) (sites : ℕ) (ended ended2 : List Log) (current current2 : Option Log) → AreForAuditor sites ended current
     → OnOk r (ended2 ≡ reverse (logs_so_far ended current)) → OnErr r (ended2 ≡ ended) → current2 ≡ None
-    → AreRead sites ended2 current2
+    → AreForAuditor sites ended2 current2
 all_ended r sites ended ended2 current current2 a ok err c = record {
   few = a.few;
   ended_among = ended_all r sites ended ended2 current a ok err;
@@ -132,7 +132,7 @@ all_ended r sites ended ended2 current current2 a ok err c = record {
 }
 
 -- the logs that ended are all that were read
-pub read_among : (sites : ℕ) (ended logs : List Log) (current : Option Log) → AreRead sites ended current → logs ≡ reverse (logs_so_far ended current) →
+pub read_among : (sites : ℕ) (ended logs : List Log) (current : Option Log) → AreForAuditor sites ended current → logs ≡ reverse (logs_so_far ended current) →
     HaveMessagesAmong sites logs
 read_among sites ended logs current a e log h = all_among sites ended current a log (subst (Has log) e h)
 
@@ -220,12 +220,11 @@ agrees_on_sound sites (Some xs) (Some ys) records few wrote before is agreed =
     let rows : audit_record read ∷ [] ≡ verdict_record Agree ∷ [] = sym (record_back read) ∙ ap input_records same ∙ agree_back in
     agreed_audits_are_sound sites records few (same_front (audit_record read) (verdict_record Agree) rows)
 
--- the same of the bytes of a reader, if they are known, and of an auditor that had read nothing
-pub agrees_known : (sites limit count : ℕ) (auditor : AuditorState) (well : Bool) (input old now : Option (List ℕ)) → sites ≤ COUNTED_MAX
+-- the same of an auditor that had read nothing
+pub agrees_fresh : (sites limit count : ℕ) (auditor : AuditorState) (well : Bool) (input : List ℕ) (old now : Option (List ℕ)) → sites ≤ COUNTED_MAX
     → auditor ≡ record { sites = sites; asked = Agreement; logs = []; well = well }
-    → IfSome input (λ text. IsDone (account_from auditor.asked auditor.sites 1 auditor.logs) limit old now (input_records text) count)
-    → IfSome input (λ text. AgreesOnSoundLogs sites old now (input_records text))
-agrees_known sites limit count auditor well None old now few fresh done = tt
-agrees_known sites limit count auditor well (Some text) old now few fresh done =
-    agrees_on_sound sites old now (input_records text) few
-    (subst (λ (a : AuditorState). Appends old now ((account_from a.asked a.sites 1 a.logs).text AtEnd (input_records text))) fresh done.0)
+    → IsDone (account_from auditor.asked auditor.sites 1 auditor.logs) limit old now (input_records input) count
+    → AgreesOnSoundLogs sites old now (input_records input)
+agrees_fresh sites limit count auditor well input old now few fresh done =
+    agrees_on_sound sites old now (input_records input) few
+    (subst (λ (a : AuditorState). Appends old now ((account_from a.asked a.sites 1 a.logs).text AtEnd (input_records input))) fresh done.0)

@@ -51,4 +51,4 @@ pub use Rattle.rubis_engine.specs.Reading.{ReadsNext}
 pub use Rattle.rubis_engine.specs.Text.{rows_text}
 unfoldable pub use Rattle.rubis_engine.specs.Text.{input_records}
 pub use Rattle.rubis_engine.specs.declared.service.Course.TheVariants.{Ends, GoesOn}
-pub use Rattle.rubis_serving.proofs.ServedFacts.{led_whole, reader_run}
+pub use Rattle.rubis_serving.proofs.ServedFacts.{led_whole, whole_run}

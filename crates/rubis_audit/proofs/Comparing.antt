@@ -6,7 +6,7 @@ use Rattle.std.specs.Cmp.Lexicographic.{bytes_decides, pointwise}
 use Rattle.std.proofs.lemmas.Bool.Decides.{Decides-and, Decides-like, same_from_decides}
 use Rattle.std.proofs.lemmas.Option.{same_Some}
 use mathlib.Core.Bool.{true≢false}
-use Rattle.rubis_audit.specs.Claimed.{Rows, behind_row, behind_rows}
+use Rattle.rubis_audit.specs.Claimed.{ClaimedRows, behind_row, behind_rows}
 
 Decides-record : (a b : List (List ℕ)) → Decides (pointwise bytes_eq a b) (a ≡ b)
 Decides-record [] [] = (λ e. refl, λ e. refl)
@@ -32,22 +32,22 @@ rows_by claimed shown want rows same d s r =
 -- ---- rows that come one by one
 
 -- what is left behind a row that was compared with the first
-pub behind_first : (row first : List (List ℕ)) (rest claimed : Rows) (same : Bool) → IsTrue same ↔ (first ≡ row) → claimed ≡ first ∷ rest
+pub behind_first : (row first : List (List ℕ)) (rest claimed : ClaimedRows) (same : Bool) → IsTrue same ↔ (first ≡ row) → claimed ≡ first ∷ rest
     → cond same (Some rest) None ≡ behind_row row claimed
 behind_first row first rest claimed same d is =
     ap (λ b. cond b (Some rest) None) (same_from_decides same (pointwise bytes_eq first row) d (Decides-record first row)) ∙ ap (behind_row row) (sym is)
 
-none_left : (rows : Rows) → behind_rows rows None ≡ None
+none_left : (rows : ClaimedRows) → behind_rows rows None ≡ None
 none_left [] = refl
 none_left (row ∷ rows) = none_left rows
 
-all_left : (rows : Rows) → behind_rows rows (Some rows) ≡ Some []
+all_left : (rows : ClaimedRows) → behind_rows rows (Some rows) ≡ Some []
 all_left [] = refl
 all_left (row ∷ rows) = ap (λ b. behind_rows rows (cond b (Some rows) None)) ((Decides-record row row).1 refl) ∙ all_left rows
 
-all_were : (rows claimed : Rows) → behind_rows rows (Some claimed) ≡ Some [] → claimed ≡ rows
+all_were : (rows claimed : ClaimedRows) → behind_rows rows (Some claimed) ≡ Some [] → claimed ≡ rows
 all_were [] claimed e = let same : claimed ≡ [] = cc in same
-all_were (row ∷ rows) [] e = let none : ◌≡◌ {A = Option Rows} None (Some []) = sym (none_left rows) ∙ e in absurd cc
+all_were (row ∷ rows) [] e = let none : ◌≡◌ {A = Option ClaimedRows} None (Some []) = sym (none_left rows) ∙ e in absurd cc
 all_were (row ∷ rows) (first ∷ rest) e = at (pointwise bytes_eq first row) refl e (all_were rows rest)
   where
     at : (b : Bool) → pointwise bytes_eq first row ≡ b → behind_rows rows (cond (pointwise bytes_eq first row) (Some rest) None) ≡ Some []
@@ -57,22 +57,22 @@ all_were (row ∷ rows) (first ∷ rest) e = at (pointwise bytes_eq first row) r
         let others : rest ≡ rows = more (ap (λ b. behind_rows rows (cond b (Some rest) None)) (sym is) ∙ e) in
         λ i. same i ∷ others i
     at false is e more =
-        let none : ◌≡◌ {A = Option Rows} None (Some []) = sym (none_left rows) ∙ ap (λ b. behind_rows rows (cond b (Some rest) None)) (sym is) ∙ e in
+        let none : ◌≡◌ {A = Option ClaimedRows} None (Some []) = sym (none_left rows) ∙ ap (λ b. behind_rows rows (cond b (Some rest) None)) (sym is) ∙ e in
         absurd cc
 
 -- all claimed rows have come and no others, where they are the rows
-pub all_came : (rows claimed : Rows) (left : Option Rows) → left ≡ behind_rows rows (Some claimed) → (left ≡ Some []) ↔ (claimed ≡ rows)
+pub all_came : (rows claimed : ClaimedRows) (left : Option ClaimedRows) → left ≡ behind_rows rows (Some claimed) → (left ≡ Some []) ↔ (claimed ≡ rows)
 all_came rows claimed left is = (
   λ e. all_were rows claimed (sym is ∙ e),
   λ e. is ∙ ap (λ c. behind_rows rows (Some c)) e ∙ all_left rows,
 )
 
 -- whether none is left to come
-pub none_more : (rest : Rows) (left : Option Rows) (empty : Bool) → left ≡ Some rest → empty ≡ (length rest == 0) → IsTrue empty ↔ (left ≡ Some [])
+pub none_more : (rest : ClaimedRows) (left : Option ClaimedRows) (empty : Bool) → left ≡ Some rest → empty ≡ (length rest == 0) → IsTrue empty ↔ (left ≡ Some [])
 none_more rest left empty is e = (
   λ yes. is ∙ ap Some (nil_from_length rest ((Decides-eqb (length rest) 0).0 (sym e ∙ yes))),
-  λ done. let none : rest ≡ [] = same_Some _ _ (sym is ∙ done) in e ∙ ap (λ (r : Rows). length r == 0) none,
+  λ done. let none : rest ≡ [] = same_Some _ _ (sym is ∙ done) in e ∙ ap (λ (r : ClaimedRows). length r == 0) none,
 )
 
-pub never_done : (left : Option Rows) → left ≡ None → IsTrue false ↔ (left ≡ Some [])
-never_done left is = (λ yes. absurd (true≢false (sym yes)), λ done. let none : ◌≡◌ {A = Option Rows} None (Some []) = sym is ∙ done in absurd cc)
+pub never_done : (left : Option ClaimedRows) → left ≡ None → IsTrue false ↔ (left ≡ Some [])
+never_done left is = (λ yes. absurd (true≢false (sym yes)), λ done. let none : ◌≡◌ {A = Option ClaimedRows} None (Some []) = sym is ∙ done in absurd cc)

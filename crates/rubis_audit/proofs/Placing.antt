@@ -9,7 +9,7 @@ use Rattle.rubis_engine.specs.Rows.{more_written}
 use Rattle.rubis_laws.proofs.Audits.AuditReadings.{after_line}
 use Rattle.rubis_laws.proofs.Widening.WidenedRecords.{audit_stays}
 use Rattle.rubis_engine.proofs.ReadBack.{HaveFields}
-use Rattle.rubis_audit.specs.Forms.{logs_at, place_after, place_in, place_of}
+use Rattle.rubis_audit.specs.Forms.{logs_at, place_after, place_in, place_in_logs}
 use Rattle.rubis_audit.specs.Running.{bad_record, widened_rows, widening_from, WidenedAuditStays, WidenedTextReadsBack}
 use Rattle.rubis_audit.specs.declared.widener.LinePlace.{LinePlace}
 use Rattle.rubis_audit.specs.declared.widener.LinePlace.TheVariants.{BeforeLogs, InMessages, InRows}
@@ -20,23 +20,23 @@ begins InMessages site = refl
 begins InRows site = refl
 
 -- where a record may stand, and where the next one then does
-places : (logs : List Log) (x : Line) → option_map place_of (with_line logs x) ≡ place_after (place_of logs) x
-places logs (Begin site) = sym (begins (place_of logs) site)
+places : (logs : List Log) (x : Line) → option_map place_in_logs (with_line logs x) ≡ place_after (place_in_logs logs) x
+places logs (Begin site) = sym (begins (place_in_logs logs) site)
 places [] (Next m) = refl
 places [] (Claim row) = refl
 places (log ∷ logs) (Next m) = at log.rows
   where
-    at : (o : Option (List (List (List ℕ)))) → option_map place_of (with_line (record log { rows = o } ∷ logs) (Next m)) ≡ place_after (place_in o) (Next m)
+    at : (o : Option (List (List (List ℕ)))) → option_map place_in_logs (with_line (record log { rows = o } ∷ logs) (Next m)) ≡ place_after (place_in o) (Next m)
     at None = refl
     at (Some rows) = refl
 places (log ∷ logs) (Claim row) = at log.rows
   where
-    at : (o : Option (List (List (List ℕ)))) → option_map place_of (with_line (record log { rows = o } ∷ logs) (Claim row))
+    at : (o : Option (List (List (List ℕ)))) → option_map place_in_logs (with_line (record log { rows = o } ∷ logs) (Claim row))
         ≡ place_after (place_in o) (Claim row)
     at None = refl
     at (Some rows) = refl
 
-pub place_at : (p : LinePlace) → place_of (logs_at p) ≡ p
+pub place_at : (p : LinePlace) → place_in_logs (logs_at p) ≡ p
 place_at BeforeLogs = refl
 place_at InMessages = refl
 place_at InRows = refl
@@ -49,18 +49,18 @@ rows_after from to n fields rest o =
 
 -- what is so of the records after a record
 abbrev pub Alike : ℕ → ℕ → ℕ → List (List (List ℕ)) → Type 0
-Alike from to n rest = (a b : List Log) → place_of a ≡ place_of b → widened_rows from to n a rest ≡ widened_rows from to n b rest
+Alike from to n rest = (a b : List Log) → place_in_logs a ≡ place_in_logs b → widened_rows from to n a rest ≡ widened_rows from to n b rest
 
 some_same : {X : Type 0} (x y : X) → Some x ≡ Some y → x ≡ y
 some_same x y e = cc
 
-after_alike : (from to n : ℕ) (fields : List (List ℕ)) (rest : List (List (List ℕ))) (p q : Option (List Log)) → option_map place_of p ≡ option_map place_of q →
+after_alike : (from to n : ℕ) (fields : List (List ℕ)) (rest : List (List (List ℕ))) (p q : Option (List Log)) → option_map place_in_logs p ≡ option_map place_in_logs q →
     Alike from to (n + 1) rest
     → rows_after from to n fields rest p ≡ rows_after from to n fields rest q
 after_alike from to n fields rest None None e ih = refl
 after_alike from to n fields rest None (Some y) e ih = absurd cc
 after_alike from to n fields rest (Some x) None e ih = absurd cc
-after_alike from to n fields rest (Some x) (Some y) e ih = ap (λ rows. widened_record from to fields ∷ rows) (ih x y (some_same (place_of x) (place_of y) e))
+after_alike from to n fields rest (Some x) (Some y) e ih = ap (λ rows. widened_record from to fields ∷ rows) (ih x y (some_same (place_in_logs x) (place_in_logs y) e))
 
 pub alike : (from to : ℕ) (records : List (List (List ℕ))) (n : ℕ) → Alike from to n records
 alike from to [] n a b e = refl
@@ -87,10 +87,10 @@ rows_go from to n place next x fields rest l a =
 
     more : (o : Option (List Log)) → with_line (logs_at place) x ≡ o → rows_after from to n fields rest o
         ≡ line_record (widened_line to x) ∷ widened_rows from to (n + 1) (logs_at next) rest
-    more None e = absurd (let p = sym (ap (option_map place_of) e) ∙ places (logs_at place) x ∙ ap (λ p. place_after p x) (place_at place) ∙ a in cc)
+    more None e = absurd (let p = sym (ap (option_map place_in_logs) e) ∙ places (logs_at place) x ∙ ap (λ p. place_after p x) (place_at place) ∙ a in cc)
     more (Some logs) e =
-        let p = sym (ap (option_map place_of) e) ∙ places (logs_at place) x ∙ ap (λ p. place_after p x) (place_at place) ∙ a in
-        λ i. record_is i ∷ alike from to rest (n + 1) logs (logs_at next) (some_same (place_of logs) next p ∙ sym (place_at next)) i
+        let p = sym (ap (option_map place_in_logs) e) ∙ places (logs_at place) x ∙ ap (λ p. place_after p x) (place_at place) ∙ a in
+        λ i. record_is i ∷ alike from to rest (n + 1) logs (logs_at next) (some_same (place_in_logs logs) next p ∙ sym (place_at next)) i
 
 pub goes : (from to n : ℕ) (place next : LinePlace) (x : Line) (fields : List (List ℕ)) (sink sink2 : List ℕ) → line_of from fields ≡ Some x →
     place_after place x ≡ Some next

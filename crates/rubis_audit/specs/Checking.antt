@@ -1,6 +1,6 @@
 -- What is wrong with a record, the first rule that it breaks, and what is written of the records of an input.
 use Rattle.std.specs.Prelude.{ℕ, Bool, true, false, List, None, ◌+◌, ◌==◌, ◌&&◌, ◌||◌, not, if◌then◌else◌, cond, bytes_eq, codes, length, nat_lt, slice_index}
-use Rattle.std.specs.Prelude.{option_and_then, [], ◌∷◌, Option, Some, ◌≡◌, ◌<◌, ◌≤◌, ◌++◌, decimal, drop, get_or}
+use Rattle.std.specs.Prelude.{option_and_then, [], ◌∷◌, Option, Some, ◌≡◌, ◌<◌, ◌≤◌, ◌++◌, decimal, drop, get_or, take}
 use Rattle.rubis_message.specs.Inputs.{input_of}
 use Rattle.rubis_message.specs.WorldReadings.{world_input}
 use Rattle.rubis_message.specs.declared.inputs.Input.{Input}
@@ -14,7 +14,7 @@ use Rattle.std.specs.Option.{option_or}
 use Rattle.rubis_schema.specs.NumberForms.{number_of}
 use Rattle.rubis_schema.specs.declared.limits.TheConstants.{SEQ_MAX, COUNTED_MAX, RECORDS_MAX}
 use Rattle.rubis_message.specs.Counts.{deps_of}
-use Rattle.rubis_audit.specs.Forms.{Form, field_at, form_of, wanted, fits}
+use Rattle.rubis_audit.specs.Forms.{RecordForm, field_at, form_of, wanted, fits}
 use Rattle.rubis_audit.specs.declared.forms.Section.{Section}
 use Rattle.rubis_audit.specs.declared.forms.Section.TheVariants as section
 use Rattle.rubis_audit.specs.declared.record_faults.RecordFault.{RecordFault}
@@ -25,6 +25,9 @@ use Rattle.rubis_audit.specs.declared.widener.LinePlace.TheVariants.{BeforeLogs,
 use Rattle.std.specs.Io.KnownBytes.{Appends}
 use Rattle.rubis_engine.specs.Reading.{HasToGive}
 use Rattle.rubis_engine.specs.Text.{rows_text}
+use Rattle.rubis_engine.specs.Progress.{AppendsFront}
+use Rattle.rubis_engine.specs.declared.fault.RunFault.{RunFault}
+use Rattle.rubis_engine.specs.declared.fault.RunFault.TheVariants.{Read, TooLong}
 use Rattle.rubis_audit.specs.Reasons.{reason_text}
 use Rattle.rubis_audit.specs.declared.checker.Check.{Check}
 use Rattle.rubis_audit.specs.declared.checker.Checker.{Checker}
@@ -61,7 +64,7 @@ misfit sites fields n [] = None
 misfit sites fields n (rule ∷ rules) = if fits sites rule (field_at fields n) then misfit sites fields (n + 1) rules else fault n rule
 
 -- a record of the form whose first word is the field with the number `start` has its count of fields, each as its rule says
-abbrev pub form_fault : ℕ → ℕ → List (List ℕ) → Form → Option RecordFault
+abbrev pub form_fault : ℕ → ℕ → List (List ℕ) → RecordForm → Option RecordFault
 form_fault sites start fields form =
     let given = length fields in
     if nat_lt given (wanted start form) || (nat_lt (wanted start form) given && not form.is_open) then fault 0 (Count start)
@@ -146,8 +149,8 @@ place_after place fields = elim (form_of 1 fields) [
 
 -- ---- what is written of the records of an input. A record of a site gets no row exactly when `input_of` says that it is a packet or a request, and one of a
 -- world exactly when `world_input` is an event, with a request if it is one at a site. Not proved: that no row of a site or a world says `not in the grammar`,
--- that `record_fault` finds something exactly in what an audit calls BadRecord, in which lines a record stands, and what was written at an error. Every
--- conversation of the tests is checked, and has to get rows for the records that were refused there, and for no others
+-- that `record_fault` finds something exactly in what an audit calls BadRecord, and in which lines a record stands. Every conversation of the tests is
+-- checked, and has to get rows for the records that were refused there, and for no others
 
 -- the bytes that a reader has left which remembers some
 abbrev pub recent : {R : Type 0} → (R → Option (List ℕ)) → Recent R → Option (List ℕ)
@@ -183,12 +186,12 @@ row_for sites number lines fields None = []
 row_for sites number lines fields (Some fault) = bad_row sites number lines fault fields ∷ []
 
 -- the rows of these records, each of which stands in its lines, after as many records as that
-abbrev pub rows_from : Grammar → ℕ → LinePlace → Tally → List Lines → List (List (List ℕ)) → List (List (List ℕ))
-rows_from grammar sites place tally lines [] = checked_row tally ∷ []
-rows_from grammar sites place tally lines (fields ∷ more) =
+abbrev pub rows_in_lines : Grammar → ℕ → LinePlace → Tally → List Lines → List (List (List ℕ)) → List (List (List ℕ))
+rows_in_lines grammar sites place tally lines [] = checked_row tally ∷ []
+rows_in_lines grammar sites place tally lines (fields ∷ more) =
     let fault = fault_for grammar sites place fields in
     row_for sites (tally.records + 1) (get_or lines 0 no_lines) fields fault
-    ++ rows_from grammar sites (place_for grammar place fields fault) (tally_for tally fault) (drop 1 lines) more
+    ++ rows_in_lines grammar sites (place_for grammar place fields fault) (tally_for tally fault) (drop 1 lines) more
 
 -- how many of them there are, and how many are outside the grammar
 abbrev pub tally_from : Grammar → ℕ → LinePlace → Tally → List (List (List ℕ)) → Tally
@@ -226,27 +229,31 @@ pub record CountsNext (found : Bool) (old new : Tally) : Type 0 where
   pub counted : found ≡ true → new.records ≡ old.records + 1
   pub fewer : new.bad ≤ new.records
 
--- a check of all these records stands there, with `old` in its writer before and `now` by now: whatever lines the records to come stand
--- in, the rows of all records for some lines are what was written and what is still to be
+-- a check of all these records stands there, with `old` in its writer before and `now` by now: of whatever records might have followed those
+-- that it has checked, the rows for some lines are what was written and what is still to be
 pub record HasChecked {R : Type 0} (rem : R → Option (List ℕ)) (grammar : Grammar) (sites : ℕ) (check : Check R) (old now : Option (List ℕ))
     (all : List (List (List ℕ))) : Type 0 where
   pub same_grammar : check.checker.grammar ≡ grammar
   pub same_sites : check.checker.sites ≡ sites
+  pub before : List (List (List ℕ))
   pub rest : List (List (List ℕ))
+  pub split : all ≡ before ++ rest
+  pub number : check.checker.tally.records ≡ length before
   pub gives : HasToGive (recent rem) check.records.reader rest
   pub out : List ℕ
   pub appended : Appends old now out
-  pub told : (lines : List Lines) → (before : List Lines)
-      × (rows_text (rows_from grammar sites BeforeLogs none_so_far before all)
-      ≡ out ++ (check.sink ++ rows_text (rows_from grammar sites check.checker.place check.checker.tally lines rest)))
-  pub counted : tally_from grammar sites BeforeLogs none_so_far all ≡ tally_from grammar sites check.checker.place check.checker.tally rest
+  pub told : (more : List (List (List ℕ))) (lines : List Lines) → (earlier : List Lines)
+      × (rows_text (rows_in_lines grammar sites BeforeLogs none_so_far earlier (before ++ more))
+      ≡ out ++ (check.sink ++ rows_text (rows_in_lines grammar sites check.checker.place check.checker.tally lines more)))
+  pub counted : (more : List (List (List ℕ))) → tally_from grammar sites BeforeLogs none_so_far (before ++ more)
+      ≡ tally_from grammar sites check.checker.place check.checker.tally more
 
 -- and no record is left
 pub record HasCheckedAll (grammar : Grammar) (sites : ℕ) (tally : Tally) (sink : List ℕ) (old now : Option (List ℕ)) (all : List (List (List ℕ))) : Type 0 where
   pub out : List ℕ
   pub appended : Appends old now out
   pub lines : List Lines
-  pub told : rows_text (rows_from grammar sites BeforeLogs none_so_far lines all) ≡ out ++ (sink ++ rows_text (checked_row tally ∷ []))
+  pub told : rows_text (rows_in_lines grammar sites BeforeLogs none_so_far lines all) ≡ out ++ (sink ++ rows_text (checked_row tally ∷ []))
   pub counted : tally_from grammar sites BeforeLogs none_so_far all ≡ tally
 
 -- of every check that stands there this holds, of all its records and what stood in its writer
@@ -258,5 +265,19 @@ OfEachCheck rem check now holds = (grammar : Grammar) (sites : ℕ) (old : Optio
 -- all records of an input were checked: for some lines their rows were written
 abbrev pub IsChecked : Grammar → ℕ → Option (List ℕ) → Option (List ℕ) → List (List (List ℕ)) → Tally → Type 0
 IsChecked grammar sites old now records tally =
-    ((lines : List Lines) × Appends old now (rows_text (rows_from grammar sites BeforeLogs none_so_far lines records)))
+    ((lines : List Lines) × Appends old now (rows_text (rows_in_lines grammar sites BeforeLogs none_so_far lines records)))
     × (tally ≡ tally_from grammar sites BeforeLogs none_so_far records)
+
+-- the first `many` records were checked, and no more: for some lines their rows were written, but for the last row, which counts
+abbrev pub IsCheckedTo : ℕ → Grammar → ℕ → Option (List ℕ) → Option (List ℕ) → List (List (List ℕ)) → Type 0
+IsCheckedTo many grammar sites old now records = (many ≤ length records) × (lines : List Lines) × (out : List ℕ) × Appends old now out
+    × (rows_text (rows_in_lines grammar sites BeforeLogs none_so_far lines (take many records))
+    ≡ out ++ rows_text (checked_row (tally_from grammar sites BeforeLogs none_so_far (take many records)) ∷ []))
+
+-- what a check had written of the rows of these records when it broke off: those of as many as may be checked, where there are more; those of
+-- the records that came, where the reader failed; and a prefix of all rows, where memory ran out or the writer failed
+abbrev pub StopsChecking : Grammar → ℕ → Option (List ℕ) → Option (List ℕ) → List (List (List ℕ)) → RunFault → Type 0
+StopsChecking grammar sites old now records TooLong = (RECORDS_MAX < length records) × IsCheckedTo RECORDS_MAX grammar sites old now records
+StopsChecking grammar sites old now records Read = (many : ℕ) × IsCheckedTo many grammar sites old now records
+StopsChecking grammar sites old now records fault =
+    (lines : List Lines) × AppendsFront old now (rows_text (rows_in_lines grammar sites BeforeLogs none_so_far lines records))

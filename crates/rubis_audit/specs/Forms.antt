@@ -21,7 +21,7 @@ use Rattle.rubis_message.specs.Counts.{deps_of}
 
 -- a form: its section, its first word, the word that tells it, `at` fields behind the first, what a record of it is called, what its fields
 -- after the first may be, and whether more may follow
-pub record Form : Type 0 where
+pub record RecordForm : Type 0 where
   pub section : Section
   pub first : List ℕ
   pub at : ℕ
@@ -30,25 +30,25 @@ pub record Form : Type 0 where
   pub rules : List Rule
   pub is_open : Bool
 
-abbrev pub row : Row → Form
+abbrev pub row : Row → RecordForm
 row r = record { section = r.section; first = r.first.now; at = r.at; told = r.told.now; name = r.name.now; rules = r.rules.now; is_open = r.is_open }
 
-abbrev pub plain : Section → String → String → Bool → List Rule → Form
+abbrev pub plain : Section → String → String → Bool → List Rule → RecordForm
 plain s word name more rules =
     record { section = s; first = codes word; at = 0; told = codes word; name = codes name; rules = rules; is_open = more }
 
-abbrev pub listed : String → String → List Rule → Form
-listed word name rules =
+abbrev pub listed_form : String → String → List Rule → RecordForm
+listed_form word name rules =
     record { section = Request; first = codes "list"; at = 1; told = codes word; name = codes name; rules = Told ∷ rules; is_open = false }
 
 -- a message says in its seventh field what it does
-abbrev pub sent : Rule → Rule → String → String → List Rule → Form
+abbrev pub sent : Rule → Rule → String → String → List Rule → RecordForm
 sent version red word name rules =
     let head = version ∷ Site ∷ SEQ ∷ red ∷ Counts ∷ Told ∷ rules in
     record { section = Message; first = codes "msg"; at = 6; told = codes word; name = codes name; rules = head; is_open = false }
 
 -- all forms; those that begin with one word stand in the order in which they are tried
-abbrev pub forms : List Form
+abbrev pub forms : List RecordForm
 forms =
     sent First Red "user" "a message with a user" (Nick ∷ [])
     ∷ sent First Blue "item" "a message with an item" (Id ∷ Name ∷ CATEGORY ∷ QUANTITY ∷ AMOUNT ∷ PRICE ∷ [])
@@ -71,15 +71,15 @@ forms =
     ∷ plain Request "restock" "a restock" false (Id ∷ Id ∷ QUANTITY ∷ [])
     ∷ plain Request "rename" "a rename" false (Id ∷ Nick ∷ [])
     ∷ plain Request "pass" "a pass" false (Number PASS_MAX ∷ [])
-    ∷ listed "users" "a list of users" []
-    ∷ listed "items" "a list of items" (CATEGORY ∷ [])
-    ∷ listed "bids" "a list of bids" (Id ∷ [])
-    ∷ listed "purchases" "a list of purchases" (Id ∷ [])
-    ∷ listed "comments" "a list of comments" (Id ∷ [])
-    ∷ listed "categories" "a list of categories" []
-    ∷ listed "log" "a list of the log" []
-    ∷ listed "misfits" "a list of misfits" []
-    ∷ listed "tables" "a list of the tables" []
+    ∷ listed_form "users" "a list of users" []
+    ∷ listed_form "items" "a list of items" (CATEGORY ∷ [])
+    ∷ listed_form "bids" "a list of bids" (Id ∷ [])
+    ∷ listed_form "purchases" "a list of purchases" (Id ∷ [])
+    ∷ listed_form "comments" "a list of comments" (Id ∷ [])
+    ∷ listed_form "categories" "a list of categories" []
+    ∷ listed_form "log" "a list of the log" []
+    ∷ listed_form "misfits" "a list of misfits" []
+    ∷ listed_form "tables" "a list of the tables" []
     ∷ plain Request "list" "a list" true (Shown ∷ [])
     ∷ plain At "at" "a request at a site" true (Site ∷ Told ∷ [])
     ∷ plain Event "deliver" "a delivery" false (Site ∷ Number RECORDS_MAX ∷ [])
@@ -91,15 +91,15 @@ abbrev pub field_at : List (List ℕ) → ℕ → List ℕ
 field_at fields number = if number == 0 then [] else unwrap_or (slice_get fields (number - 1)) []
 
 -- the words of a record tell the form, the first of them in the field with the number `start`
-abbrev pub is_told : ℕ → List (List ℕ) → Form → Bool
+abbrev pub is_told : ℕ → List (List ℕ) → RecordForm → Bool
 is_told start fields form = bytes_eq (field_at fields start) form.first && bytes_eq (field_at fields (start + form.at)) form.told
 
 -- the form that the words tell first
-abbrev pub form_of : ℕ → List (List ℕ) → Option Form
+abbrev pub form_of : ℕ → List (List ℕ) → Option RecordForm
 form_of start fields = find (is_told start fields) forms
 
 -- how many fields a record of the form has, or has at least
-abbrev pub wanted : ℕ → Form → ℕ
+abbrev pub wanted : ℕ → RecordForm → ℕ
 wanted start form = start + length form.rules
 
 -- ---- where the records of an audit stand
@@ -110,9 +110,9 @@ place_in None = InMessages
 place_in (Some rows) = InRows
 
 -- after the records of these logs, newest first
-abbrev pub place_of : List Log → LinePlace
-place_of [] = BeforeLogs
-place_of (log ∷ logs) = place_in log.rows
+abbrev pub place_in_logs : List Log → LinePlace
+place_in_logs [] = BeforeLogs
+place_in_logs (log ∷ logs) = place_in log.rows
 
 -- the least logs after whose records it is
 abbrev pub logs_at : LinePlace → List Log

@@ -4,7 +4,7 @@ use Rattle.std.specs.Prelude.{[], ◌++◌, Option, Some, None}
 use Rattle.std.specs.List.{list_all}
 use Rattle.rubis_schema.specs.FieldForms.{is_digit, is_printable}
 use Rattle.rubis_schema.specs.declared.limits.TheConstants.{COUNT_MAX}
-use Rattle.rubis_audit.specs.Forms.{Form, field_at, form_of, wanted}
+use Rattle.rubis_audit.specs.Forms.{RecordForm, field_at, form_of, wanted}
 use Rattle.rubis_audit.specs.declared.reasons.Lines.{Lines}
 use Rattle.rubis_audit.specs.declared.record_faults.RecordFault.{RecordFault}
 use Rattle.rubis_audit.specs.declared.rules.Rule.{Rule}
@@ -67,14 +67,14 @@ counts_text sites field =
     else if sites == 1 then codes "1 site has 1 count, here are " ++ decimal (marks field + 1)
     else decimal sites ++ (codes " sites have " ++ (decimal sites ++ (codes " counts, here are " ++ decimal (marks field + 1))))
 
-abbrev pub has : Form → List ℕ
+abbrev pub has : RecordForm → List ℕ
 has form = if form.is_open then codes " has at least " else codes " has "
 
 abbrev pub noun : ℕ → List ℕ
 noun n = if n == 1 then codes " field" else codes " fields"
 
 -- how many fields a record of the form has, and how many this one has
-abbrev pub count_by : ℕ → ℕ → Option Form → List ℕ
+abbrev pub count_by : ℕ → ℕ → Option RecordForm → List ℕ
 count_by start given None = []
 count_by start given (Some form) =
     form.name ++ (has form ++ (decimal (wanted start form) ++ (noun (wanted start form) ++ (codes ", this record has " ++ decimal given))))

@@ -71,7 +71,7 @@ abbrev pub IsCurrentAmong : ℕ → Option Log → Type 0
 IsCurrentAmong sites current = (log : Log) → current ≡ Some log → HasMessagesAmong sites log
 
 -- what these are for an auditor of `sites` sites
-pub record AreRead (sites : ℕ) (ended : List Log) (current : Option Log) : Type 0 where
+pub record AreForAuditor (sites : ℕ) (ended : List Log) (current : Option Log) : Type 0 where
   pub few : sites ≤ COUNTED_MAX
   pub ended_among : (log : Log) → Has log ended → HasMessagesAmong sites log
   pub current_among : IsCurrentAmong sites current

@@ -50,13 +50,13 @@ pub struct Auditor {
 }
 
 impl Model for Auditor {
-    ghost use Rattle.rubis_audit.specs.Running.{AreRead, AuditorState, logs_so_far};
+    ghost use Rattle.rubis_audit.specs.Running.{AreForAuditor, AuditorState, logs_so_far};
 
     ghost Value = { AuditorState };
 
     ghost view = { λ a. record { sites = a.sites; asked = a.asked; logs = logs_so_far a.ended.items a.current; well = a.well } };
 
-    ghost invariant = { λ a. AreRead a.sites a.ended.items a.current };
+    ghost invariant = { λ a. AreForAuditor a.sites a.ended.items a.current };
 }
 
 // Appends the log that was read to those that ended. Before the first log there is none.

@@ -1,11 +1,11 @@
 //! The check of an input: a row for each record that is outside the grammar.
 
-ghost use Rattle.std.specs.Prelude.{◌≡◌, ◌≤◌, ◌∷◌, ◌++◌, ℕ, List, [], IfOk, IfSome, OnOk, Option};
+ghost use Rattle.std.specs.Prelude.{◌≡◌, ◌≤◌, ◌∷◌, ◌++◌, ℕ, List, [], IfErr, IfOk, IfSome, OnOk, Option};
 ghost use Rattle.std.specs.Bool.{MatchBool};
-ghost use Rattle.rubis_schema.specs.declared.limits.TheConstants.{COUNTED_MAX};
+ghost use Rattle.rubis_schema.specs.declared.limits.TheConstants.{COUNTED_MAX, RECORDS_MAX};
 ghost use Rattle.rubis_engine.specs.Reading.{ReadsNext};
 ghost use Rattle.rubis_engine.specs.Text.{input_records, rows_text};
-ghost use Rattle.rubis_audit.specs.Checking.{CanCheckOneMore, ChecksRow, CountsNext, HasChecked, HasCheckedAll, IsChecked, OfEachCheck, bad_row, checked_row};
+ghost use Rattle.rubis_audit.specs.Checking.{CanCheckOneMore, ChecksRow, CountsNext, HasChecked, HasCheckedAll, IsChecked, OfEachCheck, StopsChecking, bad_row, checked_row};
 ghost use Rattle.rubis_audit.specs.Checking.{checker_after, fault_for, none_so_far, recent};
 
 use crate::line_reader::LineReader;
@@ -147,6 +147,8 @@ impl<R: Read> Check<R> {
         ensures takes { IfOk result (λ found. ReadsNext (recent R.remaining) self.old.records.reader self.new.records.reader found self.new.records.row) }
         ensures kept { OnOk result ((self.new.sink ≡ self.old.sink) × (writer.new ≡ writer.old)) }
         ensures checker { self.new.checker ≡ self.old.checker }
+        ensures broke { IfErr result (λ fault. OfEachCheck R.remaining self.old (W.contents writer.old) (λ grammar sites old all.
+            StopsChecking grammar sites old (W.contents writer.new) all fault)) }
     {
         match self.records.advance() {
             Ok(found) => Ok(found),
@@ -165,6 +167,8 @@ impl<R: Read> Check<R> {
             (HasCheckedAll grammar sites self.new.checker.tally self.new.sink old (W.contents writer.new) all))) }
         ensures counted { IfOk result (λ found. CountsNext found self.old.checker.tally self.new.checker.tally) }
         ensures sites { self.new.checker.sites ≡ self.old.checker.sites }
+        ensures broke { IfErr result (λ fault. OfEachCheck R.remaining self.old (W.contents writer.old) (λ grammar sites old all.
+            StopsChecking grammar sites old (W.contents writer.new) all fault)) }
     {
         if !self.advance(writer)? {
             return Ok(false);
@@ -178,9 +182,12 @@ impl<R: Read> Check<R> {
 
     // Writes the last row, and says how many records there were.
     fn end<W: Write>(&mut self, writer: &mut W) -> Result<Tally, RunFault>
-        ensures { IfOk result (λ tally. (grammar : Grammar) (sites : ℕ) (old : Option (List ℕ)) (all : List (List (List ℕ)))
+        ensures done { IfOk result (λ tally. (grammar : Grammar) (sites : ℕ) (old : Option (List ℕ)) (all : List (List (List ℕ)))
             → HasCheckedAll grammar sites self.old.checker.tally self.old.sink old (W.contents writer.old) all
             → IsChecked grammar sites old (W.contents writer.new) all tally) }
+        ensures broke { IfErr result (λ fault. (grammar : Grammar) (sites : ℕ) (old : Option (List ℕ)) (all : List (List (List ℕ)))
+            → HasCheckedAll grammar sites self.old.checker.tally self.old.sink old (W.contents writer.old) all
+            → StopsChecking grammar sites old (W.contents writer.new) all fault) }
     {
         write_checked(self.alloc, &mut self.sink, self.checker.tally)?;
         self.sink.close(writer)?;
@@ -189,8 +196,11 @@ impl<R: Read> Check<R> {
 
     // Ends a check that has read as many records as it reads at most.
     fn stop<W: Write>(&mut self, writer: &mut W) -> Result<Tally, RunFault>
-        ensures { IfOk result (λ tally. OfEachCheck R.remaining self.old (W.contents writer.old) (λ grammar sites old all.
+        requires { self.old.checker.tally.records ≡ RECORDS_MAX }
+        ensures done { IfOk result (λ tally. OfEachCheck R.remaining self.old (W.contents writer.old) (λ grammar sites old all.
             IsChecked grammar sites old (W.contents writer.new) all tally)) }
+        ensures broke { IfErr result (λ fault. OfEachCheck R.remaining self.old (W.contents writer.old) (λ grammar sites old all.
+            StopsChecking grammar sites old (W.contents writer.new) all fault)) }
     {
         if self.advance(writer)? {
             self.sink.close(writer)?;
@@ -204,8 +214,10 @@ impl<R: Read> Check<R> {
 fn check_all<R: Read, W: Write>(check: &mut Check<R>, writer: &mut W) -> Result<Tally, RunFault>
     requires few { check.old.checker.sites ≤ COUNTED_MAX }
     requires none { check.old.checker.tally ≡ none_so_far }
-    ensures { IfOk result (λ tally. OfEachCheck R.remaining check.old (W.contents writer.old) (λ grammar sites old all.
+    ensures done { IfOk result (λ tally. OfEachCheck R.remaining check.old (W.contents writer.old) (λ grammar sites old all.
         IsChecked grammar sites old (W.contents writer.new) all tally)) }
+    ensures broke { IfErr result (λ fault. OfEachCheck R.remaining check.old (W.contents writer.old) (λ grammar sites old all.
+        StopsChecking grammar sites old (W.contents writer.new) all fault)) }
 {
     'steps: for _checked in 0..RECORDS_MAX {
         if !check.check_next(writer)? {
@@ -230,8 +242,10 @@ pub fn run_check<R: Read + Drop, W: Write>(
     sites: u8,
 ) -> Result<Tally, RunFault>
     requires { sites ≤ COUNTED_MAX }
-    ensures { IfOk result (λ tally. IfSome (R.remaining reader) (λ input.
+    ensures done { IfOk result (λ tally. IfSome (R.remaining reader) (λ input.
         IsChecked grammar sites (W.contents writer.old) (W.contents writer.new) (input_records input) tally)) }
+    ensures broke { IfErr result (λ fault. IfSome (R.remaining reader) (λ input.
+        StopsChecking grammar sites (W.contents writer.old) (W.contents writer.new) (input_records input) fault)) }
 {
     let mut check = Check {
         records: LineReader::new(alloc, reader),

@@ -38,7 +38,7 @@ pub use logs::Log;
 pub use pools::MessagePool;
 pub use rubis_clock::Clock;
 pub use rubis_message::{Kind, Verdict};
-pub use run::{run_audit, run_auditor, run_auditor_chunks, run_lack};
+pub use run::{run_audit, run_auditor_chunks, run_lack};
 pub use seen::Seen;
 pub use verdicts::write_verdict;
 pub use waiting::{awaited, awaited_red, write_waits};

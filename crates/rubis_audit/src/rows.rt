@@ -33,9 +33,9 @@ fn behind<'a>(claimed: &'a [Fields], row: &Fields) -> Option<&'a [Fields]>
 
 impl<'a> RowSink for Claimed<'a> {
     ghost use Rattle.std.specs.Prelude.{◌≡◌};
-    ghost use Rattle.rubis_audit.specs.Claimed.{behind_rows, rest_of};
+    ghost use Rattle.rubis_audit.specs.Claimed.{behind_rows, rest_for_next};
 
-    ghost adds = { λ rows old new. rest_of new ≡ behind_rows rows (rest_of old) };
+    ghost adds = { λ rows old new. rest_for_next new ≡ behind_rows rows (rest_for_next old) };
 
     fn put(&mut self, row: &Fields) -> Result<(), AllocError> {
         let Some(claimed) = self.rest else {
@@ -53,7 +53,7 @@ impl<'a> RowSink for Claimed<'a> {
 impl<'a> Claimed<'a> {
     // Whether all rows have come, and no others.
     fn is_done(&self) -> bool
-        ensures { IsTrue result ↔ (model.rest_of self.now ≡ Some []) }
+        ensures { IsTrue result ↔ (model.rest_for_next self.now ≡ Some []) }
     {
         match self.rest {
             Some(rest) => rest.is_empty(),

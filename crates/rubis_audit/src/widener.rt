@@ -1,15 +1,16 @@
 //! A service that widens the records of an audit, a record in, one out; and its run over a reader and a writer.
 
 ghost use Rattle.std.proofs.Common.{rules};
-ghost use Rattle.std.specs.Prelude.{◌≡◌, ◌++◌, ◌∷◌, ◌≤◌, [], ℕ, List, OnOk, ⊤, refl};
+ghost use Rattle.std.specs.Prelude.{◌≡◌, ◌++◌, ◌∷◌, ◌≤◌, [], ℕ, IfSome, List, OnOk, ⊤, refl};
 ghost use Rattle.rubis_schema.specs.declared.limits.TheConstants.{COUNTED_MAX, RECORDS_MAX};
 ghost use Rattle.rubis_message.specs.Grammar.{message_record};
 ghost use Rattle.rubis_message.specs.Message.{sites_of, widened};
 ghost use Rattle.rubis_model.specs.AuditRecords.{line_record};
 ghost use Rattle.rubis_model.specs.Widening.{widened_line};
 ghost use Rattle.rubis_engine.specs.Progress.{IsRun};
+ghost use Rattle.rubis_engine.specs.Seam.{OfEach};
 ghost use Rattle.rubis_engine.specs.Text.{rows_text};
-ghost use Rattle.rubis_reading.specs.Chunked.{HasAll};
+ghost use Rattle.rubis_reading.specs.Chunked.{HasWholeInput, OfInput};
 ghost use Rattle.rubis_serving.specs.Serving.{EndsWhole};
 ghost use Rattle.rubis_audit.specs.Running.{IsAmongLine, line_as, bad_record, widening_account, widening_from};
 ghost use Rattle.rubis_audit.specs.Forms.{logs_at, place_after};
@@ -198,10 +199,13 @@ pub fn run_widen_chunks<R: Read, W: Write>(
     writer: &mut W,
     widener: &mut Widener,
 ) -> Result<Count, RunFault>
-    ensures { (input : List ℕ) → HasAll R.remaining chunks.old input
-        → EndsWhole R.remaining chunks.new (widening_from widener.old.from widener.old.to 1 (logs_at widener.old.place))
+    ensures whole { OfEach R.remaining chunks.old.reader chunks.new.reader (λ left. (input : List ℕ) → HasWholeInput left chunks.old input
+        → EndsWhole left chunks.new (widening_from widener.old.from widener.old.to 1 (logs_at widener.old.place))
         (λ n. widening_from widener.new.from widener.new.to n (logs_at widener.new.place))
-        RECORDS_MAX (W.contents writer.old) (W.contents writer.new) input result }
+        RECORDS_MAX (W.contents writer.old) (W.contents writer.new) input result) }
+    ensures run { OfInput R.remaining chunks.old chunks.new (λ input.
+        IsRun (widening_from widener.old.from widener.old.to 1 (logs_at widener.old.place)) RECORDS_MAX input
+        (W.contents writer.old) (W.contents writer.new) result) }
 {
     run_service(alloc, chunks, writer, widener, RECORDS_MAX)
 }
@@ -224,7 +228,8 @@ pub fn run_widen<R: Read + Drop, W: Write>(
 ) -> Result<Count, RunFault>
     requires up { from ≤ to }
     requires few { to ≤ COUNTED_MAX }
-    ensures { IsRun (widening_account from to) RECORDS_MAX (R.remaining reader) (W.contents writer.old) (W.contents writer.new) result }
+    ensures { IfSome (R.remaining reader) (λ input.
+        IsRun (widening_account from to) RECORDS_MAX input (W.contents writer.old) (W.contents writer.new) result) }
 {
     let mut widener = Widener::new(alloc, from, to);
     let mut chunks = Chunks::new(alloc, reader, BLOCK);

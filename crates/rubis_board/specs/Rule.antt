@@ -177,8 +177,8 @@ after_none p = record { board = p.board; parts = p.parts; posted = p.posted; tak
 abbrev pub known : Pass Item PassView → PassView
 known seat = view seat
 
-abbrev pub state_of : Pass Item PassView → PassState
-state_of seat =
+abbrev pub board_state : Pass Item PassView → PassState
+board_state seat =
     record {
       board = seat.table_id;
       parts = (known seat).parts;

@@ -114,13 +114,13 @@ pub struct Pass {
 
 impl Model for Pass {
     ghost use Rattle.std.specs.Prelude.{◌≡◌, ◌<◌, []};
-    ghost use Rattle.rubis_board.specs.Rule.{PassState, state_of, known, pass_code};
+    ghost use Rattle.rubis_board.specs.Rule.{PassState, board_state, known, pass_code};
 
     ghost Value = { PassState };
 
     ghost coded = { pass_code };
 
-    ghost view = { λ p. state_of p.seat };
+    ghost view = { λ p. board_state p.seat };
 
     ghost invariant = { λ p. (p.seat.me.1 ≡ []) × (0 < (known p.seat).parts) };
 }

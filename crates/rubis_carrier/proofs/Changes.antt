@@ -6,15 +6,15 @@ use Rattle.rubis_model.specs.Site.{Has}
 use Rattle.rubis_model.proofs.Settling.{push_cases}
 use Rattle.rubis_carrier.specs.declared.values.Carrier.{Carrier}
 use Rattle.rubis_carrier.specs.declared.values.ShopPacket.{ShopPacket}
-use Rattle.rubis_carrier.specs.Events.{IsFirst, May, after, first, next_message, next_pass, opening, others, without}
+use Rattle.rubis_carrier.specs.Events.{IsFirstEvent, May, after_step, first_event, next_message, next_pass, opening_folder, others, without}
 use Rattle.rubis_carrier.specs.declared.values.ShopEvent.{ShopEvent}
 use Rattle.rubis_carrier.specs.declared.values.ShopEvent.TheVariants.{Accepts, Appends, Arrives, Closes, Fills, Finds, Gives, GoesOn, IsAsked, IsCopied}
 use Rattle.rubis_carrier.specs.declared.values.ShopEvent.TheVariants.{IsKilled, IsLost, IsRaised, KeeperStarts, LosesEnd, MachineStarts, Opens, OpensAlone}
 use Rattle.rubis_carrier.specs.declared.values.ShopEvent.TheVariants.{Passes, Reads, Rebuilds, Refuses, Sends, ServerLosesAll, Serves, Starts, StreamLosesEnd}
 use Rattle.rubis_carrier.specs.declared.values.ShopEvent.TheVariants.{TakesBack, TakesOver, TellsNothing, TellsOk, TellsPublished, TellsUnknown, WritesAnew}
 use Rattle.rubis_carrier.specs.declared.values.ShopEvent.TheVariants.{Yields}
-use Rattle.rubis_carrier.specs.Shops.{sender, Folder, Place, Shop, asks, folder, folder_in, put_folder, put_stream, stream, stream_in, there}
-use Rattle.rubis_carrier.specs.Shops.Place.{InFolder, InStream, UnderWay}
+use Rattle.rubis_carrier.specs.Shops.{sender, Folder, PacketPlace, Shop, asks, folder, folder_in, put_folder, put_stream, stream, stream_in, there}
+use Rattle.rubis_carrier.specs.Shops.PacketPlace.{InFolder, InStream, UnderWay}
 use Rattle.rubis_carrier.proofs.PacketFacts.{eqb_other, eqb_same, filter_has, folder_cases, has_filter, has_take, opened_cases, stream_cases}
 use Rattle.rubis_carrier.proofs.Sound.{IsSomewhere, offered}
 
@@ -34,11 +34,11 @@ in_stream : (s : Shop) (e : ShopEvent) (i : ℕ) (xs : List ShopPacket) (x : Sho
     → Has x (stream_in (put_stream i xs s.streams) j) → IsSomewhere s x ⊎ IsNew s e x
 in_stream s e i xs x here = stream_cases (λ j ys. Has x ys → IsSomewhere s x ⊎ IsNew s e x) i xs s.streams here (λ j n h. inl (InStream j, h))
 
-pub opened_from : (s : Shop) (k : ℕ) (x : ShopPacket) (j : ℕ) → Has x (folder (opening k s) j).kept → IsSomewhere s x
+pub opened_from : (s : Shop) (k : ℕ) (x : ShopPacket) (j : ℕ) → Has x (folder (opening_folder k s) j).kept → IsSomewhere s x
 opened_from s k x = opened_cases (λ j g. Has x g.kept → IsSomewhere s x) s k (λ h. (InFolder k, h)) (λ j n h. (InFolder j, h))
 
 -- what stands somewhere after the event stood somewhere before, or is new
-pub from_step : (c : Carrier) (s : Shop) (e : ShopEvent) (h : Place) (x : ShopPacket) → May c s e → Has x (there (after s e) h) → IsSomewhere s x ⊎ IsNew s e x
+pub from_step : (c : Carrier) (s : Shop) (e : ShopEvent) (h : PacketPlace) (x : ShopPacket) → May c s e → Has x (there (after_step s e) h) → IsSomewhere s x ⊎ IsNew s e x
 from_step c s (Starts k) (InFolder j) x m a = in_folder s (Starts k) k _ x (λ b. inl (InFolder k, b)) j a
 from_step c s (Opens k) (InFolder j) x m a = inl (opened_from s k x j a)
 from_step c s (TakesOver k) (InFolder j) x m a = inl (opened_from s k x j a)
@@ -140,11 +140,11 @@ apart_others [] a = tt
 apart_others (r ∷ asks) a = a.1
 
 -- those behind the first are others
-pub has_others : (q : ℕ) (asks : List ℕ) → AreApart asks → Has q (others asks) → Has q asks × (q ≢ first asks)
+pub has_others : (q : ℕ) (asks : List ℕ) → AreApart asks → Has q (others asks) → Has q asks × (q ≢ first_event asks)
 has_others q [] a h = absurd h
 has_others q (r ∷ asks) a h = (inr h, λ e. a.0 (subst (λ n. Has n asks) e h))
 
 -- the first of a list is in it
-pub first_in : {r : ℕ} (asks : List ℕ) → IsFirst r asks → (first asks ≡ r) × Has r asks
+pub first_in : {r : ℕ} (asks : List ℕ) → IsFirstEvent r asks → (first_event asks ≡ r) × Has r asks
 first_in [] f = absurd (cc f.1)
 first_in (q ∷ asks) f = (cc f.1, inl (cc f.1))

@@ -10,16 +10,16 @@ use Rattle.rubis_carrier.specs.declared.values.Carrier.{Carrier}
 use Rattle.rubis_carrier.specs.declared.values.Carrier.TheVariants.{Files, Server}
 use Rattle.rubis_carrier.specs.declared.values.ShopPacket.{ShopPacket}
 use Rattle.rubis_carrier.specs.declared.values.ShopPacket.TheVariants.{Message, Pass}
-use Rattle.rubis_carrier.specs.Events.{AreSteps, HasRoom, IsFirst, IsOffered, May, MayRebuild, MayServe, MayStandNext, MayWriteAnew, after, MayIsComputed}
-use Rattle.rubis_carrier.specs.Events.{are_reached, are_steps, has_answer, has_number, has_packet, has_room, holds, is_alone, is_compared, is_first, is_offered}
+use Rattle.rubis_carrier.specs.Events.{AreSteps, FolderHasRoom, IsFirstEvent, IsOffered, May, MayRebuild, MayServe, MayStandNext, MayWriteAnew, after_step, MayIsComputed}
+use Rattle.rubis_carrier.specs.Events.{are_reached, are_steps, has_answer, has_number, has_packet, has_room, holds_token, is_alone, is_compared, is_first, is_offered}
 use Rattle.rubis_carrier.specs.Events.{is_placed, is_reached, is_server, is_somewhere, may, may_open, may_rebuild, may_send, may_serve, may_write_anew, runs}
 use Rattle.rubis_carrier.specs.declared.values.ShopEvent.{ShopEvent}
 use Rattle.rubis_carrier.specs.declared.values.ShopEvent.TheVariants.{Accepts, Appends, Arrives, Finds, Gives, GoesOn, IsAsked, IsRaised, Opens, OpensAlone}
 use Rattle.rubis_carrier.specs.declared.values.ShopEvent.TheVariants.{Passes, Reads, Rebuilds, Refuses, Sends, Serves, Starts, TakesOver, TellsNothing, TellsOk}
 use Rattle.rubis_carrier.specs.declared.values.ShopEvent.TheVariants.{TellsPublished, WritesAnew}
-use Rattle.rubis_carrier.specs.Shops.{Holds, IsReached, highest, last_turn, own, passed, same_packet, sender, taken, Folder, IsAlone, IsCompared, MayOpen}
-use Rattle.rubis_carrier.specs.Shops.{Place, Shop, asks, empty, folder, request, stream, there}
-use Rattle.rubis_carrier.specs.Shops.Place.{InFolder, InStream, UnderWay}
+use Rattle.rubis_carrier.specs.Shops.{HoldsToken, IsReached, highest, last_turn, own, passed_turn, same_packet, sender, taken_turn, Folder, IsAlone, IsCompared, MayOpen}
+use Rattle.rubis_carrier.specs.Shops.{PacketPlace, Shop, asks, empty, folder, request, stream, there}
+use Rattle.rubis_carrier.specs.Shops.PacketPlace.{InFolder, InStream, UnderWay}
 use Rattle.rubis_carrier.proofs.PacketFacts.{filter_has, has_filter}
 use Rattle.rubis_carrier.proofs.Sound.{IsSomewhere}
 
@@ -77,7 +77,7 @@ in_decides q y each (x ∷ xs) = Decides-or (q x) (list_any q xs) (each x) (in_d
 pub number_decides : (r : ℕ) (numbers : List ℕ) → Decides (has_number r numbers) (Has r numbers)
 number_decides r numbers = in_decides (λ q. q == r) r (λ q. Decides-like _ (λ e. sym e) (λ e. sym e) (Decides-eqb q r)) numbers
 
-first_decides : (r : ℕ) (numbers : List ℕ) → Decides (is_first r numbers) (IsFirst r numbers)
+first_decides : (r : ℕ) (numbers : List ℕ) → Decides (is_first r numbers) (IsFirstEvent r numbers)
 first_decides r [] = (λ t. absurd (false≢true t), λ f. absurd (cc f.1))
 first_decides r (q ∷ numbers) = (
   λ t. let e = eqb-true q r t in (numbers, ap (λ n. n ∷ numbers) e),
@@ -146,9 +146,9 @@ own_decides i x kept = Decides-like _ (λ h. filter_has (λ y. sender y == i) x 
 
 -- ---- what stands in a shop
 
-holds_decides : (f : Folder) → Decides (holds f) (Holds f.site f.kept)
-holds_decides f = Decides-and _ _ (leb_decides (passed f.site f.kept) (taken f.site f.kept))
-    (Decides-or _ _ (Decides-eqb f.site 0) (Decides-ltb 0 (taken f.site f.kept)))
+holds_decides : (f : Folder) → Decides (holds_token f) (HoldsToken f.site f.kept)
+holds_decides f = Decides-and _ _ (leb_decides (passed_turn f.site f.kept) (taken_turn f.site f.kept))
+    (Decides-or _ _ (Decides-eqb f.site 0) (Decides-ltb 0 (taken_turn f.site f.kept)))
 
 compared_decides : (s : Shop) (k : ℕ) → Decides (is_compared s (folder s k)) (IsCompared s k)
 compared_decides s k =
@@ -202,7 +202,7 @@ somewhere_decides s x = Decides-like _
     (some_decides (λ f. has_packet x f.kept) (λ (f : Folder). Has x f.kept) (λ f. packet_decides x f.kept) s.folders empty (λ j h. h))
     (some_decides (λ xs. has_packet x xs) (Has x) (packet_decides x) s.streams (λ j. []) (λ j h. h))) (packet_decides x s.under_way))
   where
-    at : (h : Place) → Has x (there s h) → (((j : ℕ) × Has x (folder s j).kept) ⊎ ((i : ℕ) × Has x (stream s i))) ⊎ Has x s.under_way
+    at : (h : PacketPlace) → Has x (there s h) → (((j : ℕ) × Has x (folder s j).kept) ⊎ ((i : ℕ) × Has x (stream s i))) ⊎ Has x s.under_way
     at (InFolder j) h = inl (inl (j, h))
     at (InStream i) h = inl (inr (i, h))
     at UnderWay h = inr h
@@ -217,7 +217,7 @@ placed_decides : (s : Shop) (x : ShopPacket) → Decides (is_placed s x) (MaySta
 placed_decides s (Message i n r) = unless _ _ (number_decides i s.uncompared) (Decides-eqb n (highest i (stream s i) + 1))
 placed_decides s (Pass i t j a) = (λ e u. tt, λ h. refl)
 
-room_decides : (s : Shop) (k : ℕ) (x : ShopPacket) → Decides (has_room s k x) (HasRoom s k x)
+room_decides : (s : Shop) (k : ℕ) (x : ShopPacket) → Decides (has_room s k x) (FolderHasRoom s k x)
 room_decides s k (Message i n r) = Decides-not _ (number_decides k s.full)
 room_decides s k (Pass i t j a) = (λ e. tt, λ h. refl)
 
@@ -298,8 +298,8 @@ may_computed c s e = may_decides c s e
 pub are_steps_true : (c : Carrier) (s : Shop) (events : List ShopEvent) → are_steps c s events ≡ true → AreSteps c s events
 are_steps_true c s [] t = tt
 are_steps_true c s (e ∷ rest) t =
-    let both = and_parts (may c s e) (are_steps c (after s e) rest) t in
-    ((may_decides c s e).0 both.0, are_steps_true c (after s e) rest both.1)
+    let both = and_parts (may c s e) (are_steps c (after_step s e) rest) t in
+    ((may_decides c s e).0 both.0, are_steps_true c (after_step s e) rest both.1)
 
 pub may_not : (c : Carrier) (s : Shop) (e : ShopEvent) → may c s e ≡ false → ¬ (May c s e)
 may_not c s e t = not_from_Decides (may c s e) (may_decides c s e) t

@@ -4,19 +4,19 @@ use Rattle.std.proofs.Common.{◌≡◌, length, ◌∙◌, inl, ⊎_elim, ◌�
 use Rattle.std.specs.Prelude.{zero, suc}
 use Rattle.rubis_model.specs.Site.{Has}
 use Rattle.rubis_model.proofs.Settling.{has_last, has_right, push_cases}
-use Rattle.rubis_carrier.specs.Laws.{AreGivenOnce, ComparingIsNeeded, AnswersComeInOrder, IsOver, IsUnmade, WhatIsOverStays}
+use Rattle.rubis_carrier.specs.Laws.{AreGivenOnce, ComparingIsNeeded, AnswersComeInOrder, IsAskOver, IsUnmade, WhatIsOverStays}
 use Rattle.rubis_carrier.specs.declared.values.Carrier.{Carrier}
 use Rattle.rubis_carrier.specs.declared.values.ShopPacket.TheVariants.{Message}
 use Rattle.rubis_carrier.specs.declared.values.ShopRequest.{ShopRequest}
-use Rattle.rubis_carrier.specs.Events.{AreSteps, IsFirst, MayServe, accepting, after, giving, opened, others, run, May, first, opening}
+use Rattle.rubis_carrier.specs.Events.{AreSteps, IsFirstEvent, MayServe, accepting, after_step, giving, opened_site, others, after_steps, May, first_event, opening_folder}
 use Rattle.rubis_carrier.specs.declared.values.ShopEvent.{ShopEvent}
 use Rattle.rubis_carrier.specs.declared.values.ShopEvent.TheVariants.{Accepts, Gives, IsAsked, Opens, Serves, Appends, Arrives, Closes, Fills, Finds, GoesOn}
 use Rattle.rubis_carrier.specs.declared.values.ShopEvent.TheVariants.{IsCopied, IsKilled, IsLost, IsRaised, KeeperStarts, LosesEnd, MachineStarts, OpensAlone}
 use Rattle.rubis_carrier.specs.declared.values.ShopEvent.TheVariants.{Passes, Reads, Rebuilds, Refuses, Sends, ServerLosesAll, Starts, StreamLosesEnd}
 use Rattle.rubis_carrier.specs.declared.values.ShopEvent.TheVariants.{TakesBack, TakesOver, TellsNothing, TellsOk, TellsPublished, TellsUnknown, WritesAnew}
 use Rattle.rubis_carrier.specs.declared.values.ShopEvent.TheVariants.{Yields}
-use Rattle.rubis_carrier.specs.Shops.{highest, Folder, IsSeen, Place, Shop, asks, folder, request, request_in, start, there, folder_in, put_folder}
-use Rattle.rubis_carrier.specs.Shops.Place.{InFolder, InStream, UnderWay}
+use Rattle.rubis_carrier.specs.Shops.{highest, Folder, IsSeen, PacketPlace, Shop, asks, folder, request, request_in, shop_start, there, folder_in, put_folder}
+use Rattle.rubis_carrier.specs.Shops.PacketPlace.{InFolder, InStream, UnderWay}
 use Rattle.rubis_carrier.proofs.PacketFacts.{highest_next, folder_here, opened_cases, request_new, folder_cases, request_old}
 use Rattle.rubis_carrier.proofs.Telling.{tells_run, Tells, tells_step}
 use Rattle.rubis_carrier.proofs.Carrying.{run_append, steps_append, whole_after, steps_left, steps_right}
@@ -25,7 +25,7 @@ use Rattle.rubis_carrier.proofs.Changes.{AreApart, IsNew, first_in, from_step, h
 -- ---- one ask more
 
 -- folder k of site i is open, and takes an ask after the other; its greatest number is this, and the message n of ask r stands at h
-record IsTaking (t : Shop) (k life i high : ℕ) (h : Place) (n r : ℕ) : Type 0 where
+record IsTaking (t : Shop) (k life i high : ℕ) (h : PacketPlace) (n r : ℕ) : Type 0 where
   is_open : (folder t k).is_open ≡ true
   life_is : (folder t k).life ≡ life
   runs : 0 < life
@@ -40,7 +40,7 @@ record IsTaking (t : Shop) (k life i high : ℕ) (h : Place) (n r : ℕ) : Type 
   compared : ¬ (Has i t.uncompared)
   room : ¬ (Has k t.full)
 
-module _ (c : Carrier) (t : Shop) (k life i high : ℕ) (h : Place) (n r : ℕ) (q : IsTaking t k life i high h n r) where
+module _ (c : Carrier) (t : Shop) (k life i high : ℕ) (h : PacketPlace) (n r : ℕ) (q : IsTaking t k life i high h n r) where
   ask : ℕ
   ask = asks t + 1
 
@@ -66,7 +66,7 @@ module _ (c : Carrier) (t : Shop) (k life i high : ℕ) (h : Place) (n r : ℕ) 
 
   served_shop : Shop
   unfolding ask of_one
-  served_shop = after (after t (IsAsked ask life 1)) (Serves k ask)
+  served_shop = after_step (after_step t (IsAsked ask life 1)) (Serves k ask)
 
   is_serving : folder served_shop k ≡ serving
   unfolding ask of_one serving served_shop
@@ -74,7 +74,7 @@ module _ (c : Carrier) (t : Shop) (k life i high : ℕ) (h : Place) (n r : ℕ) 
 
   given_shop : Shop
   unfolding ask served_shop
-  given_shop = after served_shop (Gives k ask)
+  given_shop = after_step served_shop (Gives k ask)
 
   is_giving : folder given_shop k ≡ giving serving ask 1
   unfolding ask of_one is_request served_shop given_shop
@@ -85,17 +85,17 @@ module _ (c : Carrier) (t : Shop) (k life i high : ℕ) (h : Place) (n r : ℕ) 
 
   accepted_shop : Shop
   unfolding ask given_shop
-  accepted_shop = after given_shop (Accepts k ask)
+  accepted_shop = after_step given_shop (Accepts k ask)
 
   is_accepting : folder accepted_shop k ≡ accepting (giving serving ask 1) ask
   unfolding ask given_shop accepted_shop
   is_accepting = folder_here k (accepting (folder given_shop k) ask) given_shop.folders ∙ ap (λ (f : Folder). accepting f ask) is_giving
 
-  is_first : IsFirst ask (folder given_shop k).lines
+  is_first : IsFirstEvent ask (folder given_shop k).lines
   unfolding ask serving
-  is_first = subst (λ (f : Folder). IsFirst ask f.lines) (sym is_giving) ([], ap (λ xs. xs ++ ask ∷ []) q.lines)
+  is_first = subst (λ (f : Folder). IsFirstEvent ask f.lines) (sym is_giving) ([], ap (λ xs. xs ++ ask ∷ []) q.lines)
 
-  may_serve : MayServe (after t (IsAsked ask life 1)) k ask
+  may_serve : MayServe (after_step t (IsAsked ask life 1)) k ask
   unfolding ask of_one is_request
   may_serve = record {
     runs = omega (arith, q.runs, q.life_is);
@@ -119,7 +119,7 @@ module _ (c : Carrier) (t : Shop) (k life i high : ℕ) (h : Place) (n r : ℕ) 
   )
 
   -- the folder has the next message, of this ask
-  round_has : Has (Message i (high + 1) (asks t + 1)) (folder (run t round) k).kept
+  round_has : Has (Message i (high + 1) (asks t + 1)) (folder (after_steps t round) k).kept
   unfolding ask round serving served_shop given_shop accepted_shop
   round_has =
       subst (λ (f : Folder). Has (Message i (high + 1) ask) f.kept) (sym is_accepting)
@@ -128,7 +128,7 @@ module _ (c : Carrier) (t : Shop) (k life i high : ℕ) (h : Place) (n r : ℕ) 
       (has_last (Message i (high + 1) ask) (folder t k).kept)))
 
   -- and goes on taking asks
-  round_takes : IsTaking (run t round) k life i (high + 1) h n r
+  round_takes : IsTaking (after_steps t round) k life i (high + 1) h n r
   unfolding ask round of_one serving served_shop given_shop accepted_shop
   round_takes =
       let next : highest i ((folder t k).kept ++ Message i (highest i (folder t k).kept + 1) ask ∷ []) ≡ high + 1 =
@@ -158,17 +158,17 @@ module _ (c : Carrier) (t : Shop) (k life i high : ℕ) (h : Place) (n r : ℕ) 
 -- ---- as many asks as it takes
 
 abbrev ComesToTwo : Carrier → Shop → Type 0
-ComesToTwo c t = (more : List ShopEvent) × AreSteps c t more × ¬ (AreGivenOnce (run t more))
+ComesToTwo c t = (more : List ShopEvent) × AreSteps c t more × ¬ (AreGivenOnce (after_steps t more))
 
-comes_to_two : (c : Carrier) {k life i : ℕ} {h : Place} {n r : ℕ} (d : ℕ) {t : Shop} {high : ℕ} → n ≡ high + suc d → IsTaking t k life i high h n r
+comes_to_two : (c : Carrier) {k life i : ℕ} {h : PacketPlace} {n r : ℕ} (d : ℕ) {t : Shop} {high : ℕ} → n ≡ high + suc d → IsTaking t k life i high h n r
     → ComesToTwo c t
 comes_to_two c {k} {life} {i} {h} {n} {r} zero {t} {high} e q =
     (round c t k life i high h n r q, round_may c t k life i high h n r q, both)
   where
-    both : AreGivenOnce (run t (round c t k life i high h n r q)) → ⊥
+    both : AreGivenOnce (after_steps t (round c t k life i high h n r q)) → ⊥
     both once =
         let number : high + 1 ≡ n = omega (arith, e) in
-        let mine = subst (λ m. Has (Message i m (asks t + 1)) (folder (run t (round c t k life i high h n r q)) k).kept) number
+        let mine = subst (λ m. Has (Message i m (asks t + 1)) (folder (after_steps t (round c t k life i high h n r q)) k).kept) number
         (round_has c t k life i high h n r q) in
         let stands = (round_takes c t k life i high h n r q).stands in
         let same : Message i n r ≡ Message i n (asks t + 1) = once h (InFolder k) (Message i n r) (Message i n (asks t + 1)) stands mine refl
@@ -186,14 +186,14 @@ comes_to_two c {k} {life} {i} {h} {n} {r} (suc d) {t} {high} e q =
 
 pub comparing_needed : ComparingIsNeeded
 comparing_needed c events m k f room h n r seen stands ahead compared =
-    let s = run start events in
+    let s = after_steps shop_start events in
     let told = tells_run c events m in
-    let t = after s (Opens k) in
+    let t = after_step s (Opens k) in
     let i = (folder s k).site in
-    let here : folder t k ≡ opened (folder s k) =
-    opened_cases (λ j g. j ≡ k → g ≡ opened (folder s k)) s k (λ e. refl) (λ j d e. absurd (d e)) k refl in
+    let here : folder t k ≡ opened_site (folder s k) =
+    opened_cases (λ j g. j ≡ k → g ≡ opened_site (folder s k)) s k (λ e. refl) (λ j d e. absurd (d e)) k refl in
     let kept : (j : ℕ) → (folder t j).kept ≡ (folder s j).kept = opened_cases (λ j g. g.kept ≡ (folder s j).kept) s k refl (λ j d. refl) in
-    let there_too : (g : Place) → IsSeen g → Has (Message i n r) (there s g) → Has (Message i n r) (there t g) =
+    let there_too : (g : PacketPlace) → IsSeen g → Has (Message i n r) (there s g) → Has (Message i n r) (there t g) =
     elim [ InFolder j ↦ λ u a. subst (Has (Message i n r)) (sym (kept j)) a | InStream j ↦ λ u a. a | UnderWay ↦ λ u. absurd u ] in
     let taking : IsTaking t k (folder s k).life i (highest i (folder s k).kept) h n r = record {
       is_open = subst (λ (g : Folder). g.is_open ≡ true) (sym here) refl;
@@ -221,7 +221,7 @@ record IsWithout (r : ℕ) (f g : Folder) : Type 0 where
   waits : ¬ (Has r g.waiting)
   given : ¬ (Has r g.given)
 
-module _ (s : Shop) (r : ℕ) (o : IsOver s r) where
+module _ (s : Shop) (r : ℕ) (o : IsAskOver s r) where
   as_it_was : (k : ℕ) → IsWithout r (folder s k) (folder s k)
   as_it_was k = record { life = λ l. refl; served = λ l h. h; waits = o.waits_nowhere k; given = o.given_nowhere k }
 
@@ -235,7 +235,7 @@ module _ (s : Shop) (r : ℕ) (o : IsOver s r) where
     given = λ h. o.given_nowhere k (subst (Has r) d h);
   }
 
-  over_less : (t : Shop) → ((k : ℕ) → IsWithout r (folder s k) (folder t k)) → t.requests ≡ s.requests → IsOver t r
+  over_less : (t : Shop) → ((k : ℕ) → IsWithout r (folder s k) (folder t k)) → t.requests ≡ s.requests → IsAskOver t r
   over_less t l e = record {
     asked = subst (λ rs. r ≤ length rs) (sym e) o.asked;
     served = λ k runs n.
@@ -245,18 +245,18 @@ module _ (s : Shop) (r : ℕ) (o : IsOver s r) where
     given_nowhere = λ k. (l k).given;
   }
 
-  over_put : (t : Shop) (k : ℕ) (g : Folder) → t.folders ≡ put_folder k g s.folders → IsWithout r (folder s k) g → t.requests ≡ s.requests → IsOver t r
+  over_put : (t : Shop) (k : ℕ) (g : Folder) → t.folders ≡ put_folder k g s.folders → IsWithout r (folder s k) g → t.requests ≡ s.requests → IsAskOver t r
   over_put t k g e l =
       over_less t (λ j. subst (λ fs. IsWithout r (folder s j) (folder_in fs j)) (sym e)
       (folder_cases (λ i h. IsWithout r (folder s i) h) k g s.folders l (λ i n. as_it_was i) j))
 
-  over_opened : (k : ℕ) (uncompared : List ℕ) → IsOver (record (opening k s) { uncompared = uncompared }) r
+  over_opened : (k : ℕ) (uncompared : List ℕ) → IsAskOver (record (opening_folder k s) { uncompared = uncompared }) r
   over_opened k uncompared = over_less _
       (opened_cases (λ j g. IsWithout r (folder s j) g) s k (with_memory k _ refl refl refl refl) (λ j n. with_memory j _ refl refl refl refl)) refl
 
   -- nothing runs it
   over_stopped : (t : Shop) (k : ℕ) (g : Folder) → t.folders ≡ put_folder k g s.folders → g.life ≡ 0 → g.waiting ≡ [] → g.given ≡ []
-      → t.requests ≡ s.requests → IsOver t r
+      → t.requests ≡ s.requests → IsAskOver t r
   over_stopped t k g e l w d = over_put t k g e (record {
     life = λ runs. absurd (omega (arith, runs, l));
     served = λ runs. absurd (omega (arith, runs, l));
@@ -264,7 +264,7 @@ module _ (s : Shop) (r : ℕ) (o : IsOver s r) where
     given = λ h. subst (Has r) d h;
   })
 
-over_step : (c : Carrier) {s : Shop} (e : ShopEvent) {r : ℕ} → May c s e → Tells s → IsOver s r → IsOver (after s e) r
+over_step : (c : Carrier) {s : Shop} (e : ShopEvent) {r : ℕ} → May c s e → Tells s → IsAskOver s r → IsAskOver (after_step s e) r
 over_step c {s} (Starts k) {r} m q o = record {
   asked = o.asked;
   served = folder_cases (λ j g. 0 < g.life → (request s r).life ≡ g.life → Has r g.served) k _ s.folders
@@ -339,7 +339,7 @@ over_step c {s} (Rebuilds k j) {r} m q o = over_stopped s r o _ k _ refl refl re
 over_step c {s} (WritesAnew k) {r} m q o = over_less s r o _ (as_it_was s r o) refl
 
 -- an event makes no message of it
-not_made : (c : Carrier) {s : Shop} (e : ShopEvent) {r : ℕ} (i n : ℕ) → May c s e → Tells s → IsOver s r → IsNew s e (Message i n r) → ⊥
+not_made : (c : Carrier) {s : Shop} (e : ShopEvent) {r : ℕ} (i n : ℕ) → May c s e → Tells s → IsAskOver s r → IsNew s e (Message i n r) → ⊥
 not_made c {s} (Accepts k p) {r} i n m q o new =
     let it = first_in (folder s k).given (m.1.0, sym (q.lined k).lines ∙ m.1.1) in
     let same : r ≡ p = cc new in
@@ -348,31 +348,31 @@ not_made c (Passes k to) i n m q o new = cc new
 not_made c (Starts k) i n m q o new = new
 not_made c e i n m q o new = new
 
-unmade_step : (c : Carrier) {s : Shop} (e : ShopEvent) {r : ℕ} → May c s e → Tells s → IsOver s r → IsUnmade s r → IsUnmade (after s e) r
+unmade_step : (c : Carrier) {s : Shop} (e : ShopEvent) {r : ℕ} → May c s e → Tells s → IsAskOver s r → IsUnmade s r → IsUnmade (after_step s e) r
 unmade_step c {s} e {r} m q o u h i n a = ⊎_elim (λ old. u old.0 i n old.1) (not_made c e i n m q o) (from_step c s e h (Message i n r) m a)
 
-unmade_after : (c : Carrier) (s : Shop) (later : List ShopEvent) {r : ℕ} → AreSteps c s later → Tells s → IsOver s r → IsUnmade s r → IsUnmade (run s later) r
+unmade_after : (c : Carrier) (s : Shop) (later : List ShopEvent) {r : ℕ} → AreSteps c s later → Tells s → IsAskOver s r → IsUnmade s r → IsUnmade (after_steps s later) r
 unmade_after c s [] m q o u = u
-unmade_after c s (e ∷ rest) m q o u = unmade_after c (after s e) rest m.1 (tells_step c e m.0 q) (over_step c e m.0 q o) (unmade_step c e m.0 q o u)
+unmade_after c s (e ∷ rest) m q o u = unmade_after c (after_step s e) rest m.1 (tells_step c e m.0 q) (over_step c e m.0 q o) (unmade_step c e m.0 q o u)
 
 pub over_stays : WhatIsOverStays
-over_stays c before later m r o u = subst (λ s. IsUnmade s r) (sym (run_append start before later))
-    (unmade_after c (run start before) later (steps_right c start before later m) (tells_run c before (steps_left c start before later m)) o u)
+over_stays c before later m r o u = subst (λ s. IsUnmade s r) (sym (run_append shop_start before later))
+    (unmade_after c (after_steps shop_start before) later (steps_right c shop_start before later m) (tells_run c before (steps_left c shop_start before later m)) o u)
 
 -- ---- in the order in which they were given
 
 -- of two in a list the later one isn't the first, where each is there once
-not_first : (r q : ℕ) (a b d : List ℕ) → (given : List ℕ) → given ≡ a ++ r ∷ (b ++ q ∷ d) → AreApart given → first given ≢ q
-not_first r q a b d given e apart same = go a (subst AreApart e apart) (ap first (sym e) ∙ same)
+not_first : (r q : ℕ) (a b d : List ℕ) → (given : List ℕ) → given ≡ a ++ r ∷ (b ++ q ∷ d) → AreApart given → first_event given ≢ q
+not_first r q a b d given e apart same = go a (subst AreApart e apart) (ap first_event (sym e) ∙ same)
   where
-    go : (a : List ℕ) → AreApart (a ++ r ∷ (b ++ q ∷ d)) → first (a ++ r ∷ (b ++ q ∷ d)) ≡ q → ⊥
+    go : (a : List ℕ) → AreApart (a ++ r ∷ (b ++ q ∷ d)) → first_event (a ++ r ∷ (b ++ q ∷ d)) ≡ q → ⊥
     go [] p f = p.0 (subst (λ n. Has n (b ++ q ∷ d)) (sym f) (has_right q b (q ∷ d) (inl refl)))
     go (x ∷ a) p f = p.0 (subst (λ n. Has n (a ++ r ∷ (b ++ q ∷ d))) (sym f) (has_right q a (r ∷ (b ++ q ∷ d)) (inr (has_right q b (q ∷ d) (inl refl)))))
 
 pub in_order : AnswersComeInOrder
 in_order c events m k r q a b d e =
     let l = (tells_run c events m).lined k in
-    let s = run start events in
-    let no : IsFirst q (folder s k).lines → ⊥ =
+    let s = after_steps shop_start events in
+    let no : IsFirstEvent q (folder s k).lines → ⊥ =
     λ f. not_first r q a b d (folder s k).given e l.apart (first_in (folder s k).given (f.0, sym l.lines ∙ f.1)).0 in
     ((λ x. no x.1), no)

@@ -7,9 +7,9 @@ use Rattle.std.proofs.lemmas.List.{get_or_append_left, get_or_push}
 use Rattle.rubis_model.specs.Site.{Has}
 use Rattle.rubis_carrier.specs.declared.values.ShopPacket.{ShopPacket}
 use Rattle.rubis_carrier.specs.declared.values.ShopRequest.{ShopRequest}
-use Rattle.rubis_carrier.specs.Events.{forgotten, opened, opening}
+use Rattle.rubis_carrier.specs.Events.{forgotten, opened_site, opening_folder}
 use Rattle.rubis_carrier.specs.Shops.{Folder, Shop, empty, folder, folder_in, put, put_folder, put_stream, request_in, stream_in, there, IsReached, highest}
-use Rattle.rubis_carrier.specs.Shops.{passed, sender, taken}
+use Rattle.rubis_carrier.specs.Shops.{passed_turn, sender, taken_turn}
 use Rattle.rubis_carrier.specs.declared.values.ShopPacket.TheVariants.{Message, Pass}
 
 pub eqb_same : (k : ℕ) → eqb k k ≡ true
@@ -64,9 +64,9 @@ forget_in i folders k = forget_from i empty none folders k
     none : (j : ℕ) → forgotten i (empty j) ≡ empty j
     none j = elim (eqb j i) as (λ b. record (empty j) { remembered = cond b false false } ≡ empty j) [ true ↦ refl | false ↦ refl ]
 
-pub opened_cases : (P : ℕ → Folder → Type 0) (s : Shop) (k : ℕ) → P k (opened (folder s k))
-    → ((j : ℕ) → j ≢ k → P j (forgotten (folder s k).site (folder s j))) → (j : ℕ) → P j (folder (opening k s) j)
-opened_cases P s k here there = folder_cases P k (opened (folder s k)) (map (forgotten (folder s k).site) s.folders) here
+pub opened_cases : (P : ℕ → Folder → Type 0) (s : Shop) (k : ℕ) → P k (opened_site (folder s k))
+    → ((j : ℕ) → j ≢ k → P j (forgotten (folder s k).site (folder s j))) → (j : ℕ) → P j (folder (opening_folder k s) j)
+opened_cases P s k here there = folder_cases P k (opened_site (folder s k)) (map (forgotten (folder s k).site) s.folders) here
     (λ j n. subst (P j) (sym (forget_in (folder s k).site s.folders j)) (there j n))
 
 -- asks are numbered from 1
@@ -125,17 +125,17 @@ number_within i n r (y ∷ ys) (inl e) = subst (λ z. n ≤ highest i (z ∷ ys)
 number_within i n r (Message j m q ∷ ys) (inr h) = later_in (eqb j i) n m (highest i ys) (number_within i n r ys h)
 number_within i n r (Pass j t k a ∷ ys) (inr h) = number_within i n r ys h
 
-pub passed_within : (i t j a : ℕ) (kept : List ShopPacket) → Has (Pass i t j a) kept → t ≤ passed i kept
+pub passed_within : (i t j a : ℕ) (kept : List ShopPacket) → Has (Pass i t j a) kept → t ≤ passed_turn i kept
 passed_within i t j a [] h = absurd h
-passed_within i t j a (y ∷ ys) (inl e) = subst (λ z. t ≤ passed i (z ∷ ys)) e (first_in i t (passed i ys))
+passed_within i t j a (y ∷ ys) (inl e) = subst (λ z. t ≤ passed_turn i (z ∷ ys)) e (first_in i t (passed_turn i ys))
 passed_within i t j a (Message k m q ∷ ys) (inr h) = passed_within i t j a ys h
-passed_within i t j a (Pass k u l b ∷ ys) (inr h) = later_in (eqb k i) t u (passed i ys) (passed_within i t j a ys h)
+passed_within i t j a (Pass k u l b ∷ ys) (inr h) = later_in (eqb k i) t u (passed_turn i ys) (passed_within i t j a ys h)
 
-pub taken_within : (i t j a : ℕ) (kept : List ShopPacket) → Has (Pass i t j a) kept → t ≤ taken j kept
+pub taken_within : (i t j a : ℕ) (kept : List ShopPacket) → Has (Pass i t j a) kept → t ≤ taken_turn j kept
 taken_within i t j a [] h = absurd h
-taken_within i t j a (y ∷ ys) (inl e) = subst (λ z. t ≤ taken j (z ∷ ys)) e (first_in j t (taken j ys))
+taken_within i t j a (y ∷ ys) (inl e) = subst (λ z. t ≤ taken_turn j (z ∷ ys)) e (first_in j t (taken_turn j ys))
 taken_within i t j a (Message k m q ∷ ys) (inr h) = taken_within i t j a ys h
-taken_within i t j a (Pass k u l b ∷ ys) (inr h) = later_in (eqb l j) t u (taken j ys) (taken_within i t j a ys h)
+taken_within i t j a (Pass k u l b ∷ ys) (inr h) = later_in (eqb l j) t u (taken_turn j ys) (taken_within i t j a ys h)
 
 -- ---- with more behind
 
@@ -148,15 +148,15 @@ number_more i [] more = omega arith
 number_more i (Message j m q ∷ ys) more = by_test (eqb j i) m (highest i ys) (highest i (ys ++ more)) (number_more i ys more)
 number_more i (Pass j t k a ∷ ys) more = number_more i ys more
 
-passed_more : (i : ℕ) (kept more : List ShopPacket) → passed i kept ≤ passed i (kept ++ more)
+passed_more : (i : ℕ) (kept more : List ShopPacket) → passed_turn i kept ≤ passed_turn i (kept ++ more)
 passed_more i [] more = omega arith
 passed_more i (Message j m q ∷ ys) more = passed_more i ys more
-passed_more i (Pass j t k a ∷ ys) more = by_test (eqb j i) t (passed i ys) (passed i (ys ++ more)) (passed_more i ys more)
+passed_more i (Pass j t k a ∷ ys) more = by_test (eqb j i) t (passed_turn i ys) (passed_turn i (ys ++ more)) (passed_more i ys more)
 
-taken_more : (i : ℕ) (kept more : List ShopPacket) → taken i kept ≤ taken i (kept ++ more)
+taken_more : (i : ℕ) (kept more : List ShopPacket) → taken_turn i kept ≤ taken_turn i (kept ++ more)
 taken_more i [] more = omega arith
 taken_more i (Message j m q ∷ ys) more = taken_more i ys more
-taken_more i (Pass j t k a ∷ ys) more = by_test (eqb k i) t (taken i ys) (taken i (ys ++ more)) (taken_more i ys more)
+taken_more i (Pass j t k a ∷ ys) more = by_test (eqb k i) t (taken_turn i ys) (taken_turn i (ys ++ more)) (taken_more i ys more)
 
 -- the greater of two that each become no less
 both_more : (t a b c d : ℕ) → t ≤ max a b → a ≤ c → b ≤ d → t ≤ max c d
@@ -165,11 +165,11 @@ both_more t a b c d h p q = omega (arith, h, p, q)
 pub reached_more : (i : ℕ) (kept more : List ShopPacket) (x : ShopPacket) → IsReached i kept x → IsReached i (kept ++ more) x
 reached_more i kept more (Message j n r) h = omega (arith, h, number_more i kept more)
 reached_more i kept more (Pass j t k a) h =
-    both_more t (passed i kept) (taken i kept) (passed i (kept ++ more)) (taken i (kept ++ more)) h (passed_more i kept more) (taken_more i kept more)
+    both_more t (passed_turn i kept) (taken_turn i kept) (passed_turn i (kept ++ more)) (taken_turn i (kept ++ more)) h (passed_more i kept more) (taken_more i kept more)
 
 pub reached_within : (x : ShopPacket) (kept : List ShopPacket) → Has x kept → IsReached (sender x) kept x
 reached_within (Message i n r) kept h = number_within i n r kept h
-reached_within (Pass i t j a) kept h = either_more t (passed i kept) (taken i kept) (passed_within i t j a kept h)
+reached_within (Pass i t j a) kept h = either_more t (passed_turn i kept) (taken_turn i kept) (passed_within i t j a kept h)
   where
     either_more : (t a b : ℕ) → t ≤ a → t ≤ max a b
     either_more t a b h = omega (arith, h)
@@ -203,12 +203,12 @@ highest_pass i j t k a (Message l m q ∷ rest) = ap (λ v. cond (eqb l i) (max 
 highest_pass i j t k a (Pass l u o b ∷ rest) = highest_pass i j t k a rest
 
 -- a message, for turns
-pub taken_message : (i j n r : ℕ) (kept : List ShopPacket) → taken i (kept ++ Message j n r ∷ []) ≡ taken i kept
+pub taken_message : (i j n r : ℕ) (kept : List ShopPacket) → taken_turn i (kept ++ Message j n r ∷ []) ≡ taken_turn i kept
 taken_message i j n r [] = refl
 taken_message i j n r (Message k m q ∷ rest) = taken_message i j n r rest
 taken_message i j n r (Pass k t l a ∷ rest) = ap (λ v. cond (eqb l i) (max t v) v) (taken_message i j n r rest)
 
-pub passed_message : (i j n r : ℕ) (kept : List ShopPacket) → passed i (kept ++ Message j n r ∷ []) ≡ passed i kept
+pub passed_message : (i j n r : ℕ) (kept : List ShopPacket) → passed_turn i (kept ++ Message j n r ∷ []) ≡ passed_turn i kept
 passed_message i j n r [] = refl
 passed_message i j n r (Message k m q ∷ rest) = passed_message i j n r rest
 passed_message i j n r (Pass k t l a ∷ rest) = ap (λ v. cond (eqb k i) (max t v) v) (passed_message i j n r rest)
@@ -221,24 +221,24 @@ later true m old new n h e =
     omega (arith, h, is)
 later false m old new n h e = e h
 
-pub taken_next : (i j t k a : ℕ) (kept : List ShopPacket) → eqb k i ≡ true → taken i kept ≤ t → taken i (kept ++ Pass j t k a ∷ []) ≡ t
+pub taken_next : (i j t k a : ℕ) (kept : List ShopPacket) → eqb k i ≡ true → taken_turn i kept ≤ t → taken_turn i (kept ++ Pass j t k a ∷ []) ≡ t
 taken_next i j t k a [] e h = subst (λ b. cond b (max t 0) 0 ≡ t) (sym e) (omega arith)
 taken_next i j t k a (Message l m q ∷ rest) e h = taken_next i j t k a rest e h
 taken_next i j t k a (Pass l u o b ∷ rest) e h =
-    later (eqb o i) u (taken i rest) (taken i (rest ++ Pass j t k a ∷ [])) t h (taken_next i j t k a rest e)
+    later (eqb o i) u (taken_turn i rest) (taken_turn i (rest ++ Pass j t k a ∷ [])) t h (taken_next i j t k a rest e)
 
-pub taken_other : (i j t k a : ℕ) (kept : List ShopPacket) → eqb k i ≡ false → taken i (kept ++ Pass j t k a ∷ []) ≡ taken i kept
+pub taken_other : (i j t k a : ℕ) (kept : List ShopPacket) → eqb k i ≡ false → taken_turn i (kept ++ Pass j t k a ∷ []) ≡ taken_turn i kept
 taken_other i j t k a [] e = subst (λ b. cond b (max t 0) 0 ≡ 0) (sym e) refl
 taken_other i j t k a (Message l m q ∷ rest) e = taken_other i j t k a rest e
 taken_other i j t k a (Pass l u o b ∷ rest) e = ap (λ v. cond (eqb o i) (max u v) v) (taken_other i j t k a rest e)
 
-pub passed_next : (i j t k a : ℕ) (kept : List ShopPacket) → eqb j i ≡ true → passed i kept ≤ t → passed i (kept ++ Pass j t k a ∷ []) ≡ t
+pub passed_next : (i j t k a : ℕ) (kept : List ShopPacket) → eqb j i ≡ true → passed_turn i kept ≤ t → passed_turn i (kept ++ Pass j t k a ∷ []) ≡ t
 passed_next i j t k a [] e h = subst (λ b. cond b (max t 0) 0 ≡ t) (sym e) (omega arith)
 passed_next i j t k a (Message l m q ∷ rest) e h = passed_next i j t k a rest e h
 passed_next i j t k a (Pass l u o b ∷ rest) e h =
-    later (eqb l i) u (passed i rest) (passed i (rest ++ Pass j t k a ∷ [])) t h (passed_next i j t k a rest e)
+    later (eqb l i) u (passed_turn i rest) (passed_turn i (rest ++ Pass j t k a ∷ [])) t h (passed_next i j t k a rest e)
 
-pub passed_other : (i j t k a : ℕ) (kept : List ShopPacket) → eqb j i ≡ false → passed i (kept ++ Pass j t k a ∷ []) ≡ passed i kept
+pub passed_other : (i j t k a : ℕ) (kept : List ShopPacket) → eqb j i ≡ false → passed_turn i (kept ++ Pass j t k a ∷ []) ≡ passed_turn i kept
 passed_other i j t k a [] e = subst (λ b. cond b (max t 0) 0 ≡ 0) (sym e) refl
 passed_other i j t k a (Message l m q ∷ rest) e = passed_other i j t k a rest e
 passed_other i j t k a (Pass l u o b ∷ rest) e = ap (λ v. cond (eqb l i) (max u v) v) (passed_other i j t k a rest e)

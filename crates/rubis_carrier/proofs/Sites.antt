@@ -24,8 +24,8 @@ use Rattle.rubis_message.specs.declared.inputs.Input.TheVariants.{Asked, Came, N
 use Rattle.rubis_generate.specs.Decision.{decision}
 use Rattle.rubis_model.proofs.Settling.{push_cases, counted_no, counted_yes, counted_push, settle_keeps}
 use Rattle.rubis_carrier.specs.declared.values.ShopPacket.{ShopPacket}
-use Rattle.rubis_carrier.specs.Shops.{Holds, highest, taken, passed as passed_on}
-use Rattle.rubis_carrier.specs.Sites.{SitesGiveTheseNames, came_by, known_as, packets_by, packets_of, passed_by, sent_by, took_by}
+use Rattle.rubis_carrier.specs.Shops.{HoldsToken, highest, taken_turn, passed_turn as passed_on}
+use Rattle.rubis_carrier.specs.Sites.{SitesGiveTheseNames, came_by, known_as, packets_by, packets_of, passed_by, sent_for_ask, took_by}
 use Rattle.rubis_carrier.proofs.PacketFacts.{highest_next, highest_other, highest_pass, passed_message, passed_next, passed_other, taken_message, taken_next}
 use Rattle.rubis_carrier.proofs.PacketFacts.{taken_other, eqb_other, eqb_same}
 
@@ -40,7 +40,7 @@ WaitsFor i most waiting = (x : Message) → Has x waiting → x.stamp.id.site �
 record IsHistory (p : Place) (s : Replica) (kept : List ShopPacket) : Type 0 where
   number : highest p.site kept ≡ counted p.site s.log
   waits : WaitsFor p.site (counted p.site s.log) s.waiting
-  turn : taken p.site kept ≡ s.last
+  turn : taken_turn p.site kept ≡ s.last
   past : passed_on p.site kept ≤ s.last + 1
   holds : (issued : ℕ) → s.held ≡ Some issued → (passed_on p.site kept ≤ s.last) × ((p.site ≡ 0) ⊎ (0 < s.last))
 
@@ -70,7 +70,7 @@ held_still x None {issued} e = by_colour (is_red x) e
 held_still x (Some n) e = (n, refl)
 
 after_asked : (ask : Message → ℕ) {p : Place} {s : Replica} {kept : List ShopPacket} → IsHistory p s kept → (r : Result Shadow Refusal)
-    → IsHistory p (generating p s r).0 (kept ++ sent_by ask (generating p s r).1)
+    → IsHistory p (generating p s r).0 (kept ++ sent_for_ask ask (generating p s r).1)
 after_asked ask q (Err r) = same_packets q
 after_asked ask {p} {s} {kept} q (Ok x) =
     let i = p.site in
@@ -242,10 +242,10 @@ true_not_false : true ≡ false → ⊥
 true_not_false e = cc e
 
 gives_pass : {p : Place} {s : Replica} {kept : List ShopPacket} → IsHistory p s kept → (to : ℕ) (t : Token) (held : Option ℕ) → s.held ≡ held
-    → (passing p s to held).1 ≡ Ok t → Holds p.site kept × (t.turn ≡ taken p.site kept + 1) × (to ≢ p.site)
+    → (passing p s to held).1 ≡ Ok t → HoldsToken p.site kept × (t.turn ≡ taken_turn p.site kept + 1) × (to ≢ p.site)
 gives_pass q to t None e f = absurd (cc f)
 gives_pass {p} {s} {kept} q to t (Some issued) e was =
-    let claim = Holds p.site kept × (t.turn ≡ taken p.site kept + 1) × (to ≢ p.site) in
+    let claim = HoldsToken p.site kept × (t.turn ≡ taken_turn p.site kept + 1) × (to ≢ p.site) in
     (cond_both {A = Replica × Result Token Refusal} (nat_le p.sites to || (to == p.site)) (s, Err BadTarget)
     (cond (nat_le 1000000000 s.last) (s, Err LastTurn) (record s { held = None }, Ok (token_for s to issued))) (λ x. x.1 ≡ Ok t → claim) (λ b f. absurd (cc f))
     (λ other. cond_both {A = Replica × Result Token Refusal} (nat_le 1000000000 s.last) (s, Err LastTurn) (record s { held = None }, Ok (token_for s to issued))

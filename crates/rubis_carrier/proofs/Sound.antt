@@ -12,22 +12,22 @@ use Rattle.rubis_carrier.specs.declared.values.ShopPacket.{ShopPacket}
 use Rattle.rubis_carrier.specs.declared.values.ShopPacket.TheVariants.{Message, Pass}
 use Rattle.rubis_carrier.specs.declared.values.ShopRequest.{ShopRequest}
 use Rattle.rubis_carrier.specs.declared.values.Notice.{Notice}
-use Rattle.rubis_carrier.specs.Events.{AreSteps, IsOffered, May, accepting, after, keeping, next_message, next_pass, opening, opening_uncompared, run}
+use Rattle.rubis_carrier.specs.Events.{AreSteps, IsOffered, May, accepting, after_step, with_packet_kept, next_message, next_pass, opening_folder, opening_uncompared, after_steps}
 use Rattle.rubis_carrier.specs.declared.values.ShopEvent.{ShopEvent}
 use Rattle.rubis_carrier.specs.declared.values.ShopEvent.TheVariants.{Accepts, Appends, Arrives, Closes, Fills, Finds, Gives, GoesOn, IsAsked, IsCopied}
 use Rattle.rubis_carrier.specs.declared.values.ShopEvent.TheVariants.{IsKilled, IsLost, IsRaised, KeeperStarts, LosesEnd, MachineStarts, Opens, OpensAlone}
 use Rattle.rubis_carrier.specs.declared.values.ShopEvent.TheVariants.{Passes, Reads, Rebuilds, Refuses, Sends, ServerLosesAll, Serves, Starts, StreamLosesEnd}
 use Rattle.rubis_carrier.specs.declared.values.ShopEvent.TheVariants.{TakesBack, TakesOver, TellsNothing, TellsOk, TellsPublished, TellsUnknown, WritesAnew}
 use Rattle.rubis_carrier.specs.declared.values.ShopEvent.TheVariants.{Yields}
-use Rattle.rubis_carrier.specs.Shops.{IsReached, highest, name, passed, sender, taken, Folder, IsCompared, IsNotAhead, MayOpen, Place, Shop, folder, folder_in}
-use Rattle.rubis_carrier.specs.Shops.{put_folder, put_stream, start, stream, stream_in, there, with_folder}
-use Rattle.rubis_carrier.specs.Shops.Place.{InFolder, InStream, UnderWay}
+use Rattle.rubis_carrier.specs.Shops.{IsReached, highest, name, passed_turn, sender, taken_turn, Folder, IsCompared, IsNotAhead, MayOpen, PacketPlace, Shop, folder, folder_in}
+use Rattle.rubis_carrier.specs.Shops.{put_folder, put_stream, shop_start, stream, stream_in, there, with_folder}
+use Rattle.rubis_carrier.specs.Shops.PacketPlace.{InFolder, InStream, UnderWay}
 use Rattle.rubis_carrier.proofs.PacketFacts.{reached_more, reached_within, eqb_same, filter_holds, folder_cases, has_filter, has_take, opened_cases}
 use Rattle.rubis_carrier.proofs.PacketFacts.{stream_cases}
 
 -- the packet stands somewhere
 abbrev pub IsSomewhere : Shop → ShopPacket → Type 0
-IsSomewhere s x = (h : Place) × Has x (there s h)
+IsSomewhere s x = (h : PacketPlace) × Has x (there s h)
 
 -- the turn of a pass is at least 1 and no greater than the greatest, and no site passes to itself
 abbrev pub IsKnown : ℕ → ShopPacket → Type 0
@@ -46,8 +46,8 @@ WasCompared s i = ¬ (Has i s.uncompared)
 -- one at most is remembered
 pub record Sound (s : Shop) : Type 0 where
   pub once : AreGivenOnce s
-  pub known : (h : Place) (x : ShopPacket) → Has x (there s h) → IsKnown s.turn x
-  pub whole : (k : ℕ) → (folder s k).remembered ≡ true → WasCompared s (folder s k).site → (h : Place) → IsNotAhead s k h
+  pub known : (h : PacketPlace) (x : ShopPacket) → Has x (there s h) → IsKnown s.turn x
+  pub whole : (k : ℕ) → (folder s k).remembered ≡ true → WasCompared s (folder s k).site → (h : PacketPlace) → IsNotAhead s k h
   pub opened : (k : ℕ) → (folder s k).is_open ≡ true → WasCompared s (folder s k).site → (folder s k).remembered ≡ true
   pub one : (k j : ℕ) → (folder s k).remembered ≡ true → (folder s j).remembered ≡ true → (folder s k).site ≡ (folder s j).site → k ≡ j
 
@@ -79,7 +79,7 @@ record IsLess (s t : Shop) : Type 0 where
   turn : s.turn ≤ t.turn
   uncompared : (i : ℕ) → Has i s.uncompared → Has i t.uncompared
 
-less_from : {s t : Shop} → IsLess s t → (h : Place) (x : ShopPacket) → Has x (there t h) → IsSomewhere s x
+less_from : {s t : Shop} → IsLess s t → (h : PacketPlace) (x : ShopPacket) → Has x (there t h) → IsSomewhere s x
 less_from l (InFolder k) x h = (l.folders k).from x h
 less_from l (InStream i) x h = l.streams i x h
 less_from l UnderWay x h = l.under_way x h
@@ -115,7 +115,7 @@ record HasSent (s t : Shop) (k : ℕ) (y : ShopPacket) : Type 0 where
   is_open : (folder s k).is_open ≡ true
   own : sender y ≡ (folder s k).site
   new : (x : ShopPacket) → IsReached (folder s k).site (folder s k).kept x → name x ≡ name y → ⊥
-  from : (h : Place) (x : ShopPacket) → Has x (there t h) → IsSomewhere s x ⊎ (x ≡ y)
+  from : (h : PacketPlace) (x : ShopPacket) → Has x (there t h) → IsSomewhere s x ⊎ (x ≡ y)
   kept : (j : ℕ) (x : ShopPacket) → IsReached (folder s j).site (folder s j).kept x → IsReached (folder t j).site (folder t j).kept x
   sent : IsReached (folder t k).site (folder t k).kept y
   site : (j : ℕ) → (folder t j).site ≡ (folder s j).site
@@ -219,12 +219,12 @@ new_message f r (Message i n q) h e =
     omega (arith, number, h)
 new_message f r (Pass i t j a) h e = cc e
 
-new_pass : (f : Folder) (to : ℕ) → passed f.site f.kept ≤ taken f.site f.kept → (x : ShopPacket) → IsReached f.site f.kept x → name x ≡ name (next_pass f to)
+new_pass : (f : Folder) (to : ℕ) → passed_turn f.site f.kept ≤ taken_turn f.site f.kept → (x : ShopPacket) → IsReached f.site f.kept x → name x ≡ name (next_pass f to)
     → ⊥
 new_pass f to l (Message i n q) h e = cc e
 new_pass f to l (Pass i t j a) h e =
-    let turn : t ≡ taken f.site f.kept + 1 = cc e in
-    later t (passed f.site f.kept) (taken f.site f.kept) turn h l
+    let turn : t ≡ taken_turn f.site f.kept + 1 = cc e in
+    later t (passed_turn f.site f.kept) (taken_turn f.site f.kept) turn h l
   where
     later : (t a b : ℕ) → t ≡ b + 1 → t ≤ max a b → a ≤ b → ⊥
     later t a b e h l = omega (arith, e, h, l)
@@ -255,23 +255,23 @@ module _ (s : Shop) (q : Sound s) (k : ℕ) (uncompared : List ℕ) (more : (i :
   is_compared c = ⊎_elim (λ r h seen. q.whole k r (compared_still (folder s k).site c) h) (λ a. a) (allowed c).knows
 
   -- which folders are remembered then
-  which : (j : ℕ) → (folder (opening k s) j).remembered ≡ true → (j ≡ k) ⊎ (((folder s j).site ≢ (folder s k).site) × ((folder s j).remembered ≡ true))
+  which : (j : ℕ) → (folder (opening_folder k s) j).remembered ≡ true → (j ≡ k) ⊎ (((folder s j).site ≢ (folder s k).site) × ((folder s j).remembered ≡ true))
   which = opened_cases (λ j g. g.remembered ≡ true → (j ≡ k) ⊎ (((folder s j).site ≢ (folder s k).site) × ((folder s j).remembered ≡ true)))
       s k (λ r. inl refl)
       (λ j n r.
       let both = cond_false (eqb (folder s j).site (folder s k).site) (folder s j).remembered r in
       inr (eqb-false (folder s j).site (folder s k).site both.0, both.1))
 
-  opens_sound : Sound (record (opening k s) { uncompared = uncompared })
+  opens_sound : Sound (record (opening_folder k s) { uncompared = uncompared })
   opens_sound =
-      let kept : (j : ℕ) → (folder (opening k s) j).kept ≡ (folder s j).kept =
+      let kept : (j : ℕ) → (folder (opening_folder k s) j).kept ≡ (folder s j).kept =
       opened_cases (λ j g. g.kept ≡ (folder s j).kept) s k refl (λ j n. refl) in
-      let site : (j : ℕ) → (folder (opening k s) j).site ≡ (folder s j).site =
+      let site : (j : ℕ) → (folder (opening_folder k s) j).site ≡ (folder s j).site =
       opened_cases (λ j g. g.site ≡ (folder s j).site) s k refl (λ j n. refl) in
-      let from : (h : Place) (x : ShopPacket) → Has x (there (opening k s) h) → Has x (there s h) =
+      let from : (h : PacketPlace) (x : ShopPacket) → Has x (there (opening_folder k s) h) → Has x (there s h) =
       elim [ InFolder j ↦ λ x. subst (Has x) (kept j) | InStream i ↦ λ x a. a | UnderWay ↦ λ x. has_filter _ x s.under_way ] in
       -- what is under way of the site arrives no more
-      let behind : ¬ (Has (folder s k).site uncompared) → (h : Place) (x : ShopPacket) → Has x (there (opening k s) h) → sender x ≡ (folder s k).site
+      let behind : ¬ (Has (folder s k).site uncompared) → (h : PacketPlace) (x : ShopPacket) → Has x (there (opening_folder k s) h) → sender x ≡ (folder s k).site
       → IsReached (folder s k).site (folder s k).kept x =
       λ c. elim [
         | InFolder j ↦ λ x a. is_compared c (InFolder j) tt x (from (InFolder j) x a)
@@ -283,7 +283,7 @@ module _ (s : Shop) (q : Sound s) (k : ℕ) (uncompared : List ℕ) (more : (i :
         known = λ h x a. q.known h x (from h x a);
         whole = λ j r n h x a e.
             let c : ¬ (Has (folder s j).site uncompared) = subst (λ i. ¬ (Has i uncompared)) (site j) n in
-            subst (λ i. IsReached i (folder (opening k s) j).kept x) (sym (site j))
+            subst (λ i. IsReached i (folder (opening_folder k s) j).kept x) (sym (site j))
             (subst (λ xs. IsReached (folder s j).site xs x) (sym (kept j)) (⊎_elim
             (λ here. subst (λ n. IsReached (folder s n).site (folder s n).kept x) (sym here)
             (behind (subst (λ n. ¬ (Has (folder s n).site uncompared)) here c) h x a (e ∙ site j ∙ ap (λ n. (folder s n).site) here)))
@@ -386,7 +386,7 @@ unknown_less s k f r o from = record {
   opened = λ e c. gone (sym o ∙ e);
 }
 
-pub sound_step : (c : Carrier) {s : Shop} (e : ShopEvent) → May c s e → Sound s → Sound (after s e)
+pub sound_step : (c : Carrier) {s : Shop} (e : ShopEvent) → May c s e → Sound s → Sound (after_step s e)
 sound_step c {s} (Starts k) m q = less_folder q k _ (shut s k _ refl refl refl refl) _ _ _
 sound_step c {s} (Opens k) m q = opens_sound s q k s.uncompared (λ i u. u) (λ n. m)
 sound_step c (TakesOver k) m q = uncompared_sound q k
@@ -422,7 +422,7 @@ sound_step c (Yields i) m q = less_else q _ _ _ _ _ (λ x h. (UnderWay, h))
 sound_step c (TakesBack i) m q = less_else q _ _ _ _ _ (λ x h. (UnderWay, h))
 sound_step c {s} (Passes k to) m q =
     let y = next_pass (folder s k) to in
-    let l : Keeps (folder s k) (keeping (folder s k) y) y = record { kept = refl; site = refl; remembered = refl; opened = refl } in
+    let l : Keeps (folder s k) (with_packet_kept (folder s k) y) y = record { kept = refl; site = refl; remembered = refl; opened = refl } in
     sent_sound q (sends s q k _ y l _ m.0 refl (new_pass (folder s k) to m.1.0) (omega arith, omega arith, m.2) (omega arith))
 sound_step c {s} (Appends k x) m q = less_streams q _ (stream_from s (sender x) (stream s (sender x) ++ x ∷ [])
     (λ z h. ⊎_elim (λ a. (InStream (sender x), a)) (λ e. (InFolder k, subst (λ v. Has v (folder s k).kept) (sym e) m.2))
@@ -450,7 +450,7 @@ sound_step c {s} (Rebuilds k j) m q = less_folder q k _ (unknown_less s k _ refl
 sound_step c {s} (WritesAnew k) m q = less_streams q _ (stream_from s (folder s k).site _
     (λ x h. (InFolder k, has_filter (λ z. sender z == (folder s k).site) x (folder s k).kept h)))
 
-sound_start : Sound start
+sound_start : Sound shop_start
 sound_start = record {
   once = λ h g x y a b e. absurd (nothing h x a);
   known = λ h x a. absurd (nothing h x a);
@@ -459,17 +459,17 @@ sound_start = record {
   one = λ k j a b e. gone a;
 }
   where
-    nothing : (h : Place) (x : ShopPacket) → Has x (there start h) → ⊥
+    nothing : (h : PacketPlace) (x : ShopPacket) → Has x (there shop_start h) → ⊥
     nothing (InFolder k) x h = h
     nothing (InStream i) x h = h
     nothing UnderWay x h = h
 
-pub sound_after : (c : Carrier) (s : Shop) (events : List ShopEvent) → AreSteps c s events → Sound s → Sound (run s events)
+pub sound_after : (c : Carrier) (s : Shop) (events : List ShopEvent) → AreSteps c s events → Sound s → Sound (after_steps s events)
 sound_after c s [] m q = q
-sound_after c s (e ∷ rest) m q = sound_after c (after s e) rest m.1 (sound_step c e m.0 q)
+sound_after c s (e ∷ rest) m q = sound_after c (after_step s e) rest m.1 (sound_step c e m.0 q)
 
-pub sound_run : (c : Carrier) (events : List ShopEvent) → AreSteps c start events → Sound (run start events)
-sound_run c events m = sound_after c start events m sound_start
+pub sound_run : (c : Carrier) (events : List ShopEvent) → AreSteps c shop_start events → Sound (after_steps shop_start events)
+sound_run c events m = sound_after c shop_start events m sound_start
 
 pub ids_once : IdsAreGivenOnce
 ids_once c events m = (sound_run c events m).once

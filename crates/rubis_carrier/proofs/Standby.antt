@@ -7,13 +7,13 @@ use Rattle.rubis_carrier.specs.declared.values.Carrier.{Carrier}
 use Rattle.rubis_carrier.specs.declared.values.ShopPacket.{ShopPacket}
 use Rattle.rubis_carrier.specs.declared.values.ShopPacket.TheVariants.{Message, Pass}
 use Rattle.rubis_carrier.specs.declared.values.Notice.TheVariants.{Ok}
-use Rattle.rubis_carrier.specs.Events.{AreSteps, IsAtItsPlace, IsWhole, May, after, run}
+use Rattle.rubis_carrier.specs.Events.{AreSteps, IsAtItsPlace, IsUnharmed, May, after_step, after_steps}
 use Rattle.rubis_carrier.specs.declared.values.ShopEvent.{ShopEvent}
 use Rattle.rubis_carrier.specs.declared.values.ShopEvent.TheVariants.{Appends, Arrives, GoesOn, OpensAlone, Refuses, ServerLosesAll, Starts, StreamLosesEnd}
 use Rattle.rubis_carrier.specs.declared.values.ShopEvent.TheVariants.{TakesBack, TakesOver, TellsNothing, TellsOk, TellsPublished, TellsUnknown, WritesAnew}
 use Rattle.rubis_carrier.specs.declared.values.ShopEvent.TheVariants.{Yields}
-use Rattle.rubis_carrier.specs.Shops.{highest, sender, Shop, folder, start, stream}
-use Rattle.rubis_carrier.specs.Shops.Place.{InStream}
+use Rattle.rubis_carrier.specs.Shops.{highest, sender, Shop, folder, shop_start, stream}
+use Rattle.rubis_carrier.specs.Shops.PacketPlace.{InStream}
 use Rattle.rubis_carrier.specs.Laws.{IdsAreToldOnce, StaysYielding, ToldStaysInStream, WhatYieldsIsPublished}
 use Rattle.rubis_carrier.proofs.Changes.{has_or, without_other}
 use Rattle.rubis_carrier.proofs.PacketFacts.{number_within, has_take, stream_cases}
@@ -56,7 +56,7 @@ placed_append s {i} q (Pass j t k a) place e n r d x y =
     (λ (new : Message i n r ≡ Pass j t k a). absurd (cc new)) (push_cases (Message i n r) (Pass j t k a) (stream s i) x)
 
 -- of a site of which a folder was opened uncompared, before the event
-placed_step : (c : Carrier) (s : Shop) (e : ShopEvent) → May c s e → ArePlaced s → (i : ℕ) → Has i s.uncompared → IsPlaced i (stream (after s e) i)
+placed_step : (c : Carrier) (s : Shop) (e : ShopEvent) → May c s e → ArePlaced s → (i : ℕ) → Has i s.uncompared → IsPlaced i (stream (after_step s e) i)
 placed_step c s (Appends k x) m q = stream_cases (λ i xs. Has i s.uncompared → IsPlaced i xs) (sender x) (stream s (sender x) ++ x ∷ []) s.streams
     (λ u. placed_append s (q (sender x)) x (m.3 u) refl) (λ j d u. q j)
 placed_step c s (Arrives x) m q = stream_cases (λ i xs. Has i s.uncompared → IsPlaced i xs) (sender x) (stream s (sender x) ++ x ∷ []) s.streams
@@ -70,55 +70,55 @@ placed_step c s (Starts k) m q = λ i u. q i
 placed_step c s e m q = λ i u. q i
 
 -- an event in which a folder of the site is opened uncompared changes no stream
-uncompared_new : (c : Carrier) (s : Shop) (e : ShopEvent) (i : ℕ) → May c s e → ArePlaced s → Has i (after s e).uncompared
-    → Has i s.uncompared ⊎ IsPlaced i (stream (after s e) i)
+uncompared_new : (c : Carrier) (s : Shop) (e : ShopEvent) (i : ℕ) → May c s e → ArePlaced s → Has i (after_step s e).uncompared
+    → Has i s.uncompared ⊎ IsPlaced i (stream (after_step s e) i)
 uncompared_new c s (TakesOver k) i m q u = inr (q i)
 uncompared_new c s (OpensAlone k) i m q u = inr (q i)
 uncompared_new c s (GoesOn k) i m q u = inr (q i)
 uncompared_new c s (Starts k) i m q u = inl u
 uncompared_new c s e i m q u = inl u
 
-pub placed_after : (c : Carrier) (s : Shop) (events : List ShopEvent) → AreSteps c s events → Sound s → ArePlaced s → ArePlaced (run s events)
+pub placed_after : (c : Carrier) (s : Shop) (events : List ShopEvent) → AreSteps c s events → Sound s → ArePlaced s → ArePlaced (after_steps s events)
 placed_after c s [] m q p = p
 placed_after c s (e ∷ rest) m q p =
     let sound = sound_step c e m.0 q in
-    placed_after c (after s e) rest m.1 sound (λ i. ⊎_elim (λ u. ⊎_elim (placed_step c s e m.0 p i) (λ placed. placed) (uncompared_new c s e i m.0 p u))
-    (placed_compared sound i) (has_or i (after s e).uncompared))
+    placed_after c (after_step s e) rest m.1 sound (λ i. ⊎_elim (λ u. ⊎_elim (placed_step c s e m.0 p i) (λ placed. placed) (uncompared_new c s e i m.0 p u))
+    (placed_compared sound i) (has_or i (after_step s e).uncompared))
 
-placed_run : (c : Carrier) (events : List ShopEvent) → AreSteps c start events → ArePlaced (run start events)
-placed_run c events m = placed_after c start events m (sound_run c [] tt) (λ i a b e x y. absurd x)
+placed_run : (c : Carrier) (events : List ShopEvent) → AreSteps c shop_start events → ArePlaced (after_steps shop_start events)
+placed_run c events m = placed_after c shop_start events m (sound_run c [] tt) (λ i a b e x y. absurd x)
 
 -- ---- the laws
 
 pub told_stays : ToldStaysInStream
 told_stays c before later k r n m whole =
-    let s = run start before in
+    let s = after_steps shop_start before in
     let i = (folder s k).site in
-    let steps = steps_right c start before (TellsPublished k r n ∷ later) m in
-    subst (λ (t : Shop). Has (Message i n r) (stream t i)) (sym (run_append start before (TellsPublished k r n ∷ later)))
-    (whole_after c (after s (TellsPublished k r n)) later (InStream i) steps.1 whole (Message i n r) steps.0.2)
+    let steps = steps_right c shop_start before (TellsPublished k r n ∷ later) m in
+    subst (λ (t : Shop). Has (Message i n r) (stream t i)) (sym (run_append shop_start before (TellsPublished k r n ∷ later)))
+    (whole_after c (after_step s (TellsPublished k r n)) later (InStream i) steps.1 whole (Message i n r) steps.0.2)
 
 pub told_once : IdsAreToldOnce
 told_once c before between k j r q n m site whole =
-    let s = run start before in
+    let s = after_steps shop_start before in
     let i = (folder s k).site in
     let last = TellsPublished j q n ∷ [] in
     let all = TellsPublished k r n ∷ (between ++ last) in
-    let steps = steps_right c start before all m in
-    let first = after s (TellsPublished k r n) in
-    let t = run first between in
+    let steps = steps_right c shop_start before all m in
+    let first = after_step s (TellsPublished k r n) in
+    let t = after_steps first between in
     let mine = whole_after c first between (InStream i) (steps_left c first between last steps.1) whole (Message i n r) steps.0.2 in
     let told = steps_right c first between last steps.1 in
     let here : (folder t j).site ≡ i =
-    ap (λ (z : Shop). (folder z j).site) (sym (run_append start before (TellsPublished k r n ∷ between))) ∙ site in
+    ap (λ (z : Shop). (folder z j).site) (sym (run_append shop_start before (TellsPublished k r n ∷ between))) ∙ site in
     let theirs : Has (Message i n q) (stream t i) = subst (λ d. Has (Message d n q) (stream t d)) here told.0.2 in
     let until : AreSteps c s (TellsPublished k r n ∷ between) = (steps.0, steps_left c first between last steps.1) in
-    let sofar = steps_left c start before all m in
+    let sofar = steps_left c shop_start before all m in
     placed_after c s (TellsPublished k r n ∷ between) until (sound_run c before sofar) (placed_run c before sofar) i n r q mine theirs
 
 -- while the site yields, ok is told of it only where the message stands in the stream
-told_new : (c : Carrier) (s : Shop) (e : ShopEvent) (i r n : ℕ) → May c s e → Has i s.yielding → Has (Ok r i n) (after s e).told
-    → Has (Ok r i n) s.told ⊎ Has (Message i n r) (stream (after s e) i)
+told_new : (c : Carrier) (s : Shop) (e : ShopEvent) (i r n : ℕ) → May c s e → Has i s.yielding → Has (Ok r i n) (after_step s e).told
+    → Has (Ok r i n) s.told ⊎ Has (Message i n r) (stream (after_step s e) i)
 told_new c s (Refuses k q) i r n m y h = ⊎_elim (λ e. absurd (cc e)) (λ old. inl old) h
 told_new c s (TellsNothing k q) i r n m y h = ⊎_elim (λ e. absurd (cc e)) (λ old. inl old) h
 told_new c s (TellsUnknown k q) i r n m y h = ⊎_elim (λ e. absurd (cc e)) (λ old. inl old) h
@@ -132,24 +132,24 @@ told_new c s (TellsPublished k q d) i r n m y h = ⊎_elim (λ (e : Ok r i n ≡
 told_new c s (Starts k) i r n m y h = inl h
 told_new c s e i r n m y h = inl h
 
-yields_still : (s : Shop) (e : ShopEvent) (i : ℕ) → e ≢ TakesBack i → Has i s.yielding → Has i (after s e).yielding
+yields_still : (s : Shop) (e : ShopEvent) (i : ℕ) → e ≢ TakesBack i → Has i s.yielding → Has i (after_step s e).yielding
 yields_still s (Yields j) i n y = inr y
 yields_still s (TakesBack j) i n y = without_other j i s.yielding (λ e. n (ap TakesBack (sym e))) y
 yields_still s (Starts k) i n y = y
 yields_still s e i n y = y
 
-told_since : (c : Carrier) (s : Shop) (later : List ShopEvent) (i : ℕ) → AreSteps c s later → Has i s.yielding → StaysYielding i later → IsWhole (InStream i) later
-    → (r n : ℕ) → Has (Ok r i n) (run s later).told → Has (Ok r i n) s.told ⊎ Has (Message i n r) (stream (run s later) i)
+told_since : (c : Carrier) (s : Shop) (later : List ShopEvent) (i : ℕ) → AreSteps c s later → Has i s.yielding → StaysYielding i later → IsUnharmed (InStream i) later
+    → (r n : ℕ) → Has (Ok r i n) (after_steps s later).told → Has (Ok r i n) s.told ⊎ Has (Message i n r) (stream (after_steps s later) i)
 told_since c s [] i m y stays w r n h = inl h
 told_since c s (e ∷ rest) i m y stays w r n h = ⊎_elim
-    (λ told. ⊎_elim (λ old. inl old) (λ there. inr (whole_after c (after s e) rest (InStream i) m.1 w.1 (Message i n r) there))
-    (told_new c s e i r n m.0 y told)) (λ there. inr there) (told_since c (after s e) rest i m.1 (yields_still s e i stays.0 y) stays.1 w.1 r n h)
+    (λ told. ⊎_elim (λ old. inl old) (λ there. inr (whole_after c (after_step s e) rest (InStream i) m.1 w.1 (Message i n r) there))
+    (told_new c s e i r n m.0 y told)) (λ there. inr there) (told_since c (after_step s e) rest i m.1 (yields_still s e i stays.0 y) stays.1 w.1 r n h)
 
 pub yields_published : WhatYieldsIsPublished
 yields_published c before later i m stays w r n h =
-    let s = run start before in
-    let t = after s (Yields i) in
-    let steps = steps_right c start before (Yields i ∷ later) m in
-    let same = run_append start before (Yields i ∷ later) in
+    let s = after_steps shop_start before in
+    let t = after_step s (Yields i) in
+    let steps = steps_right c shop_start before (Yields i ∷ later) m in
+    let same = run_append shop_start before (Yields i ∷ later) in
     subst (λ (u : Shop). Has (Ok r i n) s.told ⊎ Has (Message i n r) (stream u i)) (sym same)
     (told_since c t later i steps.1 (inl refl) stays w r n (subst (λ (u : Shop). Has (Ok r i n) u.told) same h))

@@ -12,7 +12,7 @@ use Rattle.rubis_carrier.specs.declared.values.ShopPacket.TheVariants.{Message}
 use Rattle.rubis_carrier.specs.declared.values.ShopRequest.{ShopRequest}
 use Rattle.rubis_carrier.specs.declared.values.Notice.{Notice}
 use Rattle.rubis_carrier.specs.declared.values.Notice.TheVariants.{No, Ok}
-use Rattle.rubis_carrier.specs.Events.{AreSteps, IsFirst, May, MayServe, accepting, after, answering, first, giving, next_message, opening, others, run}
+use Rattle.rubis_carrier.specs.Events.{AreSteps, IsFirstEvent, May, MayServe, accepting, after_step, first_answered, first_event, giving, next_message, opening_folder, others, after_steps}
 use Rattle.rubis_carrier.specs.Events.{started, times, without}
 use Rattle.rubis_carrier.specs.declared.values.ShopEvent.{ShopEvent}
 use Rattle.rubis_carrier.specs.declared.values.ShopEvent.TheVariants.{Accepts, Appends, Arrives, Closes, Fills, Finds, Gives, GoesOn, IsAsked, IsCopied}
@@ -21,8 +21,8 @@ use Rattle.rubis_carrier.specs.declared.values.ShopEvent.TheVariants.{Passes, Re
 use Rattle.rubis_carrier.specs.declared.values.ShopEvent.TheVariants.{TakesBack, TakesOver, TellsNothing, TellsOk, TellsPublished, TellsUnknown, WritesAnew}
 use Rattle.rubis_carrier.specs.declared.values.ShopEvent.TheVariants.{Yields}
 use Rattle.rubis_carrier.specs.Laws.{AsksAreAcceptedOnce, IsUnmade, NobodyIsToldBoth, PublishedIsInStream, ToldOkIsKept, WhatIsToldIsTrue}
-use Rattle.rubis_carrier.specs.Shops.{highest, Folder, Place, Shop, asks, empty, folder, folder_in, put_folder, request, request_in, start, stream, there}
-use Rattle.rubis_carrier.specs.Shops.Place.{InFolder, InStream, UnderWay}
+use Rattle.rubis_carrier.specs.Shops.{highest, Folder, PacketPlace, Shop, asks, empty, folder, folder_in, put_folder, request, request_in, shop_start, stream, there}
+use Rattle.rubis_carrier.specs.Shops.PacketPlace.{InFolder, InStream, UnderWay}
 use Rattle.rubis_carrier.proofs.Changes.{AreApart, IsNew, apart_more, apart_others, first_in, from_step, has_others, has_without, opened_from}
 use Rattle.rubis_carrier.proofs.PacketFacts.{folder_cases, has_filter, opened_cases, request_new, request_old}
 use Rattle.rubis_carrier.proofs.Sound.{IsSomewhere}
@@ -59,8 +59,8 @@ pub record Tells (s : Shop) : Type 0 where
   pub lives : (k j : ℕ) → 0 < (folder s k).life → (folder s k).life ≡ (folder s j).life → k ≡ j
   pub begun : (k : ℕ) → (folder s k).life ≤ s.begun
   pub named : (r : ℕ) → r ≤ asks s → (request s r).life ≤ s.begun
-  pub made : (h : Place) (i n r : ℕ) → Has (Message i n r) (there s h) → IsTaken s r
-  pub once : (h g : Place) (r i n j m : ℕ) → Has (Message i n r) (there s h) → Has (Message j m r) (there s g) → (i ≡ j) × (n ≡ m)
+  pub made : (h : PacketPlace) (i n r : ℕ) → Has (Message i n r) (there s h) → IsTaken s r
+  pub once : (h g : PacketPlace) (r i n j m : ℕ) → Has (Message i n r) (there s h) → Has (Message j m r) (there s g) → (i ≡ j) × (n ≡ m)
   pub no : (r : ℕ) → Has (No r) s.told → IsTaken s r × IsUnmade s r
   pub ok : (r i n : ℕ) → Has (Ok r i n) s.told → IsTaken s r × ¬ (Has (No r) s.told)
   pub waits : (k r : ℕ) → Has r (folder s k).waiting → IsAt s.requests (folder s k) r × IsOpen s r × ¬ (Has r (folder s k).given)
@@ -116,7 +116,7 @@ lined_same {f} {g} e l = record {
 }
 
 pub record IsQuiet (s t : Shop) : Type 0 where
-  pub from : (h : Place) (i n r : ℕ) → Has (Message i n r) (there t h) → IsSomewhere s (Message i n r)
+  pub from : (h : PacketPlace) (i n r : ℕ) → Has (Message i n r) (there t h) → IsSomewhere s (Message i n r)
   pub memory : (k : ℕ) → IsSame (folder s k) (folder t k) ⊎ IsIdle (folder t k)
   pub requests : t.requests ≡ s.requests
   pub begun : t.begun ≡ s.begun
@@ -198,15 +198,15 @@ all_same s k = inl (same (folder s k) (folder s k) refl refl refl refl refl refl
 
 -- ---- one event: what else is new
 
-nothing_new : (c : Carrier) (s : Shop) (e : ShopEvent) → May c s e → ((i n r : ℕ) → IsNew s e (Message i n r) → ⊥) → (h : Place) (i n r : ℕ)
-    → Has (Message i n r) (there (after s e) h) → IsSomewhere s (Message i n r)
+nothing_new : (c : Carrier) (s : Shop) (e : ShopEvent) → May c s e → ((i n r : ℕ) → IsNew s e (Message i n r) → ⊥) → (h : PacketPlace) (i n r : ℕ)
+    → Has (Message i n r) (there (after_step s e) h) → IsSomewhere s (Message i n r)
 nothing_new c s e m none h i n r a = ⊎_elim (λ old. old) (λ new. absurd (none i n r new)) (from_step c s e h (Message i n r) m a)
 
 -- the events in which no ask goes on, but for a folder that starts and an asker that asks
 quiet_put : (c : Carrier) {s : Shop} (e : ShopEvent) (k : ℕ) {f : Folder} → Tells s → May c s e → ((i n r : ℕ) → IsNew s e (Message i n r) → ⊥)
-    → (after s e).folders ≡ put_folder k f s.folders → (IsSame (folder s k) f ⊎ IsIdle f) → (after s e).requests ≡ s.requests → (after s e).begun ≡ s.begun
-    → (after s e).told ≡ s.told → Tells (after s e)
-quiet_put c {s} e k {f} q m none changed here requests begun told = quiet_tells s (after s e) q (record {
+    → (after_step s e).folders ≡ put_folder k f s.folders → (IsSame (folder s k) f ⊎ IsIdle f) → (after_step s e).requests ≡ s.requests → (after_step s e).begun ≡ s.begun
+    → (after_step s e).told ≡ s.told → Tells (after_step s e)
+quiet_put c {s} e k {f} q m none changed here requests begun told = quiet_tells s (after_step s e) q (record {
   from = nothing_new c s e m none;
   memory = λ j. subst (λ fs. IsSame (folder s j) (folder_in fs j) ⊎ IsIdle (folder_in fs j)) (sym changed)
       (folder_cases (λ j g. IsSame (folder s j) g ⊎ IsIdle g) k f s.folders here (λ j n. all_same s j) j);
@@ -216,10 +216,10 @@ quiet_put c {s} e k {f} q m none changed here requests begun told = quiet_tells 
   ok = λ r i n a. inl (subst (Has (Ok r i n)) told a);
 })
 
-quiet_streams : (c : Carrier) {s : Shop} (e : ShopEvent) → Tells s → May c s e → ((i n r : ℕ) → IsNew s e (Message i n r) → ⊥) → (after s e).folders ≡ s.folders
-    → (after s e).requests ≡ s.requests → (after s e).begun ≡ s.begun → ((r : ℕ) → Has (No r) (after s e).told → Has (No r) s.told)
-    → ((r i n : ℕ) → Has (Ok r i n) (after s e).told → Has (Ok r i n) s.told ⊎ IsSomewhere s (Message i n r)) → Tells (after s e)
-quiet_streams c {s} e q m none same requests begun told_no told_ok = quiet_tells s (after s e) q (record {
+quiet_streams : (c : Carrier) {s : Shop} (e : ShopEvent) → Tells s → May c s e → ((i n r : ℕ) → IsNew s e (Message i n r) → ⊥) → (after_step s e).folders ≡ s.folders
+    → (after_step s e).requests ≡ s.requests → (after_step s e).begun ≡ s.begun → ((r : ℕ) → Has (No r) (after_step s e).told → Has (No r) s.told)
+    → ((r i n : ℕ) → Has (Ok r i n) (after_step s e).told → Has (Ok r i n) s.told ⊎ IsSomewhere s (Message i n r)) → Tells (after_step s e)
+quiet_streams c {s} e q m none same requests begun told_no told_ok = quiet_tells s (after_step s e) q (record {
   from = nothing_new c s e m none;
   memory = λ j. subst (λ fs. IsSame (folder s j) (folder_in fs j) ⊎ IsIdle (folder_in fs j)) (sym same) (all_same s j);
   requests = requests;
@@ -238,11 +238,11 @@ record IsGoing (s t : Shop) : Type 0 where
 
 -- of which asks there may be a message then that there wasn't, and which may be told no
 record IsAlmost (s t : Shop) (Made Refused : ℕ → Type 0) : Type 0 where
-  from : (h : Place) (i n r : ℕ) → Has (Message i n r) (there t h) → IsSomewhere s (Message i n r) ⊎ Made r
+  from : (h : PacketPlace) (i n r : ℕ) → Has (Message i n r) (there t h) → IsSomewhere s (Message i n r) ⊎ Made r
   no : (r : ℕ) → Has (No r) t.told → Has (No r) s.told ⊎ Refused r
   ok : (r i n : ℕ) → Has (Ok r i n) t.told → Has (Ok r i n) s.told
   made_was : (r : ℕ) → Made r → IsTaken s r × IsOpen s r
-  made_once : (h g : Place) (r i n j m : ℕ) → Made r → Has (Message i n r) (there t h) → Has (Message j m r) (there t g) → (i ≡ j) × (n ≡ m)
+  made_once : (h g : PacketPlace) (r i n j m : ℕ) → Made r → Has (Message i n r) (there t h) → Has (Message j m r) (there t g) → (i ≡ j) × (n ≡ m)
   refused_was : (r : ℕ) → Refused r → IsTaken s r × IsOpen s r × ¬ (Made r)
 
 open_almost : {s t : Shop} (Made Refused : ℕ → Type 0) → IsAlmost s t Made Refused → (r : ℕ) → ¬ (Made r) → ¬ (Refused r) → IsOpen s r → IsOpen t r
@@ -305,9 +305,9 @@ abbrev none : ℕ → Type 0
 none r = ⊥
 
 -- the ask is taken
-serves_tells : (c : Carrier) {s : Shop} {k r : ℕ} → Tells s → MayServe s k r → Tells (after s (Serves k r))
+serves_tells : (c : Carrier) {s : Shop} {k r : ℕ} → Tells s → MayServe s k r → Tells (after_step s (Serves k r))
 serves_tells c {s} {k} {r} q m =
-    let t = after s (Serves k r) in
+    let t = after_step s (Serves k r) in
     let f : Folder = record (folder s k) { served = r ∷ (folder s k).served; waiting = r ∷ (folder s k).waiting } in
     let l : IsAlmost s t none none = record {
       from = λ h i n p a. inl (nothing_new c s (Serves k r) m (λ i n p e. e) h i n p a);
@@ -345,9 +345,9 @@ serves_tells c {s} {k} {r} q m =
     (λ j n. q.lined j))
 
 -- it is given to the site
-gives_tells : (c : Carrier) {s : Shop} (k r : ℕ) → Tells s → May c s (Gives k r) → Tells (after s (Gives k r))
+gives_tells : (c : Carrier) {s : Shop} (k r : ℕ) → Tells s → May c s (Gives k r) → Tells (after_step s (Gives k r))
 gives_tells c {s} k r q m =
-    let t = after s (Gives k r) in
+    let t = after_step s (Gives k r) in
     let f : Folder = giving (folder s k) r (request s r).records in
     let l : IsAlmost s t none none = record {
       from = λ h i n p a. inl (nothing_new c s (Gives k r) m (λ i n p e. e) h i n p a);
@@ -381,16 +381,16 @@ gives_tells c {s} k r q m =
     }) (λ j n. q.lined j))
 
 -- the site accepts it
-accepts_tells : (c : Carrier) {s : Shop} (k r : ℕ) → Tells s → May c s (Accepts k r) → Tells (after s (Accepts k r))
+accepts_tells : (c : Carrier) {s : Shop} (k r : ℕ) → Tells s → May c s (Accepts k r) → Tells (after_step s (Accepts k r))
 accepts_tells c {s} k r q m =
-    let t = after s (Accepts k r) in
+    let t = after_step s (Accepts k r) in
     let y = next_message (folder s k) r in
     let f : Folder = accepting (folder s k) r in
-    let line : IsFirst r (folder s k).given = (m.1.0, sym (q.lined k).lines ∙ m.1.1) in
+    let line : IsFirstEvent r (folder s k).given = (m.1.0, sym (q.lined k).lines ∙ m.1.1) in
     let it = first_in (folder s k).given line in
     let given = q.gives k r it.1 in
     let Made : ℕ → Type 0 = λ p. p ≡ r in
-    let from : (h : Place) (i n p : ℕ) → Has (Message i n p) (there t h) → IsSomewhere s (Message i n p) ⊎ (Message i n p ≡ y) =
+    let from : (h : PacketPlace) (i n p : ℕ) → Has (Message i n p) (there t h) → IsSomewhere s (Message i n p) ⊎ (Message i n p ≡ y) =
     λ h i n p a. from_step c s (Accepts k r) h (Message i n p) m a in
     let l : IsAlmost s t Made none = record {
       from = λ h i n p a. ⊎_elim (λ old. inl old) (λ e. inr (cc e)) (from h i n p a);
@@ -424,7 +424,7 @@ accepts_tells c {s} k r q m =
       lines = ap others (q.lined k).lines;
       apart = apart_others (folder s k).given (q.lined k).apart;
       answers = λ p n h. ⊎_elim (λ e.
-          let who : p ≡ first (folder s k).given = ap (λ (x : Answer). x.ask) e in
+          let who : p ≡ first_event (folder s k).given = ap (λ (x : Answer). x.ask) e in
           let number : n ≡ highest (folder s k).site (folder s k).kept + 1 = ap (λ (x : Answer). x.number) e in
           let is : Message (folder s k).site n p ≡ y = cc (who ∙ it.0, number) in
           subst (λ x. Has x ((folder s k).kept ++ y ∷ [])) (sym is) (has_last y (folder s k).kept))
@@ -441,11 +441,11 @@ ok_from s r p i n (inl e) = absurd (cc e)
 ok_from s r p i n (inr a) = a
 
 -- the site refused it
-refuses_tells : (c : Carrier) {s : Shop} (k r : ℕ) → Tells s → May c s (Refuses k r) → Tells (after s (Refuses k r))
+refuses_tells : (c : Carrier) {s : Shop} (k r : ℕ) → Tells s → May c s (Refuses k r) → Tells (after_step s (Refuses k r))
 refuses_tells c {s} k p0 q m =
-    let t = after s (Refuses k p0) in
-    let f : Folder = answering (folder s k) in
-    let r = first (folder s k).given in
+    let t = after_step s (Refuses k p0) in
+    let f : Folder = first_answered (folder s k) in
+    let r = first_event (folder s k).given in
     let it = first_in (folder s k).given (m.0, sym (q.lined k).lines ∙ m.1) in
     let here : Has r (folder s k).given = subst (λ n. Has n (folder s k).given) (sym it.0) it.1 in
     let given = q.gives k r here in
@@ -478,9 +478,9 @@ refuses_tells c {s} k p0 q m =
     (λ j n. q.lined j))
 
 -- it is taken back before it was given
-withdraws_tells : (c : Carrier) {s : Shop} (k r : ℕ) → Tells s → May c s (TellsNothing k r) → Tells (after s (TellsNothing k r))
+withdraws_tells : (c : Carrier) {s : Shop} (k r : ℕ) → Tells s → May c s (TellsNothing k r) → Tells (after_step s (TellsNothing k r))
 withdraws_tells c {s} k r q m =
-    let t = after s (TellsNothing k r) in
+    let t = after_step s (TellsNothing k r) in
     let f : Folder = record (folder s k) { waiting = without r (folder s k).waiting } in
     let waited = q.waits k r m in
     let Refused : ℕ → Type 0 = λ p. p ≡ r in
@@ -510,9 +510,9 @@ withdraws_tells c {s} k r q m =
 
 -- ---- a folder is started, and an asker asks
 
-starts_tells : (c : Carrier) {s : Shop} (k : ℕ) → Tells s → May c s (Starts k) → Tells (after s (Starts k))
+starts_tells : (c : Carrier) {s : Shop} (k : ℕ) → Tells s → May c s (Starts k) → Tells (after_step s (Starts k))
 starts_tells c {s} k q m =
-    let t = after s (Starts k) in
+    let t = after_step s (Starts k) in
     let f : Folder = started (folder s k) (s.begun + 1) in
     let from = nothing_new c s (Starts k) m (λ i n p e. e) in
     let begun : (j : ℕ) → (folder t j).life ≤ t.begun =
@@ -550,9 +550,9 @@ starts_tells c {s} k q m =
       lined = folder_cases (λ j g. IsLined g) k f s.folders (lined_idle f refl refl refl) (λ j n. q.lined j);
     }
 
-asked_tells : (c : Carrier) {s : Shop} (r life d : ℕ) → Tells s → May c s (IsAsked r life d) → Tells (after s (IsAsked r life d))
+asked_tells : (c : Carrier) {s : Shop} (r life d : ℕ) → Tells s → May c s (IsAsked r life d) → Tells (after_step s (IsAsked r life d))
 asked_tells c {s} r life d q m =
-    let t = after s (IsAsked r life d) in
+    let t = after_step s (IsAsked r life d) in
     let from = nothing_new c s (IsAsked r life d) m (λ i n p e. e) in
     let new : ShopRequest = record { life = life; records = d } in
     let more : asks t ≡ asks s + 1 = length_push s.requests new in
@@ -595,7 +595,7 @@ no_message : (s : Shop) (k to i n r : ℕ) → IsNew s (Passes k to) (Message i 
 no_message s k to i n r e = cc e
 
 -- a folder opens, whether it may or not
-opens_tells : {s : Shop} (k : ℕ) (uncompared : List ℕ) → Tells s → Tells (record (opening k s) { uncompared = uncompared })
+opens_tells : {s : Shop} (k : ℕ) (uncompared : List ℕ) → Tells s → Tells (record (opening_folder k s) { uncompared = uncompared })
 opens_tells {s} k uncompared q = quiet_tells s _ q (record {
   from = from;
   memory = opened_cases (λ j g. IsSame (folder s j) g ⊎ IsIdle g) s k (inl (same (folder s k) _ refl refl refl refl refl refl refl (λ x h. h)))
@@ -606,12 +606,12 @@ opens_tells {s} k uncompared q = quiet_tells s _ q (record {
   ok = λ r i n a. inl a;
 })
   where
-    from : (h : Place) (i n r : ℕ) → Has (Message i n r) (there (opening k s) h) → IsSomewhere s (Message i n r)
+    from : (h : PacketPlace) (i n r : ℕ) → Has (Message i n r) (there (opening_folder k s) h) → IsSomewhere s (Message i n r)
     from (InFolder j) i n r a = opened_from s k (Message i n r) j a
     from (InStream j) i n r a = (InStream j, a)
     from UnderWay i n r a = (UnderWay, has_filter _ (Message i n r) s.under_way a)
 
-pub tells_step : (c : Carrier) {s : Shop} (e : ShopEvent) → May c s e → Tells s → Tells (after s e)
+pub tells_step : (c : Carrier) {s : Shop} (e : ShopEvent) → May c s e → Tells s → Tells (after_step s e)
 tells_step c (Starts k) m q = starts_tells c k q m
 tells_step c {s} (Opens k) m q = opens_tells k s.uncompared q
 tells_step c (TakesOver k) m q = opens_tells k _ q
@@ -672,7 +672,7 @@ tells_step c (WritesAnew k) m q = quiet_streams c (WritesAnew k) q m (λ i d p e
 
 -- ---- the laws
 
-pub tells_start : Tells start
+pub tells_start : Tells shop_start
 tells_start = record {
   lives = λ k j runs e. absurd (omega (arith, runs));
   begun = λ k. omega arith;
@@ -686,20 +686,20 @@ tells_start = record {
   lined = λ k. lined_idle (empty k) refl refl refl;
 }
   where
-    nothing : (h : Place) (x : ShopPacket) → Has x (there start h) → ⊥
+    nothing : (h : PacketPlace) (x : ShopPacket) → Has x (there shop_start h) → ⊥
     nothing (InFolder k) x h = h
     nothing (InStream i) x h = h
     nothing UnderWay x h = h
 
-pub tells_after : (c : Carrier) (s : Shop) (events : List ShopEvent) → AreSteps c s events → Tells s → Tells (run s events)
+pub tells_after : (c : Carrier) (s : Shop) (events : List ShopEvent) → AreSteps c s events → Tells s → Tells (after_steps s events)
 tells_after c s [] m q = q
-tells_after c s (e ∷ rest) m q = tells_after c (after s e) rest m.1 (tells_step c e m.0 q)
+tells_after c s (e ∷ rest) m q = tells_after c (after_step s e) rest m.1 (tells_step c e m.0 q)
 
-pub tells_run : (c : Carrier) (events : List ShopEvent) → AreSteps c start events → Tells (run start events)
-tells_run c events m = tells_after c start events m tells_start
+pub tells_run : (c : Carrier) (events : List ShopEvent) → AreSteps c shop_start events → Tells (after_steps shop_start events)
+tells_run c events m = tells_after c shop_start events m tells_start
 
 -- what was told is told for ever
-told_step : (s : Shop) (e : ShopEvent) (w : Notice) → Has w s.told → Has w (after s e).told
+told_step : (s : Shop) (e : ShopEvent) (w : Notice) → Has w s.told → Has w (after_step s e).told
 told_step s (Refuses k r) w h = inr h
 told_step s (TellsOk k r n) w h = inr h
 told_step s (TellsPublished k r n) w h = inr h
@@ -708,13 +708,13 @@ told_step s (TellsUnknown k r) w h = inr h
 told_step s (Starts k) w h = h
 told_step s e w h = h
 
-pub told_after : (s : Shop) (events : List ShopEvent) (w : Notice) → Has w s.told → Has w (run s events).told
+pub told_after : (s : Shop) (events : List ShopEvent) (w : Notice) → Has w s.told → Has w (after_steps s events).told
 told_after s [] w h = h
-told_after s (e ∷ rest) w h = told_after (after s e) rest w (told_step s e w h)
+told_after s (e ∷ rest) w h = told_after (after_step s e) rest w (told_step s e w h)
 
 pub told_true : WhatIsToldIsTrue
 told_true c before later m r told =
-    let still = subst (λ (s : Shop). Has (No r) s.told) (sym (run_append start before later)) (told_after (run start before) later (No r) told) in
+    let still = subst (λ (s : Shop). Has (No r) s.told) (sym (run_append shop_start before later)) (told_after (after_steps shop_start before) later (No r) told) in
     ((tells_run c (before ++ later) m).no r still).1
 
 pub told_one : NobodyIsToldBoth
@@ -725,14 +725,14 @@ accepted_once c events m = (tells_run c events m).once
 
 pub told_ok : ToldOkIsKept
 told_ok c before k r n m =
-    let s = run start before in
-    let last = steps_right c start before (TellsOk k r n ∷ []) m in
-    let kept = ((tells_run c before (steps_left c start before (TellsOk k r n ∷ []) m)).lined k).answers r n last.0.0 in
+    let s = after_steps shop_start before in
+    let last = steps_right c shop_start before (TellsOk k r n ∷ []) m in
+    let kept = ((tells_run c before (steps_left c shop_start before (TellsOk k r n ∷ []) m)).lined k).answers r n last.0.0 in
     subst (λ (t : Shop). Has (Ok r (folder t k).site n) t.told × Has (Message (folder t k).site n r) (folder t k).kept)
-    (sym (run_append start before (TellsOk k r n ∷ []))) (inl refl, kept)
+    (sym (run_append shop_start before (TellsOk k r n ∷ []))) (inl refl, kept)
 
 pub published : PublishedIsInStream
 published c before k r n m =
-    let last = steps_right c start before (TellsPublished k r n ∷ []) m in
+    let last = steps_right c shop_start before (TellsPublished k r n ∷ []) m in
     subst (λ (t : Shop). Has (Ok r (folder t k).site n) t.told × Has (Message (folder t k).site n r) (stream t (folder t k).site))
-    (sym (run_append start before (TellsPublished k r n ∷ []))) (inl refl, last.0.2)
+    (sym (run_append shop_start before (TellsPublished k r n ∷ []))) (inl refl, last.0.2)

@@ -6,9 +6,9 @@ use Rattle.rubis_carrier.specs.declared.values.Carrier.{Carrier}
 use Rattle.rubis_carrier.specs.declared.values.Carrier.TheVariants.{Files, Server}
 use Rattle.rubis_carrier.specs.declared.values.ShopPacket.{ShopPacket}
 use Rattle.rubis_carrier.specs.declared.values.ShopPacket.TheVariants.{Message, Pass}
-use Rattle.rubis_carrier.specs.Shops.{Holds, highest, own, sender, taken, Folder, MayOpen, Place, Shop, asks, empty, folder, put_folder, request, stream, there}
-use Rattle.rubis_carrier.specs.Shops.{with_folder, with_stream, last_turn, passed, same_packet}
-use Rattle.rubis_carrier.specs.Shops.Place.{InFolder, InStream, UnderWay}
+use Rattle.rubis_carrier.specs.Shops.{HoldsToken, highest, own, sender, taken_turn, Folder, MayOpen, PacketPlace, Shop, asks, empty, folder, put_folder, request, stream, there}
+use Rattle.rubis_carrier.specs.Shops.{with_folder, with_stream, last_turn, passed_turn, same_packet}
+use Rattle.rubis_carrier.specs.Shops.PacketPlace.{InFolder, InStream, UnderWay}
 use Rattle.rubis_carrier.specs.declared.values.Notice.{Notice}
 use Rattle.rubis_carrier.specs.declared.values.Notice.TheVariants as told
 use Rattle.rubis_carrier.specs.declared.values.ShopEvent.{ShopEvent}
@@ -36,8 +36,8 @@ pub record MayServe (s : Shop) (k r : ℕ) : Type 0 where
   pub once : Has r (folder s k).served → ⊥
 
 -- it is the first of the list
-abbrev pub IsFirst : ℕ → List ℕ → Type 0
-IsFirst r asks = (rest : List ℕ) × (asks ≡ r ∷ rest)
+abbrev pub IsFirstEvent : ℕ → List ℕ → Type 0
+IsFirstEvent r asks = (rest : List ℕ) × (asks ≡ r ∷ rest)
 
 -- the folder in whose place folder j is put doesn't run, and nothing is lost that was left of it
 pub record MayRebuild (s : Shop) (k j : ℕ) : Type 0 where
@@ -45,9 +45,9 @@ pub record MayRebuild (s : Shop) (k j : ℕ) : Type 0 where
   pub left : (x : ShopPacket) → Has x (folder s k).kept → Has x (folder s j).kept
 
 -- a full site takes no message
-abbrev pub HasRoom : Shop → ℕ → ShopPacket → Type 0
-HasRoom s k (Message i n r) = ¬ (Has k s.full)
-HasRoom s k (Pass i t j a) = Unit {0}
+abbrev pub FolderHasRoom : Shop → ℕ → ShopPacket → Type 0
+FolderHasRoom s k (Message i n r) = ¬ (Has k s.full)
+FolderHasRoom s k (Pass i t j a) = Unit {0}
 
 -- a message is the next of its stream
 abbrev pub IsAtItsPlace : Shop → ShopPacket → Type 0
@@ -80,23 +80,23 @@ May c s (IsRaised k) = (folder s k).life ≡ 0
 May c s (IsAsked r life n) = (r ≡ asks s + 1) × (life ≤ s.begun)
 May c s (Serves k r) = MayServe s k r
 May c s (Gives k r) = ((folder s k).is_open ≡ true) × Has r (folder s k).waiting
-May c s (Accepts k r) = ((folder s k).is_open ≡ true) × IsFirst r (folder s k).lines × ¬ (Has k s.full)
-May c s (Refuses k r) = IsFirst r (folder s k).lines
+May c s (Accepts k r) = ((folder s k).is_open ≡ true) × IsFirstEvent r (folder s k).lines × ¬ (Has k s.full)
+May c s (Refuses k r) = IsFirstEvent r (folder s k).lines
 May c s (TellsOk k r n) = Has (record { ask = r; number = n }) (folder s k).answered × ¬ (Has (folder s k).site s.yielding)
 May c s (TellsPublished k r n) = (c ≡ Server) × Has (record { ask = r; number = n }) (folder s k).answered × Has (Message (folder s k).site n r) (stream s (folder s k).site)
 May c s (TellsNothing k r) = Has r (folder s k).waiting
 May c s (TellsUnknown k r) = Unit {0}
 May c s (Yields i) = Unit {0}
 May c s (TakesBack i) = Unit {0}
-May c s (Passes k to) = ((folder s k).is_open ≡ true) × Holds (folder s k).site (folder s k).kept × (to ≢ (folder s k).site)
+May c s (Passes k to) = ((folder s k).is_open ≡ true) × HoldsToken (folder s k).site (folder s k).kept × (to ≢ (folder s k).site)
 May c s (Appends k x) = (c ≡ Server) × (0 < (folder s k).life) × Has x (folder s k).kept × MayStandNext s x
 May c s (Sends k x) = (c ≡ Server) × (0 < (folder s k).life) × Has x (folder s k).kept
 May c s (Arrives x) = (c ≡ Server) × Has x s.under_way × MayStandNext s x
-May c s (Reads k x) = (0 < (folder s k).life) × (sender x ≢ (folder s k).site) × IsOffered c s x × HasRoom s k x
+May c s (Reads k x) = (0 < (folder s k).life) × (sender x ≢ (folder s k).site) × IsOffered c s x × FolderHasRoom s k x
 May c s (LosesEnd k n) = Unit {0}
 May c s (IsLost k) = Unit {0}
 May c s (IsCopied k j) = Unit {0}
-May c s (Finds k x) = ((folder s k).life ≡ 0) × ((h : Place) × Has x (there s h))
+May c s (Finds k x) = ((folder s k).life ≡ 0) × ((h : PacketPlace) × Has x (there s h))
 May c s (Rebuilds k j) = MayRebuild s k j
 May c s (StreamLosesEnd i n) = Unit {0}
 May c s ServerLosesAll = Unit {0}
@@ -125,9 +125,9 @@ abbrev pub without : ℕ → List ℕ → List ℕ
 without r asks = filter (λ q. not (q == r)) asks
 
 -- the first of a list, and the others
-abbrev pub first : List ℕ → ℕ
-first [] = 0
-first (r ∷ asks) = r
+abbrev pub first_event : List ℕ → ℕ
+first_event [] = 0
+first_event (r ∷ asks) = r
 
 -- all asks but the first
 abbrev pub others : List ℕ → List ℕ
@@ -145,29 +145,29 @@ next_message f r = Message f.site (highest f.site f.kept + 1) r
 
 -- the next pass of the token: its turn is one above the greatest that the site took
 abbrev pub next_pass : Folder → ℕ → ShopPacket
-next_pass f to = Pass f.site (taken f.site f.kept + 1) to (highest f.site f.kept)
+next_pass f to = Pass f.site (taken_turn f.site f.kept + 1) to (highest f.site f.kept)
 
 -- the folder with one packet more on its disk
-abbrev pub keeping : Folder → ShopPacket → Folder
-keeping f x = record f { kept = f.kept ++ x ∷ [] }
+abbrev pub with_packet_kept : Folder → ShopPacket → Folder
+with_packet_kept f x = record f { kept = f.kept ++ x ∷ [] }
 
 -- an ask that waited is given to the site, as n records
 abbrev pub giving : Folder → ℕ → ℕ → Folder
 giving f r n = record f { waiting = without r f.waiting; given = f.given ++ r ∷ []; lines = f.lines ++ times n r }
 
 -- the first record has its answer, which is taken to be that of the first ask
-abbrev pub answering : Folder → Folder
-answering f = record f { given = others f.given; lines = others f.lines }
+abbrev pub first_answered : Folder → Folder
+first_answered f = record f { given = others f.given; lines = others f.lines }
 
 -- the site accepts a record that came with that ask
 abbrev pub accepting : Folder → ℕ → Folder
-accepting f r = record (keeping (answering f) (next_message f r)) {
-  answered = record { ask = first f.given; number = highest f.site f.kept + 1 } ∷ f.answered;
+accepting f r = record (with_packet_kept (first_answered f) (next_message f r)) {
+  answered = record { ask = first_event f.given; number = highest f.site f.kept + 1 } ∷ f.answered;
 }
 
 -- the shop after an asker was told something
-abbrev pub telling : Notice → Shop → Shop
-telling what s = record s { told = what ∷ s.told }
+abbrev pub after_telling : Notice → Shop → Shop
+after_telling what s = record s { told = what ∷ s.told }
 
 -- its site may take no asks
 abbrev pub closed : Folder → Folder
@@ -178,82 +178,82 @@ abbrev pub started : Folder → ℕ → Folder
 started f life = record (stopped f) { life = life }
 
 -- its site may take asks, and its machine knows that no other did since
-abbrev pub opened : Folder → Folder
-opened f = record f { is_open = true; remembered = true }
+abbrev pub opened_site : Folder → Folder
+opened_site f = record f { is_open = true; remembered = true }
 
 -- packets of other sites
 abbrev pub of_others : ℕ → List ShopPacket → List ShopPacket
 of_others i packets = filter (λ x. not (sender x == i)) packets
 
 -- the shop where that folder opens: what others of its site sent, and hasn't arrived, arrives no more
-abbrev pub opening : ℕ → Shop → Shop
-opening k s = record s {
-  folders = put_folder k (opened (folder s k)) (map (forgotten (folder s k).site) s.folders);
+abbrev pub opening_folder : ℕ → Shop → Shop
+opening_folder k s = record s {
+  folders = put_folder k (opened_site (folder s k)) (map (forgotten (folder s k).site) s.folders);
   under_way = of_others (folder s k).site s.under_way;
 }
 
 -- the same, where it was compared with nothing
 abbrev pub opening_uncompared : ℕ → Shop → Shop
-opening_uncompared k s = record (opening k s) { uncompared = (folder s k).site ∷ s.uncompared }
+opening_uncompared k s = record (opening_folder k s) { uncompared = (folder s k).site ∷ s.uncompared }
 
 -- the shop where that folder takes asks though another one of its site may do that
 abbrev pub going_on : ℕ → Shop → Shop
 going_on k s = record (with_folder k (record (folder s k) { is_open = true }) s) { uncompared = (folder s k).site ∷ s.uncompared }
 
 -- what an event leads to
-abbrev pub after : Shop → ShopEvent → Shop
-after s (Starts k) = record (with_folder k (started (folder s k) (s.begun + 1)) s) { begun = s.begun + 1 }
-after s (Opens k) = opening k s
-after s (TakesOver k) = opening_uncompared k s
-after s (OpensAlone k) = opening_uncompared k s
-after s (Closes k) = with_folder k (closed (folder s k)) s
-after s (GoesOn k) = going_on k s
-after s (KeeperStarts k) = s
-after s (IsKilled k) = with_folder k (stopped (folder s k)) s
-after s (MachineStarts k) = with_folder k (unknown (folder s k)) s
-after s (Fills k) = record s { full = k ∷ s.full }
-after s (IsRaised k) = record s { full = without k s.full }
-after s (IsAsked r life n) = record s { requests = s.requests ++ record { life = life; records = n } ∷ [] }
-after s (Serves k r) = with_folder k (record (folder s k) { served = r ∷ (folder s k).served; waiting = r ∷ (folder s k).waiting }) s
-after s (Gives k r) = with_folder k (giving (folder s k) r (request s r).records) s
-after s (Accepts k r) = with_folder k (accepting (folder s k) r) s
-after s (Refuses k r) = telling (told.No (first (folder s k).given)) (with_folder k (answering (folder s k)) s)
-after s (TellsOk k r n) = telling (told.Ok r (folder s k).site n) s
-after s (TellsPublished k r n) = telling (told.Ok r (folder s k).site n) s
-after s (TellsNothing k r) = telling (told.No r) (with_folder k (record (folder s k) { waiting = without r (folder s k).waiting }) s)
-after s (TellsUnknown k r) = telling (told.Unknown r) s
-after s (Yields i) = record s { yielding = i ∷ s.yielding }
-after s (TakesBack i) = record s { yielding = without i s.yielding }
-after s (Passes k to) = record (with_folder k (keeping (folder s k) (next_pass (folder s k) to)) s) { turn = max (taken (folder s k).site (folder s k).kept + 1) s.turn }
-after s (Appends k x) = with_stream (sender x) (stream s (sender x) ++ x ∷ []) s
-after s (Sends k x) = record s { under_way = x ∷ s.under_way }
-after s (Arrives x) = with_stream (sender x) (stream s (sender x) ++ x ∷ []) s
-after s (Reads k x) = with_folder k (keeping (folder s k) x) s
-after s (LosesEnd k n) = with_folder k (replaced (folder s k) (take n (folder s k).kept)) s
-after s (IsLost k) = with_folder k (empty (folder s k).site) s
-after s (IsCopied k j) = with_folder j (unknown (folder s k)) s
-after s (Finds k x) = with_folder k (replaced (folder s k) ((folder s k).kept ++ x ∷ [])) s
-after s (Rebuilds k j) = with_folder k (replaced (folder s k) (folder s j).kept) s
-after s (StreamLosesEnd i n) = with_stream i (take n (stream s i)) s
-after s ServerLosesAll = record s { streams = [] }
-after s (WritesAnew k) = with_stream (folder s k).site (own (folder s k).site (folder s k).kept) s
+abbrev pub after_step : Shop → ShopEvent → Shop
+after_step s (Starts k) = record (with_folder k (started (folder s k) (s.begun + 1)) s) { begun = s.begun + 1 }
+after_step s (Opens k) = opening_folder k s
+after_step s (TakesOver k) = opening_uncompared k s
+after_step s (OpensAlone k) = opening_uncompared k s
+after_step s (Closes k) = with_folder k (closed (folder s k)) s
+after_step s (GoesOn k) = going_on k s
+after_step s (KeeperStarts k) = s
+after_step s (IsKilled k) = with_folder k (stopped (folder s k)) s
+after_step s (MachineStarts k) = with_folder k (unknown (folder s k)) s
+after_step s (Fills k) = record s { full = k ∷ s.full }
+after_step s (IsRaised k) = record s { full = without k s.full }
+after_step s (IsAsked r life n) = record s { requests = s.requests ++ record { life = life; records = n } ∷ [] }
+after_step s (Serves k r) = with_folder k (record (folder s k) { served = r ∷ (folder s k).served; waiting = r ∷ (folder s k).waiting }) s
+after_step s (Gives k r) = with_folder k (giving (folder s k) r (request s r).records) s
+after_step s (Accepts k r) = with_folder k (accepting (folder s k) r) s
+after_step s (Refuses k r) = after_telling (told.No (first_event (folder s k).given)) (with_folder k (first_answered (folder s k)) s)
+after_step s (TellsOk k r n) = after_telling (told.Ok r (folder s k).site n) s
+after_step s (TellsPublished k r n) = after_telling (told.Ok r (folder s k).site n) s
+after_step s (TellsNothing k r) = after_telling (told.No r) (with_folder k (record (folder s k) { waiting = without r (folder s k).waiting }) s)
+after_step s (TellsUnknown k r) = after_telling (told.Unknown r) s
+after_step s (Yields i) = record s { yielding = i ∷ s.yielding }
+after_step s (TakesBack i) = record s { yielding = without i s.yielding }
+after_step s (Passes k to) = record (with_folder k (with_packet_kept (folder s k) (next_pass (folder s k) to)) s) { turn = max (taken_turn (folder s k).site (folder s k).kept + 1) s.turn }
+after_step s (Appends k x) = with_stream (sender x) (stream s (sender x) ++ x ∷ []) s
+after_step s (Sends k x) = record s { under_way = x ∷ s.under_way }
+after_step s (Arrives x) = with_stream (sender x) (stream s (sender x) ++ x ∷ []) s
+after_step s (Reads k x) = with_folder k (with_packet_kept (folder s k) x) s
+after_step s (LosesEnd k n) = with_folder k (replaced (folder s k) (take n (folder s k).kept)) s
+after_step s (IsLost k) = with_folder k (empty (folder s k).site) s
+after_step s (IsCopied k j) = with_folder j (unknown (folder s k)) s
+after_step s (Finds k x) = with_folder k (replaced (folder s k) ((folder s k).kept ++ x ∷ [])) s
+after_step s (Rebuilds k j) = with_folder k (replaced (folder s k) (folder s j).kept) s
+after_step s (StreamLosesEnd i n) = with_stream i (take n (stream s i)) s
+after_step s ServerLosesAll = record s { streams = [] }
+after_step s (WritesAnew k) = with_stream (folder s k).site (own (folder s k).site (folder s k).kept) s
 
 -- ---- one event after the other
 
 -- what several events lead to, one after the other
-abbrev pub run : Shop → List ShopEvent → Shop
-run s [] = s
-run s (e ∷ rest) = run (after s e) rest
+abbrev pub after_steps : Shop → List ShopEvent → Shop
+after_steps s [] = s
+after_steps s (e ∷ rest) = after_steps (after_step s e) rest
 
 -- each of them may happen where it does
 abbrev pub AreSteps : Carrier → Shop → List ShopEvent → Type 0
 AreSteps c s [] = Unit {0}
-AreSteps c s (e ∷ rest) = May c s e × AreSteps c (after s e) rest
+AreSteps c s (e ∷ rest) = May c s e × AreSteps c (after_step s e) rest
 
 -- ---- what is lost
 
 -- the event takes packets from this place, or puts others there
-abbrev pub Harms : ShopEvent → Place → Type 0
+abbrev pub Harms : ShopEvent → PacketPlace → Type 0
 Harms (Opens k) h = h ≡ UnderWay
 Harms (TakesOver k) h = h ≡ UnderWay
 Harms (OpensAlone k) h = h ≡ UnderWay
@@ -265,9 +265,9 @@ Harms ServerLosesAll (InStream i) = Unit {0}
 Harms e h = ⊥
 
 -- none of these events does
-abbrev pub IsWhole : Place → List ShopEvent → Type 0
-IsWhole h [] = Unit {0}
-IsWhole h (e ∷ rest) = (Harms e h → ⊥) × IsWhole h rest
+abbrev pub IsUnharmed : PacketPlace → List ShopEvent → Type 0
+IsUnharmed h [] = Unit {0}
+IsUnharmed h (e ∷ rest) = (Harms e h → ⊥) × IsUnharmed h rest
 
 -- ---- what goes on by itself
 
@@ -311,8 +311,8 @@ runs f = nat_lt 0 f.life
 abbrev pub has_answered : ℕ → ℕ → Folder → Bool
 has_answered r n f = has_answer r n f.answered
 
-abbrev pub holds : Folder → Bool
-holds f = nat_le (passed f.site f.kept) (taken f.site f.kept) && ((f.site == 0) || nat_lt 0 (taken f.site f.kept))
+abbrev pub holds_token : Folder → Bool
+holds_token f = nat_le (passed_turn f.site f.kept) (taken_turn f.site f.kept) && ((f.site == 0) || nat_lt 0 (taken_turn f.site f.kept))
 
 -- the packet isn't of that site, or no further than that number, or that turn
 abbrev pub is_reached : ℕ → ℕ → ℕ → ShopPacket → Bool
@@ -394,7 +394,7 @@ may c s (Refuses k r) = is_first r (folder s k).lines
 may c s (TellsOk k r n) = has_answered r n (folder s k) && not (has_number (folder s k).site s.yielding)
 may c s (TellsPublished k r n) = is_server c && may_tell_published s (folder s k) r n
 may c s (TellsNothing k r) = has_number r (folder s k).waiting
-may c s (Passes k to) = (folder s k).is_open && holds (folder s k) && not (to == (folder s k).site)
+may c s (Passes k to) = (folder s k).is_open && holds_token (folder s k) && not (to == (folder s k).site)
 may c s (Appends k x) = may_send c (folder s k) x && is_placed s x
 may c s (Sends k x) = may_send c (folder s k) x
 may c s (Arrives x) = is_server c && has_packet x s.under_way && is_placed s x
@@ -407,7 +407,7 @@ may c s e = true
 -- each of them may happen where it does
 abbrev pub are_steps : Carrier → Shop → List ShopEvent → Bool
 are_steps c s [] = true
-are_steps c s (e ∷ rest) = may c s e && are_steps c (after s e) rest
+are_steps c s (e ∷ rest) = may c s e && are_steps c (after_step s e) rest
 
 -- the test says when an event may happen
 abbrev pub MayIsComputed : Type 0

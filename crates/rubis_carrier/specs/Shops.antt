@@ -42,24 +42,24 @@ highest i (Message j n r ∷ rest) = cond (j == i) (max n (highest i rest)) (hig
 highest i (Pass j t k a ∷ rest) = highest i rest
 
 -- the greatest turn that it took
-abbrev pub taken : ℕ → List ShopPacket → ℕ
-taken i [] = 0
-taken i (Message j n r ∷ rest) = taken i rest
-taken i (Pass j t k a ∷ rest) = cond (k == i) (max t (taken i rest)) (taken i rest)
+abbrev pub taken_turn : ℕ → List ShopPacket → ℕ
+taken_turn i [] = 0
+taken_turn i (Message j n r ∷ rest) = taken_turn i rest
+taken_turn i (Pass j t k a ∷ rest) = cond (k == i) (max t (taken_turn i rest)) (taken_turn i rest)
 
 -- the greatest turn that it passed on
-abbrev pub passed : ℕ → List ShopPacket → ℕ
-passed i [] = 0
-passed i (Message j n r ∷ rest) = passed i rest
-passed i (Pass j t k a ∷ rest) = cond (j == i) (max t (passed i rest)) (passed i rest)
+abbrev pub passed_turn : ℕ → List ShopPacket → ℕ
+passed_turn i [] = 0
+passed_turn i (Message j n r ∷ rest) = passed_turn i rest
+passed_turn i (Pass j t k a ∷ rest) = cond (j == i) (max t (passed_turn i rest)) (passed_turn i rest)
 
 -- the greatest turn that it passed on or took: those that it passes on from now on are later
 abbrev pub last_turn : ℕ → List ShopPacket → ℕ
-last_turn i kept = max (passed i kept) (taken i kept)
+last_turn i kept = max (passed_turn i kept) (taken_turn i kept)
 
 -- the site has the token: it took one, or is the first to have it, and hasn't passed a later one on
-abbrev pub Holds : ℕ → List ShopPacket → Type 0
-Holds i kept = (passed i kept ≤ taken i kept) × ((i ≡ 0) ⊎ (0 < taken i kept))
+abbrev pub HoldsToken : ℕ → List ShopPacket → Type 0
+HoldsToken i kept = (passed_turn i kept ≤ taken_turn i kept) × ((i ≡ 0) ⊎ (0 < taken_turn i kept))
 
 -- it has given such a number, or a greater one; it has passed such a turn on, or a later one, or taken one, and never passes it on again
 abbrev pub IsReached : ℕ → List ShopPacket → ShopPacket → Type 0
@@ -106,8 +106,8 @@ pub record Shop : Type 0 where
   pub turn : ℕ
 
 -- nothing has happened
-abbrev pub start : Shop
-start = record {
+abbrev pub shop_start : Shop
+shop_start = record {
   folders = [];
   streams = [];
   begun = 0;
@@ -168,19 +168,19 @@ abbrev pub with_stream : ℕ → List ShopPacket → Shop → Shop
 with_stream i xs s = record s { streams = put_stream i xs s.streams }
 
 -- where packets are
-pub data Place : Type 0 where
-  InFolder : (folder : ℕ) → Place
-  InStream : (site : ℕ) → Place
-  UnderWay : Place
+pub data PacketPlace : Type 0 where
+  InFolder : (folder : ℕ) → PacketPlace
+  InStream : (site : ℕ) → PacketPlace
+  UnderWay : PacketPlace
 
 -- the packets that stand at a place
-abbrev pub there : Shop → Place → List ShopPacket
+abbrev pub there : Shop → PacketPlace → List ShopPacket
 there s (InFolder k) = (folder s k).kept
 there s (InStream i) = stream s i
 there s UnderWay = s.under_way
 
 -- what is under way nobody can see
-abbrev pub IsSeen : Place → Type 0
+abbrev pub IsSeen : PacketPlace → Type 0
 IsSeen (InFolder k) = Unit {0}
 IsSeen (InStream i) = Unit {0}
 IsSeen UnderWay = ⊥
@@ -188,12 +188,12 @@ IsSeen UnderWay = ⊥
 -- ---- may a site take asks?
 
 -- nothing of the folder's site stands there under a number, or a turn, that is greater than those of the folder
-abbrev pub IsNotAhead : Shop → ℕ → Place → Type 0
+abbrev pub IsNotAhead : Shop → ℕ → PacketPlace → Type 0
 IsNotAhead s k h = (x : ShopPacket) → Has x (there s h) → sender x ≡ (folder s k).site → IsReached (folder s k).site (folder s k).kept x
 
 -- it was compared with everything that there is: all streams, all folders of other sites, and all copies
 abbrev pub IsCompared : Shop → ℕ → Type 0
-IsCompared s k = (h : Place) → IsSeen h → IsNotAhead s k h
+IsCompared s k = (h : PacketPlace) → IsSeen h → IsNotAhead s k h
 
 -- no other folder of its site takes asks
 abbrev pub IsAlone : Shop → ℕ → Type 0

@@ -16,7 +16,7 @@ use Rattle.rubis_model.specs.Site.{input_step, counted, Place, Replica, arrived,
 use Rattle.rubis_message.specs.declared.inputs.Input.TheVariants.{Asked, Came, Neither}
 use Rattle.rubis_carrier.specs.declared.values.ShopPacket.{ShopPacket}
 use Rattle.rubis_carrier.specs.declared.values.ShopPacket.TheVariants as known
-use Rattle.rubis_carrier.specs.Shops.{Holds, highest, taken}
+use Rattle.rubis_carrier.specs.Shops.{HoldsToken, highest, taken_turn}
 
 -- a message as the carrier knows it, if `ask` says of which ask each message was made
 abbrev pub known_as : (Message → ℕ) → Message → ShopPacket
@@ -25,9 +25,9 @@ known_as ask m = known.Message m.stamp.id.site m.stamp.id.seq (ask m)
 -- ---- what one record sends, or takes in
 
 -- what an ask sends: its message, unless it is refused
-abbrev pub sent_by : (Message → ℕ) → Result Message Refusal → List ShopPacket
-sent_by ask (Ok m) = known_as ask m ∷ []
-sent_by ask (Err r) = []
+abbrev pub sent_for_ask : (Message → ℕ) → Result Message Refusal → List ShopPacket
+sent_for_ask ask (Ok m) = known_as ask m ∷ []
+sent_for_ask ask (Err r) = []
 
 -- what a pass sends: the pass with its turn, unless it is refused
 abbrev pub passed_by : Place → Replica → Result Token Refusal → List ShopPacket
@@ -47,7 +47,7 @@ took_by from t (Err r) = []
 
 -- the packets that one record sends or takes in
 abbrev pub packets_by : (Message → ℕ) → (Token → ℕ) → Place → Replica → Input → List ShopPacket
-packets_by ask from p s (Asked (request.Ask a)) = sent_by ask (asked p s a).1
+packets_by ask from p s (Asked (request.Ask a)) = sent_for_ask ask (asked p s a).1
 packets_by ask from p s (Asked (request.Pass to)) = passed_by p s (passed p s to).1
 packets_by ask from p s (Asked (request.List l)) = []
 packets_by ask from p s (Came (packet.Msg m)) = came_by ask p m (arrived p s m).1
@@ -67,7 +67,7 @@ pub record GivesTheseNames (p : Place) (s : Replica) (kept : List ShopPacket) : 
   -- a message that it accepts has its site, and the next number
   pub messages : (a : Ask) (m : Message) → (asked p s a).1 ≡ Ok m → (m.stamp.id.site ≡ p.site) × (m.stamp.id.seq ≡ highest p.site kept + 1)
   -- it passes the token on only where it holds it, under the next turn, and not to itself
-  pub passes : (to : ℕ) (t : Token) → (passed p s to).1 ≡ Ok t → Holds p.site kept × (t.turn ≡ taken p.site kept + 1) × (to ≢ p.site)
+  pub passes : (to : ℕ) (t : Token) → (passed p s to).1 ≡ Ok t → HoldsToken p.site kept × (t.turn ≡ taken_turn p.site kept + 1) × (to ≢ p.site)
 
 abbrev pub SitesGiveTheseNames : Type 0
 SitesGiveTheseNames = (ask : Message → ℕ) (from : Token → ℕ) (p : Place) → ((t : Token) → from t ≢ p.site) → (records : List (List (List ℕ)))

@@ -3,21 +3,21 @@ use Rattle.std.proofs.Common.{ℕ, zero, suc, ◌≡◌, ◌+◌, ◌*◌, ◌<�
 use Rattle.std.proofs.Common.{false, Bool}
 use Rattle.std.specs.Prelude.{slice_set, slice_index}
 use Rattle.std.proofs.lemmas.List.{length-take, take_more, take_more_set, get_or-take}
-use Rattle.rubis_clock.specs.Counts.{counts_of, halves, joined}
+use Rattle.rubis_clock.specs.Counts.{counts_of, halves, joined_counts}
 
-pub joined_at : (low high : List ℕ) (i : ℕ) → i < length low → i < length high → slice_index (joined low high) i
+pub joined_at : (low high : List ℕ) (i : ℕ) → i < length low → i < length high → slice_index (joined_counts low high) i
     ≡ slice_index low i + 65536 * slice_index high i
 joined_at [] high i p q = absurd (omega arith)
 joined_at (l ∷ low) [] i p q = absurd (omega arith)
 joined_at (l ∷ low) (h ∷ high) zero p q = refl
 joined_at (l ∷ low) (h ∷ high) (suc i) p q = joined_at low high i (omega arith) (omega arith)
 
-pub length_joined : (low high : List ℕ) → length low ≡ length high → length (joined low high) ≡ length low
+pub length_joined : (low high : List ℕ) → length low ≡ length high → length (joined_counts low high) ≡ length low
 length_joined [] high e = refl
 length_joined (l ∷ low) [] e = absurd (omega arith)
 length_joined (l ∷ low) (h ∷ high) e = ap suc (length_joined low high (omega arith))
 
-pub joined_set : (low high : List ℕ) (i a b : ℕ) → joined (slice_set low i a) (slice_set high i b) ≡ slice_set (joined low high) i (a + 65536 * b)
+pub joined_set : (low high : List ℕ) (i a b : ℕ) → joined_counts (slice_set low i a) (slice_set high i b) ≡ slice_set (joined_counts low high) i (a + 65536 * b)
 joined_set [] high i a b = refl
 joined_set (l ∷ low) [] zero a b = refl
 joined_set (l ∷ low) [] (suc i) a b = refl
@@ -102,9 +102,9 @@ pub counts_more : (low pairs : List ℕ) (i a b : ℕ) (first : Bool) → (first
 counts_more low pairs i a b first e o one two few l =
     let n = length_halves pairs in
     let m = length_joined low (halves pairs) (omega (arith, one, two, n)) in
-    ap (λ hs. take (i + 1) (joined (slice_set low i a) hs)) (half_set pairs i b first e o l)
+    ap (λ hs. take (i + 1) (joined_counts (slice_set low i a) hs)) (half_set pairs i b first e o l)
     ∙ ap (take (i + 1)) (joined_set low (halves pairs) i a b)
-    ∙ take_more_set (joined low (halves pairs)) i (a + 65536 * b) (omega (arith, one, few, m))
+    ∙ take_more_set (joined_counts low (halves pairs)) i (a + 65536 * b) (omega (arith, one, few, m))
 
 -- a count that is used, from its two parts
 pub count_at : (low pairs : List ℕ) (used i : ℕ) (first : Bool) → (first ≡ true → i % 2 ≡ 0) → (first ≡ false → i % 2 ≡ 1) →

@@ -34,13 +34,13 @@ StampPrecedes u v = u.id.seq ≤ slice_index v.deps u.id.site
 -- ---- a stamp that counts more sites
 
 -- with counts of 0 for the further sites, `sites` in all
-abbrev pub widened : ℕ → Stamp → Stamp
-widened sites s = record { id = s.id; red = s.red; deps = s.deps ++ replicate (sites - length s.deps) 0 }
+abbrev pub widened_counts : ℕ → Stamp → Stamp
+widened_counts sites s = record { id = s.id; red = s.red; deps = s.deps ++ replicate (sites - length s.deps) 0 }
 
 -- it counts no more than `sites`, and that many can be counted
 abbrev pub widens : ℕ → Stamp → Bool
 widens sites s = nat_le (length s.deps) sites && nat_le sites COUNTED_MAX
 
 -- the stamp that counts `sites`, or else itself
-abbrev pub widening : ℕ → Stamp → Result Stamp Stamp
-widening sites s = cond (widens sites s) (Ok (widened sites s)) (Err s)
+abbrev pub widening_stamp : ℕ → Stamp → Result Stamp Stamp
+widening_stamp sites s = cond (widens sites s) (Ok (widened_counts sites s)) (Err s)

@@ -26,11 +26,11 @@ halves [] = []
 halves (pair ∷ pairs) = (pair % 16) ∷ (pair / 16) ∷ halves pairs
 
 -- each count from its two parts
-abbrev pub joined : List ℕ → List ℕ → List ℕ
-joined [] high = []
-joined (l ∷ low) [] = []
-joined (l ∷ low) (h ∷ high) = (l + 65536 * h) ∷ joined low high
+abbrev pub joined_counts : List ℕ → List ℕ → List ℕ
+joined_counts [] high = []
+joined_counts (l ∷ low) [] = []
+joined_counts (l ∷ low) (h ∷ high) = (l + 65536 * h) ∷ joined_counts low high
 
 -- the counts that are packed in two rows: their lower 16 bits, and what is above these, two in each byte
 abbrev pub counts_of : List ℕ → List ℕ → List ℕ
-counts_of low pairs = joined low (halves pairs)
+counts_of low pairs = joined_counts low (halves pairs)

@@ -1,7 +1,7 @@
 //! The stamp of a message: its id, its counts, and its red number.
 
 ghost use Rattle.std.specs.Prelude.{◌≡◌};
-ghost use Rattle.rubis_clock.specs.Clocks.{widening};
+ghost use Rattle.rubis_clock.specs.Clocks.{widening_stamp};
 
 use crate::counts::Deps;
 use rubis_schema::{COUNTED_MAX, Id};
@@ -21,7 +21,7 @@ impl Stamp {
     ///
     /// The stamp itself, if it counts more than `sites` or if `sites` is above 16.
     pub fn widen(self, sites: u8) -> Result<Stamp, Stamp>
-        ensures { result ≡ widening sites self }
+        ensures { result ≡ widening_stamp sites self }
     {
         let counted = self.deps.len();
         let wanted = usize::from(sites);

@@ -11,7 +11,7 @@ use Rattle.clap.specs.declared.error.Error.{Error}
 use Rattle.clap.specs.declared.error.kind.ErrorKind.{ErrorKind}
 use Rattle.clap.specs.declared.error.kind.ErrorKind.TheVariants.{OutOfMemory}
 use Rattle.clap.proofs.OnLiterals.{clap_on_literals}
-use Rattle.rubis_command.specs.CommandLine.{IsFaultAmong, IsGivenNumber, IsNumberOf, IsText, Writes, command_line, fault_by}
+use Rattle.rubis_command.specs.CommandLine.{IsFaultAmong, IsGivenNumber, IsNumberOf, IsTextOfWords, Writes, command_line, fault_by}
 
 -- what `clap` reads of a text as a number whose width is given in bits
 abbrev Reads : ℕ → Text → Option ℕ → Type 0
@@ -40,7 +40,7 @@ shown_text (Some s) otherwise t h = cc
 shown_text None otherwise t h = absurd (cc h)
 
 pub text : (m : ArgMatches) (name : Text) (found : Option (Bor Text)) (otherwise : Bor Text) → option_map (λ s. s.now) found ≡ first_value (found_of m) name
-    → IsText (rows_of (found_of m)) name (unwrap_or found otherwise).now
+    → IsTextOfWords (rows_of (found_of m)) name (unwrap_or found otherwise).now
 text m name found otherwise same t is = shown_text found otherwise t (same ∙ (first_value-rows (found_of m) name ∙ is))
 
 pub line_is_simple : is_simple command_line ≡ true

@@ -117,8 +117,8 @@ abbrev pub IsFlag : List Row → Text → Bool → Type 0
 IsFlag rows name given = let text = one_of name rows in (text ≡ None → given ≡ false) × (text ≡ Some (codes "true") → given ≡ true) × (text ≡ Some (codes "false") → given ≡ false)
 
 -- the text is what the words give
-abbrev pub IsText : List Row → Text → Text → Type 0
-IsText rows name text = (t : Text) → first_of name rows ≡ Some t → text ≡ t
+abbrev pub IsTextOfWords : List Row → Text → Text → Type 0
+IsTextOfWords rows name text = (t : Text) → first_of name rows ≡ Some t → text ≡ t
 
 -- what `check` reads records as, by the name of a command
 abbrev pub reading_named : Text → Option ReadAs
@@ -141,7 +141,7 @@ IsNamed name rows (Check o) = (name ≡ codes "check") × IsNumberOf 8 rows (cod
     × ((text : Text) → first_of (codes "reading") rows ≡ Some text → o.reading ≡ reading_named text)
 IsNamed name rows (World setup) = (name ≡ codes "world") × IsSetupIn rows setup
 IsNamed name rows (Widen o) = (name ≡ codes "widen") × IsNumberOf 8 rows (codes "sites") o.sites × IsNumberOf 8 rows (codes "to") o.to
-IsNamed name rows (Keep o) = (name ≡ codes "keep") × IsText rows (codes "folder") (string_bytes o.folder)
+IsNamed name rows (Keep o) = (name ≡ codes "keep") × IsTextOfWords rows (codes "folder") (string_bytes o.folder)
     × IsGivenNumber 8 rows (codes "site") o.site × IsGivenNumber 8 rows (codes "sites") o.sites × IsGivenNumber 32 rows (codes "keep") o.keep
     × IsNumberOf 8 rows (codes "shards") o.shards × IsNumberOf 8 rows (codes "workers") o.workers × IsNumberOf 32 rows (codes "batch") o.batch
     × IsFlag rows (codes "sync") o.sync × IsFlag rows (codes "shorten") o.shorten × IsFlag rows (codes "upgrade") o.upgrade

@@ -5,7 +5,7 @@ ghost use Rattle.std.specs.Process.{exit_status};
 ghost use Rattle.clap.specs.Words.{fault_of, kind_of};
 ghost use Rattle.rubis_replica.specs.State.{IsSetup};
 ghost use Rattle.rubis_command.specs.CommandLine.{IsAsked, command_line};
-ghost use Rattle.rubis_command.specs.Setups.{setup_of};
+ghost use Rattle.rubis_command.specs.Setups.{site_setup};
 ghost use Rattle.rubis_command.specs.Statuses.{IsRefusal, IsStatus, IsStatusOf, status_by};
 
 use crate::ends::{MISUSE, fail, misuse};
@@ -64,8 +64,8 @@ pub fn words_of<R: Eprint + AllocGlobal + Env>(rt: &R) -> Result<Vec<String>, Ex
 /// The configuration of the site that is asked for, whose maps hash by numbers that are drawn at random. Where the options are no setup of a
 /// site, it is said why, and the error is the status.
 pub fn read_site<R: Eprint + RandomSource>(rt: &R, options: &Options) -> Result<Config, ExitCode>
-    ensures config { IfOk result (λ config. (config ≡ setup_of options.now) × IsSetup (setup_of options.now)) }
-    ensures misuse { IfErr result (λ status. (exit_status status ≡ 2) × ¬ IsSetup (setup_of options.now)) }
+    ensures config { IfOk result (λ config. (config ≡ site_setup options.now) × IsSetup (site_setup options.now)) }
+    ensures misuse { IfErr result (λ status. (exit_status status ≡ 2) × ¬ IsSetup (site_setup options.now)) }
     ensures status { IfErr result (λ status. IsStatus (exit_status status)) }
 {
     let config = Config::new(

@@ -2,7 +2,7 @@
 
 ghost use Rattle.std.specs.Prelude.{◌≡◌, [], IfErr, IfOk, map, string_bytes};
 ghost use Rattle.clap.specs.Words.{fault_of, found_of, rows_of};
-ghost use Rattle.rubis_command.specs.CommandLine.{IsAsked, IsFaultAmong, IsFlag, IsGivenNumber, IsNamed, IsNumberOf, IsSetupIn, IsText, command_line, reading_named};
+ghost use Rattle.rubis_command.specs.CommandLine.{IsAsked, IsFaultAmong, IsFlag, IsGivenNumber, IsNamed, IsNumberOf, IsSetupIn, IsTextOfWords, command_line, reading_named};
 
 use crate::commands::program;
 use crate::options::{
@@ -49,7 +49,7 @@ fn flag(matches: &ArgMatches<'_>, name: &str) -> bool
 
 // The text of an argument.
 fn text<'a>(matches: &ArgMatches<'a>, name: &str) -> &'a str
-    ensures { IsText (rows_of (found_of matches.now)) name.now result.now }
+    ensures { IsTextOfWords (rows_of (found_of matches.now)) name.now result.now }
 {
     matches.get_str(name).unwrap_or("")
 }

@@ -20,7 +20,7 @@ const SHARDS: Argument = Argument { name: "shards", kind: Number(1, SHARDS_MAX a
 const WORKERS: Argument = Argument { name: "workers", kind: Number(1, WORKERS_MAX as u64, "2"), help: "How many threads may apply a batch, 1 to 16; changes no answer" };
 
 #[rattlefmt::skip]
-const BATCH: Argument = Argument { name: "batch", kind: Number(1, BATCH_MAX as u64, "64"), help: "How many released messages make a batch, 1 to 65536; changes no answer" };
+const BATCH: Argument = Argument { name: "batch", kind: Number(1, BATCH_MAX as u64, "64"), help: "How many released messages may be pending, 1 to 65536; several workers take in up to 4096; changes no answer" };
 
 #[rattlefmt::skip]
 const KEEP: Argument = Argument { name: "keep", kind: Number(1, KEEP_MAX as u64, "1000000"), help: "How many messages a site keeps, released and held, 1 to 1000000" };

@@ -4,7 +4,7 @@ use Rattle.std.proofs.Common.{Contains, sym, refl, ap, ◌∙◌, ⊎_elim, arit
 use Rattle.std.proofs.lemmas.List.Elements.{All-cons, All-nil, Contains-append_left, Contains-append_right, Contains-append_cases, Contains-push_cases}
 use Rattle.std.proofs.lemmas.List.Elements.{All-push, Contains-push}
 use Rattle.rubis_crew.specs.declared.job.Given.{Given}
-use Rattle.rubis_crew.specs.Rule.{AreBelow, AreRising, weigh, taken_off, waiting, overs_in, idle, AgreesWith, sum_over, EachAt, first_view, Ruled, HasPut}
+use Rattle.rubis_crew.specs.Rule.{AreBelow, AreRising, weigh, taken_off, waiting, overs_in, idle, FitsJobs, sum_over, EachAt, first_view, JobsRuled, HasPut}
 use Rattle.rubis_crew.specs.Rule.{AreFew}
 use Rattle.std.proofs.lemmas.List.{append-nil}
 use Rattle.rubis_crew.specs.declared.rule.JobEntry.{JobEntry}
@@ -165,7 +165,7 @@ module _ {J : Type 0} where
   length_items (Over ∷ xs) = let h = length_items xs in omega arith
 
   -- a pass that holds nothing and gives nothing
-  pub agrees_idle : (lead : ℕ) (given : List (Given J)) (next overs place : ℕ) → AgreesWith lead given next overs place (idle {J = J})
+  pub agrees_idle : (lead : ℕ) (given : List (Given J)) (next overs place : ℕ) → FitsJobs lead given next overs place (idle {J = J})
   agrees_idle lead given next overs place =
       record { held = λ x h. absurd (none_in x h); leads = λ e. absurd (true≢false (sym e)) }
 
@@ -209,7 +209,7 @@ module _ {J : Type 0} (F : ℕ → JobView J → Type 0) where
 -- ---- a job is given, or it is said that no more come
 
 module _ {J : Type 0} (Fits : J → Type 0) where
-  pub begins : Ruled Fits [] (first_view ∷ [])
+  pub begins : JobsRuled Fits [] (first_view ∷ [])
   begins =
       record {
         given = [];
@@ -219,7 +219,7 @@ module _ {J : Type 0} (Fits : J → Type 0) where
         waits = λ x h. h;
         fits = All-nil (λ (x : Given J). Fits x.job);
         lead = 0;
-        each = each_set (AgreesWith 0 [] 0 0) (first_view ∷ []) 0 first_view
+        each = each_set (FitsJobs 0 [] 0 0) (first_view ∷ []) 0 first_view
             (record {
               held = λ x h. h;
               leads = λ _. record { alone = refl; same = refl; number = refl; said = omega arith };
@@ -227,12 +227,12 @@ module _ {J : Type 0} (Fits : J → Type 0) where
             (λ j u apart e. only j u apart e);
       }
     where
-      only : (j : ℕ) (u : JobView J) → (j ≡ 0 → ⊥) → get_elem? (first_view ∷ []) j ≡ some u → AgreesWith 0 [] 0 0 j u
+      only : (j : ℕ) (u : JobView J) → (j ≡ 0 → ⊥) → get_elem? (first_view ∷ []) j ≡ some u → FitsJobs 0 [] 0 0 j u
       only zero u apart e = absurd (apart refl)
       only (suc j) u apart e = absurd (some-ne-none u (sym e))
 
   module _ (place : ℕ) (v : JobView J) (leads : v.leads ≡ true) where
-    pub gives : (room : ℕ) (x : Given J) → x.number ≡ v.next → Fits x.job → Pushes (Ruled Fits) room place v (Work x) (HasPut v (Work x))
+    pub gives : (room : ℕ) (x : Given J) → x.number ≡ v.next → Fits x.job → Pushes (JobsRuled Fits) room place v (Work x) (HasPut v (Work x))
     gives room x number fits items views _ ruled at =
         let mine = (ruled.each place v at).leads leads in
         let given : List (Given J) = ruled.given ++ x ∷ [] in
@@ -261,7 +261,7 @@ module _ {J : Type 0} (Fits : J → Type 0) where
             fits = subst (All (λ (y : Given J). Fits y.job)) (sym same) (All-push (λ (y : Given J). Fits y.job) (waiting items) x ruled.fits fits);
             lead = ruled.lead;
             each =
-                each_set (AgreesWith ruled.lead given (ruled.next + 1) (overs_in (items ++ Work x ∷ []))) views place w
+                each_set (FitsJobs ruled.lead given (ruled.next + 1) (overs_in (items ++ Work x ∷ []))) views place w
                 (record {
                   held = λ y h. Contains-append_left ruled.given (x ∷ []) y ((ruled.each place v at).held y h);
                   leads = λ _. record {
@@ -279,7 +279,7 @@ module _ {J : Type 0} (Fits : J → Type 0) where
           (refl, below),
         )
 
-    pub says : (room : ℕ) → Pushes (Ruled Fits) room place v Over (HasPut v Over)
+    pub says : (room : ℕ) → Pushes (JobsRuled Fits) room place v Over (HasPut v Over)
     says room items views _ ruled at =
         let mine = (ruled.each place v at).leads leads in
         let w : JobView J = record v { overs = v.overs + 1 } in
@@ -299,7 +299,7 @@ module _ {J : Type 0} (Fits : J → Type 0) where
             fits = subst (All (λ (y : Given J). Fits y.job)) (sym same) ruled.fits;
             lead = ruled.lead;
             each =
-                each_set (AgreesWith ruled.lead ruled.given ruled.next (overs_in (items ++ Over ∷ []))) views place w
+                each_set (FitsJobs ruled.lead ruled.given ruled.next (overs_in (items ++ Over ∷ []))) views place w
                 (record {
                   held = (ruled.each place v at).held;
                   leads = λ _. record {
@@ -318,7 +318,7 @@ module _ {J : Type 0} (Fits : J → Type 0) where
         )
 
     -- no more lies in the queue than is given, and was said
-    pub few : Learns (Ruled Fits) place v (AreFew v)
+    pub few : Learns (JobsRuled Fits) place v (AreFew v)
     few items views ruled at =
         let mine = (ruled.each place v at).leads leads in
         let long = length_items items in

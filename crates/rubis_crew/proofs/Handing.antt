@@ -9,8 +9,8 @@ use Rattle.rubis_crew.specs.declared.job.Given.{Given}
 use Rattle.rubis_crew.specs.declared.rule.JobView.{JobView}
 use Rattle.rubis_crew.specs.declared.rule.JobEntry.{JobEntry}
 use Rattle.rubis_crew.specs.declared.rule.JobEntry.TheVariants.{Work, Over}
-use Rattle.rubis_crew.specs.Rule.{weigh, waiting, overs_in, AgreesWith, Ruled, HasTaken, idle, emptied, token_view, together, AreRising, taken_off, without}
-use Rattle.rubis_crew.specs.Rule.{sum_over, HoldsAGivenOne, settled, holds}
+use Rattle.rubis_crew.specs.Rule.{weigh, waiting, overs_in, FitsJobs, JobsRuled, HasTaken, idle, emptied, token_view, together, AreRising, taken_off, without}
+use Rattle.rubis_crew.specs.Rule.{sum_over, HoldsAGivenOne, settled, jobs_held}
 use Rattle.rubis_crew.proofs.Giving.{first_in, later_in, weigh-append, sum_set, each_set, none_in, sum_snoc, each_snoc, agrees_idle, parted, beside_in}
 use Rattle.rubis_crew.proofs.Giving.{rising_less, off_taken, one_at, times_in, times_most, sum_one, sum_two}
 use Rattle.crossbeam_queue.proofs.Lists.{at_set}
@@ -22,8 +22,8 @@ use Rattle.rubis_crew.specs.declared.results.Slip.{Slip}
 use Rattle.rubis_crew.specs.States.{AreALead, Settles, HelperState, helper_of, served}
 
 module _ {J : Type 0} (Fits : J → Type 0) (place : ℕ) (v : JobView J) where
-  takes_work : (x : Given J) (items : List (JobEntry J)) (views : List (JobView J)) → Ruled Fits (Work x ∷ items) views
-      → get_elem? views place ≡ some v → (w : JobView J) × Ruled Fits items (set views place w) × HasTaken Fits v (Work x) w
+  takes_work : (x : Given J) (items : List (JobEntry J)) (views : List (JobView J)) → JobsRuled Fits (Work x ∷ items) views
+      → get_elem? views place ≡ some v → (w : JobView J) × JobsRuled Fits items (set views place w) × HasTaken Fits v (Work x) w
   takes_work x items views ruled at =
       let w : JobView J = record v { held = v.held ++ x ∷ []; taken = v.taken ++ x ∷ [] } in
       let mine = ruled.each place v at in
@@ -42,7 +42,7 @@ module _ {J : Type 0} (Fits : J → Type 0) (place : ℕ) (v : JobView J) where
           fits = All-tail (λ (y : Given J). Fits y.job) x (waiting items) ruled.fits;
           lead = ruled.lead;
           each =
-              each_set (AgreesWith ruled.lead ruled.given ruled.next (overs_in items)) views place w
+              each_set (FitsJobs ruled.lead ruled.given ruled.next (overs_in items)) views place w
               (record {
                 held = λ y h. ⊎_elim (λ (l : Contains v.held y). mine.held y l) (λ (is : x ≡ y). subst (Contains ruled.given) is first)
                     (Contains-push_cases v.held x y h);
@@ -58,8 +58,8 @@ module _ {J : Type 0} (Fits : J → Type 0) (place : ℕ) (v : JobView J) where
         (All-head (λ (y : Given J). Fits y.job) x (waiting items) ruled.fits, refl),
       )
 
-  fewer_overs : (lead : ℕ) (given : List (Given J)) (next overs j : ℕ) (u : JobView J) → AgreesWith lead given next (overs + 1) j u
-      → AgreesWith lead given next overs j u
+  fewer_overs : (lead : ℕ) (given : List (Given J)) (next overs j : ℕ) (u : JobView J) → FitsJobs lead given next (overs + 1) j u
+      → FitsJobs lead given next overs j u
   fewer_overs lead given next overs j u agrees =
       record {
         held = agrees.held;
@@ -71,8 +71,8 @@ module _ {J : Type 0} (Fits : J → Type 0) (place : ℕ) (v : JobView J) where
         };
       }
 
-  takes_over : (items : List (JobEntry J)) (views : List (JobView J)) → Ruled Fits (Over ∷ items) views → get_elem? views place ≡ some v
-      → (w : JobView J) × Ruled Fits items (set views place w) × HasTaken Fits v Over w
+  takes_over : (items : List (JobEntry J)) (views : List (JobView J)) → JobsRuled Fits (Over ∷ items) views → get_elem? views place ≡ some v
+      → (w : JobView J) × JobsRuled Fits items (set views place w) × HasTaken Fits v Over w
   takes_over items views ruled at = (
     record v { heard = v.heard + 1 },
     record {
@@ -84,7 +84,7 @@ module _ {J : Type 0} (Fits : J → Type 0) (place : ℕ) (v : JobView J) where
       fits = ruled.fits;
       lead = ruled.lead;
       each =
-          each_set (AgreesWith ruled.lead ruled.given ruled.next (overs_in items)) views place (record v { heard = v.heard + 1 })
+          each_set (FitsJobs ruled.lead ruled.given ruled.next (overs_in items)) views place (record v { heard = v.heard + 1 })
           (let mine = fewer_overs ruled.lead ruled.given ruled.next (overs_in items) place v (ruled.each place v at) in
           record {
             held = mine.held;
@@ -100,16 +100,16 @@ module _ {J : Type 0} (Fits : J → Type 0) (place : ℕ) (v : JobView J) where
     refl,
   )
 
-  pub takes : Pops (Ruled Fits) place v (HasTaken Fits v)
+  pub takes : Pops (JobsRuled Fits) place v (HasTaken Fits v)
   takes (Work x) items views ruled at = takes_work x items views ruled at
   takes Over items views ruled at = takes_over items views ruled at
 
 -- ---- new passes are made, and what one holds goes to another
 
 module _ {J : Type 0} (Fits : J → Type 0) (place : ℕ) (v : JobView J) where
-  pub shares : Forks (Ruled Fits) place v v idle
+  pub shares : Forks (JobsRuled Fits) place v v idle
   shares items views ruled at =
-      let F : ℕ → JobView J → Type 0 = AgreesWith ruled.lead ruled.given ruled.next (overs_in items) in
+      let F : ℕ → JobView J → Type 0 = FitsJobs ruled.lead ruled.given ruled.next (overs_in items) in
       record {
         given = ruled.given;
         next = ruled.next;
@@ -127,9 +127,9 @@ module _ {J : Type 0} (Fits : J → Type 0) (place : ℕ) (v : JobView J) where
             (agrees_idle ruled.lead ruled.given ruled.next (overs_in items));
       }
 
-  pub hands : Forks (Ruled Fits) place v (emptied v) (token_view v)
+  pub hands : Forks (JobsRuled Fits) place v (emptied v) (token_view v)
   hands items views ruled at =
-      let F : ℕ → JobView J → Type 0 = AgreesWith ruled.lead ruled.given ruled.next (overs_in items) in
+      let F : ℕ → JobView J → Type 0 = FitsJobs ruled.lead ruled.given ruled.next (overs_in items) in
       let mine = ruled.each place v at in
       record {
         given = ruled.given;
@@ -160,9 +160,9 @@ module _ {J : Type 0} (Fits : J → Type 0) (place : ℕ) (v : JobView J) where
       }
 
   module _ (other : ℕ) (u : JobView J) where
-    pub receives : Merges (Ruled Fits) place v other u (together v u) idle
+    pub receives : Merges (JobsRuled Fits) place v other u (together v u) idle
     receives items views ruled at apart there =
-        let F : ℕ → JobView J → Type 0 = AgreesWith ruled.lead ruled.given ruled.next (overs_in items) in
+        let F : ℕ → JobView J → Type 0 = FitsJobs ruled.lead ruled.given ruled.next (overs_in items) in
         let mine = ruled.each place v at in
         let was : get_elem? views other ≡ some u =
         ⊎_elim (λ (x : (other ≡ place) × (together v u ≡ u)). absurd (apart x.0))
@@ -208,7 +208,7 @@ module _ {J : Type 0} (Fits : J → Type 0) (place : ℕ) (v : JobView J) (leads
     whole : given ≡ before ++ x ∷ after
     off : taken_off x.number given ≡ before ++ after
 
-  module _ (items : List (JobEntry J)) (views : List (JobView J)) (ruled : Ruled Fits items views) (at : get_elem? views place ≡ some v)
+  module _ (items : List (JobEntry J)) (views : List (JobView J)) (ruled : JobsRuled Fits items views) (at : get_elem? views place ≡ some v)
       (x : Given J) (held : v.held ≡ x ∷ []) where
     cut : Cut ruled.given x
     cut =
@@ -252,12 +252,12 @@ module _ {J : Type 0} (Fits : J → Type 0) (place : ℕ) (v : JobView J) (leads
     left_in : (y : Given J) → (y.number ≡ x.number → ⊥) → Contains ruled.given y → Contains (cut.before ++ cut.after) y
     left_in y apart h = beside_in cut.before cut.after x y apart (subst (λ (l : List (Given J)). Contains l y) cut.whole h)
 
-    ruled_after : Ruled Fits items (set views place (settled v) ++ idle ∷ [])
+    ruled_after : JobsRuled Fits items (set views place (settled v) ++ idle ∷ [])
     ruled_after =
         let given : List (Given J) = cut.before ++ cut.after in
         let w : JobView J = settled v in
         let mine = (ruled.each place v at).leads leads in
-        let F : ℕ → JobView J → Type 0 = AgreesWith ruled.lead given ruled.next (overs_in items) in
+        let F : ℕ → JobView J → Type 0 = FitsJobs ruled.lead given ruled.next (overs_in items) in
         record {
           given = given;
           next = ruled.next;
@@ -293,10 +293,10 @@ module _ {J : Type 0} (Fits : J → Type 0) (place : ℕ) (v : JobView J) (leads
               (agrees_idle ruled.lead given ruled.next (overs_in items));
         }
 
-  pub settles : (x : Given J) → v.held ≡ x ∷ [] → Forks (Ruled Fits) place v (settled v) idle
+  pub settles : (x : Given J) → v.held ≡ x ∷ [] → Forks (JobsRuled Fits) place v (settled v) idle
   settles x held items views ruled at = ruled_after items views ruled at x held
 
-  pub owns : Learns (Ruled Fits) place v (λ items. HoldsAGivenOne v)
+  pub owns : Learns (JobsRuled Fits) place v (λ items. HoldsAGivenOne v)
   owns items views ruled at x held =
       let mine = (ruled.each place v at).leads leads in
       let c = cut items views ruled at x held in
@@ -377,7 +377,7 @@ module _ {J R : Type 0} (seat taking after token : Pass (JobEntry J) (JobView J)
     pub taken : view taking ≡ record (view seat) { held = (view seat).held ++ x ∷ []; taken = (view seat).taken ++ x ∷ [] }
     pub left : view after ≡ emptied (view taking)
     pub handed : view token ≡ token_view (view taking)
-    pub paid : view later ≡ record (view desk) { paid = (view desk).paid ++ holds token }
+    pub paid : view later ≡ record (view desk) { paid = (view desk).paid ++ jobs_held token }
 
   pub helped : (s : HelperState J) → helper_of seat desk ≡ s → IsSamePass seat taking → IsSamePass taking after → IsSamePass desk later
       → Helped → helper_of after later ≡ served s x

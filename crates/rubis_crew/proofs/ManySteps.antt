@@ -7,7 +7,7 @@ use Rattle.rubis_crew.specs.declared.job.Given.{Given}
 use Rattle.rubis_crew.specs.declared.rule.JobView.{JobView}
 use Rattle.rubis_crew.specs.declared.rule.JobEntry.{JobEntry}
 use Rattle.rubis_crew.specs.declared.rule.JobEntry.TheVariants.{Work, Over}
-use Rattle.rubis_crew.specs.Rule.{weigh, waiting, sum_over, Ruled, HasTaken}
+use Rattle.rubis_crew.specs.Rule.{weigh, waiting, sum_over, JobsRuled, HasTaken}
 use Rattle.rubis_crew.specs.Laws.{JobState, Step, Steps, StepsAll, opening, held_if, held_by, out, coming_back, IsAccounted}
 use Rattle.rubis_crew.specs.Laws.Step.{Puts, Takes, Shares, Hands, Receives, Settles}
 use Rattle.rubis_crew.proofs.Giving.{none_in, weigh-append, begins, gives, says}
@@ -15,7 +15,7 @@ use Rattle.rubis_crew.proofs.Handing.{takes, shares, hands, receives, settles}
 
 module _ {J : Type 0} (Fits : J → Type 0) where
   abbrev IsRuled : JobState J → Type 0
-  IsRuled s = Ruled Fits s.items s.views
+  IsRuled s = JobsRuled Fits s.items s.views
 
   put_one : (s : JobState J) (i : ℕ) (item : JobEntry J) (t : JobState J) → IsRuled s → Steps Fits s (Puts i item) t → IsRuled t
   put_one s i (Work x) t ruled step =
@@ -31,7 +31,7 @@ module _ {J : Type 0} (Fits : J → Type 0) where
 
   take_one : (s : JobState J) (i : ℕ) (t : JobState J) → IsRuled s → Steps Fits s (Takes i) t → IsRuled t
   take_one s i t ruled step =
-      let r = takes Fits i step.0 step.2 t.items s.views (subst (λ l. Ruled Fits l s.views) step.4 ruled) step.3 in
+      let r = takes Fits i step.0 step.2 t.items s.views (subst (λ l. JobsRuled Fits l s.views) step.4 ruled) step.3 in
       subst IsRuled
       (sym (step.6 ∙ ap (λ w. record { items = t.items; views = set s.views i w }) (took step.0 step.2 step.1 r.0 step.5 r.2))) r.1
 

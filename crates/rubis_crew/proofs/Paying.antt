@@ -14,7 +14,7 @@ use Rattle.rubis_crew.specs.declared.results.Payment.{Payment}
 use Rattle.rubis_crew.specs.declared.results.ResultView.{ResultView}
 use Rattle.rubis_crew.specs.declared.results.Slip.{Slip}
 use Rattle.rubis_crew.specs.declared.results.Slip.TheVariants.{Name, Pay}
-use Rattle.rubis_crew.specs.Rule.{holds, IsPaid, BelongsTo, unnamed, newcomer, Named, AreResults, HasNamed, HasPaid, HasCollected}
+use Rattle.rubis_crew.specs.Rule.{jobs_held, IsPaid, BelongsTo, unnamed, newcomer, Named, AreResults, HasNamed, HasPaid, HasCollected}
 
 module _ {A : Type 0} where
   -- a list of one has one place, and there it is
@@ -89,7 +89,7 @@ module _ {J R : Type 0} (Worked : J → R → Type 0) where
         absurd (none-some queue (sym (ap (λ (u : ResultView J). u.of) (untold slips views none at)) ∙ of)))
         (λ (one : Some_of_one slips views).
         let here = one.1.told place v at in
-        let w : ResultView J = record v { paid = v.paid ++ holds p.token } in
+        let w : ResultView J = record v { paid = v.paid ++ jobs_held p.token } in
         let same : queue ≡ one.0 = same_Some queue one.0 (sym of ∙ here) in (
           w,
           inr (

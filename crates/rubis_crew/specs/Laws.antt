@@ -13,23 +13,23 @@ use Rattle.rubis_crew.specs.declared.rule.JobEntry.TheVariants.{Work, Over}
 use Rattle.rubis_crew.specs.declared.results.Payment.{Payment}
 use Rattle.rubis_crew.specs.declared.results.ResultView.{ResultView}
 use Rattle.rubis_crew.specs.declared.results.Slip.TheVariants.{Name, Pay}
-use Rattle.rubis_crew.specs.Rule.{AreRising, weigh, waiting, first_view, idle, Ruled, HasPut, HasTaken, emptied, token_view, together, settled, EachAt, IsPaid}
+use Rattle.rubis_crew.specs.Rule.{AreRising, weigh, waiting, first_view, idle, JobsRuled, HasPut, HasTaken, emptied, token_view, together, settled, EachAt, IsPaid}
 use Rattle.rubis_crew.specs.Rule.{AreResults, unnamed, newcomer, HasNamed, HasPaid, HasCollected}
 
 -- ---- one step, whatever a queue holds and whatever the other passes know
 
 -- each step on the queue of jobs keeps its rule, whatever the queue holds and the other passes know
 pub record JobStepsKeepTheRule {J : Type 0} (Fits : J → Type 0) : Type 0 where
-  pub opening : Ruled Fits [] (first_view ∷ [])
+  pub opening : JobsRuled Fits [] (first_view ∷ [])
   pub give : (room place : ℕ) (v : JobView J) (x : Given J) → v.leads ≡ true → x.number ≡ v.next → Fits x.job
-      → Pushes (Ruled Fits) room place v (Work x) (HasPut v (Work x))
-  pub say_over : (room place : ℕ) (v : JobView J) → v.leads ≡ true → Pushes (Ruled Fits) room place v Over (HasPut v Over)
-  pub take : (place : ℕ) (v : JobView J) → Pops (Ruled Fits) place v (HasTaken Fits v)
-  pub share : (place : ℕ) (v : JobView J) → Forks (Ruled Fits) place v v idle
-  pub hand : (place : ℕ) (v : JobView J) → Forks (Ruled Fits) place v (emptied v) (token_view v)
-  pub receive : (place : ℕ) (v : JobView J) (other : ℕ) (u : JobView J) → Merges (Ruled Fits) place v other u (together v u) idle
+      → Pushes (JobsRuled Fits) room place v (Work x) (HasPut v (Work x))
+  pub say_over : (room place : ℕ) (v : JobView J) → v.leads ≡ true → Pushes (JobsRuled Fits) room place v Over (HasPut v Over)
+  pub take : (place : ℕ) (v : JobView J) → Pops (JobsRuled Fits) place v (HasTaken Fits v)
+  pub share : (place : ℕ) (v : JobView J) → Forks (JobsRuled Fits) place v v idle
+  pub hand : (place : ℕ) (v : JobView J) → Forks (JobsRuled Fits) place v (emptied v) (token_view v)
+  pub receive : (place : ℕ) (v : JobView J) (other : ℕ) (u : JobView J) → Merges (JobsRuled Fits) place v other u (together v u) idle
   pub settle : (place : ℕ) (v : JobView J) (x : Given J) → v.leads ≡ true → v.held ≡ x ∷ []
-      → Forks (Ruled Fits) place v (settled v) idle
+      → Forks (JobsRuled Fits) place v (settled v) idle
 
 -- each step on the queue of results keeps its rule, whatever the queue holds and the other passes know
 pub record ResultStepsKeepTheRule {J R : Type 0} (Worked : J → R → Type 0) : Type 0 where

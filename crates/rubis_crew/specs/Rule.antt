@@ -83,13 +83,13 @@ pub record GivesThem {J : Type 0} (lead : ℕ) (given : List (Given J)) (next ov
   pub said : overs ≤ v.overs
 
 -- a pass fits the jobs that are given
-pub record AgreesWith {J : Type 0} (lead : ℕ) (given : List (Given J)) (next overs place : ℕ) (v : JobView J) : Type 0 where
+pub record FitsJobs {J : Type 0} (lead : ℕ) (given : List (Given J)) (next overs place : ℕ) (v : JobView J) : Type 0 where
   -- what it holds is given
   pub held : (x : Given J) → Contains v.held x → Contains given x
   pub leads : v.leads ≡ true → GivesThem lead given next overs place v
 
 -- the rule of the jobs: what the queue's items and what all passes know have to do with each other
-pub record Ruled {J : Type 0} (Fits : J → Type 0) (items : List (JobEntry J)) (views : List (JobView J)) : Type 0 where
+pub record JobsRuled {J : Type 0} (Fits : J → Type 0) (items : List (JobEntry J)) (views : List (JobView J)) : Type 0 where
   -- the jobs that are given and aren't back, under numbers that differ
   pub given : List (Given J)
   pub next : ℕ
@@ -101,7 +101,7 @@ pub record Ruled {J : Type 0} (Fits : J → Type 0) (items : List (JobEntry J)) 
   pub fits : All (λ x. Fits x.job) (waiting items)
   -- one pass at most gives jobs
   pub lead : ℕ
-  pub each : EachAt (AgreesWith lead given next (overs_in items)) views
+  pub each : EachAt (FitsJobs lead given next (overs_in items)) views
 
 -- ---- the steps
 
@@ -146,15 +146,15 @@ module _ {J : Type 0} where
 -- ---- the rule of the results: what is so of their queue and of its passes, before and after every step
 
 -- the jobs that a pass holds
-abbrev pub holds : {J : Type 0} → Pass (JobEntry J) (JobView J) → List (Given J)
-holds token = (view token).held
+abbrev pub jobs_held : {J : Type 0} → Pass (JobEntry J) (JobView J) → List (Given J)
+jobs_held token = (view token).held
 
 -- it is the result of the one job that its token holds, under that job's number; and the token is one of that queue of jobs
 pub record IsPaid {J R : Type 0} (Worked : J → R → Type 0) (queue : TableId) (p : Payment J R) : Type 0 where
   pub queued : p.token.table_id ≡ queue
   pub none_out : p.token.me.1 ≡ []
   pub job : J
-  pub held : holds p.token ≡ record { number = p.number; job = job } ∷ []
+  pub held : jobs_held p.token ≡ record { number = p.number; job = job } ∷ []
   pub worked : Worked job p.result
 
 module _ {J R : Type 0} (Worked : J → R → Type 0) where
@@ -192,7 +192,7 @@ module _ {J R : Type 0} where
   -- the pass paid for the job that the token holds
   abbrev pub HasPaid : ResultView J → Slip J R → ResultView J → Type 0
   HasPaid v (Name token) w = ⊥
-  HasPaid v (Pay p) w = w ≡ record v { paid = v.paid ++ holds p.token }
+  HasPaid v (Pay p) w = w ≡ record v { paid = v.paid ++ jobs_held p.token }
 
   -- the pass took out what belongs to the jobs whose results these are
   abbrev pub HasCollected : (J → R → Type 0) → ResultView J → Slip J R → ResultView J → Type 0

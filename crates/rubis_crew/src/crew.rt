@@ -3,11 +3,12 @@
 ghost use Rattle.std.specs.Prelude.{◌≡◌, ◌+◌, ◌-◌, ◌<◌, ◌≤◌, ◌^◌, [], ◌∷◌, ◌++◌, length, true, false, Some, IfOk, IfErr, OnOk, IfSome, IfNone};
 ghost use Rattle.crossbeam_queue.specs.Passes.{view, ruled_capacity, IsPassOf, IsSamePass};
 ghost use Rattle.rubis_crew.specs.declared.job.Given.{Given};
-ghost use Rattle.rubis_crew.specs.Rule.{IsPaid, holds, AreBelow};
+ghost use Rattle.rubis_crew.specs.Rule.{IsPaid, jobs_held, AreBelow};
 ghost use Rattle.atomic_table.specs.Seated.{TableId};
 ghost use Rattle.rubis_crew.specs.States.{drained, ended, new_lead, new_helper, given_too, HasNoRoom, IsBack, HasHelped, ComesBack, Settles, HasAllBack};
 ghost use Rattle.rubis_crew.specs.States.{TellsAll};
 
+use crate::hold::Hold;
 use crate::job::{Back, Given, Job};
 use crate::results::{
     Collecting, JobPass, Joining, Naming, Paying, Payment, ResultRule, ResultView, Slip,
@@ -38,6 +39,8 @@ pub struct Crew<J: Job> {
     helpers: usize,
     // By which helpers that sleep are told of a job, and that no more come. A crew beside this one has the same.
     calls: Arc<EventCount>,
+    // Where a helper is held up before it announces that it sleeps.
+    hold: Option<Arc<Hold, Global>>,
 }
 
 impl<J: Job> Model for Crew<J> {
@@ -132,7 +135,7 @@ fn pay<J: Job, R: Wait>(
     requires queue { IsPassOf results.now desk.old }
     requires paid { (queue : TableId) × ((view desk.old).of ≡ Some queue) × IsPaid J.Worked queue payment }
     ensures queue { IsSamePass desk.old desk.new }
-    ensures paid { view desk.new ≡ record (view desk.old) { paid = (view desk.old).paid ++ holds payment.token } }
+    ensures paid { view desk.new ≡ record (view desk.old) { paid = (view desk.old).paid ++ jobs_held payment.token } }
 {
     let mut slip = Slip::Pay(payment);
     for _ in rt.forever() {
@@ -197,6 +200,7 @@ impl<J: Job> Crew<J> {
             room,
             helpers,
             calls,
+            hold: None,
         };
         let lead = Lead {
             seat,
@@ -247,8 +251,33 @@ impl<J: Job> Crew<J> {
         self.helpers
     }
 
+    /// The same crew, whose helpers are held up there.
+    pub fn held_up(self, hold: Arc<Hold, Global>) -> Crew<J>
+        ensures { result ≡ self }
+    {
+        let Crew {
+            jobs,
+            results,
+            room,
+            helpers,
+            calls,
+            hold: _,
+        } = self;
+        Crew {
+            jobs,
+            results,
+            room,
+            helpers,
+            calls,
+            hold: Some(hold),
+        }
+    }
+
     // Announces that the caller looks for a job, and sleeps then if there is none.
     pub(crate) fn prepare_wait(&self) -> Key<'_> {
+        if let Some(hold) = &self.hold {
+            hold.come();
+        }
         self.calls.prepare_wait()
     }
 
@@ -398,6 +427,7 @@ impl<J: Job> Crew<J> {
             room: _,
             helpers: _,
             calls: _,
+            hold: _,
         } = self;
         lead.next
     }

@@ -3,6 +3,7 @@
 
 mod both;
 mod crew;
+mod hold;
 mod job;
 mod laws;
 mod post;
@@ -13,5 +14,6 @@ mod tests;
 
 pub use both::Both;
 pub use crew::{Crew, Found, Helper, Lead};
+pub use hold::Hold;
 pub use job::{Back, Given, Job};
 pub use laws::{every_list_of_steps_accounts, every_step_keeps_the_rules};

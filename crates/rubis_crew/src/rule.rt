@@ -37,9 +37,9 @@ pub struct JobView<J> {
 pub struct JobRule;
 
 impl<J: Job> Protocol<JobEntry<J>, JobView<J>> for JobRule {
-    ghost use Rattle.rubis_crew.specs.Rule.{Ruled, first_view};
+    ghost use Rattle.rubis_crew.specs.Rule.{JobsRuled, first_view};
 
-    ghost holds = { Ruled J.Fits };
+    ghost holds = { JobsRuled J.Fits };
 
     ghost first = { first_view };
 }

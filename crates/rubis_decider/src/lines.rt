@@ -1,7 +1,7 @@
 //! Steps of shops, read from lines: the kind, then numbers, each behind a comma. A packet is its numbers: three are a message, four a pass.
 
 ghost use Rattle.std.specs.Prelude.{◌≡◌, ◌++◌, IfOk, IfSome, string_bytes};
-ghost use Rattle.rubis_decider.specs.Written.{IsWritten, Says, commas, packet_numbers};
+ghost use Rattle.rubis_decider.specs.Written.{IsStepLine, Saying, commas, packet_numbers};
 
 use rubis_carrier::{ShopEvent as Event, ShopPacket};
 use std::alloc::{AllocError, Global};
@@ -17,7 +17,7 @@ fn packet_of(numbers: &[u64]) -> Option<ShopPacket>
 }
 
 fn event_of(kind: &str, numbers: &[u64]) -> Option<Event>
-    ensures { IfSome result (λ e. Says e kind.now numbers.now) }
+    ensures { IfSome result (λ e. Saying e kind.now numbers.now) }
 {
     let event = match (kind, numbers) {
         ("Starts", [k]) => Event::Starts(*k),
@@ -44,7 +44,7 @@ fn event_of(kind: &str, numbers: &[u64]) -> Option<Event>
 }
 
 fn other_event_of(kind: &str, numbers: &[u64]) -> Option<Event>
-    ensures { IfSome result (λ e. Says e kind.now numbers.now) }
+    ensures { IfSome result (λ e. Saying e kind.now numbers.now) }
 {
     let event = match (kind, numbers) {
         ("TellsNothing", [k, ask]) => Event::TellsNothing(*k, *ask),
@@ -81,7 +81,7 @@ fn text_of(alloc: Global, kind: &str, numbers: &[u64]) -> Result<String, AllocEr
 
 /// The event that a line is: it is written so, and not otherwise. None where the line isn't one of those that this reads.
 pub(crate) fn read_event(alloc: Global, line: &str) -> Result<Option<Event>, AllocError>
-    ensures { IfOk result (λ found. IfSome found (λ event. IsWritten event line.now)) }
+    ensures { IfOk result (λ found. IfSome found (λ event. IsStepLine event line.now)) }
 {
     let mut words = line.split(',');
     let kind = words.next().unwrap_or("");

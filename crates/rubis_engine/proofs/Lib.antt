@@ -3,3 +3,4 @@ pub mod ReadingFacts
 pub mod RowFacts
 pub mod TextFacts
 pub mod ReadBack
+pub mod SeamFacts

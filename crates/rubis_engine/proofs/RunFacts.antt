@@ -9,7 +9,7 @@ use Rattle.csv.proofs.WriteFacts.{appends-none, appends-more}
 use Rattle.rubis_engine.specs.Accounts.{Account, AnswersRecord}
 use Rattle.rubis_engine.specs.Progress.{BreaksOff, WritesRecord, ByEnd, AppendsFront, IsDone, IsRun, WrotePrefix}
 use Rattle.rubis_engine.specs.declared.service.Course.{Course}
-use Rattle.std.specs.Prelude.{IfErr, IsErr, IsErrAnd, OnErr, OnOk, Result, Ok, Err, IfNone, IfOk, IfSome, IsErrOf, is_some}
+use Rattle.std.specs.Prelude.{IfErr, IsErr, IsErrAnd, OnErr, OnOk, Result, Ok, Err, IfNone, IfOk, IsErrOf, is_some}
 use Rattle.rubis_engine.specs.declared.fault.RunFault.{RunFault}
 use Rattle.rubis_engine.specs.declared.fault.RunFault.TheVariants as fault
 use Rattle.std.specs.Io.KnownBytes.{Appends, Keeps}
@@ -181,7 +181,7 @@ if_not_some (Some x) h e = absurd cc
 -- ---- how a run ends
 
 -- a run that ended well is done
-pub run_done : (all : Account) (limit : ℕ) (input old new : Option (List ℕ)) (result : Result Count RunFault) → IsRun all limit input old new result
-    → IfOk result (λ count. IfSome input (λ bytes. IsDone all limit old new (input_records bytes) count.records))
+pub run_done : (all : Account) (limit : ℕ) (input : List ℕ) (old new : Option (List ℕ)) (result : Result Count RunFault)
+    → IsRun all limit input old new result → IfOk result (λ count. IsDone all limit old new (input_records input) count.records)
 run_done all limit input old new (Ok count) h = h
 run_done all limit input old new (Err e) h = tt

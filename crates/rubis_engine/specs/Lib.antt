@@ -3,3 +3,4 @@ pub mod Rows
 pub mod Reading
 pub mod Accounts
 pub mod Progress
+pub mod Seam

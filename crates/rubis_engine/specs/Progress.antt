@@ -1,5 +1,5 @@
 -- How far a run has come, how a record is answered, and how a step and a run end.
-use Rattle.std.specs.Prelude.{Result, Ok, Err, ◌≡◌, ◌≤◌, ◌<◌, ◌+◌, ◌++◌, ◌⊎◌, [], ℕ, List, IfSome, length, take, Option, ◌∷◌}
+use Rattle.std.specs.Prelude.{Result, Ok, Err, ◌≡◌, ◌≤◌, ◌<◌, ◌+◌, ◌++◌, ◌⊎◌, [], ℕ, List, length, take, Option, ◌∷◌}
 use Rattle.rubis_engine.specs.declared.fault.RunFault.{RunFault}
 use Rattle.rubis_engine.specs.declared.fault.RunFault.TheVariants.{Memory, Read, TooLong, Write}
 use Rattle.std.specs.Io.KnownBytes.{Appends}
@@ -58,8 +58,8 @@ EndsSo all limit old new records (Err Write) = WrotePrefix (all.text AtEnd) old 
 
 -- a run over an input, of which at most `limit` records are read: `all` is the account of its records, and `old` and `new` are
 -- what its writer had and has
-abbrev pub IsRun : Account → ℕ → Option (List ℕ) → Option (List ℕ) → Option (List ℕ) → Result Count RunFault → Type 0
-IsRun all limit input old new result = IfSome input (λ bytes. EndsSo all limit old new (input_records bytes) result)
+abbrev pub IsRun : Account → ℕ → List ℕ → Option (List ℕ) → Option (List ℕ) → Result Count RunFault → Type 0
+IsRun all limit input old new result = EndsSo all limit old new (input_records input) result
 
 -- ---- how a record is answered
 

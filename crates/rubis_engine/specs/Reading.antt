@@ -51,5 +51,5 @@ abbrev pub bytes_left : {R : Type 0} → (R → Option (List ℕ)) → Records R
 bytes_left rem records = known_length (source_of rem records.reader)
 
 -- to go on to a record leaves fewer bytes
-abbrev pub ComesNearer : {R : Type 0} → (R → Option (List ℕ)) → Records R → Records R → Bool → Type 0
-ComesNearer rem old new found = LeavesFewer rem old.reader new.reader found
+abbrev pub GetsNearer : {R : Type 0} → (R → Option (List ℕ)) → Records R → Records R → Bool → Type 0
+GetsNearer rem old new found = LeavesFewer rem old.reader new.reader found

@@ -19,8 +19,8 @@ pub more_written : (xs ys : List (List (List ℕ))) (a b c : List ℕ) → b ≡
 more_written xs ys a b c e f =
     f ∙ ap (λ t. t ++ rows_text ys) e ∙ append_assoc a (rows_text xs) (rows_text ys) ∙ ap (λ t. a ++ t) (sym (flat_map-append (row_text plain_writer) xs ys))
 
-pub held_more : (xs ys : List (List (List ℕ))) (a b : List ℕ) → a ≡ rows_text xs → b ≡ a ++ rows_text ys → b ≡ rows_text (xs ++ ys)
-held_more xs ys a b e f = f ∙ ap (λ t. t ++ rows_text ys) e ∙ sym (flat_map-append (row_text plain_writer) xs ys)
+pub rows_held_more : (xs ys : List (List (List ℕ))) (a b : List ℕ) → a ≡ rows_text xs → b ≡ a ++ rows_text ys → b ≡ rows_text (xs ++ ys)
+rows_held_more xs ys a b e f = f ∙ ap (λ t. t ++ rows_text ys) e ∙ sym (flat_map-append (row_text plain_writer) xs ys)
 
 -- ---- the line of a row that is sent, and what it is read as
 

@@ -1,7 +1,7 @@
 //! The records of a reader, one at a time.
 
 ghost use Rattle.std.specs.Prelude.{◌≡◌, ◌⊎◌, IfErr, IfOk, IfSome};
-ghost use Rattle.rubis_engine.specs.Reading.{Advances, ComesNearer, Gives, fields_now};
+ghost use Rattle.rubis_engine.specs.Reading.{Advances, GetsNearer, Gives, fields_now};
 ghost use Rattle.rubis_engine.specs.Text.{input_records};
 
 use crate::fault::RunFault;
@@ -40,7 +40,7 @@ impl<R: Read> Records<R> {
     /// `Read` if the reader failed, and `Memory` if there wasn't enough memory for the record.
     pub fn advance(&mut self) -> Result<bool, RunFault>
         ensures takes { IfOk result (λ found. Advances R.remaining self.old self.new found) }
-        ensures nearer { IfOk result (λ found. ComesNearer R.remaining self.old self.new found) }
+        ensures nearer { IfOk result (λ found. GetsNearer R.remaining self.old self.new found) }
         ensures faults { IfErr result (λ e. (e ≡ RunFault.Read) ⊎ (e ≡ RunFault.Memory)) }
     {
         self.current.read_from(&mut self.reader)

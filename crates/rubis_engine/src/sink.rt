@@ -318,7 +318,7 @@ impl PlainSink for Sink {
 
 impl SharedSink for Sink {
     ghost use Rattle.std.specs.Prelude.{◌≡◌};
-    ghost use Rattle.rubis_engine.specs.Rows.{held_more};
+    ghost use Rattle.rubis_engine.specs.Rows.{rows_held_more};
     ghost use Rattle.rubis_engine.specs.Text.{rows_text};
 
     ghost holds = { λ rows s. s ≡ rows_text rows };
@@ -331,5 +331,5 @@ impl SharedSink for Sink {
         self.add_text(part)
     }
 
-    ghost holds_more = { held_more };
+    ghost holds_more = { rows_held_more };
 }

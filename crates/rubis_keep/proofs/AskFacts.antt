@@ -1,35 +1,32 @@
 -- How a run answers the questions of its input, and why a line is refused that is one.
 use Rattle.rubis_keep.proofs.Common.{◌≡◌, ◌≤◌, ◌++◌, ◌∷◌, [], ℕ, List, None, Option, Some, arith, drop, false, length, sym, true, ◌∙◌, ◌+◌, inl, inr}
-use Rattle.rubis_keep.proofs.Common.{Bool, cond, map, refl, ap, Place, Replica, input_step, input_records, rows_text, input_of, Advances, Gives}
+use Rattle.rubis_keep.proofs.Common.{Bool, cond, map, refl, ap, Place, Replica, KeyedSite, keyed_input, keyed_step, input_records, rows_text, Advances, Gives}
 use Rattle.rubis_keep.proofs.Common.{fields_now, Records}
 use Rattle.std.proofs.lemmas.Bool.{le-leb}
 use Rattle.std.specs.Prelude.{bytes_eq, codes, slice_get}
 use Rattle.rubis_schema.specs.declared.row_keys.RowKey.{RowKey}
-use Rattle.rubis_message.specs.declared.inputs.Input.{Input}
-use Rattle.rubis_message.specs.declared.inputs.Input.TheVariants.{Asked as ByUser, Came, Neither}
-use Rattle.rubis_model.specs.Processes.{site_after}
-use Rattle.rubis_keep.specs.Lines.{closes}
-use Rattle.rubis_keep.specs.Questions.{key_in, question_in, reply_rows, row_asked, refused_as, replied_in, question_of}
+use Rattle.rubis_keys.proofs.BareFacts.{same_step}
+use Rattle.rubis_keys.specs.Keys.{keyed_after}
+use Rattle.rubis_keep.specs.Lines.{closes_quotes}
+use Rattle.rubis_keep.specs.Questions.{asked_key, question_in, reply_rows, row_asked, refused_as, replied_in, question_of}
 use Rattle.rubis_keep.specs.declared.questions.Question.{Question}
-use Rattle.rubis_message.specs.declared.requests.Request.TheVariants as request
-use Rattle.rubis_message.specs.declared.tokens.Packet.TheVariants as packet
 use Rattle.rubis_keep.specs.Telling.{grows-more}
-use Rattle.rubis_keep.specs.History.{Answers, Event, Grows, History, KeepsLines, Tells}
-use Rattle.rubis_keep.specs.History.Event.{Flushed, Kept, Replied, Shown, Told}
+use Rattle.rubis_keep.specs.History.{Answers, FolderEvent, Grows, History, KeepsLines, Tells}
+use Rattle.rubis_keep.specs.History.FolderEvent.{Flushed, Kept, Replied, Shown, Told}
 use Rattle.rubis_keep.specs.Shortened.{state_after}
 
-pub refused-open : (p : Place) (s : Replica) (n : ℕ) (line : List ℕ) {text : List ℕ} → length line ≤ 4096 → closes (drop 1 line) ≡ false
+pub refused-open : (p : Place) (s : Replica) (n : ℕ) (line : List ℕ) {text : List ℕ} → length line ≤ 4096 → closes_quotes (drop 1 line) ≡ false
     → text ≡ rows_text (refused_as (codes "OpenQuote")) → text ≡ rows_text (reply_rows p s n line)
 refused-open p s n line small open_quote e = rw (le-leb (length line) 4096 small, open_quote) e
 
-pub refused-bad : (p : Place) (s : Replica) (n : ℕ) (line : List ℕ) {text : List ℕ} {asked : Option Question} → length line ≤ 4096 → closes (drop 1 line) ≡ true
+pub refused-bad : (p : Place) (s : Replica) (n : ℕ) (line : List ℕ) {text : List ℕ} {asked : Option Question} → length line ≤ 4096 → closes_quotes (drop 1 line) ≡ true
     → asked ≡ question_in p.sites (input_records (drop 1 line ++ 10 ∷ [])) → asked ≡ None → text ≡ rows_text (refused_as (codes "BadQuestion"))
     → text ≡ rows_text (reply_rows p s n line)
 refused-bad p s n line small closed is none e = rw (le-leb (length line) 4096 small, closed, sym is, none) e
 
 -- the row that three words ask for
 pub row-three : (sites : ℕ) (fields : List (List ℕ)) (w t : List ℕ) {n : List ℕ} {k : Option RowKey} → length fields ≡ 3 → slice_get fields 0 ≡ Some w
-    → slice_get fields 1 ≡ Some t → slice_get fields 2 ≡ Some n → bytes_eq w (codes "row") ≡ true → k ≡ key_in sites t n → k ≡ row_asked sites fields
+    → slice_get fields 1 ≡ Some t → slice_get fields 2 ≡ Some n → bytes_eq w (codes "row") ≡ true → k ≡ asked_key sites t n → k ≡ row_asked sites fields
 row-three sites [] w t size a b d e is = absurd (cc a)
 row-three sites (x ∷ []) w t size a b d e is = absurd (cc b)
 row-three sites (x ∷ y ∷ []) w t size a b d e is = absurd (cc d)
@@ -44,21 +41,12 @@ row-three sites (x ∷ y ∷ z ∷ v ∷ rest) w t size a b d e is = absurd (ome
 
 -- ---- where records lead
 
--- the number of a record doesn't matter
-step-any : (p : Place) (s : Replica) (n m : ℕ) (input : Input) → (input_step p s n input).0 ≡ (input_step p s m input).0
-step-any p s n m (ByUser (request.Ask a)) = refl
-step-any p s n m (ByUser (request.Pass to)) = refl
-step-any p s n m (ByUser (request.List l)) = refl
-step-any p s n m (Came (packet.Msg x)) = refl
-step-any p s n m (Came (packet.Token t)) = refl
-step-any p s n m Neither = refl
-
--- and no number of any does
-pub states-alike : (p : Place) (s : Replica) (n : ℕ) (rows : List (List (List ℕ))) → site_after p s n rows ≡ state_after p s rows
+-- the numbers of records don't matter
+pub states-alike : (p : Place) (s : KeyedSite) (n : ℕ) (rows : List (List (List ℕ))) → keyed_after p s n rows ≡ state_after p s rows
 states-alike p s n [] = refl
 states-alike p s n (fields ∷ rows) =
-    ap (λ t. site_after p t (n + 1) rows) (step-any p s n 1 (input_of p.sites fields))
-    ∙ states-alike p (input_step p s 1 (input_of p.sites fields)).0 (n + 1) rows
+    ap (λ t. keyed_after p t (n + 1) rows) (same_step p s n 1 (keyed_input p.sites fields))
+    ∙ states-alike p (keyed_step p s 1 (keyed_input p.sites fields)).0 (n + 1) rows
 
 -- ---- what a line asks
 
@@ -81,14 +69,14 @@ question-many rem a b d sites all gives takes more =
 
 -- ---- events that reply to nothing
 
-pub replied-append : (xs ys : List Event) → replied_in (xs ++ ys) ≡ replied_in xs ++ replied_in ys
+pub replied-append : (xs ys : List FolderEvent) → replied_in (xs ++ ys) ≡ replied_in xs ++ replied_in ys
 replied-append [] ys = refl
 replied-append (Replied question text ∷ xs) ys = ap (λ t. record { question = question; text = text } ∷ t) (replied-append xs ys)
 replied-append (e ∷ xs) ys = replied-append xs ys
 
 -- what has happened since, and nothing of it is a reply
 abbrev pub IsSilent : Option History → Option History → Type 0
-IsSilent a b = (events : List Event) × Grows a b events × (replied_in events ≡ [])
+IsSilent a b = (events : List FolderEvent) × Grows a b events × (replied_in events ≡ [])
 
 pub silent-more : (a b c : Option History) → IsSilent a b → IsSilent b c → IsSilent a c
 silent-more a b c (xs, f, e) (ys, g, k) = (xs ++ ys, grows-more a b c xs ys f g, replied-append xs ys ∙ ap (λ t. t ++ replied_in ys) e ∙ k)
@@ -106,7 +94,7 @@ kept-silent false a b lines g = ([], g, refl)
 pub front-silent : (a b : Option History) (bytes : List ℕ) → Grows a b (map (λ b. Kept b) bytes) → IsSilent a b
 front-silent a b bytes g = (map (λ b. Kept b) bytes, g, keeps-silent bytes)
 
-answers-silent : (live : Bool) (es : List Event) (due due2 : List ℕ) → Answers live es due due2 → replied_in es ≡ []
+answers-silent : (live : Bool) (es : List FolderEvent) (due due2 : List ℕ) → Answers live es due due2 → replied_in es ≡ []
 answers-silent live [] due due2 a = refl
 answers-silent live (Told b ∷ es) due due2 a = answers-silent live es (cond live (due ++ b ∷ []) due) due2 a
 answers-silent live (Shown b ∷ es) due due2 a = answers-silent live es a.0 due2 a.2

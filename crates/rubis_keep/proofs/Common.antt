@@ -16,10 +16,8 @@ pub use Rattle.std.proofs.lemmas.List.{append-nil, length-take, length-take-le, 
 pub use Rattle.std.proofs.lemmas.Result.{on_ok_weaker}
 pub use Rattle.std.specs.Io.KnownBytes.{Appends, Consumes, IsAtEnd, Keeps}
 pub use Rattle.std.specs.List.{before_first, range_with_len}
-pub use Rattle.rubis_message.specs.Inputs.{input_of}
 pub use Rattle.rubis_message.specs.Message.{Message}
-pub use Rattle.rubis_model.specs.Site.{Place, Replica, counted, counts, input_step}
-pub use Rattle.rubis_replica.specs.State.{after_all}
+pub use Rattle.rubis_model.specs.Site.{Place, Replica, counted, counts}
 pub use Rattle.rubis_engine.proofs.ReadBack.{no_mark}
 pub use Rattle.rubis_engine.proofs.RunFacts.{ends_on, more-bound, takes-at}
 pub use Rattle.rubis_engine.specs.Accounts.{Account}
@@ -30,4 +28,5 @@ unfoldable pub use Rattle.rubis_engine.specs.Text.{input_records}
 pub use Rattle.rubis_engine.specs.declared.record_list.Records.{Records}
 pub use Rattle.rubis_serving.proofs.GoFacts.{goes-tears, tears-as}
 pub use Rattle.rubis_serving.specs.Serving.{at}
-pub use Rattle.rubis_script.specs.SiteRuns.{site_account}
+pub use Rattle.rubis_keys.specs.Keys.{KeyedSite, keyed_input, keyed_step}
+pub use Rattle.rubis_keep.specs.Saying.{keyed_account}

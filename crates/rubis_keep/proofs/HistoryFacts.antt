@@ -7,12 +7,12 @@ use Rattle.std.proofs.lemmas.Bool.{eqb-false}
 use Rattle.std.proofs.lemmas.List.{get_or-append-add, get_or_append_left, get_or-drop, get_or-take, length-drop, length-take, length-take-le, take_rest}
 use Rattle.std.proofs.lemmas.List.{append-nil, take_all}
 use Rattle.rubis_keep.specs.Faults.{DiffersFrom}
-use Rattle.rubis_keep.specs.History.{IsFrontOf, Answers, AreSafe, Event, FileState, Grows, History, IsSafe, StaysSafe, Tells, after, after_all, kept_in}
-use Rattle.rubis_keep.specs.History.{HasDone, HasKept, IsShown, TellsFront, KeepsLines, Says, log_of, now, out_in, records_in, told_of}
+use Rattle.rubis_keep.specs.History.{IsFrontOf, Answers, AreSafe, FolderEvent, FileState, Grows, History, IsSafe, StaysSafe, Tells, after_file_event, after_file_events, kept_in}
+use Rattle.rubis_keep.specs.History.{HasDone, HasKept, IsShown, TellsFront, KeepsLines, Says, log_if_kept, now, out_in, records_in, told_of}
 use Rattle.std.specs.Io.KnownBytes.{Consumes, Appends, Keeps}
 use Rattle.rubis_engine.proofs.RunFacts.{take-more, more-bound}
-use Rattle.rubis_keep.specs.History.Event.{Flushed, Kept, Shown, Told}
-use Rattle.rubis_keep.specs.Lines.{AreSound}
+use Rattle.rubis_keep.specs.History.FolderEvent.{Flushed, Kept, Shown, Told}
+use Rattle.rubis_keep.specs.Lines.{HasSoundLines}
 use Rattle.rubis_keep.specs.Telling.{answers-append, grows-more, grows-none, tells-more, told-append}
 use Rattle.rubis_keep.proofs.SoundFacts.{sound-front}
 
@@ -101,11 +101,11 @@ consumes-front o mid new at n text found f g e =
 
 -- ---- histories that grow
 
-pub after-append : (s : FileState) (xs ys : List Event) → after_all s (xs ++ ys) ≡ after_all (after_all s xs) ys
+pub after-append : (s : FileState) (xs ys : List FolderEvent) → after_file_events s (xs ++ ys) ≡ after_file_events (after_file_events s xs) ys
 after-append s [] ys = refl
-after-append s (e ∷ xs) ys = after-append (after s e) xs ys
+after-append s (e ∷ xs) ys = after-append (after_file_event s e) xs ys
 
-pub now-more : (h : History) {h2 : History} (es : List Event) → h2 ≡ record { start = h.start; events = h.events ++ es } → now h2 ≡ after_all (now h) es
+pub now-more : (h : History) {h2 : History} (es : List FolderEvent) → h2 ≡ record { start = h.start; events = h.events ++ es } → now h2 ≡ after_file_events (now h) es
 now-more h es e = ap now e ∙ after-append h.start h.events es
 
 -- ---- answers
@@ -118,13 +118,13 @@ pub record OnlyTells (s s2 : FileState) (text : List ℕ) : Type 0 where
   pub begun : s2.begun ≡ s.begun
   pub out : s2.out ≡ s.out ++ text
 
-pub only-tells : (live : Bool) (es : List Event) (due due2 : List ℕ) (s : FileState) → Answers live es due due2 → OnlyTells s (after_all s es) (told_of es)
+pub only-tells : (live : Bool) (es : List FolderEvent) (due due2 : List ℕ) (s : FileState) → Answers live es due due2 → OnlyTells s (after_file_events s es) (told_of es)
 only-tells live [] due due2 s a = record { kept = refl; flushed = refl; cut = refl; begun = refl; out = sym (append-nil s.out) }
 only-tells live (Told b ∷ es) due due2 s a =
-    let r = only-tells live es (cond live (due ++ b ∷ []) due) due2 (after s (Told b)) a in
+    let r = only-tells live es (cond live (due ++ b ∷ []) due) due2 (after_file_event s (Told b)) a in
     record { kept = r.kept; flushed = r.flushed; cut = r.cut; begun = r.begun; out = r.out ∙ append_assoc s.out (b ∷ []) (told_of es) }
 only-tells live (Shown b ∷ es) due due2 s a =
-    let r = only-tells live es a.0 due2 (after s (Shown b)) a.2 in
+    let r = only-tells live es a.0 due2 (after_file_event s (Shown b)) a.2 in
     record { kept = r.kept; flushed = r.flushed; cut = r.cut; begun = r.begun; out = r.out }
 only-tells live (e ∷ es) due due2 s a = absurd a
 
@@ -149,17 +149,17 @@ answers-shown (b ∷ text) due = (text ++ due, refl, answers-shown text due)
 
 -- ---- safe at each moment
 
-pub safe-first : (says : Says) (s : FileState) (es : List Event) → AreSafe says s es → IsSafe says.text s
+pub safe-first : (says : Says) (s : FileState) (es : List FolderEvent) → AreSafe says s es → IsSafe says.text s
 safe-first says s [] h = h
 safe-first says s (e ∷ es) h = h.0
 
-pub safe-last : (says : Says) (s : FileState) (es : List Event) → AreSafe says s es → IsSafe says.text (after_all s es)
+pub safe-last : (says : Says) (s : FileState) (es : List FolderEvent) → AreSafe says s es → IsSafe says.text (after_file_events s es)
 safe-last says s [] h = h
-safe-last says s (e ∷ es) h = safe-last says (after s e) es h.2
+safe-last says s (e ∷ es) h = safe-last says (after_file_event s e) es h.2
 
-pub safe-append : (says : Says) (s : FileState) (xs ys : List Event) → AreSafe says s xs → AreSafe says (after_all s xs) ys → AreSafe says s (xs ++ ys)
+pub safe-append : (says : Says) (s : FileState) (xs ys : List FolderEvent) → AreSafe says s xs → AreSafe says (after_file_events s xs) ys → AreSafe says s (xs ++ ys)
 safe-append says s [] ys h k = k
-safe-append says s (e ∷ xs) ys h k = (h.0, h.1, safe-append says (after s e) xs ys h.2 k)
+safe-append says s (e ∷ xs) ys h k = (h.0, h.1, safe-append says (after_file_event s e) xs ys h.2 k)
 
 pub stays-none : (says : Says) (h : History) → IsSafe says.text (now h) → StaysSafe says (Some h) (Some h)
 stays-none says h safe = ([], grows-none (Some h), safe)
@@ -184,40 +184,40 @@ due-shown live s due d = subst (λ b. MatchBool b (IsFrontOf s.shown s.out) (s.s
     go true e = (due, e)
     go false e = e.0
 
-due-told : (live : Bool) (s : FileState) (due : List ℕ) (b : ℕ) → IsDue live s due → IsDue live (after s (Told b)) (cond live (due ++ b ∷ []) due)
+due-told : (live : Bool) (s : FileState) (due : List ℕ) (b : ℕ) → IsDue live s due → IsDue live (after_file_event s (Told b)) (cond live (due ++ b ∷ []) due)
 due-told true s due b d = (d.0, sym (append_assoc s.shown due (b ∷ [])) ∙ ap (λ t. t ++ b ∷ []) d.1)
 due-told false s due b d = d
 
-due-more : (live : Bool) (s : FileState) {due rest : List ℕ} {b : ℕ} → due ≡ b ∷ rest → IsDue live s due → IsDue live (after s (Shown b)) rest
+due-more : (live : Bool) (s : FileState) {due rest : List ℕ} {b : ℕ} → due ≡ b ∷ rest → IsDue live s due → IsDue live (after_file_event s (Shown b)) rest
 due-more true s {rest} {b} e d = (d.0, append_assoc s.shown (b ∷ []) rest ∙ ap (λ t. s.shown ++ t) (sym e) ∙ d.1)
 due-more false s e d = absurd (cc (d.1.1, e))
 
-pub due-after : (live : Bool) (es : List Event) (due due2 : List ℕ) (s : FileState) → Answers live es due due2 → IsDue live s due
-    → IsDue live (after_all s es) due2
+pub due-after : (live : Bool) (es : List FolderEvent) (due due2 : List ℕ) (s : FileState) → Answers live es due due2 → IsDue live s due
+    → IsDue live (after_file_events s es) due2
 due-after live [] due due2 s a d = subst (IsDue live s) (sym a) d
-due-after live (Told b ∷ es) due due2 s a d = due-after live es (cond live (due ++ b ∷ []) due) due2 (after s (Told b)) a (due-told live s due b d)
-due-after live (Shown b ∷ es) due due2 s a d = due-after live es a.0 due2 (after s (Shown b)) a.2 (due-more live s a.1 d)
+due-after live (Told b ∷ es) due due2 s a d = due-after live es (cond live (due ++ b ∷ []) due) due2 (after_file_event s (Told b)) a (due-told live s due b d)
+due-after live (Shown b ∷ es) due due2 s a d = due-after live es a.0 due2 (after_file_event s (Shown b)) a.2 (due-more live s a.1 d)
 due-after live (e ∷ es) due due2 s a d = absurd a
 
-safe-here : (text : List (List (List ℕ)) → List ℕ) (live : Bool) (due rest : List ℕ) (s : FileState) → AreSound [] (s.kept ++ s.cut)
+safe-here : (text : List (List (List ℕ)) → List ℕ) (live : Bool) (due rest : List ℕ) (s : FileState) → HasSoundLines [] (s.kept ++ s.cut)
     → IsFrontOf s.flushed s.kept → IsDue live s due → IsFrontOf (s.out ++ rest) (text (records_in s.flushed)) → IsSafe text s
 safe-here text live due rest s sound flushed d (more, e) =
     record { sound = sound; flushed = flushed; told = (rest ++ more, sym (append_assoc s.out rest more) ∙ e); shown = due-shown live s due d }
 
 -- what is told is the next of the text of the records that were flushed
-pub safe-answers : (says : Says) (live : Bool) (es : List Event) (due due2 : List ℕ) (s : FileState) → Answers live es due due2 → AreSound [] (s.kept ++ s.cut)
+pub safe-answers : (says : Says) (live : Bool) (es : List FolderEvent) (due due2 : List ℕ) (s : FileState) → Answers live es due due2 → HasSoundLines [] (s.kept ++ s.cut)
     → IsFrontOf s.flushed s.kept → IsDue live s due → IsFrontOf (s.out ++ told_of es) (says.text (records_in s.flushed)) → AreSafe says s es
 safe-answers says live [] due due2 s a sound flushed d f = safe-here says.text live due [] s sound flushed d f
 safe-answers says live (Told b ∷ es) due due2 s a sound flushed d f = (
   safe-here says.text live due (b ∷ told_of es) s sound flushed d f,
   tt,
-  safe-answers says live es (cond live (due ++ b ∷ []) due) due2 (after s (Told b)) a sound flushed (due-told live s due b d)
+  safe-answers says live es (cond live (due ++ b ∷ []) due) due2 (after_file_event s (Told b)) a sound flushed (due-told live s due b d)
       (f.0, ap (λ t. t ++ f.0) (append_assoc s.out (b ∷ []) (told_of es)) ∙ f.1),
 )
 safe-answers says live (Shown b ∷ es) due due2 s a sound flushed d f = (
   safe-here says.text live due (told_of es) s sound flushed d f,
   tt,
-  safe-answers says live es a.0 due2 (after s (Shown b)) a.2 sound flushed (due-more live s a.1 d) f,
+  safe-answers says live es a.0 due2 (after_file_event s (Shown b)) a.2 sound flushed (due-more live s a.1 d) f,
 )
 safe-answers says live (e ∷ es) due due2 s a sound flushed d f = absurd a
 
@@ -231,22 +231,22 @@ pub record OnlyKeeps (s s2 : FileState) (bytes : List ℕ) : Type 0 where
   pub shown : s2.shown ≡ s.shown
   pub out : s2.out ≡ s.out
 
-pub only-keeps : (bytes : List ℕ) (s : FileState) → OnlyKeeps s (after_all s (map (λ b. Kept b) bytes)) bytes
+pub only-keeps : (bytes : List ℕ) (s : FileState) → OnlyKeeps s (after_file_events s (map (λ b. Kept b) bytes)) bytes
 only-keeps [] s = record { kept = sym (append-nil s.kept); flushed = refl; cut = refl; begun = refl; shown = refl; out = refl }
 only-keeps (b ∷ bytes) s =
-    let r = only-keeps bytes (after s (Kept b)) in
+    let r = only-keeps bytes (after_file_event s (Kept b)) in
     record { kept = r.kept ∙ append_assoc s.kept (b ∷ []) bytes; flushed = r.flushed; cut = r.cut; begun = r.begun; shown = r.shown; out = r.out }
 
-pub safe-keeps : (says : Says) (bytes : List ℕ) {s : FileState} → IsSafe says.text s → IsShown s → s.cut ≡ [] → AreSound [] (s.kept ++ bytes)
+pub safe-keeps : (says : Says) (bytes : List ℕ) {s : FileState} → IsSafe says.text s → IsShown s → s.cut ≡ [] → HasSoundLines [] (s.kept ++ bytes)
     → AreSafe says s (map (λ b. Kept b) bytes)
 safe-keeps says [] safe shown none sound = safe
 safe-keeps says (b ∷ bytes) {s} safe shown none sound =
-    let all : AreSound [] ((s.kept ++ b ∷ []) ++ bytes) = subst (AreSound []) (sym (append_assoc s.kept (b ∷ []) bytes)) sound in (
+    let all : HasSoundLines [] ((s.kept ++ b ∷ []) ++ bytes) = subst (HasSoundLines []) (sym (append_assoc s.kept (b ∷ []) bytes)) sound in (
       safe,
       shown,
       safe-keeps says bytes (record {
-        sound = subst (λ c. AreSound [] ((s.kept ++ b ∷ []) ++ c)) (sym none)
-            (subst (AreSound []) (sym (append-nil (s.kept ++ b ∷ []))) (sound-front [] (s.kept ++ b ∷ []) bytes all));
+        sound = subst (λ c. HasSoundLines [] ((s.kept ++ b ∷ []) ++ c)) (sym none)
+            (subst (HasSoundLines []) (sym (append-nil (s.kept ++ b ∷ []))) (sound-front [] (s.kept ++ b ∷ []) bytes all));
         flushed = (safe.flushed.0 ++ b ∷ [], sym (append_assoc s.flushed safe.flushed.0 (b ∷ [])) ∙ ap (λ t. t ++ b ∷ []) safe.flushed.1);
         told = safe.told;
         shown = safe.shown;
@@ -263,13 +263,13 @@ tells-out live (Some h) (Some h2) {due} t =
 
 -- ---- what of them a run sees
 
-kept-all : (s : FileState) (bytes : List ℕ) → (after_all s (map (λ b. Kept b) bytes ++ Flushed ∷ [])).kept ≡ s.kept ++ bytes
+kept-all : (s : FileState) (bytes : List ℕ) → (after_file_events s (map (λ b. Kept b) bytes ++ Flushed ∷ [])).kept ≡ s.kept ++ bytes
 kept-all s bytes = ap (λ (t : FileState). t.kept) (after-append s (map (λ b. Kept b) bytes) (Flushed ∷ [])) ∙ (only-keeps bytes s).kept
 
-kept-same-out : (s : FileState) (bytes : List ℕ) → (after_all s (map (λ b. Kept b) bytes ++ Flushed ∷ [])).out ≡ s.out
+kept-same-out : (s : FileState) (bytes : List ℕ) → (after_file_events s (map (λ b. Kept b) bytes ++ Flushed ∷ [])).out ≡ s.out
 kept-same-out s bytes = ap (λ (t : FileState). t.out) (after-append s (map (λ b. Kept b) bytes) (Flushed ∷ [])) ∙ (only-keeps bytes s).out
 
-pub kept-log : (keeps : Bool) (a b : Option History) (lines : List ℕ) → KeepsLines keeps a b lines → Appends (log_of keeps a) (log_of keeps b) lines
+pub kept-log : (keeps : Bool) (a b : Option History) (lines : List ℕ) → KeepsLines keeps a b lines → Appends (log_if_kept keeps a) (log_if_kept keeps b) lines
 kept-log false a b lines k = tt
 kept-log true None b lines k = tt
 kept-log true (Some h) None lines (inl g) = absurd g
@@ -278,7 +278,7 @@ kept-log true (Some h) (Some h2) lines (inl g) = ap (λ (s : FileState). s.kept)
 kept-log true (Some h) (Some h2) lines (inr g) =
     ap (λ (s : FileState). s.kept) (now-more h [] g.0) ∙ sym (append-nil (now h).kept) ∙ ap (λ t. (now h).kept ++ t) (sym g.1)
 
-pub front-log : (a b : Option History) (bytes : List ℕ) → Grows a b (map (λ b. Kept b) bytes) → Appends (log_of true a) (log_of true b) bytes
+pub front-log : (a b : Option History) (bytes : List ℕ) → Grows a b (map (λ b. Kept b) bytes) → Appends (log_if_kept true a) (log_if_kept true b) bytes
 front-log None b bytes g = tt
 front-log (Some h) None bytes g = absurd g
 front-log (Some h) (Some h2) bytes g = ap (λ (s : FileState). s.kept) (now-more h _ g) ∙ (only-keeps bytes (now h)).kept
@@ -297,7 +297,7 @@ front-out None b bytes g = tt
 front-out (Some h) None bytes g = absurd g
 front-out (Some h) (Some h2) bytes g = ap (λ (s : FileState). s.out) (now-more h _ g) ∙ (only-keeps bytes (now h)).out
 
-pub tells-log : (keeps live : Bool) (a b : Option History) {text due : List ℕ} → Tells live a b text due → Keeps (log_of keeps a) (log_of keeps b)
+pub tells-log : (keeps live : Bool) (a b : Option History) {text due : List ℕ} → Tells live a b text due → Keeps (log_if_kept keeps a) (log_if_kept keeps b)
 tells-log false live a b t = tt
 tells-log true live None b t = tt
 tells-log true live (Some h) None t = absurd t.1
@@ -335,17 +335,17 @@ match-err P (Err x) e q = q
 
 -- ---- bytes that are written one part after the other
 
-map-append : (event : ℕ → Event) (xs ys : List ℕ) → map event (xs ++ ys) ≡ map event xs ++ map event ys
+map-append : (event : ℕ → FolderEvent) (xs ys : List ℕ) → map event (xs ++ ys) ≡ map event xs ++ map event ys
 map-append event [] ys = refl
 map-append event (x ∷ xs) ys = ap (λ t. event x ∷ t) (map-append event xs ys)
 
-pub grows-front : (a b c : Option History) (event : ℕ → Event) (at n : ℕ) (bytes : List ℕ) → Grows a b (map event (take at bytes))
+pub grows-front : (a b c : Option History) (event : ℕ → FolderEvent) (at n : ℕ) (bytes : List ℕ) → Grows a b (map event (take at bytes))
     → Grows b c (map event (take n (take (length bytes - at) (drop at bytes)))) → Grows a c (map event (take (at + n) bytes))
 grows-front a b c event at n bytes f g =
     subst (Grows a c) (sym (map-append event (take at bytes) (take n (take (length bytes - at) (drop at bytes)))) ∙ ap (map event) (take-more at n bytes))
     (grows-more a b c _ _ f g)
 
-pub grows-still : (a b c : Option History) (xs : List Event) → Grows a b xs → Grows b c [] → Grows a c xs
+pub grows-still : (a b c : Option History) (xs : List FolderEvent) → Grows a b xs → Grows b c [] → Grows a c xs
 grows-still a b c xs f g = subst (Grows a c) (append-nil xs) (grows-more a b c xs [] f g)
 
 pub kept-end : {T E : Type 0} (a b c : Option History) (r : Result T E) (lines : List ℕ) (at : ℕ) → length lines ≤ at → at ≤ length lines
@@ -371,7 +371,7 @@ tells-front live a b c at text l f (n, m, due, t) = (at + n, more-bound at n tex
 abbrev pub IsStill : Option History → Option History → Type 0
 IsStill a b = Keeps (kept_in a) (kept_in b) × Keeps (out_in a) (out_in b)
 
-pub still-by : (a b : Option History) (es : List Event) → Grows a b es → ((s : FileState) → ((after_all s es).kept ≡ s.kept) × ((after_all s es).out ≡ s.out))
+pub still-by : (a b : Option History) (es : List FolderEvent) → Grows a b es → ((s : FileState) → ((after_file_events s es).kept ≡ s.kept) × ((after_file_events s es).out ≡ s.out))
     → IsStill a b
 still-by None b es g h = (tt, tt)
 still-by (Some x) None es g h = absurd g

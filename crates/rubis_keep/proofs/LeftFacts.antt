@@ -2,17 +2,17 @@
 use Rattle.std.proofs.Common.{◌≡◌, ◌≢◌, ◌<◌, ◌≤◌, ◌+◌, ◌∷◌, Bool, true, false, ◌-◌, zero, suc, ◌∙◌, ◌++◌, [], ℕ, List, arith, length, Option, Some, None, drop, take, refl, sym, ap, append_assoc}
 use Rattle.std.proofs.lemmas.List.{drop-drop, drop-take, length-take, take-append-drop}
 use Rattle.std.specs.Io.KnownBytes.{Consumes, IsAtEnd}
-use Rattle.rubis_keep.specs.Turns.{CameOrEnded, left_of}
+use Rattle.rubis_keep.specs.Turns.{CameOrEnded, left_to_read}
 
 -- more was read
-pub left-filled : (unread : List ℕ) (input input2 : Option (List ℕ)) → Consumes input input2 unread → Consumes (left_of [] input) (left_of unread input2) []
+pub left-filled : (unread : List ℕ) (input input2 : Option (List ℕ)) → Consumes input input2 unread → Consumes (left_to_read [] input) (left_to_read unread input2) []
 left-filled unread None input2 c = tt
 left-filled unread (Some xs) None c = absurd c
 left-filled unread (Some xs) (Some ys) c = c
 
 -- some of it was looked at
-pub left-taken : (unread : List ℕ) (n : ℕ) (input0 input : Option (List ℕ)) → Consumes input0 (left_of unread input) []
-    → Consumes input0 (left_of (drop n unread) input) (take n unread)
+pub left-taken : (unread : List ℕ) (n : ℕ) (input0 input : Option (List ℕ)) → Consumes input0 (left_to_read unread input) []
+    → Consumes input0 (left_to_read (drop n unread) input) (take n unread)
 left-taken unread n None input c = tt
 left-taken unread n (Some xs) None c = absurd c
 left-taken unread n (Some xs) (Some ys) c = c ∙ ap (λ t. t ++ ys) (sym (take-append-drop n unread)) ∙ append_assoc (take n unread) (drop n unread) ys
@@ -33,7 +33,7 @@ pub drop-none : (n : ℕ) → drop n none-of ≡ []
 drop-none zero = refl
 drop-none (suc n) = refl
 
-pub left-end : {unread : List ℕ} (input : Option (List ℕ)) → unread ≡ [] → IsAtEnd input → IsAtEnd (left_of unread input)
+pub left-end : {unread : List ℕ} (input : Option (List ℕ)) → unread ≡ [] → IsAtEnd input → IsAtEnd (left_to_read unread input)
 left-end None e end = tt
 left-end (Some xs) e end = ap (λ t. t ++ xs) e ∙ end
 

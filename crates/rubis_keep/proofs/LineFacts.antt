@@ -3,10 +3,11 @@ use Rattle.rubis_keep.proofs.Common.{◌≡◌, ◌==◌, ◌∷◌, [], ℕ, Bo
 use Rattle.rubis_keep.proofs.Common.{leb, get_or, length, take, sym, arith, append_assoc, length-append, step, default_config, State, length-take}
 use Rattle.rubis_keep.proofs.Common.{length-take-le, take_all, take_more, take-append-le}
 use Rattle.std.proofs.Common.{◌||◌}
-use Rattle.std.specs.List.{list_any}
-use Rattle.std.proofs.lemmas.Bool.{leb-true, leb-false, lt-leb}
+use Rattle.std.specs.List.{list_any, starts_with}
+use Rattle.std.specs.Prelude.{codes, nat_eq}
+use Rattle.std.proofs.lemmas.Bool.{cond_both, le-leb, leb-true, leb-false, lt-leb}
 use Rattle.csv.specs.declared.parser.State.TheVariants as st
-use Rattle.rubis_keep.specs.Lines.{closes, is_quoted, state_after, begun_bytes, begun_after, is_question, is_sound, kept_after, kept_line, kept_record}
+use Rattle.rubis_keep.specs.Lines.{closes_quotes, is_quoted, state_after, begun_bytes, begun_after, is_question, is_sound, kept_after, kept_line, kept_record, line_limit}
 
 -- a quote, and whether one is among these bytes
 abbrev is_quote : ℕ → Bool
@@ -56,7 +57,7 @@ line-outside s (c ∷ line) p e =
     let parts = neither (is_quote c) (has_quote line) e in
     line-outside (step default_config s c).0 line (step-outside s c p parts.0) parts.1
 
-pub plain_closes : (line : List ℕ) → has_quote line ≡ false → closes line ≡ true
+pub plain_closes : (line : List ℕ) → has_quote line ≡ false → closes_quotes line ≡ true
 plain_closes line e = ap not (outside-closes (state_after st.StartRecord line) (line-outside st.StartRecord line refl e))
 
 -- ---- how the lines of an input go on
@@ -97,21 +98,37 @@ begun_take_more line xs i h = ap (begun_after line) (take_more xs i 0 h) ∙ beg
 
 -- ---- the first bytes of a line say what is kept of it
 
-begun-short : (line : List ℕ) → length line ≤ 4096 → begun_bytes line ≡ line
-begun-short line h = take_all 4097 line (omega arith)
+begun-short : (line : List ℕ) → length line ≤ 4613 → begun_bytes line ≡ line
+begun-short line h = take_all 4614 line (omega arith)
 
-not-sound : (line : List ℕ) → 4096 < length line → is_sound line ≡ false
-not-sound line h = rw (lt-leb (length line) 4096 h) refl
+-- how long a line may be, by whether it begins with `key,`
+pub short_line : (b : Bool) (n : ℕ) → n ≤ 4096 → leb n (cond b 4613 4096) ≡ true
+short_line true n h = le-leb n 4613 (omega (arith, h))
+short_line false n h = le-leb n 4096 h
 
-begun-length : (line : List ℕ) → 4096 < length line → length (begun_bytes line) ≡ 4097
-begun-length line h = length-take-le 4097 line (omega arith)
+pub keyed_line : (b : Bool) (n : ℕ) → 4096 < n → n ≤ 4613 → leb n (cond b 4613 4096) ≡ b
+keyed_line true n h k = le-leb n 4613 k
+keyed_line false n h k = lt-leb n 4096 h
+
+pub long_line : (b : Bool) (n : ℕ) → 4613 < n → leb n (cond b 4613 4096) ≡ false
+long_line true n h = lt-leb n 4613 h
+long_line false n h = lt-leb n 4096 (omega (arith, h))
+
+limit-most : (line : List ℕ) → line_limit line ≤ 4613
+limit-most line = cond_both (starts_with nat_eq line (codes "key,")) 4613 4096 (λ n. n ≤ 4613) (λ _. omega arith) (λ _. omega arith)
+
+not-sound : (line : List ℕ) → 4613 < length line → is_sound line ≡ false
+not-sound line h = let most = limit-most line in rw (lt-leb (length line) (line_limit line) (omega (arith, h, most))) refl
+
+begun-length : (line : List ℕ) → 4613 < length line → length (begun_bytes line) ≡ 4614
+begun-length line h = length-take-le 4614 line (omega arith)
 
 pub record_begun : (line : List ℕ) → kept_record (begun_bytes line) ≡ kept_record line
 record_begun line =
-    elim (leb (length line) 4096) as (λ t. leb (length line) 4096 ≡ t → kept_record (begun_bytes line) ≡ kept_record line) [
-      | true ↦ λ e. ap kept_record (begun-short line (leb-true (length line) 4096 e))
+    elim (leb (length line) 4613) as (λ t. leb (length line) 4613 ≡ t → kept_record (begun_bytes line) ≡ kept_record line) [
+      | true ↦ λ e. ap kept_record (begun-short line (leb-true (length line) 4613 e))
       | false ↦ λ e.
-          let long = leb-false (length line) 4096 e in
+          let long = leb-false (length line) 4613 e in
           let size = begun-length line long in
           rw (not-sound (begun_bytes line) (omega (arith, size)), not-sound line long) refl
     ] refl
@@ -125,30 +142,30 @@ kept_begun asks line = rw (question_begun line, record_begun line) refl
 
 pub sound_begun : (line : List ℕ) → is_sound (begun_bytes line) ≡ is_sound line
 sound_begun line =
-    elim (leb (length line) 4096) as (λ t. leb (length line) 4096 ≡ t → is_sound (begun_bytes line) ≡ is_sound line) [
-      | true ↦ λ e. ap is_sound (begun-short line (leb-true (length line) 4096 e))
+    elim (leb (length line) 4613) as (λ t. leb (length line) 4613 ≡ t → is_sound (begun_bytes line) ≡ is_sound line) [
+      | true ↦ λ e. ap is_sound (begun-short line (leb-true (length line) 4613 e))
       | false ↦ λ e.
-          let long = leb-false (length line) 4096 e in
+          let long = leb-false (length line) 4613 e in
           let size = begun-length line long in
           rw (not-sound (begun_bytes line) (omega (arith, size)), not-sound line long) refl
     ] refl
 
-pub begun_more : (line : List ℕ) (b : ℕ) → length (begun_bytes line) ≤ 4096 → begun_bytes (line ++ b ∷ []) ≡ begun_bytes line ++ b ∷ []
+pub begun_more : (line : List ℕ) (b : ℕ) → length (begun_bytes line) ≤ 4613 → begun_bytes (line ++ b ∷ []) ≡ begun_bytes line ++ b ∷ []
 begun_more line b h =
-    let size = length-take 4097 line in
-    let short : length line ≤ 4096 = omega (arith, size, h) in
-    take_all 4097 (line ++ b ∷ []) (omega (arith, length-append line (b ∷ []), short)) ∙ ap (λ l. l ++ b ∷ []) (sym (begun-short line short))
+    let size = length-take 4614 line in
+    let short : length line ≤ 4613 = omega (arith, size, h) in
+    take_all 4614 (line ++ b ∷ []) (omega (arith, length-append line (b ∷ []), short)) ∙ ap (λ l. l ++ b ∷ []) (sym (begun-short line short))
 
-pub begun_full : (line : List ℕ) (b : ℕ) → 4096 < length (begun_bytes line) → begun_bytes (line ++ b ∷ []) ≡ begun_bytes line
+pub begun_full : (line : List ℕ) (b : ℕ) → 4613 < length (begun_bytes line) → begun_bytes (line ++ b ∷ []) ≡ begun_bytes line
 begun_full line b h =
-    let size = length-take 4097 line in
-    take-append-le 4097 line (b ∷ []) (omega (arith, size, h))
+    let size = length-take 4614 line in
+    take-append-le 4614 line (b ∷ []) (omega (arith, size, h))
 
-pub begun-pushed : (line : List ℕ) {begun new : List ℕ} (b : ℕ) → begun ≡ begun_bytes line → length begun ≤ 4096 → new ≡ begun ++ b ∷ []
+pub begun-pushed : (line : List ℕ) {begun new : List ℕ} (b : ℕ) → begun ≡ begun_bytes line → length begun ≤ 4613 → new ≡ begun ++ b ∷ []
     → new ≡ begun_bytes (line ++ b ∷ [])
 begun-pushed line b h l e = e ∙ ap (λ t. t ++ b ∷ []) h ∙ sym (begun_more line b (rw h at l))
 
-pub begun-stays : (line : List ℕ) {begun : List ℕ} (b : ℕ) → begun ≡ begun_bytes line → 4096 < length begun → begun ≡ begun_bytes (line ++ b ∷ [])
+pub begun-stays : (line : List ℕ) {begun : List ℕ} (b : ℕ) → begun ≡ begun_bytes line → 4613 < length begun → begun ≡ begun_bytes (line ++ b ∷ [])
 begun-stays line b h l = h ∙ sym (begun_full line b (rw h at l))
 
 and_true : (b : Bool) → (b && true) ≡ b

@@ -8,7 +8,7 @@ use Rattle.rubis_engine.specs.Accounts.{AnswersRecord}
 use Rattle.rubis_engine.specs.declared.service.Course.{Course}
 use Rattle.rubis_engine.specs.declared.service.Course.TheVariants.{Ends, GoesOn}
 use lib.Seq.{take-nil}
-use Rattle.rubis_keep.specs.Turns.{CountsOn, HasPut, HasTorn, HasTornOff, IsOver, IsUnlike, Puts, PutsFront, PutsOver}
+use Rattle.rubis_keep.specs.Turns.{CountsOn, HasPut, HasTorn, HasTornOff, IsPutOver, IsUnlike, Puts, PutsFront, PutsOver}
 use Rattle.rubis_keep.specs.Faults.{HasDifference, Found, MayDiffer, TellsLine, ends_in}
 use Rattle.rubis_keep.specs.Outlets.{counts-none, front-none, off-at, off-later, off-longer, over-no_text, put-more}
 use Rattle.rubis_keep.specs.Telling.{tells-more, tells-none}
@@ -40,7 +40,7 @@ found-over (Some old) (Some left) {n} text (l, taken, end) = (
 )
 
 -- some first bytes of what was to be added were
-over-front : (old left added text : List ℕ) (m : ℕ) → IsOver old left added text → (take m added ≡ []) ⊎ IsFrontOf (old ++ take m added) text
+over-front : (old left added text : List ℕ) (m : ℕ) → IsPutOver old left added text → (take m added ≡ []) ⊎ IsFrontOf (old ++ take m added) text
 over-front old left added text m (e, inl none) = inl (ap (take m) none ∙ take-nil m)
 over-front old left added text m (e, inr none) = inr (
   drop m added,
@@ -92,7 +92,7 @@ empty-is (x ∷ xs) none = let no = (Decides-eqb (length (x ∷ xs)) 0).0 none i
 -- ---- what comes behind it
 
 -- what was added so far and then some of what comes begins all of it
-front-later : (old left added added2 text all rest : List ℕ) → IsOver old left added text → all ≡ text ++ rest
+front-later : (old left added added2 text all rest : List ℕ) → IsPutOver old left added text → all ≡ text ++ rest
     → (added2 ≡ []) ⊎ IsFrontOf (left ++ added2) rest → (added ++ added2 ≡ []) ⊎ IsFrontOf (old ++ (added ++ added2)) all
 front-later old left added added2 text all rest (e, one) is (inr (later, g)) = inr (
   later,

@@ -1,13 +1,13 @@
 -- The questions that a run answers, turn by turn, are those of its input.
 use Rattle.rubis_keep.proofs.Common.{◌≡◌, ◌∙◌, ◌⊎◌, inl, inr, ◌++◌, ◌∷◌, [], ℕ, Bool, true, false, List, Option, cond, map, take, refl, sym, ap}
-use Rattle.rubis_keep.proofs.Common.{subst, append_assoc, append-nil, Consumes, Place, Replica, Account}
+use Rattle.rubis_keep.proofs.Common.{subst, append_assoc, append-nil, Consumes, Place, KeyedSite, Account}
 use Rattle.rubis_keep.specs.Telling.{grows-more, grows-none}
 use Rattle.rubis_keep.specs.Turns.{Answering, Answered, Broke, IsAtRest, Standing, Turn, Turns, last, replied_to}
 use Rattle.rubis_keep.specs.Questions.{AreFirst, Reply, replied_in, reply_to, reply_rows, reply_text}
 use Rattle.rubis_keep.specs.Lines.{asked_by, Asked, asked_after, begun_after, kept_after, begun_bytes}
-use Rattle.rubis_keep.specs.History.{Event, Grows, History}
-use Rattle.rubis_keep.specs.History.Event.{Replied}
-use Rattle.rubis_keep.specs.Lives.{HasAnswered}
+use Rattle.rubis_keep.specs.History.{FolderEvent, Grows, History}
+use Rattle.rubis_keep.specs.History.FolderEvent.{Replied}
+use Rattle.rubis_keep.specs.Lives.{HasAnsweredKept}
 use Rattle.rubis_keep.specs.declared.fault.KeepFault.{KeepFault}
 use Rattle.rubis_keep.proofs.AskFacts.{IsSilent, front-silent, kept-silent, replied-append, silent-more, tells-silent}
 use Rattle.rubis_keep.proofs.SoundFacts.{asked-append}
@@ -21,22 +21,22 @@ map-append f [] ys = refl
 map-append f (x ∷ xs) ys = ap (λ r. f x ∷ r) (map-append f xs ys)
 
 -- a run that stands there, with `kept` kept and answered, and `line` begun
-pub record Stood (all : Account) (p : Place) (s : Replica) (x : Standing) (told kept line : List ℕ) : Type 0 where
-  pub answered : HasAnswered all p s x.at told kept
+pub record Stood (all : Account) (p : Place) (s : KeyedSite) (x : Standing) (told kept line : List ℕ) : Type 0 where
+  pub answered : HasAnsweredKept all p s x.at told kept
   pub begun : x.begun ≡ begun_bytes line
   pub rests : IsAtRest x
 
 -- it read these bytes, and answered the questions of them, with what has happened since; and it stands here
-pub record Asks (all : Account) (p : Place) (s : Replica) (x y : Standing) (kept line : List ℕ) : Type 0 where
+pub record Asks (all : Account) (p : Place) (s : KeyedSite) (x y : Standing) (kept line : List ℕ) : Type 0 where
   pub bytes : List ℕ
   pub taken : Consumes x.input y.input bytes
   pub told2 : List ℕ
   pub stood : Stood all p s y told2 (kept ++ kept_after true line bytes) (begun_after line bytes)
-  pub events : List Event
+  pub events : List FolderEvent
   pub grows : Grows x.history y.history events
   pub replied : replied_in events ≡ map (reply_to p s) (asked_after true kept line bytes)
 
-asks-none : {all : Account} {p : Place} {s : Replica} {x : Standing} {told kept line : List ℕ} → Stood all p s x told kept line → Asks all p s x x kept line
+asks-none : {all : Account} {p : Place} {s : KeyedSite} {x : Standing} {told kept line : List ℕ} → Stood all p s x told kept line → Asks all p s x x kept line
 asks-none {all} {p} {s} {x} {told} {kept} {line} h = record {
   bytes = [];
   taken = consumes-none x.input;
@@ -48,12 +48,12 @@ asks-none {all} {p} {s} {x} {told} {kept} {line} h = record {
 }
 
 -- the questions of two texts
-pub asks-both : (p : Place) (s : Replica) (kept line xs ys : List ℕ) → map (reply_to p s) (asked_after true kept line (xs ++ ys))
+pub asks-both : (p : Place) (s : KeyedSite) (kept line xs ys : List ℕ) → map (reply_to p s) (asked_after true kept line (xs ++ ys))
     ≡ map (reply_to p s) (asked_after true kept line xs) ++ map (reply_to p s) (asked_after true (kept ++ kept_after true line xs) (begun_after line xs) ys)
 asks-both p s kept line xs ys = ap (map (reply_to p s)) (asked-append true kept line xs ys)
     ∙ map-append (reply_to p s) (asked_after true kept line xs) (asked_after true (kept ++ kept_after true line xs) (begun_after line xs) ys)
 
-asks-more : {all : Account} {p : Place} {s : Replica} {x y z : Standing} {kept line : List ℕ} → (a : Asks all p s x y kept line)
+asks-more : {all : Account} {p : Place} {s : KeyedSite} {x y z : Standing} {kept line : List ℕ} → (a : Asks all p s x y kept line)
     → Asks all p s y z (kept ++ kept_after true line a.bytes) (begun_after line a.bytes) → Asks all p s x z kept line
 asks-more {all} {p} {s} {x} {y} {z} {kept} {line} a b = record {
   bytes = a.bytes ++ b.bytes;
@@ -72,16 +72,16 @@ asks-more {all} {p} {s} {x} {y} {z} {kept} {line} a b = record {
 -- ---- a turn
 
 -- its lines are kept and answered, but for the question
-record AsksLines (all : Account) (p : Place) (s : Replica) (x y : Standing) (kept line : List ℕ) (asked : Bool) (question : List ℕ) : Type 0 where
+record AsksLines (all : Account) (p : Place) (s : KeyedSite) (x y : Standing) (kept line : List ℕ) (asked : Bool) (question : List ℕ) : Type 0 where
   bytes : List ℕ
   taken : Consumes x.input y.input bytes
   told2 : List ℕ
-  answered : HasAnswered all p s y.at told2 (kept ++ kept_after true line bytes)
+  answered : HasAnsweredKept all p s y.at told2 (kept ++ kept_after true line bytes)
   begun : y.begun ≡ begun_bytes (begun_after line bytes)
   silent : IsSilent x.history y.history
   asks_it : map (reply_to p s) (asked_after true kept line bytes) ≡ map (reply_to p s) (asked_by asked (kept ++ kept_after true line bytes) question)
 
-asks-lines : {all : Account} {p : Place} {s : Replica} {x y : Standing} {told kept line question : List ℕ} {asked : Bool} → Stood all p s x told kept line
+asks-lines : {all : Account} {p : Place} {s : KeyedSite} {x y : Standing} {told kept line question : List ℕ} {asked : Bool} → Stood all p s x told kept line
     → Answered true x y asked question → AsksLines all p s x y kept line asked question
 asks-lines {all} {p} {s} {x} {y} {told} {kept} {line} {question} {asked} h a =
     let cut = a.reads.cuts line h.begun in
@@ -90,24 +90,24 @@ asks-lines {all} {p} {s} {x} {y} {told} {kept} {line} {question} {asked} h a =
       bytes = a.reads.bytes;
       taken = a.reads.taken;
       told2 = told ++ a.text;
-      answered = subst (λ c. HasAnswered all p s y.at (told ++ a.text) (kept ++ c)) cut.keeps answered;
+      answered = subst (λ c. HasAnsweredKept all p s y.at (told ++ a.text) (kept ++ c)) cut.keeps answered;
       begun = cut.begins;
       silent = silent-more x.history a.mid y.history (kept-silent true x.history a.mid a.chunk a.kept) (tells-silent x.at.is_live a.mid y.history a.told);
       asks_it = ap (map (reply_to p s)) (cut.questions kept);
     }
 
 -- the text that answers the question is what the site says there
-reply-is : {all : Account} {p : Place} {s : Replica} {a : Answering} {told kept : List ℕ} (question : List ℕ) → HasAnswered all p s a told kept
+reply-is : {all : Account} {p : Place} {s : KeyedSite} {a : Answering} {told kept : List ℕ} (question : List ℕ) → HasAnsweredKept all p s a told kept
     → replied_to a question ≡ (reply_to p s (record { kept = kept; question = question })).text
-reply-is question h = λ i. reply_text (reply_rows (h.place i) (h.state i) (h.count i) question)
+reply-is question h = λ i. reply_text (reply_rows (h.place i) (h.state i).site (h.count i) question)
 
 -- what is replied to the question, if one was asked, is owed
-replied-owed : {all : Account} {p : Place} {s : Replica} {a : Answering} {told kept : List ℕ} (asked : Bool) (question : List ℕ)
-    → HasAnswered all p s a told kept → replied_in (cond asked (Replied question (replied_to a question) ∷ []) []) ≡ map (reply_to p s) (asked_by asked kept question)
+replied-owed : {all : Account} {p : Place} {s : KeyedSite} {a : Answering} {told kept : List ℕ} (asked : Bool) (question : List ℕ)
+    → HasAnsweredKept all p s a told kept → replied_in (cond asked (Replied question (replied_to a question) ∷ []) []) ≡ map (reply_to p s) (asked_by asked kept question)
 replied-owed true question h = ap (λ text. record { question = question; text = text } ∷ []) (reply-is question h)
 replied-owed false question h = refl
 
-asks-turn : {all : Account} {p : Place} {s : Replica} {x : Standing} (y : Standing) {told kept line : List ℕ} → Stood all p s x told kept line → Turn true x y
+asks-turn : {all : Account} {p : Place} {s : KeyedSite} {x : Standing} (y : Standing) {told kept line : List ℕ} → Stood all p s x told kept line → Turn true x y
     → Asks all p s x y kept line
 asks-turn {all} {p} {s} {x} y {kept} {line} h t =
     let l = asks-lines h t.answered in
@@ -119,7 +119,7 @@ asks-turn {all} {p} {s} {x} y {kept} {line} h t =
       taken = subst (λ (w : Standing). Consumes x.input w.input l.bytes) (sym t.same) l.taken;
       told2 = l.told2;
       stood = record {
-        answered = subst (λ (w : Standing). HasAnswered all p s w.at l.told2 now) (sym t.same) l.answered;
+        answered = subst (λ (w : Standing). HasAnsweredKept all p s w.at l.told2 now) (sym t.same) l.answered;
         begun = ap (λ (w : Standing). w.begun) t.same ∙ l.begun;
         rests = turn-rests t;
       };
@@ -128,7 +128,7 @@ asks-turn {all} {p} {s} {x} y {kept} {line} h t =
       replied = replied-append l.silent.0 events ∙ ap (λ r. r ++ replied_in events) l.silent.2 ∙ replied-owed t.asked t.question l.answered ∙ sym l.asks_it;
     }
 
-pub turns-ask : {all : Account} {p : Place} {s : Replica} (x : Standing) (ys : List Standing) {told kept line : List ℕ} → Stood all p s x told kept line
+pub turns-ask : {all : Account} {p : Place} {s : KeyedSite} (x : Standing) (ys : List Standing) {told kept line : List ℕ} → Stood all p s x told kept line
     → Turns true x ys → Asks all p s x (last x ys) kept line
 turns-ask x [] h none = asks-none h
 turns-ask x (y ∷ ys) h (t, later) =
@@ -138,10 +138,10 @@ turns-ask x (y ∷ ys) h (t, later) =
 -- ---- a fault
 
 -- it read these bytes, and answered the first questions of them, the last of which maybe in part
-pub record AsksFirst (p : Place) (s : Replica) (x : Standing) (input2 : Option (List ℕ)) (history2 : Option History) (kept line : List ℕ) : Type 0 where
+pub record AsksFirst (p : Place) (s : KeyedSite) (x : Standing) (input2 : Option (List ℕ)) (history2 : Option History) (kept line : List ℕ) : Type 0 where
   pub bytes : List ℕ
   pub taken : Consumes x.input input2 bytes
-  pub events : List Event
+  pub events : List FolderEvent
   pub grows : Grows x.history history2 events
   pub replied : AreFirst (replied_in events) (map (reply_to p s) (asked_after true kept line bytes))
 
@@ -160,7 +160,7 @@ pub first-more : (xs all more : List Reply) → AreFirst xs all → AreFirst xs 
 first-more xs all more (inl (rest, e)) = inl (rest ++ more, sym (append_assoc xs rest more) ∙ ap (λ t. t ++ more) e)
 first-more xs all more (inr (first, rest, r, n, e, f)) = inr (first, rest ++ more, r, n, e, sym (append_assoc first (r ∷ rest) more) ∙ ap (λ t. t ++ more) f)
 
-silent-first : (p : Place) (s : Replica) {x : Standing} (input2 : Option (List ℕ)) (history2 : Option History) (kept line bytes : List ℕ)
+silent-first : (p : Place) (s : KeyedSite) {x : Standing} (input2 : Option (List ℕ)) (history2 : Option History) (kept line bytes : List ℕ)
     → Consumes x.input input2 bytes → IsSilent x.history history2 → AsksFirst p s x input2 history2 kept line
 silent-first p s input2 history2 kept line bytes taken (events, g, none) = record {
   bytes = bytes;
@@ -170,7 +170,7 @@ silent-first p s input2 history2 kept line bytes taken (events, g, none) = recor
   replied = inl (map (reply_to p s) (asked_after true kept line bytes), ap (λ r. r ++ map (reply_to p s) (asked_after true kept line bytes)) none);
 }
 
-broke-first : {all : Account} {p : Place} {s : Replica} {x : Standing} (input2 : Option (List ℕ)) (history2 : Option History) {e : KeepFault}
+broke-first : {all : Account} {p : Place} {s : KeyedSite} {x : Standing} (input2 : Option (List ℕ)) (history2 : Option History) {e : KeepFault}
     {told kept line : List ℕ} → Stood all p s x told kept line → Broke true x input2 history2 e → AsksFirst p s x input2 history2 kept line
 broke-first {p} {s} {x} input2 history2 {kept = kept} {line = line} h (inl t) =
     silent-first p s input2 history2 kept line t.bytes t.taken (front-silent x.history history2 t.torn t.kept)
@@ -201,7 +201,7 @@ broke-first {all} {p} {s} {x} input2 history2 {kept = kept} {line = line} h (inr
           );
         }
 
-pub turns-ask-first : {all : Account} {p : Place} {s : Replica} (x : Standing) (ys : List Standing) (input2 : Option (List ℕ)) (history2 : Option History)
+pub turns-ask-first : {all : Account} {p : Place} {s : KeyedSite} (x : Standing) (ys : List Standing) (input2 : Option (List ℕ)) (history2 : Option History)
     {e : KeepFault} {told kept line : List ℕ} → Stood all p s x told kept line → Turns true x ys → Broke true (last x ys) input2 history2 e
     → AsksFirst p s x input2 history2 kept line
 turns-ask-first {p} {s} x ys input2 history2 {kept = kept} {line = line} h are broke =

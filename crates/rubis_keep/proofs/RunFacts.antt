@@ -1,22 +1,22 @@
 -- How a run goes from its start to its end, and what follows for whoever calls it.
 use Rattle.rubis_keep.proofs.Common.{◌≡◌, ◌⊎◌, inl, inr, ◌++◌, ◌∷◌, [], ℕ, Bool, true, false, List, Option, Some, None, IfSome, Result, Ok, Err, ap}
 use Rattle.rubis_keep.proofs.Common.{refl, subst, ◌∙◌, ◌≤◌, map, ◌+◌, length, suc, take, zero, sym, arith, IfErr, MatchResult, OnOk, OnErr, IsAtEnd}
-use Rattle.rubis_keep.proofs.Common.{Keeps, Consumes, counts, Place, Replica, append-nil, Account, AtEnd, input_records, site_account}
+use Rattle.rubis_keep.proofs.Common.{Keeps, Consumes, counts, Place, KeyedSite, append-nil, Account, AtEnd, input_records, keyed_account}
 use Rattle.rubis_keep.specs.Telling.{grows-more, grows-none}
-use Rattle.rubis_keep.specs.Turns.{Answering, IsIdle, Breaks, Ends, IsAtRest, Standing, left_of, answering, last}
+use Rattle.rubis_keep.specs.Turns.{Answering, HoldsNothing, Breaks, Ends, IsAtRest, Standing, left_to_read, clerk_at, last}
 use Rattle.rubis_keep.specs.Faults.{HasMore, MayDiffer, IsEditedAt, IsFailure, MayBeEdited, EndsTruly, IsTrueFault}
-use Rattle.rubis_keep.specs.History.{Grows, History, Event, FileState, IsShown, StaysSafe, Tells, after_all, kept_in, now, out_in, records_in, Ended, IsFrontOf}
+use Rattle.rubis_keep.specs.History.{Grows, History, FolderEvent, FileState, IsShown, StaysSafe, Tells, after_file_events, kept_in, now, out_in, records_in, Ended, IsFrontOf}
 use Rattle.rubis_keep.specs.History.{Lived, Opens}
-use Rattle.rubis_keep.specs.History.Event.{Began, CutTo, Flushed, Settled}
-use Rattle.rubis_keep.specs.Lines.{AreSound, asked_after, begun_after, kept_after, kept_of, whole_lines}
-use Rattle.rubis_keep.specs.Runs.{Begun, Fails, GoesOn, Replays, Runs, RunsInto, Starts, Unreplayed, starting, beginning}
+use Rattle.rubis_keep.specs.History.FolderEvent.{Began, CutTo, Flushed, Settled}
+use Rattle.rubis_keep.specs.Lines.{HasSoundLines, asked_after, begun_after, kept_after, kept_of_input, whole_lines}
+use Rattle.rubis_keep.specs.Runs.{Begun, Fails, GoesOn, IsKeptFailure, Replays, Runs, RunsInto, Starts, Unreplayed, starting, beginning}
 use Rattle.rubis_keep.specs.declared.fault.KeepFault.{KeepFault}
 use Rattle.rubis_keep.specs.declared.fault.KeepFault.TheVariants as fault
 use Rattle.rubis_keep.specs.declared.pages.Listed.{Listed}
 use Rattle.rubis_keep.proofs.HistoryFacts.{grows-still, consumes-none, some-is, now-more, stays-more, still-flushed, still-none, tells-log, tells-out}
 use lib.Seq.{take-nil}
 use Rattle.rubis_keep.specs.Questions.{AreFirst, RepliesTo, replied_in, replies, reply_to}
-use Rattle.rubis_keep.specs.Lives.{Found, HasReplayed, IsOpened, Rested}
+use Rattle.rubis_keep.specs.Lives.{Found, HasReplayed, IsAtStart, Rested}
 use Rattle.rubis_keep.specs.Saying.{says_by, says_of}
 use Rattle.rubis_keep.specs.declared.answers.Answers.{Answers}
 use Rattle.rubis_keep.specs.declared.site.Clerk.{Clerk}
@@ -28,7 +28,7 @@ use Rattle.rubis_keep.proofs.SafeFacts.{broke-safe, turns-safe, cut-kept, flushe
 use Rattle.rubis_keep.proofs.SoundFacts.{whole-sound, whole-whole}
 use Rattle.rubis_keep.proofs.TurnFacts.{Fell, Went, turns-fell, turns-went, went-fell}
 
-none-unread : {unread : List ℕ} (input : Option (List ℕ)) → unread ≡ [] → left_of unread input ≡ input
+none-unread : {unread : List ℕ} (input : Option (List ℕ)) → unread ≡ [] → left_to_read unread input ≡ input
 none-unread None e = refl
 none-unread (Some xs) e = ap (λ t. Some (t ++ xs)) e
 
@@ -62,12 +62,12 @@ fails-untold y input mid history2 e cut (inr g) fails =
     inl (3, grows-more y.history mid history2 (CutTo y.kept ∷ Flushed ∷ []) (Settled ∷ []) cut g, refl, fails)
 
 pub begun-again : (y : Standing) (input : Option (List ℕ)) (mid history : Option History) {unread begun : List ℕ} → IsAtRest y
-    → Grows y.history mid (CutTo y.kept ∷ Flushed ∷ []) → Grows mid history (Settled ∷ Began y.at.answered (counts y.at.place.sites y.at.state.log) ∷ [])
+    → Grows y.history mid (CutTo y.kept ∷ Flushed ∷ []) → Grows mid history (Settled ∷ Began y.at.answered (counts y.at.place.sites y.at.state.site.log) ∷ [])
     → unread ≡ [] → begun ≡ []
-    → Begun y input (record y { at = record y.at { is_live = true }; input = left_of unread input; history = history; begun = begun })
+    → Begun y input (record y { at = record y.at { is_live = true }; input = left_to_read unread input; history = history; begun = begun })
 begun-again y input mid history {unread} rests cut told none fresh = record {
   history = history;
-  happened = grows-more y.history mid history (CutTo y.kept ∷ Flushed ∷ []) (Settled ∷ Began y.at.answered (counts y.at.place.sites y.at.state.log) ∷ []) cut told;
+  happened = grows-more y.history mid history (CutTo y.kept ∷ Flushed ∷ []) (Settled ∷ Began y.at.answered (counts y.at.place.sites y.at.state.site.log) ∷ []) cut told;
   is = λ i. record y { at = record y.at { is_live = true }; input = none-unread input none i; history = history; begun = fresh i };
   rests = record {
     idle = record { window = rests.idle.window; empty = rests.idle.empty; within = rests.idle.within };
@@ -77,7 +77,7 @@ begun-again y input mid history {unread} rests cut told none fresh = record {
 }
 
 pub goes-on : {T : Type 0} (y : Standing) {z : Standing} (end : Standing) (input input2 : Option (List ℕ)) (unread : List ℕ) (r : Result T KeepFault) → Begun y input z
-    → end.input ≡ left_of unread input2 → MatchResult r (λ _. Ends true z end) (Breaks true z end.input end.history)
+    → end.input ≡ left_to_read unread input2 → MatchResult r (λ _. Ends true z end) (Breaks true z end.input end.history)
     → MatchResult r (λ _. GoesOn y input input2 end.history) (Fails y input input2 end.history)
 goes-on y {z} end input input2 unread (Ok u) b is e = (z, end, unread, b, e, is, refl)
 goes-on y {z} end input input2 unread (Err met) b is e = inr (z, unread, b, subst (λ i. Breaks true z i end.history met) is e)
@@ -91,12 +91,16 @@ begun-with past b = record { history = b.history; happened = b.happened; is = b.
 -- no line came yet
 pub none-came : (past : Option (List ℕ)) (a : Answering) (mid : Option History) {unread begun : List ℕ} {kept : ℕ} {listed : Option Listed}
     → (begun ≡ []) × (unread ≡ []) × (kept ≡ 0) × (listed ≡ None)
-    → record { at = a; input = left_of unread past; history = mid; begun = begun; kept = kept; listed = listed } ≡ starting a past mid
+    → record { at = a; input = left_to_read unread past; history = mid; begun = begun; kept = kept; listed = listed } ≡ starting a past mid
 none-came past a mid (fresh, none, len, unlisted) = λ i.
     record { at = a; input = none-unread past none i; history = mid; begun = fresh i; kept = len i; listed = unlisted i }
 
-pub starting-rests : (a : Answering) (past : Option (List ℕ)) (mid : Option History) → IsIdle a → IsAtRest (starting a past mid)
+pub starting-rests : (a : Answering) (past : Option (List ℕ)) (mid : Option History) → HoldsNothing a → IsAtRest (starting a past mid)
 starting-rests a past mid idle = record { idle = idle; begun = ([], tt, refl); listed = tt }
+
+pub kept-fails : (e : KeepFault) → IsKeptFailure e → IsFailure e
+kept-fails (fault.WriteKept e) h = tt
+kept-fails e h = absurd h
 
 failure-edited : (e : KeepFault) (P : ℕ → Type 0) → IsFailure e → MayBeEdited e P
 failure-edited (fault.Edited n) P h = absurd h
@@ -139,7 +143,7 @@ known : {kept : List ℕ} (a : Option History) → kept_in a ≡ Some kept → (
 known None e = absurd (cc e)
 known (Some h) e = (h, refl, cc e)
 
-grown : (h : History) (b : Option History) (es : List Event) → Grows (Some h) b es → (h2 : History) × (b ≡ Some h2) × (now h2 ≡ after_all (now h) es)
+grown : (h : History) (b : Option History) (es : List FolderEvent) → Grows (Some h) b es → (h2 : History) × (b ≡ Some h2) × (now h2 ≡ after_file_events (now h) es)
 grown h None es g = absurd g
 grown h (Some h2) es g = (h2, refl, now-more h es g)
 
@@ -147,7 +151,7 @@ grown h (Some h2) es g = (h2, refl, now-more h es g)
 
 -- the site begins with nothing done
 pub record IsNew (a : Answering) : Type 0 where
-  pub idle : IsIdle a
+  pub idle : HoldsNothing a
   pub none : a.answered ≡ 0
   pub uncounted : a.lines ≡ 0
 
@@ -175,7 +179,7 @@ log-start h mid o s = same-known (kept_in h) (kept_in mid) o.log_is (still-flush
 record Again (x : Standing) (kept old : List ℕ) (y : Standing) : Type 0 where
   replayed : HasReplayed (account_of x) x.at.place x.at.state y.at kept old (out_in y.history) y.kept
   log : kept_in y.history ≡ Some kept
-  sound : AreSound [] kept
+  sound : HasSoundLines [] kept
   added : List ℕ
   told : Tells x.at.is_live x.history y.history added []
   limit : y.at.limit ≡ x.at.limit
@@ -233,13 +237,13 @@ run-lived {x} {y} {kept} {old} {input} input2 new a (z, end, unread, b, e, is, h
     (lived old input2 unread (ready a b) w e.rests.idle is e.end a.replayed.found)
 
 -- some first events of the beginning cut the line that isn't whole off, or are none
-cut-first : (n : ℕ) (y : Standing) (s : FileState) → (n ≡ 0) ⊎ (((after_all s (take n (beginning y))).kept ≡ take y.kept s.kept) × ((after_all s (take n (beginning y))).out ≡ s.out))
+cut-first : (n : ℕ) (y : Standing) (s : FileState) → (n ≡ 0) ⊎ (((after_file_events s (take n (beginning y))).kept ≡ take y.kept s.kept) × ((after_file_events s (take n (beginning y))).out ≡ s.out))
 cut-first zero y s = inl refl
 cut-first (suc zero) y s = inr (refl, refl)
 cut-first (suc (suc zero)) y s = inr (refl, refl)
 cut-first (suc (suc (suc zero))) y s = inr (refl, refl)
 cut-first (suc (suc (suc (suc n)))) y s =
-    let all = ap (after_all (after_all s (beginning y))) (take-nil n) in
+    let all = ap (after_file_events (after_file_events s (beginning y))) (take-nil n) in
     inr (ap (λ (f : FileState). f.kept) all, ap (λ (f : FileState). f.out) all)
 
 -- a fault came once all was answered again, before the first new record
@@ -255,11 +259,11 @@ run-uncut {x} {y} {kept} {old} input new n a g =
     begins = answered-front a.replayed.answered
 
     go : (h2 : History) → new ≡ Some h2 → (h : History) → (now h).kept ≡ kept → Some (now h).out ≡ Some a.replayed.told
-        → now h2 ≡ after_all (now h) (take n (beginning y))
-        → (n ≡ 0) ⊎ (((after_all (now h) (take n (beginning y))).kept ≡ take y.kept (now h).kept) × ((after_all (now h) (take n (beginning y))).out ≡ (now h).out))
+        → now h2 ≡ after_file_events (now h) (take n (beginning y))
+        → (n ≡ 0) ⊎ (((after_file_events (now h) (take n (beginning y))).kept ≡ take y.kept (now h).kept) × ((after_file_events (now h) (take n (beginning y))).out ≡ (now h).out))
         → Ended (account_of x) kept old input input (kept_in new) (out_in new)
     go h2 is h kept_is out state (inl none) =
-        let same = state ∙ ap (λ m. after_all (now h) (take m (beginning y))) none in
+        let same = state ∙ ap (λ m. after_file_events (now h) (take m (beginning y))) none in
         subst (λ l. Ended (account_of x) kept old input input l (out_in new))
         (sym (ap kept_in is ∙ ap (λ (f : FileState). Some f.kept) same ∙ ap (λ t. Some t) kept_is))
         (ended-same (account_of x) kept old a.replayed.told input (ap out_in is ∙ ap (λ (f : FileState). Some f.out) same ∙ out)
@@ -309,11 +313,11 @@ run-ended {x} {kept} {old} input input2 new e rests fresh log (inr (y, r, inl (n
     rw is (run-uncut input new n (again rests fresh log r) g)
 run-ended {x} {kept} {old} input input2 new e rests fresh log (inr (y, r, inr (z, unread, b, f))) =
     let a = again rests fresh log r in
-    ended-live old input2 unread new (ready a b) (turns-fell z f.turns (left_of unread input2) new b.rests f.are f.broke) a.replayed.found
+    ended-live old input2 unread new (ready a b) (turns-fell z f.turns (left_to_read unread input2) new b.rests f.are f.broke) a.replayed.found
 
 -- ---- by which fault it ends
 
-left-true : {x z : Standing} {kept old : List ℕ} (e : KeepFault) → IsFresh kept old x → (w : Went false x z) → IsIdle z.at → IsAtEnd z.input
+left-true : {x z : Standing} {kept old : List ℕ} (e : KeepFault) → IsFresh kept old x → (w : Went false x z) → HoldsNothing z.at → IsAtEnd z.input
     → MayDiffer e (λ d. IfSome z.at.before (λ left. HasMore left z.at.lines d)) → IsTrueFault x.at.limit (account_of x) kept old [] e
 left-true (fault.Differs d) fresh w idle end h = true-left d fresh w idle end h
 left-true fault.TooLong fresh w idle end h = absurd h
@@ -351,19 +355,19 @@ run-true {x} {kept} {old} input input2 new e rests fresh log (inr (y, r, inl (n,
     ([], rw is (consumes-none input), failure-true x.at.limit (account_of x) kept old [] e fails)
 run-true {x} {kept} {old} input input2 new e rests fresh log (inr (y, r, inr (z, unread, b, f))) =
     let a = again rests fresh log r in
-    let fell = turns-fell z f.turns (left_of unread input2) new b.rests f.are f.broke in
+    let fell = turns-fell z f.turns (left_to_read unread input2) new b.rests f.are f.broke in
     let begins = ready a b in
     let bytes = fell.bytes ++ fell.next in
     let limit : z.at.limit ≡ x.at.limit = ap (λ (s : Standing). s.at.limit) b.is ∙ a.limit in (
       bytes ++ unread,
-      read-too input input2 bytes unread (subst (λ i. Consumes i (left_of unread input2) bytes) begins.input_is fell.taken),
+      read-too input input2 bytes unread (subst (λ i. Consumes i (left_to_read unread input2) bytes) begins.input_is fell.taken),
       subst (λ l. IsTrueFault l (account_of x) kept old (bytes ++ unread) e) limit (true-live old input2 unread new e begins fell),
     )
 
 -- no more records than the limit came
 run-within : {x y : Standing} {kept old : List ℕ} {input : Option (List ℕ)} (input2 : Option (List ℕ)) (new : Option History) → Again x kept old y
     → GoesOn y input input2 new
-    → (bytes : List ℕ) × Consumes input input2 bytes × (length (input_records (whole_lines kept ++ kept_of bytes)) ≤ x.at.limit)
+    → (bytes : List ℕ) × Consumes input input2 bytes × (length (input_records (whole_lines kept ++ kept_of_input bytes)) ≤ x.at.limit)
 run-within {x} {y} {kept} {old} {input} input2 new a (z, end, unread, b, e, is, happened) =
     let w = subst (λ (s : Standing). Went true z s) (sym e.last_is) (turns-went z e.turns b.rests e.are).0 in
     let begins = ready a b in
@@ -376,7 +380,7 @@ run-within {x} {y} {kept} {old} {input} input2 new a (z, end, unread, b, e, is, 
     let same2 = w.fed.limit in (
       w.bytes,
       read-all input input2 w.bytes unread (subst IsAtEnd is e.end)
-          (subst (λ i. Consumes i (left_of unread input2) w.bytes) begins.input_is (subst (λ i. Consumes z.input i w.bytes) is w.taken)),
+          (subst (λ i. Consumes i (left_to_read unread input2) w.bytes) begins.input_is (subst (λ i. Consumes z.input i w.bytes) is w.taken)),
       omega (arith, count, last, limit, same, same2),
     )
 
@@ -400,7 +404,7 @@ stood-start : {x y z : Standing} {kept old : List ℕ} {input : Option (List ℕ
 stood-start a b = let r = ready a b in record { answered = r.answered; begun = r.begun; rests = b.rests }
 
 -- what happened before is no reply
-after-silent : {T E : Type 0} (p : Place) (s : Replica) (kept : List ℕ) (input input2 : Option (List ℕ)) (old mid new : Option History) (r : Result T E)
+after-silent : {T E : Type 0} (p : Place) (s : KeyedSite) (kept : List ℕ) (input input2 : Option (List ℕ)) (old mid new : Option History) (r : Result T E)
     → IsSilent old mid → RepliesTo p s kept input input2 mid new r → RepliesTo p s kept input input2 old new r
 after-silent {T} {E} p s kept input input2 old mid new r silent (bytes, taken, events, g, replied) =
     (bytes, taken, silent.0 ++ events, grows-more old mid new silent.0 events silent.1 g, go r replied)
@@ -416,14 +420,14 @@ after-silent {T} {E} p s kept input input2 old mid new r silent (bytes, taken, e
     go (Ok x) h = told ∙ h
     go (Err x) h = subst (λ t. AreFirst t (replies p s (whole_lines kept) bytes)) (sym told) h
 
-replies-none : {T E : Type 0} (p : Place) (s : Replica) (kept : List ℕ) (input : Option (List ℕ)) (old new : Option History) (r : Result T E) (e : E) → r ≡ Err e
+replies-none : {T E : Type 0} (p : Place) (s : KeyedSite) (kept : List ℕ) (input : Option (List ℕ)) (old new : Option History) (r : Result T E) (e : E) → r ≡ Err e
     → IsSilent old new → RepliesTo p s kept input input old new r
 replies-none p s kept input old new r e is (events, g, none) =
     rw is ([], consumes-none input, events, g, inl ([], append-nil (replied_in events) ∙ none))
 
 -- what came of the input was asked and answered
 asked-live : {x y : Standing} {kept old : List ℕ} {input : Option (List ℕ)} (input2 : Option (List ℕ)) (new : Option History) → Again x kept old y
-    → GoesOn y input input2 new → (bytes : List ℕ) × Consumes input input2 bytes × (events : List Event) × Grows y.history new events
+    → GoesOn y input input2 new → (bytes : List ℕ) × Consumes input input2 bytes × (events : List FolderEvent) × Grows y.history new events
     × (replied_in events ≡ replies x.at.place x.at.state (whole_lines kept) bytes)
 asked-live {x} {y} {kept} {old} {input} input2 new a (z, end, unread, b, e, is, happened) =
     let asks = subst (λ (s : Standing). Asks (account_of x) x.at.place x.at.state z s (whole_lines kept) []) (sym e.last_is) (turns-ask z e.turns (stood-start a b) e.are) in
@@ -431,7 +435,7 @@ asked-live {x} {y} {kept} {old} {input} input2 new a (z, end, unread, b, e, is, 
     let start = beginning y in (
       asks.bytes,
       read-all input input2 asks.bytes unread (subst IsAtEnd is e.end)
-          (subst (λ i. Consumes i (left_of unread input2) asks.bytes) begins.input_is (subst (λ i. Consumes z.input i asks.bytes) is asks.taken)),
+          (subst (λ i. Consumes i (left_to_read unread input2) asks.bytes) begins.input_is (subst (λ i. Consumes z.input i asks.bytes) is asks.taken)),
       start ++ asks.events,
       subst (λ h. Grows y.history h (start ++ asks.events)) happened (grows-more y.history z.history end.history start asks.events
           (subst (λ (s : Standing). Grows y.history s.history start) (sym b.is) b.happened) asks.grows),
@@ -439,7 +443,7 @@ asked-live {x} {y} {kept} {old} {input} input2 new a (z, end, unread, b, e, is, 
     )
 
 first-live : {x y : Standing} {kept old : List ℕ} {input : Option (List ℕ)} (input2 : Option (List ℕ)) (new : Option History) (e : KeepFault) → Again x kept old y
-    → Fails y input input2 new e → (bytes : List ℕ) × Consumes input input2 bytes × (events : List Event) × Grows y.history new events
+    → Fails y input input2 new e → (bytes : List ℕ) × Consumes input input2 bytes × (events : List FolderEvent) × Grows y.history new events
     × AreFirst (replied_in events) (replies x.at.place x.at.state (whole_lines kept) bytes)
 first-live {x} {y} {kept} {old} {input} input2 new e a (inl (n, g, is, fails)) =
     let silent = silent-take n y.history new y g in
@@ -447,12 +451,12 @@ first-live {x} {y} {kept} {old} {input} input2 new e a (inl (n, g, is, fails)) =
 first-live {x} {y} {kept} {old} {input} input2 new e a (inr (z, unread, b, f)) =
     let p = x.at.place in
     let s = x.at.state in
-    let asks = turns-ask-first z f.turns (left_of unread input2) new (stood-start a b) f.are f.broke in
+    let asks = turns-ask-first z f.turns (left_to_read unread input2) new (stood-start a b) f.are f.broke in
     let begins = ready a b in
     let start = beginning y in
     let more = map (reply_to p s) (asked_after true (whole_lines kept ++ kept_after true [] asks.bytes) (begun_after [] asks.bytes) unread) in (
       asks.bytes ++ unread,
-      read-too input input2 asks.bytes unread (subst (λ i. Consumes i (left_of unread input2) asks.bytes) begins.input_is asks.taken),
+      read-too input input2 asks.bytes unread (subst (λ i. Consumes i (left_to_read unread input2) asks.bytes) begins.input_is asks.taken),
       start ++ asks.events,
       grows-more y.history z.history new start asks.events (subst (λ (s : Standing). Grows y.history s.history start) (sym b.is) b.happened) asks.grows,
       subst (AreFirst (replied_in asks.events)) (sym (asks-both p s (whole_lines kept) [] asks.bytes unread))
@@ -462,8 +466,8 @@ first-live {x} {y} {kept} {old} {input} input2 new e a (inr (z, unread, b, f)) =
 -- ---- that its files are safe
 
 -- as far as it was answered again
-safe-told : (x : Standing) {kept : List ℕ} (p : Place) (s : Replica) (m : History) (new : Option History) {added due : List ℕ} → x.history ≡ Some m
-    → x.at.is_live ≡ false → AreSound [] kept → Found kept (now m) → Tells x.at.is_live x.history new added due
+safe-told : (x : Standing) {kept : List ℕ} (p : Place) (s : KeyedSite) (m : History) (new : Option History) {added due : List ℕ} → x.history ≡ Some m
+    → x.at.is_live ≡ false → HasSoundLines [] kept → Found kept (now m) → Tells x.at.is_live x.history new added due
     → IsFrontOf ((now m).out ++ added) ((account_of x).text AtEnd (records_in kept)) → StaysSafe (says_by (account_of x) p s) (Some m) new
 safe-told x p s m None is off sound found t front = absurd (rw is at t).1
 safe-told x {kept} p s m (Some h2) {added} {due} is off sound found t front =
@@ -472,7 +476,7 @@ safe-told x {kept} p s m (Some h2) {added} {due} is off sound found t front =
     (subst (λ o. IsFrontOf o ((account_of x).text AtEnd (records_in kept))) (sym (tells-out x.at.is_live (Some m) (Some h2) told)) front)
 
 -- what was kept couldn't be answered again
-unreplayed-safe : {x : Standing} {kept old : List ℕ} (p : Place) (s : Replica) (m : History) (new : Option History) (e : KeepFault) → x.history ≡ Some m
+unreplayed-safe : {x : Standing} {kept old : List ℕ} (p : Place) (s : KeyedSite) (m : History) (new : Option History) (e : KeepFault) → x.history ≡ Some m
     → x.at.is_live ≡ false → IsAtRest x → IsFresh kept old x → Found kept (now m) → IsFrontOf old ((account_of x).text AtEnd (records_in kept))
     → Unreplayed x new e → StaysSafe (says_by (account_of x) p s) (Some m) new
 unreplayed-safe {x} {kept} {old} p s m new e is off rests fresh found front u =
@@ -489,12 +493,12 @@ unreplayed-safe {x} {kept} {old} p s m new e is off rests fresh found front u =
     either added text (inr begins) front = begins
 
 -- it was, and then `kept,..` was shown as far as it goes
-record SafeAgain (x y : Standing) (kept : List ℕ) (p : Place) (s : Replica) (m m2 : History) : Type 0 where
+record SafeAgain (x y : Standing) (kept : List ℕ) (p : Place) (s : KeyedSite) (m m2 : History) : Type 0 where
   is : y.history ≡ Some m2
   safe : StaysSafe (says_by (account_of x) p s) (Some m) (Some m2)
   found : Found kept (now m2)
 
-again-safe : {x y : Standing} {kept old : List ℕ} (p : Place) (s : Replica) (m : History) → x.history ≡ Some m → x.at.is_live ≡ false → IsFresh kept old x
+again-safe : {x y : Standing} {kept old : List ℕ} (p : Place) (s : KeyedSite) (m : History) → x.history ≡ Some m → x.at.is_live ≡ false → IsFresh kept old x
     → Found kept (now m) → (a : Again x kept old y) → (m2 : History) × SafeAgain x y kept p s m m2
 again-safe {x} {y} {kept} {old} p s m is off fresh found a =
     let k = known y.history a.log in
@@ -535,7 +539,7 @@ fails-safe {x} {y} {kept} {old} input2 m2 new e is found a (inl (n, g, i, fails)
 fails-safe {x} input2 m2 new e is found a (inr (z, unread, b, f)) =
     let s = begun-safe m2 is found a b in
     stays-more (says_by (account_of x) x.at.place x.at.state) (Some m2) (Some s.0) new s.2
-    (broke-safe z f.turns (left_of unread input2) s.0 new s.1 b.rests s.3 f.are f.rests f.broke)
+    (broke-safe z f.turns (left_to_read unread input2) s.0 new s.1 b.rests s.3 f.are f.rests f.broke)
 
 goes-safe : {x y : Standing} {kept old : List ℕ} {input : Option (List ℕ)} (input2 : Option (List ℕ)) (m2 : History) (new : Option History)
     → y.history ≡ Some m2 → Found kept (now m2) → Again x kept old y → GoesOn y input input2 new
@@ -549,7 +553,7 @@ goes-safe {x} input2 m2 new is found a (z, end, unread, b, e, i, happened) =
 -- ---- for whoever calls it
 
 -- a site with nothing done, where its memory doesn't suffice for a desk
-abbrev pub new-site : Place → Replica → ℕ → Bool → Option (List ℕ) → Answering
+abbrev pub new-site : Place → KeyedSite → ℕ → Bool → Option (List ℕ) → Answering
 new-site place state limit live before = record {
   place = place;
   state = state;
@@ -565,40 +569,40 @@ new-site place state limit live before = record {
 
 -- a clerk with nothing done
 pub new-clerk : {O F G : Type 0} (before : O → Option (List ℕ)) (c : Clerk G) (a : Answers O F)
-    → (c.desk.window.items ≡ []) × (c.served.reply.sink ≡ []) × (c.served.answered ≡ 0) → IsNew (answering before c (record a { lines = 0 }))
+    → (c.keyed.desk.window.items ≡ []) × (c.served.reply.sink ≡ []) × (c.served.answered ≡ 0) → IsNew (clerk_at before c (record a { lines = 0 }))
 new-clerk before c a (window, empty, none) = record {
   idle = record { window = window; empty = empty; within = omega (arith, none) };
   none = none;
   uncounted = refl;
 }
 
-pub is-new : (place : Place) (state : Replica) (limit : ℕ) (live : Bool) (before : Option (List ℕ)) → IsNew (new-site place state limit live before)
+pub is-new : (place : Place) (state : KeyedSite) (limit : ℕ) (live : Bool) (before : Option (List ℕ)) → IsNew (new-site place state limit live before)
 is-new place state limit live before =
     record { idle = record { window = refl; empty = refl; within = omega arith }; none = refl; uncounted = refl }
 
 pub runs-lived : {T : Type 0} (r : Result T KeepFault) (first past input input2 : Option (List ℕ)) {a : Answering} (h new : Option History)
     → IsNew a → Runs first past a input input2 h new r → OnOk r ((kept old : List ℕ) → Opens kept old first past (kept_in h) a.before (out_in h)
-    → Lived (site_account a.place a.state 1) kept old input input2 (kept_in new) (out_in new))
+    → Lived (keyed_account a.place a.state 1) kept old input input2 (kept_in new) (out_in new))
 runs-lived (Ok u) first past input input2 h new fresh (mid, y, s, r, goes) = λ kept old o. run-lived input2 new (again-start h mid fresh o s r) goes
 runs-lived (Err e) first past input input2 h new fresh runs = tt
 
 pub runs-ended : {T : Type 0} (r : Result T KeepFault) (first past input input2 : Option (List ℕ)) {a : Answering} (h new : Option History)
     → IsNew a → Runs first past a input input2 h new r → OnErr r ((kept old : List ℕ) → Opens kept old first past (kept_in h) a.before (out_in h)
-    → Ended (site_account a.place a.state 1) kept old input input2 (kept_in new) (out_in new))
+    → Ended (keyed_account a.place a.state 1) kept old input input2 (kept_in new) (out_in new))
 runs-ended (Ok u) first past input input2 h new fresh runs = tt
 runs-ended (Err e) first past input input2 {a} h new fresh (inl (g, is, edited)) = λ kept old o.
     let still = still-none h new g in
     rw (is, same-known (kept_in h) (kept_in new) o.log_is still.0, same-known (out_in h) (out_in new) o.out_is still.1)
-    (ended-unread (site_account a.place a.state 1) kept old input)
+    (ended-unread (keyed_account a.place a.state 1) kept old input)
 runs-ended (Err e) first past input input2 {a} h new fresh (inr (mid, s, rest)) = λ kept old o.
     run-ended input input2 new e (starting-rests a past mid fresh.idle) (fresh-start h mid fresh o s) (log-start h mid o s) rest
 
 pub runs-true : {T : Type 0} (r : Result T KeepFault) {kept old : List ℕ} (first past input input2 : Option (List ℕ)) {a : Answering} (h new : Option History)
     → IsNew a → Runs first past a input input2 h new r → Opens kept old first past (kept_in h) a.before (out_in h)
-    → EndsTruly a.limit (site_account a.place a.state 1) kept old input input2 r
+    → EndsTruly a.limit (keyed_account a.place a.state 1) kept old input input2 r
 runs-true (Ok u) first past input input2 h new fresh (mid, y, s, r, goes) o = run-within input2 new (again-start h mid fresh o s r) goes
 runs-true (Err e) {kept} {old} first past input input2 {a} h new fresh (inl (g, is, edited)) o =
-    ([], rw is (consumes-none input), edited-true a.limit (site_account a.place a.state 1) old first e o.first_is edited)
+    ([], rw is (consumes-none input), edited-true a.limit (keyed_account a.place a.state 1) old first e o.first_is edited)
 runs-true (Err e) first past input input2 {a} h new fresh (inr (mid, s, rest)) o =
     run-true input input2 new e (starting-rests a past mid fresh.idle) (fresh-start h mid fresh o s) (log-start h mid o s) rest
 
@@ -620,24 +624,24 @@ runs-reply {T} (Err e) {kept} first past input input2 {a} h new fresh (inr (mid,
     (silent-start h mid y.history a.is_live s.flushed again.told) (first-live input2 new e again fails)
 
 -- the same site, where its files are as a start finds them
-pub opened-at : {p p2 : Place} {s s2 : Replica} {f : FileState} → p2 ≡ p → s2 ≡ s → IsOpened ((site_account p s 1).text AtEnd) f
-    → IsOpened ((site_account p2 s2 1).text AtEnd) f
-opened-at {p} {p2} {s} {s2} {f} place state o = subst (λ q. IsOpened ((site_account q s2 1).text AtEnd) f) (sym place)
-    (subst (λ t. IsOpened ((site_account p t 1).text AtEnd) f) (sym state) o)
+pub opened-at : {p p2 : Place} {s s2 : KeyedSite} {f : FileState} → p2 ≡ p → s2 ≡ s → IsAtStart ((keyed_account p s 1).text AtEnd) f
+    → IsAtStart ((keyed_account p2 s2 1).text AtEnd) f
+opened-at {p} {p2} {s} {s2} {f} place state o = subst (λ q. IsAtStart ((keyed_account q s2 1).text AtEnd) f) (sym place)
+    (subst (λ t. IsAtStart ((keyed_account p t 1).text AtEnd) f) (sym state) o)
 
 -- what was kept was read through and flushed: the files are found so then, and are safe as long as they are safe from there on
 record Started (a : Answering) (h : History) (kept old : List ℕ) (mid : Option History) : Type 0 where
   m : History
   is : mid ≡ Some m
   found : Found kept (now m)
-  front : IsFrontOf old ((site_account a.place a.state 1).text AtEnd (records_in kept))
+  front : IsFrontOf old ((keyed_account a.place a.state 1).text AtEnd (records_in kept))
   later : (new : Option History) → StaysSafe (says_of a.place a.state) (Some m) new → StaysSafe (says_of a.place a.state) (Some h) new
 
 started : {kept old : List ℕ} {first past : Option (List ℕ)} {a : Answering} (h : History) (mid : Option History)
-    → Opens kept old first past (kept_in (Some h)) a.before (out_in (Some h)) → IsOpened ((site_account a.place a.state 1).text AtEnd) (now h)
+    → Opens kept old first past (kept_in (Some h)) a.before (out_in (Some h)) → IsAtStart ((keyed_account a.place a.state 1).text AtEnd) (now h)
     → Starts first (Some h) mid → Started a h kept old mid
 started {kept} {old} {a = a} h mid o opened s =
-    let text = (site_account a.place a.state 1).text AtEnd in
+    let text = (keyed_account a.place a.state 1).text AtEnd in
     let g = grown h mid (Flushed ∷ []) s.flushed in
     let kept_now : (now h).kept ≡ kept = some-is o.log_is in
     record {
@@ -653,7 +657,7 @@ started {kept} {old} {a = a} h mid o opened s =
 -- its files stay safe, and where it came to its end all that `out` has is shown
 pub runs-safe : {T : Type 0} (r : Result T KeepFault) {kept old : List ℕ} (first past input input2 : Option (List ℕ)) {a : Answering} (h : History)
     (new : Option History) → IsNew a → a.is_live ≡ false → Runs first past a input input2 (Some h) new r
-    → Opens kept old first past (kept_in (Some h)) a.before (out_in (Some h)) → IsOpened ((site_account a.place a.state 1).text AtEnd) (now h)
+    → Opens kept old first past (kept_in (Some h)) a.before (out_in (Some h)) → IsAtStart ((keyed_account a.place a.state 1).text AtEnd) (now h)
     → StaysSafe (says_of a.place a.state) (Some h) new × OnOk r (IfSome new (λ h2. IsShown (now h2)))
 runs-safe (Ok u) first past input input2 {a} h new fresh off (mid, y, s, r, goes) o opened =
     let t = started {a = a} h mid o opened s in

@@ -10,9 +10,9 @@ use Rattle.csv.specs.Reading.{records_next}
 use Rattle.std.proofs.lemmas.List.{take-append-drop}
 use Rattle.csv.specs.declared.parser.Action.{Action}
 use Rattle.csv.specs.declared.parser.State.TheVariants as st
-use Rattle.rubis_keep.specs.Lines.{broken, closes, is_marked, is_question, is_quoted, is_sound, kept_after, kept_line, kept_record, line_max, state_after}
-use Rattle.rubis_keep.specs.Lines.{IsWhole, AreSound, HasNoEnd, are_sound, begun_after, kept_of, read_back, whole_after, whole_lines, is_usual, CutsLines}
-use Rattle.rubis_keep.specs.Faults.{Counts, IsEdited, IsEditedAt, ends_in}
+use Rattle.rubis_keep.specs.Lines.{broken, closes_quotes, is_marked, is_question, is_quoted, is_sound, kept_after, kept_line, kept_record, line_limit, state_after}
+use Rattle.rubis_keep.specs.Lines.{HasWholeRecords, HasSoundLines, HasNoEnd, are_sound, begun_after, kept_of_input, read_back, whole_after, whole_lines, is_usual, CutsLines}
+use Rattle.rubis_keep.specs.Faults.{CountsLines, IsEdited, IsEditedAt, ends_in}
 use Rattle.rubis_keep.specs.Outlets.{counts-both, ends-append}
 use Rattle.rubis_keep.specs.Lines.{asked_by, begun_bytes, asked_after, asked_line, without_after}
 use Rattle.rubis_keep.proofs.LineFacts.{state-append, begun-append, begun-pushed, begun-stays, kept-append, kept_begun, question_begun}
@@ -32,7 +32,7 @@ not-quoted : (b : Bool) → not b ≡ true → b ≡ false
 not-quoted true e = cc e
 not-quoted false e = refl
 
-pub whole-append : {xs ys : List ℕ} → IsWhole xs → IsWhole ys → IsWhole (xs ++ ys)
+pub whole-append : {xs ys : List ℕ} → HasWholeRecords xs → HasWholeRecords ys → HasWholeRecords (xs ++ ys)
 whole-append {xs} {ys} a b = record {
   closed = state-append st.StartRecord xs ys ∙ ap (λ s. state_after s ys) a.closed ∙ b.closed;
   unmarked = head xs a.unmarked;
@@ -46,33 +46,33 @@ unmarked-line : (line : List ℕ) → is_marked line ≡ false → is_marked (li
 unmarked-line [] e = refl
 unmarked-line (x ∷ line) e = e
 
-pub sound-whole : (line : List ℕ) → is_sound line ≡ true → IsWhole (line ++ 10 ∷ [])
+pub sound-whole : (line : List ℕ) → is_sound line ≡ true → HasWholeRecords (line ++ 10 ∷ [])
 sound-whole line e =
-    let parts = and_parts (leb (length line) line_max) (closes line && not (is_marked line)) e in
-    let more = and_parts (closes line) (not (is_marked line)) parts.1 in
+    let parts = and_parts (leb (length line) (line_limit line)) (closes_quotes line && not (is_marked line)) e in
+    let more = and_parts (closes_quotes line) (not (is_marked line)) parts.1 in
     record {
       closed = state-append st.StartRecord line (10 ∷ []) ∙ end-closes (state_after st.StartRecord line) (not-quoted _ more.0);
       unmarked = unmarked-line line (not-quoted _ more.1);
     }
 
-kept-record-whole : (line : List ℕ) → IsWhole (kept_record line)
+kept-record-whole : (line : List ℕ) → HasWholeRecords (kept_record line)
 kept-record-whole line =
-    elim (is_sound line) as (λ b. is_sound line ≡ b → IsWhole (cond b (line ++ 10 ∷ []) broken)) [
+    elim (is_sound line) as (λ b. is_sound line ≡ b → HasWholeRecords (cond b (line ++ 10 ∷ []) broken)) [
       | true ↦ λ e. sound-whole line e
       | false ↦ λ e. record { closed = refl; unmarked = refl }
     ] refl
 
-pub kept-line-whole : (asks : Bool) (line : List ℕ) → IsWhole (kept_line asks line)
+pub kept-line-whole : (asks : Bool) (line : List ℕ) → HasWholeRecords (kept_line asks line)
 kept-line-whole asks line =
-    elim (asks && is_question line) as (λ v. IsWhole (cond v [] (kept_record line))) [
+    elim (asks && is_question line) as (λ v. HasWholeRecords (cond v [] (kept_record line))) [
       | true ↦ record { closed = refl; unmarked = refl }
       | false ↦ kept-record-whole line
     ]
 
-pub kept-whole : (asks : Bool) (line bytes : List ℕ) → IsWhole (kept_after asks line bytes)
+pub kept-whole : (asks : Bool) (line bytes : List ℕ) → HasWholeRecords (kept_after asks line bytes)
 kept-whole asks line [] = record { closed = refl; unmarked = refl }
 kept-whole asks line (b ∷ rest) =
-    elim (eqb b 10) as (λ t. IsWhole (cond t (kept_line asks line ++ kept_after asks [] rest) (kept_after asks (line ++ b ∷ []) rest))) [
+    elim (eqb b 10) as (λ t. HasWholeRecords (cond t (kept_line asks line ++ kept_after asks [] rest) (kept_after asks (line ++ b ∷ []) rest))) [
       | true ↦ whole-append (kept-line-whole asks line) (kept-whole asks [] rest)
       | false ↦ kept-whole asks (line ++ b ∷ []) rest
     ]
@@ -80,30 +80,30 @@ kept-whole asks line (b ∷ rest) =
 -- ---- texts of lines that are kept as they are, cut off anywhere and gone on with
 
 -- the lines of the beginning of such a text
-pub sound-front : (line p q : List ℕ) → AreSound line (p ++ q) → AreSound line p
+pub sound-front : (line p q : List ℕ) → HasSoundLines line (p ++ q) → HasSoundLines line p
 sound-front line [] q h = tt
 sound-front line (b ∷ p) q h =
-    elim (eqb b 10) as (λ t. MatchBool t (IsTrue (is_sound line) × AreSound [] (p ++ q)) (AreSound (line ++ b ∷ []) (p ++ q))
-    → MatchBool t (IsTrue (is_sound line) × AreSound [] p) (AreSound (line ++ b ∷ []) p)) [
+    elim (eqb b 10) as (λ t. MatchBool t (IsTrue (is_sound line) × HasSoundLines [] (p ++ q)) (HasSoundLines (line ++ b ∷ []) (p ++ q))
+    → MatchBool t (IsTrue (is_sound line) × HasSoundLines [] p) (HasSoundLines (line ++ b ∷ []) p)) [
       | true ↦ λ k. (k.0, sound-front [] p q k.1)
       | false ↦ λ k. sound-front (line ++ b ∷ []) p q k
     ] h
 
-pub sound-append : (line p q : List ℕ) → AreSound line p → AreSound (begun_after line p) q → AreSound line (p ++ q)
+pub sound-append : (line p q : List ℕ) → HasSoundLines line p → HasSoundLines (begun_after line p) q → HasSoundLines line (p ++ q)
 sound-append line [] q h k = k
 sound-append line (b ∷ p) q h k =
-    elim (eqb b 10) as (λ t. MatchBool t (IsTrue (is_sound line) × AreSound [] p) (AreSound (line ++ b ∷ []) p)
-    → AreSound (cond t (begun_after [] p) (begun_after (line ++ b ∷ []) p)) q
-    → MatchBool t (IsTrue (is_sound line) × AreSound [] (p ++ q)) (AreSound (line ++ b ∷ []) (p ++ q))) [
+    elim (eqb b 10) as (λ t. MatchBool t (IsTrue (is_sound line) × HasSoundLines [] p) (HasSoundLines (line ++ b ∷ []) p)
+    → HasSoundLines (cond t (begun_after [] p) (begun_after (line ++ b ∷ []) p)) q
+    → MatchBool t (IsTrue (is_sound line) × HasSoundLines [] (p ++ q)) (HasSoundLines (line ++ b ∷ []) (p ++ q))) [
       | true ↦ λ s r. (s.0, sound-append [] p q s.1 r)
       | false ↦ λ s r. sound-append (line ++ b ∷ []) p q s r
     ] h k
 
-pub sound-back : (line p q : List ℕ) → AreSound line (p ++ q) → AreSound (begun_after line p) q
+pub sound-back : (line p q : List ℕ) → HasSoundLines line (p ++ q) → HasSoundLines (begun_after line p) q
 sound-back line [] q h = h
 sound-back line (b ∷ p) q h =
-    elim (eqb b 10) as (λ t. MatchBool t (IsTrue (is_sound line) × AreSound [] (p ++ q)) (AreSound (line ++ b ∷ []) (p ++ q))
-    → AreSound (cond t (begun_after [] p) (begun_after (line ++ b ∷ []) p)) q) [
+    elim (eqb b 10) as (λ t. MatchBool t (IsTrue (is_sound line) × HasSoundLines [] (p ++ q)) (HasSoundLines (line ++ b ∷ []) (p ++ q))
+    → HasSoundLines (cond t (begun_after [] p) (begun_after (line ++ b ∷ []) p)) q) [
       | true ↦ λ k. sound-back [] p q k.1
       | false ↦ λ k. sound-back (line ++ b ∷ []) p q k
     ] h
@@ -137,18 +137,18 @@ unsound-front line xs n e =
     ap (are_sound line) (sym (take-append-drop n xs)) ∙ are-sound-append line (take n xs) (drop n xs)
     ∙ ap (λ t. t && are_sound (begun_after line (take n xs)) (drop n xs)) e
 
-pub are-sound : (line t : List ℕ) → are_sound line t ≡ true → AreSound line t
+pub are-sound : (line t : List ℕ) → are_sound line t ≡ true → HasSoundLines line t
 are-sound line [] e = tt
 are-sound line (b ∷ t) e =
     elim (eqb b 10) as (λ v. cond v (is_sound line && are_sound [] t) (are_sound (line ++ b ∷ []) t) ≡ true
-    → MatchBool v (IsTrue (is_sound line) × AreSound [] t) (AreSound (line ++ b ∷ []) t)) [
+    → MatchBool v (IsTrue (is_sound line) × HasSoundLines [] t) (HasSoundLines (line ++ b ∷ []) t)) [
       | true ↦ λ f. let parts = and_parts (is_sound line) (are_sound [] t) f in (parts.0, are-sound [] t parts.1)
       | false ↦ λ f. are-sound (line ++ b ∷ []) t f
     ] e
 
 -- the line that ends at byte i is the first that isn't sound
 pub edited-at : (line xs : List ℕ) (i : ℕ) {sound : Bool} {lines lines2 : ℕ} → i < length xs → are_sound line (take i xs) ≡ true
-    → sound ≡ are_sound (begun_after line (take i xs)) (get_or xs i 0 ∷ []) → sound ≡ false → Counts lines lines2 (take i xs) → IsEdited line xs lines lines2
+    → sound ≡ are_sound (begun_after line (take i xs)) (get_or xs i 0 ∷ []) → sound ≡ false → CountsLines lines lines2 (take i xs) → IsEdited line xs lines lines2
 edited-at line xs i h before at no_more counted = record {
   at = i;
   inside = h;
@@ -161,15 +161,15 @@ pub unsound-at : {line xs : List ℕ} {lines lines2 : ℕ} → IsEdited line xs 
 unsound-at {line} {xs} e = sym (unsound-front line xs (e.at + 1) e.there)
 
 -- one byte more is counted, where it ends a line
-pub counts-end : (lines lines2 : ℕ) (xs : List ℕ) (i : ℕ) {lines3 : ℕ} → i < length xs → get_or xs i 0 ≡ 10 → Counts lines lines2 (take i xs)
-    → lines3 ≡ min (lines2 + 1) (2 ^ 64 - 1) → Counts lines lines3 (take (i + 1) xs)
+pub counts-end : (lines lines2 : ℕ) (xs : List ℕ) (i : ℕ) {lines3 : ℕ} → i < length xs → get_or xs i 0 ≡ 10 → CountsLines lines lines2 (take i xs)
+    → lines3 ≡ min (lines2 + 1) (2 ^ 64 - 1) → CountsLines lines lines3 (take (i + 1) xs)
 counts-end lines lines2 xs i h ends counted e few =
     let more = ap ends_in (take_more xs i 0 h ∙ ap (λ b. take i xs ++ b ∷ []) ends) ∙ ends-append (take i xs) (10 ∷ []) in
     let before = counted (omega (arith, few, more)) in
     omega (arith, e, few, more, before)
 
-pub counts-on : (lines lines2 : ℕ) (xs : List ℕ) (i : ℕ) → i < length xs → (get_or xs i 0 == 10) ≡ false → Counts lines lines2 (take i xs)
-    → Counts lines lines2 (take (i + 1) xs)
+pub counts-on : (lines lines2 : ℕ) (xs : List ℕ) (i : ℕ) → i < length xs → (get_or xs i 0 == 10) ≡ false → CountsLines lines lines2 (take i xs)
+    → CountsLines lines lines2 (take (i + 1) xs)
 counts-on lines lines2 xs i h ends counted few =
     let more = ap ends_in (take_more xs i 0 h) ∙ ends-append (take i xs) (get_or xs i 0 ∷ []) in
     let none = ap (λ t. length (if t then get_or xs i 0 ∷ [] else [])) ends in
@@ -178,7 +178,7 @@ counts-on lines lines2 xs i h ends counted few =
 
 -- all that a reader gave is sound
 pub sound-end : (old mid new : Option (List ℕ)) (bytes : List ℕ) {more : List ℕ} → Consumes old mid bytes → are_sound [] bytes ≡ true → Consumes mid new more
-    → more ≡ [] → IsAtEnd new → IfSome old (λ text. AreSound [] text)
+    → more ≡ [] → IsAtEnd new → IfSome old (λ text. HasSoundLines [] text)
 sound-end None mid new bytes f s g none end = tt
 sound-end (Some x) None new bytes f s g none end = absurd f
 sound-end (Some x) (Some y) None bytes f s g none end = absurd g
@@ -188,7 +188,7 @@ sound-end (Some x) (Some y) (Some z) bytes f s g none end =
     are-sound [] x (ap (are_sound []) all ∙ s)
 
 -- what a reader gave first is sound, and then a line isn't
-edited-later : (bytes more rest : List ℕ) {lines lines2 : ℕ} → are_sound [] bytes ≡ true → Counts 0 lines bytes
+edited-later : (bytes more rest : List ℕ) {lines lines2 : ℕ} → are_sound [] bytes ≡ true → CountsLines 0 lines bytes
     → IsEdited (begun_after [] bytes) more lines lines2 → IsEdited [] (bytes ++ (more ++ rest)) 0 lines2
 edited-later bytes more rest {lines} {lines2} s counted e =
     let inside = e.inside in
@@ -204,11 +204,11 @@ edited-later bytes more rest {lines} {lines2} s counted e =
       before = ap (are_sound []) front ∙ sound_more [] bytes (take e.at more) s e.before;
       there = ap (are_sound []) next ∙ are-sound-append [] bytes (take (e.at + 1) more)
           ∙ ap (λ t. t && are_sound (begun_after [] bytes) (take (e.at + 1) more)) s ∙ e.there;
-      counted = subst (Counts 0 lines2) (sym front) (counts-both 0 lines lines2 bytes (take e.at more) counted e.counted);
+      counted = subst (CountsLines 0 lines2) (sym front) (counts-both 0 lines lines2 bytes (take e.at more) counted e.counted);
     }
 
 pub edited-read : (old mid new : Option (List ℕ)) (bytes more : List ℕ) {lines lines2 number : ℕ} → Consumes old mid bytes → are_sound [] bytes ≡ true
-    → Counts 0 lines bytes → Consumes mid new more → IsEdited (begun_after [] bytes) more lines lines2 → number ≡ min (lines2 + 1) (2 ^ 64 - 1)
+    → CountsLines 0 lines bytes → Consumes mid new more → IsEdited (begun_after [] bytes) more lines lines2 → number ≡ min (lines2 + 1) (2 ^ 64 - 1)
     → IfSome old (λ text. IsEditedAt text number)
 edited-read None mid new bytes more f s counted g e told = tt
 edited-read (Some x) None new bytes more f s counted g e told = absurd f
@@ -217,10 +217,10 @@ edited-read (Some x) (Some y) (Some z) bytes more {lines} {lines2} f s counted g
     (lines2, subst (λ t. IsEdited [] t 0 lines2) (sym (f ∙ ap (λ t. bytes ++ t) g)) (edited-later bytes more z s counted e), told)
 
 -- what is read of such a text is its whole lines
-pub sound-kept : (line t : List ℕ) → AreSound line t → kept_after false line t ≡ whole_after line t
+pub sound-kept : (line t : List ℕ) → HasSoundLines line t → kept_after false line t ≡ whole_after line t
 sound-kept line [] h = refl
 sound-kept line (b ∷ t) h =
-    elim (eqb b 10) as (λ v. MatchBool v (IsTrue (is_sound line) × AreSound [] t) (AreSound (line ++ b ∷ []) t)
+    elim (eqb b 10) as (λ v. MatchBool v (IsTrue (is_sound line) × HasSoundLines [] t) (HasSoundLines (line ++ b ∷ []) t)
     → cond v (kept_record line ++ kept_after false [] t) (kept_after false (line ++ b ∷ []) t)
     ≡ cond v ((line ++ 10 ∷ []) ++ whole_after [] t) (whole_after (line ++ b ∷ []) t)) [
       | true ↦ λ s. ap (λ k. k ++ kept_after false [] t) (sound s.0) ∙ ap (λ k. (line ++ 10 ∷ []) ++ k) (sound-kept [] t s.1)
@@ -250,7 +250,7 @@ pub begun-line : (start line : List ℕ) → HasNoEnd line → begun_after start
 begun-line start [] h = refl
 begun-line start (b ∷ line) h = rw h.0 (begun-line (start ++ b ∷ []) line h.1)
 
-pub sound-line : (start line rest : List ℕ) → HasNoEnd line → IsTrue (is_sound (start ++ line)) → AreSound [] rest → AreSound start (line ++ 10 ∷ rest)
+pub sound-line : (start line rest : List ℕ) → HasNoEnd line → IsTrue (is_sound (start ++ line)) → HasSoundLines [] rest → HasSoundLines start (line ++ 10 ∷ rest)
 sound-line start [] rest h s r = (subst (λ l. IsTrue (is_sound l)) (append-nil start) s, r)
 sound-line start (b ∷ line) rest h s r =
     rw h.0 (sound-line (start ++ b ∷ []) line rest h.1 (subst (λ l. IsTrue (is_sound l)) (sym (append_assoc start (b ∷ []) line)) s) r)
@@ -263,30 +263,30 @@ begun-no-end line (b ∷ text) h =
       | false ↦ λ e. begun-no-end (line ++ b ∷ []) text (no-end-more line b h e)
     ] refl
 
-kept-record-sound : (line rest : List ℕ) → HasNoEnd line → AreSound [] rest → AreSound [] (kept_record line ++ rest)
+kept-record-sound : (line rest : List ℕ) → HasNoEnd line → HasSoundLines [] rest → HasSoundLines [] (kept_record line ++ rest)
 kept-record-sound line rest h r =
-    elim (is_sound line) as (λ v. is_sound line ≡ v → AreSound [] (cond v (line ++ 10 ∷ []) broken ++ rest)) [
-      | true ↦ λ e. subst (AreSound []) (sym (append_assoc line (10 ∷ []) rest)) (sound-line [] line rest h e r)
+    elim (is_sound line) as (λ v. is_sound line ≡ v → HasSoundLines [] (cond v (line ++ 10 ∷ []) broken ++ rest)) [
+      | true ↦ λ e. subst (HasSoundLines []) (sym (append_assoc line (10 ∷ []) rest)) (sound-line [] line rest h e r)
       | false ↦ λ e. (refl, r)
     ] refl
 
-kept-line-sound : (asks : Bool) (line rest : List ℕ) → HasNoEnd line → AreSound [] rest → AreSound [] (kept_line asks line ++ rest)
+kept-line-sound : (asks : Bool) (line rest : List ℕ) → HasNoEnd line → HasSoundLines [] rest → HasSoundLines [] (kept_line asks line ++ rest)
 kept-line-sound asks line rest h r =
-    elim (asks && is_question line) as (λ v. AreSound [] (cond v [] (kept_record line) ++ rest)) [
+    elim (asks && is_question line) as (λ v. HasSoundLines [] (cond v [] (kept_record line) ++ rest)) [
       | true ↦ r
       | false ↦ kept-record-sound line rest h r
     ]
 
-pub kept-sound-after : (asks : Bool) (line bytes : List ℕ) → HasNoEnd line → AreSound [] (kept_after asks line bytes)
+pub kept-sound-after : (asks : Bool) (line bytes : List ℕ) → HasNoEnd line → HasSoundLines [] (kept_after asks line bytes)
 kept-sound-after asks line [] h = tt
 kept-sound-after asks line (b ∷ rest) h =
-    elim (eqb b 10) as (λ v. eqb b 10 ≡ v → AreSound [] (cond v (kept_line asks line ++ kept_after asks [] rest) (kept_after asks (line ++ b ∷ []) rest))) [
+    elim (eqb b 10) as (λ v. eqb b 10 ≡ v → HasSoundLines [] (cond v (kept_line asks line ++ kept_after asks [] rest) (kept_after asks (line ++ b ∷ []) rest))) [
       | true ↦ λ e. kept-line-sound asks line (kept_after asks [] rest) h (kept-sound-after asks [] rest tt)
       | false ↦ λ e. kept-sound-after asks (line ++ b ∷ []) rest (no-end-more line b h e)
     ] refl
 
 -- what is kept is kept as it is
-pub kept-sound : (bytes : List ℕ) → AreSound [] (kept_of bytes)
+pub kept-sound : (bytes : List ℕ) → HasSoundLines [] (kept_of_input bytes)
 kept-sound bytes = kept-sound-after true [] bytes tt
 
 -- no line is begun after what is kept
@@ -315,7 +315,7 @@ kept-begun-after asks line (b ∷ rest) h =
       | false ↦ λ e. kept-begun-after asks (line ++ b ∷ []) rest (no-end-more line b h e)
     ] refl
 
-pub kept-ends : (bytes : List ℕ) → begun_after [] (kept_of bytes) ≡ []
+pub kept-ends : (bytes : List ℕ) → begun_after [] (kept_of_input bytes) ≡ []
 kept-ends bytes = kept-begun-after true [] bytes tt
 
 -- ---- whole lines
@@ -335,22 +335,22 @@ back-ends : (t : List ℕ) → begun_after [] (read_back t) ≡ []
 back-ends t = kept-begun-after false [] t tt
 
 -- what is read of whole lines is what they are
-pub read-whole : (t : List ℕ) → AreSound [] t → read_back (whole_lines t) ≡ whole_lines t
+pub read-whole : (t : List ℕ) → HasSoundLines [] t → read_back (whole_lines t) ≡ whole_lines t
 read-whole t h =
     let whole : whole_lines t ≡ read_back t = sym (sound-kept [] t h) in
     ap read_back whole ∙ sound-kept [] (read_back t) (kept-sound-after false [] t tt) ∙ sym (append-nil (whole_lines (read_back t)))
     ∙ ap (λ r. whole_lines (read_back t) ++ r) (sym (back-ends t)) ∙ whole-rest [] (read_back t) ∙ sym whole
 
 -- whole lines are whole lines
-pub whole-whole : (t : List ℕ) → AreSound [] t → whole_lines (whole_lines t) ≡ whole_lines t
+pub whole-whole : (t : List ℕ) → HasSoundLines [] t → whole_lines (whole_lines t) ≡ whole_lines t
 whole-whole t h =
     let whole : whole_lines t ≡ read_back t = sym (sound-kept [] t h) in
     ap whole_lines whole ∙ sym (sound-kept [] (read_back t) (kept-sound-after false [] t tt)) ∙ ap read_back (sym whole) ∙ read-whole t h
 
-pub whole-sound : (t : List ℕ) → AreSound [] t → AreSound [] (whole_lines t)
-whole-sound t h = subst (AreSound []) (sound-kept [] t h) (kept-sound-after false [] t tt)
+pub whole-sound : (t : List ℕ) → HasSoundLines [] t → HasSoundLines [] (whole_lines t)
+whole-sound t h = subst (HasSoundLines []) (sound-kept [] t h) (kept-sound-after false [] t tt)
 
-pub whole-ends : (t : List ℕ) → AreSound [] t → begun_after [] (whole_lines t) ≡ []
+pub whole-ends : (t : List ℕ) → HasSoundLines [] t → begun_after [] (whole_lines t) ≡ []
 whole-ends t h = ap (begun_after []) (sym (sound-kept [] t h)) ∙ back-ends t
 
 -- ---- the records of a text that goes on after whole records
@@ -460,12 +460,12 @@ unmarked-append [] ys e f = f
 unmarked-append (x ∷ xs) ys e f = e
 
 -- the records of a text after whole records
-pub records-append : {xs : List ℕ} (ys : List ℕ) → IsWhole xs → is_marked ys ≡ false → input_records (xs ++ ys) ≡ input_records xs ++ input_records ys
+pub records-append : {xs : List ℕ} (ys : List ℕ) → HasWholeRecords xs → is_marked ys ≡ false → input_records (xs ++ ys) ≡ input_records xs ++ input_records ys
 records-append {xs} ys w u =
     records-of (xs ++ ys) (unmarked-append xs ys w.unmarked u) ∙ rows-append st.StartRecord [] [] xs ys refl (λ b. (refl, refl)) w.closed
     ∙ ap (λ t. t ++ rows_of st.StartRecord [] [] ys) (sym (records-of xs w.unmarked)) ∙ ap (λ t. input_records xs ++ t) (sym (records-of ys u))
 
-pub none-whole : IsWhole []
+pub none-whole : HasWholeRecords []
 none-whole = record { closed = refl; unmarked = refl }
 
 pub none-read : input_records [] ≡ []
@@ -538,7 +538,7 @@ cut-ended asks line kept question {asked} h none is q k = record {
 
 -- or goes on
 pub cut-pushed : (asks : Bool) (line : List ℕ) {begun begun2 : List ℕ} (kept question : List ℕ) (b : ℕ) → eqb b 10 ≡ false → begun ≡ begun_bytes line
-    → length begun ≤ 4096 → begun2 ≡ begun ++ b ∷ [] → CutsLines asks line (b ∷ []) begun2 kept kept false question
+    → length begun ≤ 4613 → begun2 ≡ begun ++ b ∷ [] → CutsLines asks line (b ∷ []) begun2 kept kept false question
 cut-pushed asks line kept question b e h l new = record {
   begins = rw e (begun-pushed line b h l new);
   keeps = rw e (sym (append-nil kept));
@@ -546,7 +546,7 @@ cut-pushed asks line kept question b e h l new = record {
 }
 
 pub cut-stays : (asks : Bool) (line : List ℕ) {begun : List ℕ} (kept question : List ℕ) (b : ℕ) → eqb b 10 ≡ false → begun ≡ begun_bytes line
-    → 4096 < length begun → CutsLines asks line (b ∷ []) begun kept kept false question
+    → 4613 < length begun → CutsLines asks line (b ∷ []) begun kept kept false question
 cut-stays asks line kept question b e h l = record {
   begins = rw e (begun-stays line b h l);
   keeps = rw e (sym (append-nil kept));
@@ -564,17 +564,17 @@ nothing-kept : (start line : List ℕ) → HasNoEnd line → kept_after true sta
 nothing-kept start [] h = refl
 nothing-kept start (b ∷ line) h = rw h.0 (nothing-kept (start ++ b ∷ []) line h.1)
 
-kept-ended : (line rest : List ℕ) (v : Bool) → HasNoEnd line → is_question line ≡ v → kept_of (without_after [] rest) ≡ kept_after true [] rest
-    → kept_of (cond v [] (line ++ 10 ∷ []) ++ without_after [] rest) ≡ kept_line true line ++ kept_after true [] rest
+kept-ended : (line rest : List ℕ) (v : Bool) → HasNoEnd line → is_question line ≡ v → kept_of_input (without_after [] rest) ≡ kept_after true [] rest
+    → kept_of_input (cond v [] (line ++ 10 ∷ []) ++ without_after [] rest) ≡ kept_line true line ++ kept_after true [] rest
 kept-ended line rest true h e rest_kept = rest_kept ∙ ap (λ t. cond t [] (kept_record line) ++ kept_after true [] rest) (sym e)
 kept-ended line rest false h e rest_kept =
-    ap kept_of (append_assoc line (10 ∷ []) (without_after [] rest)) ∙ line-kept [] line (without_after [] rest) h
+    ap kept_of_input (append_assoc line (10 ∷ []) (without_after [] rest)) ∙ line-kept [] line (without_after [] rest) h
     ∙ ap (λ t. kept_line true line ++ t) rest_kept
 
-pub kept-without : (line bytes : List ℕ) → HasNoEnd line → kept_of (without_after line bytes) ≡ kept_after true line bytes
+pub kept-without : (line bytes : List ℕ) → HasNoEnd line → kept_of_input (without_after line bytes) ≡ kept_after true line bytes
 kept-without line [] h = nothing-kept [] line h
 kept-without line (b ∷ rest) h =
-    elim (eqb b 10) as (λ v. eqb b 10 ≡ v → kept_of
+    elim (eqb b 10) as (λ v. eqb b 10 ≡ v → kept_of_input
     (cond v (cond (is_question line) [] (line ++ 10 ∷ []) ++ without_after [] rest) (without_after (line ++ b ∷ []) rest))
     ≡ cond v (kept_line true line ++ kept_after true [] rest) (kept_after true (line ++ b ∷ []) rest)) [
       | true ↦ λ e. kept-ended line rest (is_question line) h refl (kept-without [] rest tt)

@@ -1,21 +1,22 @@
 -- How a run goes on, turn by turn, and what has come of its turns.
 use Rattle.rubis_keep.proofs.Common.{◌≡◌, ◌∙◌, ◌≤◌, ◌+◌, ◌⊎◌, inl, inr, ◌++◌, ◌∷◌, [], ℕ, Bool, true, false, List, Option, Some, None, cond, drop}
 use Rattle.rubis_keep.proofs.Common.{length, map, refl, take, take-append-drop, sym, ap, subst, arith, length-append, append-nil, Appends, Consumes}
-use Rattle.rubis_keep.proofs.Common.{IsAtEnd, Keeps, Place, Replica, after_all, appends-more, appends-none, input_records}
+use Rattle.rubis_keep.proofs.Common.{IsAtEnd, Keeps, Place, KeyedSite, appends-more, appends-none, input_records}
 use Rattle.rubis_engine.proofs.RunFacts.{front-kept as appends-kept}
 use Rattle.rubis_keep.specs.Telling.{grows-none, tells-more, tells-none}
-use Rattle.rubis_keep.specs.Turns.{Answering, Fed, HasFed, HasStopped, IsIdle, Stopped, answering, Answered, Breaks, Broke, Ends, IsAtRest, IsBegun, Reads, Standing}
-use Rattle.rubis_keep.specs.Turns.{Torn, Turn, Turns, Unanswered, Unreplied, last, replied_to}
+use Rattle.rubis_keep.specs.Turns.{Answering, Fed, HasFed, HasStopped, HoldsNothing, Stopped, clerk_at, Answered, Breaks, Broke, Ends, IsAtRest, IsLineBegun, TakesLines, Standing}
+use Rattle.rubis_keep.specs.Turns.{Torn, Turn, Turns, Unanswered, Unreplied, last, replied_to, with_held}
 use Rattle.rubis_keep.specs.Questions.{IsUnmoved, AreListed}
 use Rattle.rubis_keep.specs.Faults.{IsFailure}
-use Rattle.rubis_keep.specs.History.{Grows, History, KeepsLines, Tells, log_of, out_in, IsFrontOf}
-use Rattle.rubis_keep.specs.History.Event.{Kept, Replied}
-use Rattle.rubis_keep.specs.Lines.{begun_after, kept_after, begun_bytes, IsWhole}
+use Rattle.rubis_keep.specs.History.{Grows, History, KeepsLines, Tells, log_if_kept, out_in, IsFrontOf}
+use Rattle.rubis_keep.specs.History.FolderEvent.{Kept, Replied}
+use Rattle.rubis_keep.specs.Lines.{begun_after, kept_after, begun_bytes, HasWholeRecords}
 use Rattle.rubis_keep.specs.Shortened.{state_after}
 use Rattle.rubis_keep.specs.declared.answers.Answers.{Answers}
 use Rattle.rubis_keep.specs.declared.fault.KeepFault.{KeepFault}
 use Rattle.rubis_keep.specs.declared.pages.Listed.{Listed}
 use Rattle.rubis_keep.specs.declared.site.Clerk.{Clerk}
+use Rattle.rubis_keys.specs.Maps.{known_in}
 use Rattle.rubis_keep.proofs.FedFacts.{fed-more, fed-none, stopped-failed, stopped-later}
 use Rattle.rubis_keep.proofs.HistoryFacts.{consumes-more, consumes-none, IsStill, front-log, front-out, kept-log, kept-out, still-by, still-none, tells-log}
 use Rattle.rubis_keep.proofs.HistoryFacts.{tells-out}
@@ -46,9 +47,9 @@ pub record Went (keeps : Bool) (x y : Standing) : Type 0 where
   pub added : List ℕ
   pub taken : Consumes x.input y.input bytes
   pub cuts : (line : List ℕ) → x.begun ≡ begun_bytes line → (y.begun ≡ begun_bytes (begun_after line bytes)) × (chunk ≡ kept_after keeps line bytes)
-  pub whole : IsWhole chunk
+  pub whole : HasWholeRecords chunk
   pub fed : Fed (input_records chunk) x.at y.at text added
-  pub log : Appends (log_of keeps x.history) (log_of keeps y.history) chunk
+  pub log : Appends (log_if_kept keeps x.history) (log_if_kept keeps y.history) chunk
   pub out : Appends (out_in x.history) (out_in y.history) added
   pub told : keeps ≡ false → Tells x.at.is_live x.history y.history added []
   pub length_is : y.kept ≡ x.kept + length chunk
@@ -63,7 +64,7 @@ went-none keeps x = record {
   cuts = λ line e. (e, refl);
   whole = none-whole;
   fed = subst (λ r. Fed r x.at x.at [] []) (sym none-read) (fed-none x.at);
-  log = appends-none (log_of keeps x.history);
+  log = appends-none (log_if_kept keeps x.history);
   out = appends-none (out_in x.history);
   told = λ off. tells-none x.at.is_live x.history;
   length_is = omega arith;
@@ -93,7 +94,7 @@ went-more {keeps} {x} {y} {z} a b =
       cuts = cuts-more keeps a.bytes b.bytes a.cuts b.cuts;
       whole = whole-append a.whole b.whole;
       fed = subst (λ r. Fed r x.at z.at (a.text ++ b.text) (a.added ++ b.added)) (sym (records-append b.chunk a.whole b.whole.unmarked)) (fed-more a.fed b.fed);
-      log = appends-more (log_of keeps x.history) (log_of keeps y.history) (log_of keeps z.history) a.chunk b.chunk a.log b.log;
+      log = appends-more (log_if_kept keeps x.history) (log_if_kept keeps y.history) (log_if_kept keeps z.history) a.chunk b.chunk a.log b.log;
       out = appends-more (out_in x.history) (out_in y.history) (out_in z.history) a.added b.added a.out b.out;
       told = λ off. tells-more x.at.is_live x.history y.history z.history (a.told off)
           (subst (λ l. Tells l y.history z.history b.added []) a.fed.live (b.told off));
@@ -101,12 +102,12 @@ went-more {keeps} {x} {y} {z} a b =
     }
 
 -- what was read is whole lines
-pub reads-whole : {asks asked : Bool} {input input2 : Option (List ℕ)} {begun begun2 chunk question : List ℕ} → IsBegun begun
-    → Reads asks asked input input2 begun begun2 chunk question → IsWhole chunk
-reads-whole {asks} b r = subst IsWhole (sym (r.cuts b.0 b.2).keeps) (kept-whole asks b.0 r.bytes)
+pub reads-whole : {asks asked : Bool} {input input2 : Option (List ℕ)} {begun begun2 chunk question : List ℕ} → IsLineBegun begun
+    → TakesLines asks asked input input2 begun begun2 chunk question → HasWholeRecords chunk
+reads-whole {asks} b r = subst HasWholeRecords (sym (r.cuts b.0 b.2).keeps) (kept-whole asks b.0 r.bytes)
 
-pub reads-begun : {asks asked : Bool} {input input2 : Option (List ℕ)} {begun begun2 chunk question : List ℕ} → IsBegun begun
-    → Reads asks asked input input2 begun begun2 chunk question → IsBegun begun2
+pub reads-begun : {asks asked : Bool} {input input2 : Option (List ℕ)} {begun begun2 chunk question : List ℕ} → IsLineBegun begun
+    → TakesLines asks asked input input2 begun begun2 chunk question → IsLineBegun begun2
 reads-begun b r = (begun_after b.0 r.bytes, begun-no-end b.0 r.bytes b.1, (r.cuts b.0 b.2).begins)
 
 kept-then : (a b c : Option (List ℕ)) (added : List ℕ) → Keeps a b → Appends b c added → Appends a c added
@@ -125,7 +126,7 @@ answered-went {keeps} {x} {y} rests a = record {
   cuts = λ line e. ((a.reads.cuts line e).begins, (a.reads.cuts line e).keeps);
   whole = reads-whole rests.begun a.reads;
   fed = a.fed;
-  log = appends-kept (log_of keeps x.history) (log_of keeps a.mid) (log_of keeps y.history) a.chunk (kept-log keeps x.history a.mid a.chunk a.kept)
+  log = appends-kept (log_if_kept keeps x.history) (log_if_kept keeps a.mid) (log_if_kept keeps y.history) a.chunk (kept-log keeps x.history a.mid a.chunk a.kept)
       (tells-log keeps x.at.is_live a.mid y.history a.told);
   out = kept-then (out_in x.history) (out_in a.mid) (out_in y.history) a.added (kept-out keeps x.history a.mid a.chunk a.kept)
       (tells-out x.at.is_live a.mid y.history a.told);
@@ -138,7 +139,7 @@ answered-went {keeps} {x} {y} rests a = record {
     unkept false off k = tells-more x.at.is_live x.history a.mid y.history ([], k, refl, refl) a.told
 
 -- nothing of what it kept and told has changed
-went-on : {keeps : Bool} {x z : Standing} (y : Standing) → y ≡ record z { history = y.history; listed = y.listed } → Keeps (log_of keeps z.history) (log_of keeps y.history)
+went-on : {keeps : Bool} {x z : Standing} (y : Standing) → y ≡ record z { history = y.history; listed = y.listed } → Keeps (log_if_kept keeps z.history) (log_if_kept keeps y.history)
     → Keeps (out_in z.history) (out_in y.history) → (keeps ≡ false → Grows z.history y.history []) → Went keeps x z → Went keeps x y
 went-on {keeps} {x} {z} y same log out still w = rw same (record {
   bytes = w.bytes;
@@ -149,14 +150,14 @@ went-on {keeps} {x} {z} y same log out still w = rw same (record {
   cuts = w.cuts;
   whole = w.whole;
   fed = w.fed;
-  log = appends-kept (log_of keeps x.history) (log_of keeps z.history) (log_of keeps y.history) w.chunk w.log log;
+  log = appends-kept (log_if_kept keeps x.history) (log_if_kept keeps z.history) (log_if_kept keeps y.history) w.chunk w.log log;
   out = appends-kept (out_in x.history) (out_in z.history) (out_in y.history) w.added w.out out;
   told = λ off. subst (λ t. Tells x.at.is_live x.history y.history t []) (append-nil w.added)
       (tells-more x.at.is_live x.history z.history y.history (w.told off) ([], still off, refl, refl));
   length_is = w.length_is;
 })
 
-still-log : (keeps : Bool) (a b : Option History) → IsStill a b → Keeps (log_of keeps a) (log_of keeps b)
+still-log : (keeps : Bool) (a b : Option History) → IsStill a b → Keeps (log_if_kept keeps a) (log_if_kept keeps b)
 still-log true a b s = s.0
 still-log false a b s = tt
 
@@ -199,16 +200,16 @@ pub record Fell (keeps : Bool) (x : Standing) (input2 : Option (List ℕ)) (hist
   pub taken : Consumes x.input input2 (bytes ++ next)
   pub cuts : (line : List ℕ) → x.begun ≡ begun_bytes line
       → (chunk ≡ kept_after keeps line bytes) × IsFrontOf torn (kept_after keeps (begun_after line bytes) next)
-  pub whole : IsWhole chunk
+  pub whole : HasWholeRecords chunk
   pub stopped : Stopped (input_records chunk) x.at added e
-  pub log : Appends (log_of keeps x.history) (log_of keeps history2) (chunk ++ torn)
+  pub log : Appends (log_if_kept keeps x.history) (log_if_kept keeps history2) (chunk ++ torn)
   pub out : Appends (out_in x.history) (out_in history2) added
   pub told : keeps ≡ false → (due : List ℕ) × Tells x.at.is_live x.history history2 added due
 
 -- a fault that says nothing of records came
 pub went-fell : {keeps : Bool} {x y : Standing} (input2 : Option (List ℕ)) (history2 : Option History) (next torn : List ℕ) {e : KeepFault} → Went keeps x y
     → Consumes y.input input2 next → ((line : List ℕ) → y.begun ≡ begun_bytes line → IsFrontOf torn (kept_after keeps line next))
-    → Appends (log_of keeps y.history) (log_of keeps history2) torn → Keeps (out_in y.history) (out_in history2)
+    → Appends (log_if_kept keeps y.history) (log_if_kept keeps history2) torn → Keeps (out_in y.history) (out_in history2)
     → (keeps ≡ false → Grows y.history history2 []) → IsFailure e → Fell keeps x input2 history2 e
 went-fell {keeps} {x} {y} input2 history2 next torn {e} w taken front log out still fails = record {
   bytes = w.bytes;
@@ -221,7 +222,7 @@ went-fell {keeps} {x} {y} input2 history2 next torn {e} w taken front log out st
   whole = w.whole;
   stopped = subst (λ r. Stopped r x.at w.added e) (append-nil (input_records w.chunk))
       (subst (λ a. Stopped (input_records w.chunk ++ []) x.at a e) (append-nil w.added) (stopped-later w.fed (stopped-failed [] y.at e fails)));
-  log = appends-more (log_of keeps x.history) (log_of keeps y.history) (log_of keeps history2) w.chunk torn w.log log;
+  log = appends-more (log_if_kept keeps x.history) (log_if_kept keeps y.history) (log_if_kept keeps history2) w.chunk torn w.log log;
   out = appends-kept (out_in x.history) (out_in y.history) (out_in history2) w.added w.out out;
   told = λ off. (
     [],
@@ -236,7 +237,7 @@ torn-still keeps a b (inl none) g off = subst (λ t. Grows a b (map (λ b. Kept 
 torn-still keeps a b (inr on) g off = absurd (cc (on, off))
 
 torn-log : (keeps : Bool) {torn : List ℕ} (a b : Option History) → (torn ≡ []) ⊎ (keeps ≡ true) → Grows a b (map (λ b. Kept b) torn)
-    → Appends (log_of keeps a) (log_of keeps b) torn
+    → Appends (log_if_kept keeps a) (log_if_kept keeps b) torn
 torn-log true {torn} a b only g = front-log a b torn g
 torn-log false a b (inl none) g = tt
 torn-log false a b (inr on) g = tt
@@ -262,9 +263,9 @@ broke-fell {keeps} {x} {y} input2 history2 {e} w rests (inr (inl u)) =
       cuts = λ line b. ((cuts-more keeps w.bytes u.reads.bytes w.cuts (λ l c. let r = u.reads.cuts l c in (r.begins, r.keeps)) line b).1, ([], refl));
       whole = whole-append w.whole whole;
       stopped = subst (λ r. Stopped r x.at (w.added ++ u.added) e) (sym (records-append u.chunk w.whole whole.unmarked)) (stopped-later w.fed u.stopped);
-      log = subst (Appends (log_of keeps x.history) (log_of keeps history2)) (sym (append-nil (w.chunk ++ u.chunk)))
-          (appends-more (log_of keeps x.history) (log_of keeps y.history) (log_of keeps history2) w.chunk u.chunk w.log
-          (appends-kept (log_of keeps y.history) (log_of keeps u.mid) (log_of keeps history2) u.chunk log told));
+      log = subst (Appends (log_if_kept keeps x.history) (log_if_kept keeps history2)) (sym (append-nil (w.chunk ++ u.chunk)))
+          (appends-more (log_if_kept keeps x.history) (log_if_kept keeps y.history) (log_if_kept keeps history2) w.chunk u.chunk w.log
+          (appends-kept (log_if_kept keeps y.history) (log_if_kept keeps u.mid) (log_if_kept keeps history2) u.chunk log told));
       out = appends-more (out_in x.history) (out_in y.history) (out_in history2) w.added u.added w.out
           (kept-then (out_in y.history) (out_in u.mid) (out_in history2) u.added (kept-out keeps y.history u.mid u.chunk u.kept)
           (tells-out y.at.is_live u.mid history2 u.told));
@@ -283,7 +284,7 @@ broke-fell {keeps} {x} {y} input2 history2 w rests (inr (inr u)) =
     let on = went-more w (answered-went rests u.answered) in
     let still = replied-still z.history history2 u.replied in
     went-fell input2 history2 [] [] on (subst (λ i. Consumes z.input i []) (sym u.input_is) (consumes-none z.input)) (λ line b. ([], refl))
-    (kept-none (log_of keeps z.history) (log_of keeps history2) (still-log keeps z.history history2 still)) still.1
+    (kept-none (log_if_kept keeps z.history) (log_if_kept keeps history2) (still-log keeps z.history history2 still)) still.1
     (λ off. absurd (cc (u.answered.reads.asks_it refl, off))) u.cause
   where
     replied-still : (a b : Option History) → Grows a b [] ⊎ ((n : ℕ) × Grows a b (Replied u.question (take n (replied_to u.mid.at u.question)) ∷ [])) → IsStill a b
@@ -318,7 +319,7 @@ unread-torn keeps x input2 e taken fails = record {
 
 -- its lines could not be kept
 pub lines-torn : {keeps asked : Bool} (x : Standing) (input2 : Option (List ℕ)) (history2 : Option History) (e : KeepFault) {begun2 chunk question : List ℕ}
-    → Reads keeps asked x.input input2 x.begun begun2 chunk question
+    → TakesLines keeps asked x.input input2 x.begun begun2 chunk question
     → (keeps ≡ true) × (n : ℕ) × (n ≤ length chunk) × Grows x.history history2 (map (λ b. Kept b) (take n chunk)) → IsFailure e
     → Torn keeps x input2 history2 e
 lines-torn x input2 history2 e {chunk = chunk} r (on, n, l, g) fails = record {
@@ -333,7 +334,7 @@ lines-torn x input2 history2 e {chunk = chunk} r (on, n, l, g) fails = record {
 
 -- they were, and could not be answered
 pub lines-unanswered : {keeps asked : Bool} (x : Standing) (input2 : Option (List ℕ)) (mid history2 : Option History) (e : KeepFault)
-    {begun2 chunk question : List ℕ} → Reads keeps asked x.input input2 x.begun begun2 chunk question → KeepsLines keeps x.history mid chunk
+    {begun2 chunk question : List ℕ} → TakesLines keeps asked x.input input2 x.begun begun2 chunk question → KeepsLines keeps x.history mid chunk
     → HasStopped (input_records chunk) x.at mid history2 e → Unanswered keeps x input2 history2 e
 lines-unanswered {asked = asked} x input2 mid history2 e {begun2} {chunk} {question} r kept (added, s, (due, told)) = record {
   asked = asked;
@@ -350,21 +351,21 @@ lines-unanswered {asked = asked} x input2 mid history2 e {begun2} {chunk} {quest
 }
 
 -- records led a site that holds nothing to one that holds nothing
-pub led-idle : {rows : List (List (List ℕ))} {x y : Answering} {text added : List ℕ} → IsIdle x → IsIdle y → Fed rows x y text added
+pub led-idle : {rows : List (List (List ℕ))} {x y : Answering} {text added : List ℕ} → HoldsNothing x → HoldsNothing y → Fed rows x y text added
     → y.state ≡ state_after x.place x.state rows
-led-idle {rows} {x} {y} i j f = sym (ap (λ w. after_all y.place y.state w) j.window) ∙ f.state ∙ ap (λ w. state_after x.place (after_all x.place x.state w) rows) i.window
+led-idle {rows} {x} {y} i j f = sym (ap (λ w. with_held y.place y.state w) j.window) ∙ f.state ∙ ap (λ w. state_after x.place (with_held x.place x.state w) rows) i.window
 
 -- what is held of a listing is let go where records are answered, and stays right where none are
-listed-after : (p : Place) (s : Replica) {s2 : Replica} {records : List ℕ} {old new : Option Listed} → AreListed s old
-    → (new ≡ None) ⊎ ((records ≡ []) × (new ≡ old)) → s2 ≡ state_after p s (input_records records) → AreListed s2 new
-listed-after p s {s2} h (inl none) led = subst (AreListed s2) (sym none) tt
+listed-after : (p : Place) (s : KeyedSite) {s2 : KeyedSite} {records : List ℕ} {old new : Option Listed} → AreListed s.site old
+    → (new ≡ None) ⊎ ((records ≡ []) × (new ≡ old)) → s2 ≡ state_after p s (input_records records) → AreListed s2.site new
+listed-after p s {s2} h (inl none) led = subst (AreListed s2.site) (sym none) tt
 listed-after p s {new} h (inr same) led =
-    subst (λ x. AreListed x new) (sym (led ∙ ap (λ r. state_after p s (input_records r)) same.0 ∙ ap (state_after p s) none-read))
-    (subst (AreListed s) (sym same.1) h)
+    subst (λ (x : KeyedSite). AreListed x.site new) (sym (led ∙ ap (λ r. state_after p s (input_records r)) same.0 ∙ ap (state_after p s) none-read))
+    (subst (AreListed s.site) (sym same.1) h)
 
 pub lines-answered : {keeps asked : Bool} (x y : Standing) (mid : Option History) {chunk question : List ℕ}
-    → Reads keeps asked x.input y.input x.begun y.begun chunk question → IsAtRest x → KeepsLines keeps x.history mid chunk
-    → HasFed (input_records chunk) x.at y.at mid y.history → IsIdle y.at → (y.listed ≡ None) ⊎ ((chunk ≡ []) × (y.listed ≡ x.listed))
+    → TakesLines keeps asked x.input y.input x.begun y.begun chunk question → IsAtRest x → KeepsLines keeps x.history mid chunk
+    → HasFed (input_records chunk) x.at y.at mid y.history → HoldsNothing y.at → (y.listed ≡ None) ⊎ ((chunk ≡ []) × (y.listed ≡ x.listed))
     → y.kept ≡ x.kept + length chunk → Answered keeps x y asked question
 lines-answered x y mid {chunk} r rests kept (text, added, f, told) idle listed len = record {
   chunk = chunk;
@@ -384,10 +385,10 @@ lines-answered x y mid {chunk} r rests kept (text, added, f, told) idle listed l
 }
 
 pub unmoved-at : {O F G : Type 0} (before : O → Option (List ℕ)) {c c2 : Clerk G} (a a2 : Answers O F) → IsUnmoved c c2
-    → a2 ≡ record a { files = a2.files } → answering before c2 a2 ≡ answering before c a
+    → a2 ≡ record a { files = a2.files } → clerk_at before c2 a2 ≡ clerk_at before c a
 unmoved-at before a a2 u same = λ i. record {
   place = u.place i;
-  state = u.state i;
+  state = record { site = u.state i; keys = known_in (u.keys i) };
   held = u.window i;
   first = u.first i;
   answered = u.answered i;
@@ -401,7 +402,7 @@ unmoved-at before a a2 u same = λ i. record {
 -- and its question was answered, if it asked one
 pub turn-ends : {keeps asked : Bool} {x mid : Standing} (y : Standing) {question : List ℕ} → Answered keeps x mid asked question
     → Grows mid.history y.history (cond asked (Replied question (replied_to mid.at question) ∷ []) []) → y.at ≡ mid.at → y.input ≡ mid.input
-    → y.begun ≡ mid.begun → y.kept ≡ mid.kept → AreListed mid.at.state y.listed → Turn keeps x y
+    → y.begun ≡ mid.begun → y.kept ≡ mid.kept → AreListed mid.at.state.site y.listed → Turn keeps x y
 turn-ends {asked = asked} {mid = mid} y {question} a g at input begun kept listed = record {
   asked = asked;
   question = question;

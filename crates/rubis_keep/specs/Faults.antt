@@ -11,7 +11,7 @@ use Rattle.rubis_keep.specs.declared.fault.Difference.{Difference}
 use Rattle.rubis_engine.specs.Accounts.{Account}
 use Rattle.rubis_engine.specs.Accounts.Ending.{AtEnd}
 use Rattle.rubis_engine.specs.Text.{input_records}
-use Rattle.rubis_keep.specs.Lines.{are_sound, kept_of, whole_lines}
+use Rattle.rubis_keep.specs.Lines.{are_sound, kept_of_input, whole_lines}
 
 -- the first n bytes of a text are the next ones of a reader, which has no more where the text has
 abbrev pub Found : Option (List ℕ) → Option (List ℕ) → List ℕ → ℕ → Type 0
@@ -34,8 +34,8 @@ abbrev pub ends_in : List ℕ → ℕ
 ends_in text = length (filter (λ b. b == 10) text)
 
 -- they are counted, as far as a number of 64 bits goes
-abbrev pub Counts : ℕ → ℕ → List ℕ → Type 0
-Counts lines lines2 text = lines + ends_in text < 2 ^ 64 → lines2 ≡ lines + ends_in text
+abbrev pub CountsLines : ℕ → ℕ → List ℕ → Type 0
+CountsLines lines lines2 text = lines + ends_in text < 2 ^ 64 → lines2 ≡ lines + ends_in text
 
 -- one of these bytes, which go on with a line that was begun, ends the first line that isn't kept as it is; those before it are counted
 pub record IsEdited (line bytes : List ℕ) (lines lines2 : ℕ) : Type 0 where
@@ -43,7 +43,7 @@ pub record IsEdited (line bytes : List ℕ) (lines lines2 : ℕ) : Type 0 where
   pub inside : at < length bytes
   pub before : are_sound line (take at bytes) ≡ true
   pub there : are_sound line (take (at + 1) bytes) ≡ false
-  pub counted : Counts lines lines2 (take at bytes)
+  pub counted : CountsLines lines lines2 (take at bytes)
 
 -- the line of this number is the first one of a text that isn't kept as it is
 abbrev pub IsEditedAt : List ℕ → ℕ → Type 0
@@ -114,10 +114,10 @@ abbrev pub IsTrueFault : ℕ → Account → List ℕ → List ℕ → List ℕ 
 IsTrueFault limit all kept old bytes (fault.Edited n) = IsEditedAt kept n
 IsTrueFault limit all kept old bytes (fault.Differs d) = let text = all.text AtEnd (input_records (whole_lines kept)) in
     (IsFrontOf old text → ⊥) × TellsLine old text 0 d
-IsTrueFault limit all kept old bytes fault.TooLong = limit < length (input_records (whole_lines kept ++ kept_of bytes))
+IsTrueFault limit all kept old bytes fault.TooLong = limit < length (input_records (whole_lines kept ++ kept_of_input bytes))
 IsTrueFault limit all kept old bytes other = ⊤
 
 -- a run ended with a fault that is true; or it ended without one, and had no more records than its limit
 abbrev pub EndsTruly : {T : Type 0} → ℕ → Account → List ℕ → List ℕ → Option (List ℕ) → Option (List ℕ) → Result T KeepFault → Type 0
 EndsTruly limit all kept old input input2 r = (bytes : List ℕ) × Consumes input input2 bytes
-    × MatchResult r (λ _. length (input_records (whole_lines kept ++ kept_of bytes)) ≤ limit) (IsTrueFault limit all kept old bytes)
+    × MatchResult r (λ _. length (input_records (whole_lines kept ++ kept_of_input bytes)) ≤ limit) (IsTrueFault limit all kept old bytes)

@@ -1,6 +1,9 @@
 pub mod Lines
 pub mod Faults
 pub mod History
+pub mod Happenings
+pub mod KeptLine
+pub mod SetupLine
 pub mod Shortened
 pub mod Setups
 pub mod Questions

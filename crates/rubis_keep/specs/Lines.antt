@@ -1,6 +1,7 @@
 -- What is kept of an input: its lines, each one whole records of CSV, but for its questions.
 use Rattle.std.specs.Prelude.{◌≡◌, ◌==◌, ◌&&◌, ◌+◌, ◌++◌, ◌∷◌, [], ℕ, Bool, List, IsTrue, false, true, if◌then◌else◌, length, nat_le, not, get_or, take, ⊤}
-use Rattle.std.specs.Prelude.{MatchBool, cond}
+use Rattle.std.specs.Prelude.{MatchBool, codes, cond, nat_eq}
+use Rattle.std.specs.List.{starts_with}
 use Rattle.csv.specs.Machine.{step}
 use Rattle.csv.specs.Reading.{default_config}
 use Rattle.csv.specs.declared.parser.State.{State}
@@ -23,8 +24,8 @@ is_quoted st.InComment = false
 is_quoted st.AfterCr = false
 
 -- a line in which the quotes close, so that the next line begins a record
-abbrev pub closes : List ℕ → Bool
-closes line = not (is_quoted (state_after st.StartRecord line))
+abbrev pub closes_quotes : List ℕ → Bool
+closes_quotes line = not (is_quoted (state_after st.StartRecord line))
 
 -- a line that begins with the first byte of a byte order mark, which no record does
 abbrev pub is_marked : List ℕ → Bool
@@ -34,13 +35,21 @@ is_marked line = get_or line 0 0 == 0xEF
 abbrev pub broken : List ℕ
 broken = 98 ∷ 114 ∷ 111 ∷ 107 ∷ 101 ∷ 110 ∷ 10 ∷ []
 
--- no line is longer
+-- no line is longer, but for one that begins with `key,`
 abbrev pub line_max : ℕ
 line_max = 4096
 
+-- and that is longer by no more than a key in quotes takes
+abbrev pub keyed_max : ℕ
+keyed_max = 4613
+
+-- how long a line may be
+abbrev pub line_limit : List ℕ → ℕ
+line_limit line = cond (starts_with nat_eq line (codes "key,")) keyed_max line_max
+
 -- a line that is kept as it is
 abbrev pub is_sound : List ℕ → Bool
-is_sound line = nat_le (length line) line_max && (closes line && not (is_marked line))
+is_sound line = nat_le (length line) (line_limit line) && (closes_quotes line && not (is_marked line))
 
 -- a line that begins with '?'
 abbrev pub is_question : List ℕ → Bool
@@ -65,8 +74,8 @@ begun_after line [] = line
 begun_after line (b ∷ rest) = if b == 10 then begun_after [] rest else begun_after (line ++ b ∷ []) rest
 
 -- what is kept of an input
-abbrev pub kept_of : List ℕ → List ℕ
-kept_of input = kept_after true [] input
+abbrev pub kept_of_input : List ℕ → List ℕ
+kept_of_input input = kept_after true [] input
 
 -- what is read of what was kept, where each line is a line of records
 abbrev pub read_back : List ℕ → List ℕ
@@ -79,7 +88,7 @@ pub record Asked : Type 0 where
 
 -- the questions that a line asks, and these bytes: `kept` was kept before
 abbrev pub asked_line : Bool → List ℕ → List ℕ → List Asked
-asked_line asks kept line = if asks && is_question line then record { kept = kept; question = take (line_max + 1) line } ∷ [] else []
+asked_line asks kept line = if asks && is_question line then record { kept = kept; question = take (keyed_max + 1) line } ∷ [] else []
 
 -- the questions of an input that goes on with a line that was begun, each with what was kept before it
 abbrev pub asked_after : Bool → List ℕ → List ℕ → List ℕ → List Asked
@@ -107,9 +116,9 @@ abbrev pub whole_lines : List ℕ → List ℕ
 whole_lines text = whole_after [] text
 
 -- each whole line of a text is kept as it is
-abbrev pub AreSound : List ℕ → List ℕ → Type 0
-AreSound line [] = ⊤
-AreSound line (b ∷ rest) = MatchBool (b == 10) (IsTrue (is_sound line) × AreSound [] rest) (AreSound (line ++ b ∷ []) rest)
+abbrev pub HasSoundLines : List ℕ → List ℕ → Type 0
+HasSoundLines line [] = ⊤
+HasSoundLines line (b ∷ rest) = MatchBool (b == 10) (IsTrue (is_sound line) × HasSoundLines [] rest) (HasSoundLines (line ++ b ∷ []) rest)
 
 -- the same, as it is decided
 abbrev pub are_sound : List ℕ → List ℕ → Bool
@@ -134,9 +143,9 @@ is_usual st.AfterCr = true
 is_usual st.InEscape = false
 is_usual st.InComment = false
 
--- the first bytes of a line, one more than a line may have
+-- the first bytes of a line, one more than any line may have
 abbrev pub begun_bytes : List ℕ → List ℕ
-begun_bytes line = take (line_max + 1) line
+begun_bytes line = take (keyed_max + 1) line
 
 -- ---- lines that are cut off an input, up to a question
 
@@ -154,6 +163,6 @@ pub record CutsLines (asks : Bool) (line bytes begun kept kept2 : List ℕ) (ask
 -- ---- a text of whole records
 
 -- after these bytes a record begins, and no byte order mark is at their start
-pub record IsWhole (bytes : List ℕ) : Type 0 where
+pub record HasWholeRecords (bytes : List ℕ) : Type 0 where
   pub closed : state_after st.StartRecord bytes ≡ st.StartRecord
   pub unmarked : is_marked bytes ≡ false

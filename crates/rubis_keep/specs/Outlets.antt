@@ -4,8 +4,8 @@ use Rattle.std.proofs.Common.{length, length-append}
 use Rattle.std.proofs.lemmas.List.{append-nil}
 use Rattle.std.proofs.lemmas.List.Elements.{filter-append}
 use Rattle.rubis_serving.specs.Outlets.{IsOutlet}
-use Rattle.rubis_keep.specs.Turns.{CountsOn, HasPut, HasTorn, HasTornOff, IsOver, PutsFront, PutsOver}
-use Rattle.rubis_keep.specs.Faults.{Counts, ends_in}
+use Rattle.rubis_keep.specs.Turns.{CountsOn, HasPut, HasTorn, HasTornOff, IsPutOver, PutsFront, PutsOver}
+use Rattle.rubis_keep.specs.Faults.{CountsLines, ends_in}
 use Rattle.rubis_keep.specs.History.{History, Tells}
 use Rattle.rubis_keep.specs.Telling.{tells-more, tells-none}
 use Rattle.rubis_keep.specs.declared.answers.Answers.{Answers}
@@ -20,11 +20,11 @@ none-right (x ∷ xs) ys e = absurd (cc e)
 
 -- ---- texts that are put one after the other
 
-over-none : (old : List ℕ) → IsOver old old [] []
+over-none : (old : List ℕ) → IsPutOver old old [] []
 over-none old = (append-nil old, inl refl)
 
-over-more : (old left left2 added added2 text text2 : List ℕ) → IsOver old left added text → IsOver left left2 added2 text2
-    → IsOver old left2 (added ++ added2) (text ++ text2)
+over-more : (old left left2 added added2 text text2 : List ℕ) → IsPutOver old left added text → IsPutOver left left2 added2 text2
+    → IsPutOver old left2 (added ++ added2) (text ++ text2)
 over-more old left left2 added added2 text text2 (e, one) (f, two) = (
   sym (append_assoc old added added2) ∙ ap (λ t. t ++ added2) e ∙ append_assoc text left added2 ∙ ap (λ t. text ++ t) f ∙ sym (append_assoc text text2 left2),
   ends one two,
@@ -52,7 +52,7 @@ ends-append xs ys = ap length (filter-append (λ b. b == 10) xs ys) ∙ length-a
 pub counts-none : (lines : ℕ) → CountsOn lines lines [] []
 counts-none lines none few = omega arith
 
-pub counts-both : (a b c : ℕ) (xs ys : List ℕ) → Counts a b xs → Counts b c ys → Counts a c (xs ++ ys)
+pub counts-both : (a b c : ℕ) (xs ys : List ℕ) → CountsLines a b xs → CountsLines b c ys → CountsLines a c (xs ++ ys)
 counts-both a b c xs ys f g few =
     let size = ends-append xs ys in
     let first = f (omega (arith, few, size)) in
@@ -130,5 +130,5 @@ module _ {O F : Type 0} {before : O → Option (List ℕ)} {history : F → Opti
     torn = t.torn;
   }
 
-pub are_outlets : {O F : Type 0} (before : O → Option (List ℕ)) (history : F → Option History) → IsOutlet (HasPut before history) (HasTornOff before history)
-are_outlets before history = record { none = put-none; more = put-more; torn_none = off-none; torn_later = off-later; torn_longer = off-longer }
+pub answers_are_outlets : {O F : Type 0} (before : O → Option (List ℕ)) (history : F → Option History) → IsOutlet (HasPut before history) (HasTornOff before history)
+answers_are_outlets before history = record { none = put-none; more = put-more; torn_none = off-none; torn_later = off-later; torn_longer = off-longer }

@@ -23,14 +23,15 @@ use Rattle.rubis_schema.specs.declared.row_keys.RowKey.TheVariants as key
 use Rattle.rubis_schema.specs.declared.rows.Row.{Row}
 use Rattle.rubis_schema.specs.declared.rows.Row.TheVariants as row
 use Rattle.rubis_engine.specs.Text.{input_records, rows_text}
-use Rattle.rubis_keep.specs.Lines.{closes, line_max, Asked, asked_after, whole_lines}
+use Rattle.rubis_keep.specs.Lines.{closes_quotes, line_max, Asked, asked_after, whole_lines}
 use Rattle.rubis_keep.specs.declared.questions.Question.{Question}
 use Rattle.rubis_keep.specs.declared.questions.Question.TheVariants as question
 use Rattle.std.specs.Io.KnownBytes.{Consumes}
-use Rattle.rubis_keep.specs.History.{Event, Grows, History}
-use Rattle.rubis_keep.specs.History.Event.{Replied}
+use Rattle.rubis_keep.specs.History.{FolderEvent, Grows, History}
+use Rattle.rubis_keep.specs.History.FolderEvent.{Replied}
 use Rattle.rubis_keep.specs.Shortened.{state_after}
 use Rattle.rubis_keep.specs.declared.site.Clerk.{Clerk}
+use Rattle.rubis_keys.specs.Keys.{KeyedSite}
 
 -- a question is refused, for this reason
 abbrev pub refused_as : List ℕ → List (List (List ℕ))
@@ -73,17 +74,17 @@ row_name (row ∷ kind ∷ key ∷ next ∷ rest) = cond (bytes_eq kind (codes "
 row_name fields = []
 
 -- the rows behind the first one of this name, if there is one
-abbrev pub behind : List ℕ → List (List (List ℕ)) → Option (List (List (List ℕ)))
-behind name [] = None
-behind name (row ∷ rows) = cond (bytes_eq (row_name row) name) (Some rows) (behind name rows)
+abbrev pub rows_behind_name : List ℕ → List (List (List ℕ)) → Option (List (List (List ℕ)))
+rows_behind_name name [] = None
+rows_behind_name name (row ∷ rows) = cond (bytes_eq (row_name row) name) (Some rows) (rows_behind_name name rows)
 
 -- the rows of a listing from where a page begins: the named row is looked for from a place on, and without a name the page begins at that place
-abbrev pub rows_from : Page → List (List (List ℕ)) → Option (List (List (List ℕ)))
-rows_from p rows = cond (length p.after == 0) (Some (drop p.from rows)) (behind p.after (drop p.from rows))
+abbrev pub rows_of_page : Page → List (List (List ℕ)) → Option (List (List (List ℕ)))
+rows_of_page p rows = cond (length p.after == 0) (Some (drop p.from rows)) (rows_behind_name p.after (drop p.from rows))
 
 -- what answers that asks for a page of these rows
 abbrev pub page_rows : Page → List (List (List ℕ)) → List (List (List ℕ))
-page_rows p rows = option_map_or (λ later. counted_rows (take p.most later)) (rows_from p rows) (refused_as (codes "NoRow"))
+page_rows p rows = option_map_or (λ later. counted_rows (take p.most later)) (rows_of_page p rows) (refused_as (codes "NoRow"))
 
 -- ---- what is held of a listing
 
@@ -105,8 +106,8 @@ says_state (word ∷ []) = bytes_eq word (codes "state")
 says_state fields = false
 
 -- the key that two words say: a table, and what names a row of it
-abbrev pub key_in : ℕ → List ℕ → List ℕ → Option RowKey
-key_in sites table name =
+abbrev pub asked_key : ℕ → List ℕ → List ℕ → Option RowKey
+asked_key sites table name =
     cond (bytes_eq table (codes "user")) (option_map key.User (id_of sites name))
     (cond (bytes_eq table (codes "item")) (option_map key.Item (id_of sites name))
     (cond (bytes_eq table (codes "bid")) (option_map key.Bid (id_of sites name))
@@ -117,7 +118,7 @@ key_in sites table name =
 
 -- the row that these fields ask for
 abbrev pub row_asked : ℕ → List (List ℕ) → Option RowKey
-row_asked sites (word ∷ table ∷ name ∷ []) = cond (bytes_eq word (codes "row")) (key_in sites table name) None
+row_asked sites (word ∷ table ∷ name ∷ []) = cond (bytes_eq word (codes "row")) (asked_key sites table name) None
 row_asked sites fields = None
 
 -- the first that is there
@@ -181,7 +182,7 @@ shown_to p s answered None = refused_as (codes "BadQuestion")
 abbrev pub reply_rows : Place → Replica → ℕ → List ℕ → List (List (List ℕ))
 reply_rows p s answered line =
     cond (not (nat_le (length line) line_max)) (refused_as (codes "TooLong"))
-    (cond (not (closes (drop 1 line))) (refused_as (codes "OpenQuote"))
+    (cond (not (closes_quotes (drop 1 line))) (refused_as (codes "OpenQuote"))
     (shown_to p s answered (question_in p.sites (input_records (drop 1 line ++ 10 ∷ [])))))
 
 -- the text of an answer: '?', and the text of its rows
@@ -198,20 +199,20 @@ pub record Reply : Type 0 where
   pub text : List ℕ
 
 -- what a history replied, question by question
-abbrev pub replied_in : List Event → List Reply
+abbrev pub replied_in : List FolderEvent → List Reply
 replied_in [] = []
 replied_in (Replied question text ∷ later) = record { question = question; text = text } ∷ replied_in later
 replied_in (e ∷ later) = replied_in later
 
 -- the answer of a site that had begun in state s, to a question: it has answered the records that were kept before it
-abbrev pub reply_to : Place → Replica → Asked → Reply
+abbrev pub reply_to : Place → KeyedSite → Asked → Reply
 reply_to p s a = record {
   question = a.question;
-  text = reply_text (reply_rows p (state_after p s (input_records a.kept)) (length (input_records a.kept)) a.question);
+  text = reply_text (reply_rows p (state_after p s (input_records a.kept)).site (length (input_records a.kept)) a.question);
 }
 
 -- the answers to the questions of these bytes of an input, where `kept` was kept before
-abbrev pub replies : Place → Replica → List ℕ → List ℕ → List Reply
+abbrev pub replies : Place → KeyedSite → List ℕ → List ℕ → List Reply
 replies p s kept bytes = map (reply_to p s) (asked_after true kept [] bytes)
 
 -- these are the first ones, the last of which may be cut off
@@ -221,8 +222,8 @@ AreFirst xs all = ((rest : List Reply) × (xs ++ rest ≡ all))
 
 -- a run that began with `kept` in its folder, and read these bytes of its input, has replied to the questions of them in their order;
 -- if it ended with a fault, to the first ones
-abbrev pub RepliesTo : {T E : Type 0} → Place → Replica → List ℕ → Option (List ℕ) → Option (List ℕ) → Option History → Option History → Result T E → Type 0
-RepliesTo p s kept input input2 old new r = (bytes : List ℕ) × Consumes input input2 bytes × (events : List Event) × Grows old new events
+abbrev pub RepliesTo : {T E : Type 0} → Place → KeyedSite → List ℕ → Option (List ℕ) → Option (List ℕ) → Option History → Option History → Result T E → Type 0
+RepliesTo p s kept input input2 old new r = (bytes : List ℕ) × Consumes input input2 bytes × (events : List FolderEvent) × Grows old new events
     × MatchResult r (λ _. replied_in events ≡ replies p s (whole_lines kept) bytes) (λ _. AreFirst (replied_in events) (replies p s (whole_lines kept) bytes))
 
 -- a question was replied to, if it was asked; at a fault nothing happened, or some first bytes of its answer stand there
@@ -232,10 +233,11 @@ RepliesIf asked old new r question text = MatchResult r (λ _. Grows old new (co
 
 -- nothing of what a clerk answers has changed, nor what it holds
 pub record IsUnmoved {G : Type 0} (old new : Clerk G) : Type 0 where
-  pub place : new.desk.site.place ≡ old.desk.site.place
-  pub state : new.desk.site.state ≡ old.desk.site.state
+  pub place : new.keyed.desk.site.place ≡ old.keyed.desk.site.place
+  pub state : new.keyed.desk.site.state ≡ old.keyed.desk.site.state
+  pub keys : new.keyed.keys ≡ old.keyed.keys
   pub answered : new.served.answered ≡ old.served.answered
-  pub window : new.desk.window.items ≡ old.desk.window.items
-  pub first : new.desk.first ≡ old.desk.first
+  pub window : new.keyed.desk.window.items ≡ old.keyed.desk.window.items
+  pub first : new.keyed.desk.first ≡ old.keyed.desk.first
   pub sink : new.served.reply.sink ≡ old.served.reply.sink
   pub limit : new.limit ≡ old.limit

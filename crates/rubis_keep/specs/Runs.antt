@@ -1,20 +1,21 @@
 -- A run of a site that keeps its records, from its start to its end: what was kept is read through and flushed, and answered again; the line
 -- that isn't whole is cut off, and `kept,..` is shown; then new records come.
-use Rattle.std.specs.Prelude.{◌≡◌, ◌∷◌, ◌⊎◌, [], ℕ, IfSome, List, MatchResult, None, Option, Result, false, take, true}
+use Rattle.std.specs.Prelude.{◌≡◌, ◌∷◌, ◌⊎◌, [], ℕ, IfSome, List, MatchResult, None, Option, Result, false, take, true, ⊤}
 use Rattle.std.specs.Io.KnownBytes.{IsAtEnd, Keeps}
 use Rattle.rubis_model.specs.Site.{counts}
-use Rattle.rubis_keep.specs.Turns.{Answering, Breaks, Ends, IsAtRest, Standing, left_of}
+use Rattle.rubis_keep.specs.Turns.{Answering, Breaks, Ends, IsAtRest, Standing, left_to_read}
 use Rattle.rubis_keep.specs.Faults.{HasMore, MayDiffer, IsEditedAt, IsFailure, MayBeEdited, of_kept}
-use Rattle.rubis_keep.specs.History.{Event, Grows, History}
-use Rattle.rubis_keep.specs.History.Event.{Began, CutTo, Flushed, Settled}
-use Rattle.rubis_keep.specs.Lines.{AreSound}
+use Rattle.rubis_keep.specs.History.{FolderEvent, Grows, History}
+use Rattle.rubis_keep.specs.History.FolderEvent.{Began, CutTo, Flushed, Settled}
+use Rattle.rubis_keep.specs.Lines.{HasSoundLines}
 use Rattle.rubis_keep.specs.declared.fault.KeepFault.{KeepFault}
+use Rattle.rubis_keep.specs.declared.fault.KeepFault.TheVariants as fault
 
 -- ---- what was kept is answered again
 
 -- what was kept is lines that are kept as they are, and was flushed: `first` is what was read of it
 pub record Starts (first : Option (List ℕ)) (old new : Option History) : Type 0 where
-  pub sound : IfSome first (λ text. AreSound [] text)
+  pub sound : IfSome first (λ text. HasSoundLines [] text)
   pub flushed : Grows old new (Flushed ∷ [])
 
 -- where a run of a site that answers so begins, with this to be read of what was kept
@@ -38,9 +39,14 @@ Unreplayed x history2 e = ((met : KeepFault) × (past2 : Option (List ℕ)) × B
 
 -- ---- and new records come
 
+-- a write to `kept` failed, a flush or a cut of it
+abbrev pub IsKeptFailure : KeepFault → Type 0
+IsKeptFailure (fault.WriteKept e) = ⊤
+IsKeptFailure other = ⊥
+
 -- what happens in between
-abbrev pub beginning : Standing → List Event
-beginning y = CutTo y.kept ∷ Flushed ∷ Settled ∷ Began y.at.answered (counts y.at.place.sites y.at.state.log) ∷ []
+abbrev pub beginning : Standing → List FolderEvent
+beginning y = CutTo y.kept ∷ Flushed ∷ Settled ∷ Began y.at.answered (counts y.at.place.sites y.at.state.site.log) ∷ []
 
 -- all of it did
 pub record Begun (y : Standing) (input : Option (List ℕ)) (z : Standing) : Type 0 where
@@ -52,12 +58,12 @@ pub record Begun (y : Standing) (input : Option (List ℕ)) (z : Standing) : Typ
 -- the run came to the end of its input
 abbrev pub GoesOn : Standing → Option (List ℕ) → Option (List ℕ) → Option History → Type 0
 GoesOn y input input2 history2 = (z end : Standing) × (unread : List ℕ) × Begun y input z × Ends true z end
-    × (end.input ≡ left_of unread input2) × (end.history ≡ history2)
+    × (end.input ≡ left_to_read unread input2) × (end.history ≡ history2)
 
 -- a fault ended it before the first record, or then
 abbrev pub Fails : Standing → Option (List ℕ) → Option (List ℕ) → Option History → KeepFault → Type 0
 Fails y input input2 history2 e = ((n : ℕ) × Grows y.history history2 (take n (beginning y)) × (input2 ≡ input) × IsFailure e)
-    ⊎ ((z : Standing) × (unread : List ℕ) × Begun y input z × Breaks true z (left_of unread input2) history2 e)
+    ⊎ ((z : Standing) × (unread : List ℕ) × Begun y input z × Breaks true z (left_to_read unread input2) history2 e)
 
 -- ---- the run
 

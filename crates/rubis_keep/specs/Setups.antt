@@ -4,10 +4,11 @@ use Rattle.rubis_schema.specs.declared.limits.TheConstants.{KEEP_MAX}
 use Rattle.rubis_script.specs.Replica.{IsSetup, Setup as SiteSetup}
 use Rattle.rubis_keep.specs.declared.keep.Wanted.{Wanted}
 use Rattle.rubis_keep.specs.declared.setup.Setup.{Setup}
+use Rattle.rubis_keep.specs.declared.setup.TheConstants.{ANSWERS}
 
 -- a new site: where nothing is asked for, it is site 0 of one, and keeps 1,000,000 messages
 abbrev pub opening_setup : Wanted → Setup
-opening_setup w = record { site = unwrap_or w.site 0; sites = unwrap_or w.sites 1; keep = unwrap_or w.keep KEEP_MAX; answers = 1 }
+opening_setup w = record { site = unwrap_or w.site 0; sites = unwrap_or w.sites 1; keep = unwrap_or w.keep KEEP_MAX; answers = ANSWERS }
 
 -- what is asked for is the site that the folder has, which may keep more from now on
 abbrev pub GoesOn : Wanted → Setup → Type 0

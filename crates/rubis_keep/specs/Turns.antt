@@ -2,7 +2,7 @@
 use Rattle.std.specs.Prelude.{◌≡◌, ◌≤◌, ◌<◌, ◌+◌, ◌++◌, ◌⊎◌, [], ℕ, Bool, IfSome, List, MatchResult, Option, Result, None, Some, length, ◌≢◌, ◌∷◌, MatchBool, ⊤}
 use Rattle.std.specs.Prelude.{cond, map, take, true}
 use Rattle.rubis_message.specs.Message.{Message}
-use Rattle.rubis_model.specs.Site.{answers, Place, Replica}
+use Rattle.rubis_model.specs.Site.{Place}
 use Rattle.rubis_replica.specs.State.{after_all}
 use Rattle.rubis_engine.specs.Accounts.{Ending}
 use Rattle.rubis_engine.specs.Accounts.Ending.{AtEnd}
@@ -10,10 +10,11 @@ use Rattle.rubis_engine.specs.declared.fault.RunFault.{RunFault}
 use Rattle.rubis_engine.specs.declared.fault.RunFault.TheVariants as run
 use Rattle.rubis_engine.specs.Text.{rows_text, input_records}
 use Rattle.rubis_script.specs.Windows.{window_rows}
-use Rattle.rubis_script.specs.Desks.{LeadsSite, left_at}
-use Rattle.rubis_script.specs.declared.desk.Desk.{Desk}
+use Rattle.rubis_keys.specs.Desks.{LeadsKeyed, keyed_left_at, standing_at}
+use Rattle.rubis_keys.specs.Keys.{KeyedSite, keyed_answers}
+use Rattle.rubis_keys.specs.declared.desk.KeyedDesk.{KeyedDesk}
 use Rattle.rubis_serving.specs.Serving.{Serving, serving}
-use Rattle.rubis_keep.specs.Faults.{Counts, MayDiffer, IsFailure, TellsLine}
+use Rattle.rubis_keep.specs.Faults.{CountsLines, MayDiffer, IsFailure, TellsLine}
 use Rattle.rubis_keep.specs.History.{History, Tells, IsFrontOf, Grows, KeepsLines}
 use Rattle.rubis_keep.specs.Shortened.{state_after}
 use Rattle.rubis_keep.specs.declared.answers.Answers.{Answers}
@@ -23,7 +24,7 @@ use Rattle.rubis_keep.specs.declared.fault.KeepFault.TheVariants as fault
 use Rattle.rubis_keep.specs.declared.site.Clerk.{Clerk}
 use Rattle.std.specs.Io.KnownBytes.{Consumes, IsAtEnd, prepend_known}
 use Rattle.rubis_keep.specs.Lines.{CutsLines, HasNoEnd, kept_after, begun_bytes}
-use Rattle.rubis_keep.specs.History.Event.{Kept, Replied}
+use Rattle.rubis_keep.specs.History.FolderEvent.{Kept, Replied}
 use Rattle.rubis_keep.specs.Questions.{AreListed, reply_rows, reply_text}
 use Rattle.rubis_keep.specs.declared.keeping.KeptLines.{KeptLines}
 use Rattle.rubis_keep.specs.declared.pages.Listed.{Listed}
@@ -32,7 +33,7 @@ use Rattle.rubis_keep.specs.declared.pages.Listed.{Listed}
 -- are at most; what waits to be put, whether answers are shown, and what is left of the answers of before, with how many lines were found
 pub record Answering : Type 0 where
   pub place : Place
-  pub state : Replica
+  pub state : KeyedSite
   pub held : List Message
   pub first : ℕ
   pub answered : ℕ
@@ -42,12 +43,12 @@ pub record Answering : Type 0 where
   pub before : Option (List ℕ)
   pub lines : ℕ
 
-abbrev pub answering : {O F G : Type 0} → (O → Option (List ℕ)) → Clerk G → Answers O F → Answering
-answering before clerk answers = record {
-  place = clerk.desk.site.place;
-  state = clerk.desk.site.state;
-  held = clerk.desk.window.items;
-  first = clerk.desk.first;
+abbrev pub clerk_at : {O F G : Type 0} → (O → Option (List ℕ)) → Clerk G → Answers O F → Answering
+clerk_at before clerk answers = record {
+  place = clerk.keyed.desk.site.place;
+  state = standing_at clerk.keyed;
+  held = clerk.keyed.desk.window.items;
+  first = clerk.keyed.desk.first;
   answered = clerk.served.answered;
   limit = clerk.limit;
   sink = clerk.served.reply.sink;
@@ -56,13 +57,17 @@ answering before clerk answers = record {
   lines = answers.lines;
 }
 
+-- a site once it has taken in the messages that it holds, and what it knows under keys
+abbrev pub with_held : Place → KeyedSite → List Message → KeyedSite
+with_held p s held = record s { site = after_all p s.site held }
+
 -- the text that is still to be put, if these records come next and then the run ends so
-abbrev pub coming : Answering → Ending → List (List (List ℕ)) → List ℕ
-coming a ending records =
-    a.sink ++ rows_text (window_rows a.place a.state a.first a.held ++ answers a.place (after_all a.place a.state a.held) (a.answered + 1) records)
+abbrev pub still_to_put : Answering → Ending → List (List (List ℕ)) → List ℕ
+still_to_put a ending records =
+    a.sink ++ rows_text (window_rows a.place a.state.site a.first a.held ++ keyed_answers a.place (with_held a.place a.state a.held) (a.answered + 1) records)
 
 -- nothing is held, and nothing waits to be put; no more are answered than the limit
-pub record IsIdle (a : Answering) : Type 0 where
+pub record HoldsNothing (a : Answering) : Type 0 where
   pub window : a.held ≡ []
   pub empty : a.sink ≡ []
   pub within : a.answered ≤ a.limit
@@ -70,15 +75,15 @@ pub record IsIdle (a : Answering) : Type 0 where
 -- ---- a text that is put over answers of before
 
 -- it was found there as far as they go, `left` of them is left, and `added` is the rest of it
-abbrev pub IsOver : List ℕ → List ℕ → List ℕ → List ℕ → Type 0
-IsOver old left added text = (old ++ added ≡ text ++ left) × ((added ≡ []) ⊎ (left ≡ []))
+abbrev pub IsPutOver : List ℕ → List ℕ → List ℕ → List ℕ → Type 0
+IsPutOver old left added text = (old ++ added ≡ text ++ left) × ((added ≡ []) ⊎ (left ≡ []))
 
 abbrev pub PutsOver : Option (List ℕ) → Option (List ℕ) → List ℕ → List ℕ → Type 0
-PutsOver before before2 added text = IfSome before (λ old. (left : List ℕ) × (before2 ≡ Some left) × IsOver old left added text)
+PutsOver before before2 added text = IfSome before (λ old. (left : List ℕ) × (before2 ≡ Some left) × IsPutOver old left added text)
 
 -- where all of it was found, its lines are counted
 abbrev pub CountsOn : ℕ → ℕ → List ℕ → List ℕ → Type 0
-CountsOn lines lines2 added text = added ≡ [] → Counts lines lines2 text
+CountsOn lines lines2 added text = added ≡ [] → CountsLines lines lines2 text
 
 -- nothing was added, or what stands there then is the beginning of this text
 abbrev pub PutsFront : Option (List ℕ) → List ℕ → List ℕ → Type 0
@@ -124,28 +129,28 @@ pub record HasTornOff {O F : Type 0} (before : O → Option (List ℕ)) (history
   pub torn : HasTorn before history next mid b
 
 -- a run of a site that is kept
-abbrev pub keeping : {T O F : Type 0} → (O → Option (List ℕ)) → (F → Option History) → Serving (Desk T) (Answers O F)
-keeping before history = serving left_at LeadsSite (HasPut before history) (HasTornOff before history)
+abbrev pub kept_run : {T O F : Type 0} → (O → Option (List ℕ)) → (F → Option History) → Serving (KeyedDesk T) (Answers O F)
+kept_run before history = serving keyed_left_at LeadsKeyed (HasPut before history) (HasTornOff before history)
 
 -- the fault that was noted, if one was: otherwise memory ran out
-abbrev pub fault_of : Option KeepFault → KeepFault
-fault_of (Some e) = e
-fault_of None = fault.Memory
+abbrev pub noted_fault : Option KeepFault → KeepFault
+noted_fault (Some e) = e
+noted_fault None = fault.Memory
 
 -- why a run ended so
 abbrev pub met : RunFault → Option KeepFault → KeepFault
 met run.TooLong noted = fault.TooLong
-met other noted = fault_of noted
+met other noted = noted_fault noted
 
 -- ---- records that are answered
 
 -- these records were answered, this text was put, of which `added` is new, and they led the site on
 pub record Fed (rows : List (List (List ℕ))) (x y : Answering) (text added : List ℕ) : Type 0 where
-  pub says : (ending : Ending) (more : List (List (List ℕ))) → coming x ending (rows ++ more) ≡ text ++ coming y ending more
+  pub says : (ending : Ending) (more : List (List (List ℕ))) → still_to_put x ending (rows ++ more) ≡ text ++ still_to_put y ending more
   pub put : PutsOver x.before y.before added text
   pub counted : CountsOn x.lines y.lines added text
   pub place : y.place ≡ x.place
-  pub state : after_all y.place y.state y.held ≡ state_after x.place (after_all x.place x.state x.held) rows
+  pub state : with_held y.place y.state y.held ≡ state_after x.place (with_held x.place x.state x.held) rows
   pub count : y.answered ≡ x.answered + length rows
   pub limit : y.limit ≡ x.limit
   pub live : y.is_live ≡ x.is_live
@@ -153,13 +158,13 @@ pub record Fed (rows : List (List (List ℕ))) (x y : Answering) (text added : L
 -- what is so if this fault comes before these records are answered: what stands there of before is no beginning of the answers to them,
 -- whatever follows; or they are more than are answered
 abbrev pub IsCause : List (List (List ℕ)) → Answering → KeepFault → Type 0
-IsCause rows x (fault.Differs d) = (more : List (List (List ℕ))) → IsUnlike x.before x.lines (coming x AtEnd (rows ++ more)) d
+IsCause rows x (fault.Differs d) = (more : List (List (List ℕ))) → IsUnlike x.before x.lines (still_to_put x AtEnd (rows ++ more)) d
 IsCause rows x fault.TooLong = x.limit < x.answered + length rows
 IsCause rows x other = IsFailure other
 
 -- this fault came, for a cause, and `added` begins the answers to them, whatever follows
 pub record Stopped (rows : List (List (List ℕ))) (x : Answering) (added : List ℕ) (e : KeepFault) : Type 0 where
-  pub begins : (more : List (List (List ℕ))) → PutsFront x.before added (coming x AtEnd (rows ++ more))
+  pub begins : (more : List (List (List ℕ))) → PutsFront x.before added (still_to_put x AtEnd (rows ++ more))
   pub cause : IsCause rows x e
 
 -- the records are answered, and what was added was told, and shown where answers are; or a fault came before they were
@@ -188,13 +193,13 @@ pub record Standing : Type 0 where
   pub listed : Option Listed
 
 -- what is left of an input of which these bytes were read and aren't looked at yet
-abbrev pub left_of : List ℕ → Option (List ℕ) → Option (List ℕ)
-left_of unread input = prepend_known unread input
+abbrev pub left_to_read : List ℕ → Option (List ℕ) → Option (List ℕ)
+left_to_read unread input = prepend_known unread input
 
 abbrev pub standing : {R O F G : Type 0} → (R → Option (List ℕ)) → (O → Option (List ℕ)) → (F → Option History) → R → KeptLines → Clerk G → Answers O F → Standing
 standing input before history live lines clerk answers = record {
-  at = answering before clerk answers;
-  input = left_of lines.unread (input live);
+  at = clerk_at before clerk answers;
+  input = left_to_read lines.unread (input live);
   history = history answers.files;
   begun = lines.cutter;
   kept = lines.kept;
@@ -202,20 +207,20 @@ standing input before history live lines clerk answers = record {
 }
 
 -- the beginning of some line
-abbrev pub IsBegun : List ℕ → Type 0
-IsBegun begun = (line : List ℕ) × HasNoEnd line × (begun ≡ begun_bytes line)
+abbrev pub IsLineBegun : List ℕ → Type 0
+IsLineBegun begun = (line : List ℕ) × HasNoEnd line × (begun ≡ begun_bytes line)
 
 -- nothing is held, and nothing waits to be put; some line is begun; and what is held of a listing is that of this moment
 pub record IsAtRest (s : Standing) : Type 0 where
-  pub idle : IsIdle s.at
-  pub begun : IsBegun s.begun
-  pub listed : AreListed s.at.state s.listed
+  pub idle : HoldsNothing s.at
+  pub begun : IsLineBegun s.begun
+  pub listed : AreListed s.at.state.site s.listed
 
 -- ---- what comes of an input
 
 -- some bytes of it came, and what is kept of the lines that end in them is `chunk`; they end with the one question that they ask, if they
 -- ask one. What was kept asks none, whatever it has
-pub record Reads (asks asked : Bool) (input input2 : Option (List ℕ)) (begun begun2 chunk question : List ℕ) : Type 0 where
+pub record TakesLines (asks asked : Bool) (input input2 : Option (List ℕ)) (begun begun2 chunk question : List ℕ) : Type 0 where
   pub bytes : List ℕ
   pub taken : Consumes input input2 bytes
   pub cuts : (line : List ℕ) → begun ≡ begun_bytes line → CutsLines asks line bytes begun2 [] chunk asked question
@@ -230,7 +235,7 @@ CameOrEnded more input input2 = MatchBool more ((bytes : List ℕ) × Consumes i
 -- it went on from the one to the other: its lines are kept, if this run keeps what it reads, and answered. Whether it ended with a question
 pub record Answered (keeps : Bool) (x y : Standing) (asked : Bool) (question : List ℕ) : Type 0 where
   pub chunk : List ℕ
-  pub reads : Reads keeps asked x.input y.input x.begun y.begun chunk question
+  pub reads : TakesLines keeps asked x.input y.input x.begun y.begun chunk question
   pub mid : Option History
   pub kept : KeepsLines keeps x.history mid chunk
   pub text : List ℕ
@@ -242,7 +247,7 @@ pub record Answered (keeps : Bool) (x y : Standing) (asked : Bool) (question : L
 
 -- what answers a question
 abbrev pub replied_to : Answering → List ℕ → List ℕ
-replied_to a question = reply_text (reply_rows a.place a.state a.answered question)
+replied_to a question = reply_text (reply_rows a.place a.state.site a.answered question)
 
 -- the question was answered, if there was one, and nothing else has changed
 pub record Turn (keeps : Bool) (x y : Standing) : Type 0 where
@@ -252,7 +257,7 @@ pub record Turn (keeps : Bool) (x y : Standing) : Type 0 where
   pub answered : Answered keeps x mid asked question
   pub replied : Grows mid.history y.history (cond asked (Replied question (replied_to mid.at question) ∷ []) [])
   pub same : y ≡ record mid { history = y.history; listed = y.listed }
-  pub listed : AreListed mid.at.state y.listed
+  pub listed : AreListed mid.at.state.site y.listed
 
 -- ---- a turn that a fault ended, with what was read and what happened until then
 
@@ -272,7 +277,7 @@ pub record Unanswered (keeps : Bool) (x : Standing) (input2 : Option (List ℕ))
   pub question : List ℕ
   pub begun2 : List ℕ
   pub chunk : List ℕ
-  pub reads : Reads keeps asked x.input input2 x.begun begun2 chunk question
+  pub reads : TakesLines keeps asked x.input input2 x.begun begun2 chunk question
   pub mid : Option History
   pub kept : KeepsLines keeps x.history mid chunk
   pub added : List ℕ

@@ -2,7 +2,7 @@
 
 ghost use Rattle.std.specs.Prelude.{◌≡◌, ◌≤◌, [], IfErr, IfOk, IfSome, MatchResult, OnErr, OnOk, false, length, take};
 ghost use Rattle.std.specs.Io.KnownBytes.{IsAtEnd, Keeps};
-ghost use Rattle.rubis_keep.specs.Turns.{HasPut, HasTorn, Puts, fault_of, met};
+ghost use Rattle.rubis_keep.specs.Turns.{HasPut, HasTorn, Puts, noted_fault, met};
 ghost use Rattle.rubis_keep.specs.Faults.{HasDifference, HasMore, MayDiffer, IsFailure};
 ghost use Rattle.rubis_keep.specs.History.{Tells, TellsFront};
 
@@ -141,7 +141,7 @@ impl<O: Read, F: SiteFiles> Answers<O, F> {
 
     // Why a text couldn't be put, or given: without a fault that was noted, memory ran out.
     fn take_fault(&mut self) -> KeepFault
-        ensures fault { result ≡ fault_of self.old.fault }
+        ensures fault { result ≡ noted_fault self.old.fault }
         ensures files { self.new.files ≡ self.old.files }
     {
         match self.fault.take() {
@@ -179,7 +179,7 @@ impl<O: Read, F: SiteFiles> Answers<O, F> {
 
 impl<O: Read, F: SiteFiles> Outlet for Answers<O, F> {
     ghost use Rattle.rubis_keep.specs.Turns.{HasPut, HasTornOff};
-    ghost use Rattle.rubis_keep.specs.Outlets.{are_outlets};
+    ghost use Rattle.rubis_keep.specs.Outlets.{answers_are_outlets};
 
     ghost puts = { HasPut O.remaining F.history };
 
@@ -215,5 +215,5 @@ impl<O: Read, F: SiteFiles> Outlet for Answers<O, F> {
         self.put_text()
     }
 
-    ghost laws = { are_outlets O.remaining F.history };
+    ghost laws = { answers_are_outlets O.remaining F.history };
 }

@@ -1,11 +1,11 @@
 //! What was kept, read through before it is answered again.
 
 ghost use Rattle.std.specs.Prelude.{◌≡◌, ◌∷◌, ◌<◌, [], ℕ, List, IfErr, IfOk, IfSome, MatchBool, OnOk, true};
-ghost use Rattle.rubis_keep.specs.Faults.{Counts, IsEdited, IsEditedAt, MayBeEdited};
-ghost use Rattle.rubis_keep.specs.Lines.{AreSound, are_sound, begun_after, begun_bytes};
+ghost use Rattle.rubis_keep.specs.Faults.{CountsLines, IsEdited, IsEditedAt, MayBeEdited};
+ghost use Rattle.rubis_keep.specs.Lines.{HasSoundLines, are_sound, begun_after, begun_bytes};
 
 use crate::fault::KeepFault;
-use crate::lines::{LINE_MAX, is_sound};
+use crate::lines::{KEYED_MAX, is_sound};
 use rubis_engine::read_through_signals;
 use std::alloc::{AllocError, Global};
 use std::io::Read;
@@ -25,7 +25,7 @@ fn check_byte(begun: &mut Vec<u8>, byte: u8) -> Result<bool, AllocError>
         begun.clear();
         return Ok(sound);
     }
-    if begun.len() <= LINE_MAX {
+    if begun.len() <= KEYED_MAX {
         begun.push(byte)?;
     }
     Ok(true)
@@ -37,7 +37,7 @@ fn check_bytes(begun: &mut Vec<u8>, piece: &[u8], lines: &mut u64) -> Result<boo
     ensures sound { IfOk result (λ sound. (line : List ℕ) → begun.old.items ≡ begun_bytes line → sound ≡ are_sound line piece.now) }
     ensures begun { IfOk result (λ sound. sound ≡ true → (line : List ℕ) → begun.old.items ≡ begun_bytes line
         → begun.new.items ≡ begun_bytes (begun_after line piece.now)) }
-    ensures lines { IfOk result (λ sound. MatchBool sound (Counts lines.old lines.new piece.now)
+    ensures lines { IfOk result (λ sound. MatchBool sound (CountsLines lines.old lines.new piece.now)
         ((line : List ℕ) → begun.old.items ≡ begun_bytes line → IsEdited line piece.now lines.old lines.new)) }
 {
     for byte in piece {
@@ -57,7 +57,7 @@ pub(crate) fn check_kept<T: Wait, C: Read>(
     alloc: Global,
     kept: &mut C,
 ) -> Result<(), KeepFault>
-    ensures sound { OnOk result (IfSome (C.remaining kept.old) (λ text. AreSound [] text)) }
+    ensures sound { OnOk result (IfSome (C.remaining kept.old) (λ text. HasSoundLines [] text)) }
     ensures edited { IfErr result (λ e. MayBeEdited e (λ n. IfSome (C.remaining kept.old) (λ text. IsEditedAt text n))) }
 {
     let mut piece = [0; PIECE];

@@ -1,10 +1,11 @@
-//! How many messages of each site a log has, and their text.
+//! How many messages of each site a log has, and the texts that say so.
 
-ghost use Rattle.std.specs.Prelude.{◌≡◌, ◌≤◌, ◌++◌, ◌∷◌, [], IfOk, OnOk, length, map};
+ghost use Rattle.std.specs.Prelude.{◌≡◌, ◌≤◌, ◌++◌, ◌∷◌, [], IfOk, OnOk, length, map, string_bytes};
 ghost use Rattle.std.specs.List.{range_with_len};
 ghost use Rattle.rubis_schema.specs.declared.limits.TheConstants.{COUNTED_MAX};
 ghost use Rattle.rubis_message.specs.Grammar.{deps_text};
 ghost use Rattle.rubis_model.specs.Site.{counted};
+ghost use Rattle.rubis_keep.specs.KeptLine.{kept_line};
 
 use rubis_message::Message;
 use rubis_schema::{COUNTS_TEXT_MAX, Fields, ShortText};
@@ -52,4 +53,18 @@ pub(crate) fn push_counts(fields: &mut Fields, counts: &[u32]) -> Result<(), All
         text.put_number(counts[site]);
     }
     fields.push_plain(text.as_bytes())
+}
+
+/// The line that says that all that was kept is answered: how many records that is, and how many messages of each site are released.
+pub(crate) fn kept_line(alloc: Global, records: u64, counts: &[u64]) -> Result<String, AllocError>
+    ensures { IfOk result (λ line. string_bytes line ≡ kept_line records counts.now) }
+{
+    let mut line = format!(in alloc; "kept,{records}")?;
+    let mut mark = ",";
+    for count in counts {
+        line.push_str(format!(in alloc; "{mark}{count}")?.as_str())?;
+        mark = ":";
+    }
+    line.push('\n')?;
+    Ok(line)
 }

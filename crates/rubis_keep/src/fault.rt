@@ -100,6 +100,8 @@ pub enum FolderFault {
     IsOther(Setup),
     /// The answers in the folder are in the text of this version.
     IsOld(u32),
+    /// What was kept has records that begin with the word `key`, from when they were malformed.
+    HasKeys,
     /// There are records in the folder, and nothing says of which site.
     NoSetup,
     /// Another process runs the site.

@@ -4,7 +4,7 @@ ghost use Rattle.std.specs.Prelude.{◌≡◌, ◌≤◌, OnOk};
 ghost use Rattle.rubis_engine.specs.Progress.{ByEnd};
 ghost use Rattle.rubis_engine.specs.Text.{input_records};
 ghost use Rattle.rubis_serving.specs.Serving.{Fills, Goes, IsSettled, Tears, at};
-ghost use Rattle.rubis_keep.specs.Turns.{Feeds, IsIdle, answering, keeping};
+ghost use Rattle.rubis_keep.specs.Turns.{Feeds, HoldsNothing, clerk_at, kept_run};
 
 use crate::answers::Answers;
 use crate::fault::KeepFault;
@@ -24,20 +24,20 @@ fn answer_chunk<T: Threads + Wait + Sync, O: Read, F: SiteFiles>(
 ) -> Result<(), RunFault>
     requires { clerk.old.served.answered ≤ clerk.old.limit }
     ensures limit { clerk.new.limit ≡ clerk.old.limit }
-    ensures answered { let k = keeping O.remaining F.history in
-        let x = at clerk.old.desk clerk.old.served answers.old in
-        let y = at clerk.new.desk clerk.new.served answers.new in ByEnd result
+    ensures answered { let k = kept_run O.remaining F.history in
+        let x = at clerk.old.keyed clerk.old.served answers.old in
+        let y = at clerk.new.keyed clerk.new.served answers.new in ByEnd result
         (λ _. Goes k (input_records chunk.now) x y × IsSettled k y × (clerk.new.served.answered ≤ clerk.old.limit))
         (Fills k clerk.old.limit (input_records chunk.now) x y) ⊥ (Tears k (input_records chunk.now) x answers.new) }
 {
     answer_piece(
         chunk,
-        &mut clerk.desk,
+        &mut clerk.keyed,
         &mut clerk.served,
         answers,
         clerk.limit,
     )?;
-    settle(&mut clerk.desk, &mut clerk.served, answers)
+    settle(&mut clerk.keyed, &mut clerk.served, answers)
 }
 
 /// Answers a text of whole records.
@@ -46,10 +46,10 @@ pub(crate) fn feed_chunk<T: Threads + Wait + Sync, O: Read, F: SiteFiles>(
     clerk: &mut Clerk<'_, T>,
     answers: &mut Answers<O, F>,
 ) -> Result<(), KeepFault>
-    requires { IsIdle (answering O.remaining clerk.old answers.old) }
-    ensures fed { Feeds (input_records chunk.now) (answering O.remaining clerk.old answers.old) (answering O.remaining clerk.new answers.new)
+    requires { HoldsNothing (clerk_at O.remaining clerk.old answers.old) }
+    ensures fed { Feeds (input_records chunk.now) (clerk_at O.remaining clerk.old answers.old) (clerk_at O.remaining clerk.new answers.new)
         (F.history answers.old.files) (F.history answers.new.files) result }
-    ensures idle { OnOk result (IsIdle (answering O.remaining clerk.new answers.new)) }
+    ensures idle { OnOk result (HoldsNothing (clerk_at O.remaining clerk.new answers.new)) }
 {
     // Between two questions no record stands, and a reader takes longer to make than most questions to answer.
     if chunk.is_empty() {

@@ -1,7 +1,10 @@
 //! The files of a site in a folder.
 
+ghost use Rattle.std.specs.Prelude.{Some};
+
+use crate::counts::kept_line;
 use crate::fault::FolderFault;
-use crate::setup::{Setup, write_setup};
+use crate::seam::FolderFiles;
 use crate::site_files::SiteFiles;
 use std::fs::{File, Files, OpenOptions, TryLockError};
 use std::io::Write;
@@ -14,80 +17,40 @@ const TRIES: u32 = 50;
 
 const WAIT: u64 = 100;
 
-/// The files of a folder, opened to be appended to, and standard output.
-#[derive(Drop)]
-pub(crate) struct FolderFiles<'a, R> {
-    pub(crate) rt: &'a R,
-    pub(crate) folder: &'a str,
-    pub(crate) kept: File,
-    pub(crate) out: File,
-    // Whether what was kept is on the disk before it is answered.
-    pub(crate) is_synced: bool,
-    // Whether the run has new records, whose answers are shown.
-    pub(crate) is_live: bool,
-    // How the site is set up from the first new record on, if that isn't what the folder has.
-    pub(crate) settles: Option<Setup>,
-}
+impl<R: Files<File = File> + AllocGlobal, W: Write + Drop> SiteFiles for FolderFiles<'_, R, W> {
+    ghost history = { λ files. Some files.past.history };
 
-impl<R: Print> FolderFiles<'_, R> {
-    // Shows these bytes on standard output.
-    fn print(&self, bytes: &[u8]) -> io::Result<()> {
-        io::writer(self.rt).write_all(bytes)
-    }
-}
-
-impl<R: Files<File = File> + Print + AllocGlobal> SiteFiles for FolderFiles<'_, R> {
     fn keep(&mut self, lines: &[u8]) -> io::Result<usize> {
-        self.kept.write(lines)
+        self.write_kept(lines)
     }
 
     fn flush_kept(&mut self) -> io::Result<()> {
-        if self.is_synced {
-            self.kept.sync_data()?;
-        }
-        Ok(())
+        self.sync_kept()
     }
 
     fn cut_kept(&mut self, len: u64) -> io::Result<()> {
-        if self.kept.metadata()?.len() != len {
-            self.kept.set_len(len)?;
-        }
-        Ok(())
+        self.truncate_kept(len)
     }
 
     fn tell(&mut self, text: &[u8]) -> io::Result<usize> {
-        self.out.write(text)
+        self.write_out(text)
     }
 
     fn settle(&mut self) -> io::Result<()> {
-        match self.settles.take() {
-            Some(setup) => write_setup(self.rt, self.folder, setup),
-            None => Ok(()),
-        }
+        self.write_setup()
     }
 
     fn begin(&mut self, records: u64, counts: &[u64]) -> io::Result<()> {
-        if !self.is_live {
-            return Ok(());
-        }
-        let alloc = self.rt.alloc();
-        let mut line = format!(in alloc; "kept,{records},")?;
-        for (site, count) in counts.iter().enumerate() {
-            if site > 0 {
-                line.push(':')?;
-            }
-            line.push_str(format!(in alloc; "{count}")?.as_str())?;
-        }
-        line.push('\n')?;
-        self.print(line.as_bytes())
+        let line = kept_line(self.alloc(), records, counts)?;
+        self.print_begun(records, counts, line.as_str())
     }
 
-    fn reply(&mut self, _question: &[u8], text: &[u8]) -> io::Result<()> {
-        self.print(text)
+    fn reply(&mut self, question: &[u8], text: &[u8]) -> io::Result<()> {
+        self.print_reply(question, text)
     }
 
     fn show(&mut self, text: &[u8]) -> io::Result<()> {
-        self.print(text)
+        self.print_answers(text)
     }
 }
 
@@ -115,8 +78,9 @@ pub(crate) fn begin<R: Files<File = File> + AllocGlobal>(
     File::create(rt, path.as_str())
 }
 
-/// Gives a file that was begun its name, after all of it is on the disk, so that the folder has the old file or the new one.
-pub(crate) fn settle<R: Files<File = File> + AllocGlobal>(
+/// Gives a file that was begun its name, after all of it is on the disk, so that the folder has the old file or the new one. A power failure
+/// may take that back until the names are flushed.
+pub(crate) fn give_name<R: Files<File = File> + AllocGlobal>(
     rt: &R,
     folder: &str,
     name: &str,
@@ -125,8 +89,7 @@ pub(crate) fn settle<R: Files<File = File> + AllocGlobal>(
     file.sync_all()?;
     let from = format!(in rt.alloc(); "{folder}/{name}.new")?;
     let to = format!(in rt.alloc(); "{folder}/{name}")?;
-    fs::rename(rt, from.as_str(), to.as_str())?;
-    flush_names(rt, folder)
+    fs::rename(rt, from.as_str(), to.as_str())
 }
 
 /// Flushes the names in a folder, after which a power failure takes no rename back.

@@ -7,15 +7,17 @@ ghost use Rattle.rubis_keep.specs.Setups.{GoesOn, config_of, next_setup, opening
 
 use crate::answers::Answers;
 use crate::fault::{FolderFault, KeepFault};
-use crate::files::{FolderFiles, begin, flush_names, open, settle, take_lock};
+use crate::files::{begin, flush_names, give_name, open, take_lock};
 use crate::run::Recording;
-use crate::setup::{ANSWERS, Setup, read_setup, write_setup};
+use crate::seam::FolderFiles;
+use crate::setup::{ANSWERS, KEYLESS, Setup, name_setup, read_setup};
 use crate::shortening::shorten;
 use crate::site::keep_site;
-use rubis_schema::{Hashes, KEEP_MAX, RECORDS_MAX};
+use rubis_engine::{Records, RunFault};
+use rubis_schema::{Hashes, KEEP_MAX, RECORDS_MAX, Record};
 use rubis_script::Config;
 use std::fs::{File, Files};
-use std::io::Read;
+use std::io::{ErrorKind, Read};
 use std::random::RandomSource;
 use std::rt::Clock;
 use std::sync::Wait;
@@ -108,7 +110,8 @@ fn settled<R: Files<File = File> + AllocGlobal>(
         return Err(FolderFault::NoSetup);
     }
     let setup = wanted.begun()?;
-    write_setup(rt, folder, setup).map_err(FolderFault::Setup)?;
+    name_setup(rt, folder, setup).map_err(FolderFault::Setup)?;
+    flush_names(rt, folder).map_err(FolderFault::Setup)?;
     Ok(setup)
 }
 
@@ -137,15 +140,8 @@ fn complete<R: Files<File = File> + Print + AllocGlobal + Threads + Wait + Sync>
 ) -> Result<File, FolderFault> {
     let mut recording = open_kept(rt, folder).map_err(FolderFault::Kept)?;
     let before = open(rt, folder, "out").map_err(FolderFault::Out)?.take(len);
-    let files = FolderFiles {
-        rt,
-        folder,
-        kept: open(rt, folder, "kept").map_err(FolderFault::Kept)?,
-        out,
-        is_synced: true,
-        is_live: false,
-        settles: None,
-    };
+    let kept = open(rt, folder, "kept").map_err(FolderFault::Kept)?;
+    let files = FolderFiles::new(rt, folder, kept, out, io::sink(), true, None);
     let mut answers = Answers::new(rt.alloc(), before, files);
     let mut none = io::empty();
     keep_site(
@@ -157,25 +153,19 @@ fn complete<R: Files<File = File> + Print + AllocGlobal + Threads + Wait + Sync>
         KEPT_MAX,
     )
     .map_err(FolderFault::Run)?;
-    Ok(answers.files.out)
+    Ok(answers.files.into_out())
 }
 
-// Writes the answers to what was kept anew, beside those of another version, and puts them in their place. What the folder says of
-// its site is written last: until then it asks for the same again.
+// Writes the answers to what was kept anew, beside those of another version, and puts them in their place.
 fn upgrade<R: Files<File = File> + Print + AllocGlobal + Threads + Wait + Sync>(
     rt: &R,
     folder: &str,
     config: &Config,
-    setup: Setup,
 ) -> Result<(), FolderFault> {
     let fresh = begin(rt, folder, "out").map_err(FolderFault::Out)?;
     let fresh = complete(rt, folder, config, fresh, 0)?;
-    settle(rt, folder, "out", &fresh).map_err(FolderFault::Out)?;
-    let new = Setup {
-        answers: ANSWERS,
-        ..setup
-    };
-    write_setup(rt, folder, new).map_err(FolderFault::Setup)
+    give_name(rt, folder, "out", &fresh).map_err(FolderFault::Out)?;
+    flush_names(rt, folder).map_err(FolderFault::Out)
 }
 
 // Completes the answers to what was kept, as they are.
@@ -189,22 +179,64 @@ fn complete_out<R: Files<File = File> + Print + AllocGlobal + Threads + Wait + S
     complete(rt, folder, config, out, len)
 }
 
-// Rewrites what was kept without what changed nothing. It is written beside what was kept and takes its name once it is on the disk,
-// which decides: the answers are emptied before, since they can be given again to either, and given again after.
-fn rewrite<R: Files<File = File> + Print + AllocGlobal + Threads + Wait + Sync>(
+// Whether a record of what was kept begins with the word `key`.
+fn has_keys<R: Files<File = File> + AllocGlobal + Wait>(rt: &R, folder: &str) -> io::Result<bool> {
+    let mut records = Records::new(rt.alloc(), open(rt, folder, "kept")?);
+    for _turn in rt.forever() {
+        match records.advance() {
+            Ok(true) if records.fields().field(0) == Some(b"key".as_slice()) => return Ok(true),
+            Ok(true) => {}
+            Ok(false) => return Ok(false),
+            Err(RunFault::Memory) => return Err(io::Error::from(ErrorKind::OutOfMemory)),
+            Err(_) => return Err(io::Error::from(ErrorKind::Other)),
+        }
+    }
+    unreachable!()
+}
+
+// Rewrites what was kept without what changed nothing, and without records under keys where none is. It is written beside what was kept and
+// takes its name once it is on the disk, which decides: the answers are emptied before, since they can be given again to either.
+fn rewrite<R: Files<File = File> + AllocGlobal + Threads + Wait + Sync>(
     rt: &R,
     folder: &str,
     config: &Config,
+    knows_keys: bool,
 ) -> Result<(), FolderFault> {
-    let out = complete_out(rt, folder, config)?;
+    let out = open(rt, folder, "out").map_err(FolderFault::Out)?;
     let mut past = open(rt, folder, "kept").map_err(FolderFault::Kept)?;
     let mut fresh = begin(rt, folder, "kept").map_err(FolderFault::Kept)?;
-    shorten(rt, rt.alloc(), &mut past, &mut fresh, config).map_err(FolderFault::Run)?;
+    shorten(rt, rt.alloc(), &mut past, &mut fresh, config, knows_keys).map_err(FolderFault::Run)?;
     out.set_len(0).map_err(FolderFault::Out)?;
     out.sync_all().map_err(FolderFault::Out)?;
-    settle(rt, folder, "kept", &fresh).map_err(FolderFault::Kept)?;
-    complete_out(rt, folder, config)?;
-    Ok(())
+    give_name(rt, folder, "kept", &fresh).map_err(FolderFault::Kept)?;
+    flush_names(rt, folder).map_err(FolderFault::Kept)
+}
+
+// Has a folder of another version go on in this one. Where there were no keys, records that begin with the word `key` were malformed: the
+// folder is refused while it has some, and they are left out if what was kept is to be shortened. What the folder says of its site is written
+// last: until then it asks for the same again.
+fn renew<R: Files<File = File> + Print + AllocGlobal + Threads + Wait + Sync>(
+    rt: &R,
+    folder: &str,
+    config: &Config,
+    setup: Setup,
+    wanted: &Wanted,
+) -> Result<(), FolderFault> {
+    if setup.answers == KEYLESS {
+        if wanted.shortens && has_keys(rt, folder).map_err(FolderFault::Kept)? {
+            rewrite(rt, folder, config, false)?;
+        }
+        if has_keys(rt, folder).map_err(FolderFault::Kept)? {
+            return Err(FolderFault::HasKeys);
+        }
+    } else if wanted.upgrades {
+        upgrade(rt, folder, config)?;
+    } else {
+        return Err(FolderFault::IsOld(setup.answers));
+    }
+    let answers = ANSWERS;
+    name_setup(rt, folder, Setup { answers, ..setup }).map_err(FolderFault::Setup)?;
+    flush_names(rt, folder).map_err(FolderFault::Setup)
 }
 
 // Runs the site in a folder over standard input and output.
@@ -218,15 +250,9 @@ fn run<R: Files<File = File> + Print + Input + AllocGlobal + Threads + Wait + Sy
     let mut recording = open_kept(rt, folder).map_err(FolderFault::Kept)?;
     let before = open(rt, folder, "out").map_err(FolderFault::Out)?;
     let len = before.metadata().map_err(FolderFault::Out)?.len();
-    let files = FolderFiles {
-        rt,
-        folder,
-        kept: open(rt, folder, "kept").map_err(FolderFault::Kept)?,
-        out: open(rt, folder, "out").map_err(FolderFault::Out)?,
-        is_synced,
-        is_live: true,
-        settles,
-    };
+    let kept = open(rt, folder, "kept").map_err(FolderFault::Kept)?;
+    let out = open(rt, folder, "out").map_err(FolderFault::Out)?;
+    let files = FolderFiles::new(rt, folder, kept, out, io::writer(rt), is_synced, settles);
     let mut answers = Answers::new(rt.alloc(), before.take(len), files);
     let mut live = rt.reader();
     match keep_site(
@@ -286,8 +312,8 @@ fn raise<
 ///
 /// # Errors
 ///
-/// `NoName`, `NoSite`, `NotBelow`, `IsOther` and `IsOld` if something was asked for that isn't of this folder: nothing was changed then. Others say what
-/// failed.
+/// `NoName`, `NoSite`, `NotBelow`, `IsOther` and `IsOld` if something was asked for that isn't of this folder, and `HasKeys` if it is to be shortened
+/// first: nothing was changed then. Others say what failed.
 pub fn keep_folder<
     R: Files<File = File>
         + Clock
@@ -313,13 +339,13 @@ pub fn keep_folder<
         return Err(FolderFault::NotBelow);
     };
     if setup.answers != ANSWERS {
-        if !wanted.upgrades {
-            return Err(FolderFault::IsOld(setup.answers));
-        }
-        upgrade(rt, folder, &config, setup)?;
+        renew(rt, folder, &config, setup, wanted)?;
     }
     if wanted.shortens {
-        return rewrite(rt, folder, &config);
+        complete_out(rt, folder, &config)?;
+        rewrite(rt, folder, &config, true)?;
+        complete_out(rt, folder, &config)?;
+        return Ok(());
     }
     if asked.keep > setup.keep {
         return raise(rt, folder, &config, asked, wanted);

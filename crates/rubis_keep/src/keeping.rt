@@ -4,7 +4,7 @@ ghost use Rattle.std.specs.Prelude.{◌≡◌, [], IfErr, IfOk, None, true};
 ghost use Rattle.std.specs.Io.KnownBytes.{Consumes};
 ghost use Rattle.rubis_keep.specs.Faults.{IsFailure};
 ghost use Rattle.rubis_keep.specs.History.{HasKept};
-ghost use Rattle.rubis_keep.specs.Turns.{CameOrEnded, Reads, left_of};
+ghost use Rattle.rubis_keep.specs.Turns.{CameOrEnded, TakesLines, left_to_read};
 
 use crate::fault::KeepFault;
 use crate::lines::LineCutter;
@@ -104,10 +104,10 @@ pub(crate) fn read_next<R: Read>(
     lines: &mut KeptLines,
     asks: bool,
 ) -> Result<Came, KeepFault>
-    ensures reads { IfOk result (λ came. Reads asks came.is_asked (left_of lines.old.unread (R.remaining live.old)) (left_of lines.new.unread (R.remaining live.new))
+    ensures reads { IfOk result (λ came. TakesLines asks came.is_asked (left_to_read lines.old.unread (R.remaining live.old)) (left_to_read lines.new.unread (R.remaining live.new))
         lines.old.cutter lines.new.cutter lines.new.chunk.items lines.new.question.items) }
-    ensures end { IfOk result (λ came. CameOrEnded came.more (left_of lines.old.unread (R.remaining live.old)) (left_of lines.new.unread (R.remaining live.new))) }
-    ensures err { IfErr result (λ e. IsFailure e × Consumes (left_of lines.old.unread (R.remaining live.old)) (left_of lines.new.unread (R.remaining live.new)) []) }
+    ensures end { IfOk result (λ came. CameOrEnded came.more (left_to_read lines.old.unread (R.remaining live.old)) (left_to_read lines.new.unread (R.remaining live.new))) }
+    ensures err { IfErr result (λ e. IsFailure e × Consumes (left_to_read lines.old.unread (R.remaining live.old)) (left_to_read lines.new.unread (R.remaining live.new)) []) }
     ensures others { (lines.new.kept ≡ lines.old.kept) × (lines.new.listed ≡ lines.old.listed) }
 {
     let KeptLines {

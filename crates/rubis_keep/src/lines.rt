@@ -1,7 +1,7 @@
 //! The lines of an input that comes in pieces.
 
-ghost use Rattle.std.specs.Prelude.{◌≡◌, [], ◌<◌, ◌≤◌, ℕ, List, IfOk, false, length, take, true};
-ghost use Rattle.rubis_keep.specs.Lines.{closes, is_sound, CutsLines, begun_bytes};
+ghost use Rattle.std.specs.Prelude.{◌≡◌, [], ◌<◌, ◌≤◌, ℕ, List, IfOk, false, length, nat_le, take, true};
+ghost use Rattle.rubis_keep.specs.Lines.{closes_quotes, is_sound, CutsLines, begun_bytes, line_limit};
 
 use rubis_reading::{CsvState, after};
 use std::alloc::{AllocError, Global};
@@ -10,13 +10,16 @@ use std::marker::Model;
 /// How many bytes a line has at most that is kept as it is, without its end.
 pub const LINE_MAX: usize = 4096;
 
+/// The same of a line that begins with `key,`: as many more as that, a key in quotes and the comma behind it take at most.
+pub const KEYED_MAX: usize = 4613;
+
 /// The first byte of a byte order mark, with which no record begins.
 pub(crate) const MARK: u8 = 0xEF;
 
 // Whether the quotes of a line close.
 #[tactic(auto, using(crate::proofs::LineFacts::state_take_more))]
 pub(crate) fn closes(line: &[u8]) -> bool
-    ensures { result ≡ closes line.now }
+    ensures { result ≡ closes_quotes line.now }
 {
     let mut at = CsvState::Start;
     for byte in line {
@@ -25,12 +28,20 @@ pub(crate) fn closes(line: &[u8]) -> bool
     !matches!(at, CsvState::Quoted)
 }
 
+// Whether a line isn't too long.
+#[tactic(auto, using(crate::proofs::LineFacts::short_line, crate::proofs::LineFacts::keyed_line, crate::proofs::LineFacts::long_line))]
+fn is_short(line: &[u8]) -> bool
+    ensures { result ≡ nat_le (length line.now) (line_limit line.now) }
+{
+    line.len() <= LINE_MAX || (line.len() <= KEYED_MAX && line.starts_with(b"key,"))
+}
+
 /// Whether a line is kept as it is.
 #[tactic(auto, using(crate::proofs::LineFacts::plain_closes))]
 pub(crate) fn is_sound(line: &[u8]) -> bool
     ensures { result ≡ is_sound line.now }
 {
-    line.len() <= LINE_MAX && (!line.contains(&b'"') || closes(line)) && line.first() != Some(&MARK)
+    is_short(line) && (!line.contains(&b'"') || closes(line)) && line.first() != Some(&MARK)
 }
 
 /// How many bytes of a piece were taken, and whether a question ended with the last of them.
@@ -43,7 +54,7 @@ pub struct Cut {
 /// The lines of an input that comes in pieces: the line that is begun.
 #[derive(Drop)]
 pub struct LineCutter {
-    // At most one byte more than a line may have.
+    // At most one byte more than any line may have.
     begun: Vec<u8>,
 }
 
@@ -84,7 +95,7 @@ impl LineCutter {
         for byte in piece {
             taken += 1;
             if *byte != b'\n' {
-                if self.begun.len() <= LINE_MAX {
+                if self.begun.len() <= KEYED_MAX {
                     self.begun.push(*byte)?;
                 }
                 continue;

@@ -6,7 +6,7 @@ ghost use Rattle.rubis_message.specs.Readings.{request_of};
 ghost use Rattle.rubis_model.specs.Site.{Replica};
 ghost use Rattle.rubis_schema.specs.FieldForms.{text_of};
 ghost use Rattle.rubis_schema.specs.NumberForms.{number_of};
-ghost use Rattle.rubis_keep.specs.Questions.{IsUnmoved, AreListed, behind, has_pages, page_asked, page_rows, page_with, paged_by, row_name, rows_from, rows_in};
+ghost use Rattle.rubis_keep.specs.Questions.{IsUnmoved, AreListed, rows_behind_name, has_pages, page_asked, page_rows, page_with, paged_by, row_name, rows_of_page, rows_in};
 ghost use Rattle.rubis_keep.specs.Questions.{counted_rows};
 ghost use Rattle.rubis_keep.specs.declared.pages.TheConstants.{PAGE_MAX, PLACE_MAX};
 
@@ -14,8 +14,9 @@ use crate::fault::KeepFault;
 use crate::showing::{refuse, show_count};
 use crate::site::Clerk;
 use rubis_engine::{OutOfMemory, Sink};
+use rubis_keys::LaterFields;
 use rubis_message::{ReadFault, Request, read_request};
-use rubis_schema::{Fields, Items, Listing, Record, Text, read_number};
+use rubis_schema::{Fields, Items, Listing, Text, read_number};
 use rubis_script::write_rows;
 use std::alloc::{AllocError, Global};
 use std::sync::Wait;
@@ -47,30 +48,6 @@ pub struct Listed {
     pub(crate) rows: Items<Fields>,
 }
 
-// The fields of a record without the first ones.
-#[derive(Drop)]
-struct LaterFields<'a> {
-    fields: &'a Fields,
-    first: usize,
-}
-
-impl<'a> Record for LaterFields<'a> {
-    ghost use Rattle.std.specs.Prelude.{drop};
-
-    ghost fields = { λ r. drop r.first r.fields.now };
-
-    fn len(&self) -> usize {
-        self.fields.len().saturating_sub(self.first)
-    }
-
-    fn field(&self, place: usize) -> Option<&[u8]> {
-        if place >= self.fields.len().saturating_sub(self.first) {
-            return None;
-        }
-        self.fields.field(self.first + place)
-    }
-}
-
 // Whether a listing has pages.
 fn has_pages(listing: &Listing) -> bool
     ensures { result ≡ has_pages listing.now }
@@ -85,7 +62,14 @@ fn has_pages(listing: &Listing) -> bool
 fn read_listing(alloc: Global, fields: &Fields, sites: u8) -> Result<Option<Listing>, OutOfMemory>
     ensures { IfOk result (λ listing. listing ≡ paged_by (request_of sites (drop 4 fields.now))) }
 {
-    match read_request(alloc, &LaterFields { fields, first: 4 }, sites) {
+    match read_request(
+        alloc,
+        &LaterFields {
+            record: fields,
+            first: 4,
+        },
+        sites,
+    ) {
         Ok(Request::List(listing)) => {
             if has_pages(&listing) {
                 Ok(Some(listing))
@@ -186,7 +170,7 @@ fn place_behind(
     from: usize,
     name: &[u8],
 ) -> Result<Option<usize>, AllocError>
-    ensures { IfOk result (λ place. option_map (λ at. drop at rows.now) place ≡ behind name.now (drop from rows.now)) }
+    ensures { IfOk result (λ place. option_map (λ at. drop at rows.now) place ≡ rows_behind_name name.now (drop from rows.now)) }
 {
     for at in from..rows.len() {
         if is_named(alloc, &rows[at], name)? {
@@ -198,7 +182,7 @@ fn place_behind(
 
 // The place where a page begins among the rows of its listing.
 fn place_of(alloc: Global, rows: &[Fields], page: &Page) -> Result<Option<usize>, AllocError>
-    ensures { IfOk result (λ place. option_map (λ at. drop at rows.now) place ≡ rows_from page.now rows.now) }
+    ensures { IfOk result (λ place. option_map (λ at. drop at rows.now) place ≡ rows_of_page page.now rows.now) }
 {
     let name = page.after.as_bytes();
     if name.is_empty() {
@@ -280,9 +264,9 @@ fn list_rows<T: Threads + Wait + Sync>(
     listing: &Listing,
 ) -> Result<Items<Fields>, KeepFault>
     ensures same { IsUnmoved clerk.old clerk.new }
-    ensures rows { IfOk result (λ rows. rows ≡ rows_in clerk.old.desk.site.state listing.now) }
+    ensures rows { IfOk result (λ rows. rows ≡ rows_in clerk.old.keyed.desk.site.state listing.now) }
 {
-    let desk = &mut clerk.desk;
+    let desk = &mut clerk.keyed.desk;
     match desk.site.list(rt, listing) {
         Ok(rows) => Ok(rows),
         Err(_) => Err(KeepFault::Memory),
@@ -296,9 +280,9 @@ fn take_rows<T: Threads + Wait + Sync>(
     held: Option<Listed>,
     listing: &Listing,
 ) -> Result<Items<Fields>, KeepFault>
-    requires listed { AreListed clerk.old.desk.site.state held }
+    requires listed { AreListed clerk.old.keyed.desk.site.state held }
     ensures same { IsUnmoved clerk.old clerk.new }
-    ensures rows { IfOk result (λ rows. rows ≡ rows_in clerk.old.desk.site.state listing.now) }
+    ensures rows { IfOk result (λ rows. rows ≡ rows_in clerk.old.keyed.desk.site.state listing.now) }
 {
     match held_rows(held, listing) {
         Some(rows) => Ok(rows),
@@ -313,10 +297,10 @@ pub(crate) fn turn_page<T: Threads + Wait + Sync>(
     listed: &mut Option<Listed>,
     page: &Page,
 ) -> Result<Sink, KeepFault>
-    requires listed { AreListed clerk.old.desk.site.state listed.old }
+    requires listed { AreListed clerk.old.keyed.desk.site.state listed.old }
     ensures same { IsUnmoved clerk.old clerk.new }
-    ensures listed { AreListed clerk.old.desk.site.state listed.new }
-    ensures rows { IfOk result (λ sink. sink ≡ rows_text (page_rows page.now (rows_in clerk.old.desk.site.state page.now.listing))) }
+    ensures listed { AreListed clerk.old.keyed.desk.site.state listed.new }
+    ensures rows { IfOk result (λ sink. sink ≡ rows_text (page_rows page.now (rows_in clerk.old.keyed.desk.site.state page.now.listing))) }
 {
     let rows = take_rows(rt, clerk, listed.take(), &page.listing)?;
     let sink = show_page(clerk.served.alloc, rows.as_slice(), page)?;

@@ -1,7 +1,7 @@
 //! An input that a site keeps and answers, turn by turn.
 
 ghost use Rattle.std.specs.Prelude.{IfOk, MatchResult};
-ghost use Rattle.rubis_keep.specs.Turns.{Answered, Breaks, Broke, CameOrEnded, Ends, IsAtRest, Turn, left_of, standing};
+ghost use Rattle.rubis_keep.specs.Turns.{Answered, Breaks, Broke, CameOrEnded, Ends, IsAtRest, Turn, left_to_read, standing};
 
 use crate::answers::Answers;
 use crate::fault::KeepFault;
@@ -27,8 +27,8 @@ fn next_lines<T: Threads + Wait + Sync, R: Read, O: Read, F: SiteFiles>(
     requires { IsAtRest (standing R.remaining O.remaining F.history live.old lines.old clerk.old answers.old) }
     ensures answered { MatchResult result (λ came. Answered keeps (standing R.remaining O.remaining F.history live.old lines.old clerk.old answers.old) (standing R.remaining O.remaining F.history live.new lines.new clerk.new answers.new)
         came.is_asked lines.new.question.items) (Broke keeps (standing R.remaining O.remaining F.history live.old lines.old clerk.old answers.old)
-        (left_of lines.new.unread (R.remaining live.new)) (F.history answers.new.files)) }
-    ensures end { IfOk result (λ came. CameOrEnded came.more (left_of lines.old.unread (R.remaining live.old)) (left_of lines.new.unread (R.remaining live.new))) }
+        (left_to_read lines.new.unread (R.remaining live.new)) (F.history answers.new.files)) }
+    ensures end { IfOk result (λ came. CameOrEnded came.more (left_to_read lines.old.unread (R.remaining live.old)) (left_to_read lines.new.unread (R.remaining live.new))) }
 {
     let came = read_next(live, lines, keeps)?;
     keep_chunk(rt, &mut answers.files, keeps, &lines.chunk)?;
@@ -54,8 +54,8 @@ fn next_piece<T: Threads + Wait + Sync, R: Read, O: Read, F: SiteFiles>(
 ) -> Result<bool, KeepFault>
     requires { IsAtRest (standing R.remaining O.remaining F.history live.old lines.old clerk.old answers.old) }
     ensures turn { MatchResult result (λ more. Turn keeps (standing R.remaining O.remaining F.history live.old lines.old clerk.old answers.old) (standing R.remaining O.remaining F.history live.new lines.new clerk.new answers.new))
-        (Broke keeps (standing R.remaining O.remaining F.history live.old lines.old clerk.old answers.old) (left_of lines.new.unread (R.remaining live.new)) (F.history answers.new.files)) }
-    ensures end { IfOk result (λ more. CameOrEnded more (left_of lines.old.unread (R.remaining live.old)) (left_of lines.new.unread (R.remaining live.new))) }
+        (Broke keeps (standing R.remaining O.remaining F.history live.old lines.old clerk.old answers.old) (left_to_read lines.new.unread (R.remaining live.new)) (F.history answers.new.files)) }
+    ensures end { IfOk result (λ more. CameOrEnded more (left_to_read lines.old.unread (R.remaining live.old)) (left_to_read lines.new.unread (R.remaining live.new))) }
 {
     let came = next_lines(rt, live, keeps, lines, clerk, answers)?;
     reply_if(
@@ -80,7 +80,7 @@ pub(crate) fn answer_pieces<T: Threads + Wait + Sync, R: Read, O: Read, F: SiteF
 ) -> Result<(), KeepFault>
     requires { IsAtRest (standing R.remaining O.remaining F.history live.old lines.old clerk.old answers.old) }
     ensures { MatchResult result (λ over. Ends keeps (standing R.remaining O.remaining F.history live.old lines.old clerk.old answers.old) (standing R.remaining O.remaining F.history live.new lines.new clerk.new answers.new))
-        (Breaks keeps (standing R.remaining O.remaining F.history live.old lines.old clerk.old answers.old) (left_of lines.new.unread (R.remaining live.new)) (F.history answers.new.files)) }
+        (Breaks keeps (standing R.remaining O.remaining F.history live.old lines.old clerk.old answers.old) (left_to_read lines.new.unread (R.remaining live.new)) (F.history answers.new.files)) }
 {
     for _turn in rt.forever() {
         if !next_piece(rt, live, keeps, lines, clerk, answers)? {

@@ -4,7 +4,7 @@ ghost use Rattle.std.specs.Prelude.{◌≡◌, ◌++◌, ◌∷◌, [], IfOk, Ma
 ghost use Rattle.rubis_model.specs.Site.{counted, rows_at};
 ghost use Rattle.rubis_replica.specs.Follow.{resting_at};
 ghost use Rattle.rubis_engine.specs.Text.{input_records, rows_text};
-ghost use Rattle.rubis_keep.specs.Questions.{IsUnmoved, AreListed, key_in, or_none, question_in, question_of, reply_rows, row_asked, row_shown, says_state};
+ghost use Rattle.rubis_keep.specs.Questions.{IsUnmoved, AreListed, asked_key, or_none, question_in, question_of, reply_rows, row_asked, row_shown, says_state};
 ghost use Rattle.rubis_keep.specs.Questions.{shown_to, state_row};
 ghost use Rattle.rubis_keep.specs.declared.questions.Question.TheVariants as Question;
 
@@ -49,7 +49,7 @@ fn says_state(fields: &Fields) -> bool
 
 // The key that two words say: a table, and what names a row of it.
 fn read_key(table: &[u8], name: &[u8], sites: u8) -> Option<RowKey>
-    ensures { result ≡ key_in sites table.now name.now }
+    ensures { result ≡ asked_key sites table.now name.now }
 {
     if table == b"user".as_slice() {
         Some(RowKey::User(Id::read(name, sites)?))
@@ -149,17 +149,17 @@ fn read_line(alloc: Global, rest: &[u8], sites: u8) -> Result<Option<Question>, 
 
 // How many messages a site released of its own.
 fn own_count<T>(clerk: &Clerk<'_, T>) -> u32
-    ensures { result ≡ counted clerk.now.desk.site.place.site clerk.now.desk.site.state.log }
+    ensures { result ≡ counted clerk.now.keyed.desk.site.place.site clerk.now.keyed.desk.site.state.log }
 {
-    let intake = clerk.desk.site.intake();
+    let intake = clerk.keyed.desk.site.intake();
     intake.clock().count(intake.site())
 }
 
 // How far a site has come.
 fn state_of<T>(clerk: &Clerk<'_, T>) -> Result<Fields, AllocError>
-    ensures { IfOk result (λ fields. fields ≡ state_row clerk.now.desk.site.place clerk.now.desk.site.state clerk.now.served.answered) }
+    ensures { IfOk result (λ fields. fields ≡ state_row clerk.now.keyed.desk.site.place clerk.now.keyed.desk.site.state clerk.now.served.answered) }
 {
-    let intake = clerk.desk.site.intake();
+    let intake = clerk.keyed.desk.site.intake();
     let mut fields = Fields::new(clerk.served.alloc);
     fields.push_plain(b"state")?;
     fields.push_number(clerk.served.answered)?;
@@ -176,7 +176,7 @@ fn state_of<T>(clerk: &Clerk<'_, T>) -> Result<Fields, AllocError>
 
 // Shows how far a site has come.
 fn show_state<T>(clerk: &Clerk<'_, T>) -> Result<Sink, AllocError>
-    ensures { IfOk result (λ sink. sink ≡ rows_text (state_row clerk.now.desk.site.place clerk.now.desk.site.state clerk.now.served.answered ∷ [])) }
+    ensures { IfOk result (λ sink. sink ≡ rows_text (state_row clerk.now.keyed.desk.site.place clerk.now.keyed.desk.site.state clerk.now.served.answered ∷ [])) }
 {
     let fields = state_of(clerk)?;
     row(clerk.served.alloc, &fields)
@@ -189,11 +189,11 @@ fn show_listing<T: Threads + Wait + Sync>(
     listing: &Listing,
 ) -> Result<Sink, KeepFault>
     ensures same { IsUnmoved clerk.old clerk.new }
-    ensures rows { IfOk result (λ sink. sink ≡ rows_text (shown_to clerk.old.desk.site.place clerk.old.desk.site.state clerk.old.served.answered
+    ensures rows { IfOk result (λ sink. sink ≡ rows_text (shown_to clerk.old.keyed.desk.site.place clerk.old.keyed.desk.site.state clerk.old.served.answered
         (Some (Question.List listing.now)))) }
 {
     let mut rows = Counted::new(Sink::new(clerk.served.alloc));
-    let desk = &mut clerk.desk;
+    let desk = &mut clerk.keyed.desk;
     match desk.site.list_into(rt, listing, &mut rows) {
         Ok(()) => Ok(show_counted(clerk.served.alloc, rows)?),
         Err(_) => Err(KeepFault::Memory),
@@ -217,11 +217,11 @@ fn put_shown(fields: &mut Fields, key: &RowKey, row: &Row) -> Result<bool, Alloc
 
 // Shows the row at a key, or that there is none.
 fn show_row<T>(clerk: &Clerk<'_, T>, key: &RowKey) -> Result<Sink, AllocError>
-    requires { clerk.now.desk.site.progress ≡ resting_at (length clerk.now.desk.site.state.log) }
-    ensures { IfOk result (λ sink. sink ≡ rows_text (or_none (row_shown key.now (rows_at clerk.now.desk.site.state.log key.now)))) }
+    requires { clerk.now.keyed.desk.site.progress ≡ resting_at (length clerk.now.keyed.desk.site.state.log) }
+    ensures { IfOk result (λ sink. sink ≡ rows_text (or_none (row_shown key.now (rows_at clerk.now.keyed.desk.site.state.log key.now)))) }
 {
     let mut fields = Fields::new(clerk.served.alloc);
-    let has = match clerk.desk.site.row(key) {
+    let has = match clerk.keyed.desk.site.row(key) {
         Some(found) => put_shown(&mut fields, key, found)?,
         None => false,
     };
@@ -239,10 +239,10 @@ fn look_up<T: Threads + Wait + Sync>(
     key: &RowKey,
 ) -> Result<Sink, KeepFault>
     ensures same { IsUnmoved clerk.old clerk.new }
-    ensures rows { IfOk result (λ sink. sink ≡ rows_text (shown_to clerk.old.desk.site.place clerk.old.desk.site.state clerk.old.served.answered
+    ensures rows { IfOk result (λ sink. sink ≡ rows_text (shown_to clerk.old.keyed.desk.site.place clerk.old.keyed.desk.site.state clerk.old.served.answered
         (Some (Question.Row key.now)))) }
 {
-    let desk = &mut clerk.desk;
+    let desk = &mut clerk.keyed.desk;
     if desk.site.cut(rt).is_err() {
         return Err(KeepFault::Memory);
     }
@@ -257,10 +257,10 @@ pub(crate) fn answer<T: Threads + Wait + Sync>(
     listed: &mut Option<Listed>,
     line: &[u8],
 ) -> Result<Sink, KeepFault>
-    requires listed { AreListed clerk.old.desk.site.state listed.old }
+    requires listed { AreListed clerk.old.keyed.desk.site.state listed.old }
     ensures same { IsUnmoved clerk.old clerk.new }
-    ensures listed { AreListed clerk.old.desk.site.state listed.new }
-    ensures rows { IfOk result (λ sink. sink ≡ rows_text (reply_rows clerk.old.desk.site.place clerk.old.desk.site.state clerk.old.served.answered line.now)) }
+    ensures listed { AreListed clerk.old.keyed.desk.site.state listed.new }
+    ensures rows { IfOk result (λ sink. sink ≡ rows_text (reply_rows clerk.old.keyed.desk.site.place clerk.old.keyed.desk.site.state clerk.old.served.answered line.now)) }
 {
     if line.len() > LINE_MAX {
         return Ok(refuse(clerk.served.alloc, b"TooLong")?);
@@ -269,7 +269,7 @@ pub(crate) fn answer<T: Threads + Wait + Sync>(
     if !closes(rest) {
         return Ok(refuse(clerk.served.alloc, b"OpenQuote")?);
     }
-    match read_line(clerk.served.alloc, rest, clerk.desk.sites())? {
+    match read_line(clerk.served.alloc, rest, clerk.keyed.desk.sites())? {
         Some(Question::List(listing)) => show_listing(rt, clerk, &listing),
         Some(Question::Page(page)) => turn_page(rt, clerk, listed, &page),
         Some(Question::Row(key)) => look_up(rt, clerk, &key),

@@ -47,12 +47,12 @@ pub(crate) fn reply_if<T: Threads + Wait + Sync, O: Read, F: SiteFiles>(
     clerk: &mut Clerk<'_, T>,
     answers: &mut Answers<O, F>,
 ) -> Result<(), KeepFault>
-    requires listed { AreListed clerk.old.desk.site.state listed.old }
+    requires listed { AreListed clerk.old.keyed.desk.site.state listed.old }
     ensures same { IsUnmoved clerk.old clerk.new }
     ensures before { answers.new ≡ record answers.old { files = answers.new.files } }
-    ensures listed { AreListed clerk.old.desk.site.state listed.new }
+    ensures listed { AreListed clerk.old.keyed.desk.site.state listed.new }
     ensures replied { RepliesIf is_asked (F.history answers.old.files) (F.history answers.new.files) result question.now
-        (reply_text (reply_rows clerk.old.desk.site.place clerk.old.desk.site.state clerk.old.served.answered question.now)) }
+        (reply_text (reply_rows clerk.old.keyed.desk.site.place clerk.old.keyed.desk.site.state clerk.old.served.answered question.now)) }
     ensures fault { IfErr result IsFailure }
 {
     if !is_asked {

@@ -3,11 +3,11 @@
 ghost use Rattle.std.specs.Prelude.{◌≡◌, ◌∷◌, ◌⊎◌, [], IfErr, MatchResult, OnErr, OnOk, None, map};
 ghost use Rattle.std.specs.List.{range_with_len};
 ghost use Rattle.rubis_model.specs.Site.{counted};
-ghost use Rattle.rubis_keep.specs.Turns.{IsIdle, answering, IsAtRest, standing};
+ghost use Rattle.rubis_keep.specs.Turns.{HoldsNothing, clerk_at, IsAtRest, standing};
 ghost use Rattle.rubis_keep.specs.Faults.{IsFailure, of_kept};
 ghost use Rattle.rubis_keep.specs.History.{Grows, HasDone};
-ghost use Rattle.rubis_keep.specs.History.Event.{Began, CutTo, Flushed, Settled};
-ghost use Rattle.rubis_keep.specs.Runs.{Fails, GoesOn, Replays, Runs, Unreplayed};
+ghost use Rattle.rubis_keep.specs.History.FolderEvent.{Began, CutTo, Flushed, Settled};
+ghost use Rattle.rubis_keep.specs.Runs.{Fails, GoesOn, IsKeptFailure, Replays, Runs, Unreplayed};
 
 use crate::answers::Answers;
 use crate::checking::check_kept;
@@ -62,12 +62,12 @@ fn replay<T: Threads + Wait + Sync, P: Read, O: Read, F: SiteFiles>(
 // Says that all that was kept is answered.
 fn tell_replayed<T, F: SiteFiles>(clerk: &Clerk<'_, T>, files: &mut F) -> Result<(), KeepFault>
     ensures ok { OnOk result (Grows (F.history files.old) (F.history files.new)
-        (Settled ∷ Began clerk.now.served.answered (map (λ i. counted i clerk.now.desk.site.state.log) (range_with_len 0 clerk.now.desk.site.place.sites)) ∷ [])) }
+        (Settled ∷ Began clerk.now.served.answered (map (λ i. counted i clerk.now.keyed.desk.site.state.log) (range_with_len 0 clerk.now.keyed.desk.site.place.sites)) ∷ [])) }
     ensures err { OnErr result (Grows (F.history files.old) (F.history files.new) [] ⊎ Grows (F.history files.old) (F.history files.new) (Settled ∷ [])) }
     ensures fault { IfErr result IsFailure }
 {
-    let site = &clerk.desk.site;
-    let counts = counts_of(clerk.served.alloc, site.history(), clerk.desk.sites())?;
+    let site = &clerk.keyed.desk.site;
+    let counts = counts_of(clerk.served.alloc, site.history(), clerk.keyed.desk.sites())?;
     if let Err(e) = files.settle() {
         return Err(KeepFault::WriteOut(e));
     }
@@ -80,7 +80,7 @@ fn tell_replayed<T, F: SiteFiles>(clerk: &Clerk<'_, T>, files: &mut F) -> Result
 // Returns once what was kept before is as safe as it is to be: it is answered then.
 fn flush<F: SiteFiles>(files: &mut F) -> Result<(), KeepFault>
     ensures done { HasDone Flushed (F.history files.old) (F.history files.new) result }
-    ensures fault { IfErr result IsFailure }
+    ensures fault { IfErr result IsKeptFailure }
 {
     match files.flush_kept() {
         Ok(()) => Ok(()),
@@ -92,7 +92,7 @@ fn flush<F: SiteFiles>(files: &mut F) -> Result<(), KeepFault>
 fn cut_and_flush<F: SiteFiles>(files: &mut F, len: u64) -> Result<(), KeepFault>
     ensures ok { OnOk result (Grows (F.history files.old) (F.history files.new) (CutTo len ∷ Flushed ∷ [])) }
     ensures err { OnErr result (Grows (F.history files.old) (F.history files.new) [] ⊎ Grows (F.history files.old) (F.history files.new) (CutTo len ∷ [])) }
-    ensures fault { IfErr result IsFailure }
+    ensures fault { IfErr result IsKeptFailure }
 {
     match files.cut_kept(len) {
         Ok(()) => flush(files),
@@ -132,8 +132,8 @@ fn run_lines<T: Threads + Wait + Sync, C: Read, P: Read, O: Read, F: SiteFiles, 
     answers: &mut Answers<O, F>,
 ) -> Result<(), KeepFault>
     requires none { (lines.old.cutter ≡ []) × (lines.old.unread ≡ []) × (lines.old.kept ≡ 0) × (lines.old.listed ≡ None) }
-    requires idle { IsIdle (answering O.remaining clerk.old answers.old) }
-    ensures { Runs (C.remaining recording.old.first) (P.remaining recording.old.past) (answering O.remaining clerk.old answers.old)
+    requires idle { HoldsNothing (clerk_at O.remaining clerk.old answers.old) }
+    ensures { Runs (C.remaining recording.old.first) (P.remaining recording.old.past) (clerk_at O.remaining clerk.old answers.old)
         (R.remaining live.old) (R.remaining live.new) (F.history answers.old.files) (F.history answers.new.files) result }
 {
     check_kept(rt, clerk.served.alloc, &mut recording.first)?;
@@ -152,8 +152,8 @@ pub(crate) fn run_kept<T: Threads + Wait + Sync, C: Read, P: Read, O: Read, F: S
     clerk: &mut Clerk<'_, T>,
     answers: &mut Answers<O, F>,
 ) -> Result<(), KeepFault>
-    requires { IsIdle (answering O.remaining clerk.old answers.old) }
-    ensures { Runs (C.remaining recording.old.first) (P.remaining recording.old.past) (answering O.remaining clerk.old answers.old)
+    requires { HoldsNothing (clerk_at O.remaining clerk.old answers.old) }
+    ensures { Runs (C.remaining recording.old.first) (P.remaining recording.old.past) (clerk_at O.remaining clerk.old answers.old)
         (R.remaining live.old) (R.remaining live.new) (F.history answers.old.files) (F.history answers.new.files) result }
 {
     let unread = Unread::new(clerk.served.alloc, PIECE)?;

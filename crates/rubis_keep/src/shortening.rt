@@ -2,24 +2,26 @@
 
 ghost use Rattle.std.specs.Prelude.{◌≡◌, ◌++◌, ◌∷◌, [], ℕ, List, IfOk, OnErr, OnOk, cond, false};
 ghost use Rattle.std.specs.Io.KnownBytes.{Appends};
-ghost use Rattle.rubis_message.specs.Grammar.{IsPacket, IsRequest};
+ghost use Rattle.rubis_message.specs.Grammar.{IsRequest};
 ghost use Rattle.rubis_message.specs.Message.{sites_of};
 ghost use Rattle.rubis_schema.specs.declared.refusals.Refusal.{Refusal};
 ghost use Rattle.rubis_script.specs.Replica.fault_variants as Fault;
 ghost use Rattle.rubis_message.specs.declared.tokens.Packet.TheVariants as Packet;
-ghost use Rattle.rubis_message.specs.Inputs.{input_of};
+ghost use Rattle.rubis_message.specs.Inputs.{FitsIn};
 ghost use Rattle.rubis_message.specs.declared.inputs.Input.TheVariants.{Asked, Came};
 ghost use Rattle.rubis_engine.specs.Progress.{AppendsFront};
 ghost use Rattle.rubis_engine.specs.Text.{input_records};
-ghost use Rattle.rubis_model.specs.Site.{Replica, opening_at};
 ghost use Rattle.rubis_script.specs.Replica.{setup_place};
-ghost use Rattle.rubis_keep.specs.Lines.{AreSound};
+ghost use Rattle.rubis_keys.specs.Desks.{standing_at};
+ghost use Rattle.rubis_keys.specs.Keys.{KeyedSite, keyed_opening};
+ghost use Rattle.rubis_keep.specs.Lines.{HasSoundLines};
 ghost use Rattle.rubis_keep.specs.Shortened.{IsShort, Shortens, TakesRecord, TakesRecords};
 
 use crate::fault::KeepFault;
-use rubis_engine::{InputRecord, OutOfMemory, Records, read_through_signals, write_front};
+use rubis_engine::{InputRecord, OutOfMemory, Records, Reply, read_through_signals, write_front};
+use rubis_keys::{KeyedDesk, KeyedInput};
 use rubis_message::{Arrival, Input, Message, Packet, Request, Taken, Token};
-use rubis_script::{Config, Desk, Fault, Site, SiteGate};
+use rubis_script::{Config, Fault, Site, SiteGate};
 use std::alloc::{AllocError, Global};
 use std::io::{Read, Write};
 use std::sync::Wait;
@@ -28,6 +30,16 @@ use std::{io, mem};
 
 // How many bytes are read at once.
 const PIECE: usize = 65_536;
+
+// What a call of a site that failed did to it: nothing, if it was refused.
+fn unchanged(fault: Fault) -> Result<bool, OutOfMemory>
+    ensures { IfOk result (λ changed. (changed ≡ false) × (r : Refusal) × (fault ≡ Fault.Refused r)) }
+{
+    match fault {
+        Fault::Refused(_) => Ok(false),
+        Fault::Behind | Fault::Memory => Err(OutOfMemory),
+    }
+}
 
 // Takes a message in. Whether it changed the site.
 fn take_message<T: Threads + Wait + Sync>(
@@ -42,8 +54,7 @@ fn take_message<T: Threads + Wait + Sync>(
     match site.arrive(rt, message) {
         Ok(Arrival::Repeat) => Ok(false),
         Ok(Arrival::Held) | Ok(Arrival::Released(_)) => Ok(true),
-        Err(Fault::Refused(_)) => Ok(false),
-        Err(Fault::Behind) | Err(Fault::Memory) => Err(OutOfMemory),
+        Err(fault) => unchanged(fault),
     }
 }
 
@@ -55,34 +66,7 @@ fn take_token(site: &mut Site<SiteGate>, token: Token) -> Result<bool, OutOfMemo
     match site.token(token) {
         Ok(Taken::Repeat) => Ok(false),
         Ok(Taken::Holding) => Ok(true),
-        Err(Fault::Refused(_)) => Ok(false),
-        Err(Fault::Behind) | Err(Fault::Memory) => Err(OutOfMemory),
-    }
-}
-
-// Takes a packet in. Whether it changed the site.
-fn take_packet<T: Threads + Wait + Sync>(
-    rt: &T,
-    site: &mut Site<SiteGate>,
-    packet: Packet,
-) -> Result<bool, OutOfMemory>
-    requires { IsPacket site.old.place.sites packet }
-    ensures place { site.new.place ≡ site.old.place }
-    ensures takes { IfOk result (TakesRecord site.old site.new (Came packet)) }
-{
-    match packet {
-        Packet::Msg(message) => take_message(rt, site, message),
-        Packet::Token(token) => take_token(site, token),
-    }
-}
-
-// What a call of a site that failed did to it: nothing, if it was refused.
-fn unchanged(fault: Fault) -> Result<bool, OutOfMemory>
-    ensures { IfOk result (λ changed. (changed ≡ false) × (r : Refusal) × (fault ≡ Fault.Refused r)) }
-{
-    match fault {
-        Fault::Refused(_) => Ok(false),
-        Fault::Behind | Fault::Memory => Err(OutOfMemory),
+        Err(fault) => unchanged(fault),
     }
 }
 
@@ -109,19 +93,44 @@ fn take_request<T: Threads + Wait + Sync>(
     }
 }
 
-// Takes a record. Whether it changed the site.
+// Takes a record without a key. Whether it changed the site.
+fn take_input<T: Threads + Wait + Sync>(
+    rt: &T,
+    site: &mut Site<SiteGate>,
+    input: Input,
+) -> Result<bool, OutOfMemory>
+    requires { FitsIn site.old.place.sites input }
+    ensures place { site.new.place ≡ site.old.place }
+    ensures takes { IfOk result (TakesRecord site.old site.new input) }
+{
+    match input {
+        Input::Came(Packet::Msg(message)) => take_message(rt, site, message),
+        Input::Came(Packet::Token(token)) => take_token(site, token),
+        Input::Asked(request) => take_request(rt, site, request),
+        Input::Neither => Ok(false),
+    }
+}
+
+// Takes a record, whose answer isn't told. Whether it changed the site. Where no record is under a key, one that says so is malformed.
 fn take_record<T: Threads + Wait + Sync>(
     rt: &T,
-    desk: &mut Desk<'_, T>,
+    desk: &mut KeyedDesk<'_, T>,
+    knows_keys: bool,
+    reply: &mut Reply,
     fields: &InputRecord,
 ) -> Result<bool, OutOfMemory>
-    ensures place { desk.new.site.place ≡ desk.old.site.place }
-    ensures takes { IfOk result (TakesRecord desk.old.site desk.new.site (input_of desk.old.site.place.sites fields.now)) }
+    ensures place { desk.new.desk.site.place ≡ desk.old.desk.site.place }
+    ensures takes { IfOk result (TakesRecords knows_keys desk.old.desk.site.place (standing_at desk.old) (standing_at desk.new)
+        (fields.now ∷ [])) }
 {
     match desk.read(fields)? {
-        Input::Came(packet) => take_packet(rt, &mut desk.site, packet),
-        Input::Asked(request) => take_request(rt, &mut desk.site, request),
-        Input::Neither => Ok(false),
+        KeyedInput::Plain(input) => {
+            let plain = &mut desk.desk;
+            take_input(rt, &mut plain.site, input)
+        }
+        KeyedInput::AskedUnder(key, ask) if knows_keys => desk.ask(reply, key, ask),
+        KeyedInput::CameUnder(key, message) if knows_keys => desk.receive(reply, key, message),
+        KeyedInput::AskedUnder(..) | KeyedInput::CameUnder(..) => Ok(false),
     }
 }
 
@@ -129,19 +138,22 @@ fn take_record<T: Threads + Wait + Sync>(
 fn take_line<T: Threads + Wait + Sync>(
     rt: &T,
     alloc: Global,
-    desk: &mut Desk<'_, T>,
+    desk: &mut KeyedDesk<'_, T>,
+    knows_keys: bool,
     line: &[u8],
 ) -> Result<bool, KeepFault>
-    ensures place { desk.new.site.place ≡ desk.old.site.place }
-    ensures takes { IfOk result (TakesRecords desk.old.site desk.new.site (input_records line.now)) }
+    ensures place { desk.new.desk.site.place ≡ desk.old.desk.site.place }
+    ensures takes { IfOk result (TakesRecords knows_keys desk.old.desk.site.place (standing_at desk.old) (standing_at desk.new)
+        (input_records line.now)) }
 {
     let mut records = Records::new(alloc, line);
+    let mut reply = Reply::new(alloc);
     let mut changed = false;
     'turns: loop {
         if !records.advance()? {
             return Ok(changed);
         }
-        if take_record(rt, desk, records.fields())? {
+        if take_record(rt, desk, knows_keys, &mut reply, records.fields())? {
             changed = true;
         }
     }
@@ -168,22 +180,23 @@ fn add_if(is_kept: bool, line: &[u8], text: &mut Vec<u8>) -> Result<(), AllocErr
 // Takes the next byte. A line that ends with it is added to `text`, if any of its records changed the site.
 fn take_next<T: Threads + Wait + Sync>(
     rt: &T,
-    desk: &mut Desk<'_, T>,
+    desk: &mut KeyedDesk<'_, T>,
+    knows_keys: bool,
     line: &mut Vec<u8>,
     byte: u8,
     text: &mut Vec<u8>,
 ) -> Result<(), KeepFault>
-    ensures place { desk.new.site.place ≡ desk.old.site.place }
-    ensures short { OnOk result ((s : Replica) (done told : List ℕ) → AreSound [] (done ++ byte ∷ [])
-        → IsShort desk.old.site.place s done line.old.items (told ++ text.old.items) desk.old.site.state
-        → IsShort desk.old.site.place s (done ++ byte ∷ []) line.new.items (told ++ text.new.items) desk.new.site.state) }
+    ensures place { desk.new.desk.site.place ≡ desk.old.desk.site.place }
+    ensures short { OnOk result ((s : KeyedSite) (done told : List ℕ) → HasSoundLines [] (done ++ byte ∷ [])
+        → IsShort knows_keys desk.old.desk.site.place s done line.old.items (told ++ text.old.items) (standing_at desk.old)
+        → IsShort knows_keys desk.old.desk.site.place s (done ++ byte ∷ []) line.new.items (told ++ text.new.items) (standing_at desk.new)) }
 {
     push(line, byte)?;
     if byte != b'\n' {
         return Ok(());
     }
     let alloc = *text.allocator();
-    let changed = take_line(rt, alloc, desk, line)?;
+    let changed = take_line(rt, alloc, desk, knows_keys, line)?;
     add_if(changed, line, text)?;
     line.clear();
     Ok(())
@@ -192,18 +205,19 @@ fn take_next<T: Threads + Wait + Sync>(
 // Takes the bytes of a piece.
 fn take_piece<T: Threads + Wait + Sync>(
     rt: &T,
-    desk: &mut Desk<'_, T>,
+    desk: &mut KeyedDesk<'_, T>,
+    knows_keys: bool,
     line: &mut Vec<u8>,
     piece: &[u8],
     text: &mut Vec<u8>,
 ) -> Result<(), KeepFault>
-    ensures place { desk.new.site.place ≡ desk.old.site.place }
-    ensures short { OnOk result ((s : Replica) (done told : List ℕ) → AreSound [] (done ++ piece.now)
-        → IsShort desk.old.site.place s done line.old.items (told ++ text.old.items) desk.old.site.state
-        → IsShort desk.old.site.place s (done ++ piece.now) line.new.items (told ++ text.new.items) desk.new.site.state) }
+    ensures place { desk.new.desk.site.place ≡ desk.old.desk.site.place }
+    ensures short { OnOk result ((s : KeyedSite) (done told : List ℕ) → HasSoundLines [] (done ++ piece.now)
+        → IsShort knows_keys desk.old.desk.site.place s done line.old.items (told ++ text.old.items) (standing_at desk.old)
+        → IsShort knows_keys desk.old.desk.site.place s (done ++ piece.now) line.new.items (told ++ text.new.items) (standing_at desk.new)) }
 {
     for byte in piece {
-        take_next(rt, desk, line, *byte, text)?;
+        take_next(rt, desk, knows_keys, line, *byte, text)?;
     }
     Ok(())
 }
@@ -223,9 +237,11 @@ fn shorten_at<T: Threads + Wait + Sync, P: Read, W: Write>(
     alloc: Global,
     past: &mut P,
     fresh: &mut W,
-    desk: &mut Desk<'_, T>,
+    desk: &mut KeyedDesk<'_, T>,
+    knows_keys: bool,
 ) -> Result<(), KeepFault>
-    ensures { OnOk result (Shortens desk.old.site.place desk.old.site.state (P.remaining past.old) (W.contents fresh.old) (W.contents fresh.new)) }
+    ensures { OnOk result (Shortens knows_keys desk.old.desk.site.place (standing_at desk.old) (P.remaining past.old) (W.contents fresh.old)
+        (W.contents fresh.new)) }
 {
     let mut line = Vec::new(alloc);
     let mut text = Vec::new(alloc);
@@ -235,7 +251,7 @@ fn shorten_at<T: Threads + Wait + Sync, P: Read, W: Write>(
             Ok(0) => return Ok(()),
             Ok(given) => {
                 text.clear();
-                take_piece(rt, desk, &mut line, &piece[..given], &mut text)?;
+                take_piece(rt, desk, knows_keys, &mut line, &piece[..given], &mut text)?;
                 if let Err(e) = write_and_flush(fresh, &text) {
                     return Err(KeepFault::WriteKept(e));
                 }
@@ -259,12 +275,13 @@ pub fn shorten<T: Threads + Wait + Sync, P: Read, W: Write>(
     past: &mut P,
     fresh: &mut W,
     config: &Config,
+    knows_keys: bool,
 ) -> Result<(), KeepFault>
-    ensures { OnOk result (Shortens (setup_place config.now) (opening_at config.now.site) (P.remaining past.old) (W.contents fresh.old)
+    ensures { OnOk result (Shortens knows_keys (setup_place config.now) (keyed_opening config.now.site) (P.remaining past.old) (W.contents fresh.old)
         (W.contents fresh.new)) }
 {
-    let mut desk = Desk::new(rt, alloc, config, SiteGate::free())?;
-    let ended = shorten_at(rt, alloc, past, fresh, &mut desk);
+    let mut desk = KeyedDesk::new(rt, alloc, config)?;
+    let ended = shorten_at(rt, alloc, past, fresh, &mut desk, knows_keys);
     mem::forget(desk);
     ended
 }

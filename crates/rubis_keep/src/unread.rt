@@ -3,7 +3,7 @@
 ghost use Rattle.std.specs.Prelude.{◌≡◌, ◌<◌, ◌≤◌, [], IfErr, IfOk, drop, false, length, true};
 ghost use Rattle.std.specs.Io.KnownBytes.{Consumes, IsAtEnd};
 ghost use Rattle.rubis_keep.specs.Faults.{IsFailure};
-ghost use Rattle.rubis_keep.specs.Turns.{left_of};
+ghost use Rattle.rubis_keep.specs.Turns.{left_to_read};
 
 use crate::fault::KeepFault;
 use rubis_engine::read_through_signals;
@@ -68,7 +68,7 @@ impl Unread {
 
     /// Reads the next bytes of an input, if all are looked at. Whether there are any.
     pub(crate) fn fill<R: Read>(&mut self, live: &mut R) -> Result<bool, KeepFault>
-        ensures same { Consumes (left_of self.old (R.remaining live.old)) (left_of self.new (R.remaining live.new)) [] }
+        ensures same { Consumes (left_to_read self.old (R.remaining live.old)) (left_to_read self.new (R.remaining live.new)) [] }
         ensures end { IfOk result (λ more. more ≡ false → (self.new ≡ []) × IsAtEnd (R.remaining live.new)) }
         ensures more { IfOk result (λ more. more ≡ true → 0 < length self.new) }
         ensures fault { IfErr result IsFailure }

@@ -1,7 +1,7 @@
 -- Entries in key order stand table by table.
 use Rattle.rubis_listing.proofs.Common.{◌≡◌, ℕ, ◌+◌, ◌<◌, ◌≤◌, inl, inr, Bool, true, false, cond, List, [], ◌∷◌, ◌++◌, length, length-append, refl}
 use Rattle.rubis_listing.proofs.Common.{sym, ap, ◌∙◌, arith, filter, not, append-nil, shows_nothing, Tables, holds, Listing, RowKey, Table, CatRow}
-use Rattle.rubis_listing.proofs.Common.{Row, rows_of, category_record, records_of, row_record, table_rows, number_of, recorded_from}
+use Rattle.rubis_listing.proofs.Common.{Row, rows_of, category_record, records_of, row_record, table_rows, number_of_table, recorded_from}
 use Rattle.std.proofs.Common.{T, ◌&&◌}
 use Rattle.std.specs.Prelude.{⊤, flat_map, nat_eq, nat_le, nat_lt, ◌==◌}
 use Rattle.std.specs.Cmp.Lexicographic.{slice_cmp}
@@ -18,7 +18,7 @@ use Rattle.rubis_schema.specs.declared.listings.Listing.TheVariants as listing
 use Rattle.rubis_schema.specs.declared.row_keys.RowKey.TheVariants as key
 use Rattle.rubis_schema.specs.declared.row_keys.Table.TheVariants as table
 use Rattle.rubis_schema.specs.declared.rows.Row.TheVariants as row
-use Rattle.rubis_listing.specs.Parts.{tables_of, after, rows_after, rows_from_table}
+use Rattle.rubis_listing.specs.Parts.{tables_of, following_table, rows_after, rows_from_table}
 use Rattle.rubis_listing.proofs.Selecting.{Entries, IsWithin, bids_within, categories_within, comments_within, items_within, one_table, purchases_within}
 use Rattle.rubis_listing.proofs.Selecting.{records_append, shows_none, users_within}
 
@@ -104,8 +104,8 @@ one k n h = (grind (arith, nat_tests), grind (arith, nat_tests), grind (arith, n
 before : (k n : ℕ) → k < n → Tests k n false false false
 before k n h = (grind (arith, nat_tests), grind (arith, nat_tests), grind (arith, nat_tests))
 
-behind : (k n : ℕ) → n < k → Tests k n true false true
-behind k n h = (grind (arith, nat_tests), grind (arith, nat_tests), grind (arith, nat_tests))
+part_end : (k n : ℕ) → n < k → Tests k n true false true
+part_end k n h = (grind (arith, nat_tests), grind (arith, nat_tests), grind (arith, nat_tests))
 
 stepped : (e : RowKey × Row) (n : ℕ) (a b c : Bool) (es : Entries) → Tests (table_of e.0) n a b c
     → cond a (e ∷ from n es) (from n es) ≡ cond b (e ∷ at n es) (at n es) ++ cond c (e ∷ from (n + 1) es) (from (n + 1) es)
@@ -123,7 +123,7 @@ split_at n (e ∷ es) h =
       | inr (inl less) ↦ stepped e n false false false es (before (table_of e.0) n less) rest
       | inr (inr more) ↦
           let none = none_at n (table_of e.0) more es h.0 in
-          stepped e n true false true es (behind (table_of e.0) n more)
+          stepped e n true false true es (part_end (table_of e.0) n more)
           (ap (λ fs. e ∷ fs) (rest ∙ ap (λ fs. fs ++ from (n + 1) es) none) ∙ sym (ap (λ fs. fs ++ (e ∷ from (n + 1) es)) none))
     ]
 
@@ -172,7 +172,7 @@ no_nicknames ((k, r) ∷ es) = elim k as (λ k. shown (at 5 ((k, r) ∷ es)) ≡
 next_table : (n : ℕ) (es : Entries) → Rise es → shown (from n es) ≡ shown (at n es) ++ shown (from (n + 1) es)
 next_table n es h = ap shown (split_at n es h) ∙ records_append listing.Tables (at n es) (from (n + 1) es)
 
-held : (t : Table) (k : RowKey) → holds t k ≡ nat_eq (table_of k) (number_of t)
+held : (t : Table) (k : RowKey) → holds t k ≡ nat_eq (table_of k) (number_of_table t)
 held table.Users (key.User x) = refl
 held table.Users (key.Item x) = refl
 held table.Users (key.Bid x) = refl
@@ -223,7 +223,7 @@ held table.Cats (key.Comment x) = refl
 held table.Cats (key.Nick x) = refl
 held table.Cats (key.Cat x) = refl
 
-rows_at : (t : Table) (m : Tables) → at (number_of t) (map.entries m) ≡ rows_of t m
+rows_at : (t : Table) (m : Tables) → at (number_of_table t) (map.entries m) ≡ rows_of t m
 rows_at t m = ap (λ (p : RowKey × Row → Bool). filter p (map.entries m)) (sym (λ i e. held t e.0 i))
 
 -- the rows of one table that are shown
@@ -235,7 +235,7 @@ table_by_table : (m : Tables) → table_shown table.Users m ++ (table_shown tabl
 table_by_table m =
     let es = map.entries m in
     let rise = rise_sorted es (map.entries_sorted m) in
-    let part : (t : Table) → shown (at (number_of t) es) ≡ table_shown t m = λ t. ap shown (rows_at t m) in
+    let part : (t : Table) → shown (at (number_of_table t) es) ≡ table_shown t m = λ t. ap shown (rows_at t m) in
     let last : shown (from 6 es) ≡ table_shown table.Cats m =
     next_table 6 es rise ∙ (λ i. part table.Cats i ++ shown (none_from es i)) ∙ append-nil (table_shown table.Cats m) in
     let fifth : shown (from 5 es) ≡ table_shown table.Cats m = next_table 5 es rise ∙ (λ i. no_nicknames es i ++ last i) in
@@ -273,10 +273,10 @@ all_by_table listing.Misfits m = sym (shows_none listing.Misfits m (inr refl))
 pub all_left : (m : Tables) → rows_from_table 0 m ≡ table_rows listing.Tables m
 all_left m = ap shown (all_from (map.entries m))
 
-next_left : (t : Table) (m : Tables) → rows_from_table (number_of t) m ≡ table_shown t m ++ rows_from_table (number_of t + 1) m
+next_left : (t : Table) (m : Tables) → rows_from_table (number_of_table t) m ≡ table_shown t m ++ rows_from_table (number_of_table t + 1) m
 next_left t m =
     let es = map.entries m in
-    next_table (number_of t) es (rise_sorted es (map.entries_sorted m)) ∙ ap (λ (fs : Entries). shown fs ++ rows_from_table (number_of t + 1) m) (rows_at t m)
+    next_table (number_of_table t) es (rise_sorted es (map.entries_sorted m)) ∙ ap (λ (fs : Entries). shown fs ++ rows_from_table (number_of_table t + 1) m) (rows_at t m)
 
 -- nicknames show nothing
 past_nicknames : (m : Tables) → rows_from_table 5 m ≡ rows_from_table 6 m
@@ -284,7 +284,7 @@ past_nicknames m =
     let es = map.entries m in
     next_table 5 es (rise_sorted es (map.entries_sorted m)) ∙ ap (λ rows. rows ++ rows_from_table 6 m) (no_nicknames es)
 
-pub left_after : (t : Table) (m : Tables) → rows_from_table (number_of t) m ≡ records_of listing.Tables (rows_of t m) ++ rows_after (after t) m
+pub left_after : (t : Table) (m : Tables) → rows_from_table (number_of_table t) m ≡ records_of listing.Tables (rows_of t m) ++ rows_after (following_table t) m
 left_after table.Users m = next_left table.Users m
 left_after table.Items m = next_left table.Items m
 left_after table.Bids m = next_left table.Bids m

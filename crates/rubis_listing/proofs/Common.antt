@@ -17,4 +17,4 @@ pub use Rattle.rubis_shadow.specs.Tables.{rows_of}
 pub use Rattle.rubis_model.specs.Listings.{category_record, log_record, misfit_rows, records_of, row_record, table_rows}
 unfoldable pub use Rattle.rubis_model.specs.Listings.{log_from}
 pub use Rattle.rubis_shard.specs.Holdings.{union}
-pub use Rattle.rubis_shard.specs.Listed.{number_of, recorded_from}
+pub use Rattle.rubis_shard.specs.Listed.{number_of_table, recorded_from}

@@ -14,7 +14,7 @@ use Rattle.rubis_shadow.specs.declared.numbered.Misfit.{Misfit}
 use Rattle.std.proofs.lemmas.List.Folds.{drop_split}
 use Rattle.rubis_listing.proofs.ByTable.{rows_by_table}
 use Rattle.rubis_listing.proofs.Selecting.{records_append}
-use Rattle.rubis_listing.specs.Parts.{behind, between, rows_of_part, size_of, AreParts, later_rows, rows_of_later, AreCountable, rows_from}
+use Rattle.rubis_listing.specs.Parts.{part_end, between, rows_of_part, size_of, AreParts, later_rows, rows_of_later, AreCountable, rows_from}
 use Rattle.rubis_listing.specs.declared.sources.Source.{Source}
 use Rattle.rubis_listing.specs.declared.sources.Source.TheVariants.{Rows, Log, Misfits}
 use Rattle.rubis_listing.specs.declared.later.Later.{Later}
@@ -64,9 +64,9 @@ collected_more l m ts i d rows others all lt both same before =
 
 pub collected_all : (l : Listing) (m : Tables) (ts : List Table) (i : ℕ) (rows : List (RowKey × Row)) → length ts ≤ i
     → AreCollected l m ts rows (drop i ts) → records_of l rows ≡ rows_by_table l m ts
-collected_all l m ts i rows behind all =
+collected_all l m ts i rows part_end all =
     sym (append-nil (records_of l rows))
-    ∙ ap (λ us. records_of l rows ++ rows_by_table l m us) (sym (drop_all i ts behind)) ∙ all
+    ∙ ap (λ us. records_of l rows ++ rows_by_table l m us) (sym (drop_all i ts part_end)) ∙ all
 
 -- ---- the entries of a log, one after the other
 
@@ -91,7 +91,7 @@ unfolding log_from
 none n = refl
 
 pub entries_end : (at upto : ℕ) (log : List Message) → upto ≤ at → log_from (at + 1) (slice_range log at upto) ≡ []
-entries_end at upto log behind =
+entries_end at upto log part_end =
     let many : upto - at ≡ 0 = omega arith in
     ap (λ n. log_from (at + 1) (take n (drop at log))) many ∙ none (at + 1)
 
@@ -173,8 +173,8 @@ parts_from holds s from upto at k zero (p ∷ ps) within is enough few h = absur
 parts_from holds s from upto at k (suc n) [] within is enough few h = absurd h
 parts_from holds s from upto at k (suc n) (p ∷ ps) within is enough few h =
     let here : from + k * 512 ≡ at = omega (arith, within, is, few) in (
-      subst (λ b. holds (between s b (behind b upto)) p) here h.0,
-      parts_from holds s from upto (behind at upto) (k + 1) n ps within (omega (arith, within, is, few)) (omega (arith, enough)) (omega (arith, few)) h.1,
+      subst (λ b. holds (between s b (part_end b upto)) p) here h.0,
+      parts_from holds s from upto (part_end at upto) (k + 1) n ps within (omega (arith, within, is, few)) (omega (arith, enough)) (omega (arith, few)) h.1,
     )
 
 -- ---- the rows of a source, and those of the tables that come later

@@ -8,7 +8,7 @@ use Rattle.std.specs.FinMap as map
 use Rattle.rubis_schema.specs.Keys.{table_of}
 use Rattle.rubis_schema.specs.Tables.{Tables}
 use Rattle.rubis_model.specs.Listings.{records_of, log_from, misfit_rows}
-use Rattle.rubis_shard.specs.Listed.{number_of}
+use Rattle.rubis_shard.specs.Listed.{number_of_table}
 use Rattle.rubis_shard.specs.Holdings.{union}
 use Rattle.rubis_listing.specs.declared.later.Later.{Later}
 use Rattle.rubis_listing.specs.declared.sources.Source.{Source}
@@ -33,22 +33,22 @@ abbrev pub rows_from_table : ℕ → Tables → List (List (List ℕ))
 rows_from_table n m = records_of listing.Tables (filter (λ e. nat_le n (table_of e.0)) (map.entries m))
 
 -- the table that is listed after another: nicknames are listed with their users
-abbrev pub after : Table → Option Table
-after table.Users = Some table.Items
-after table.Items = Some table.Bids
-after table.Bids = Some table.Purchases
-after table.Purchases = Some table.Comments
-after table.Comments = Some table.Cats
-after table.Nicks = Some table.Cats
-after table.Cats = None
+abbrev pub following_table : Table → Option Table
+following_table table.Users = Some table.Items
+following_table table.Items = Some table.Bids
+following_table table.Bids = Some table.Purchases
+following_table table.Purchases = Some table.Comments
+following_table table.Comments = Some table.Cats
+following_table table.Nicks = Some table.Cats
+following_table table.Cats = None
 
 -- the rows of a table and of those after it, if there is one
 abbrev pub rows_after : Option Table → Tables → List (List (List ℕ))
 rows_after None m = []
-rows_after (Some t) m = rows_from_table (number_of t) m
+rows_after (Some t) m = rows_from_table (number_of_table t) m
 
 abbrev pub rows_of_later : Later → List (List (List ℕ))
-rows_of_later l = rows_from_table (number_of l.first) (union l.tables.now)
+rows_of_later l = rows_from_table (number_of_table l.first) (union l.tables.now)
 
 abbrev pub later_rows : Option Later → List (List (List ℕ))
 later_rows None = []
@@ -79,17 +79,17 @@ rows_from s from = between s from (size_of s)
 
 -- some first rows were added, and `left` are those that are left
 abbrev pub AddsFirst : {S : Type 0} → (List (List (List ℕ)) → S → S → Type 0) → List (List (List ℕ)) → List (List (List ℕ)) → S → S → Type 0
-AddsFirst adds rows left before after = (first : List (List (List ℕ))) × (rows ≡ first ++ left) × adds first before after
+AddsFirst adds rows left before following_table = (first : List (List (List ℕ))) × (rows ≡ first ++ left) × adds first before following_table
 
 -- the place behind a part, which is of 512 rows or of those that are left
-abbrev pub behind : ℕ → ℕ → ℕ
-behind at upto = at + min 512 (upto - at)
+abbrev pub part_end : ℕ → ℕ → ℕ
+part_end at upto = at + min 512 (upto - at)
 
 -- a part of the rows from a place on, up to another
 abbrev pub rows_of_part : Source → ℕ → ℕ → ℕ → List (List (List ℕ))
-rows_of_part s from upto at = between s (from + at * 512) (behind (from + at * 512) upto)
+rows_of_part s from upto at = between s (from + at * 512) (part_end (from + at * 512) upto)
 
 -- each part holds the next rows, and all parts those up to the end
 abbrev pub AreParts : {S : Type 0} → (List (List (List ℕ)) → S → Type 0) → Source → ℕ → ℕ → List S → Type 0
 AreParts holds s at upto [] = at ≡ upto
-AreParts holds s at upto (part ∷ parts) = holds (between s at (behind at upto)) part × AreParts holds s (behind at upto) upto parts
+AreParts holds s at upto (part ∷ parts) = holds (between s at (part_end at upto)) part × AreParts holds s (part_end at upto) upto parts

@@ -5,7 +5,7 @@ ghost use Rattle.rubis_schema.specs.declared.listings.Listing.TheVariants as Sho
 ghost use Rattle.rubis_shadow.specs.Tables.{rows_of};
 ghost use Rattle.rubis_model.specs.Listings.{records_of};
 ghost use Rattle.rubis_shard.specs.Holdings.{union};
-ghost use Rattle.rubis_listing.specs.Parts.{after, later_rows, rows_of_later, rows_from};
+ghost use Rattle.rubis_listing.specs.Parts.{following_table, later_rows, rows_of_later, rows_from};
 
 use crate::listings::rows_in;
 use crate::sources::Source;
@@ -22,7 +22,7 @@ pub struct Later<'a> {
 
 // The table that is listed after another: nicknames are listed with their users.
 fn after(table: Table) -> Option<Table>
-    ensures { result ≡ after table }
+    ensures { result ≡ following_table table }
 {
     match table {
         Table::Users => Some(Table::Items),

@@ -20,18 +20,17 @@ pub use Rattle.rubis_generate.specs.Decision.{Rows, decision}
 pub use Rattle.rubis_model.specs.Processes.{IsShortened, Moment, has_read, process, read_by, recorded, site_after}
 pub use Rattle.rubis_model.specs.Processes.Moment.{Reads, Replays, Restarts}
 pub use Rattle.rubis_model.specs.Rebuild.{sent_on, sent_on_inputs}
-pub use Rattle.rubis_model.specs.Site.{Place, Replica, generating, input_step, opening_at, output_of, passing, rows_at, standing_of}
+pub use Rattle.rubis_model.specs.Site.{Place, Replica, generating, input_step, opening_at, passing, rows_at, standing_of}
 unfoldable pub use Rattle.rubis_model.specs.Site.{answers}
 pub use Rattle.rubis_model.specs.System.{World, run, sending, site, start}
 pub use Rattle.rubis_laws.proofs.Processes.AreARun.{processes_run}
-pub use Rattle.rubis_laws.proofs.Processes.Restarts.{nothing_left_out, restarts_change_nothing, short_state}
+pub use Rattle.rubis_laws.proofs.Processes.Restarts.{restarts_change_nothing, short_state}
 pub use Rattle.rubis_engine.specs.Accounts.Ending.{AtEnd}
 pub use Rattle.rubis_engine.specs.Text.{plain_writer, row_text, rows_text}
 unfoldable pub use Rattle.rubis_engine.specs.Text.{input_records}
 pub use Rattle.rubis_keep.proofs.HistoryFacts.{safe-first}
-pub use Rattle.rubis_keep.proofs.ShortenFacts.{shortened-append}
 pub use Rattle.rubis_keep.proofs.SoundFacts.{sound-front, whole-ends, whole-rest, whole-whole}
-pub use Rattle.rubis_keep.specs.History.{AreSafe, Event, FileState, Files, Follows, IsFrontOf, IsSafe, Lived, Says, after, after_all, records_in}
-pub use Rattle.rubis_keep.specs.History.Event.{Began, CutTo, Flushed, Kept, Replied, Settled, Shown, Told}
-pub use Rattle.rubis_keep.specs.Lines.{AreSound, begun_after, kept_of, whole_lines}
-pub use Rattle.rubis_keep.specs.Lives.{IsOpened}
+pub use Rattle.rubis_keep.specs.History.{AreSafe, FolderEvent, FileState, Files, MayFollow, IsFrontOf, IsSafe, Lived, Says, after_file_event, after_file_events, records_in}
+pub use Rattle.rubis_keep.specs.History.FolderEvent.{Began, CutTo, Flushed, Kept, Replied, Settled, Shown, Told}
+pub use Rattle.rubis_keep.specs.Lines.{HasSoundLines, begun_after, kept_of_input, whole_lines}
+pub use Rattle.rubis_keep.specs.Lives.{IsAtStart}

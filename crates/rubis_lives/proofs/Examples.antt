@@ -1,10 +1,10 @@
 -- A shop of two sites, computed on the definitions: the bytes of both folders, lives that end anywhere, and the run that they are.
 use Rattle.rubis_lives.proofs.Common.{◌≡◌, ◌∙◌, inl, inr, ◌<◌, ◌+◌, ◌++◌, ◌∷◌, [], ℕ, zero, suc, Bool, true, false, List, Some, None, cond, eqb, drop}
 use Rattle.rubis_lives.proofs.Common.{length, refl, sym, ap, subst, arith, append-nil, take, MatchBool, Result, codes, map, ⊤, next_record, escaped}
-use Rattle.rubis_lives.proofs.Common.{fields_text, is_blank, Refusal, KEEP_MAX, decision, Rows, Message, site_after, IsShortened, Moment, has_read}
-use Rattle.rubis_lives.proofs.Common.{Reads, Replays, Restarts, answers, output_of, Replica, generating, opening_at, rows_at, standing_of, World, run}
-use Rattle.rubis_lives.proofs.Common.{sending, site, start, input_records, rows_text, Files, AreSafe, Event, FileState, after, after_all, records_in}
-use Rattle.rubis_lives.proofs.Common.{Began, Flushed, Kept, Settled, Shown, Told, AreSound, IsOpened}
+use Rattle.rubis_lives.proofs.Common.{fields_text, is_blank, Refusal, KEEP_MAX, decision, Rows, Message, Moment, has_read}
+use Rattle.rubis_lives.proofs.Common.{Reads, Replays, Restarts, answers, Replica, generating, opening_at, rows_at, standing_of, World, run}
+use Rattle.rubis_lives.proofs.Common.{sending, site, start, input_records, rows_text, Files, AreSafe, FolderEvent, FileState, after_file_event, after_file_events, records_in}
+use Rattle.rubis_lives.proofs.Common.{Began, Flushed, Kept, Settled, Shown, Told, HasSoundLines, IsAtStart}
 use Rattle.std.specs.Fmt.{digits}
 use Rattle.csv.specs.Reading.{records_from, strip_bom}
 use Rattle.rubis_numbers.specs.Numbers.{number_of}
@@ -21,9 +21,11 @@ use Rattle.rubis_model.specs.System.{Event as SystemEvent, happens}
 use Rattle.rubis_model.specs.System.Event.{At, Deliver}
 use Rattle.rubis_laws.proofs.Rows.FoldIsMeaning.{fold_is_meaning}
 use Rattle.rubis_laws.proofs.Processes.AreARun.{is_itself, is_other}
-use Rattle.rubis_laws.proofs.Examples.ProcessExamples.{ann_answers, ann_is_answered, ann_is_asked, ann_is_sent, no_packet_asked, not_some}
+use Rattle.rubis_laws.proofs.Examples.ProcessExamples.{ann_is_answered, ann_is_asked, ann_is_sent, no_packet_asked, not_some}
 use Rattle.rubis_keep.specs.History.{Answers}
-use Rattle.rubis_keep.specs.Shortened.{state_after}
+use Rattle.rubis_keep.specs.Shortened.{LeavesOut, state_after}
+use Rattle.rubis_keys.specs.Keys.{asked_under_rows, keyed_answers, keyed_opening}
+use Rattle.rubis_keys.specs.Laws.{after_records, bare_of}
 use Rattle.rubis_keep.specs.Telling.{answers-append}
 use Rattle.rubis_keep.proofs.HistoryFacts.{answers-shown, answers-told, safe-answers, safe-append, safe-keeps, safe-last}
 use Rattle.rubis_shadow.specs.declared.shadows.Ask.TheVariants as ask
@@ -31,24 +33,27 @@ use Rattle.rubis_shadow.specs.declared.shadows.Shadow.TheVariants as shadow
 use Rattle.rubis_message.specs.declared.requests.Request.TheVariants as request
 use Rattle.rubis_message.specs.declared.tokens.Packet.TheVariants as packet
 use Rattle.rubis_lives.specs.Folders.{AreFoldersOfARun}
-use Rattle.rubis_lives.specs.Histories.{ShortensKept, Step, answered_on, keep_after, keeps, moments_in, most, shortened_to, site_keeping, stand_after, stands}
+use Rattle.rubis_lives.specs.Histories.{ShortensKept, FolderStep, answered_on, keep_after, keeps, moments_in, most_kept, shortened_to, site_keeping, stand_after, is_placed_at}
 use Rattle.rubis_lives.specs.Histories.{from_disk, opened_again, taken_by, taken_in, AreLives, AreShopLives, SiteLife, happening, own_steps, steps_of}
-use Rattle.rubis_lives.specs.Histories.Step.{Does, Fails, Happens, Raises, Shortens}
-use Rattle.rubis_lives.specs.Shops.{IsPrefix, text_of, words_of}
+use Rattle.rubis_lives.specs.Histories.FolderStep.{Does, Fails, Happens, Raises, Shortens}
+use Rattle.rubis_lives.specs.Shops.{IsPrefix, process_text, process_words}
 use Rattle.rubis_lives.specs.Histories.End.{IsRewritten, PowerFails}
 use Rattle.rubis_lives.proofs.FolderFacts.{folders-are-a-run}
-use Rattle.rubis_lives.proofs.RewritingFacts.{Records}
+use Rattle.rubis_lives.proofs.KeyFacts.{Records}
 use Rattle.rubis_lives.proofs.SiteLivesFacts.{shortened-opened}
 
 -- ---- what is kept and told
 
--- the line of `user,ann`
+-- the line of `user,ann` under the key `k`
 abbrev asked : List ℕ
-asked = codes "user,ann" ++ 10 ∷ []
+asked = codes "key,k,user,ann" ++ 10 ∷ []
 
 -- and the line of the message that is made of it
 abbrev sent : List ℕ
-sent = codes "msg,1,0,1,1,0:0,user,ann" ++ 10 ∷ []
+sent = codes "key,k,msg,1,0,1,1,0:0,user,ann" ++ 10 ∷ []
+
+abbrev under_k : List (List ℕ) → List (List ℕ)
+under_k fields = codes "key" ∷ codes "k" ∷ fields
 
 abbrev listing : List (List ℕ)
 listing = codes "list" ∷ codes "log" ∷ []
@@ -57,7 +62,7 @@ abbrev listed : List ℕ
 listed = codes "list,log" ++ 10 ∷ []
 
 abbrev told_to_ask : List ℕ
-told_to_ask = (codes "reply,1,ok,0.1" ++ 10 ∷ []) ++ (codes "send,msg,1,0,1,1,0:0,user,ann" ++ 10 ∷ [])
+told_to_ask = (codes "reply,1,ok,0.1" ++ 10 ∷ []) ++ (codes "send,key,k,msg,1,0,1,1,0:0,user,ann" ++ 10 ∷ [])
 
 abbrev told_to_message : List ℕ
 told_to_message = codes "reply,1,released,1" ++ 10 ∷ []
@@ -65,15 +70,15 @@ told_to_message = codes "reply,1,released,1" ++ 10 ∷ []
 abbrev told_to_listing : List ℕ
 told_to_listing = (codes "reply,2,rows,1" ++ 10 ∷ []) ++ (codes "row,log,1,msg,1,0,1,1,0:0,user,ann" ++ 10 ∷ [])
 
-asked-read : records_in asked ≡ ann_is_asked ∷ []
+asked-read : records_in asked ≡ under_k ann_is_asked ∷ []
 unfolding input_records records_from next_record strip_bom
 asked-read = refl
 
-sent-read : records_in sent ≡ ann_is_sent ∷ []
+sent-read : records_in sent ≡ under_k ann_is_sent ∷ []
 unfolding input_records records_from next_record strip_bom
 sent-read = refl
 
-both-read : records_in (sent ++ listed) ≡ ann_is_sent ∷ listing ∷ []
+both-read : records_in (sent ++ listed) ≡ under_k ann_is_sent ∷ listing ∷ []
 unfolding input_records records_from next_record strip_bom
 both-read = refl
 
@@ -81,16 +86,38 @@ none-read-in : records_in [] ≡ []
 unfolding input_records records_from next_record strip_bom
 none-read-in = refl
 
-none-told : (i : ℕ) → text_of (site_keeping 2 i KEEP_MAX) (records_in []) ≡ []
-unfolding answers
-none-told i = ap (text_of (site_keeping 2 i KEEP_MAX)) none-read-in
+none-told : (i : ℕ) → process_text (site_keeping 2 i KEEP_MAX) (records_in []) ≡ []
+unfolding keyed_answers
+none-told i = ap (process_text (site_keeping 2 i KEEP_MAX)) none-read-in
 
-ask-written : rows_text ann_answers ≡ told_to_ask
+-- what site 0 comes to and answers, from the rows of its tables
+abbrev by_rows : Rows → Replica × Result Message Refusal
+by_rows rows = generating (site_keeping 2 0 KEEP_MAX) (opening_at 0) (decision rows (standing_of KEEP_MAX (opening_at 0)) (ask.User (codes "ann")))
+
+no-rows : rows_at [] ≡ meaning_row []
+no-rows = λ i key. (fold_is_meaning [] tt (omega arith)).0.rows key i
+
+abbrev told_under : Records
+told_under = (codes "reply" ∷ codes "1" ∷ codes "ok" ∷ codes "0.1" ∷ []) ∷ (codes "send" ∷ under_k ann_is_sent) ∷ []
+
+abbrev told_by : Rows → Records
+told_by rows = asked_under_rows 1 (codes "k") (by_rows rows).1 ++ []
+
+ask-answered : keyed_answers (site_keeping 2 0 KEEP_MAX) (keyed_opening 0) 1 (under_k ann_is_asked ∷ []) ≡ told_by (rows_at [])
+unfolding keyed_answers request_of take_request take_kind kind_of nick_of
+ask-answered = refl
+
+told-by-meaning : told_by (meaning_row []) ≡ told_under
+unfolding meaning_row digits
+told-by-meaning = refl
+
+ask-written : rows_text told_under ≡ told_to_ask
 unfolding escaped fields_text is_blank
 ask-written = refl
 
-ask-told : text_of (site_keeping 2 0 KEEP_MAX) (records_in asked) ≡ told_to_ask
-ask-told = ap (text_of (site_keeping 2 0 KEEP_MAX)) asked-read ∙ ap rows_text ann_is_answered ∙ ask-written
+ask-told : process_text (site_keeping 2 0 KEEP_MAX) (records_in asked) ≡ told_to_ask
+ask-told =
+    ap (process_text (site_keeping 2 0 KEEP_MAX)) asked-read ∙ ap rows_text (ask-answered ∙ ap told_by no-rows ∙ told-by-meaning) ∙ ask-written
 
 abbrev released : Records
 released = (codes "reply" ∷ codes "1" ∷ codes "released" ∷ codes "1" ∷ []) ∷ []
@@ -98,13 +125,13 @@ released = (codes "reply" ∷ codes "1" ∷ codes "released" ∷ codes "1" ∷ [
 abbrev shown : Records
 shown = (codes "reply" ∷ codes "2" ∷ codes "rows" ∷ codes "1" ∷ []) ∷ (codes "row" ∷ codes "log" ∷ codes "1" ∷ ann_is_sent) ∷ []
 
-message-answered : output_of (site_keeping 2 1 KEEP_MAX) (ann_is_sent ∷ []) ≡ released
-unfolding answers request_of take_request take_kind kind_of packet_of take_packet take_message take_stamp take_site take_positive number_of deps_of take_shadow
+message-answered : keyed_answers (site_keeping 2 1 KEEP_MAX) (keyed_opening 1) 1 (under_k ann_is_sent ∷ []) ≡ released
+unfolding keyed_answers request_of take_request take_kind kind_of packet_of take_packet take_message take_stamp take_site take_positive number_of deps_of take_shadow
     nick_of digits
 message-answered = refl
 
-listing-answered : output_of (site_keeping 2 1 KEEP_MAX) (ann_is_sent ∷ listing ∷ []) ≡ released ++ shown
-unfolding answers request_of take_request take_kind kind_of packet_of take_packet take_message take_stamp take_site take_positive number_of deps_of take_shadow
+listing-answered : keyed_answers (site_keeping 2 1 KEEP_MAX) (keyed_opening 1) 1 (under_k ann_is_sent ∷ listing ∷ []) ≡ released ++ shown
+unfolding keyed_answers request_of take_request take_kind kind_of packet_of take_packet take_message take_stamp take_site take_positive number_of deps_of take_shadow
     nick_of take_listing take_shown shown_of log_from digits
 listing-answered = refl
 
@@ -116,19 +143,19 @@ both-written : rows_text (released ++ shown) ≡ told_to_message ++ told_to_list
 unfolding escaped fields_text is_blank
 both-written = refl
 
-message-told : text_of (site_keeping 2 1 KEEP_MAX) (records_in sent) ≡ told_to_message
-message-told = ap (text_of (site_keeping 2 1 KEEP_MAX)) sent-read ∙ ap rows_text message-answered ∙ message-written
+message-told : process_text (site_keeping 2 1 KEEP_MAX) (records_in sent) ≡ told_to_message
+message-told = ap (process_text (site_keeping 2 1 KEEP_MAX)) sent-read ∙ ap rows_text message-answered ∙ message-written
 
-both-told : text_of (site_keeping 2 1 KEEP_MAX) (records_in (sent ++ listed)) ≡ told_to_message ++ told_to_listing
-both-told = ap (text_of (site_keeping 2 1 KEEP_MAX)) both-read ∙ ap rows_text listing-answered ∙ both-written
+both-told : process_text (site_keeping 2 1 KEEP_MAX) (records_in (sent ++ listed)) ≡ told_to_message ++ told_to_listing
+both-told = ap (process_text (site_keeping 2 1 KEEP_MAX)) both-read ∙ ap rows_text listing-answered ∙ both-written
 
-asked-sound : AreSound [] asked
+asked-sound : HasSoundLines [] asked
 asked-sound = (refl, tt)
 
-sent-sound : AreSound [] sent
+sent-sound : HasSoundLines [] sent
 sent-sound = (refl, tt)
 
-both-sound : AreSound [] (sent ++ listed)
+both-sound : HasSoundLines [] (sent ++ listed)
 both-sound = (refl, (refl, tt))
 
 -- ---- the lives of both sites
@@ -141,23 +168,23 @@ torn : Files
 torn = record { log = asked; out = take 4 told_to_ask }
 
 -- each site begins with no records
-abbrev beginning : List Event
+abbrev beginning : List FolderEvent
 beginning = Settled ∷ Began 0 (0 ∷ 0 ∷ []) ∷ []
 
-abbrev answering : List Event
+abbrev answering : List FolderEvent
 answering = beginning ++ map (λ b. Kept b) asked ++ Flushed ∷ map (λ b. Told b) (take 20 told_to_ask)
 
 -- then it answers the ask again, and finds what is left of its answer
-abbrev answering_again : List Event
+abbrev answering_again : List FolderEvent
 answering_again = map (λ b. Told b) (drop 4 told_to_ask)
 
 -- site 1 is given the message, lists its log, and is shortened
-abbrev taking : List Event
+abbrev taking : List FolderEvent
 taking = beginning ++ map (λ b. Kept b) sent ++ Flushed ∷ (map (λ b. Told b) told_to_message ++ map (λ b. Shown b) told_to_message) ++ map
     (λ b. Kept b) listed ++ Flushed ∷ map (λ b. Told b) told_to_listing
 
 -- and is killed while it answers what is left
-abbrev taking_again : List Event
+abbrev taking_again : List FolderEvent
 taking_again = map (λ b. Told b) (take 5 told_to_message)
 
 abbrev lives : ℕ → List SiteLife
@@ -165,47 +192,47 @@ lives zero = record { events = answering; end = PowerFails torn } ∷ []
 lives (suc zero) = record { events = taking; end = IsRewritten sent } ∷ []
 lives (suc (suc i)) = []
 
-abbrev running : ℕ → List Event
+abbrev running : ℕ → List FolderEvent
 running zero = answering_again
 running (suc zero) = taking_again
 running (suc (suc i)) = []
 
-abbrev told : ℕ → List ℕ → List Step → List Step
+abbrev told : ℕ → List ℕ → List FolderStep → List FolderStep
 told i text later = happening i (map (λ b. Told b) text) later
 
-abbrev shows : ℕ → List ℕ → List Step → List Step
+abbrev shows : ℕ → List ℕ → List FolderStep → List FolderStep
 shows i text later = happening i (map (λ b. Shown b) text) later
 
-abbrev begun : ℕ → List Step → List Step
+abbrev begun : ℕ → List FolderStep → List FolderStep
 begun i later = happening i beginning later
 
-abbrev kept : ℕ → List ℕ → List Step → List Step
+abbrev kept : ℕ → List ℕ → List FolderStep → List FolderStep
 kept i lines later = happening i (map (λ b. Kept b) lines) (Happens i Flushed ∷ later)
 
 -- what happens at site 0: the last of it first
-abbrev once_torn : List Step
+abbrev once_torn : List FolderStep
 once_torn = Fails 0 torn ∷ Does (Restarts 0) ∷ Does (Replays 0 ann_is_asked) ∷ told 0 (drop 4 told_to_ask) []
 
-abbrev once_asked : List Step
+abbrev once_asked : List FolderStep
 once_asked = Does (Reads 0 ann_is_asked) ∷ told 0 (take 20 told_to_ask) once_torn
 
-abbrev steps_of_0 : List Step
+abbrev steps_of_0 : List FolderStep
 steps_of_0 = begun 0 (kept 0 asked once_asked)
 
 -- and then at site 1
-abbrev once_shortened : List Step
+abbrev once_shortened : List FolderStep
 once_shortened = Does (Restarts 1) ∷ Shortens 1 sent ∷ Does (Replays 1 ann_is_sent) ∷ told 1 (take 5 told_to_message) []
 
-abbrev once_listed : List Step
+abbrev once_listed : List FolderStep
 once_listed = Does (Reads 1 listing) ∷ told 1 told_to_listing once_shortened
 
-abbrev once_sent : List Step
+abbrev once_sent : List FolderStep
 once_sent = Does (Reads 1 ann_is_sent) ∷ told 1 told_to_message (shows 1 told_to_message (kept 1 listed once_listed))
 
-abbrev steps_of_1 : List Step
+abbrev steps_of_1 : List FolderStep
 steps_of_1 = begun 1 (kept 1 sent once_sent)
 
-abbrev steps : List Step
+abbrev steps : List FolderStep
 steps = steps_of_0 ++ steps_of_1
 
 abbrev keep : ℕ → ℕ
@@ -213,14 +240,14 @@ keep i = KEEP_MAX
 
 -- ---- each life keeps the files safe
 
-is-open : (i : ℕ) → IsOpened (text_of (site_keeping 2 i KEEP_MAX)) nothing
+is-open : (i : ℕ) → IsAtStart (process_text (site_keeping 2 i KEEP_MAX)) nothing
 unfolding nothing
-is-open i = shortened-opened (text_of (site_keeping 2 i KEEP_MAX)) tt
+is-open i = shortened-opened (process_text (site_keeping 2 i KEEP_MAX)) tt
 
 once-begun : FileState
-once-begun = after_all nothing beginning
+once-begun = after_file_events nothing beginning
 
-beginning-safe : (i : ℕ) → AreSafe (words_of (site_keeping 2 i KEEP_MAX)) nothing beginning
+beginning-safe : (i : ℕ) → AreSafe (process_words (site_keeping 2 i KEEP_MAX)) nothing beginning
 unfolding nothing
 beginning-safe i =
     let safe = (is-open i).safe in (
@@ -231,7 +258,7 @@ beginning-safe i =
         (
           sym (none-told i),
           ap length (sym none-read-in),
-          ap (λ records. counts 2 (state_after (site_keeping 2 i KEEP_MAX) (opening_at i) records).log) (sym none-read-in),
+          ap (λ records. counts 2 (state_after (site_keeping 2 i KEEP_MAX) (keyed_opening i) records).site.log) (sym none-read-in),
           refl,
           refl,
         ),
@@ -239,41 +266,41 @@ beginning-safe i =
       ),
     )
 
-answering-safe : AreSafe (words_of (site_keeping 2 0 KEEP_MAX)) nothing answering
+answering-safe : AreSafe (process_words (site_keeping 2 0 KEEP_MAX)) nothing answering
 unfolding nothing once-begun
 answering-safe =
-    let says = words_of (site_keeping 2 0 KEEP_MAX) in
+    let says = process_words (site_keeping 2 0 KEEP_MAX) in
     let lines = map (λ b. Kept b) asked in
     let begins = beginning-safe 0 in
     let first = safe-keeps says asked (safe-last says nothing beginning begins) (refl, refl) refl asked-sound in
-    let s = after_all once-begun lines in
+    let s = after_file_events once-begun lines in
     let answer = map (λ b. Told b) (take 20 told_to_ask) in
     safe-append says nothing beginning (lines ++ Flushed ∷ answer) begins (safe-append says once-begun lines (Flushed ∷ answer) first (
       safe-last says once-begun lines first,
       tt,
-      safe-answers says true answer [] (take 20 told_to_ask) (after s Flushed) refl asked-sound ([], refl) (refl, refl) (drop 20 told_to_ask, sym ask-told),
+      safe-answers says true answer [] (take 20 told_to_ask) (after_file_event s Flushed) refl asked-sound ([], refl) (refl, refl) (drop 20 told_to_ask, sym ask-told),
     ))
 
-answering-again-safe : AreSafe (words_of (site_keeping 2 0 KEEP_MAX)) (from_disk torn) answering_again
+answering-again-safe : AreSafe (process_words (site_keeping 2 0 KEEP_MAX)) (from_disk torn) answering_again
 unfolding torn
 answering-again-safe =
-    safe-answers (words_of (site_keeping 2 0 KEEP_MAX)) false answering_again [] [] (from_disk torn) refl asked-sound ([], refl) (refl, (refl, refl))
+    safe-answers (process_words (site_keeping 2 0 KEEP_MAX)) false answering_again [] [] (from_disk torn) refl asked-sound ([], refl) (refl, (refl, refl))
     ([], sym ask-told)
 
-taking-safe : AreSafe (words_of (site_keeping 2 1 KEEP_MAX)) nothing taking
+taking-safe : AreSafe (process_words (site_keeping 2 1 KEEP_MAX)) nothing taking
 unfolding nothing once-begun
 taking-safe =
-    let says = words_of (site_keeping 2 1 KEEP_MAX) in
+    let says = process_words (site_keeping 2 1 KEEP_MAX) in
     let lines = map (λ b. Kept b) sent in
     let begins = beginning-safe 1 in
     let first = safe-keeps says sent (safe-last says nothing beginning begins) (refl, refl) refl sent-sound in
-    let s = after (after_all once-begun lines) Flushed in
+    let s = after_file_event (after_file_events once-begun lines) Flushed in
     let answer = map (λ b. Told b) told_to_message ++ map (λ b. Shown b) told_to_message in
     let is_shown : Answers true answer [] [] =
     answers-append true (map (λ b. Told b) told_to_message) (map (λ b. Shown b) told_to_message) [] told_to_message [] (answers-told true told_to_message [])
     (answers-shown told_to_message []) in
     let answered = safe-answers says true answer [] [] s is_shown sent-sound ([], refl) (refl, refl) ([], sym message-told) in
-    let t = after_all s answer in
+    let t = after_file_events s answer in
     let more = map (λ b. Kept b) listed in
     let second = safe-keeps says listed (safe-last says s answer answered) (refl, refl) refl both-sound in
     let rows = map (λ b. Told b) told_to_listing in
@@ -284,25 +311,25 @@ taking-safe =
       safe-append says s answer (more ++ Flushed ∷ rows) answered (safe-append says t more (Flushed ∷ rows) second (
         safe-last says t more second,
         tt,
-        safe-answers says true rows [] told_to_listing (after (after_all t more) Flushed) refl both-sound ([], refl) (refl, refl) ([], sym both-told),
+        safe-answers says true rows [] told_to_listing (after_file_event (after_file_events t more) Flushed) refl both-sound ([], refl) (refl, refl) ([], sym both-told),
       )),
     ))
 
-taking-again-safe : AreSafe (words_of (site_keeping 2 1 KEEP_MAX)) (shortened_to sent) taking_again
+taking-again-safe : AreSafe (process_words (site_keeping 2 1 KEEP_MAX)) (shortened_to sent) taking_again
 taking-again-safe =
-    safe-answers (words_of (site_keeping 2 1 KEEP_MAX)) false taking_again [] [] (shortened_to sent) refl sent-sound ([], refl) (refl, (refl, refl))
+    safe-answers (process_words (site_keeping 2 1 KEEP_MAX)) false taking_again [] [] (shortened_to sent) refl sent-sound ([], refl) (refl, (refl, refl))
     (drop 5 told_to_message, sym message-told)
 
 -- the listing changed nothing
-listing-left-out : IsShortened (site_keeping 2 1 KEEP_MAX) (opening_at 1) (ann_is_sent ∷ []) (ann_is_sent ∷ listing ∷ [])
+listing-left-out : LeavesOut true (site_keeping 2 1 KEEP_MAX) (keyed_opening 1) (under_k ann_is_sent ∷ []) (under_k ann_is_sent ∷ listing ∷ [])
 unfolding request_of take_request take_kind kind_of take_listing take_shown shown_of
 listing-left-out = inr ([], refl, inl (refl, refl))
 
 without-listing : ShortensKept (site_keeping 2 1 KEEP_MAX) (sent ++ listed) sent
 without-listing = record {
   sound = sent-sound;
-  without = subst (λ l. IsShortened (site_keeping 2 1 KEEP_MAX) (opening_at 1) l (records_in (sent ++ listed))) (sym sent-read)
-      (subst (IsShortened (site_keeping 2 1 KEEP_MAX) (opening_at 1) (ann_is_sent ∷ [])) (sym both-read) listing-left-out);
+  without = subst (λ l. LeavesOut true (site_keeping 2 1 KEEP_MAX) (keyed_opening 1) l (records_in (sent ++ listed))) (sym sent-read)
+      (subst (LeavesOut true (site_keeping 2 1 KEEP_MAX) (keyed_opening 1) (under_k ann_is_sent ∷ [])) (sym both-read) listing-left-out);
 }
 
 lived : (i : ℕ) → AreLives 2 i KEEP_MAX nothing (lives i) (running i)
@@ -317,7 +344,7 @@ lived (suc (suc i)) = ([], λ _. (is-open (suc (suc i))).safe)
 
 -- ---- what happens elsewhere
 
-abbrev Elsewhere : ℕ → List Step → Type 0
+abbrev Elsewhere : ℕ → List FolderStep → Type 0
 Elsewhere i [] = ⊤
 Elsewhere i (Happens j e ∷ later) = (eqb j i ≡ false) × Elsewhere i later
 Elsewhere i (Fails j files ∷ later) = (eqb j i ≡ false) × Elsewhere i later
@@ -327,20 +354,20 @@ Elsewhere i (Does (Reads j fields) ∷ later) = (eqb j i ≡ false) × Elsewhere
 Elsewhere i (Does (Restarts j) ∷ later) = (eqb j i ≡ false) × Elsewhere i later
 Elsewhere i (Does (Replays j fields) ∷ later) = (eqb j i ≡ false) × Elsewhere i later
 
-happens-elsewhere : (i j : ℕ) (events : List Event) (later : List Step) → eqb j i ≡ false → Elsewhere i later → Elsewhere i (happening j events later)
+happens-elsewhere : (i j : ℕ) (events : List FolderEvent) (later : List FolderStep) → eqb j i ≡ false → Elsewhere i later → Elsewhere i (happening j events later)
 happens-elsewhere i j [] later e h = h
 happens-elsewhere i j (x ∷ events) later e h = (e, happens-elsewhere i j events later e h)
 
-begun-elsewhere : (i j : ℕ) (later : List Step) → eqb j i ≡ false → Elsewhere i later → Elsewhere i (begun j later)
+begun-elsewhere : (i j : ℕ) (later : List FolderStep) → eqb j i ≡ false → Elsewhere i later → Elsewhere i (begun j later)
 begun-elsewhere i j later e h = happens-elsewhere i j beginning later e h
 
-kept-elsewhere : (i j : ℕ) (lines : List ℕ) (later : List Step) → eqb j i ≡ false → Elsewhere i later → Elsewhere i (kept j lines later)
+kept-elsewhere : (i j : ℕ) (lines : List ℕ) (later : List FolderStep) → eqb j i ≡ false → Elsewhere i later → Elsewhere i (kept j lines later)
 kept-elsewhere i j lines later e h = happens-elsewhere i j (map (λ b. Kept b) lines) (Happens j Flushed ∷ later) e (e, h)
 
-told-elsewhere : (i j : ℕ) (text : List ℕ) (later : List Step) → eqb j i ≡ false → Elsewhere i later → Elsewhere i (told j text later)
+told-elsewhere : (i j : ℕ) (text : List ℕ) (later : List FolderStep) → eqb j i ≡ false → Elsewhere i later → Elsewhere i (told j text later)
 told-elsewhere i j text later e h = happens-elsewhere i j (map (λ b. Told b) text) later e h
 
-elsewhere-both : (i : ℕ) (a b : List Step) → Elsewhere i a → Elsewhere i b → Elsewhere i (a ++ b)
+elsewhere-both : (i : ℕ) (a b : List FolderStep) → Elsewhere i a → Elsewhere i b → Elsewhere i (a ++ b)
 elsewhere-both i [] b f g = g
 elsewhere-both i (Happens j e ∷ a) b f g = (f.0, elsewhere-both i a b f.1 g)
 elsewhere-both i (Fails j files ∷ a) b f g = (f.0, elsewhere-both i a b f.1 g)
@@ -350,13 +377,13 @@ elsewhere-both i (Does (Reads j fields) ∷ a) b f g = (f.0, elsewhere-both i a 
 elsewhere-both i (Does (Restarts j) ∷ a) b f g = (f.0, elsewhere-both i a b f.1 g)
 elsewhere-both i (Does (Replays j fields) ∷ a) b f g = (f.0, elsewhere-both i a b f.1 g)
 
-shows-elsewhere : (i j : ℕ) (text : List ℕ) (later : List Step) → eqb j i ≡ false → Elsewhere i later → Elsewhere i (shows j text later)
+shows-elsewhere : (i j : ℕ) (text : List ℕ) (later : List FolderStep) → eqb j i ≡ false → Elsewhere i later → Elsewhere i (shows j text later)
 shows-elsewhere i j text later e h = happens-elsewhere i j (map (λ b. Shown b) text) later e h
 
 skip : {A : Type 0} {b : Bool} (x y : A) → b ≡ false → cond b x y ≡ y
 skip x y e = ap (λ c. cond c x y) e
 
-none-own : (i : ℕ) (a b : List Step) → Elsewhere i a → own_steps i (a ++ b) ≡ own_steps i b
+none-own : (i : ℕ) (a b : List FolderStep) → Elsewhere i a → own_steps i (a ++ b) ≡ own_steps i b
 none-own i [] b h = refl
 none-own i (Happens j e ∷ a) b h = skip (Happens j e ∷ own_steps i (a ++ b)) (own_steps i (a ++ b)) h.0 ∙ none-own i a b h.1
 none-own i (Fails j files ∷ a) b h = skip (Fails j files ∷ own_steps i (a ++ b)) (own_steps i (a ++ b)) h.0 ∙ none-own i a b h.1
@@ -401,7 +428,7 @@ own (suc (suc i)) =
 -- ---- what the processes read, from step to step
 
 -- what may be read or shortened in one step, where the process of site i has read `had` since its start, and `n` records were answered
-abbrev MayRead : ℕ → ℕ → ℕ → FileState → Records → ℕ → Step → Type 0
+abbrev MayRead : ℕ → ℕ → ℕ → FileState → Records → ℕ → FolderStep → Type 0
 MayRead sites i keep s had n (Happens j e) = ⊤
 MayRead sites i keep s had n (Fails j files) = ⊤
 MayRead sites i keep s had n (Shortens j short) = MatchBool (eqb j i) (n ≡ length (taken_in (site_keeping sites i keep) s.kept)) ⊤
@@ -410,18 +437,18 @@ MayRead sites i keep s had n (Does (Reads j fields)) = MatchBool (eqb j i) (leng
 MayRead sites i keep s had n (Does (Restarts j)) = ⊤
 MayRead sites i keep s had n (Does (Replays j fields)) = MatchBool (eqb j i) (length had < n) ⊤
 
-abbrev ReadsOn : ℕ → ℕ → ℕ → FileState → Records → ℕ → List Step → Type 0
+abbrev ReadsOn : ℕ → ℕ → ℕ → FileState → Records → ℕ → List FolderStep → Type 0
 ReadsOn sites i keep s had n [] = IsPrefix had (taken_in (site_keeping sites i keep) s.flushed)
 ReadsOn sites i keep s had n (x ∷ later) = IsPrefix had (taken_in (site_keeping sites i keep) s.flushed) × MayRead sites i keep s had n x
     × ReadsOn sites i (keep_after i keep x) (stand_after i s x) (read_on i had (moments_in (x ∷ []))) (answered_on sites i keep n (x ∷ [])) later
 
-reads-here : (sites i keep : ℕ) (s : FileState) (had : Records) (n : ℕ) (later : List Step) → ReadsOn sites i keep s had n later
+reads-here : (sites i keep : ℕ) (s : FileState) (had : Records) (n : ℕ) (later : List FolderStep) → ReadsOn sites i keep s had n later
     → IsPrefix had (taken_in (site_keeping sites i keep) s.flushed)
 reads-here sites i keep s had n [] h = h
 reads-here sites i keep s had n (x ∷ later) h = h.0
 
-reads-later : (sites i keep : ℕ) (s : FileState) (had : Records) (n : ℕ) (a b : List Step) → ReadsOn sites i keep s had n (a ++ b)
-    → ReadsOn sites i (keeps i keep a) (stands i s a) (read_on i had (moments_in a)) (answered_on sites i keep n a) b
+reads-later : (sites i keep : ℕ) (s : FileState) (had : Records) (n : ℕ) (a b : List FolderStep) → ReadsOn sites i keep s had n (a ++ b)
+    → ReadsOn sites i (keeps i keep a) (is_placed_at i s a) (read_on i had (moments_in a)) (answered_on sites i keep n a) b
 reads-later sites i keep s had n [] b h = h
 reads-later sites i keep s had n (Happens j e ∷ a) b h = reads-later sites i keep (stand_after i s (Happens j e)) had n a b h.2
 reads-later sites i keep s had n (Fails j files ∷ a) b h = reads-later sites i keep (stand_after i s (Fails j files)) had n a b h.2
@@ -434,13 +461,13 @@ reads-later sites i keep s had n (Does (Restarts j) ∷ a) b h = reads-later sit
 reads-later sites i keep s had n (Does (Replays j fields) ∷ a) b h = reads-later sites i keep s (cond (eqb j i) (had ++ fields ∷ []) had) n a b h.2
 
 -- where nothing happens at the site, it has read what it had
-reads-elsewhere : (sites i keep : ℕ) (s : FileState) (had : Records) (n : ℕ) (a b : List Step) → Elsewhere i a → ReadsOn sites i keep s had n b
+reads-elsewhere : (sites i keep : ℕ) (s : FileState) (had : Records) (n : ℕ) (a b : List FolderStep) → Elsewhere i a → ReadsOn sites i keep s had n b
     → ReadsOn sites i keep s had n (a ++ b)
 reads-elsewhere sites i keep s had n [] b e h = h
 reads-elsewhere sites i keep s had n (Happens j x ∷ a) b e h = (
   reads-here sites i keep s had n b h,
   tt,
-  subst (λ c. ReadsOn sites i keep (cond c (after s x) s) had n (a ++ b)) (sym e.0) (reads-elsewhere sites i keep s had n a b e.1 h),
+  subst (λ c. ReadsOn sites i keep (cond c (after_file_event s x) s) had n (a ++ b)) (sym e.0) (reads-elsewhere sites i keep s had n a b e.1 h),
 )
 reads-elsewhere sites i keep s had n (Fails j files ∷ a) b e h = (
   reads-here sites i keep s had n b h,
@@ -475,76 +502,80 @@ reads-elsewhere sites i keep s had n (Does (Replays j fields) ∷ a) b e h = (
 )
 
 -- bytes that are kept or told leave what was flushed
-reads-kept : (sites i keep : ℕ) (lines : List ℕ) (s : FileState) (had : Records) (n : ℕ) (later : List Step) → eqb i i ≡ true
-    → IsPrefix had (taken_in (site_keeping sites i keep) s.flushed) → ReadsOn sites i keep (after_all s (map (λ b. Kept b) lines)) had n later
+reads-kept : (sites i keep : ℕ) (lines : List ℕ) (s : FileState) (had : Records) (n : ℕ) (later : List FolderStep) → eqb i i ≡ true
+    → IsPrefix had (taken_in (site_keeping sites i keep) s.flushed) → ReadsOn sites i keep (after_file_events s (map (λ b. Kept b) lines)) had n later
     → ReadsOn sites i keep s had n (happening i (map (λ b. Kept b) lines) later)
 reads-kept sites i keep [] s had n later is p h = h
 reads-kept sites i keep (b ∷ lines) s had n later is p h = (
   p,
   tt,
-  subst (λ c. ReadsOn sites i keep (cond c (after s (Kept b)) s) had n (happening i (map (λ b. Kept b) lines) later)) (sym is)
-      (reads-kept sites i keep lines (after s (Kept b)) had n later is p h),
+  subst (λ c. ReadsOn sites i keep (cond c (after_file_event s (Kept b)) s) had n (happening i (map (λ b. Kept b) lines) later)) (sym is)
+      (reads-kept sites i keep lines (after_file_event s (Kept b)) had n later is p h),
 )
 
-reads-begun : (sites i keep : ℕ) (s : FileState) (had : Records) (n : ℕ) (later : List Step) → eqb i i ≡ true
-    → IsPrefix had (taken_in (site_keeping sites i keep) s.flushed) → ReadsOn sites i keep (after_all s beginning) had n later
+reads-begun : (sites i keep : ℕ) (s : FileState) (had : Records) (n : ℕ) (later : List FolderStep) → eqb i i ≡ true
+    → IsPrefix had (taken_in (site_keeping sites i keep) s.flushed) → ReadsOn sites i keep (after_file_events s beginning) had n later
     → ReadsOn sites i keep s had n (begun i later)
 reads-begun sites i keep s had n later is p h = (
   p,
   tt,
-  subst (λ c. ReadsOn sites i keep (cond c (after s Settled) s) had n (happening i (Began 0 (0 ∷ 0 ∷ []) ∷ []) later)) (sym is) (
+  subst (λ c. ReadsOn sites i keep (cond c (after_file_event s Settled) s) had n (happening i (Began 0 (0 ∷ 0 ∷ []) ∷ []) later)) (sym is) (
     p,
     tt,
-    subst (λ c. ReadsOn sites i keep (cond c (after_all s beginning) (after s Settled)) had n later) (sym is) h,
+    subst (λ c. ReadsOn sites i keep (cond c (after_file_events s beginning) (after_file_event s Settled)) had n later) (sym is) h,
   ),
 )
 
-reads-told : (sites i keep : ℕ) (text : List ℕ) (s : FileState) (had : Records) (n : ℕ) (later : List Step) → eqb i i ≡ true
-    → IsPrefix had (taken_in (site_keeping sites i keep) s.flushed) → ReadsOn sites i keep (after_all s (map (λ b. Told b) text)) had n later
+reads-told : (sites i keep : ℕ) (text : List ℕ) (s : FileState) (had : Records) (n : ℕ) (later : List FolderStep) → eqb i i ≡ true
+    → IsPrefix had (taken_in (site_keeping sites i keep) s.flushed) → ReadsOn sites i keep (after_file_events s (map (λ b. Told b) text)) had n later
     → ReadsOn sites i keep s had n (happening i (map (λ b. Told b) text) later)
 reads-told sites i keep [] s had n later is p h = h
 reads-told sites i keep (b ∷ text) s had n later is p h = (
   p,
   tt,
-  subst (λ c. ReadsOn sites i keep (cond c (after s (Told b)) s) had n (happening i (map (λ b. Told b) text) later)) (sym is)
-      (reads-told sites i keep text (after s (Told b)) had n later is p h),
+  subst (λ c. ReadsOn sites i keep (cond c (after_file_event s (Told b)) s) had n (happening i (map (λ b. Told b) text) later)) (sym is)
+      (reads-told sites i keep text (after_file_event s (Told b)) had n later is p h),
 )
 
-reads-shown : (sites i keep : ℕ) (text : List ℕ) (s : FileState) (had : Records) (n : ℕ) (later : List Step) → eqb i i ≡ true
-    → IsPrefix had (taken_in (site_keeping sites i keep) s.flushed) → ReadsOn sites i keep (after_all s (map (λ b. Shown b) text)) had n later
+reads-shown : (sites i keep : ℕ) (text : List ℕ) (s : FileState) (had : Records) (n : ℕ) (later : List FolderStep) → eqb i i ≡ true
+    → IsPrefix had (taken_in (site_keeping sites i keep) s.flushed) → ReadsOn sites i keep (after_file_events s (map (λ b. Shown b) text)) had n later
     → ReadsOn sites i keep s had n (happening i (map (λ b. Shown b) text) later)
 reads-shown sites i keep [] s had n later is p h = h
 reads-shown sites i keep (b ∷ text) s had n later is p h = (
   p,
   tt,
-  subst (λ c. ReadsOn sites i keep (cond c (after s (Shown b)) s) had n (happening i (map (λ b. Shown b) text) later)) (sym is)
-      (reads-shown sites i keep text (after s (Shown b)) had n later is p h),
+  subst (λ c. ReadsOn sites i keep (cond c (after_file_event s (Shown b)) s) had n (happening i (map (λ b. Shown b) text) later)) (sym is)
+      (reads-shown sites i keep text (after_file_event s (Shown b)) had n later is p h),
 )
 
 -- ---- what both sites have read
 
-ask-taken-read : taken_by (site_keeping 2 0 KEEP_MAX) (opening_at 0) (ann_is_asked ∷ []) ≡ ann_is_asked ∷ []
+-- what a site takes of these records
+abbrev taken_from : ℕ → Records → Records
+taken_from i records = taken_by (site_keeping 2 i KEEP_MAX) (opening_at i) (bare_of (site_keeping 2 i KEEP_MAX) (keyed_opening i) records)
+
+ask-taken-read : taken_from 0 (under_k ann_is_asked ∷ []) ≡ ann_is_asked ∷ []
 unfolding request_of take_request take_kind kind_of nick_of
 ask-taken-read = refl
 
 ask-taken : taken_in (site_keeping 2 0 KEEP_MAX) asked ≡ ann_is_asked ∷ []
-ask-taken = ap (taken_by (site_keeping 2 0 KEEP_MAX) (opening_at 0)) asked-read ∙ ask-taken-read
+ask-taken = ap (taken_from 0) asked-read ∙ ask-taken-read
 
-message-taken-read : taken_by (site_keeping 2 1 KEEP_MAX) (opening_at 1) (ann_is_sent ∷ []) ≡ ann_is_sent ∷ []
+message-taken-read : taken_from 1 (under_k ann_is_sent ∷ []) ≡ ann_is_sent ∷ []
 unfolding request_of take_request take_kind kind_of packet_of take_packet take_message take_stamp take_site take_positive number_of deps_of take_shadow
     nick_of digits
 message-taken-read = refl
 
 message-taken : taken_in (site_keeping 2 1 KEEP_MAX) sent ≡ ann_is_sent ∷ []
-message-taken = ap (taken_by (site_keeping 2 1 KEEP_MAX) (opening_at 1)) sent-read ∙ message-taken-read
+message-taken = ap (taken_from 1) sent-read ∙ message-taken-read
 
-both-taken-read : taken_by (site_keeping 2 1 KEEP_MAX) (opening_at 1) (ann_is_sent ∷ listing ∷ []) ≡ ann_is_sent ∷ listing ∷ []
+both-taken-read : taken_from 1 (under_k ann_is_sent ∷ listing ∷ []) ≡ ann_is_sent ∷ listing ∷ []
 unfolding request_of take_request take_kind kind_of packet_of take_packet take_message take_stamp take_site take_positive number_of deps_of take_shadow
     nick_of take_listing take_shown shown_of digits
 both-taken-read = refl
 
 both-taken : taken_in (site_keeping 2 1 KEEP_MAX) (sent ++ listed) ≡ ann_is_sent ∷ listing ∷ []
-both-taken = ap (taken_by (site_keeping 2 1 KEEP_MAX) (opening_at 1)) both-read ∙ both-taken-read
+both-taken = ap (taken_from 1) both-read ∙ both-taken-read
 
 none-read : (sites i : ℕ) (s : FileState) → IsPrefix [] (taken_in (site_keeping sites i KEEP_MAX) s.flushed)
 none-read sites i s = (taken_in (site_keeping sites i KEEP_MAX) s.flushed, refl)
@@ -569,11 +600,11 @@ reads-0 : ReadsOn 2 0 KEEP_MAX nothing [] 0 steps
 unfolding nothing torn once-begun
 reads-0 =
     let s = begun_with (record { log = asked; out = [] }) [] in
-    let rest : ReadsOn 2 0 KEEP_MAX (after_all (from_disk torn) answering_again) (ann_is_asked ∷ []) 1 steps_of_1 =
-    subst (ReadsOn 2 0 KEEP_MAX (after_all (from_disk torn) answering_again) (ann_is_asked ∷ []) 1) (append-nil steps_of_1)
-    (reads-elsewhere 2 0 KEEP_MAX (after_all (from_disk torn) answering_again) (ann_is_asked ∷ []) 1 steps_of_1 [] (second-elsewhere 0 refl) ask-read) in
+    let rest : ReadsOn 2 0 KEEP_MAX (after_file_events (from_disk torn) answering_again) (ann_is_asked ∷ []) 1 steps_of_1 =
+    subst (ReadsOn 2 0 KEEP_MAX (after_file_events (from_disk torn) answering_again) (ann_is_asked ∷ []) 1) (append-nil steps_of_1)
+    (reads-elsewhere 2 0 KEEP_MAX (after_file_events (from_disk torn) answering_again) (ann_is_asked ∷ []) 1 steps_of_1 [] (second-elsewhere 0 refl) ask-read) in
     let again = reads-told 2 0 KEEP_MAX (drop 4 told_to_ask) (from_disk torn) (ann_is_asked ∷ []) 1 steps_of_1 refl ask-read rest in
-    let failed : ReadsOn 2 0 KEEP_MAX (after_all s (map (λ b. Told b) (take 20 told_to_ask))) (ann_is_asked ∷ []) 1 (once_torn ++ steps_of_1) =
+    let failed : ReadsOn 2 0 KEEP_MAX (after_file_events s (map (λ b. Told b) (take 20 told_to_ask))) (ann_is_asked ∷ []) 1 (once_torn ++ steps_of_1) =
     (ask-read, tt, (ask-read, tt, (none-read 2 0 (from_disk torn), omega arith, again))) in
     let answered = reads-told 2 0 KEEP_MAX (take 20 told_to_ask) s (ann_is_asked ∷ []) 1 (once_torn ++ steps_of_1) refl ask-read failed in
     reads-begun 2 0 KEEP_MAX nothing [] 0 (kept 0 asked once_asked ++ steps_of_1) refl (none-read 2 0 nothing)
@@ -589,7 +620,7 @@ reads-1 =
     let t = begun_with (record { log = sent ++ listed; out = told_to_message }) told_to_message in
     let size = length (taken_in (site_keeping 2 1 KEEP_MAX) sent) in
     let last = reads-told 2 1 KEEP_MAX (take 5 told_to_message) (shortened_to sent) (ann_is_sent ∷ []) size [] refl message-read message-read in
-    let shorter : ReadsOn 2 1 KEEP_MAX (after_all t (map (λ b. Told b) told_to_listing)) (ann_is_sent ∷ listing ∷ []) 2 once_shortened = (
+    let shorter : ReadsOn 2 1 KEEP_MAX (after_file_events t (map (λ b. Told b) told_to_listing)) (ann_is_sent ∷ listing ∷ []) 2 once_shortened = (
       both-read-too,
       tt,
       (
@@ -617,7 +648,7 @@ all-read (suc (suc i)) =
     (subst (ReadsOn 2 at KEEP_MAX nothing [] 0) (append-nil steps_of_1)
     (reads-elsewhere 2 at KEEP_MAX nothing [] 0 steps_of_1 [] (second-elsewhere at (not-1 i)) (none-read 2 at nothing)))
 
-at-step : (i : ℕ) (before later : List Step) → steps ≡ before ++ later → ReadsOn 2 i (keeps i KEEP_MAX before) (stands i nothing before)
+at-step : (i : ℕ) (before later : List FolderStep) → steps ≡ before ++ later → ReadsOn 2 i (keeps i KEEP_MAX before) (is_placed_at i nothing before)
     (has_read i (moments_in before)) (answered_on 2 i KEEP_MAX 0 before) later
 at-step i before later e = reads-later 2 i KEEP_MAX nothing [] 0 before later (subst (ReadsOn 2 i KEEP_MAX nothing [] 0) e (all-read i))
 
@@ -628,7 +659,7 @@ are-lives = record {
   opened = is-open;
   lived = lived;
   own = own;
-  ahead = λ i before later e. reads-here 2 i (keeps i KEEP_MAX before) (stands i nothing before) (has_read i (moments_in before))
+  ahead = λ i before later e. reads-here 2 i (keeps i KEEP_MAX before) (is_placed_at i nothing before) (has_read i (moments_in before))
       (answered_on 2 i KEEP_MAX 0 before) later (at-step i before later e);
   anew = λ i fields before later e.
       subst (λ b. MatchBool b (length (has_read i (moments_in before)) ≡ answered_on 2 i KEEP_MAX 0 before) ⊤) (is_itself refl)
@@ -638,7 +669,7 @@ are-lives = record {
       (at-step i before (Does (Replays i fields) ∷ later) e).1;
   answered = λ i short before later e.
       subst (λ b. MatchBool b (answered_on 2 i KEEP_MAX 0 before
-      ≡ length (taken_in (site_keeping 2 i (keeps i KEEP_MAX before)) (stands i nothing before).kept)) ⊤) (is_itself refl)
+      ≡ length (taken_in (site_keeping 2 i (keeps i KEEP_MAX before)) (is_placed_at i nothing before).kept)) ⊤) (is_itself refl)
       (at-step i before (Shortens i short ∷ later) e).1;
 }
 
@@ -658,7 +689,7 @@ no-packet : {fields known : List (List ℕ)} {p : Packet} → known ≡ fields �
 no-packet {known} same none is = not_some (packet_of 2 known) none (ap (packet_of 2) same ∙ is)
 
 -- the message that site 1 reads was sent by site 0, before the power failed and again
-sent-before : WasEverSent 2 most (Reads 0 ann_is_asked ∷ Restarts 0 ∷ Replays 0 ann_is_asked ∷ []) ann_is_sent
+sent-before : WasEverSent 2 most_kept (Reads 0 ann_is_asked ∷ Restarts 0 ∷ Replays 0 ann_is_asked ∷ []) ann_is_sent
 sent-before = (
   0,
   omega arith,
@@ -668,7 +699,7 @@ sent-before = (
   subst (Has (codes "send" ∷ ann_is_sent)) (sym ann_is_answered) (inr (inl refl)),
 )
 
-is-carried : CarriedWithRestarts 2 most moments
+is-carried : CarriedWithRestarts 2 most_kept moments
 is-carried [] later i fields p e is = absurd (no-packet (let same : ann_is_asked ≡ fields = cc e in same) no_packet_asked is)
 is-carried (a ∷ []) later i fields p e is = absurd (cc e)
 is-carried (a ∷ b ∷ []) later i fields p e is = absurd (cc e)
@@ -677,9 +708,9 @@ is-carried (a ∷ b ∷ c ∷ []) later i fields p e is =
     let second : Restarts 0 ≡ b = cc e in
     let third : Replays 0 ann_is_asked ≡ c = cc e in
     let same : ann_is_sent ≡ fields = cc e in
-    subst (WasEverSent 2 most (a ∷ b ∷ c ∷ [])) same (subst (λ m. WasEverSent 2 most (m ∷ b ∷ c ∷ []) ann_is_sent) first
-    (subst (λ m. WasEverSent 2 most (Reads 0 ann_is_asked ∷ m ∷ c ∷ []) ann_is_sent) second
-    (subst (λ m. WasEverSent 2 most (Reads 0 ann_is_asked ∷ Restarts 0 ∷ m ∷ []) ann_is_sent) third sent-before)))
+    subst (WasEverSent 2 most_kept (a ∷ b ∷ c ∷ [])) same (subst (λ m. WasEverSent 2 most_kept (m ∷ b ∷ c ∷ []) ann_is_sent) first
+    (subst (λ m. WasEverSent 2 most_kept (Reads 0 ann_is_asked ∷ m ∷ c ∷ []) ann_is_sent) second
+    (subst (λ m. WasEverSent 2 most_kept (Reads 0 ann_is_asked ∷ Restarts 0 ∷ m ∷ []) ann_is_sent) third sent-before)))
 is-carried (a ∷ b ∷ c ∷ d ∷ []) later i fields p e is =
     absurd (no-packet (let same : listing ≡ fields = cc e in same) no-packet-listed is)
 is-carried (a ∷ b ∷ c ∷ d ∷ f ∷ []) later i fields p e is = absurd (cc e)
@@ -693,7 +724,7 @@ is-carried (a ∷ b ∷ c ∷ d ∷ f ∷ g ∷ h ∷ before) later i fields p e
 -- so it is a run, which keeps the promises
 the-run : AreFoldersOfARun 2 keep (λ i. nothing) steps
 the-run = folders-are-a-run 2 keep (λ i. nothing) lives running steps (omega arith) (omega arith) (λ i. omega arith) are-lives
-    (subst (CarriedWithRestarts 2 most) (sym what-is-read) is-carried)
+    (subst (CarriedWithRestarts 2 most_kept) (sym what-is-read) is-carried)
 
 -- ---- the run, by computation
 
@@ -710,15 +741,8 @@ at_0 = record { log = ann ∷ []; waiting = []; held = Some 1; last = 0 }
 abbrev at_1 : Replica
 at_1 = record { log = ann ∷ []; waiting = []; held = None; last = 0 }
 
--- what site 0 comes to and answers, from the rows of its tables
-abbrev by_rows : Rows → Replica × Result Message Refusal
-by_rows rows = generating (site_keeping 2 0 KEEP_MAX) (opening_at 0) (decision rows (standing_of KEEP_MAX (opening_at 0)) (ask.User (codes "ann")))
-
 abbrev world_by : Rows → World
 world_by rows = (happens KEEP_MAX (record { sites = (by_rows rows).0 ∷ opening_at 1 ∷ []; sent = sending packet.Msg (by_rows rows).1 }) (Deliver 1 1)).0
-
-no-rows : rows_at [] ≡ meaning_row []
-no-rows = λ i key. (fold_is_meaning [] tt (omega arith)).0.rows key i
 
 world-by-meaning : world_by (meaning_row []) ≡ record { sites = at_0 ∷ at_1 ∷ []; sent = packet.Msg ann ∷ [] }
 unfolding meaning_row
@@ -727,7 +751,7 @@ world-by-meaning = refl
 the-world : run KEEP_MAX happened (start 2) ≡ record { sites = at_0 ∷ at_1 ∷ []; sent = packet.Msg ann ∷ [] }
 the-world = ap world_by no-rows ∙ world-by-meaning
 
-asked-by-rows : site_after (site_keeping 2 0 KEEP_MAX) (opening_at 0) 1 (ann_is_asked ∷ []) ≡ (by_rows (rows_at [])).0
+asked-by-rows : (after_records (site_keeping 2 0 KEEP_MAX) (under_k ann_is_asked ∷ [])).site ≡ (by_rows (rows_at [])).0
 unfolding request_of take_request take_kind kind_of nick_of
 asked-by-rows = refl
 
@@ -735,16 +759,16 @@ asked-by-meaning : (by_rows (meaning_row [])).0 ≡ at_0
 unfolding meaning_row
 asked-by-meaning = refl
 
-sent-leads : site_after (site_keeping 2 1 KEEP_MAX) (opening_at 1) 1 (ann_is_sent ∷ []) ≡ at_1
+sent-leads : (after_records (site_keeping 2 1 KEEP_MAX) (under_k ann_is_sent ∷ [])).site ≡ at_1
 unfolding request_of take_request take_kind kind_of packet_of take_packet take_message take_stamp take_site take_positive number_of deps_of take_shadow nick_of
     digits
 sent-leads = refl
 
 -- what both folders have kept leads to the states of its sites
-folder-0 : site_after (site_keeping 2 0 KEEP_MAX) (opening_at 0) 1 (records_in asked) ≡ site (run KEEP_MAX happened (start 2)) 0
+folder-0 : (after_records (site_keeping 2 0 KEEP_MAX) (records_in asked)).site ≡ site (run KEEP_MAX happened (start 2)) 0
 folder-0 =
-    ap (site_after (site_keeping 2 0 KEEP_MAX) (opening_at 0) 1) asked-read ∙ asked-by-rows ∙ ap (λ rows. (by_rows rows).0) no-rows ∙ asked-by-meaning
+    ap (λ (r : Records). (after_records (site_keeping 2 0 KEEP_MAX) r).site) asked-read ∙ asked-by-rows ∙ ap (λ rows. (by_rows rows).0) no-rows ∙ asked-by-meaning
     ∙ ap (λ w. site w 0) (sym the-world)
 
-folder-1 : site_after (site_keeping 2 1 KEEP_MAX) (opening_at 1) 1 (records_in sent) ≡ site (run KEEP_MAX happened (start 2)) 1
-folder-1 = ap (site_after (site_keeping 2 1 KEEP_MAX) (opening_at 1) 1) sent-read ∙ sent-leads ∙ ap (λ w. site w 1) (sym the-world)
+folder-1 : (after_records (site_keeping 2 1 KEEP_MAX) (records_in sent)).site ≡ site (run KEEP_MAX happened (start 2)) 1
+folder-1 = ap (λ (r : Records). (after_records (site_keeping 2 1 KEEP_MAX) r).site) sent-read ∙ sent-leads ∙ ap (λ w. site w 1) (sym the-world)

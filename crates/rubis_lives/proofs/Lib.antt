@@ -1,5 +1,6 @@
 pub mod Common
 pub mod MomentFacts
+pub mod KeyFacts
 pub mod RewritingFacts
 pub mod RoomFacts
 pub mod HistoriesFacts

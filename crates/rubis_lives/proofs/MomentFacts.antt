@@ -1,29 +1,29 @@
 -- A site that is killed at any moment, or loses its power, and starts again.
 use Rattle.rubis_lives.proofs.Common.{◌≡◌, ◌∙◌, ◌⊎◌, inl, inr, ◌++◌, ◌∷◌, [], ℕ, List, Some, drop, take, refl, sym, ap, subst, Option, None}
 use Rattle.rubis_lives.proofs.Common.{append_assoc, Bool, true, false, length, arith, length-append, AtEnd, input_records, Files, IsFrontOf, AreSafe}
-use Rattle.rubis_lives.proofs.Common.{Event, FileState, Follows, IsSafe, Says, after, after_all, records_in, Lived, AreSound, begun_after, kept_of}
+use Rattle.rubis_lives.proofs.Common.{FolderEvent, FileState, MayFollow, IsSafe, Says, after_file_event, after_file_events, records_in, Lived, HasSoundLines, begun_after, kept_of_input}
 use Rattle.rubis_lives.proofs.Common.{whole_lines, sound-front, whole-ends, whole-rest, Consumes, Began, CutTo, Flushed, Kept, Replied, Settled}
-use Rattle.rubis_lives.proofs.Common.{Shown, Told, IsOpened, safe-first, MatchBool}
+use Rattle.rubis_lives.proofs.Common.{Shown, Told, IsAtStart, safe-first, MatchBool}
 use Rattle.std.proofs.lemmas.List.{append-nil, take-append-drop}
 use Rattle.rubis_engine.specs.Accounts.{Account}
 use Rattle.rubis_engine.specs.Accounts.Ending.{Cut}
-use Rattle.rubis_keep.specs.History.{IsLeft, Ended, IsAnswered}
+use Rattle.rubis_keep.specs.History.{IsLeft, Ended, IsAllAnswered}
 use Rattle.rubis_keep.proofs.LineFacts.{begun-append}
 use Rattle.rubis_keep.proofs.SoundFacts.{kept-without, kept-ends, read-whole, kept-sound, sound-append, whole-sound}
-use Rattle.rubis_lives.specs.Crashes.{ComesBack, DifferencesAreFound, EditsAreFound, EndsLeft, IsRefused, Life, LivesLeft, QuestionsLeaveNothing, after_life}
+use Rattle.rubis_lives.specs.Crashes.{EndsAsUncut, DifferencesAreFound, EditsAreFound, EndsLeft, OnlyFails, Life, LivesLeft, QuestionsLeaveNothing, after_life}
 use Rattle.rubis_lives.specs.Crashes.{after_lives, files_of, goes_on}
 use Rattle.rubis_lives.specs.Histories.{AnsweredBeforeMore, Extends, KillsLeaveFiles, PowerFailuresLeaveFiles, RaisedKeepsTellTheSame, SurvivesIn, from_disk}
 use Rattle.rubis_lives.specs.Histories.{opened_again, BegunTooEarlyIsUnsafe, KeptTooEarlyIsUnsafe, ShownTooEarlyIsUnsafe, ToldTooEarlyIsUnsafe}
 use Rattle.rubis_lives.proofs.RoomFacts.{front-more, records-grow, whole-front, whole-more}
 
-goes-on-sound : (log input : List ℕ) → AreSound [] log → AreSound [] (whole_lines log ++ kept_of input)
-goes-on-sound log input h = sound-append [] (whole_lines log) (kept_of input) (whole-sound log h)
-    (subst (λ l. AreSound l (kept_of input)) (sym (whole-ends log h)) (kept-sound input))
+goes-on-sound : (log input : List ℕ) → HasSoundLines [] log → HasSoundLines [] (whole_lines log ++ kept_of_input input)
+goes-on-sound log input h = sound-append [] (whole_lines log) (kept_of_input input) (whole-sound log h)
+    (subst (λ l. HasSoundLines l (kept_of_input input)) (sym (whole-ends log h)) (kept-sound input))
 
 life-left : {text : List (List (List ℕ)) → List ℕ} {files : Files} (life : Life) → IsLeft text files → IsLeft text (after_life text files life)
 life-left {text} {files} life h = record {
-  sound = sound-front [] (take life.log_bytes (whole_lines files.log ++ kept_of life.input)) (drop life.log_bytes (whole_lines files.log ++ kept_of life.input))
-      (subst (AreSound []) (sym (take-append-drop life.log_bytes (whole_lines files.log ++ kept_of life.input))) (goes-on-sound files.log life.input h.sound));
+  sound = sound-front [] (take life.log_bytes (whole_lines files.log ++ kept_of_input life.input)) (drop life.log_bytes (whole_lines files.log ++ kept_of_input life.input))
+      (subst (HasSoundLines []) (sym (take-append-drop life.log_bytes (whole_lines files.log ++ kept_of_input life.input))) (goes-on-sound files.log life.input h.sound));
   rest = drop life.out_bytes (text (input_records (whole_lines (after_life text files life).log)));
   begins = take-append-drop life.out_bytes (text (input_records (whole_lines (after_life text files life).log)));
 }
@@ -32,12 +32,12 @@ lives-left : {text : List (List (List ℕ)) → List ℕ} (files : Files) (lives
 lives-left files [] h = h
 lives-left {text} files (life ∷ lives) h = lives-left (after_life text files life) lives (life-left life h)
 
-same-files : (text : List (List (List ℕ)) → List ℕ) (files : Files) (input : List ℕ) → AreSound [] files.log
+same-files : (text : List (List (List ℕ)) → List ℕ) (files : Files) (input : List ℕ) → HasSoundLines [] files.log
     → goes_on text files input ≡ files_of text (whole_lines files.log) input
-same-files text files input h = ap (λ (l : List ℕ). record { log = l ++ kept_of input; out = text (input_records (l ++ kept_of input)) })
+same-files text files input h = ap (λ (l : List ℕ). record { log = l ++ kept_of_input input; out = text (input_records (l ++ kept_of_input input)) })
     (sym (read-whole files.log h))
 
-pub comes-back : ComesBack
+pub comes-back : EndsAsUncut
 comes-back text files lives input h =
     let left = lives-left files lives h in
     (left, same-files text (after_lives text files lives) input left.sound)
@@ -51,7 +51,7 @@ questions-leave-nothing text files life = ap (λ (k : List ℕ). record {
 -- how a run ended
 abbrev IsEnd : (all : Account) (files : Files) (kept told : List ℕ) → Type 0
 IsEnd all files kept told = ((kept ≡ files.log) × (told ≡ files.out))
-    ⊎ (AreSound [] files.log × IsFrontOf files.out (all.text AtEnd (input_records (whole_lines files.log)))
+    ⊎ (HasSoundLines [] files.log × IsFrontOf files.out (all.text AtEnd (input_records (whole_lines files.log)))
     × ((more : List (List (List ℕ))) → IsFrontOf told (all.text AtEnd (input_records (whole_lines kept) ++ more))))
 
 pub ends-left : EndsLeft
@@ -60,7 +60,7 @@ ends-left all files input later log out h e = go e.answers
     whole-front : IsFrontOf (whole_lines files.log) files.log
     whole-front = (begun_after [] files.log, whole-rest [] files.log)
 
-    grown : (e.kept ≡ files.log) ⊎ (IsFrontOf (whole_lines files.log) e.kept × IsFrontOf e.kept (whole_lines files.log ++ kept_of e.bytes)) →
+    grown : (e.kept ≡ files.log) ⊎ (IsFrontOf (whole_lines files.log) e.kept × IsFrontOf e.kept (whole_lines files.log ++ kept_of_input e.bytes)) →
         IsFrontOf (whole_lines files.log) e.kept
     grown (inl same) = subst (IsFrontOf (whole_lines files.log)) (sym same) whole-front
     grown (inr (front, more)) = front
@@ -76,16 +76,16 @@ ends-left all files input later log out h e = go e.answers
       e.out_is,
     )
 
-lines-whole : (log input : List ℕ) → AreSound [] log → whole_lines (whole_lines log ++ kept_of input) ≡ whole_lines log ++ kept_of input
+lines-whole : (log input : List ℕ) → HasSoundLines [] log → whole_lines (whole_lines log ++ kept_of_input input) ≡ whole_lines log ++ kept_of_input input
 lines-whole log input h =
-    let end : begun_after [] (whole_lines log ++ kept_of input) ≡ [] = begun-append [] (whole_lines log) (kept_of input)
-    ∙ ap (λ s. begun_after s (kept_of input)) (whole-ends log h) ∙ kept-ends input in
-    sym (append-nil (whole_lines (whole_lines log ++ kept_of input))) ∙ ap (λ t. whole_lines (whole_lines log ++ kept_of input) ++ t) (sym end)
-    ∙ whole-rest [] (whole_lines log ++ kept_of input)
+    let end : begun_after [] (whole_lines log ++ kept_of_input input) ≡ [] = begun-append [] (whole_lines log) (kept_of_input input)
+    ∙ ap (λ s. begun_after s (kept_of_input input)) (whole-ends log h) ∙ kept-ends input in
+    sym (append-nil (whole_lines (whole_lines log ++ kept_of_input input))) ∙ ap (λ t. whole_lines (whole_lines log ++ kept_of_input input) ++ t) (sym end)
+    ∙ whole-rest [] (whole_lines log ++ kept_of_input input)
 
 pub lives-left-too : LivesLeft
 lives-left-too all files input later log out h l =
-    let kept = whole_lines files.log ++ kept_of l.bytes in
+    let kept = whole_lines files.log ++ kept_of_input l.bytes in
     let same = lines-whole files.log l.bytes h.sound in (
       record { log = kept; out = all.text Cut (input_records kept) },
       record {
@@ -93,13 +93,13 @@ lives-left-too all files input later log out h l =
         rest = (l.begins []).0;
         begins = (l.begins []).1 ∙ ap (all.text AtEnd) (append-nil (input_records kept) ∙ ap input_records (sym same));
       },
-      (kept_of l.bytes, refl),
+      (kept_of_input l.bytes, refl),
       l.log_is,
       l.out_is,
     )
 
-refused : (all : Account) (files : Files) → (AreSound [] files.log → IsFrontOf files.out (all.text AtEnd (input_records (whole_lines files.log))) → ⊥)
-    → IsRefused all files
+refused : (all : Account) (files : Files) → (HasSoundLines [] files.log → IsFrontOf files.out (all.text AtEnd (input_records (whole_lines files.log))) → ⊥)
+    → OnlyFails all files
 refused all files never input later log out = (λ l. never l.sound l.found, λ e. go e e.answers)
   where
     go : (e : Ended all files.log files.out input later log out) → IsEnd all files e.kept e.told → (log ≡ Some files.log) × (out ≡ Some files.out)
@@ -114,23 +114,23 @@ edits-found all files edited = refused all files (λ sound found. edited sound)
 
 -- ---- a site that is killed at any moment, or loses its power
 
-safe-at : (says : Says) (s : FileState) (first later : List Event) → AreSafe says s (first ++ later) → IsSafe says.text (after_all s first)
+safe-at : (says : Says) (s : FileState) (first later : List FolderEvent) → AreSafe says s (first ++ later) → IsSafe says.text (after_file_events s first)
 safe-at says s [] later h = safe-first says s later h
-safe-at says s (e ∷ first) later h = safe-at says (after s e) first later h.2
+safe-at says s (e ∷ first) later h = safe-at says (after_file_event s e) first later h.2
 
-sound-of : {text : List (List (List ℕ)) → List ℕ} {s : FileState} → IsSafe text s → AreSound [] s.kept
+sound-of : {text : List (List (List ℕ)) → List ℕ} {s : FileState} → IsSafe text s → HasSoundLines [] s.kept
 sound-of {s} h = sound-front [] s.kept s.cut h.sound
 
 -- what is told of what was flushed is the beginning of what is told of more
-told-of-more : (text : List (List (List ℕ)) → List ℕ) (flushed : List ℕ) {log : List ℕ} (out : List ℕ) → Extends text → AreSound [] log → IsFrontOf flushed log
+told-of-more : (text : List (List (List ℕ)) → List ℕ) (flushed : List ℕ) {log : List ℕ} (out : List ℕ) → Extends text → HasSoundLines [] log → IsFrontOf flushed log
     → IsFrontOf out (text (records_in flushed)) → IsFrontOf out (text (records_in log))
 told-of-more text flushed {log} out extends sound front told =
-    let short = sound-front [] flushed front.0 (subst (AreSound []) (sym front.1) sound) in
+    let short = sound-front [] flushed front.0 (subst (HasSoundLines []) (sym front.1) sound) in
     let more = records-grow flushed short sound (front-more (whole_lines flushed) flushed log (whole-front flushed) front) in
     front-more out (text (records_in flushed)) (text (records_in log)) told
     (subst (λ r. IsFrontOf (text (records_in flushed)) (text r)) more.1 (extends (records_in flushed) more.0))
 
-follows-lines : (says : Says) (s : FileState) (e : Event) → Follows says s e → IsFrontOf (whole_lines s.kept) (after s e).kept
+follows-lines : (says : Says) (s : FileState) (e : FolderEvent) → MayFollow says s e → IsFrontOf (whole_lines s.kept) (after_file_event s e).kept
 follows-lines says s (Kept b) f =
     (begun_after [] s.kept ++ b ∷ [], sym (append_assoc (whole_lines s.kept) (begun_after [] s.kept) (b ∷ [])) ∙ ap (λ t. t ++ b ∷ []) (whole-rest [] s.kept))
 follows-lines says s Flushed f = whole-front s.kept
@@ -141,14 +141,14 @@ follows-lines says s (Began n counts) f = whole-front s.kept
 follows-lines says s (Replied question reply) f = whole-front s.kept
 follows-lines says s (Shown b) f = whole-front s.kept
 
-lines-stay : (says : Says) (s : FileState) (first later : List Event) → AreSafe says s (first ++ later)
-    → IsFrontOf (whole_lines s.kept) (after_all s first).kept
+lines-stay : (says : Says) (s : FileState) (first later : List FolderEvent) → AreSafe says s (first ++ later)
+    → IsFrontOf (whole_lines s.kept) (after_file_events s first).kept
 lines-stay says s [] later h = whole-front s.kept
 lines-stay says s (e ∷ first) later h =
-    whole-more s.kept (after s e).kept (after_all (after s e) first).kept (sound-of h.0) (follows-lines says s e h.1)
-    (lines-stay says (after s e) first later h.2)
+    whole-more s.kept (after_file_event s e).kept (after_file_events (after_file_event s e) first).kept (sound-of h.0) (follows-lines says s e h.1)
+    (lines-stay says (after_file_event s e) first later h.2)
 
-opens-again : {text : List (List (List ℕ)) → List ℕ} {s : FileState} → Extends text → IsSafe text s → IsOpened text (opened_again s)
+opens-again : {text : List (List (List ℕ)) → List ℕ} {s : FileState} → Extends text → IsSafe text s → IsAtStart text (opened_again s)
 opens-again {text} {s} extends h =
     let told = told-of-more text s.flushed s.out extends (sound-of h) h.flushed h.told in
     record {
@@ -158,11 +158,11 @@ opens-again {text} {s} extends h =
     }
 
 -- where the line `kept,..` is shown among these events, and all that was kept is answered then
-abbrev IsBegunIn : (List (List (List ℕ)) → List ℕ) → FileState → List Event → Type 0
+abbrev IsBegunIn : (List (List (List ℕ)) → List ℕ) → FileState → List FolderEvent → Type 0
 IsBegunIn text s events =
-    (before since : List Event) × (n : ℕ) × (counts : List ℕ) × (events ≡ before ++ Began n counts ∷ since) × IsAnswered text (after_all s before)
+    (before since : List FolderEvent) × (n : ℕ) × (counts : List ℕ) × (events ≡ before ++ Began n counts ∷ since) × IsAllAnswered text (after_file_events s before)
 
-one-later : (text : List (List (List ℕ)) → List ℕ) (s : FileState) (e : Event) (events : List Event) → IsBegunIn text (after s e) events
+one-later : (text : List (List (List ℕ)) → List ℕ) (s : FileState) (e : FolderEvent) (events : List FolderEvent) → IsBegunIn text (after_file_event s e) events
     → IsBegunIn text s (e ∷ events)
 one-later text s e events (before, since, n, counts, is, answered) = (e ∷ before, since, n, counts, ap (λ t. e ∷ t) is, answered)
 
@@ -172,13 +172,13 @@ kills-leave-files says s events extends h first later e =
     (opens-again extends (safe-at says s first later safe), lines-stay says s first later safe)
 
 survives : {text : List (List (List ℕ)) → List ℕ} {t : FileState} (files : Files) → Extends text → IsSafe text t → SurvivesIn t files
-    → IsOpened text (from_disk files) × IsFrontOf t.out (text (records_in files.log))
+    → IsAtStart text (from_disk files) × IsFrontOf t.out (text (records_in files.log))
 survives {text} {t} files extends h left =
-    let sound : AreSound [] files.log = sound-front [] files.log left.1.0 (subst (AreSound []) (sym left.1.1) h.sound) in
+    let sound : HasSoundLines [] files.log = sound-front [] files.log left.1.0 (subst (HasSoundLines []) (sym left.1.1) h.sound) in
     let told = told-of-more text t.flushed t.out extends sound left.0 h.told in
     let out = front-more files.out t.out (text (records_in files.log)) left.2 told in (
       record {
-        safe = record { sound = subst (AreSound []) (sym (append-nil files.log)) sound; flushed = ([], append-nil files.log); told = out; shown = refl };
+        safe = record { sound = subst (HasSoundLines []) (sym (append-nil files.log)) sound; flushed = ([], append-nil files.log); told = out; shown = refl };
         begun = refl;
         left = record { sound = sound; rest = out.0; begins = out.1 };
       },
@@ -194,17 +194,17 @@ answered-before-more says s [] later b not_yet h = absurd (cc (not_yet, h.1.0))
 answered-before-more says s (Began n counts ∷ first) later b not_yet h = ([], first, n, counts, refl, h.1.0)
 answered-before-more says s (Kept c ∷ first) later b not_yet h = absurd (cc (not_yet, h.1.0))
 answered-before-more says s (Flushed ∷ first) later b not_yet h = one-later says.text s Flushed first
-    (answered-before-more says (after s Flushed) first later b not_yet h.2)
+    (answered-before-more says (after_file_event s Flushed) first later b not_yet h.2)
 answered-before-more says s (CutTo n ∷ first) later b not_yet h = one-later says.text s (CutTo n) first
-    (answered-before-more says (after s (CutTo n)) first later b not_yet h.2)
+    (answered-before-more says (after_file_event s (CutTo n)) first later b not_yet h.2)
 answered-before-more says s (Told c ∷ first) later b not_yet h = one-later says.text s (Told c) first
-    (answered-before-more says (after s (Told c)) first later b not_yet h.2)
+    (answered-before-more says (after_file_event s (Told c)) first later b not_yet h.2)
 answered-before-more says s (Settled ∷ first) later b not_yet h = one-later says.text s Settled first
-    (answered-before-more says (after s Settled) first later b not_yet h.2)
+    (answered-before-more says (after_file_event s Settled) first later b not_yet h.2)
 answered-before-more says s (Shown c ∷ first) later b not_yet h = one-later says.text s (Shown c) first
-    (answered-before-more says (after s (Shown c)) first later b not_yet h.2)
+    (answered-before-more says (after_file_event s (Shown c)) first later b not_yet h.2)
 answered-before-more says s (Replied question reply ∷ first) later b not_yet h =
-    one-later says.text s (Replied question reply) first (answered-before-more says (after s (Replied question reply)) first later b not_yet h.2)
+    one-later says.text s (Replied question reply) first (answered-before-more says (after_file_event s (Replied question reply)) first later b not_yet h.2)
 
 -- ---- a site that keeps more messages from now on
 
@@ -221,7 +221,7 @@ completed : {before : Account} (files mid : Files) {done log1 out1 : Option (Lis
     → ((records : List (List (List ℕ))) → before.text Cut records ≡ before.text AtEnd records) → Lived before files.log files.out (Some []) done log1 out1
     → log1 ≡ Some mid.log → out1 ≡ Some mid.out → mid.out ≡ before.text AtEnd (records_in files.log)
 completed {before} files mid {done} same l e f =
-    let none : kept_of l.bytes ≡ [] = ap kept_of (none-read l.bytes done l.taken) in
+    let none : kept_of_input l.bytes ≡ [] = ap kept_of_input (none-read l.bytes done l.taken) in
     some-same (sym f ∙ l.out_is) ∙ ap (λ k. before.text Cut (input_records (whole_lines files.log ++ k))) none
     ∙ ap (λ k. before.text Cut (input_records k)) (append-nil (whole_lines files.log)) ∙ same (records_in files.log)
 
@@ -233,7 +233,7 @@ raised-keeps-tell-the-same before raised files mid done log1 out1 input later lo
     )
   where
     ends : IsFrontOf told mid.out → (d : Ended raised mid.log mid.out input later log out) → ((d.kept ≡ mid.log) × (d.told ≡ mid.out))
-        ⊎ (AreSound [] mid.log × IsFrontOf mid.out (raised.text AtEnd (input_records (whole_lines mid.log)))
+        ⊎ (HasSoundLines [] mid.log × IsFrontOf mid.out (raised.text AtEnd (input_records (whole_lines mid.log)))
         × ((more : List (List (List ℕ))) → IsFrontOf d.told (raised.text AtEnd (input_records (whole_lines d.kept) ++ more))))
         → ((log ≡ Some mid.log) × (out ≡ Some mid.out)) ⊎ IsFrontOf told (raised.text AtEnd (records_in mid.log))
     ends all d (inl is) = inl (d.log_is ∙ ap (λ t. Some t) is.0, d.out_is ∙ ap (λ t. Some t) is.1)
@@ -249,9 +249,9 @@ none-begins {out} b e f (rest, g) =
 
 pub told-too-early : ToldTooEarlyIsUnsafe
 told-too-early says s [] b later none e f h =
-    let safe = safe-first says (after s (Told b)) later h.2 in
+    let safe = safe-first says (after_file_event s (Told b)) later h.2 in
     none-begins b f (ap (λ k. says.text (records_in k)) e ∙ none) safe.told
-told-too-early says s (c ∷ lines) b later none e f h = told-too-early says (after s (Kept c)) lines b later none e f h.2
+told-too-early says s (c ∷ lines) b later none e f h = told-too-early says (after_file_event s (Kept c)) lines b later none e f h.2
 
 no-end : (shown : List ℕ) (b : ℕ) → shown ++ b ∷ [] ≡ [] → ⊥
 no-end shown b e = let long = length-append shown (b ∷ []) in omega (arith, ap length e, long)
@@ -263,7 +263,7 @@ not-longer {shown} b e (rest, g) =
     omega (arith, ap length g, ap length e, long, first)
 
 pub shown-too-early : ShownTooEarlyIsUnsafe
-shown-too-early says s b later early h = go s.begun early (safe-first says (after s (Shown b)) later h.2).shown
+shown-too-early says s b later early h = go s.begun early (safe-first says (after_file_event s (Shown b)) later h.2).shown
   where
     go : (begun : Bool) → (begun ≡ false) ⊎ (s.shown ≡ s.out) → MatchBool begun (IsFrontOf (s.shown ++ b ∷ []) s.out) (s.shown ++ b ∷ [] ≡ []) → ⊥
     go true (inl e) m = cc e

@@ -1,41 +1,34 @@
 -- What was kept is rewritten without what changed nothing.
 use Rattle.rubis_lives.proofs.Common.{◌≡◌, ◌∙◌, ◌+◌, ◌++◌, ◌∷◌, [], ℕ, List, refl, sym, ap, append_assoc, ◌≤◌, length, inl, inr, subst, arith}
 use Rattle.rubis_lives.proofs.Common.{append-nil, ⊎_elim, ◌⊎◌, Bool, true, false, cond, Option, Some, None, length-append, flat_map-append, input_of}
-use Rattle.rubis_lives.proofs.Common.{answers, input_step, Place, Replica, output_of, generating, opening_at, passing, rows_at, standing_of}
+use Rattle.rubis_lives.proofs.Common.{input_step, Place, Replica, generating, opening_at, passing, rows_at, standing_of}
 use Rattle.rubis_lives.proofs.Common.{plain_writer, row_text, rows_text, IsShortened, ◌||◌, ◌==◌, MatchBool, map, nat_le, Result, Ok, Err, Refusal}
 use Rattle.rubis_lives.proofs.Common.{BadTarget, LastTurn, Shadow, decision, Message, Input, Asked, Came, Neither, Token, sent_on, sent_on_inputs}
-use Rattle.rubis_lives.proofs.Common.{sending, nothing_left_out, short_state, Files, FileState, IsSafe, IsFrontOf, shortened-append}
+use Rattle.rubis_lives.proofs.Common.{sending, Files, FileState, IsSafe, IsFrontOf}
 use Rattle.rubis_model.specs.Site.{settle, made}
 use Rattle.std.proofs.lemmas.Bool.{cond_both}
 use Rattle.rubis_model.proofs.Settling.{settle_keeps}
-use Rattle.rubis_laws.proofs.Processes.AreARun.{answers_stay}
 use Rattle.rubis_lives.specs.Histories.{SiteTextsExtend, SurvivesIn}
 use Rattle.rubis_lives.specs.Shops.{IsPrefix}
+use Rattle.rubis_lives.proofs.KeyFacts.{Records, after-short, bare-short}
+use Rattle.rubis_keys.proofs.BareFacts.{answers_more}
+use Rattle.rubis_keys.specs.Keys.{keyed_after, keyed_answers, keyed_opening}
+use Rattle.rubis_keys.specs.Laws.{bare_of}
+use Rattle.rubis_keep.proofs.ShortenFacts.{leaves-append, leaves-none}
 use Rattle.rubis_message.specs.declared.requests.Request.TheVariants as request
 use Rattle.rubis_message.specs.declared.tokens.Packet.TheVariants as packet
 use Rattle.rubis_lives.specs.Rewriting.{IsLeftIn, IsOfFresh, IsOfKept, IsOldOrNew, NamedBeforeEmptied, NamedBeforeFlushed, Rewriting, RewritingLeavesFiles}
 use Rattle.rubis_lives.specs.Rewriting.{Rewritten, ShorteningKeepsThePromise, after_one, after_some, killed_in, rewriting, untouched}
 use Rattle.rubis_lives.specs.Rewriting.Rewriting.{Emptied, EmptyFlushed, FreshFlushed, NamesFlushed, Renamed, Wrote}
 
-answers-more : (p : Place) (s : Replica) (n : ℕ) (xs ys : List (List (List ℕ))) → (more : List (List (List ℕ))) × (answers p s n xs ++ more ≡ answers p s n (xs ++ ys))
-unfolding answers
-answers-more p s n [] ys = (answers p s n ys, refl)
-answers-more p s n (fields ∷ xs) ys =
-    let step = input_step p s n (input_of p.sites fields) in
-    let r = answers-more p step.0 (n + 1) xs ys in
-    (r.0, append_assoc step.1 (answers p step.0 (n + 1) xs) r.0 ∙ ap (λ t. step.1 ++ t) r.1)
-
 pub site-texts-extend : SiteTextsExtend
 site-texts-extend p s n records more =
-    let r = answers-more p s n records more in
-    (rows_text r.0, sym (flat_map-append (row_text plain_writer) (answers p s n records) r.0) ∙ ap rows_text r.1)
+    let r = keyed_answers p (keyed_after p s n records) (n + length records) more in
+    (rows_text r, sym (flat_map-append (row_text plain_writer) (keyed_answers p s n records) r) ∙ ap rows_text (sym (answers_more p s n records more)))
 
 -- ---- records that are read, and those that are left out of them
 
 -- ---- prefixes
-
-abbrev pub Records : Type 0
-Records = List (List (List ℕ))
 
 pub prefix-more : (xs ys zs : Records) → IsPrefix xs ys → IsPrefix ys zs → IsPrefix xs zs
 prefix-more xs ys zs p q = (p.0 ++ q.0, sym (append_assoc xs p.0 q.0) ∙ ap (λ t. t ++ q.0) p.1 ∙ q.1)
@@ -71,6 +64,14 @@ shortened-again p s a b (x ∷ full) h (inr k) =
     ⊎_elim (λ m. inl (m.0, shortened-again p s a k.0 full m.1 (subst (λ t. IsShortened p t k.0 full) m.0 k.2)))
     (λ m. inr (m.0, m.1, shortened-again p (input_step p s 1 (input_of p.sites x)).0 m.0 k.0 full m.2 k.2))
     (subst (IsShortened p s a) k.1 h)
+
+-- a record more may be left in
+pub shortened-more : (p : Place) (s : Replica) (short full : Records) (x : List (List ℕ)) → IsShortened p s short full
+    → IsShortened p s (short ++ x ∷ []) (full ++ x ∷ [])
+shortened-more p s short [] x h = subst (λ t. IsShortened p s (t ++ x ∷ []) (x ∷ [])) (sym h) (inr ([], refl, refl))
+shortened-more p s short (y ∷ full) x (inl h) = inl (h.0, shortened-more p s short full x h.1)
+shortened-more p s short (y ∷ full) x (inr h) =
+    inr (h.0 ++ x ∷ [], ap (λ t. t ++ x ∷ []) h.1, shortened-more p (input_step p s 1 (input_of p.sites y)).0 h.0 full x h.2)
 
 -- a prefix of what is left is left of a prefix
 pub shortened-first : (p : Place) (s : Replica) (full short xs : Records) → IsShortened p s short full → IsPrefix xs short
@@ -130,13 +131,14 @@ short-sent p s short (x ∷ full) (inr h) =
 
 pub shortening-keeps : ShorteningKeepsThePromise
 shortening-keeps p short full more h =
-    let o = opening_at p.site in
-    let longer : IsShortened p o (short ++ more) (full ++ more) = shortened-append p o short more full more h (nothing_left_out p _ more) in
+    let o = keyed_opening p.site in
+    let longer = leaves-append true p o short more full more h (leaves-none true p _ more) in
     record {
-      state = short_state p (full ++ more) (short ++ more) o 1 1 longer;
-      sent = short-sent p o (short ++ more) (full ++ more) longer;
-      was = answers_stay p full more;
-      is = answers_stay p short more ∙ ap (λ t. output_of p short ++ answers p t (1 + length short) more) (short_state p full short o 1 1 h);
+      state = after-short p o (short ++ more) (full ++ more) longer;
+      sent = short-sent p (opening_at p.site) (bare_of p o (short ++ more)) (bare_of p o (full ++ more)) (bare-short p o (short ++ more) (full ++ more) longer);
+      was = answers_more p o 1 full more;
+      is = answers_more p o 1 short more
+          ∙ ap (λ t. keyed_answers p o 1 short ++ keyed_answers p t (1 + length short) more) (after-short p o short full h);
     }
 
 -- ---- what is left of the files

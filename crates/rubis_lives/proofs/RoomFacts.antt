@@ -1,17 +1,17 @@
 -- Records that a site refuses since it is full.
 use Rattle.rubis_lives.proofs.Common.{◌≡◌, ◌∙◌, ◌++◌, [], false, List, ℕ, sym, ap, subst, append_assoc, ◌≤◌, ◌+◌, ◌∷◌, Bool, true, cond, Option, Some}
-use Rattle.rubis_lives.proofs.Common.{None, refl, arith, inl, inr, input_records, plain_writer, row_text, rows_text, IsFrontOf, records_in, AreSound}
+use Rattle.rubis_lives.proofs.Common.{None, refl, arith, inl, inr, input_records, plain_writer, row_text, rows_text, IsFrontOf, records_in, HasSoundLines}
 use Rattle.rubis_lives.proofs.Common.{begun_after, whole_lines, whole-ends, whole-rest, whole-whole, append_cancel_left, flat_map-append, sending}
 use Rattle.rubis_lives.proofs.Common.{◌||◌, ◌==◌, codes, length, map, nat_le, Result, Ok, Err, next_record, escaped, fields_text, is_blank, Refusal}
 use Rattle.rubis_lives.proofs.Common.{BadTarget, LastTurn, Shadow, decision, Rows, input_of, Message, Input, Asked, Came, Neither, Token, answers}
-use Rattle.rubis_lives.proofs.Common.{input_step, Place, Replica, generating, opening_at, passing, rows_at, standing_of, site_after, IsShortened}
+use Rattle.rubis_lives.proofs.Common.{input_step, Place, Replica, generating, passing, rows_at, standing_of, site_after, IsShortened}
 use Rattle.rubis_lives.proofs.Common.{sent_on, sent_on_inputs}
 use Rattle.std.proofs.Common.{◌≢◌, ◌&&◌}
-use Rattle.rubis_keep.specs.Lines.{is_marked, whole_after, IsWhole}
+use Rattle.rubis_keep.specs.Lines.{is_marked, whole_after, HasWholeRecords}
 use Rattle.rubis_keep.proofs.SoundFacts.{records-append, sound-back, sound-kept, whole-append-after, kept-whole}
 use Rattle.std.proofs.lemmas.Bool.Decides.{nat_tests}
 use Rattle.std.proofs.lemmas.Option.{same_Some}
-use Rattle.std.specs.Prelude.{if◌then◌else◌, ◌-◌, decimal, find, not}
+use Rattle.std.specs.Prelude.{if◌then◌else◌, ◌-◌, decimal, drop, find, is_some, not}
 use Rattle.csv.specs.Reading.{default_config}
 use Rattle.csv.specs.Writing.{default_writer, field_text, needs_quotes, read_back, row_text as csv_row}
 use Rattle.csv.specs.declared.parser.State.{State}
@@ -23,32 +23,40 @@ use Rattle.rubis_schema.specs.declared.refusals.Refusal.TheVariants.{BadEvent, N
 use Rattle.rubis_shadow.specs.declared.shadows.Ask.{Ask}
 use Rattle.rubis_generate.specs.Decision.{is_due, order_of, refused_or, shadow_of}
 use Rattle.rubis_generate.specs.declared.standing.Standing.{Standing}
-use Rattle.rubis_model.specs.Site.{arrived_rows, asked_rows, passed_rows, refused_row, told, after_came, arrival_of, is_full, is_repeat, not_ours}
+use Rattle.rubis_message.specs.declared.answers.Arrival.{Arrival}
+use Rattle.rubis_keys.proofs.BareFacts.{BareIs, bare_is, same_input, same_step}
+use Rattle.rubis_keys.specs.Keys.{KeyedSite, ask_step, asked_under_rows, is_red_ask, keyed_answers, keyed_input, keyed_opening, keyed_step}
+use Rattle.rubis_keys.specs.Keys.{noted_came, noted_made}
+use Rattle.rubis_keys.specs.Laws.{bare_of, bare_records}
+use Rattle.rubis_keys.specs.declared.inputs.KeyedInput.{KeyedInput}
+use Rattle.rubis_keys.specs.declared.inputs.KeyedInput.TheVariants.{Plain, AskedUnder, CameUnder}
+use Rattle.rubis_keys.specs.declared.keys.Known.{Known}
+use Rattle.rubis_model.specs.Site.{arrived, asked, arrived_rows, asked_rows, passed_rows, refused_row, told, after_came, arrival_of, is_full, is_repeat, not_ours}
 use Rattle.csv.specs.declared.parser.State.TheVariants as st
 use Rattle.rubis_shadow.specs.declared.shadows.Ask.TheVariants as ask
 use Rattle.rubis_message.specs.declared.answers.Arrival.TheVariants as arrival
 use Rattle.rubis_message.specs.declared.requests.Request.TheVariants as request
 use Rattle.rubis_message.specs.declared.tokens.Packet.TheVariants as packet
-use Rattle.rubis_lives.specs.Histories.{RaisedKeepsTakeTheSame, RefusedAsFullAreNoEvents, keeping, refuses_as_full, taken_by}
+use Rattle.rubis_lives.specs.Histories.{RaisedKeepsTakeTheSame, RefusedAsFullAreNoEvents, keeping_at_most, refuses_as_full, taken_by}
 use Rattle.rubis_lives.specs.Shops.{IsPrefix}
-use Rattle.rubis_lives.proofs.RewritingFacts.{Records}
+use Rattle.rubis_lives.proofs.KeyFacts.{Records}
 
 -- whole lines are followed by whole lines
-pub whole-grow : (a b : List ℕ) → AreSound [] a → (f : IsFrontOf (whole_lines a) b) → whole_lines b ≡ whole_lines a ++ whole_lines f.0
+pub whole-grow : (a b : List ℕ) → HasSoundLines [] a → (f : IsFrontOf (whole_lines a) b) → whole_lines b ≡ whole_lines a ++ whole_lines f.0
 whole-grow a b sa (rest, e) =
     ap whole_lines (sym e) ∙ whole-append-after [] (whole_lines a) rest ∙ ap (λ t. t ++ whole_after (begun_after [] (whole_lines a)) rest) (whole-whole a sa)
     ∙ ap (λ s. whole_lines a ++ whole_after s rest) (whole-ends a sa)
 
-pub records-grow : (a : List ℕ) {b : List ℕ} → AreSound [] a → AreSound [] b → IsFrontOf (whole_lines a) b
+pub records-grow : (a : List ℕ) {b : List ℕ} → HasSoundLines [] a → HasSoundLines [] b → IsFrontOf (whole_lines a) b
     → (more : List (List (List ℕ))) × (input_records (whole_lines a) ++ more ≡ input_records (whole_lines b))
 records-grow a {b} sa sb (rest, e) =
     let lines = whole-grow a b sa (rest, e) in
-    let sr : AreSound [] rest = subst (λ l. AreSound l rest) (whole-ends a sa) (sound-back [] (whole_lines a) rest (subst (AreSound []) (sym e) sb)) in
-    let whole = subst IsWhole (sound-kept [] a sa) (kept-whole false [] a) in
+    let sr : HasSoundLines [] rest = subst (λ l. HasSoundLines l rest) (whole-ends a sa) (sound-back [] (whole_lines a) rest (subst (HasSoundLines []) (sym e) sb)) in
+    let whole = subst HasWholeRecords (sound-kept [] a sa) (kept-whole false [] a) in
     let unmarked = subst (λ t. is_marked t ≡ false) (sound-kept [] rest sr) (kept-whole false [] rest).unmarked in
     (input_records (whole_lines rest), sym (ap input_records lines ∙ records-append (whole_lines rest) whole unmarked))
 
-pub whole-more : (a b c : List ℕ) → AreSound [] a → IsFrontOf (whole_lines a) b → IsFrontOf (whole_lines b) c → IsFrontOf (whole_lines a) c
+pub whole-more : (a b c : List ℕ) → HasSoundLines [] a → IsFrontOf (whole_lines a) b → IsFrontOf (whole_lines b) c → IsFrontOf (whole_lines a) c
 whole-more a b c sa f (rest, e) =
     (whole_lines f.0 ++ rest, sym (append_assoc (whole_lines a) (whole_lines f.0) rest) ∙ ap (λ t. t ++ rest) (sym (whole-grow a b sa f)) ∙ e)
 
@@ -110,7 +118,7 @@ neither false false e = (refl, refl)
 
 module _ (p : Place) (keep : ℕ) (more : p.keep ≤ keep) where
   abbrev q : Place
-  q = keeping p keep
+  q = keeping_at_most p keep
 
   generates-same : (s : Replica) (r : Result Shadow Refusal) → generating p s r ≡ generating q s r
   generates-same s (Ok x) = refl
@@ -127,19 +135,21 @@ module _ (p : Place) (keep : ℕ) (more : p.keep ≤ keep) where
   arrives-same false false true g x y z w h e = absurd (cc e)
   arrives-same false false false g x y z w h e = ap (λ t. cond t z w) (sym (h refl))
 
+  ask-same : (s : Replica) (a : Ask) → is_full p.keep s ≡ false → asked p s a ≡ asked q s a
+  ask-same s a e =
+      ap (λ (f : Bool). generating p s (decision (rows_at s.log) (record { full = f; holds = (standing_of keep s).holds; current = (standing_of keep s).current }) a))
+      (e ∙ sym (roomier p.keep keep s more e)) ∙ generates-same s (decision (rows_at s.log) (standing_of keep s) a)
+
+  arrival-same : (s : Replica) (m : Message) → refuses_as_full p s (Came (packet.Msg m)) ≡ false → arrived p s m ≡ arrived q s m
+  arrival-same s m e =
+      arrives-same (not_ours p s m) (is_repeat s m) (is_full p.keep s) (is_full keep s) (s, Err NotOurs) (s, Ok arrival.Repeat) (s, Err Full)
+      (after_came s m, Ok (arrival_of (length (after_came s m).log - length s.log))) (roomier p.keep keep s more) e
+
   pub same-step : (s : Replica) (n : ℕ) (x : Input) → refuses_as_full p s x ≡ false → input_step p s n x ≡ input_step q s n x
-  same-step s n (Asked (request.Ask a)) e =
-      let less = roomier p.keep keep s more e in
-      ap (λ (f : Bool). told (asked_rows n)
-      (generating p s (decision (rows_at s.log) (record { full = f; holds = (standing_of keep s).holds; current = (standing_of keep s).current }) a)))
-      (e ∙ sym less)
-      ∙ ap (told (asked_rows n)) (generates-same s (decision (rows_at s.log) (standing_of keep s) a))
+  same-step s n (Asked (request.Ask a)) e = ap (told (asked_rows n)) (ask-same s a e)
   same-step s n (Asked (request.Pass to)) e = ap (told (passed_rows n)) (passes-same s to s.held)
   same-step s n (Asked (request.List l)) e = refl
-  same-step s n (Came (packet.Msg m)) e =
-      ap (told (arrived_rows n))
-      (arrives-same (not_ours p s m) (is_repeat s m) (is_full p.keep s) (is_full keep s) (s, Err NotOurs) (s, Ok arrival.Repeat) (s, Err Full)
-      (after_came s m, Ok (arrival_of (length (after_came s m).log - length s.log))) (roomier p.keep keep s more) e)
+  same-step s n (Came (packet.Msg m)) e = ap (told (arrived_rows n)) (arrival-same s m e)
   same-step s n (Came (packet.Token t)) e = refl
   same-step s n Neither e = refl
 
@@ -156,25 +166,22 @@ module _ (p : Place) (keep : ℕ) (more : p.keep ≤ keep) where
   still-takes s (Came (packet.Token t)) e = refl
   still-takes s Neither e = refl
 
-pub full-step : (p : Place) (s : Replica) (n : ℕ) (x : Input) → refuses_as_full p s x ≡ true → input_step p s n x ≡ (s, refused_row n Full ∷ [])
-full-step p s n (Asked (request.Ask a)) e = ap (λ r. told (asked_rows n) (generating p s r)) (full-first (rows_at s.log) (standing_of p.keep s) a e)
-full-step p s n (Asked (request.Pass to)) e = absurd (cc e)
-full-step p s n (Asked (request.List l)) e = absurd (cc e)
-full-step p s n (Came (packet.Msg m)) e =
+full-ask : (p : Place) (s : Replica) (a : Ask) → is_full p.keep s ≡ true → asked p s a ≡ (s, Err Full)
+full-ask p s a e = ap (generating p s) (full-first (rows_at s.log) (standing_of p.keep s) a e)
+
+full-arrival : (p : Place) (s : Replica) (m : Message) → refuses_as_full p s (Came (packet.Msg m)) ≡ true → arrived p s m ≡ (s, Err Full)
+full-arrival p s m e =
     let f = both (is_full p.keep s) (not (not_ours p s m || is_repeat s m)) e in
     let new = neither (not_ours p s m) (is_repeat s m) f.1 in
     rw new.0 (rw new.1 (rw f.0 refl))
+
+pub full-step : (p : Place) (s : Replica) (n : ℕ) (x : Input) → refuses_as_full p s x ≡ true → input_step p s n x ≡ (s, refused_row n Full ∷ [])
+full-step p s n (Asked (request.Ask a)) e = ap (told (asked_rows n)) (full-ask p s a e)
+full-step p s n (Asked (request.Pass to)) e = absurd (cc e)
+full-step p s n (Asked (request.List l)) e = absurd (cc e)
+full-step p s n (Came (packet.Msg m)) e = ap (told (arrived_rows n)) (full-arrival p s m e)
 full-step p s n (Came (packet.Token t)) e = absurd (cc e)
 full-step p s n Neither e = absurd (cc e)
-
--- the number of a record shows in its answer alone
-number-none : (p : Place) (s : Replica) (n m : ℕ) (x : Input) → (input_step p s n x).0 ≡ (input_step p s m x).0
-number-none p s n m (Asked (request.Ask a)) = refl
-number-none p s n m (Asked (request.Pass to)) = refl
-number-none p s n m (Asked (request.List l)) = refl
-number-none p s n m (Came (packet.Msg u)) = refl
-number-none p s n m (Came (packet.Token t)) = refl
-number-none p s n m Neither = refl
 
 -- ---- the records that are taken
 
@@ -205,7 +212,7 @@ taken-more p s (x ∷ xs) (y ∷ ys) e = at (refuses_as_full p s (input_of p.sit
 
 module _ (p : Place) (keep : ℕ) (more : p.keep ≤ keep) where
   abbrev wide : Place
-  wide = keeping p keep
+  wide = keeping_at_most p keep
 
   abbrev next : Replica → ℕ → List (List ℕ) → Replica
   next s n fields = (input_step p s n (input_of p.sites fields)).0
@@ -220,7 +227,7 @@ module _ (p : Place) (keep : ℕ) (more : p.keep ≤ keep) where
       (taken-state (next s 1 x) (n + 1) (m + 1) records)
     where
       number : (a b : ℕ) → next s a x ≡ next s b x
-      number a b = number-none p s a b (input_of p.sites x)
+      number a b = same_input p s a b (input_of p.sites x)
 
       at : (b : Bool) → refuses_as_full p s (input_of p.sites x) ≡ b → site_after p s (n + 1) records ≡ site_after wide s m (taken_by p s records)
           → site_after p (next s 1 x) (n + 1) records ≡ site_after wide (next s 1 x) (m + 1) (taken_by p (next s 1 x) records)
@@ -369,6 +376,10 @@ asked-otherwise : (n : ℕ) (r : Result Message Refusal) → (r ≡ Err Full →
 asked-otherwise n (Ok m) h = (codes "reply", _, _, refl, λ e. cc e)
 asked-otherwise n (Err r) h = (codes "reply", _, [], refl, λ e. no-other r (λ is. h (ap (λ x. Err x) is)) (cc e))
 
+under-otherwise : (n : ℕ) (key : List ℕ) (r : Result Message Refusal) → (r ≡ Err Full → ⊥) → IsOtherwise n (asked_under_rows n key r)
+under-otherwise n key (Ok m) h = (codes "reply", _, _, refl, λ e. cc e)
+under-otherwise n key (Err r) h = asked-otherwise n (Err r) h
+
 arrived-otherwise : (n k : ℕ) → IsOtherwise n (arrived_rows n (Ok (arrival_of k)))
 arrived-otherwise n k = at (k == 0)
   where
@@ -380,12 +391,14 @@ generates-otherwise : (p : Place) (s : Replica) (r : Result Shadow Refusal) → 
 generates-otherwise p s (Ok x) h e = cc e
 generates-otherwise p s (Err r) h e = h (let same : r ≡ Full = cc e in ap (λ x. Err x) same)
 
+ask-otherwise : (p : Place) (keep : ℕ) (s : Replica) (a : Ask) → is_full keep s ≡ false → (asked (keeping_at_most p keep) s a).1 ≡ Err Full → ⊥
+ask-otherwise p keep s a f =
+    generates-otherwise (keeping_at_most p keep) s (decision (rows_at s.log) (standing_of keep s) a) (not-full (rows_at s.log) (standing_of keep s) a f)
+
 -- a record that a site refuses as full is answered otherwise by one that isn't
-otherwise : (p : Place) (keep : ℕ) (s : Replica) (n : ℕ) (x : Input) → refuses_as_full p s x ≡ true → refuses_as_full (keeping p keep) s x ≡ false
-    → IsOtherwise n (input_step (keeping p keep) s n x).1
-otherwise p keep s n (Asked (request.Ask a)) e f =
-    asked-otherwise n (generating (keeping p keep) s (decision (rows_at s.log) (standing_of keep s) a)).1
-    (generates-otherwise (keeping p keep) s (decision (rows_at s.log) (standing_of keep s) a) (not-full (rows_at s.log) (standing_of keep s) a f))
+otherwise : (p : Place) (keep : ℕ) (s : Replica) (n : ℕ) (x : Input) → refuses_as_full p s x ≡ true → refuses_as_full (keeping_at_most p keep) s x ≡ false
+    → IsOtherwise n (input_step (keeping_at_most p keep) s n x).1
+otherwise p keep s n (Asked (request.Ask a)) e f = asked-otherwise n (asked (keeping_at_most p keep) s a).1 (ask-otherwise p keep s a f)
 otherwise p keep s n (Asked (request.Pass to)) e f = absurd (cc e)
 otherwise p keep s n (Asked (request.List l)) e f = absurd (cc e)
 otherwise p keep s n (Came (packet.Msg m)) e f =
@@ -400,66 +413,156 @@ otherwise p keep s n (Came (packet.Msg m)) e f =
 otherwise p keep s n (Came (packet.Token t)) e f = absurd (cc e)
 otherwise p keep s n Neither e f = absurd (cc e)
 
+-- ---- one record that may be under a key
+
+-- it is refused as full
+abbrev fills : Place → KeyedSite → KeyedInput → Bool
+fills p s (Plain i) = refuses_as_full p s.site i
+fills p s (AskedUnder key a) = cond (is_some (s.keys key (is_red_ask a))) false (is_full p.keep s.site)
+fills p s (CameUnder key m) = refuses_as_full p s.site (Came (packet.Msg m))
+
+-- what a site comes to, and answers, by what it makes of an ask, or of a message, under a key
+abbrev by_ask : KeyedSite → ℕ → List ℕ → Replica × Result Message Refusal → KeyedSite × Records
+by_ask s n key r = (record { site = r.0; keys = noted_made s.keys key r.1 }, asked_under_rows n key r.1)
+
+abbrev by_arrival : KeyedSite → ℕ → List ℕ → Message → Replica × Result Arrival Refusal → KeyedSite × Records
+by_arrival s n key m r = (record { site = r.0; keys = noted_came s.keys key m r.1 }, arrived_rows n r.1)
+
+abbrev by_input : KeyedSite → Replica × Records → KeyedSite × Records
+by_input s r = (record s { site = r.0 }, r.1)
+
+keyed-full : (p : Place) (s : KeyedSite) (n : ℕ) (i : KeyedInput) → fills p s i ≡ true → keyed_step p s n i ≡ (s, refused_row n Full ∷ [])
+keyed-full p s n (Plain i) e = ap (by_input s) (full-step p s.site n i e)
+keyed-full p s n (AskedUnder key a) e = at (s.keys key (is_red_ask a)) e
+  where
+    at : (o : Option Known) → cond (is_some o) false (is_full p.keep s.site) ≡ true → ask_step p s n key a o ≡ (s, refused_row n Full ∷ [])
+    at None e = ap (by_ask s n key) (full-ask p s.site a e)
+    at (Some k) e = absurd (cc e)
+keyed-full p s n (CameUnder key m) e = ap (by_arrival s n key m) (full-arrival p s.site m e)
+
+keyed-not : (p : Place) (s : KeyedSite) (x : List (List ℕ)) (rest : Records) (i : KeyedInput) → BareIs p.sites x i → fills p s i ≡ true
+    → taken_by p s.site (bare_records s i x ++ rest) ≡ taken_by p s.site rest
+keyed-not p s x rest (Plain i) bare e = taken-not p s.site x rest (ap (refuses_as_full p s.site) bare ∙ e)
+keyed-not p s x rest (AskedUnder key a) bare e = at (s.keys key (is_red_ask a)) e
+  where
+    at : (o : Option Known) → cond (is_some o) false (is_full p.keep s.site) ≡ true
+        → taken_by p s.site (cond (is_some o) [] (drop 2 x ∷ []) ++ rest) ≡ taken_by p s.site rest
+    at None e = taken-not p s.site (drop 2 x) rest (ap (refuses_as_full p s.site) bare ∙ e)
+    at (Some k) e = refl
+keyed-not p s x rest (CameUnder key m) bare e = taken-not p s.site (drop 2 x) rest (ap (refuses_as_full p s.site) bare ∙ e)
+
+keyed-one : (p : Place) (s : KeyedSite) (x : List (List ℕ)) (rest : Records) (i : KeyedInput) → BareIs p.sites x i → fills p s i ≡ false
+    → taken_by p s.site (bare_records s i x ++ rest) ≡ bare_records s i x ++ taken_by p (keyed_step p s 1 i).0.site rest
+keyed-one p s x rest (Plain i) bare e =
+    taken-one p s.site x rest (ap (refuses_as_full p s.site) bare ∙ e) ∙ ap (λ y. x ∷ taken_by p (input_step p s.site 1 y).0 rest) bare
+keyed-one p s x rest (AskedUnder key a) bare e = at (s.keys key (is_red_ask a)) e
+  where
+    at : (o : Option Known) → cond (is_some o) false (is_full p.keep s.site) ≡ false
+        → taken_by p s.site (cond (is_some o) [] (drop 2 x ∷ []) ++ rest)
+        ≡ cond (is_some o) [] (drop 2 x ∷ []) ++ taken_by p (ask_step p s 1 key a o).0.site rest
+    at None e =
+        taken-one p s.site (drop 2 x) rest (ap (refuses_as_full p s.site) bare ∙ e)
+        ∙ ap (λ y. drop 2 x ∷ taken_by p (input_step p s.site 1 y).0 rest) bare
+    at (Some k) e = refl
+keyed-one p s x rest (CameUnder key m) bare e =
+    taken-one p s.site (drop 2 x) rest (ap (refuses_as_full p s.site) bare ∙ e) ∙ ap (λ y. drop 2 x ∷ taken_by p (input_step p s.site 1 y).0 rest) bare
+
 text-more : (xs ys : Records) (more : List ℕ) → rows_text (xs ++ ys) ++ more ≡ rows_text xs ++ (rows_text ys ++ more)
 text-more xs ys more = ap (λ t. t ++ more) (flat_map-append (row_text plain_writer) xs ys) ∙ append_assoc (rows_text xs) (rows_text ys) more
 
 module _ (p : Place) (keep : ℕ) (more : p.keep ≤ keep) where
   abbrev r : Place
-  r = keeping p keep
+  r = keeping_at_most p keep
 
-  abbrev SameTold : Replica → ℕ → Records → List ℕ → Type 0
-  SameTold s n records left = rows_text (answers p s n records) ++ left ≡ rows_text (answers r s n records)
+  keyed-same : (s : KeyedSite) (n : ℕ) (i : KeyedInput) → fills p s i ≡ false → keyed_step p s n i ≡ keyed_step r s n i
+  keyed-same s n (Plain i) e = ap (by_input s) (same-step p keep more s.site n i e)
+  keyed-same s n (AskedUnder key a) e = at (s.keys key (is_red_ask a)) e
+    where
+      at : (o : Option Known) → cond (is_some o) false (is_full p.keep s.site) ≡ false → ask_step p s n key a o ≡ ask_step r s n key a o
+      at None e = ap (by_ask s n key) (ask-same p keep more s.site a e)
+      at (Some k) e = refl
+  keyed-same s n (CameUnder key m) e = ap (by_arrival s n key m) (arrival-same p keep more s.site m e)
+
+  keyed-still : (s : KeyedSite) (i : KeyedInput) → fills p s i ≡ false → fills r s i ≡ false
+  keyed-still s (Plain i) e = still-takes p keep more s.site i e
+  keyed-still s (AskedUnder key a) e = at (s.keys key (is_red_ask a)) e
+    where
+      at : (o : Option Known) → cond (is_some o) false (is_full p.keep s.site) ≡ false → cond (is_some o) false (is_full keep s.site) ≡ false
+      at None e = roomier p.keep keep s.site more e
+      at (Some k) e = refl
+  keyed-still s (CameUnder key m) e = still-takes p keep more s.site (Came (packet.Msg m)) e
+
+  keyed-otherwise : (s : KeyedSite) (n : ℕ) (i : KeyedInput) → fills p s i ≡ true → fills r s i ≡ false → IsOtherwise n (keyed_step r s n i).1
+  keyed-otherwise s n (Plain i) e f = otherwise p keep s.site n i e f
+  keyed-otherwise s n (AskedUnder key a) e f = at (s.keys key (is_red_ask a)) e f
+    where
+      at : (o : Option Known) → cond (is_some o) false (is_full p.keep s.site) ≡ true → cond (is_some o) false (is_full keep s.site) ≡ false
+          → IsOtherwise n (ask_step r s n key a o).1
+      at None e f = under-otherwise n key (asked r s.site a).1 (ask-otherwise p keep s.site a f)
+      at (Some k) e f = absurd (cc e)
+  keyed-otherwise s n (CameUnder key m) e f = otherwise p keep s.site n (Came (packet.Msg m)) e f
+
+  abbrev SameTold : KeyedSite → ℕ → Records → List ℕ → Type 0
+  SameTold s n records left = rows_text (keyed_answers p s n records) ++ left ≡ rows_text (keyed_answers r s n records)
 
   -- the answers to a record are the same, and so are those to the others
-  told-on : (s : Replica) (n : ℕ) (x : List (List ℕ)) (records : Records) (left : List ℕ) → SameTold s n (x ∷ records) left
-      → input_step p s n (input_of p.sites x) ≡ input_step r s n (input_of p.sites x) → SameTold (input_step p s n (input_of p.sites x)).0 (n + 1) records left
-  unfolding answers
+  told-on : (s : KeyedSite) (n : ℕ) (x : List (List ℕ)) (records : Records) (left : List ℕ) → SameTold s n (x ∷ records) left
+      → keyed_step p s n (keyed_input p.sites x) ≡ keyed_step r s n (keyed_input p.sites x)
+      → SameTold (keyed_step p s n (keyed_input p.sites x)).0 (n + 1) records left
+  unfolding keyed_answers
   told-on s n x records left e same =
-      let step = input_step p s n (input_of p.sites x) in
-      let wider = input_step r s n (input_of p.sites x) in
-      append_cancel_left (rows_text step.1) (rows_text (answers p step.0 (n + 1) records) ++ left) (rows_text (answers r step.0 (n + 1) records))
-      (sym (text-more step.1 (answers p step.0 (n + 1) records) left) ∙ e ∙ flat_map-append (row_text plain_writer) wider.1 (answers r wider.0 (n + 1) records)
-      ∙ ap (λ (t : Replica × Records). rows_text t.1 ++ rows_text (answers r t.0 (n + 1) records)) (sym same))
+      let step = keyed_step p s n (keyed_input p.sites x) in
+      let wider = keyed_step r s n (keyed_input p.sites x) in
+      append_cancel_left (rows_text step.1) (rows_text (keyed_answers p step.0 (n + 1) records) ++ left) (rows_text (keyed_answers r step.0 (n + 1) records))
+      (sym (text-more step.1 (keyed_answers p step.0 (n + 1) records) left) ∙ e
+      ∙ flat_map-append (row_text plain_writer) wider.1 (keyed_answers r wider.0 (n + 1) records)
+      ∙ ap (λ (t : KeyedSite × Records). rows_text t.1 ++ rows_text (keyed_answers r t.0 (n + 1) records)) (sym same))
 
-  told-otherwise : (s : Replica) (n : ℕ) (x : List (List ℕ)) (records : Records) (left : List ℕ) → SameTold s n (x ∷ records) left
-      → refuses_as_full p s (input_of p.sites x) ≡ true → refuses_as_full r s (input_of p.sites x) ≡ false → ⊥
-  unfolding answers
+  told-otherwise : (s : KeyedSite) (n : ℕ) (x : List (List ℕ)) (records : Records) (left : List ℕ) → SameTold s n (x ∷ records) left
+      → fills p s (keyed_input p.sites x) ≡ true → fills r s (keyed_input p.sites x) ≡ false → ⊥
+  unfolding keyed_answers
   told-otherwise s n x records left e is not =
-      let step = input_step p s n (input_of p.sites x) in
-      let wider = input_step r s n (input_of p.sites x) in
-      let o = otherwise p keep s n (input_of p.sites x) is not in
-      let first : step.1 ≡ refused_row n Full ∷ [] = ap (λ (t : Replica × Records). t.1) (full-step p s n (input_of p.sites x) is) in
-      let a = sym (ap (λ t. rows_text (t ++ answers p step.0 (n + 1) records) ++ left) first) ∙ e
-      ∙ ap (λ t. rows_text (t ++ answers r wider.0 (n + 1) records)) o.3 in
+      let step = keyed_step p s n (keyed_input p.sites x) in
+      let wider = keyed_step r s n (keyed_input p.sites x) in
+      let o = keyed-otherwise s n (keyed_input p.sites x) is not in
+      let first : step.1 ≡ refused_row n Full ∷ [] = ap (λ (t : KeyedSite × Records). t.1) (keyed-full p s n (keyed_input p.sites x) is) in
+      let a = sym (ap (λ t. rows_text (t ++ keyed_answers p step.0 (n + 1) records) ++ left) first) ∙ e
+      ∙ ap (λ t. rows_text (t ++ keyed_answers r wider.0 (n + 1) records)) o.3 in
       o.4 (row-first (codes "reply") o.0 (decimal n ∷ codes "refused" ∷ decimal (code_of Full) ∷ refusal_name Full ∷ []) o.1
-      (rows_text (answers p step.0 (n + 1) records) ++ left) (rows_text (o.2 ++ answers r wider.0 (n + 1) records))
-      (sym (append_assoc (row_text plain_writer (refused_row n Full)) (rows_text (answers p step.0 (n + 1) records)) left) ∙ a))
+      (rows_text (keyed_answers p step.0 (n + 1) records) ++ left) (rows_text (o.2 ++ keyed_answers r wider.0 (n + 1) records))
+      (sym (append_assoc (row_text plain_writer (refused_row n Full)) (rows_text (keyed_answers p step.0 (n + 1) records)) left) ∙ a))
 
-  pub told-taken : (s : Replica) (n : ℕ) (records : Records) (left : List ℕ) → SameTold s n records left → taken_by p s records ≡ taken_by r s records
+  pub told-taken : (s : KeyedSite) (n : ℕ) (records : Records) (left : List ℕ) → SameTold s n records left
+      → taken_by p s.site (bare_of p s records) ≡ taken_by r s.site (bare_of r s records)
   told-taken s n [] left e = refl
   told-taken s n (x ∷ records) left e =
-      at (refuses_as_full p s (input_of p.sites x)) refl (refuses_as_full r s (input_of p.sites x)) refl
-      (λ t f. told-taken t (n + 1) records left f)
+      at (fills p s (keyed_input p.sites x)) refl (fills r s (keyed_input p.sites x)) refl (λ t f. told-taken t (n + 1) records left f)
     where
-      number : (q : Place) (a b : ℕ) → (input_step q s a (input_of p.sites x)).0 ≡ (input_step q s b (input_of p.sites x)).0
-      number q a b = number-none q s a b (input_of p.sites x)
+      i : KeyedInput
+      i = keyed_input p.sites x
 
-      at : (b : Bool) → refuses_as_full p s (input_of p.sites x) ≡ b → (c : Bool) → refuses_as_full r s (input_of p.sites x) ≡ c
-          → ((t : Replica) → SameTold t (n + 1) records left → taken_by p t records ≡ taken_by r t records)
-          → taken_by p s (x ∷ records) ≡ taken_by r s (x ∷ records)
+      -- what is taken behind a step
+      taken-at : Place → KeyedSite × Records → Records
+      taken-at q t = taken_by q t.0.site (bare_of q t.0 records)
+
+      at : (b : Bool) → fills p s i ≡ b → (c : Bool) → fills r s i ≡ c
+          → ((t : KeyedSite) → SameTold t (n + 1) records left → taken_by p t.site (bare_of p t records) ≡ taken_by r t.site (bare_of r t records))
+          → taken_by p s.site (bare_of p s (x ∷ records)) ≡ taken_by r s.site (bare_of r s (x ∷ records))
       at true is true also on =
-          let same = full-step p s n (input_of p.sites x) is ∙ sym (full-step r s n (input_of p.sites x) also) in
-          taken-not p s x records is
-          ∙ on s (subst (λ t. SameTold t (n + 1) records left) (full-stays p s n (input_of p.sites x) is) (told-on s n x records left e same))
-          ∙ sym (taken-not r s x records also)
+          let same = keyed-full p s n i is ∙ sym (keyed-full r s n i also) in
+          let here = subst (λ t. SameTold t (n + 1) records left) (ap (λ (t : KeyedSite × Records). t.0) (keyed-full p s n i is))
+          (told-on s n x records left e same) in
+          keyed-not p s x (bare_of p (keyed_step p s 1 i).0 records) i (bare_is p.sites x) is
+          ∙ ap (λ (t : KeyedSite × Records). taken_by p s.site (bare_of p t.0 records)) (keyed-full p s 1 i is) ∙ on s here
+          ∙ ap (λ (t : KeyedSite × Records). taken_by r s.site (bare_of r t.0 records)) (sym (keyed-full r s 1 i also))
+          ∙ sym (keyed-not r s x (bare_of r (keyed_step r s 1 i).0 records) i (bare_is p.sites x) also)
       at true is false not on = absurd (told-otherwise s n x records left e is not)
       at false is c also on =
-          let same = same-step p keep more s n (input_of p.sites x) is in
-          let t = (input_step p s n (input_of p.sites x)).0 in
-          taken-one p s x records is
-          ∙ ap (λ l. x ∷ l) (ap (λ t. taken_by p t records) (number p 1 n) ∙ on t (told-on s n x records left e same)
-          ∙ ap (λ t. taken_by r t records) (ap (λ (a : Replica × Records). a.0) same ∙ number r n 1))
-          ∙ sym (taken-one r s x records (still-takes p keep more s (input_of p.sites x) is))
+          let t = (keyed_step p s 1 i).0 in
+          let here = subst (λ t. SameTold t (n + 1) records left) (same_step p s n 1 i) (told-on s n x records left e (keyed-same s n i is)) in
+          keyed-one p s x (bare_of p t records) i (bare_is p.sites x) is
+          ∙ ap (λ l. bare_records s i x ++ l) (on t here ∙ ap (taken-at r) (keyed-same s 1 i is))
+          ∙ sym (keyed-one r s x (bare_of r (keyed_step r s 1 i).0 records) i (bare_is p.sites x) (keyed-still s i is))
 
 pub raised-take-the-same : RaisedKeepsTakeTheSame
-raised-take-the-same p keep kept more front = told-taken p keep more (opening_at p.site) 1 (records_in kept) front.0 front.1
+raised-take-the-same p keep kept more front = told-taken p keep more (keyed_opening p.site) 1 (records_in kept) front.0 front.1

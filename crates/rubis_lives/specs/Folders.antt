@@ -15,13 +15,14 @@ use Rattle.rubis_model.specs.Meaning.{IsHighestBid, closes, item_at, nick_at, so
 use Rattle.rubis_model.specs.Checks.{SameSet, Unique}
 use Rattle.rubis_model.specs.Laws.{Sent, tables_at, AreFirstReds}
 use Rattle.rubis_model.specs.Log.{cores}
-use Rattle.rubis_model.specs.Processes.{AreProcesses, site_after, CarriedWithRestarts, recorded}
+use Rattle.rubis_model.specs.Processes.{AreProcesses, CarriedWithRestarts, recorded}
 use Rattle.rubis_model.specs.Rebuild.{Concerns, InPlaceOf, inputs_to_rebuild, sent_by, sent_on_inputs}
 use Rattle.rubis_model.specs.Site.{Has, opening_at, rows_at}
 use Rattle.rubis_model.specs.System.{AreEvents, Event, World, run, site, start}
-use Rattle.rubis_lives.specs.Histories.{Step, answered_by, keeps, moments_in, most, site_keeping, stands, takes, AreShopLives, SiteLife}
-use Rattle.rubis_keep.specs.History.{Event as FileEvent, FileState, records_in, IsFrontOf}
-use Rattle.rubis_lives.specs.Shops.{text_of}
+use Rattle.rubis_lives.specs.Histories.{FolderStep, answered_by, keeps, moments_in, most_kept, site_keeping, is_placed_at, kept_takes, AreShopLives, SiteLife}
+use Rattle.rubis_keep.specs.History.{FolderEvent as FileEvent, FileState, records_in, IsFrontOf}
+use Rattle.rubis_keys.specs.Laws.{after_records}
+use Rattle.rubis_lives.specs.Shops.{bare_in, process_text}
 
 -- ---- what is promised
 
@@ -51,41 +52,43 @@ pub record AreOfSite (i : ℕ) (w : World) (all : List Message) (tokens : List T
   pub tokens_sent : (t : Token) → Has t tokens → Has (packet.Token t) w.sent
   pub tokens_whole : (t : Token) → Has (packet.Token t) w.sent → t.to ≡ i → Has t tokens
 
--- a new folder has kept records that are read as what a site is given to be rebuilt. What they lead to sends again what site i had sent, in its
--- order; and with it in the place of site i the sites are a run that has sent the same, and keeps the promises
+-- a new folder has kept records that are read, without their keys, as what a site is given to be rebuilt. What they lead to sends again what
+-- site i had sent, in its order; and with it in the place of site i the sites are a run that has sent the same, and keeps the promises
 pub record IsRebuiltFolder (sites i : ℕ) (events : List Event) (all : List Message) (tokens : List Token) (kept : List ℕ) : Type 0 where
-  pub again : sent_on_inputs (site_keeping sites i KEEP_MAX) (opening_at i) (map (input_of sites) (records_in kept)) ≡ sent_by i KEEP_MAX events (start sites)
+  pub again : sent_on_inputs (site_keeping sites i KEEP_MAX) (opening_at i) (map (input_of sites) (bare_in (site_keeping sites i KEEP_MAX) kept))
+      ≡ sent_by i KEEP_MAX events (start sites)
   pub later : List Event
   pub are_events : AreEvents sites later
   pub in_place : InPlaceOf i (run KEEP_MAX events (start sites)) (run KEEP_MAX later (start sites))
-  pub here : site (run KEEP_MAX later (start sites)) i ≡ site_after (site_keeping sites i KEEP_MAX) (opening_at i) 1 (records_in kept)
+  pub here : site (run KEEP_MAX later (start sites)) i ≡ (after_records (site_keeping sites i KEEP_MAX) (records_in kept)).site
   pub promises : KeepsItsPromises (run KEEP_MAX later (start sites))
 
 -- ---- folders with their lives
 
 -- the folders are those of a run of the model, which keeps its promises
-pub record AreFoldersOfARun (sites : ℕ) (keep : ℕ → ℕ) (first : ℕ → FileState) (steps : List Step) : Type 0 where
+pub record AreFoldersOfARun (sites : ℕ) (keep : ℕ → ℕ) (first : ℕ → FileState) (steps : List FolderStep) : Type 0 where
   pub events : List Event
   pub are_events : AreEvents sites events
   -- its sites have the states of the processes, and its packets are what they sent
-  pub processes : AreProcesses sites most (recorded (moments_in steps)) (run KEEP_MAX events (start sites))
+  pub processes : AreProcesses sites most_kept (recorded (moments_in steps)) (run KEEP_MAX events (start sites))
   -- what a folder has kept leads to the state of its site, once all of it is answered; and `out` is the beginning of the answers to it
-  pub kept : (i : ℕ) → i < sites → answered_by sites i (keep i) steps ≡ length (takes sites i (keep i) (first i) steps)
-      → site_after (site_keeping sites i (keeps i (keep i) steps)) (opening_at i) 1 (records_in (stands i (first i) steps).flushed)
+  pub kept : (i : ℕ) → i < sites → answered_by sites i (keep i) steps ≡ length (kept_takes sites i (keep i) (first i) steps)
+      → (after_records (site_keeping sites i (keeps i (keep i) steps)) (records_in (is_placed_at i (first i) steps).flushed)).site
       ≡ site (run KEEP_MAX events (start sites)) i
-  pub told : (i : ℕ) → IsFrontOf (stands i (first i) steps).out
-      (text_of (site_keeping sites i (keeps i (keep i) steps)) (records_in (stands i (first i) steps).flushed))
+  pub told : (i : ℕ) → IsFrontOf (is_placed_at i (first i) steps).out
+      (process_text (site_keeping sites i (keeps i (keep i) steps)) (records_in (is_placed_at i (first i) steps).flushed))
   pub promises : KeepsItsPromises (run KEEP_MAX events (start sites))
   -- a folder that is lost is rebuilt from what its site sent
   pub rebuilt : (i : ℕ) (all : List Message) (tokens : List Token) (bytes : List ℕ) → i < sites → AreOfSite i (run KEEP_MAX events (start sites)) all tokens
-      → map (input_of sites) (records_in bytes) ≡ inputs_to_rebuild (site_keeping sites i KEEP_MAX) tokens all (opening_at i) (sent_by i KEEP_MAX events (start sites))
+      → map (input_of sites) (bare_in (site_keeping sites i KEEP_MAX) bytes)
+      ≡ inputs_to_rebuild (site_keeping sites i KEEP_MAX) tokens all (opening_at i) (sent_by i KEEP_MAX events (start sites))
       → IsRebuiltFolder sites i events all tokens bytes
 
 -- Folders whose sites have such lives are a run that keeps the promises, if packets are carried unchanged: each packet that a process reads was
 -- sent before by one of them
 abbrev pub FoldersAreARun : Type 0
-FoldersAreARun = (sites : ℕ) (keep : ℕ → ℕ) (first : ℕ → FileState) (lives : ℕ → List SiteLife) (running : ℕ → List FileEvent) (steps : List Step)
+FoldersAreARun = (sites : ℕ) (keep : ℕ → ℕ) (first : ℕ → FileState) (lives : ℕ → List SiteLife) (running : ℕ → List FileEvent) (steps : List FolderStep)
     → 1 ≤ sites → sites ≤ COUNTED_MAX → ((i : ℕ) → keep i ≤ KEEP_MAX)
     → AreShopLives sites keep first lives running steps
-    → CarriedWithRestarts sites most (moments_in steps)
+    → CarriedWithRestarts sites most_kept (moments_in steps)
     → AreFoldersOfARun sites keep first steps

@@ -1,26 +1,31 @@
 -- What was kept is rewritten without what changed nothing: what a site answers afterwards, and what is left of its files at each moment.
 use Rattle.std.specs.Prelude.{◌≡◌, ◌≢◌, ◌+◌, ◌<◌, ◌++◌, ◌∷◌, ◌⊎◌, [], ℕ, Bool, List, MatchBool, cond, false, length, map, true}
 use Rattle.rubis_message.specs.Inputs.{input_of}
-use Rattle.rubis_model.specs.Processes.{site_after, IsShortened}
 use Rattle.rubis_model.specs.Rebuild.{sent_on_inputs}
-use Rattle.rubis_model.specs.Site.{answers, output_of, Place, opening_at}
+use Rattle.rubis_model.specs.Site.{Place, opening_at}
 use Rattle.rubis_keep.specs.History.{Files, FileState, IsSafe, IsFrontOf}
+use Rattle.rubis_keep.specs.Shortened.{LeavesOut}
+use Rattle.rubis_keys.specs.Keys.{keyed_answers, keyed_opening}
+use Rattle.rubis_keys.specs.Laws.{after_records, bare_of}
 use Rattle.rubis_lives.specs.Histories.{SurvivesIn}
 
 -- ---- what a site answers afterwards
 
--- a site that reads `short` in place of `full`, and then more records, comes to the state to which it would have come, and sends the packets
--- that it would have sent, in their order. It answers these records as it would have answered them, but for their numbers
+-- a site that reads `short` in place of `full`, and then more records, comes to the state to which it would have come, with what it knows under
+-- keys, and sends the packets that it would have sent, in their order. It answers these records as it would have answered them, but for their numbers
 pub record KeepsThePromise (p : Place) (short full more : List (List (List ℕ))) : Type 0 where
-  pub state : site_after p (opening_at p.site) 1 (short ++ more) ≡ site_after p (opening_at p.site) 1 (full ++ more)
-  pub sent : sent_on_inputs p (opening_at p.site) (map (input_of p.sites) (short ++ more))
-      ≡ sent_on_inputs p (opening_at p.site) (map (input_of p.sites) (full ++ more))
-  pub was : output_of p (full ++ more) ≡ output_of p full ++ answers p (site_after p (opening_at p.site) 1 full) (1 + length full) more
-  pub is : output_of p (short ++ more) ≡ output_of p short ++ answers p (site_after p (opening_at p.site) 1 full) (1 + length short) more
+  pub state : after_records p (short ++ more) ≡ after_records p (full ++ more)
+  pub sent : sent_on_inputs p (opening_at p.site) (map (input_of p.sites) (bare_of p (keyed_opening p.site) (short ++ more)))
+      ≡ sent_on_inputs p (opening_at p.site) (map (input_of p.sites) (bare_of p (keyed_opening p.site) (full ++ more)))
+  pub was : keyed_answers p (keyed_opening p.site) 1 (full ++ more)
+      ≡ keyed_answers p (keyed_opening p.site) 1 full ++ keyed_answers p (after_records p full) (1 + length full) more
+  pub is : keyed_answers p (keyed_opening p.site) 1 (short ++ more)
+      ≡ keyed_answers p (keyed_opening p.site) 1 short ++ keyed_answers p (after_records p full) (1 + length short) more
 
 -- a site that reads a shortened recording keeps the promise of the full one
 abbrev pub ShorteningKeepsThePromise : Type 0
-ShorteningKeepsThePromise = (p : Place) (short full more : List (List (List ℕ))) → IsShortened p (opening_at p.site) short full → KeepsThePromise p short full more
+ShorteningKeepsThePromise = (p : Place) (short full more : List (List (List ℕ))) → LeavesOut true p (keyed_opening p.site) short full
+    → KeepsThePromise p short full more
 
 -- ---- what is left of its files
 

@@ -1,18 +1,19 @@
 //! What holds of runs that are cut off and start again.
 
-ghost use Rattle.rubis_lives.specs.Crashes.{ComesBack, DifferencesAreFound, EditsAreFound, EndsLeft, LivesLeft, QuestionsLeaveNothing};
+ghost use Rattle.rubis_lives.specs.Crashes.{EndsAsUncut, DifferencesAreFound, EditsAreFound, EndsLeft, LivesLeft, QuestionsLeaveNothing};
 ghost use Rattle.rubis_lives.specs.Calls.{CallsAreLives, RaisedCallsRaise, ShortenedMayReplace};
 ghost use Rattle.rubis_lives.specs.Folders.{FoldersAreARun};
 ghost use Rattle.rubis_lives.specs.Histories.{HistoriesAreRuns, RaisedKeepsTakeTheSame, RefusedAsFullAreNoEvents, LivesAreHistories, ShopLivesAreRuns};
 ghost use Rattle.rubis_lives.specs.Histories.{AnsweredBeforeMore, BegunTooEarlyIsUnsafe, KeptTooEarlyIsUnsafe, KillsLeaveFiles, PowerFailuresLeaveFiles};
 ghost use Rattle.rubis_lives.specs.Histories.{RaisedKeepsTellTheSame, ShownTooEarlyIsUnsafe, SiteTextsExtend, ToldTooEarlyIsUnsafe};
+ghost use Rattle.rubis_lives.specs.Shops.{SendsWithoutKeys};
 ghost use Rattle.rubis_lives.specs.Rewriting.{NamedBeforeEmptied, NamedBeforeFlushed, RewritingLeavesFiles, ShorteningKeepsThePromise};
 
 /// A run that was cut off any number of times, and anywhere, comes to where one comes that was never cut off. However a run ends,
 /// it leaves what the next one can begin with. Questions leave nothing. Answers that aren't those to what was kept, and a line that no run kept, are found
 /// before a file is changed.
 pub fn crash_and_restart()
-    ensures comes_back { ComesBack }
+    ensures comes_back { EndsAsUncut }
     ensures ends { EndsLeft }
     ensures lives { LivesLeft }
     ensures differences { DifferencesAreFound }
@@ -53,6 +54,12 @@ pub fn shortening_keeps_the_promise()
 /// has kept is shortened, or it keeps more messages from then on: if packets are carried unchanged.
 pub fn histories_are_runs()
     ensures { HistoriesAreRuns }
+{}
+
+/// What a site sends under a key is, without it, what a process of the model sends: where packets are carried unchanged, those of the processes
+/// are, whose moments are the records of the sites without their keys.
+pub fn packets_are_sent_without_their_keys()
+    ensures { SendsWithoutKeys }
 {}
 
 /// What the calls of a site in a folder promise makes its lives: a call of `keep_site`, as far as it came, is one; what `shorten` writes may

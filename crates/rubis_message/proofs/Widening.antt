@@ -67,10 +67,10 @@ was_ok true x y s e = (refl, cc)
 was_ok false x y s e = absurd cc
 
 -- what the widening of its stamp gives
-pub widened_meets : (sites : ℕ) (m : Message) (y : Stamp) → IsMessage m → stamps.widening sites m.stamp ≡ Ok y →
+pub widened_meets : (sites : ℕ) (m : Message) (y : Stamp) → IsMessage m → stamps.widening_stamp sites m.stamp ≡ Ok y →
     IsMessage (record { stamp = y; shadow = m.shadow })
 widened_meets sites m y h e =
-    let w = was_ok (stamps.widens sites m.stamp) (stamps.widened sites m.stamp) y m.stamp e in
+    let w = was_ok (stamps.widens sites m.stamp) (stamps.widened_counts sites m.stamp) y m.stamp e in
     let t = and_parts (nat_le (sites_of m) sites) (nat_le sites COUNTED_MAX) w.0 in
     subst (λ (s : Stamp). IsMessage (record { stamp = s; shadow = m.shadow })) w.1
     (widened_is sites m h (leb-true (sites_of m) sites t.0) (leb-true sites COUNTED_MAX t.1))

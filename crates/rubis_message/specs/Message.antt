@@ -46,7 +46,7 @@ message_of red deps site shadow = record { stamp = stamp_of red deps site; shado
 
 -- with counts of 0 for the further sites, `sites` in all
 abbrev pub widened : ℕ → Message → Message
-widened sites m = record { stamp = stamps.widened sites m.stamp; shadow = m.shadow }
+widened sites m = record { stamp = stamps.widened_counts sites m.stamp; shadow = m.shadow }
 
 -- the message that counts `sites`, or else itself
 abbrev pub widening : ℕ → Message → Result Message Message

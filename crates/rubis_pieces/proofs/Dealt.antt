@@ -11,7 +11,7 @@ use Rattle.std.specs.Prelude.{MatchResult}
 use Rattle.std.specs.declared.result.Result.{Result}
 use Rattle.std.proofs.lemmas.List.{drop-map, take_min}
 use Rattle.std.specs.declared.alloc.AllocError.{AllocError}
-use Rattle.rubis_pieces.specs.Batches.{AreDealt, AreOfParts, AreShares, part_of}
+use Rattle.rubis_pieces.specs.Batches.{AreDealt, AreOfParts, AreShares, batch_part}
 
 -- ---- one part
 here : (shards k : ℕ) (ns : List Numbered) (n : Numbered) → home shards n.effect.key ≡ k
@@ -231,7 +231,7 @@ added_dealt n old more new all h shards ms ns first second = record {
 -- ---- the parts of a batch
 -- a part, as it is read
 pub part_cores : (batch : List Message) (from n : ℕ) → n ≡ min 1024 (length (slice_range batch from (length batch)))
-    → cores (take n (slice_range batch from (length batch))) ≡ part_of from (cores batch)
+    → cores (take n (slice_range batch from (length batch))) ≡ batch_part from (cores batch)
 part_cores batch from n is =
     let rest = drop from batch in
     let same : slice_range batch from (length batch) ≡ rest = take_all (length batch - from) rest (omega (arith, length-drop from batch)) in
@@ -249,7 +249,7 @@ each_made P (k ∷ ks) (p ∷ ps) h = (h.0, each_made P ks ps h.1)
 -- shares that were made of each part, from part k on, are those of the parts of the messages from its place on
 pub parts_from : (shards first at : ℕ) (batch : List Core) (k n : ℕ) (parts : List (Vec Share)) → (1 ≤ n → at ≡ first + k * 1024)
     → length batch ≤ (k + n) * 1024 → (k + n) * 1024 ≤ length batch + 1024
-    → AllZip (λ j (part : Vec Share). AreShares shards (first + j * 1024) (part_of (j * 1024) batch) part.items) (range_with_len k n) parts
+    → AllZip (λ j (part : Vec Share). AreShares shards (first + j * 1024) (batch_part (j * 1024) batch) part.items) (range_with_len k n) parts
     → AreOfParts shards at (drop (k * 1024) batch) parts
 parts_from shards first at batch k zero [] begins enough few h = drop_all (k * 1024) batch (omega (arith, enough))
 parts_from shards first at batch k zero (p ∷ ps) begins enough few h = absurd h

@@ -22,8 +22,8 @@ use Rattle.rubis_shard.specs.States.{IsHomeOf}
 use Rattle.rubis_shard.specs.Holdings.{AreInOrder}
 use Rattle.rubis_shard.proofs.Unions.{AreFrom, from_rest, from_first}
 use Rattle.rubis_pieces.specs.declared.pieces.Done.{Done}
-use Rattle.rubis_pieces.specs.Batches.{AllUnseen, StandsBelow, IsSoundTo, IsSeenTo, numbers_of, IsGatherable, IsInOrder, IsFault, IsFolded, Belong, AreFolded}
-use Rattle.rubis_pieces.specs.Batches.{rest_of, AreLeft, IsBegun, AreUnfinished, HoldsBut, TakesBatch, TakesWholeBatch, left_of, AreShares}
+use Rattle.rubis_pieces.specs.Batches.{AllUnseen, StandsBelow, IsSoundTo, IsSeenTo, numbers_of, IsGatherable, IsInOrder, IsFault, IsFolded, Belong, AreSharesFolded}
+use Rattle.rubis_pieces.specs.Batches.{rest_of, AreLeft, IsBegun, AreUnfinished, HoldsBut, TakesBatch, TakesWholeBatch, share_left, AreShares}
 use Rattle.rubis_pieces.specs.declared.gathers.FaultKind.{FaultKind}
 use Rattle.rubis_pieces.specs.declared.gathers.FaultKind.TheVariants.{Stranger, Twice, Missing}
 use Rattle.rubis_pieces.specs.declared.pieces.Left.{Left}
@@ -302,7 +302,7 @@ belongs first batch ss hs order dealt =
     ∙ (λ i. Some (record { number = z i; effects = parts_at (length ss) (z i) (numbered_from first batch) })))
 
 -- ---- what is folded, by place
-folded_length : (ss : List ShardState) (hs : List Share) (ds : List Done) → AreFolded ss hs ds → length ds ≡ length ss
+folded_length : (ss : List ShardState) (hs : List Share) (ds : List Done) → AreSharesFolded ss hs ds → length ds ≡ length ss
 folded_length [] [] [] f = refl
 folded_length [] [] (d ∷ ds) f = absurd f
 folded_length [] (h ∷ hs) ds f = absurd f
@@ -310,7 +310,7 @@ folded_length (s ∷ ss) [] ds f = absurd f
 folded_length (s ∷ ss) (h ∷ hs) [] f = absurd f
 folded_length (s ∷ ss) (h ∷ hs) (d ∷ ds) f = ap (λ n. ℕ.suc n) (folded_length ss hs ds f.1)
 
-folded_at : (ss : List ShardState) (hs : List Share) (ds : List Done) → AreFolded ss hs ds → (k : ℕ) (s : ShardState)
+folded_at : (ss : List ShardState) (hs : List Share) (ds : List Done) → AreSharesFolded ss hs ds → (k : ℕ) (s : ShardState)
     → slice_get ss k ≡ Some s
     → (h : Share) × (d : Done) × (slice_get hs k ≡ Some h) × (slice_get ds k ≡ Some d) × IsFolded s h d
 folded_at [] [] [] f k s e = absurd cc
@@ -325,7 +325,7 @@ folded_at (t ∷ ss) (h ∷ hs) (d ∷ ds) f (suc k) s e = folded_at ss hs ds f.
 number_of : (ds : List Done) (k : ℕ) (d : Done) → slice_get ds k ≡ Some d → slice_get (numbers_of ds) k ≡ Some d.shard.number
 number_of ds k d e = slice_get-map (λ (x : Done). x.shard.number) ds k ∙ ap (option_map (λ (x : Done). x.shard.number)) e
 
-pub folded_numbers : (ss : List ShardState) (hs : List Share) (ds : List Done) → AreInOrder ss → AreFolded ss hs ds
+pub folded_numbers : (ss : List ShardState) (hs : List Share) (ds : List Done) → AreInOrder ss → AreSharesFolded ss hs ds
     → (k : ℕ) → k < length ss → slice_get (numbers_of ds) k ≡ Some k
 folded_numbers ss hs [] order f k l = let m = folded_length ss hs [] f in absurd (omega (arith, l, m))
 folded_numbers [] hs (d ∷ ds) order f k l = absurd (omega (arith, l))
@@ -378,21 +378,21 @@ same_order shards list ds many each h = same_lists ds list (h.many ∙ sym many)
     let same : j ≡ k = sym second ∙ first in
     sym (get_or_from_slice_get list k x e (ap (slice_get list) (sym same) ∙ there)))
 
-pub order_folded : (ss : List ShardState) (hs : List Share) (list ds : List Done) → AreInOrder ss → AreFolded ss hs list
+pub order_folded : (ss : List ShardState) (hs : List Share) (list ds : List Done) → AreInOrder ss → AreSharesFolded ss hs list
     → IsInOrder (length ss) list ds → ds ≡ list
 order_folded ss hs list ds order f = same_order (length ss) list ds (folded_length ss hs list f) (folded_numbers ss hs list
     order f)
 
 -- ---- what is left
 rest_none : (n : ℕ) (ds : List Done) → ((j : ℕ) (x : Done) → slice_get ds j ≡ Some x → n < x.share.number)
-    → rest_of (flat_map left_of ds) n ≡ []
+    → rest_of (flat_map share_left ds) n ≡ []
 rest_none n [] h = refl
 rest_none n (d ∷ ds) h = elim (nat_lt d.done (length d.share.effects)) as (λ b. rest_of (cond b (record {
   share = d.share;
   done
       = d.done;
-} ∷ []) [] ++ flat_map left_of ds) n ≡ []) [
-  | true ↦ ap (λ b. cond b (drop d.done d.share.effects) (rest_of (flat_map left_of ds) n)) (not_equal d.share.number n (λ e.
+} ∷ []) [] ++ flat_map share_left ds) n ≡ []) [
+  | true ↦ ap (λ b. cond b (drop d.done d.share.effects) (rest_of (flat_map share_left ds) n)) (not_equal d.share.number n (λ e.
       let l = h 0 d refl in omega (arith, e, l)))
       ∙ rest_none n ds (λ j x e. h (suc j) x e)
   | false ↦ rest_none n ds (λ j x e. h (suc j) x e)
@@ -406,13 +406,13 @@ numbered_rest n d ds h j x e = let w = h (suc j) x e in omega arith
 
 rest_flat : (n : ℕ) (ds : List Done) → AreNumbered n ds → (j : ℕ) (x : Done) → slice_get ds j ≡ Some x
     → x.done ≤ length x.share.effects
-    → rest_of (flat_map left_of ds) (n + j) ≡ drop x.done x.share.effects
+    → rest_of (flat_map share_left ds) (n + j) ≡ drop x.done x.share.effects
 rest_flat n [] h j x e l = absurd cc
 rest_flat n (d ∷ ds) h zero x e l = elim (nat_lt d.done (length d.share.effects)) as (λ b. nat_lt d.done (length
     d.share.effects) ≡ b
-    → rest_of (cond b (record { share = d.share; done = d.done } ∷ []) [] ++ flat_map left_of ds) (n + 0) ≡ drop x.done
+    → rest_of (cond b (record { share = d.share; done = d.done } ∷ []) [] ++ flat_map share_left ds) (n + 0) ≡ drop x.done
     x.share.effects) [
-      | true ↦ λ q. ap (λ b. cond b (drop d.done d.share.effects) (rest_of (flat_map left_of ds) (n + 0))) ((Decides-eqb _ _).1
+      | true ↦ λ q. ap (λ b. cond b (drop d.done d.share.effects) (rest_of (flat_map share_left ds) (n + 0))) ((Decides-eqb _ _).1
           (h 0 d refl))
           ∙ (let is : d ≡ x = cc in ap (λ (y : Done). drop y.done y.share.effects) is)
       | false ↦ λ q.
@@ -424,11 +424,11 @@ rest_flat n (d ∷ ds) h zero x e l = elim (nat_lt d.done (length d.share.effect
 rest_flat n (d ∷ ds) h (suc j) x e l =
     let z : n + suc j ≡ (n + 1) + j = omega arith in
     elim (nat_lt d.done (length d.share.effects)) as (λ b. rest_of (cond b (record { share = d.share; done = d.done } ∷ []) []
-    ++ flat_map left_of ds) (n + suc j) ≡ drop x.done x.share.effects) [
-      | true ↦ ap (λ b. cond b (drop d.done d.share.effects) (rest_of (flat_map left_of ds) (n + suc j))) (not_equal
+    ++ flat_map share_left ds) (n + suc j) ≡ drop x.done x.share.effects) [
+      | true ↦ ap (λ b. cond b (drop d.done d.share.effects) (rest_of (flat_map share_left ds) (n + suc j))) (not_equal
           d.share.number (n + suc j) (λ q. let w = h 0 d refl in omega (arith, q, w)))
-          ∙ ap (rest_of (flat_map left_of ds)) z ∙ rest_flat (n + 1) ds (numbered_rest n d ds h) j x e l
-      | false ↦ ap (rest_of (flat_map left_of ds)) z ∙ rest_flat (n + 1) ds (numbered_rest n d ds h) j x e l
+          ∙ ap (rest_of (flat_map share_left ds)) z ∙ rest_flat (n + 1) ds (numbered_rest n d ds h) j x e l
+      | false ↦ ap (rest_of (flat_map share_left ds)) z ∙ rest_flat (n + 1) ds (numbered_rest n d ds h) j x e l
     ]
 
 left_lower : (n shards first : ℕ) (batch : List Core) (ls : List Left) → AreLeft (n + 1) shards first batch ls
@@ -439,27 +439,27 @@ left_lower n shards first batch (l ∷ ls) h = ((let w = h.0 in omega (arith, w)
 left_flat : (n shards first : ℕ) (batch : List Core) (ds : List Done) → AreNumbered n ds
     → ((j : ℕ) (x : Done) → slice_get ds j ≡ Some x → (x.share.number < shards)
     × (x.share.effects ≡ share shards first batch x.share.number))
-    → AreLeft n shards first batch (flat_map left_of ds)
+    → AreLeft n shards first batch (flat_map share_left ds)
 left_flat n shards first batch [] h g = tt
 left_flat n shards first batch (d ∷ ds) h g =
     let here : d.share.number ≡ n = let w = h 0 d refl in omega arith in
     let more = left_flat (n + 1) shards first batch ds (numbered_rest n d ds h) (λ j x e. g (suc j) x e) in
     elim (nat_lt d.done (length d.share.effects)) as (λ b. nat_lt d.done (length d.share.effects) ≡ b
-    → AreLeft n shards first batch (cond b (record { share = d.share; done = d.done } ∷ []) [] ++ flat_map left_of ds)) [
+    → AreLeft n shards first batch (cond b (record { share = d.share; done = d.done } ∷ []) [] ++ flat_map share_left ds)) [
       | true ↦ λ q. (
         omega (arith, here),
         (g 0 d refl).0,
         (g 0 d refl).1,
         grind (arith, nat_tests),
         subst (λ m. AreLeft (m + 1)
-            shards first batch (flat_map left_of ds)) (sym here) more,
+            shards first batch (flat_map share_left ds)) (sym here) more,
       )
-      | false ↦ λ q. left_lower n shards first batch (flat_map left_of ds) more
+      | false ↦ λ q. left_lower n shards first batch (flat_map share_left ds) more
     ] refl
 
 -- ---- a batch that is begun
 module _ (first : ℕ) (batch : List Core) (ss : List ShardState) (hs : List Share) (ds : List Done) (dealt : AreShares (length
-    ss) first batch hs) (f : AreFolded ss hs ds) where
+    ss) first batch hs) (f : AreSharesFolded ss hs ds) where
   share_at : (k : ℕ) (h : Share) → slice_get hs k ≡ Some h → h ≡ record { number = k; effects = share (length ss) first batch k }
   share_at k h e =
       let l = slice_get_within hs k h e in
@@ -479,7 +479,7 @@ module _ (first : ℕ) (batch : List Core) (ss : List ShardState) (hs : List Sha
   numbered : AreNumbered 0 ds
   numbered j x e = let w = ap (λ (h : Share). h.number) (share_of j x e).1 in omega (arith, w)
 
-  pub begun : (new : List ShardState) (left : List Left) → new ≡ map (λ (d : Done). d.shard) ds → left ≡ flat_map left_of ds
+  pub begun : (new : List ShardState) (left : List Left) → new ≡ map (λ (d : Done). d.shard) ds → left ≡ flat_map share_left ds
       → IsBegun first batch ss new left
   begun new left new_is left_is = record {
     many = ap length new_is ∙ length-map ds (λ (d : Done). d.shard) ∙ folded_length ss hs ds f;

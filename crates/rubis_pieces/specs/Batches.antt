@@ -66,8 +66,8 @@ pub record HasRoomForEach (seen : List Bool) (shards : List ShardState) (shard_r
 -- ---- shards by number, and what is left of their shares
 
 -- the share, where it isn't folded whole
-abbrev pub left_of : Done → List Left
-left_of d = cond (nat_lt d.done (length d.share.effects)) (record { share = d.share; done = d.done } ∷ []) []
+abbrev pub share_left : Done → List Left
+share_left d = cond (nat_lt d.done (length d.share.effects)) (record { share = d.share; done = d.done } ∷ []) []
 
 -- the same list in order of number, each number once
 pub record IsInOrder (shards : ℕ) (list ds : List Done) : Type 0 where
@@ -78,7 +78,7 @@ pub record IsInOrder (shards : ℕ) (list ds : List Done) : Type 0 where
 -- the shards of the list in order of number, and those of their shares that aren't folded whole
 abbrev pub IsGathered : ℕ → List Done → Gathered → Type 0
 IsGathered shards list g =
-    (ds : List Done) × IsInOrder shards list ds × (g.shards ≡ map (λ (d : Done). d.shard) ds) × (g.left ≡ flat_map left_of ds)
+    (ds : List Done) × IsInOrder shards list ds × (g.shards ≡ map (λ (d : Done). d.shard) ds) × (g.left ≡ flat_map share_left ds)
 
 -- the shards of the list in order of number, with how much is done of each
 abbrev pub IsCounted : ℕ → List Done → CountedShards → Type 0
@@ -97,8 +97,8 @@ abbrev pub AreShares : ℕ → ℕ → List Core → List Share → Type 0
 AreShares shards first batch shares = AreDealt shards (numbered_from first batch) shares
 
 -- a part of a batch is of 1,024 messages, or of those that are left
-abbrev pub part_of : {X : Type 0} → ℕ → List X → List X
-part_of from batch = take 1024 (drop from batch)
+abbrev pub batch_part : {X : Type 0} → ℕ → List X → List X
+batch_part from batch = take 1024 (drop from batch)
 
 -- the shares of each part of a batch, in order
 abbrev pub AreOfParts : ℕ → ℕ → List Core → List (Vec Share) → Type 0
@@ -121,15 +121,15 @@ Belong (s ∷ ss) (h ∷ hs) = IsShareOf s h × Belong ss hs
 Belong ss hs = ⊥
 
 -- of each share a beginning is folded on its shard
-abbrev pub AreFolded : List ShardState → List Share → List Done → Type 0
-AreFolded [] [] [] = ⊤
-AreFolded (s ∷ ss) (h ∷ hs) (d ∷ ds) = IsFolded s h d × AreFolded ss hs ds
-AreFolded ss hs ds = ⊥
+abbrev pub AreSharesFolded : List ShardState → List Share → List Done → Type 0
+AreSharesFolded [] [] [] = ⊤
+AreSharesFolded (s ∷ ss) (h ∷ hs) (d ∷ ds) = IsFolded s h d × AreSharesFolded ss hs ds
+AreSharesFolded ss hs ds = ⊥
 
 -- the shards afterwards, and what is left of their shares
 abbrev pub AreFoldedTo : List ShardState → List Share → Gathered → Type 0
-AreFoldedTo ss hs g = (ds : List Done) × AreFolded ss hs ds × (g.shards ≡ map (λ (d : Done). d.shard) ds)
-    × (g.left ≡ flat_map left_of ds)
+AreFoldedTo ss hs g = (ds : List Done) × AreSharesFolded ss hs ds × (g.shards ≡ map (λ (d : Done). d.shard) ds)
+    × (g.left ≡ flat_map share_left ds)
 
 -- the parts that are still to be folded on shard k
 abbrev pub rest_of : List Left → ℕ → List Numbered

@@ -5,7 +5,7 @@ ghost use Rattle.rubis_schema.specs.declared.limits.TheConstants.{KEEP_MAX};
 ghost use Rattle.rubis_shadow.specs.declared.numbered.Numbered.{Numbered};
 ghost use Rattle.rubis_model.specs.Log.{cores};
 ghost use Rattle.rubis_shard.specs.Holdings.{numbered_of};
-ghost use Rattle.rubis_pieces.specs.Batches.{AreDealt, AreOfParts, AreShares, part_of};
+ghost use Rattle.rubis_pieces.specs.Batches.{AreDealt, AreOfParts, AreShares, batch_part};
 
 use rayon::prelude::*;
 use rubis_message::Message;
@@ -111,7 +111,7 @@ fn split_part(
     requires shards { 0 < shards }
     requires entries { first + length batch.now ≤ KEEP_MAX + 1 }
     requires place { at * 1024 ≤ length batch.now }
-    ensures { IfOk result (λ shares. AreShares shards (first + at * 1024) (part_of (at * 1024) (cores batch.now)) shares.items) }
+    ensures { IfOk result (λ shares. AreShares shards (first + at * 1024) (batch_part (at * 1024) (cores batch.now)) shares.items) }
 {
     let from = at * PART;
     let rest = &batch[from..];
@@ -141,7 +141,7 @@ fn split_parts<R: Threads + Sync>(
         .map(
             |at: usize| -> Result<Vec<Share>, AllocError>
                 requires { (0 < shards) × (first + length batch.now ≤ KEEP_MAX + 1) × (at * 1024 ≤ length batch.now) }
-                ensures { IfOk result (λ shares. AreShares shards (first + at * 1024) (part_of (at * 1024) (cores batch.entry.now)) shares.items) }
+                ensures { IfOk result (λ shares. AreShares shards (first + at * 1024) (batch_part (at * 1024) (cores batch.entry.now)) shares.items) }
             { split_part(alloc, batch, first, shards, at) },
         )
         .collect(rt, alloc)?;

@@ -15,7 +15,7 @@ use Rattle.std.proofs.lemmas.Option.{slice_get_within, slice_get_read}
 use Rattle.rubis_shadow.specs.declared.numbered.Numbered.{Numbered}
 use Rattle.rubis_shard.specs.States.{with_parts}
 use Rattle.rubis_shard.proofs.Folds.{with_append}
-use Rattle.rubis_pool_core.specs.Machine.{begun, next_part, one_part_more, IsWhole, or_one_part_more, PoolState, PoolOf, in_state, taken, applied_to, applied}
+use Rattle.rubis_pool_core.specs.Machine.{begun, next_part, one_part_more, IsShareDone, or_one_part_more, PoolState, PoolOf, in_state, taken, applied_to, applied}
 use Rattle.rubis_pool_core.specs.Machine.{or_same, with_posted, posted_all, opening_pool, back_of, backed, after_event, run_from, run_of}
 use Rattle.std.proofs.lemmas.List.{append-nil}
 use Rattle.rubis_pool_core.specs.declared.event.Event.{Event}
@@ -134,7 +134,7 @@ next_worked p d n is h =
           ∙ ap (with_parts p.shard) both;
     }
 
-pub none_next : (p : Piece) (d : Done) → next_part d ≡ None → IsWorked p d → IsWhole d
+pub none_next : (p : Piece) (d : Done) → next_part d ≡ None → IsWorked p d → IsShareDone d
 none_next p d is h =
     let long = past d.share.effects d.done is in
     let same = ap (λ share. length share.effects) h.share in
@@ -233,7 +233,7 @@ opens workers =
       once = subst (λ l. IsPermutation [] (l ++ [])) (sym (none_present workers)) (IsPermutation-refl []);
       held_worked = none_worked workers;
       returned_worked = tt;
-      returned_whole = All-nil IsWhole;
+      returned_whole = All-nil IsShareDone;
     }
 
 -- what is put after the first of two lists is put after both
@@ -305,8 +305,8 @@ returns pieces None d s w is at a =
           (IsPermutation-append_comm (was.piece ∷ []) (left ++ a.returned)))));
       held_worked = zip_set a.held s.held w None None a.held_worked tt;
       returned_worked = zip_push a.returned s.returned was.piece d a.returned_worked was.worked;
-      returned_whole = All-append IsWhole s.returned (d ∷ []) a.returned_whole
-          (All-cons IsWhole d [] (none_next was.piece d is was.worked) (All-nil IsWhole));
+      returned_whole = All-append IsShareDone s.returned (d ∷ []) a.returned_whole
+          (All-cons IsShareDone d [] (none_next was.piece d is was.worked) (All-nil IsShareDone));
     }
 
 applies_at : (pieces : List Piece) (slot : Option (Option Done)) (s : PoolState) (w : ℕ) → slice_get s.held w ≡ slot

@@ -7,12 +7,12 @@ use Rattle.std.proofs.lemmas.List.{length-map, take_all}
 use Rattle.std.proofs.lemmas.List.Sorted.{IsPermutation-map, All-permutation}
 use Rattle.std.proofs.lemmas.Option.{slice_get-map, slice_get_cases, get_or_from_slice_get}
 use Rattle.rubis_shard.specs.States.{ShardState, with_parts}
-use Rattle.rubis_pieces.specs.Batches.{numbers_of, IsFault, IsWorked, IsInOrder, IsGathered, left_of, pieces_of}
+use Rattle.rubis_pieces.specs.Batches.{numbers_of, IsFault, IsWorked, IsInOrder, IsGathered, share_left, pieces_of}
 use Rattle.rubis_pieces.specs.declared.gathers.FaultKind.{FaultKind}
 use Rattle.rubis_pieces.proofs.Folded.{no_fault_if_moved}
 use Rattle.rubis_pieces.specs.declared.pieces.Piece.{Piece}
 use Rattle.rubis_pieces.specs.declared.pieces.Done.{Done}
-use Rattle.rubis_pool_core.specs.Machine.{PoolState, IsWhole, run_of}
+use Rattle.rubis_pool_core.specs.Machine.{PoolState, IsShareDone, run_of}
 use Rattle.rubis_pool_core.specs.Batches.{Accounted, present, IsWorkedSlot, FoldsTheBatch, IsAtEnd, HoldsTheBatch, EveryScheduleFoldsTheBatch}
 use Rattle.std.proofs.lemmas.Bool.{le-ltb}
 use Rattle.std.proofs.lemmas.List.Elements.{All-nil, All-cons}
@@ -65,12 +65,12 @@ all_returned pieces s a end =
     (λ i. (end.none_posted i, none i)) a.once
 
 -- what is whole leaves nothing
-none_left : (ds : List Done) → All IsWhole ds → flat_map left_of ds ≡ []
+none_left : (ds : List Done) → All IsShareDone ds → flat_map share_left ds ≡ []
 none_left [] h = refl
 none_left (d ∷ ds) h =
     let whole : d.done ≡ length d.share.effects = h 0 d (omega arith) in
     let not_less : nat_lt d.done (length d.share.effects) ≡ false = le-ltb d.done (length d.share.effects) (omega arith) in
-    ap (λ b. cond b (record { share = d.share; done = d.done } ∷ []) [] ++ flat_map left_of ds) not_less
+    ap (λ b. cond b (record { share = d.share; done = d.done } ∷ []) [] ++ flat_map share_left ds) not_less
     ∙ none_left ds (λ k e less. h (suc k) e (omega arith))
 
 module _ (shards : ℕ) (log batch : List Core) where
@@ -87,7 +87,7 @@ module _ (shards : ℕ) (log batch : List Core) where
   abbrev IsFolded : Done → Type 0
   IsFolded d = (k : ℕ) × (k < shards) × (d.shard ≡ shard_of_log shards (log ++ batch) k)
 
-  folded : (p : Piece) (d : Done) → IsOfBatch p → IsWorked p d → IsWhole d → IsFolded d
+  folded : (p : Piece) (d : Done) → IsOfBatch p → IsWorked p d → IsShareDone d → IsFolded d
   folded p d (k, inside, is) worked whole =
       let ns = share shards (1 + length log) batch k in
       let same : d.share.effects ≡ ns = ap (λ s. s.effects) worked.share ∙ ap (λ (q : Piece). q.share.effects) is in
@@ -99,7 +99,7 @@ module _ (shards : ℕ) (log batch : List Core) where
             ∙ ap (with_parts (shard_of_log shards log k)) all ∙ shard_with_share shards log batch k,
       )
 
-  all_folded : (ps : List Piece) (ds : List Done) → AllZip IsWorked ps ds → All IsOfBatch ps → All IsWhole ds → All IsFolded ds
+  all_folded : (ps : List Piece) (ds : List Done) → AllZip IsWorked ps ds → All IsOfBatch ps → All IsShareDone ds → All IsFolded ds
   all_folded [] [] h of whole = All-nil IsFolded
   all_folded [] (d ∷ ds) h of whole = absurd h
   all_folded (p ∷ ps) [] h of whole = absurd h
@@ -149,7 +149,7 @@ module _ (shards : ℕ) (log batch : List Core) where
           holds = log_holds;
           tables = λ some. union_of_log shards (log ++ batch) g.shards some log_holds;
           misfits = λ some ms moved sorted. misfits_are shards (log ++ batch) g.shards ms some log_holds moved sorted;
-          none_left = left_is ∙ none_left ds (All-permutation IsWhole s.returned ds order.moved a.returned_whole);
+          none_left = left_is ∙ none_left ds (All-permutation IsShareDone s.returned ds order.moved a.returned_whole);
         }
 
 -- ---- the pieces of shards with their shares

@@ -7,7 +7,7 @@ use Rattle.rubis_pieces.specs.declared.pieces.Done.{Done}
 use Rattle.rubis_pool_core.specs.declared.event.Event.TheVariants.{Take, Apply, Back}
 use Rattle.rubis_pool_core.specs.Machine.{begun, next_part, one_part_more, PoolState, opening_pool, with_posted, taken, applied_to, applied, back_of, backed}
 use Rattle.rubis_pool_core.specs.Machine.{stepped, or_same, posted_all, run_from, run_of}
-use Rattle.rubis_pool_core.specs.Teams.{BoardStep, move_of, Action, steps_of, moves_of, Hands, empty_hands, InTurn, after_action, after_actions, CanDo}
+use Rattle.rubis_pool_core.specs.Teams.{BoardStep, move_of, Action, board_steps, moves_of_team, Hands, empty_hands, InTurn, after_action, after_actions, CanDo}
 use Rattle.rubis_pool_core.specs.Teams.{GoesAlong, EveryRunIsASchedule, AreTakenBy, EveryListOfStepsIsScheduled, events_of, posts, HasNoPost, PostsFirstAreARun}
 use Rattle.rubis_pool_core.specs.Teams.{EveryRunOfATeamIsASchedule, EveryTeamFoldsTheBatch, EveryTeamIsScheduled, FollowingFoldsTheShare, in_batch}
 use Rattle.rubis_pool_core.specs.Teams.{step_in_batch, steps_in_batch}
@@ -37,7 +37,7 @@ possible_more s a actions can rest (suc n) x at = rest n x at
 posted_moved : (s : PoolState) (b : BoardStep) (actions : List Action)
     → Moves s.posted (move_of b) (after_action s (OnBoard b)).posted
     → GoesAlong (after_action s (OnBoard b)) actions
-    → (n : ℕ) → MovesAll s.posted (moves_of (take n (OnBoard b ∷ actions))) (after_actions s (take n (OnBoard b ∷ actions))).posted
+    → (n : ℕ) → MovesAll s.posted (moves_of_team (take n (OnBoard b ∷ actions))) (after_actions s (take n (OnBoard b ∷ actions))).posted
 posted_moved s b actions moved rest zero = refl
 posted_moved s b actions moved rest (suc n) = ((after_action s (OnBoard b)).posted, moved, rest.posted n)
 
@@ -52,18 +52,18 @@ on_board s b actions can moved rest =
 
 posted_kept_by_fold : (s : PoolState) (w : ℕ) (actions : List Action) → (after_action s (Folds w)).posted ≡ s.posted
     → GoesAlong (after_action s (Folds w)) actions
-    → (n : ℕ) → MovesAll s.posted (moves_of (take n (Folds w ∷ actions))) (after_actions s (take n (Folds w ∷ actions))).posted
+    → (n : ℕ) → MovesAll s.posted (moves_of_team (take n (Folds w ∷ actions))) (after_actions s (take n (Folds w ∷ actions))).posted
 posted_kept_by_fold s w actions same rest zero = refl
 posted_kept_by_fold s w actions same rest (suc n) =
-    subst (λ l. MovesAll l (moves_of (take n actions)) (after_actions (after_action s (Folds w)) (take n actions)).posted) same
+    subst (λ l. MovesAll l (moves_of_team (take n actions)) (after_actions (after_action s (Folds w)) (take n actions)).posted) same
     (rest.posted n)
 
 posted_kept_by_back : (s : PoolState) (w : ℕ) (actions : List Action) → (after_action s (GivesBack w)).posted ≡ s.posted
     → GoesAlong (after_action s (GivesBack w)) actions
-    → (n : ℕ) → MovesAll s.posted (moves_of (take n (GivesBack w ∷ actions))) (after_actions s (take n (GivesBack w ∷ actions))).posted
+    → (n : ℕ) → MovesAll s.posted (moves_of_team (take n (GivesBack w ∷ actions))) (after_actions s (take n (GivesBack w ∷ actions))).posted
 posted_kept_by_back s w actions same rest zero = refl
 posted_kept_by_back s w actions same rest (suc n) =
-    subst (λ l. MovesAll l (moves_of (take n actions)) (after_actions (after_action s (GivesBack w)) (take n actions)).posted) same
+    subst (λ l. MovesAll l (moves_of_team (take n actions)) (after_actions (after_action s (GivesBack w)) (take n actions)).posted) same
     (rest.posted n)
 
 -- ---- each action of a worker in its turn is possible
@@ -97,7 +97,7 @@ back_is s t w actions is kept rest =
       posted = posted_kept_by_back s w actions (ap (λ (u : PoolState). u.posted) (sym same) ∙ kept) along;
     }
 
-none_posted : (s : PoolState) (n : ℕ) → MovesAll s.posted (moves_of (take n [])) (after_actions s (take n [])).posted
+none_posted : (s : PoolState) (n : ℕ) → MovesAll s.posted (moves_of_team (take n [])) (after_actions s (take n [])).posted
 none_posted s zero = refl
 none_posted s (suc n) = refl
 
@@ -107,11 +107,11 @@ with_slot s posted w slot returned = record { posted = posted; held = slice_set 
 
 goes : (actions : List Action) (s : PoolState) (hands : Hands) (board : List Piece) → AreHandsOf hands s.held
     → InTurn hands actions
-    → MovesAll s.posted (moves_of actions) board → GoesAlong s actions
+    → MovesAll s.posted (moves_of_team actions) board → GoesAlong s actions
 goes [] s hands board are turn moves = record { possible = λ n a at. absurd cc; posted = none_posted s }
 goes (OnBoard (Posts p) ∷ actions) s hands board are turn moves =
     on_board s (Posts p) actions tt refl
-    (goes actions (with_posted s p) hands board are turn (subst (λ l. MovesAll l (moves_of actions) board) moves.1 moves.2))
+    (goes actions (with_posted s p) hands board are turn (subst (λ l. MovesAll l (moves_of_team actions) board) moves.1 moves.2))
 goes (OnBoard (Takes w p) ∷ actions) s hands board are turn moves =
     let free : slice_get s.held w ≡ Some None = free_at hands s.held w are turn.0 in
     let t : PoolState = with_slot s moves.0 w (Some (begun p)) s.returned in
@@ -157,11 +157,11 @@ at_once [] = []
 at_once (Posts p ∷ steps) = OnBoard (Posts p) ∷ at_once steps
 at_once (Takes w p ∷ steps) = OnBoard (Takes w p) ∷ work_then w (length p.share.effects) (at_once steps)
 
-work_has_no_step : (w parts : ℕ) (actions : List Action) → steps_of (work_then w parts actions) ≡ steps_of actions
+work_has_no_step : (w parts : ℕ) (actions : List Action) → board_steps (work_then w parts actions) ≡ board_steps actions
 work_has_no_step w zero actions = refl
 work_has_no_step w (suc parts) actions = work_has_no_step w parts actions
 
-same_steps : (steps : List BoardStep) → steps_of (at_once steps) ≡ steps
+same_steps : (steps : List BoardStep) → board_steps (at_once steps) ≡ steps
 same_steps [] = refl
 same_steps (Posts p ∷ steps) = ap (λ l. Posts p ∷ l) (same_steps steps)
 same_steps (Takes w p ∷ steps) =
@@ -250,10 +250,10 @@ module _ (a b c : ShardState) (m n o : Numbered) where
       OnBoard (Posts first) ∷ OnBoard (Posts second) ∷ OnBoard (Takes 0 first) ∷ OnBoard (Takes 1 second) ∷ Folds 0 ∷ Folds 1
       ∷ GivesBack 1 ∷ OnBoard (Posts third) ∷ OnBoard (Takes 1 third) ∷ Folds 0 ∷ GivesBack 0 ∷ GivesBack 1 ∷ []
 
-  these_steps : steps_of actions ≡ steps
+  these_steps : board_steps actions ≡ steps
   these_steps = refl
 
-  on_the_board : MovesAll [] (moves_of actions) []
+  on_the_board : MovesAll [] (moves_of_team actions) []
   on_the_board = (
     first ∷ [],
     refl,

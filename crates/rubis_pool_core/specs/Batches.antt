@@ -6,7 +6,7 @@ use Rattle.rubis_pieces.specs.declared.pieces.Piece.{Piece}
 use Rattle.rubis_pieces.specs.declared.pieces.Done.{Done}
 use Rattle.rubis_pool_core.specs.declared.event.Event.{Event}
 use Rattle.rubis_pieces.specs.Batches.{IsWorked, AreShares, IsFault, numbers_of, IsGathered, pieces_of}
-use Rattle.rubis_pool_core.specs.Machine.{IsWhole, PoolState, opening_pool, with_posted, after_event, run_of}
+use Rattle.rubis_pool_core.specs.Machine.{IsShareDone, PoolState, opening_pool, with_posted, after_event, run_of}
 use Rattle.rubis_shadow.specs.declared.numbered.Misfit.{Misfit}
 use Rattle.rubis_model.specs.Log.{Core, fold_of}
 use Rattle.rubis_shard.specs.States.{ShardState}
@@ -38,7 +38,7 @@ pub record Accounted (pieces : List Piece) (s : PoolState) : Type 0 where
   pub once : IsPermutation pieces (s.posted ++ (present held ++ returned))
   pub held_worked : AllZip IsWorkedSlot held s.held
   pub returned_worked : AllZip IsWorked returned s.returned
-  pub returned_whole : All IsWhole s.returned
+  pub returned_whole : All IsShareDone s.returned
 
 -- whatever the schedule
 abbrev pub EveryScheduleAccounts : Type 0

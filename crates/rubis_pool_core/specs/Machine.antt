@@ -25,8 +25,8 @@ abbrev pub one_part_more : Done → Numbered → Done
 one_part_more d n = record { shard = with_parts d.shard (n ∷ []); share = d.share; done = d.done + 1 }
 
 -- all of its share is done
-abbrev pub IsWhole : Done → Type 0
-IsWhole d = d.done ≡ length d.share.effects
+abbrev pub IsShareDone : Done → Type 0
+IsShareDone d = d.done ≡ length d.share.effects
 
 -- the same, or nothing changes where no part is left
 abbrev pub or_one_part_more : Done → Option Numbered → Done

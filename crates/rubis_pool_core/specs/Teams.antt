@@ -6,7 +6,7 @@ use Rattle.rubis_pieces.specs.Pieces.Move.{Posted, Taken}
 use Rattle.rubis_pieces.specs.declared.pieces.Piece.{Piece}
 use Rattle.rubis_pool_core.specs.declared.event.Event.{Event}
 use Rattle.rubis_pool_core.specs.declared.event.Event.TheVariants.{Take, Apply, Back}
-use Rattle.rubis_pool_core.specs.Machine.{begun, PoolState, opening_pool, with_posted, stepped, after_event, run_of, IsWhole}
+use Rattle.rubis_pool_core.specs.Machine.{begun, PoolState, opening_pool, with_posted, stepped, after_event, run_of, IsShareDone}
 use Rattle.std.specs.List.Sorted.{IsPermutation}
 use Rattle.rubis_model.specs.Log.{Core, share}
 use Rattle.rubis_shard.specs.States.{ShardState}
@@ -34,14 +34,14 @@ pub data Action : Type 0 where
   GivesBack : ℕ → Action
 
 -- the steps on the board alone
-abbrev pub steps_of : List Action → List BoardStep
-steps_of [] = []
-steps_of (OnBoard b ∷ actions) = b ∷ steps_of actions
-steps_of (Folds w ∷ actions) = steps_of actions
-steps_of (GivesBack w ∷ actions) = steps_of actions
+abbrev pub board_steps : List Action → List BoardStep
+board_steps [] = []
+board_steps (OnBoard b ∷ actions) = b ∷ board_steps actions
+board_steps (Folds w ∷ actions) = board_steps actions
+board_steps (GivesBack w ∷ actions) = board_steps actions
 
-abbrev pub moves_of : List Action → List Move
-moves_of actions = map move_of (steps_of actions)
+abbrev pub moves_of_team : List Action → List Move
+moves_of_team actions = map move_of (board_steps actions)
 
 -- ---- each worker in turn
 
@@ -84,7 +84,7 @@ CanDo s (GivesBack w) = is_some (stepped s (Back w)) ≡ true
 -- it can do each when it comes, and after each prefix has posted what is on the board
 pub record GoesAlong (s : PoolState) (actions : List Action) : Type 0 where
   pub possible : (n : ℕ) (a : Action) → slice_get actions n ≡ Some a → CanDo (after_actions s (take n actions)) a
-  pub posted : (n : ℕ) → MovesAll s.posted (moves_of (take n actions)) (after_actions s (take n actions)).posted
+  pub posted : (n : ℕ) → MovesAll s.posted (moves_of_team (take n actions)) (after_actions s (take n actions)).posted
 
 -- ---- the laws
 
@@ -92,7 +92,7 @@ pub record GoesAlong (s : PoolState) (actions : List Action) : Type 0 where
 abbrev pub EveryRunIsASchedule : Type 0
 EveryRunIsASchedule =
     (workers : ℕ) (actions : List Action) (board : List Piece) → InTurn (empty_hands workers) actions
-    → MovesAll [] (moves_of actions) board → GoesAlong (opening_pool workers) actions
+    → MovesAll [] (moves_of_team actions) board → GoesAlong (opening_pool workers) actions
 
 -- each piece is taken by one of the workers
 abbrev pub AreTakenBy : ℕ → List BoardStep → Type 0
@@ -103,7 +103,7 @@ AreTakenBy workers (Takes w p ∷ steps) = (w < workers) × AreTakenBy workers s
 -- these steps, with the workers' own work between them
 pub record IsScheduled (workers : ℕ) (steps : List BoardStep) : Type 0 where
   pub actions : List Action
-  pub same_steps : steps_of actions ≡ steps
+  pub same_steps : board_steps actions ≡ steps
   pub in_turn : InTurn (empty_hands workers) actions
   pub along : GoesAlong (opening_pool workers) actions
 
@@ -167,7 +167,7 @@ EveryTeamIsScheduled =
 abbrev pub EveryRunOfATeamIsASchedule : Type 0
 EveryRunOfATeamIsASchedule =
     (workers first : ℕ) (batch : List Core) (steps : List BoardStep) (board : List Piece) (actions : List Action)
-    → MovesAll [] (map move_of steps) board → steps_of actions ≡ steps_in_batch first batch steps
+    → MovesAll [] (map move_of steps) board → board_steps actions ≡ steps_in_batch first batch steps
     → InTurn (empty_hands workers) actions → GoesAlong (opening_pool workers) actions
 
 -- what a worker makes of a piece straight from the messages is what the machine makes of it part by part: a beginning of the share is
@@ -175,7 +175,7 @@ EveryRunOfATeamIsASchedule =
 abbrev pub FollowingFoldsTheShare : Type 0
 FollowingFoldsTheShare =
     (first : ℕ) (batch : List Core) (p : Piece) (messages : ℕ) (shard : ShardState) → IsFollowed first batch p.shard messages shard
-    → (d : Done) × (d.shard ≡ shard) × IsWorked (in_batch first batch p) d × (messages ≡ length batch → IsWhole d)
+    → (d : Done) × (d.shard ≡ shard) × IsWorked (in_batch first batch p) d × (messages ≡ length batch → IsShareDone d)
 
 -- shards that hold a log are posted with no parts, in any order: once all are returned, whatever the schedule, they hold the log with the
 -- batch

@@ -4,16 +4,22 @@ use Rattle.rubis_reading.proofs.Common.{length-drop, ◌∷◌, [], ◌==◌, �
 use Rattle.rubis_reading.proofs.Common.{refl, subst, Option, append_assoc, take-append-drop, slice_range, IfSome, Consumes, prepend_known, cases_Bool}
 use Rattle.rubis_reading.proofs.Common.{MatchBool, field_after, fields_after, is_end, step, default_config, is_bom, strip_bom, State, input_records}
 use Rattle.std.proofs.Common.{length-take, length-take-le}
-use Rattle.std.specs.Io.KnownBytes.{IsAtEnd, Keeps}
+use Rattle.std.specs.Io.KnownBytes.{IsAtEnd}
 use Rattle.std.proofs.lemmas.List.{drop-append-le, drop-drop, drop-take}
 use Rattle.std.proofs.Math.Seq.{take-append-add}
 use Rattle.csv.specs.Machine.{carriage_return, ends_at_end, line_feed, next_record}
 use Rattle.csv.specs.Reading.{records, records_from, records_next}
 use Rattle.std.proofs.Transfers.{drop-appended}
 use Rattle.std.specs.Int.{from_bool}
-use Rattle.rubis_reading.specs.Chunked.{IsFilled, ComesNearer, HasCome, HasPending, IsChunk, KeepsCome, KeepsPending, held_text}
+use Rattle.std.specs.Prelude.{Err, IsErrAnd, Ok, Result}
+use Rattle.rubis_engine.specs.Seam.{IsTextOf, Lefts, MayHave, OfEach, left}
+use Rattle.rubis_engine.proofs.SeamFacts.{consumed-none, consumed-rest, may-have}
+use Rattle.rubis_reading.specs.Chunked.{AreNew, AsksOn, WasAsked, WasFilled, ComesNearer, ComesOn, FailsShort, HasCome, HasPending, HasWholeInput, IsChunk, KeepsCome}
+use Rattle.rubis_reading.specs.Chunked.{KeepsPending, OfInput, held_text}
+use Rattle.rubis_reading.specs.declared.buffer.ChunkFault.{ChunkFault}
+use Rattle.rubis_reading.specs.declared.buffer.ChunkFault.TheVariants as fault
 use Rattle.csv.specs.declared.parser.State.TheVariants as st
-use Rattle.rubis_reading.specs.Streams.{Closes, IsBetween, IsLineEnd, IsWhole, records_on}
+use Rattle.rubis_reading.specs.Streams.{Closes, EndsNoRecord, IsBetween, IsLineEnd, IsWhole, records_on}
 use Rattle.rubis_reading.specs.declared.chunks.Chunks.{Chunks}
 
 -- with the first handed on
@@ -62,12 +68,14 @@ written-length xs block end within same =
 pub filled : (before after : Option (List ℕ)) (xs block : List ℕ) (start end given : ℕ) (old new : List ℕ) (more : Bool)
     → start ≤ end → end ≤ length xs → old ≡ slice_range xs start end → new ≡ slice_range (take end xs ++ block) start (end + given)
     → Consumes before after (take given block) → (given ≡ 0 → IsAtEnd after) → (more ≡ false → given ≡ 0) → (more ≡ true → 0 < given)
-    → given ≤ length block → IsFilled before after old new more
+    → given ≤ length block → WasFilled before after old new more
 filled before after xs block start end given old new more on within was is consumed last none some few = record {
-  bytes = take given block;
-  behind = is ∙ range-filled xs block start end given on within ∙ ap (λ t. t ++ take given block) (sym was);
+  put = record {
+    bytes = take given block;
+    behind = is ∙ range-filled xs block start end given on within ∙ ap (λ t. t ++ take given block) (sym was);
+    some = λ e. omega (arith, some e, length-take-le given block few);
+  };
   consumed = consumed;
-  some = λ e. omega (arith, some e, length-take-le given block few);
   last = λ e. last (none e);
 }
 
@@ -244,11 +252,8 @@ pub record HoldsMore (before after : Option (List ℕ)) (old new : List ℕ) : T
   pub behind : new ≡ old ++ bytes
   pub consumed : Consumes before after bytes
 
-more-held : (before after : Option (List ℕ)) (old new : List ℕ) (more : Bool) → IsFilled before after old new more → HoldsMore before after old new
-more-held before after old new more f = record { bytes = f.bytes; behind = f.behind; consumed = f.consumed }
-
 -- bytes that come are behind those that are held
-pub held-keeps : {R : Type 0} (rem : R → Option (List ℕ)) (old new : Chunks R)
+pub held-keeps : {R : Type 0} (rem : Lefts R) (old new : Chunks R)
     → HoldsMore (rem old.reader) (rem new.reader) old.held new.held → KeepsPending rem old new
 held-keeps rem old new f rows h = record {
   bytes = h.bytes;
@@ -278,7 +283,7 @@ taken held bytes (Some xs) many some within whole e =
     )
 
 -- a chunk stands first
-pub pending-front : {R : Type 0} (rem : R → Option (List ℕ)) (c : Chunks R) (many : ℕ) (rows : List (List (List ℕ))) → IsChunk many (held_text c)
+pub pending-front : {R : Type 0} (rem : Lefts R) (c : Chunks R) (many : ℕ) (rows : List (List (List ℕ))) → IsChunk many (held_text c)
     → HasPending rem c rows → (more : List (List (List ℕ))) × (rows ≡ input_records (take many (held_text c)) ++ more)
 pending-front rem c many rows (some, within, whole) h =
     let (left, same, split) = taken c.held h.bytes (rem c.reader) many (omega (arith, some)) within whole h.source in
@@ -286,10 +291,10 @@ pending-front rem c many rows (some, within, whole) h =
 
 -- ---- how far the end is
 
-pub nearer-none : {R : Type 0} (rem : R → Option (List ℕ)) (c : Chunks R) → ComesNearer 0 rem c c
+pub nearer-none : {R : Type 0} (rem : Lefts R) (c : Chunks R) → ComesNearer 0 rem c c
 nearer-none rem c left e = (left, e, omega arith)
 
-pub nearer-more : {R : Type 0} (m n k : ℕ) (rem : R → Option (List ℕ)) (a b c : Chunks R) → k ≤ m + n → ComesNearer m rem a b → ComesNearer n rem b c
+pub nearer-more : {R : Type 0} (m n k : ℕ) (rem : Lefts R) (a b c : Chunks R) → k ≤ m + n → ComesNearer m rem a b → ComesNearer n rem b c
     → ComesNearer k rem a c
 nearer-more m n k rem a b c few one two left e =
     let (left1, e1, l1) = one left e in
@@ -297,39 +302,29 @@ nearer-more m n k rem a b c few one two left e =
     (left2, e2, omega (arith, few, l1, l2))
 
 -- bytes that came are held, if there were any
-pub filled-on : {R : Type 0} (rem : R → Option (List ℕ)) (first old new : Chunks R) (more some : Bool) → ComesNearer 0 rem first old
-    → IsFilled (rem old.reader) (rem new.reader) old.held new.held more → (some ≡ true → more ≡ true) → ComesNearer (from_bool some) rem first new
-filled-on rem first old new more some one f so left e =
+filled-nearer : {R : Type 0} (rem : Lefts R) (first old new : Chunks R) (more some : Bool) → ComesNearer 0 rem first old
+    → WasFilled (rem old.reader) (rem new.reader) old.held new.held more → (some ≡ true → more ≡ true) → ComesNearer (from_bool some) rem first new
+filled-nearer rem first old new more some one f so left e =
     let (left1, e1, l1) = one left e in
-    let (left2, source, split) = rest left1 (rem old.reader) (rem new.reader) f.consumed e1 in
-    let grown = ap length f.behind in
-    let size = length-append old.held f.bytes in
+    let (left2, source, split) = consumed-rest f.put.bytes left1 (rem old.reader) (rem new.reader) f.consumed e1 in
+    let grown = ap length f.put.behind in
+    let size = length-append old.held f.put.bytes in
     let parts = ap length split in
-    let sizes = length-append f.bytes left2 in
-    let least = at some (λ yes. f.some (so yes)) in
+    let sizes = length-append f.put.bytes left2 in
+    let least = at some (λ yes. f.put.some (so yes)) in
     (left2, source, omega (arith, grown, size, parts, sizes, least, l1))
   where
-    rest : (left : List ℕ) (before after : Option (List ℕ)) → Consumes before after f.bytes → before ≡ Some left
-        → (left2 : List ℕ) × (after ≡ Some left2) × (left ≡ f.bytes ++ left2)
-    rest left None after taken e = absurd cc
-    rest left (Some xs) None taken e = absurd taken
-    rest left (Some xs) (Some ys) taken e = (ys, refl, sym (some-is e) ∙ taken)
-
-    at : (b : Bool) → (b ≡ true → 0 < length f.bytes) → from_bool b ≤ length f.bytes
+    at : (b : Bool) → (b ≡ true → 0 < length f.put.bytes) → from_bool b ≤ length f.put.bytes
     at true l = omega (arith, l refl)
     at false l = omega arith
 
 -- ---- what came of an input
 
-pub filled-keeps : {R : Type 0} (rem : R → Option (List ℕ)) (old new : Chunks R) (more : Bool)
-    → IsFilled (rem old.reader) (rem new.reader) old.held new.held more → KeepsPending rem old new
-filled-keeps rem old new more f = held-keeps rem old new (more-held (rem old.reader) (rem new.reader) old.held new.held more f)
-
 -- bytes that come are behind those that are held
-pub held-come : {R : Type 0} (rem : R → Option (List ℕ)) (old new : Chunks R)
+pub held-come : {R : Type 0} (rem : Lefts R) (old new : Chunks R)
     → HoldsMore (rem old.reader) (rem new.reader) old.held new.held → KeepsCome rem old new
 held-come rem old new f input h =
-    let (left, source, split) = rest (rem old.reader) (rem new.reader) f.consumed h.source in record {
+    let (left, source, split) = consumed-rest f.bytes h.left (rem old.reader) (rem new.reader) f.consumed h.source in record {
       front = h.front;
       mark = h.mark;
       begun = h.begun ++ f.bytes;
@@ -340,16 +335,49 @@ held-come rem old new f input h =
       source = source;
       first = h.first;
     }
-  where
-    rest : (before after : Option (List ℕ)) → Consumes before after f.bytes → before ≡ Some h.left
-        → (left : List ℕ) × (after ≡ Some left) × (h.left ≡ f.bytes ++ left)
-    rest None after taken e = absurd cc
-    rest (Some xs) None taken e = absurd taken
-    rest (Some xs) (Some ys) taken e = (ys, refl, sym (some-is e) ∙ taken)
 
-pub filled-come : {R : Type 0} (rem : R → Option (List ℕ)) (old new : Chunks R) (more : Bool)
-    → IsFilled (rem old.reader) (rem new.reader) old.held new.held more → KeepsCome rem old new
-filled-come rem old new more f = held-come rem old new (more-held (rem old.reader) (rem new.reader) old.held new.held more f)
+-- ---- how more is asked for
+
+pub on-none : {R : Type 0} (rem : Lefts R) (c : Chunks R) → ComesOn 0 rem c c
+on-none rem c = record { pending = λ rows h. h; come = λ input h. h; nearer = nearer-none rem c }
+
+-- bytes came, if there were any
+pub filled-on : {R : Type 0} (rem : Lefts R) (first old new : Chunks R) (more some : Bool) → ComesOn 0 rem first old
+    → WasFilled (rem old.reader) (rem new.reader) old.held new.held more → (some ≡ true → more ≡ true) → ComesOn (from_bool some) rem first new
+filled-on rem first old new more some on f so =
+    let held : HoldsMore (rem old.reader) (rem new.reader) old.held new.held = record { bytes = f.put.bytes; behind = f.put.behind; consumed = f.consumed } in
+    record {
+      pending = λ rows h. held-keeps rem old new held rows (on.pending rows h);
+      come = λ input h. held-come rem old new held input (on.come input h);
+      nearer = filled-nearer rem first old new more some on.nearer f so;
+    }
+
+-- the reader failed, and nothing came; or there was no room
+pub failed-on : {R : Type 0} (rem : Lefts R) (first old new : Chunks R) (r : Result Bool ChunkFault) (e : ChunkFault) → IsErrAnd r (λ f. f ≡ e)
+    → ComesOn 0 rem first old → (EndsNoRecord first.held → EndsNoRecord old.held) → WasAsked (rem old.reader) (rem new.reader) old.held new.held (Err e)
+    → AsksOn rem first new r
+failed-on rem first old new (Ok more) e handed on none was = absurd handed
+failed-on rem first old new (Err fault.Memory) e handed on none was = tt
+failed-on rem first old new (Err fault.Read) e handed on none was =
+    let (same, keeps) = subst (λ f. WasAsked (rem old.reader) (rem new.reader) old.held new.held (Err f)) (sym handed) was in
+    let held : HoldsMore (rem old.reader) (rem new.reader) old.held new.held =
+    record { bytes = []; behind = same ∙ sym (append-nil old.held); consumed = consumed-none (rem old.reader) (rem new.reader) keeps } in
+    record {
+      pending = λ rows h. held-keeps rem old new held rows (on.pending rows h);
+      come = λ input h. held-come rem old new held input (on.come input h);
+      none = λ h. subst EndsNoRecord (sym same) (none h);
+    }
+
+pub failed-short : {R : Type 0} (rem : Lefts R) (old new : Chunks R) (e : ChunkFault) → e ≡ fault.Read → AsksOn rem old new (Err e)
+    → FailsShort rem old new
+failed-short rem old new e is asked = subst (λ f. AsksOn rem old new (Err f)) is asked
+
+-- at the end what is held is the rest of the records
+pub ended-last : {R : Type 0} (c : Chunks R) (text : List ℕ) (rows : List (List (List ℕ))) → c.reader.is_ended ≡ true → IsTextOf text c.reader
+    → HasPending (left text) c rows → rows ≡ input_records (held_text c)
+ended-last c text rows ended h pending =
+    let none = drop-appended c.reader.came.bytes text h.rest h.parts ∙ h.ended ended in
+    pending.reads ∙ ap input_records (some-is (sym pending.source) ∙ ap (λ t. c.held ++ t) none ∙ append-nil c.held)
 
 -- the first bytes of what is held are those of the mark, and then of what came since
 front-split : (mark begun : List ℕ) (many : ℕ) → length mark ≤ 1 → 0 < many
@@ -360,7 +388,7 @@ front-split (b ∷ []) begun (suc n) few some = (take n begun, refl, sym (take-a
 front-split (b ∷ (d ∷ mark)) begun many few some = absurd (omega (arith, few))
 
 -- a chunk is handed on
-pub handed-come : {R : Type 0} (rem : R → Option (List ℕ)) (old new : Chunks R) (many : ℕ) (input : List ℕ) → new.reader ≡ old.reader
+pub handed-come : {R : Type 0} (rem : Lefts R) (old new : Chunks R) (many : ℕ) (input : List ℕ) → new.reader ≡ old.reader
     → new.held ≡ drop (many - 1) old.held → 0 < many → many ≤ length old.held → IsWhole (take many old.held) → HasCome rem input old → HasCome rem input new
 handed-come rem old new many input same handed some within whole h =
     let (t, chunk, since) = front-split h.mark h.begun many h.few some in
@@ -386,25 +414,12 @@ handed-come rem old new many input same handed some within whole h =
           (ap (λ x. input_records h.front ++ input_records x) taken ∙ sym (h.first t));
     }
 
--- where the reader failed, nothing came
-pub still-held : (before after : Option (List ℕ)) (old new : List ℕ) → new ≡ old → Keeps before after → HoldsMore before after old new
-still-held before after old new same keeps = record {
-  bytes = [];
-  behind = same ∙ sym (append-nil old);
-  consumed = none before after keeps;
-}
-  where
-    none : (a b : Option (List ℕ)) → Keeps a b → Consumes a b []
-    none None b k = tt
-    none (Some xs) None k = absurd k
-    none (Some xs) (Some ys) k = sym k
-
 no-records : input_records [] ≡ []
 unfolding input_records records_on strip_bom
 no-records = all-from-here (strip_bom [])
 
 -- nothing has come
-none-come : {R : Type 0} (rem : R → Option (List ℕ)) (c : Chunks R) (input : List ℕ) → rem c.reader ≡ Some input → c.held ≡ []
+none-come : {R : Type 0} (rem : Lefts R) (c : Chunks R) (input : List ℕ) → rem c.reader ≡ Some input → c.held ≡ []
     → HasCome rem input c
 none-come rem c input source empty = record {
   front = [];
@@ -418,15 +433,31 @@ none-come rem c input source empty = record {
   first = λ more. ap (λ rows. rows ++ input_records more) (sym no-records);
 }
 
-pub new-come : {R : Type 0} (rem : R → Option (List ℕ)) (c : Chunks R) → c.held ≡ [] → IfSome (rem c.reader) (λ input. HasCome rem input c)
-new-come rem c empty = at (rem c.reader) refl
+-- new chunks have all of a text still to give
+new-whole : {R : Type 0} (c : Chunks R) (text : List ℕ) → AreNew c → HasWholeInput (left text) c text
+new-whole c text ((came, on), empty) =
+    let all : left text c.reader ≡ Some text = ap (λ bytes. Some (drop (length bytes) text)) came in (
+      record { bytes = text; source = ap (λ bytes. prepend_known bytes (left text c.reader)) empty ∙ ap (prepend_known []) all; reads = refl },
+      none-come (left text) c text all empty,
+    )
+
+-- a run that ends so over all that chunks have still to give does over each input that the reader of new ones may have
+pub over-input : {R : Type 0} {rem : R → Option (List ℕ)} (old new : Chunks R) {holds : Lefts R → List ℕ → Type 0}
+    → OfEach rem old.reader new.reader (λ l. (input : List ℕ) → HasWholeInput l old input → holds l input) → AreNew old → (input : List ℕ)
+    → MayHave rem input old.reader new.reader → holds (left input) input
+over-input old new f none input may = (f.each input (may-have input f none.0 may)).1 input (new-whole old input none)
+
+-- so it is with the one that the reader is known to have
+pub of-known : {R : Type 0} (rem : R → Option (List ℕ)) (reader : R) (old new : Chunks R) (holds : List ℕ → Type 0)
+    → old.reader.reader ≡ reader → AreNew old → OfInput rem old new holds → IfSome (rem reader) holds
+of-known rem reader old new holds is none of = at (rem reader) refl
   where
-    at : (known : Option (List ℕ)) → rem c.reader ≡ known → IfSome known (λ input. HasCome rem input c)
+    at : (known : Option (List ℕ)) → rem reader ≡ known → IfSome known holds
     at None e = tt
-    at (Some input) e = none-come rem c input e empty
+    at (Some input) e = of none input (inl (ap rem is ∙ e))
 
 -- the records to come are those behind what was handed on
-pub come-rest : {R : Type 0} (rem : R → Option (List ℕ)) (c : Chunks R) (input : List ℕ) (later : List (List (List ℕ))) → HasPending rem c later
+pub come-rest : {R : Type 0} (rem : Lefts R) (c : Chunks R) (input : List ℕ) (later : List (List (List ℕ))) → HasPending rem c later
     → (h : HasCome rem input c) → length (input_records input) ≡ length (input_records h.front) + length later
 come-rest rem c input later p h =
     let rest : c.held ++ h.left ≡ p.bytes = some-is (sym (ap (prepend_known c.held) h.source) ∙ p.source) in

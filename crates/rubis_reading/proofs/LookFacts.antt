@@ -2,7 +2,7 @@
 use Rattle.rubis_reading.proofs.Common.{◌≡◌, ◌≤◌, ◌+◌, ◌∷◌, [], ◌++◌, ◌∙◌, ℕ, List, ap, arith, drop, length, length-append, refl, subst, sym, take}
 use Rattle.rubis_reading.proofs.Common.{take-append-drop, true, false, take-append-le, take-append_seam, if◌then◌else◌, is_bom, strip_bom, State}
 use Rattle.csv.specs.declared.parser.State.TheVariants as st
-use Rattle.rubis_reading.specs.Streams.{HasLooked, state_of, EndsFrom, IsLike, stands}
+use Rattle.rubis_reading.specs.Streams.{HasLooked, state_of_csv, EndsFrom, IsLike, stands}
 use Rattle.rubis_reading.specs.declared.cuts.Looked.{Looked}
 use Rattle.rubis_reading.proofs.EndFacts.{front-back}
 use Rattle.rubis_reading.proofs.QuoteFacts.{front-ends, like-then, stands-append, stands-like, take-all}
@@ -26,7 +26,7 @@ looked-more text more l h =
     record {
       within = omega (arith, h.within, longer);
       upto = h.upto;
-      like = subst (λ t. IsLike (state_of l.at) (stands st.StartRecord t)) (sym (take-append-le l.place text more h.within)) h.like;
+      like = subst (λ t. IsLike (state_of_csv l.at) (stands st.StartRecord t)) (sym (take-append-le l.place text more h.within)) h.like;
       found = λ some. front-ends st.StartRecord (length text) l.end (text ++ more)
           (subst (λ t. EndsFrom st.StartRecord t l.end) (sym seam) (h.found some));
       none = λ k lt upto e. h.none k lt upto (subst (λ t. EndsFrom st.StartRecord t k) seam
@@ -41,7 +41,7 @@ looked-front text more l within h =
     record {
       within = within;
       upto = h.upto;
-      like = subst (λ t. IsLike (state_of l.at) (stands st.StartRecord t)) (take-append-le l.place text more within) h.like;
+      like = subst (λ t. IsLike (state_of_csv l.at) (stands st.StartRecord t)) (take-append-le l.place text more within) h.like;
       found = λ some. subst (λ t. EndsFrom st.StartRecord t l.end) seam
           (front-back st.StartRecord (length text) l.end (text ++ more) (omega (arith, longer)) (omega (arith, h.upto, within)) (h.found some));
       none = λ k lt upto e. h.none k lt upto (front-ends st.StartRecord (length text) k (text ++ more)

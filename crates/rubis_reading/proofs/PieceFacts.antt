@@ -14,8 +14,8 @@ use Rattle.std.specs.Global.{Vec}
 use Rattle.rubis_engine.specs.declared.fault.OutOfMemory.{OutOfMemory}
 use Rattle.rubis_crew.specs.declared.job.Back.{Back}
 use Rattle.rubis_crew.specs.declared.job.Given.{Given}
-use Rattle.rubis_reading.specs.Readings.{AreInputs, FitWindow, FitsWindow, all_came, flat, of_stretch, AreGiven, AreOf, AreRead, EachGiven, IsAmong, IsPiece}
-use Rattle.rubis_reading.specs.Readings.{IsPut, IsReading, passed}
+use Rattle.rubis_reading.specs.Readings.{AreInputs, FitWindow, FitsWindow, all_came, flat, of_stretch, AreGiven, AreOf, AreRead, EachGiven, IsGivenJob, IsTextPiece}
+use Rattle.rubis_reading.specs.Readings.{IsPut, IsReading, bytes_passed}
 use Rattle.rubis_reading.specs.declared.stretches.Stretch.{Stretch}
 use Rattle.rubis_reading.specs.Chunked.{IsChunk}
 use Rattle.rubis_reading.specs.declared.pieces.GivenPiece.{GivenPiece}
@@ -145,17 +145,17 @@ pub each_at : (P : Given Reading → Type 0) (before after : List (Given Reading
 each_at P [] after x all = all.0
 each_at P (y ∷ before) after x all = each_at P before after x all.1
 
-pub among_more : (n : ℕ) (xs : List (Given Reading)) (x : Given Reading) → IsAmong n xs → IsAmong n (xs ++ x ∷ [])
+pub among_more : (n : ℕ) (xs : List (Given Reading)) (x : Given Reading) → IsGivenJob n xs → IsGivenJob n (xs ++ x ∷ [])
 among_more n [] x h = absurd h
 among_more n (y ∷ xs) x (inl is) = inl is
 among_more n (y ∷ xs) x (inr later) = inr (among_more n xs x later)
 
-pub among_last : (n : ℕ) (xs : List (Given Reading)) (x : Given Reading) → x.number ≡ n → IsAmong n (xs ++ x ∷ [])
+pub among_last : (n : ℕ) (xs : List (Given Reading)) (x : Given Reading) → x.number ≡ n → IsGivenJob n (xs ++ x ∷ [])
 among_last n [] x is = inl is
 among_last n (y ∷ xs) x is = inr (among_last n xs x is)
 
-pub among_without : (n : ℕ) (before after : List (Given Reading)) (x : Given Reading) → (x.number ≡ n → ⊥) → IsAmong n (before ++ x ∷ after)
-    → IsAmong n (before ++ after)
+pub among_without : (n : ℕ) (before after : List (Given Reading)) (x : Given Reading) → (x.number ≡ n → ⊥) → IsGivenJob n (before ++ x ∷ after)
+    → IsGivenJob n (before ++ after)
 among_without n [] after x other (inl is) = absurd (other is)
 among_without n [] after x other (inr later) = later
 among_without n (y ∷ before) after x other (inl is) = inl is
@@ -168,8 +168,8 @@ none_so P Q (Some v) so h = tt
 -- ---- a piece more
 
 pub given_more : (sites window : ℕ) (jobs : List (Given Reading)) (x : Given Reading) (number many : ℕ) (text : List ℕ) (ps : List GivenPiece)
-    → AreGiven sites window jobs number text ps → x.number ≡ number + length ps → IsChunk many (drop (passed ps) text)
-    → IsReading sites window (take many (drop (passed ps) text)) x.job
+    → AreGiven sites window jobs number text ps → x.number ≡ number + length ps → IsChunk many (drop (bytes_passed ps) text)
+    → IsReading sites window (take many (drop (bytes_passed ps) text)) x.job
     → AreGiven sites window (jobs ++ x ∷ []) number text (ps ++ record { many = many; read = None } ∷ [])
 given_more sites window jobs x number many text [] given is chunk reading = (
   record {
@@ -185,13 +185,13 @@ given_more sites window jobs x number many text [] given is chunk reading = (
 )
 given_more sites window jobs x number many text (q ∷ ps) given is chunk reading =
     let rest = drop (q.many - 1) text in
-    let on : drop (passed ps) rest ≡ drop (passed (q ∷ ps)) text = drop-drop (passed ps) (q.many - 1) text in (
+    let on : drop (bytes_passed ps) rest ≡ drop (bytes_passed (q ∷ ps)) text = drop-drop (bytes_passed ps) (q.many - 1) text in (
       record {
         chunk = given.0.chunk;
         read = given.0.read;
         job = each_more (λ y. y.number ≡ number → IsReading sites window (take q.many text) y.job) jobs x given.0.job
             (λ same. absurd (omega (arith, same, is)));
-        waits = none_so (IsAmong number jobs) (IsAmong number (jobs ++ x ∷ [])) q.read (among_more number jobs x) given.0.waits;
+        waits = none_so (IsGivenJob number jobs) (IsGivenJob number (jobs ++ x ∷ [])) q.read (among_more number jobs x) given.0.waits;
       },
       given_more sites window jobs x (number + 1) many rest ps given.1 (omega (arith, is)) (subst (λ t. IsChunk many t) (sym on) chunk)
           (subst (λ t. IsReading sites window (take many t) x.job) (sym on) reading),
@@ -199,13 +199,13 @@ given_more sites window jobs x number many text (q ∷ ps) given is chunk readin
 
 -- they lie within the text
 pub passed_within : (sites window : ℕ) (jobs : List (Given Reading)) (number : ℕ) (text : List ℕ) (ps : List GivenPiece)
-    → AreGiven sites window jobs number text ps → passed ps ≤ length text
+    → AreGiven sites window jobs number text ps → bytes_passed ps ≤ length text
 passed_within sites window jobs number text [] given = omega arith
 passed_within sites window jobs number text (q ∷ ps) given =
     let rest = passed_within sites window jobs (number + 1) (drop (q.many - 1) text) ps given.1 in
     omega (arith, rest, length-drop (q.many - 1) text, given.0.chunk.1)
 
-pub passed_more : (ps : List GivenPiece) (many : ℕ) → passed (ps ++ record { many = many; read = None } ∷ []) ≡ passed ps + (many - 1)
+pub passed_more : (ps : List GivenPiece) (many : ℕ) → bytes_passed (ps ++ record { many = many; read = None } ∷ []) ≡ bytes_passed ps + (many - 1)
 passed_more [] many = omega arith
 passed_more (q ∷ ps) many = let rest = passed_more ps many in omega (arith, rest)
 
@@ -223,7 +223,7 @@ of_more text old new job many h chunk reading few jobs next items first from sit
       pieces = rw (sites, window, jobs, first, items) all;
       next = let long = ap length items in omega (arith, next, first, h.next, long, length-append old.given.items (p ∷ []));
       fits = omega (arith, next, few);
-      from = from ∙ ap (λ k. k + (many - 1)) h.from ∙ sym (passed_more old.given.items many) ∙ sym (ap passed items);
+      from = from ∙ ap (λ k. k + (many - 1)) h.from ∙ sym (passed_more old.given.items many) ∙ sym (ap bytes_passed items);
     }
 
 -- ---- a result
@@ -245,7 +245,7 @@ read_put n number (p ∷ ps) zero d result is = (λ same. tt, read_none n (numbe
 read_put n number (p ∷ ps) (suc k) d result is = (λ same. absurd (omega (arith, is, same)), read_put n (number + 1) ps k d result (omega (arith, is)))
 
 still_waits : (number : ℕ) (r : Option (Result (Vec Stretch) OutOfMemory)) (before after : List (Given Reading)) (x : Given Reading)
-    → (x.number ≡ number → IfNone r ⊥) → IfNone r (IsAmong number (before ++ x ∷ after)) → IfNone r (IsAmong number (before ++ after))
+    → (x.number ≡ number → IfNone r ⊥) → IfNone r (IsGivenJob number (before ++ x ∷ after)) → IfNone r (IsGivenJob number (before ++ after))
 still_waits number None before after x read waits = among_without number before after x read waits
 still_waits number (Some v) before after x read waits = tt
 
@@ -270,7 +270,7 @@ given_put sites window before after x number text (p ∷ ps) (suc k) d result gi
     (given.0, given_put sites window before after x (number + 1) (drop (p.many - 1) text) ps k d result given.1 (omega (arith, is)) worked)
 
 pub passed_put : (ps : List GivenPiece) (k : ℕ) (d : GivenPiece) (result : Result (Vec Stretch) OutOfMemory)
-    → passed (slice_set ps k (record { many = (slice_index_or ps k d).many; read = Some result })) ≡ passed ps
+    → bytes_passed (slice_set ps k (record { many = (slice_index_or ps k d).many; read = Some result })) ≡ bytes_passed ps
 passed_put [] k d result = refl
 passed_put (p ∷ ps) zero d result = refl
 passed_put (p ∷ ps) (suc k) d result = ap (λ n. (p.many - 1) + n) (passed_put ps k d result)
@@ -294,12 +294,12 @@ items_put : (sites window : ℕ) (before after : List (Given Reading)) (x : Give
     → IfOk result (λ list. AreRead x.job.sites x.job.window x.job.text.items list.items)
     → ((qs ≡ ps) × ((x.number < number) ⊎ (number + length ps ≤ x.number))) ⊎ ((k : ℕ) × (p : GivenPiece) × (number + k ≡ x.number) × (k < length ps) × (p ≡ slice_index_or ps k p)
     × (qs ≡ slice_set ps k (record { many = p.many; read = Some result })))
-    → AreGiven sites window (before ++ after) number text qs × (length qs ≡ length ps) × (passed qs ≡ passed ps)
+    → AreGiven sites window (before ++ after) number text qs × (length qs ≡ length ps) × (bytes_passed qs ≡ bytes_passed ps)
 items_put sites window before after x number text ps qs result given worked (inl (same, out)) = (
   subst (λ l. AreGiven sites window (before ++ after) number text l) (sym same)
       (given_without sites window before after x number text ps given (read_none x.number number ps out)),
   ap length same,
-  ap passed same,
+  ap bytes_passed same,
 )
 items_put sites window before after x number text ps qs result given worked (inr (k, p, at, within, is, set)) =
     let v : GivenPiece = record { many = (slice_index_or ps k p).many; read = Some result } in
@@ -308,7 +308,7 @@ items_put sites window before after x number text ps qs result given worked (inr
           (given_without sites window before after x number text (slice_set ps k v) (given_put sites window before after x number text ps k p result given at worked)
           (read_put x.number number ps k p result at)),
       ap length there ∙ length-set ps k v,
-      ap passed there ∙ passed_put ps k p result,
+      ap bytes_passed there ∙ passed_put ps k p result,
     )
 
 pub of_put : (text : List ℕ) (old new : Pieces) (back : Back (Result (Vec Stretch) OutOfMemory)) (job : Reading) → AreOf text old
@@ -335,10 +335,10 @@ of_put text old new back job h (before, after, was, now) worked first from sites
 -- it is taken off
 pub of_rest : (text : List ℕ) (old new : Pieces) (p : GivenPiece) → AreOf text old → old.given.items ≡ p ∷ new.given.items → new.lead ≡ old.lead
     → new.first ≡ old.first + 1 → new.from ≡ old.from - (p.many - 1) → new.sites ≡ old.sites → new.window ≡ old.window
-    → IsPiece old.sites old.window old.lead.given old.first text p × AreOf (drop (p.many - 1) text) new
+    → IsTextPiece old.sites old.window old.lead.given old.first text p × AreOf (drop (p.many - 1) text) new
 of_rest text old new p h items lead first from sites window =
     let given = subst (λ ps. AreGiven old.sites old.window old.lead.given old.first text ps) items h.pieces in
-    let far = ap passed items in
+    let far = ap bytes_passed items in
     let n = ap (λ (l : LeadState Reading). l.next) lead in
     let long = ap length items in (
       given.0,

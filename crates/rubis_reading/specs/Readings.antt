@@ -90,34 +90,34 @@ EachGiven P [] = ⊤
 EachGiven P (x ∷ xs) = P x × EachGiven P xs
 
 -- one of the jobs that are given has that number
-abbrev pub IsAmong : ℕ → List (Given Reading) → Type 0
-IsAmong number [] = ⊥
-IsAmong number (x ∷ xs) = (x.number ≡ number) ⊎ IsAmong number xs
+abbrev pub IsGivenJob : ℕ → List (Given Reading) → Type 0
+IsGivenJob number [] = ⊥
+IsGivenJob number (x ∷ xs) = (x.number ≡ number) ⊎ IsGivenJob number xs
 
 -- a piece is the front of a text, has that number, and what was read of it are its records; until it is read its job is given
-pub record IsPiece (sites window : ℕ) (jobs : List (Given Reading)) (number : ℕ) (text : List ℕ) (p : GivenPiece) : Type 0 where
+pub record IsTextPiece (sites window : ℕ) (jobs : List (Given Reading)) (number : ℕ) (text : List ℕ) (p : GivenPiece) : Type 0 where
   pub chunk : IsChunk p.many text
   pub read : IfSome p.read (λ result. IfOk result (λ list. AreRead sites window (take p.many text) list.items))
   pub job : EachGiven (λ x. x.number ≡ number → IsReading sites window (take p.many text) x.job) jobs
-  pub waits : IfNone p.read (IsAmong number jobs)
+  pub waits : IfNone p.read (IsGivenJob number jobs)
 
 -- the pieces that are given, the first of which has that number: each begins with the end of the one before, and no job has a later number
 abbrev pub AreGiven : ℕ → ℕ → List (Given Reading) → ℕ → List ℕ → List GivenPiece → Type 0
 AreGiven sites window jobs number text [] = EachGiven (λ x. x.number < number) jobs
 AreGiven sites window jobs number text (p ∷ ps) =
-    IsPiece sites window jobs number text p × AreGiven sites window jobs (number + 1) (drop (p.many - 1) text) ps
+    IsTextPiece sites window jobs number text p × AreGiven sites window jobs (number + 1) (drop (p.many - 1) text) ps
 
 -- how many bytes they are, the last of each left aside
-abbrev pub passed : List GivenPiece → ℕ
-passed [] = 0
-passed (p ∷ ps) = (p.many - 1) + passed ps
+abbrev pub bytes_passed : List GivenPiece → ℕ
+bytes_passed [] = 0
+bytes_passed (p ∷ ps) = (p.many - 1) + bytes_passed ps
 
 -- they are the pieces of that text, from its start on
 pub record AreOf (text : List ℕ) (p : Pieces) : Type 0 where
   pub pieces : AreGiven p.sites p.window p.lead.given p.first text p.given.items
   pub next : p.lead.next ≡ p.first + length p.given.items
   pub fits : p.lead.next < 18446744073709551616
-  pub from : p.from ≡ passed p.given.items
+  pub from : p.from ≡ bytes_passed p.given.items
 
 -- they are given to that crew, and their records are read so
 abbrev pub AreFor : CrewId → ℕ → ℕ → Pieces → Type 0
@@ -128,13 +128,13 @@ abbrev pub KeepFor : Pieces → Pieces → Type 0
 KeepFor old new = AreFor old.lead.crew old.sites old.window new
 
 -- the lead of that crew has all back, and said that no more come
-abbrev pub IsOver : CrewId → LeadState Reading → Type 0
-IsOver crew l = (l.crew ≡ crew) × (l.ended ≡ true) × (l.given ≡ [])
+abbrev pub IsReadingOver : CrewId → LeadState Reading → Type 0
+IsReadingOver crew l = (l.crew ≡ crew) × (l.ended ≡ true) × (l.given ≡ [])
 
 -- the first piece was taken off, with its records, or there is none
-abbrev pub TakesFirst : List ℕ → Option ReadPiece → Pieces → Type 0
-TakesFirst text None s = (other : List ℕ) → AreOf other s
-TakesFirst text (Some p) s = IsChunk p.many text × AreRead s.sites s.window (take p.many text) p.list.items × AreOf (drop (p.many - 1) text) s
+abbrev pub TakesPiece : List ℕ → Option ReadPiece → Pieces → Type 0
+TakesPiece text None s = (other : List ℕ) → AreOf other s
+TakesPiece text (Some p) s = IsChunk p.many text × AreRead s.sites s.window (take p.many text) p.list.items × AreOf (drop (p.many - 1) text) s
 
 -- a result is with its piece, the first of which has that number; one of no piece is let go
 abbrev pub IsPut : ℕ → List GivenPiece → Back (Result (Vec Stretch) OutOfMemory) → List GivenPiece → Type 0

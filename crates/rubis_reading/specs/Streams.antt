@@ -10,13 +10,13 @@ use Rattle.csv.specs.Reading.{default_config, strip_bom}
 use Rattle.rubis_reading.specs.declared.cuts.Looked.{Looked}
 
 -- the machine's state
-abbrev pub state_of : CsvState → State
-state_of at.Start = st.StartRecord
-state_of at.FieldStart = st.StartField
-state_of at.Field = st.InField
-state_of at.Quoted = st.InQuoted
-state_of at.QuoteEnd = st.AfterQuote
-state_of at.CrEnd = st.AfterCr
+abbrev pub state_of_csv : CsvState → State
+state_of_csv at.Start = st.StartRecord
+state_of_csv at.FieldStart = st.StartField
+state_of_csv at.Field = st.InField
+state_of_csv at.Quoted = st.InQuoted
+state_of_csv at.QuoteEnd = st.AfterQuote
+state_of_csv at.CrEnd = st.AfterCr
 
 -- ---- the records of a text, from any place in a record on, and where a text may be cut
 
@@ -112,6 +112,6 @@ HasEnd l = 1 < l.end
 pub record HasLooked (text : List ℕ) (l : Looked) : Type 0 where
   pub within : l.place ≤ length text
   pub upto : l.end ≤ l.place
-  pub like : IsLike (state_of l.at) (stands st.StartRecord (take l.place text))
+  pub like : IsLike (state_of_csv l.at) (stands st.StartRecord (take l.place text))
   pub found : 0 < l.end → EndsFrom st.StartRecord text l.end
   pub none : (k : ℕ) → l.end < k → k ≤ l.place → EndsFrom st.StartRecord text k → ⊥

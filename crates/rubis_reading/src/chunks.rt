@@ -1,14 +1,13 @@
 //! A source of chunks of text, each of whole records, over a reader.
 
-ghost use Rattle.std.specs.Prelude.{◌≡◌, ◌≤◌, ◌<◌, ◌-◌, [], drop, false, length, take, true, IfSome, IfOk, IsErrOf, OnOk};
-ghost use Rattle.std.specs.Int.{from_bool};
+ghost use Rattle.std.specs.Prelude.{◌≡◌, ◌≤◌, ◌<◌, ◌-◌, [], drop, false, length, take, true, IfOk};
 ghost use Rattle.rubis_reading.specs.Streams.{EndsNoRecord, IsWhole, NoWholeAfter};
-ghost use Rattle.rubis_engine.specs.Text.{input_records};
-ghost use Rattle.rubis_reading.specs.Chunked.{ComesNearer, FailsShort, HasCome, HasPending, IsLast, KeepsCome, KeepsPending, TakesOff, held_text};
+ghost use Rattle.rubis_engine.specs.Seam.{Lefts, OfEach};
+ghost use Rattle.rubis_reading.specs.Chunked.{AreNew, AsksOn, ComesNearer, KeepsCome, TakesOff, held_text};
 
 use crate::buffer::{Buffer, ChunkFault};
 use crate::cuts::{Looked, look_for_end, whole_end};
-use rubis_engine::Sink;
+use rubis_engine::{Incoming, Sink};
 use std::alloc::Global;
 use std::io::Read;
 
@@ -18,7 +17,7 @@ const MARKED: usize = 3;
 /// The text of a reader, by chunks.
 #[derive(Drop)]
 pub struct Chunks<R> {
-    reader: R,
+    reader: Incoming<R>,
     // What came from the reader and was not handed on. The byte that ends what was handed on stays as its first one, so no byte
     // order mark can stand there.
     held: Buffer,
@@ -29,11 +28,11 @@ pub struct Chunks<R> {
 impl<R: Read + Drop> Chunks<R> {
     /// The text of this reader, of which at least `size` bytes are asked for at a time.
     pub fn new(alloc: Global, reader: R, size: usize) -> Chunks<R>
-        ensures pending { IfSome (R.remaining reader) (λ input. HasPending R.remaining result (input_records input)) }
-        ensures come { IfSome (R.remaining reader) (λ input. HasCome R.remaining input result) }
+        ensures reader { result.reader.reader ≡ reader }
+        ensures none { AreNew result }
     {
         Chunks {
-            reader,
+            reader: Incoming::new(reader),
             held: Buffer::new(alloc),
             size,
         }
@@ -60,12 +59,9 @@ impl<R: Read> Chunks<R> {
     pub fn fill(&mut self, _answers: &Sink) -> Result<bool, ChunkFault>
         requires none { EndsNoRecord (held_text self.old) }
         requires written { _answers.now ≡ [] }
-        ensures keeps { OnOk result (KeepsPending R.remaining self.old self.new) }
         ensures more { IfOk result (λ more. more ≡ true → length (held_text self.old) < length (held_text self.new)) }
-        ensures nearer { IfOk result (λ more. ComesNearer (from_bool more) R.remaining self.old self.new) }
-        ensures last { IfOk result (λ more. more ≡ false → IsLast R.remaining self.new) }
-        ensures come { OnOk result (KeepsCome R.remaining self.old self.new) }
-        ensures failed { IsErrOf result ChunkFault.Read → FailsShort R.remaining self.old self.new }
+        ensures last { IfOk result (λ more. more ≡ false → self.new.reader.is_ended ≡ true) }
+        ensures asked { OfEach R.remaining self.old.reader self.new.reader (λ left. AsksOn left self.old self.new result) }
     {
         let mut looked = Looked::none();
         'asks: loop {
@@ -100,10 +96,11 @@ impl<R: Read> Chunks<R> {
         requires some { 0 < many }
         requires within { many ≤ length (held_text self.old) }
         requires whole { IsWhole (take many (held_text self.old)) }
-        ensures takes { TakesOff R.remaining self.old self.new (take many (held_text self.old)) }
-        ensures come { KeepsCome R.remaining self.old self.new }
+        ensures reader { self.new.reader ≡ self.old.reader }
         ensures held { held_text self.new ≡ drop (many - 1) (held_text self.old) }
-        ensures nearer { ComesNearer (many - 1) R.remaining self.old self.new }
+        ensures takes { (left : Lefts R) → TakesOff left self.old self.new (take many (held_text self.old)) }
+        ensures come { (left : Lefts R) → KeepsCome left self.old self.new }
+        ensures nearer { (left : Lefts R) → ComesNearer (many - 1) left self.old self.new }
     {
         self.held.pass(many - 1);
     }

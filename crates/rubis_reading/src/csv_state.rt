@@ -4,7 +4,7 @@ ghost use Rattle.std.specs.Prelude.{◌≡◌};
 ghost use Rattle.csv.specs.Machine.{step};
 ghost use Rattle.csv.specs.Machine as Spec;
 ghost use Rattle.csv.specs.Reading.{default_config};
-ghost use Rattle.rubis_reading.specs.Streams.{state_of};
+ghost use Rattle.rubis_reading.specs.Streams.{state_of_csv};
 
 /// Where the machine stands.
 #[derive(Clone, Copy)]
@@ -25,7 +25,7 @@ pub enum CsvState {
 
 /// After a byte in a field without quotes, or after one with quotes.
 pub fn in_field(byte: u8) -> CsvState
-    ensures { state_of result ≡ (Spec.in_field default_config byte).0 }
+    ensures { state_of_csv result ≡ (Spec.in_field default_config byte).0 }
 {
     match byte {
         b',' => CsvState::FieldStart,
@@ -37,7 +37,7 @@ pub fn in_field(byte: u8) -> CsvState
 
 // After a byte at the start of a record.
 fn at_start(byte: u8) -> CsvState
-    ensures { state_of result ≡ (Spec.start_record default_config byte).0 }
+    ensures { state_of_csv result ≡ (Spec.start_record default_config byte).0 }
 {
     match byte {
         b'\r' | b'\n' => CsvState::Start,
@@ -48,7 +48,7 @@ fn at_start(byte: u8) -> CsvState
 
 /// Where the machine stands after one more byte.
 pub fn after(at: CsvState, byte: u8) -> CsvState
-    ensures { state_of result ≡ (step default_config (state_of at) byte).0 }
+    ensures { state_of_csv result ≡ (step default_config (state_of_csv at) byte).0 }
 {
     match at {
         CsvState::Start => at_start(byte),

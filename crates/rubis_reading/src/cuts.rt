@@ -4,7 +4,7 @@ ghost use Rattle.std.specs.Bool.{MatchBool};
 ghost use Rattle.std.specs.Prelude.{◌≡◌, ◌≤◌, ◌<◌, ◌↔◌, ◌⊎◌, ℕ, IsTrue, List, drop, length, nat_lt, take};
 ghost use Rattle.csv.specs.Reading.{strip_bom};
 ghost use Rattle.csv.specs.declared.parser.State.TheVariants as st;
-ghost use Rattle.rubis_reading.specs.Streams.{state_of, HasEnd, HasLooked, EndsFrom, EndsNoRecord, HasNoQuote, IsLike, IsOutside, IsWhole, NoEndAfter};
+ghost use Rattle.rubis_reading.specs.Streams.{state_of_csv, HasEnd, HasLooked, EndsFrom, EndsNoRecord, HasNoQuote, IsLike, IsOutside, IsWhole, NoEndAfter};
 ghost use Rattle.rubis_reading.specs.Streams.{NoWholeAfter, stands};
 
 use crate::csv_state::{CsvState, after, in_field};
@@ -12,7 +12,7 @@ use memchr::{memchr, memrchr2};
 
 // Whether the machine stands between quotes.
 fn is_quoted(at: CsvState) -> bool
-    ensures { MatchBool result (state_of at ≡ st.InQuoted) (IsOutside (state_of at)) }
+    ensures { MatchBool result (state_of_csv at ≡ st.InQuoted) (IsOutside (state_of_csv at)) }
 {
     matches!(at, CsvState::Quoted)
 }
@@ -22,8 +22,8 @@ fn is_quoted(at: CsvState) -> bool
 fn last_line(at: CsvState, run: &[u8]) -> usize
     requires { HasNoQuote run.now }
     ensures within { result ≤ length run.now }
-    ensures ends { 0 < result → EndsFrom (state_of at) run.now result }
-    ensures last { NoEndAfter (state_of at) run.now result }
+    ensures ends { 0 < result → EndsFrom (state_of_csv at) run.now result }
+    ensures last { NoEndAfter (state_of_csv at) run.now result }
 {
     if is_quoted(at) {
         return 0;
@@ -37,7 +37,7 @@ fn last_line(at: CsvState, run: &[u8]) -> usize
 // Where the machine stands after a text with no quote, as far as what follows goes.
 fn over(at: CsvState, run: &[u8]) -> CsvState
     requires { HasNoQuote run.now }
-    ensures { IsLike (state_of result) (stands (state_of at) run.now) }
+    ensures { IsLike (state_of_csv result) (stands (state_of_csv at) run.now) }
 {
     if is_quoted(at) {
         return at;

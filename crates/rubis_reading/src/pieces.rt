@@ -59,7 +59,7 @@ fn first_records(text: &[u8], most: usize) -> usize
 }
 
 impl<'a> Pieces<'a> {
-    ghost use Rattle.rubis_reading.specs.Readings.{AreFor, AreOf, IsOver, IsPut, KeepFor, TakesFirst};
+    ghost use Rattle.rubis_reading.specs.Readings.{AreFor, AreOf, IsReadingOver, IsPut, KeepFor, TakesPiece};
 
     /// None yet, of a crew to which nothing was given.
     pub fn new(
@@ -193,7 +193,7 @@ impl<'a> Pieces<'a> {
     pub fn next<T: Wait>(&mut self, rt: &T) -> Result<Option<ReadPiece>, OutOfMemory>
         requires { (text : List ℕ) × AreOf text self.old }
         ensures setup { KeepFor self.old self.new }
-        ensures first { IfOk result (λ piece. (text : List ℕ) → AreOf text self.old → TakesFirst text piece self.new) }
+        ensures first { IfOk result (λ piece. (text : List ℕ) → AreOf text self.old → TakesPiece text piece self.new) }
     {
         for _ in rt.forever() {
             let Some(GivenPiece { many, read }) = self.given.pop_front() else {
@@ -213,7 +213,7 @@ impl<'a> Pieces<'a> {
 
     /// Lets all go that is given, and tells the helpers that no more comes.
     pub fn end<T: Wait>(&mut self, rt: &T)
-        ensures { IsOver self.old.lead.crew self.new.lead }
+        ensures { IsReadingOver self.old.lead.crew self.new.lead }
     {
         self.crew.drain(rt, &mut self.lead);
         self.crew.end(rt, &mut self.lead);

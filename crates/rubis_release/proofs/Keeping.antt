@@ -22,7 +22,7 @@ use Rattle.std.proofs.lemmas.Option.{get_or_from_slice_get}
 use Rattle.std.proofs.lemmas.Result.{on_ok_weaker}
 use Rattle.rubis_release.specs.Release.{clock_of, IsAmong, AllAmong, AreCounted, message_id, HaveOwnIds, AreKept, IsAdmitted, IsFirst, NoneReady}
 use mathlib.Core.Bool.{true≢false}
-use Rattle.rubis_release.specs.Waiting.{TakesFirst}
+use Rattle.rubis_release.specs.Waiting.{TakesFirstReady}
 
 pub length_counts : (n : ℕ) (log : List Message) → length (counts n log) ≡ n
 length_counts n log = length-map-range_with_len (λ j. counted j log) 0 n
@@ -381,7 +381,7 @@ pub record IsTurn (clock : MessageCounts) (log waiting left : List Message) (m :
   pub settles : (log' left' : List Message) → Settles (log ++ m ∷ []) left log' left' → Settles log waiting log' left'
 
 pub turn : (clock : MessageCounts) (log : Vec Message) (waiting left : List Message) (m : Message) → AreCounted log waiting clock →
-    TakesFirst clock waiting m left → IsTurn clock log.items waiting left m
+    TakesFirstReady clock waiting m left → IsTurn clock log.items waiting left m
 turn clock log waiting left m counted t = subst (λ w. IsTurn clock log.items waiting w m) (sym t.rest) (record {
   among = among;
   ready = ready;

@@ -12,8 +12,8 @@ use Rattle.std.specs.List.{AllByRecursion, IsDistinct}
 use Rattle.std.proofs.lemmas.Option.{slice_get_past}
 use Rattle.rubis_schema.specs.declared.limits.TheConstants.{SEQ_MAX}
 use Rattle.std.proofs.lemmas.List.{get_or_at}
-use Rattle.rubis_release.specs.Waiting.{Slots, put_some, somes, IsItsSlot, HaveTheirIds, IsReadySlot, IsFirstOf, HasNoReady, NoSlotOf, first_of, AreApart}
-use Rattle.rubis_release.specs.Waiting.{AreSlots, TakesFirst, is_there}
+use Rattle.rubis_release.specs.Waiting.{Slots, put_some, somes, IsItsSlot, HaveTheirIds, IsReadySlot, IsFirstOf, HasNoReady, NoSlotOf, lesser_place, AreApart}
+use Rattle.rubis_release.specs.Waiting.{AreSlots, TakesFirstReady, is_there}
 use mathlib.Core.Bool.{true≢false}
 use Rattle.rubis_release.specs.Release.{AllAmong, IsFirst, NoneReady}
 use Rattle.rubis_release.proofs.Keeping.{has_there}
@@ -98,7 +98,7 @@ module _ (clock : MessageCounts) (es : Slots) (site : ℕ) where
   one_of a b c (inr e) h g = subst (IsReadySlot clock es) (sym e) g
 
   pub first_joined : (a b : Option ℕ) → IsFirstOf clock es (λ j. j < site) a → IsFirstOf clock es (λ j. j ≡ site) b
-      → IsFirstOf clock es (λ j. j < site + 1) (first_of a b)
+      → IsFirstOf clock es (λ j. j < site + 1) (lesser_place a b)
   first_joined None None h g = λ i k m there ready pass. ⊎_elim (λ l. h i k m there ready l) (λ e. g i k m there ready e) (below_or m.stamp.id.site site pass)
   first_joined None (Some b) h g =
       (g.0, λ i k m there ready pass. ⊎_elim (λ l. absurd (h i k m there ready l)) (λ e. g.1 i k m there ready e) (below_or m.stamp.id.site site pass))
@@ -294,7 +294,7 @@ none_of_slots clock es n among none k d within ready =
 
 -- ---- the first that is ready is taken
 pub taken_first : (clock : MessageCounts) (es : Slots) (n at : ℕ) (k : Id) (m : Message) → AllAmong n (somes es) → slice_get es at ≡ Some (k, Some m)
-    → IsFirstOf clock es (λ j. j < n) (Some at) → TakesFirst clock (somes es) m (somes (set_value_at es at None))
+    → IsFirstOf clock es (λ j. j < n) (Some at) → TakesFirstReady clock (somes es) m (somes (set_value_at es at None))
 taken_first clock es n at k m among there first =
     let h = split_slots es at k m there in
     let xs = somes h.front in

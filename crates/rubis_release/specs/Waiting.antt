@@ -68,17 +68,17 @@ abbrev pub NoneTaken : MessageCounts → List Message → List Message → Type 
 NoneTaken clock old new = NoneReady clock old × (new ≡ old)
 
 -- and else it takes the first that is
-pub record TakesFirst (clock : MessageCounts) (old : List Message) (m : Message) (new : List Message) : Type 0 where
+pub record TakesFirstReady (clock : MessageCounts) (old : List Message) (m : Message) (new : List Message) : Type 0 where
   pub at : ℕ
   pub first : IsFirst clock old at
   pub message : slice_get old at ≡ Some m
   pub rest : new ≡ remove old at
 
 -- the lesser of two places, where there are two
-abbrev pub first_of : Option ℕ → Option ℕ → Option ℕ
-first_of None b = b
-first_of (Some i) None = Some i
-first_of (Some i) (Some j) = Some (min i j)
+abbrev pub lesser_place : Option ℕ → Option ℕ → Option ℕ
+lesser_place None b = b
+lesser_place (Some i) None = Some i
+lesser_place (Some i) (Some j) = Some (min i j)
 
 -- a slot is there and has a message
 abbrev pub is_there : Option (Option Message) → Bool

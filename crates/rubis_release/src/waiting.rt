@@ -6,8 +6,8 @@ ghost use Rattle.std.specs.Bool.{MatchBool};
 ghost use Rattle.std.specs.List.{list_any};
 ghost use Rattle.rubis_schema.specs.Keys.{same_id};
 ghost use Rattle.rubis_release.specs.Release.{AllAmong};
-ghost use Rattle.rubis_release.specs.Waiting.{NoneTaken, TakesFirst, IsFirstOf, IsReadySlot, HasNoReady, HaveTheirIds, AreApart, AreSlots};
-ghost use Rattle.rubis_release.specs.Waiting.{first_of, somes};
+ghost use Rattle.rubis_release.specs.Waiting.{NoneTaken, TakesFirstReady, IsFirstOf, IsReadySlot, HasNoReady, HaveTheirIds, AreApart, AreSlots};
+ghost use Rattle.rubis_release.specs.Waiting.{lesser_place, somes};
 ghost use Rattle.indexmap.specs.IndexMap.{get};
 
 use indexmap::IndexMap;
@@ -110,7 +110,7 @@ impl Waiting {
     #[inline(always)]
     pub fn take_ready(&mut self, clock: &Clock) -> Option<Message>
         requires { AllAmong (length clock.now.counts) self.old }
-        ensures { MatchOption result (NoneTaken clock.now self.old self.new) (λ m. TakesFirst clock.now self.old m self.new) }
+        ensures { MatchOption result (NoneTaken clock.now self.old self.new) (λ m. TakesFirstReady clock.now self.old m self.new) }
     {
         let slots = self.slots.len();
         if slots == 0 {
@@ -244,7 +244,7 @@ fn ready_of(
 // The lesser of two places, where there are two.
 #[inline(always)]
 fn earlier(a: Option<usize>, b: Option<usize>) -> Option<usize>
-    ensures { result ≡ first_of a b }
+    ensures { result ≡ lesser_place a b }
 {
     match (a, b) {
         (Some(i), Some(j)) => Some(i.min(j)),

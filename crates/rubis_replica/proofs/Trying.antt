@@ -11,7 +11,7 @@ use Rattle.rubis_message.specs.declared.answers.Arrival.TheVariants as arrival
 use Rattle.rubis_message.specs.declared.answers.Taken.TheVariants as taken
 use Rattle.rubis_replica.specs.State.{TakesFirst, after_all, answers_to, AddsRows, AnswersAsTheStep, SiteState}
 use Rattle.rubis_replica.specs.Tries.{AllLead, AnswersAsWithoutRefusals, AnswersTheSameAgain, Answer, Call, ComeTogether, IsIdle, Leads, Try, Value}
-use Rattle.rubis_replica.specs.Tries.{after_calls, answer_by, answers_given, answers_of, called, calls_answered, came_try, said, stopped_at, telling}
+use Rattle.rubis_replica.specs.Tries.{after_calls, answer_by, answers_given, call_answers, called, calls_answered, came_try, call_said, stopped_at, telling}
 use Rattle.rubis_replica.specs.Tries.{with_answer, with_call}
 use Rattle.rubis_replica.specs.Tries.Call.{Apply, Show}
 use Rattle.rubis_replica.specs.Tries.Value.{Rows}
@@ -61,9 +61,9 @@ pass_stays p s to = passing_stays p s to s.held
 pub step_leads : {A : Type 0} (value : A → Value) (call : Call) (old new : SiteState) (step : Replica × Result A Refusal)
     → called old.place old.state call ≡ telling value step → Stays old.state step → (result : Result A Fault)
     → AnswersAsTheStep old new step result → Leads old.place old.state call (answer_by value result) new.state
-step_leads value call old new step is stays (Ok a) h = (ap (λ c. c.0) is ∙ sym h.0, ap (λ c. c.1) is ∙ ap (said value) h.1)
+step_leads value call old new step is stays (Ok a) h = (ap (λ c. c.0) is ∙ sym h.0, ap (λ c. c.1) is ∙ ap (call_said value) h.1)
 step_leads value call old new step is stays (Err (Refused r)) h =
-    (ap (λ c. c.0) is ∙ stays r h.1 ∙ sym h.0, ap (λ c. c.1) is ∙ ap (said value) h.1)
+    (ap (λ c. c.0) is ∙ stays r h.1 ∙ sym h.0, ap (λ c. c.1) is ∙ ap (call_said value) h.1)
 step_leads value call old new step is stays (Err Behind) h = h
 step_leads value call old new step is stays (Err Memory) h = h
 
@@ -116,15 +116,15 @@ come_together p old new messages answers rest first = record {
 
 -- ---- lists of tries
 one_more : (p : Place) (old next new : Replica) (call : Call) (answer : Option Answer) (more : List Try) → Leads p old call answer next
-    → (after_calls p next (calls_answered more) ≡ new) × (answers_of p next (calls_answered more) ≡ answers_given more)
+    → (after_calls p next (calls_answered more) ≡ new) × (call_answers p next (calls_answered more) ≡ answers_given more)
     → (after_calls p old (with_call call answer (calls_answered more)) ≡ new)
-    × (answers_of p old (with_call call answer (calls_answered more)) ≡ with_answer answer (answers_given more))
+    × (call_answers p old (with_call call answer (calls_answered more)) ≡ with_answer answer (answers_given more))
 one_more p old next new call (Some a) more l rest = (
   ap (λ s. after_calls p s (calls_answered more)) l.0 ∙ rest.0,
-  (λ i. l.1 i ∷ answers_of p (l.0 i) (calls_answered more)) ∙ ap (λ all. a ∷ all) rest.1,
+  (λ i. l.1 i ∷ call_answers p (l.0 i) (calls_answered more)) ∙ ap (λ all. a ∷ all) rest.1,
 )
 one_more p old next new call None more l rest =
-    subst (λ s. (after_calls p s (calls_answered more) ≡ new) × (answers_of p s (calls_answered more) ≡ answers_given more)) l rest
+    subst (λ s. (after_calls p s (calls_answered more) ≡ new) × (call_answers p s (calls_answered more) ≡ answers_given more)) l rest
 
 pub answers_as_without_refusals : AnswersAsWithoutRefusals
 answers_as_without_refusals p old new [] e = (sym e, refl)

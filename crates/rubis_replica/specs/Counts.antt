@@ -7,7 +7,7 @@ pub record IsCount (n most : ℕ) : Type 0 where
   pub small : n ≤ most
 
 -- a follower's workers are from 1 to most; it has from 1 to 255 shards, and room for a stop of each
-pub record IsReady (workers most shards room : ℕ) : Type 0 where
+pub record HasWorkersAndRoom (workers most shards room : ℕ) : Type 0 where
   pub count : IsCount workers most
   pub few : shards ≤ 255
   pub spare : shards ≤ room

@@ -58,13 +58,13 @@ abbrev pub HasBegun : List Message → Progress → Progress → Type 0
 HasBegun log old new = BatchBegins log old.applied (end_of old) new ⊎ BatchBegins log (end_of old) (length log) new
 
 -- memory ran out with no part of the next batch done: nothing else changed, or exactly the kept batch was applied
-abbrev pub IsBetween : Progress → Progress → Type 0
-IsBetween old new = (new ≡ short old) ⊎ (new ≡ short (resting_at (end_of old)))
+abbrev pub IsBetweenBatches : Progress → Progress → Type 0
+IsBetweenBatches old new = (new ≡ short old) ⊎ (new ≡ short (resting_at (end_of old)))
 
 -- an attempt to apply all that is pending: it is applied; or memory ran out, and one of its batches has begun, or no part of the next is
 -- done
 abbrev pub IsTried : List Message → Progress → Progress → Type 0
-IsTried log old new = (new ≡ resting_at (length log)) ⊎ HasBegun log old new ⊎ IsBetween old new
+IsTried log old new = (new ≡ resting_at (length log)) ⊎ HasBegun log old new ⊎ IsBetweenBatches old new
 
 -- what was pending before the log grew was tried; where all of it is applied, what came since may be kept as the next batch
 abbrev pub IsAhead : List Message → List Message → Progress → Progress → Type 0

@@ -35,13 +35,13 @@ abbrev pub Answer : Type 0
 Answer = Result Value Refusal
 
 -- the answer of a result, as what calls answer
-abbrev pub said : {A : Type 0} → (A → Value) → Result A Refusal → Answer
-said value (Ok a) = Ok (value a)
-said value (Err r) = Err r
+abbrev pub call_said : {A : Type 0} → (A → Value) → Result A Refusal → Answer
+call_said value (Ok a) = Ok (value a)
+call_said value (Err r) = Err r
 
 -- a step of the model, with its answer as what calls answer
 abbrev pub telling : {A : Type 0} → (A → Value) → Replica × Result A Refusal → Replica × Answer
-telling value step = (step.0, said value step.1)
+telling value step = (step.0, call_said value step.1)
 
 -- what the model makes of a call: where it leads, and its answer
 abbrev pub called : Place → Replica → Call → Replica × Answer
@@ -102,15 +102,15 @@ after_calls p s [] = s
 after_calls p s (call ∷ more) = after_calls p (called p s call).0 more
 
 -- what a site answers to calls of which each is made once
-abbrev pub answers_of : Place → Replica → List Call → List Answer
-answers_of p s [] = []
-answers_of p s (call ∷ more) = (called p s call).1 ∷ answers_of p (called p s call).0 more
+abbrev pub call_answers : Place → Replica → List Call → List Answer
+call_answers p s [] = []
+call_answers p s (call ∷ more) = (called p s call).1 ∷ call_answers p (called p s call).0 more
 
 -- whatever refusals of memory come between, each answer that was given is the model's answer to the calls answered so far, and
 -- these alone lead to where the site stands
 abbrev pub AnswersAsWithoutRefusals : Type 0
 AnswersAsWithoutRefusals = (p : Place) (old new : Replica) (tries : List Try) → AllLead p old tries new
-    → (after_calls p old (calls_answered tries) ≡ new) × (answers_of p old (calls_answered tries) ≡ answers_given tries)
+    → (after_calls p old (calls_answered tries) ≡ new) × (call_answers p old (calls_answered tries) ≡ answers_given tries)
 
 -- a try without an answer, or one that only applies something
 abbrev pub IsIdle : Try → Type 0
@@ -127,7 +127,7 @@ AnswersTheSameAgain = (p : Place) (old new : Replica) (idle : List Try) (call : 
 
 -- a message and its answer, as a try
 abbrev pub came_try : Message × Result Arrival Refusal → Try
-came_try came = record { call = Arrive came.0; answer = Some (said Came came.1) }
+came_try came = record { call = Arrive came.0; answer = Some (call_said Came came.1) }
 
 -- the first of those that weren't taken in, if there are some, had no answer
 abbrev pub stopped_at : List Message → List Try

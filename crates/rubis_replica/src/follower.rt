@@ -6,7 +6,7 @@ ghost use Rattle.rubis_message.specs.Message.{sites_of};
 ghost use Rattle.rubis_model.specs.Listings.{log_rows, misfit_rows, table_rows};
 ghost use Rattle.rubis_workers.specs.Shard.{HoldsLog, union};
 ghost use Rattle.rubis_replica.specs.State.{IsStop, TakesFirst};
-ghost use Rattle.rubis_replica.specs.Follow.{CanFollow, ComesTo, FollowsLog, GoesOnTo, IsTriedTo, HasBegun, IsAhead, IsBetween, is_behind, left_of, resting_at};
+ghost use Rattle.rubis_replica.specs.Follow.{CanFollow, ComesTo, FollowsLog, GoesOnTo, IsTriedTo, HasBegun, IsAhead, IsBetweenBatches, is_behind, left_of, resting_at};
 ghost use Rattle.rubis_replica.specs.Counts.{IsCount};
 
 use crate::arriving::{Arrived, take_all};
@@ -57,7 +57,7 @@ impl<G: Gate> Model for Follower<G> {
     ghost use Rattle.rubis_workers.specs.Shard.Tables as shards;
     ghost use Rattle.rubis_schema.specs.declared.limits.TheConstants.{WORKERS_MAX};
     ghost use Rattle.rubis_replica.specs.Follow as model;
-    ghost use Rattle.rubis_replica.specs.Counts.{IsReady};
+    ghost use Rattle.rubis_replica.specs.Counts.{HasWorkersAndRoom};
 
     ghost Value = { model.Follower };
 
@@ -69,7 +69,7 @@ impl<G: Gate> Model for Follower<G> {
       tables = f.tables;
     } };
 
-    ghost invariant = { λ f. IsReady f.workers.most WORKERS_MAX (length f.tables) (vec_capacity f.stops) };
+    ghost invariant = { λ f. HasWorkersAndRoom f.workers.most WORKERS_MAX (length f.tables) (vec_capacity f.stops) };
 }
 
 impl<G: Gate + Drop> Follower<G> {
@@ -144,7 +144,7 @@ impl<G: Gate + Drop> Follower<G> {
         requires follows { FollowsLog intake.old.state.log self.old }
         ensures follows { FollowsLog intake.old.state.log self.new }
         ensures ok { OnOk result (self.new.progress ≡ resting_at (length intake.old.state.log)) }
-        ensures err { OnErr result (HasBegun intake.old.state.log self.old.progress self.new.progress ⊎ IsBetween self.old.progress self.new.progress) }
+        ensures err { OnErr result (HasBegun intake.old.state.log self.old.progress self.new.progress ⊎ IsBetweenBatches self.old.progress self.new.progress) }
         ensures intake { intake.new ≡ intake.old }
         ensures crew { hands.new.lead.crew ≡ hands.old.lead.crew }
     {
@@ -287,7 +287,7 @@ impl<G: Gate> Follower<G> {
         requires follows { FollowsLog log.now self.old }
         ensures follows { FollowsLog log.now self.new }
         ensures ok { OnOk result (self.new.progress ≡ resting_at (length log.now)) }
-        ensures err { OnErr result (HasBegun log.now self.old.progress self.new.progress ⊎ IsBetween self.old.progress self.new.progress) }
+        ensures err { OnErr result (HasBegun log.now self.old.progress self.new.progress ⊎ IsBetweenBatches self.old.progress self.new.progress) }
     {
         let end = self.progress.end();
         self.follow_upto(rt, log, end)?;

@@ -2,7 +2,7 @@
 pub use Rattle.std.proofs.Common.{All, Bool, Err, List, None, Ok, Option, Result, Some, [], ap, append-nil, append_assoc, arith, decimal, drop, false}
 pub use Rattle.std.proofs.Common.{inl, inr, length, length-append, refl, rules, subst, suc, sym, take, true, zero, ℕ, ◌++◌, ◌+◌, ◌-◌, ◌∙◌, ◌∷◌, ◌≡◌}
 pub use Rattle.std.proofs.Common.{◌≤◌}
-pub use Rattle.std.specs.Prelude.{IfSome, codes}
+pub use Rattle.std.specs.Prelude.{codes}
 pub use Rattle.std.proofs.lemmas.Result.{on_ok_weaker}
 pub use Rattle.std.specs.Io.KnownBytes.{Appends}
 pub use Rattle.rubis_schema.specs.declared.listings.Listing.{Listing}

@@ -8,7 +8,7 @@ use Rattle.rubis_engine.proofs.RunFacts.{answers-waiting}
 use Rattle.rubis_message.specs.declared.requests.Request.TheVariants as request
 use Rattle.rubis_script.specs.Desks.{KeepsSetup, LeadsSite, TakesHeld, TakesNext, WritesNext, WritesPrefixFrom, left_at}
 use Rattle.rubis_script.specs.Windows.{WritesFront, WritesOff, listed_behind}
-use Rattle.rubis_script.specs.Headline.{Settles, StepsOn}
+use Rattle.rubis_script.specs.Headline.{SettlesHeld, StepsOn}
 use Rattle.rubis_script.specs.Inputs.{IsAnswered}
 use Rattle.rubis_script.specs.SiteRuns.{site_account, told_by}
 use Rattle.rubis_script.specs.declared.desk.Desk.{Desk}
@@ -35,7 +35,7 @@ held-pushed false xs items m sites is h e = subst (λ w. All (λ x. sites_of x �
 
 -- ---- where its records lead
 
-pub leads-settled : {T : Type 0} (d d2 : Desk T) → Settles d.site d.window.items d2.site d2.window.items → LeadsAlike LeadsSite d d2
+pub leads-settled : {T : Type 0} (d d2 : Desk T) → SettlesHeld d.site d.window.items d2.site d2.window.items → LeadsAlike LeadsSite d d2
 leads-settled d d2 (place, state) number more last (none, at, is) = (none, at ∙ place, is ∙ (λ i. site_after (place i) (state i) number more))
 
 pub leads-on : {T : Type 0} (d d2 : Desk T) (n : ℕ) (fields : List (List ℕ)) (input : Input) → input_of d.site.place.sites fields ≡ input

@@ -1,14 +1,14 @@
 -- What the end of a run says of the site.
-use Rattle.rubis_script.proofs.Common.{◌≡◌, ◌∙◌, [], ℕ, List, Option, ap, refl, subst, sym, take, IfSome, Result, Ok, Err, Some, None, Appends}
+use Rattle.rubis_script.proofs.Common.{◌≡◌, ◌∙◌, [], ℕ, List, Option, ap, refl, subst, sym, take, Result, Ok, Err, Appends}
 use Rattle.rubis_script.proofs.Common.{site_after, answers, after_all, SiteState, Account, AtEnd, Cut, WrotePrefix, input_records, Count, RunFault}
 use Rattle.rubis_script.proofs.Common.{Chunks}
 use Rattle.rubis_engine.specs.Accounts.{Ending}
-use Rattle.rubis_reading.specs.Chunked.{HasAll, HasCome, HasPending}
+use Rattle.rubis_engine.specs.Seam.{Lefts}
 use Rattle.rubis_serving.specs.Serving.{EndsLed}
 use Rattle.rubis_engine.specs.declared.fault.RunFault.TheVariants as fault
 use Rattle.rubis_script.specs.Desks.{LeadsSite, left_at}
 use Rattle.rubis_script.specs.Headline.{HasAnswered}
-use Rattle.rubis_script.specs.Runs.{EndsWhole}
+use Rattle.rubis_script.specs.Runs.{EndsAsSite}
 use Rattle.rubis_script.specs.declared.desk.Desk.{Desk}
 use Rattle.rubis_script.proofs.LeadFacts.{SiteEnds}
 use Rattle.rubis_script.proofs.WindowFacts.{held-told}
@@ -29,9 +29,9 @@ has_answered d d2 ending records old now none out (held, place, state) = (
   (place, state ∙ ap (λ w. site_after d.site.place (after_all d.site.place d.site.state w) 1 records) none),
 )
 
-pub led_site : {R T : Type 0} (rem : R → Option (List ℕ)) (chunks : Chunks R) (limit : ℕ) (d d2 : Desk T) (old now : Option (List ℕ)) (input : List ℕ)
+pub led_site : {R T : Type 0} (rem : Lefts R) (chunks : Chunks R) (limit : ℕ) (d d2 : Desk T) (old now : Option (List ℕ)) (input : List ℕ)
     (result : Result Count RunFault) → d.window.items ≡ [] → EndsLed left_at LeadsSite rem chunks limit d d2 old now input result
-    → EndsWhole rem chunks limit d.site d2.site old now input result
+    → EndsAsSite rem chunks limit d.site d2.site old now input result
 led_site rem chunks limit d d2 old now input (Ok count) none ((out, many, within), led) =
     (has_answered d d2 AtEnd (input_records input) old now none out led, many, within)
 led_site rem chunks limit d d2 old now input (Err fault.TooLong) none ((out, more, read), led) =
@@ -44,19 +44,10 @@ led_site rem chunks limit d d2 old now input (Err fault.Write) none prefix =
     subst (λ (a : Account). WrotePrefix (a.text AtEnd) old now (input_records input)) (held-told d.site d.window.items d.first 1 none) prefix
 
 -- in fewer words
-site_ends : {R : Type 0} (rem : R → Option (List ℕ)) (chunks : Chunks R) (limit : ℕ) (first new : SiteState) (old now : Option (List ℕ)) (input : List ℕ)
-    (result : Result Count RunFault) → EndsWhole rem chunks limit first new old now input result → SiteEnds limit first new old now (input_records input) result
+pub site_ends : {R : Type 0} (rem : Lefts R) (chunks : Chunks R) (limit : ℕ) (first new : SiteState) (old now : Option (List ℕ)) (input : List ℕ)
+    (result : Result Count RunFault) → EndsAsSite rem chunks limit first new old now input result → SiteEnds limit first new old now (input_records input) result
 site_ends rem chunks limit first new old now input (Ok count) ends = ends
 site_ends rem chunks limit first new old now input (Err fault.TooLong) ends = ends
 site_ends rem chunks limit first new old now input (Err fault.Read) ends = (ends.0, ends.1.0)
 site_ends rem chunks limit first new old now input (Err fault.Memory) ends = ends
 site_ends rem chunks limit first new old now input (Err fault.Write) ends = ends
-
--- a run over a reader ends so
-pub reader_ends : {R : Type 0} (rem : R → Option (List ℕ)) (chunks chunks2 : Chunks R) (limit : ℕ) (first new : SiteState) (known old now : Option (List ℕ))
-    (result : Result Count RunFault) → IfSome known (λ input. HasPending rem chunks (input_records input)) → IfSome known (λ input. HasCome rem input chunks)
-    → ((input : List ℕ) → HasAll rem chunks input → EndsWhole rem chunks2 limit first new old now input result)
-    → IfSome known (λ input. SiteEnds limit first new old now (input_records input) result)
-reader_ends rem chunks chunks2 limit first new None old now result pending come ends = tt
-reader_ends rem chunks chunks2 limit first new (Some input) old now result pending come ends =
-    site_ends rem chunks2 limit first new old now input result (ends input (pending, come))

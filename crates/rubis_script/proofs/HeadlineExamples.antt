@@ -181,22 +181,22 @@ first_alone_writes_not h = first_is_not_all (h most among_others both_read ∙ a
 -- ---- of which records it is said
 
 -- all of them, neither more nor fewer, at the end of the input
-all_at_end : (limit : ℕ) (bytes : List ℕ) (count : Count) → OfRead limit (Some bytes) (Ok count) (λ records. records ≡ input_records bytes)
+all_at_end : (limit : ℕ) (bytes : List ℕ) (count : Count) → OfRead limit bytes (Ok count) (λ records. records ≡ input_records bytes)
 all_at_end limit bytes count = refl
 
 -- as many as the limit says where there are more
-limit_where_too_long : (limit : ℕ) (bytes : List ℕ) → OfRead limit (Some bytes) (Err fault.TooLong) (λ records. records ≡ take limit (input_records bytes))
+limit_where_too_long : (limit : ℕ) (bytes : List ℕ) → OfRead limit bytes (Err fault.TooLong) (λ records. records ≡ take limit (input_records bytes))
 limit_where_too_long limit bytes = refl
 
 -- any number of first ones where the reader failed, but some
-some_where_read_fails : (limit k : ℕ) (bytes : List ℕ) → OfRead limit (Some bytes) (Err fault.Read) (λ records. records ≡ take k (input_records bytes))
+some_where_read_fails : (limit k : ℕ) (bytes : List ℕ) → OfRead limit bytes (Err fault.Read) (λ records. records ≡ take k (input_records bytes))
 some_where_read_fails limit k bytes = (k, refl)
 
-nothing_else_where_read_fails : (limit : ℕ) (bytes : List ℕ) → OfRead limit (Some bytes) (Err fault.Read) (λ records. ⊥) → ⊥
+nothing_else_where_read_fails : (limit : ℕ) (bytes : List ℕ) → OfRead limit bytes (Err fault.Read) (λ records. ⊥) → ⊥
 nothing_else_where_read_fails limit bytes h = h.1
 
-nothing_else_where_too_long : (limit : ℕ) (bytes : List ℕ) → OfRead limit (Some bytes) (Err fault.TooLong) (λ records. ⊥) → ⊥
+nothing_else_where_too_long : (limit : ℕ) (bytes : List ℕ) → OfRead limit bytes (Err fault.TooLong) (λ records. ⊥) → ⊥
 nothing_else_where_too_long limit bytes h = h
 
-nothing_else_at_end : (limit : ℕ) (bytes : List ℕ) (count : Count) → OfRead limit (Some bytes) (Ok count) (λ records. ⊥) → ⊥
+nothing_else_at_end : (limit : ℕ) (bytes : List ℕ) (count : Count) → OfRead limit bytes (Ok count) (λ records. ⊥) → ⊥
 nothing_else_at_end limit bytes count h = h

@@ -4,8 +4,9 @@ use Rattle.rubis_script.proofs.Common.{arith, length, length-append, refl, Err, 
 use Rattle.rubis_script.proofs.Common.{held_text, AreOf, AreInputs, FitsWindow, all_came, flat, of_stretch, Chunks, are_outlets, Message, sites_of}
 use Rattle.rubis_script.proofs.Common.{FitsIn, Input, Came, Msg, answers, input_records, rows_text, came-length}
 use Rattle.std.specs.Prelude.{IfNone, IfOk, OnOk}
+use Rattle.rubis_engine.specs.Seam.{Lefts, OfEach}
 use Rattle.rubis_reading.specs.Chunked.{IsChunk}
-use Rattle.rubis_reading.specs.Readings.{AreRead, KeepFor, TakesFirst, FitWindow}
+use Rattle.rubis_reading.specs.Readings.{AreRead, KeepFor, TakesPiece, FitWindow}
 use Rattle.rubis_reading.specs.declared.pieces.Pieces.{Pieces}
 use Rattle.rubis_reading.specs.declared.pieces.ReadPiece.{ReadPiece}
 use Rattle.rubis_reading.specs.declared.stretches.Stretch.{Stretch}
@@ -15,9 +16,9 @@ use Rattle.rubis_serving.proofs.ServedFacts.{moves-kept, turns-on}
 use Rattle.rubis_message.specs.Inputs.{IsInput}
 use Rattle.rubis_reading.proofs.PieceFacts.{all-fit}
 use Rattle.rubis_serving.specs.Outlets.{IsOutlet, writes, writes_front}
-use Rattle.rubis_script.specs.Desks.{IsFolded, KeepsSetup, left_at, setup_of, TakesHeld, WritesNext, WritesPrefixFrom}
+use Rattle.rubis_script.specs.Desks.{KeepsAllButTables, KeepsSetup, left_at, setup_of, TakesHeld, WritesNext, WritesPrefixFrom}
 use Rattle.rubis_script.specs.Runs.{by_desk, AreHeld, BreaksAhead, GoesAhead, IsSound}
-use Rattle.rubis_script.specs.Windows.{held_by, window_rows}
+use Rattle.rubis_script.specs.Windows.{made_of_held, window_rows}
 use Rattle.rubis_script.specs.declared.desk.Desk.{Desk}
 use Rattle.rubis_script.proofs.DeskFacts.{leads-on, leads-settled}
 use Rattle.rubis_script.proofs.WindowFacts.{leads_all, rows_all}
@@ -48,13 +49,13 @@ read-on d d2 text list setup is =
     subst (λ p. AreRead p.sites d2.plan.window text list) (sym setup.0) (subst (λ q. AreRead d.site.place.sites q.window text list) (sym setup.1) is)
 
 -- a piece was taken off
-pub takes-one : (text : List ℕ) (o : Option ReadPiece) (p : ReadPiece) (s : Pieces) → TakesFirst text o s → o ≡ Some p
+pub takes-one : (text : List ℕ) (o : Option ReadPiece) (p : ReadPiece) (s : Pieces) → TakesPiece text o s → o ≡ Some p
     → IsChunk p.many text × AreRead s.sites s.window (take p.many text) p.list.items × AreOf (drop (p.many - 1) text) s
-takes-one text o p s h is = subst (λ x. TakesFirst text x s) is h
+takes-one text o p s h is = subst (λ x. TakesPiece text x s) is h
 
 -- there was none
-pub takes-none : (text : List ℕ) (o : Option ReadPiece) (s : Pieces) → TakesFirst text o s → o ≡ None → (other : List ℕ) → AreOf other s
-takes-none text o s h is = subst (λ x. TakesFirst text x s) is h
+pub takes-none : (text : List ℕ) (o : Option ReadPiece) (s : Pieces) → TakesPiece text o s → o ≡ None → (other : List ℕ) → AreOf other s
+takes-none text o s h is = subst (λ x. TakesPiece text x s) is h
 
 -- what holds whether the run goes on or not
 pub if-on : (P : Type 0) (r : Result (Option Count) RunFault) → P → IfOk r (λ over. IfNone over P)
@@ -73,14 +74,16 @@ as-setup d d2 same = (ap (λ p. p.0) same, ap (λ p. p.1) same)
 
 -- what it leaves, as it is named otherwise
 pub ends-at : {R T W : Type 0} (contents : W → Option (List ℕ)) (limit : ℕ) (rem : R → Option (List ℕ)) (chunks c1 c2 : Chunks R) (x y1 y2 : At (Desk T) W)
-    (result : Result Count RunFault) → c1 ≡ c2 → y1 ≡ y2 → Finishes (by_desk contents) limit rem chunks x c1 y1 result
-    → Finishes (by_desk contents) limit rem chunks x c2 y2 result
+    (result : Result Count RunFault) → c1 ≡ c2 → y1 ≡ y2
+    → OfEach rem chunks.reader c1.reader (λ left. Finishes (by_desk contents) limit left chunks x c1 y1 result)
+    → OfEach rem chunks.reader c2.reader (λ left. Finishes (by_desk contents) limit left chunks x c2 y2 result)
 ends-at contents limit rem chunks c1 c2 x y1 y2 result c_is y_is h =
-    subst (λ y. Finishes (by_desk contents) limit rem chunks x c2 y result) y_is (subst (λ c. Finishes (by_desk contents) limit rem chunks x c y1 result) c_is h)
+    subst (λ y. OfEach rem chunks.reader c2.reader (λ left. Finishes (by_desk contents) limit left chunks x c2 y result)) y_is
+    (subst (λ c. OfEach rem chunks.reader c.reader (λ left. Finishes (by_desk contents) limit left chunks x c y1 result)) c_is h)
 
 -- messages are folded, and the run goes on from there
-pub folded-turns : {R T W : Type 0} (contents : W → Option (List ℕ)) (limit : ℕ) (rem : R → Option (List ℕ)) (chunks chunks2 : Chunks R) (x : At (Desk T) W)
-    (d2 : Desk T) (y : At (Desk T) W) (result : Result (Option Count) RunFault) → IsFolded x.service d2
+pub folded-turns : {R T W : Type 0} (contents : W → Option (List ℕ)) (limit : ℕ) (rem : Lefts R) (chunks chunks2 : Chunks R) (x : At (Desk T) W)
+    (d2 : Desk T) (y : At (Desk T) W) (result : Result (Option Count) RunFault) → KeepsAllButTables x.service d2
     → Turns (by_desk contents) limit rem chunks (record x { service = d2 }) chunks2 y result → Turns (by_desk contents) limit rem chunks x chunks2 y result
 folded-turns contents limit rem chunks chunks2 x d2 y result f h =
     let d = x.service in
@@ -88,7 +91,7 @@ folded-turns contents limit rem chunks chunks2 x d2 y result f h =
     let state = f.state in
     let (held, number) = f.held in
     let n = x.answered + 1 in
-    let same : left_at d n ≡ left_at d2 n = λ i. held_by (record { place = sym place i; state = sym state i; progress = d.site.progress; batch = d.site.batch })
+    let same : left_at d n ≡ left_at d2 n = λ i. made_of_held (record { place = sym place i; state = sym state i; progress = d.site.progress; batch = d.site.batch })
     (sym held i) (sym number i) n in
     turns-on (are_outlets contents) limit chunks2 y result
     (moves-kept (λ rows h. h) (λ input h. h) (goes-kept (are_outlets contents) d2 x.sink

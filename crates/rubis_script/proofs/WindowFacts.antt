@@ -16,7 +16,7 @@ use Rattle.rubis_engine.specs.Rows.{more_written}
 use Rattle.rubis_message.specs.declared.answers.Arrival.TheVariants as arrival
 use Rattle.rubis_script.specs.Inputs.{IsAnswered, IsRefusedBy}
 use Rattle.rubis_script.specs.SiteRuns.{told_by}
-use Rattle.rubis_script.specs.Windows.{arrivals_rows, held_by, window_rows, WritesFront, WritesOff, listed_behind}
+use Rattle.rubis_script.specs.Windows.{arrivals_rows, made_of_held, window_rows, WritesFront, WritesOff, listed_behind}
 use Rattle.rubis_script.proofs.LeadFacts.{after_more}
 use Rattle.rubis_message.specs.declared.requests.Request.TheVariants as request
 
@@ -90,7 +90,7 @@ rows_held p s first n w m fields more here is =
 
 pub holds_more : (s : SiteState) (first n : ℕ) (w : List Message) (m : Message) (fields : List (List ℕ)) (sink : List ℕ)
     → first + length w ≡ n → input_of s.place.sites fields ≡ Came (Msg m)
-    → AnswersRecord GoesOn (held_by s w first n) (held_by s (w ++ m ∷ []) first (n + 1)) sink sink fields
+    → AnswersRecord GoesOn (made_of_held s w first n) (made_of_held s (w ++ m ∷ []) first (n + 1)) sink sink fields
 holds_more s first n w m fields sink here is more =
     (λ ending. ap (λ rows. sink ++ rows_text rows) (rows_held s.place s.state first n w m fields more here is), omega arith)
 
@@ -157,7 +157,7 @@ answers-few p old new ms rest answers t =
 pub flush_keeps : (old new : SiteState) (window rest : List Message) (n first : ℕ) (told : List _) (sink sink2 : List ℕ)
     → new.place ≡ old.place → TakesFirst old.place old.state new.state window told rest → rest ≡ []
     → sink2 ≡ sink ++ rows_text (arrivals_rows first told)
-    → Keeps (held_by old window first n) (told_by new n) sink sink2
+    → Keeps (made_of_held old window first n) (told_by new n) sink sink2
 flush_keeps old new window rest n first told sink sink2 place t none wrote more =
     let same : t.taken ≡ window = sym (t.parts ∙ ap (λ r. t.taken ++ r) none ∙ append-nil t.taken) in
     let rows = window_rows old.place old.state first window in
@@ -172,25 +172,25 @@ flush_keeps old new window rest n first told sink sink2 place t none wrote more 
 
 -- those that are held are taken in, and then the record is answered
 pub flush_goes : (old mid new : SiteState) (w w2 : List Message) (first first2 n : ℕ) (fields : List (List ℕ)) (sink sink2 sink3 : List ℕ)
-    → Keeps (held_by old w first n) (told_by mid n) sink sink2 → new.place ≡ mid.place → IsAnswered n (input_of mid.place.sites fields) mid new sink2 sink3
-    → w2 ≡ [] → AnswersRecord GoesOn (held_by old w first n) (held_by new w2 first2 (n + 1)) sink sink3 fields
+    → Keeps (made_of_held old w first n) (told_by mid n) sink sink2 → new.place ≡ mid.place → IsAnswered n (input_of mid.place.sites fields) mid new sink2 sink3
+    → w2 ≡ [] → AnswersRecord GoesOn (made_of_held old w first n) (made_of_held new w2 first2 (n + 1)) sink sink3 fields
 flush_goes old mid new w w2 first first2 n fields sink sink2 sink3 keeps place answered none =
-    subst (λ v. AnswersRecord GoesOn (held_by old w first n) (held_by new v first2 (n + 1)) sink sink3 fields) (sym none)
+    subst (λ v. AnswersRecord GoesOn (made_of_held old w first n) (made_of_held new v first2 (n + 1)) sink sink3 fields) (sym none)
     (λ more. let read = (keeps (fields ∷ more)).1 in (
       λ ending. (keeps (fields ∷ more)).0 ending ∙ site_goes mid new n fields sink2 sink3 place answered more,
       omega (arith, read),
     ))
 
 -- where nothing is held, the rest is the site's
-pub held-told : (s : SiteState) (window : List Message) (first n : ℕ) → window ≡ [] → held_by s window first n ≡ told_by s n
+pub held-told : (s : SiteState) (window : List Message) (first n : ℕ) → window ≡ [] → made_of_held s window first n ≡ told_by s n
 held-told s window first n none = rw none refl
 
 pub told-kept : (all : Account) (s : SiteState) (window : List Message) (first n : ℕ) (sink sink2 : List ℕ) → window ≡ []
-    → Keeps all (told_by s n) sink sink2 → Keeps all (held_by s window first n) sink sink2
+    → Keeps all (told_by s n) sink sink2 → Keeps all (made_of_held s window first n) sink sink2
 told-kept all s window first n sink sink2 none keeps = subst (λ (a : Account). Keeps all a sink sink2) (sym (held-told s window first n none)) keeps
 
 pub told-held : (all : Account) (s : SiteState) (window : List Message) (first n : ℕ) (sink sink2 : List ℕ) → window ≡ []
-    → Keeps all (held_by s window first n) sink sink2 → Keeps all (told_by s n) sink sink2
+    → Keeps all (made_of_held s window first n) sink sink2 → Keeps all (told_by s n) sink sink2
 told-held all s window first n sink sink2 none keeps = subst (λ (a : Account). Keeps all a sink sink2) (held-told s window first n none) keeps
 
 -- ---- what writing a text out in part comes to
@@ -246,21 +246,21 @@ off_more text mid left old now now2 first second = record {
 
 -- the messages that were held are taken in, and the record is answered
 pub listed_goes : (old mid new : SiteState) (w w2 : List Message) (first first2 n : ℕ) (l : Listing) (fields : List (List ℕ)) (sink sink2 : List ℕ)
-    → Keeps (held_by old w first n) (told_by mid n) sink sink2 → new.place ≡ mid.place → new.state ≡ mid.state → w2 ≡ []
+    → Keeps (made_of_held old w first n) (told_by mid n) sink sink2 → new.place ≡ mid.place → new.state ≡ mid.state → w2 ≡ []
     → input_of mid.place.sites fields ≡ Asked (request.List l)
-    → AnswersRecord GoesOn (held_by old w first n) (held_by new w2 first2 (n + 1)) sink (listed_behind sink2 mid n l) fields
+    → AnswersRecord GoesOn (made_of_held old w first n) (made_of_held new w2 first2 (n + 1)) sink (listed_behind sink2 mid n l) fields
 listed_goes old mid new w w2 first first2 n l fields sink sink2 keeps place state none input =
     flush_goes old mid new w w2 first first2 n fields sink sink2 (listed_behind sink2 mid n l) keeps place
     (subst (λ i. IsAnswered n i mid new sink2 (listed_behind sink2 mid n l)) (sym input) (state, refl)) none
 
 -- the front of the answer was written
 pub listed_front : (old mid : SiteState) (w : List Message) (first n : ℕ) (l : Listing) (fields : List (List ℕ)) (sink sink2 : List ℕ)
-    (now now2 : Option (List ℕ)) → Keeps (held_by old w first n) (told_by mid n) sink sink2 → input_of mid.place.sites fields ≡ Asked (request.List l)
-    → WritesFront (listed_behind sink2 mid n l) now now2 → BreaksOff (held_by old w first n) sink fields now now2
+    (now now2 : Option (List ℕ)) → Keeps (made_of_held old w first n) (told_by mid n) sink sink2 → input_of mid.place.sites fields ≡ Asked (request.List l)
+    → WritesFront (listed_behind sink2 mid n l) now now2 → BreaksOff (made_of_held old w first n) sink fields now now2
 listed_front old mid w first n l fields sink sink2 now now2 keeps input (left, off) more =
     let answers = listed_goes old mid mid w [] first first n l fields sink sink2 keeps refl refl refl input in
     subst (AppendsFront now now2) (sym ((answers more).0 AtEnd))
-    (front-longer now now2 (listed_behind sink2 mid n l) ((held_by mid [] first (n + 1)).text AtEnd more) (off.out, left, off.appended, sym off.parts))
+    (front-longer now now2 (listed_behind sink2 mid n l) ((made_of_held mid [] first (n + 1)).text AtEnd more) (off.out, left, off.appended, sym off.parts))
 
 -- ---- the rows of a listing
 

@@ -8,14 +8,14 @@ use Rattle.rubis_replica.specs.State.{after_all}
 use Rattle.rubis_engine.specs.Accounts.{Account, AnswersRecord, Keeps}
 use Rattle.rubis_engine.specs.Progress.{BreaksOff, WritesRecord}
 use Rattle.rubis_engine.specs.declared.service.Course.TheVariants.{GoesOn}
-use Rattle.rubis_script.specs.Headline.{Settles, StepsOn}
-use Rattle.rubis_script.specs.Windows.{held_by}
+use Rattle.rubis_script.specs.Headline.{SettlesHeld, StepsOn}
+use Rattle.rubis_script.specs.Windows.{made_of_held}
 use Rattle.rubis_script.specs.declared.desk.Desk.{Desk}
 use Rattle.rubis_script.specs.declared.plan.Plan.{Plan}
 
 -- what is still to be made of the messages that it holds, and of the records to come, the first of which has that number
 abbrev pub left_at : {T : Type 0} → Desk T → ℕ → Account
-left_at d = held_by d.site d.window.items d.first
+left_at d = made_of_held d.site d.window.items d.first
 
 -- with the messages that it holds taken in, these records, the first of which has that number, lead it to the other, which holds none
 abbrev pub LeadsSite : {T : Type 0} → Desk T → ℕ → List (List (List ℕ)) → Desk T → Type 0
@@ -31,7 +31,7 @@ abbrev pub setup_of : {T : Type 0} → Desk T → Place × Plan
 setup_of d = (d.site.place, d.plan)
 
 -- nothing of it changed but how far the site's tables are
-pub record IsFolded {T : Type 0} (old new : Desk T) : Type 0 where
+pub record KeepsAllButTables {T : Type 0} (old new : Desk T) : Type 0 where
   pub setup : KeepsSetup old new
   pub state : new.site.state ≡ old.site.state
   pub held : (new.window.items ≡ old.window.items) × (new.first ≡ old.first)
@@ -39,7 +39,7 @@ pub record IsFolded {T : Type 0} (old new : Desk T) : Type 0 where
 -- messages that it held were taken in and answered, or none
 pub record TakesHeld {T : Type 0} (old new : Desk T) (sink sink2 : List ℕ) : Type 0 where
   pub text : (number : ℕ) → Keeps (left_at old number) (left_at new number) sink sink2
-  pub leads : Settles old.site old.window.items new.site new.window.items
+  pub leads : SettlesHeld old.site old.window.items new.site new.window.items
 
 -- the record with that number, which means that, was answered or is held
 pub record TakesNext {T : Type 0} (input : Input) (number : ℕ) (old new : Desk T) (sink sink2 : List ℕ) : Type 0 where

@@ -1,5 +1,5 @@
 -- What a run of one site says of it: what the site answers to the records that it reads, also where it is built again by replaying them.
-use Rattle.std.specs.Prelude.{◌≡◌, ◌+◌, ◌++◌, ◌∷◌, [], ℕ, List, length, ◌≤◌, ◌<◌, ⊤, IfSome, Option, None, Result, Ok, Err, take}
+use Rattle.std.specs.Prelude.{◌≡◌, ◌+◌, ◌++◌, ◌∷◌, [], ℕ, List, length, ◌≤◌, ◌<◌, ⊤, Option, None, Result, Ok, Err, take}
 use Rattle.rubis_message.specs.Inputs.{input_of}
 use Rattle.rubis_model.specs.Site.{answers, input_step, Place, Replica}
 use Rattle.std.specs.Io.KnownBytes.{Appends}
@@ -27,10 +27,10 @@ ReplaysGoOn = (p : Place) (s : Replica) (n : ℕ) (records more : List (List (Li
 
 -- of the records that a run answers this holds, by how it ends: of all records at the end of the input, of the first `limit` where
 -- there are more, of some first ones where the reader failed. Where memory ran out or the writer failed, nothing is said
-abbrev pub OfRead : ℕ → Option (List ℕ) → Result Count RunFault → (List (List (List ℕ)) → Type 0) → Type 0
-OfRead limit input (Ok count) holds = IfSome input (λ bytes. holds (input_records bytes))
-OfRead limit input (Err TooLong) holds = IfSome input (λ bytes. holds (take limit (input_records bytes)))
-OfRead limit input (Err Read) holds = IfSome input (λ bytes. (k : ℕ) × holds (take k (input_records bytes)))
+abbrev pub OfRead : ℕ → List ℕ → Result Count RunFault → (List (List (List ℕ)) → Type 0) → Type 0
+OfRead limit input (Ok count) holds = holds (input_records input)
+OfRead limit input (Err TooLong) holds = holds (take limit (input_records input))
+OfRead limit input (Err Read) holds = (k : ℕ) × holds (take k (input_records input))
 OfRead limit input (Err Memory) holds = ⊤
 OfRead limit input (Err Write) holds = ⊤
 
@@ -62,8 +62,8 @@ StandsAsProcess p state records = (keep : ℕ → ℕ) (readings : List Reading)
 -- ---- steps of a run
 
 -- the site was led from the one state, with these messages held, to the other, where only messages that it held were taken in
-abbrev pub Settles : SiteState → List Message → SiteState → List Message → Type 0
-Settles old held new left = (new.place ≡ old.place) × (after_all new.place new.state left ≡ after_all old.place old.state held)
+abbrev pub SettlesHeld : SiteState → List Message → SiteState → List Message → Type 0
+SettlesHeld old held new left = (new.place ≡ old.place) × (after_all new.place new.state left ≡ after_all old.place old.state held)
 
 -- the same, where record n was taken in after them, or is held too
 abbrev pub StepsOn : ℕ → Input → SiteState → List Message → SiteState → List Message → Type 0

@@ -14,6 +14,7 @@ use Rattle.rubis_message.specs.declared.inputs.Input.{Input}
 use Rattle.rubis_replica.specs.State.{SiteState}
 use Rattle.rubis_engine.specs.Accounts.Ending.{AtEnd}
 use Rattle.rubis_engine.specs.Progress.{WrotePrefix}
+use Rattle.rubis_engine.specs.Seam.{Lefts}
 use Rattle.rubis_engine.specs.Text.{input_records}
 use Rattle.rubis_engine.specs.declared.fault.RunFault.TheVariants.{Memory, Read, TooLong, Write}
 use Rattle.rubis_reading.specs.declared.stretches.Stretch.{Stretch}
@@ -49,14 +50,14 @@ AreOver old new = HasEnded old.pieces.lead.crew new.pieces.lead × HasEnded old.
 
 -- how a run over the chunks of an input ends: all records are answered; the first `limit` of more; those that came whole, where the reader
 -- failed; or a prefix of the text was written, where memory ran out or the writer failed
-abbrev pub EndsWhole : {R : Type 0} → (R → Option (List ℕ)) → Chunks R → ℕ → SiteState → SiteState → Option (List ℕ) → Option (List ℕ) → List ℕ
+abbrev pub EndsAsSite : {R : Type 0} → Lefts R → Chunks R → ℕ → SiteState → SiteState → Option (List ℕ) → Option (List ℕ) → List ℕ
     → Result Count RunFault → Type 0
-EndsWhole rem chunks limit first new old now input (Ok count) = AnswersAll limit first new old now (input_records input) count.records
-EndsWhole rem chunks limit first new old now input (Err TooLong) = AnswersFirst limit first new old now (input_records input)
-EndsWhole rem chunks limit first new old now input (Err Read) =
+EndsAsSite rem chunks limit first new old now input (Ok count) = AnswersAll limit first new old now (input_records input) count.records
+EndsAsSite rem chunks limit first new old now input (Err TooLong) = AnswersFirst limit first new old now (input_records input)
+EndsAsSite rem chunks limit first new old now input (Err Read) =
     (k : ℕ) × AnswersJust k first new old now (input_records input) × CameWhole rem chunks input k
-EndsWhole rem chunks limit first new old now input (Err Memory) = WrotePrefix ((told_by first 1).text AtEnd) old now (input_records input)
-EndsWhole rem chunks limit first new old now input (Err Write) = WrotePrefix ((told_by first 1).text AtEnd) old now (input_records input)
+EndsAsSite rem chunks limit first new old now input (Err Memory) = WrotePrefix ((told_by first 1).text AtEnd) old now (input_records input)
+EndsAsSite rem chunks limit first new old now input (Err Write) = WrotePrefix ((told_by first 1).text AtEnd) old now (input_records input)
 
 -- ---- records that were read ahead
 

@@ -11,8 +11,8 @@ abbrev pub site_account : Place → Replica → ℕ → Account
 site_account p s n = record { text = λ ending records. rows_text (answers p s n records); read = λ records. length records }
 
 -- what a site with nothing done makes of its records: the text of `output_of`
-abbrev pub answers_of : Place → Account
-answers_of p = site_account p (opening_at p.site) 1
+abbrev pub site_answers : Place → Account
+site_answers p = site_account p (opening_at p.site) 1
 
 -- what is still to be made at a site
 abbrev pub told_by : SiteState → ℕ → Account

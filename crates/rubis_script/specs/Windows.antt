@@ -52,8 +52,8 @@ window_rows p s n [] = []
 window_rows p s n (m ∷ ms) = (input_step p s n (Came (Msg m))).1 ++ window_rows p (arrived p s m).0 (n + 1) ms
 
 -- what is still to be made at a site that holds messages, the first of which was record `first`, of these and of the records from n on
-abbrev pub held_by : SiteState → List Message → ℕ → ℕ → Account
-held_by s window first n = record {
+abbrev pub made_of_held : SiteState → List Message → ℕ → ℕ → Account
+made_of_held s window first n = record {
   text = λ ending records. rows_text (window_rows s.place s.state first window ++ answers s.place (after_all s.place s.state window) n records);
   read = λ records. length records;
 }

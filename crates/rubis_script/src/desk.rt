@@ -46,9 +46,13 @@ fn refuse(reply: &mut Reply, refusal: Refusal) -> Result<(), OutOfMemory>
     Ok(write_refusal(&mut reply.draft.row, &mut reply.sink, reply.number, refusal)?)
 }
 
-// Answers what a site gave no answer to: with its refusal, or without memory, or where the site is behind, not at all.
+/// Answers what a site gave no answer to: with its refusal, or without memory, or where the site is behind, not at all.
+///
+/// # Errors
+///
+/// If out of memory, or if the site is behind.
 #[inline(always)]
-fn answer_fault(reply: &mut Reply, fault: Fault) -> Result<(), OutOfMemory>
+pub fn answer_fault(reply: &mut Reply, fault: Fault) -> Result<(), OutOfMemory>
     ensures { OnOk result (IsRefusedBy reply.old.number fault reply.old.sink reply.new.sink) }
 {
     match fault {

@@ -3,10 +3,11 @@
 ghost use Rattle.std.specs.Prelude.{◌≡◌, ◌≤◌, ◌<◌, ◌-◌, OnOk, drop, take};
 ghost use Rattle.std.specs.Thread.{IsSync};
 ghost use Rattle.rubis_crew.specs.Both.{IsAt};
+ghost use Rattle.rubis_engine.specs.Seam.{Lefts, OfEach};
 ghost use Rattle.rubis_script.specs.Runs.{AreHeld, AreOver, StayHeld, StayWith, by_desk};
 ghost use Rattle.rubis_reading.specs.Chunked.{IsChunk, held_text};
 ghost use Rattle.rubis_reading.specs.Readings.{AreRead};
-ghost use Rattle.rubis_script.specs.Desks.{IsFolded, KeepsSetup};
+ghost use Rattle.rubis_script.specs.Desks.{KeepsAllButTables, KeepsSetup};
 ghost use Rattle.rubis_serving.specs.Serving.{Finishes, Turns, at};
 
 use crate::answering::answer_all;
@@ -42,7 +43,7 @@ pub struct Helpers<'a> {
 // Has the messages folded that are pending at the site, where they are at least half as many as a window has: of fewer the caller's
 // thread folds most, since a helper that reads a piece takes a shard only after that. If it fails, the site's next call says so.
 fn fold<T: Wait>(rt: &T, helpers: &mut Helpers<'_>, desk: &mut Desk<'_, T>)
-    ensures folded { IsFolded desk.old desk.new }
+    ensures folded { KeepsAllButTables desk.old desk.new }
     ensures pieces { helpers.new.pieces ≡ helpers.old.pieces }
     ensures crew { helpers.new.hands.lead.crew ≡ helpers.old.hands.lead.crew }
 {
@@ -68,7 +69,8 @@ fn answer_read<T: Threads + Wait + Sync, R: Read, W: Write>(
     requires read { AreRead desk.old.site.place.sites desk.old.plan.window (take piece.many (held_text chunks.old)) piece.list.items }
     requires within { run.old.answered ≤ limit }
     ensures same { KeepsSetup desk.old desk.new }
-    ensures turns { Turns (by_desk W.contents) limit R.remaining chunks.old (at desk.old run.old writer.old)
+    ensures reader { chunks.new.reader ≡ chunks.old.reader }
+    ensures turns { (left : Lefts R) → Turns (by_desk W.contents) limit left chunks.old (at desk.old run.old writer.old)
         chunks.new (at desk.new run.new writer.new) result }
     ensures held { OnOk result (held_text chunks.new ≡ drop (piece.many - 1) (held_text chunks.old)) }
 {
@@ -95,8 +97,8 @@ fn helped_turn<T: Threads + Wait + Sync, R: Read, W: Write>(
 ) -> Result<Option<Count>, RunFault>
     requires held { AreHeld chunks.old desk.old helpers.old.pieces }
     requires within { run.old.answered ≤ limit }
-    ensures turns { Turns (by_desk W.contents) limit R.remaining chunks.old (at desk.old run.old writer.old)
-        chunks.new (at desk.new run.new writer.new) result }
+    ensures turns { OfEach R.remaining chunks.old.reader chunks.new.reader (λ left. Turns (by_desk W.contents) limit left chunks.old
+        (at desk.old run.old writer.old) chunks.new (at desk.new run.new writer.new) result) }
     ensures held { StayHeld helpers.old chunks.new desk.new helpers.new result }
 {
     helpers.pieces.give_all(rt, chunks.held())?;
@@ -119,8 +121,8 @@ fn serve<T: Threads + Wait + Sync, R: Read, W: Write>(
 ) -> Result<Count, RunFault>
     requires held { AreHeld chunks.old desk.old helpers.old.pieces }
     requires within { run.old.answered ≤ limit }
-    ensures run { Finishes (by_desk W.contents) limit R.remaining chunks.old (at desk.old run.old writer.old)
-        chunks.new (at desk.new run.new writer.new) result }
+    ensures run { OfEach R.remaining chunks.old.reader chunks.new.reader (λ left. Finishes (by_desk W.contents) limit left chunks.old
+        (at desk.old run.old writer.old) chunks.new (at desk.new run.new writer.new) result) }
     ensures crews { StayWith helpers.old helpers.new }
 {
     for _ in rt.forever() {
@@ -143,8 +145,8 @@ fn serve_to_end<T: Threads + Wait + Sync, R: Read, W: Write>(
 ) -> Result<Count, RunFault>
     requires held { AreHeld chunks.old desk.old helpers.old.pieces }
     requires within { run.old.answered ≤ limit }
-    ensures run { Finishes (by_desk W.contents) limit R.remaining chunks.old (at desk.old run.old writer.old)
-        chunks.new (at desk.new run.new writer.new) result }
+    ensures run { OfEach R.remaining chunks.old.reader chunks.new.reader (λ left. Finishes (by_desk W.contents) limit left chunks.old
+        (at desk.old run.old writer.old) chunks.new (at desk.new run.new writer.new) result) }
     ensures over { AreOver helpers.old helpers.new }
 {
     let served = serve(rt, helpers, chunks, desk, run, writer, limit);
@@ -166,8 +168,8 @@ fn serve_beside<F: FnMut() + Send, T: Threads + Wait + Sync, R: Read, W: Write>(
 ) -> Result<Count, RunFault>
     requires stay { F.pre stay.old }
     requires held { AreHeld chunks.old desk.old helpers.old.pieces × (run.old.answered ≤ limit) }
-    ensures run { Finishes (by_desk W.contents) limit R.remaining chunks.old (at desk.old run.old writer.old)
-        chunks.new (at desk.new run.new writer.new) result }
+    ensures run { OfEach R.remaining chunks.old.reader chunks.new.reader (λ left. Finishes (by_desk W.contents) limit left chunks.old
+        (at desk.old run.old writer.old) chunks.new (at desk.new run.new writer.new) result) }
     ensures over { AreOver helpers.old helpers.new }
 {
     let ((), served) = join_mut(
@@ -175,8 +177,9 @@ fn serve_beside<F: FnMut() + Send, T: Threads + Wait + Sync, R: Read, W: Write>(
         stay,
         &mut || -> Result<Count, RunFault>
             requires { IsSync T.row × AreHeld chunks.now desk.now helpers.now.pieces × (run.now.answered ≤ limit) }
-            ensures { Finishes (by_desk W.contents) limit R.remaining chunks.entry.now (at desk.entry.now run.entry.now writer.entry.now)
-                chunks.exit.now (at desk.exit.now run.exit.now writer.exit.now) result
+            ensures { OfEach R.remaining chunks.entry.now.reader chunks.exit.now.reader (λ left. Finishes (by_desk W.contents) limit left
+                chunks.entry.now (at desk.entry.now run.entry.now writer.entry.now)
+                chunks.exit.now (at desk.exit.now run.exit.now writer.exit.now) result)
                 × AreOver helpers.entry.now helpers.exit.now }
         { serve_to_end(rt, helpers, chunks, desk, run, writer, limit) },
     );
@@ -195,8 +198,8 @@ fn serve_helped<T: Threads + Wait + Sync, R: Read, W: Write>(
 ) -> Result<Count, RunFault>
     requires held { AreHeld chunks.old desk.old helpers.old.pieces }
     requires within { run.old.answered ≤ limit }
-    ensures run { Finishes (by_desk W.contents) limit R.remaining chunks.old (at desk.old run.old writer.old)
-        chunks.new (at desk.new run.new writer.new) result }
+    ensures run { OfEach R.remaining chunks.old.reader chunks.new.reader (λ left. Finishes (by_desk W.contents) limit left chunks.old
+        (at desk.old run.old writer.old) chunks.new (at desk.new run.new writer.new) result) }
     ensures over { AreOver helpers.old helpers.new }
 {
     let folding = helpers.hands.crew();
@@ -229,8 +232,8 @@ pub(crate) fn run_helped<T: Threads + Wait + Sync, R: Read, W: Write>(
 ) -> Result<Count, RunFault>
     requires some { 0 < desk.old.plan.helpers }
     requires within { run.old.answered ≤ limit }
-    ensures { Finishes (by_desk W.contents) limit R.remaining chunks.old (at desk.old run.old writer.old)
-        chunks.new (at desk.new run.new writer.new) result }
+    ensures { OfEach R.remaining chunks.old.reader chunks.new.reader (λ left. Finishes (by_desk W.contents) limit left chunks.old
+        (at desk.old run.old writer.old) chunks.new (at desk.new run.new writer.new) result) }
 {
     let alloc = run.alloc;
     let (reading, mut lead) = Crew::new(rt, alloc, PIECES, usize::from(desk.plan.helpers))?;

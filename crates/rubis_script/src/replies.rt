@@ -13,12 +13,12 @@ use rubis_message::{Arrival, Message, Taken, Token, append_message, put_message,
 use rubis_schema::{Counted, Fields, Items, PlainRow, Refusal, RowSink};
 use std::alloc::AllocError;
 
-// The most bytes that the beginning of a reply takes: the word, the number of a record and a word of eight letters.
-const REPLY_ROOM: usize = 36;
+/// The most bytes that the beginning of a reply takes: the word, the number of a record and a word of eight letters.
+pub const REPLY_ROOM: usize = 36;
 
-// Puts the beginning of the reply to the record with that number first.
+/// Puts the beginning of the reply to the record with that number first.
 #[inline(always)]
-fn put_reply(row: &mut PlainRow, number: u64, word: &[u8])
+pub fn put_reply(row: &mut PlainRow, number: u64, word: &[u8])
     requires word { IsWord word.now }
     requires room { REPLY_ROOM ≤ row.old.left }
     ensures fields { row.new.fields ≡ reply number (word.now ∷ row.old.fields) }

@@ -3,9 +3,10 @@
 ghost use Rattle.std.specs.Prelude.{◌≡◌, ℕ, List};
 ghost use Rattle.rubis_model.specs.Site.{opening_at};
 ghost use Rattle.rubis_engine.specs.Progress.{IsRun};
-ghost use Rattle.rubis_reading.specs.Chunked.{HasAll};
+ghost use Rattle.rubis_engine.specs.Seam.{OfEach};
+ghost use Rattle.rubis_reading.specs.Chunked.{AreNew, HasWholeInput, OfInput};
 ghost use Rattle.rubis_script.specs.Headline.{HasAnswered, OfRead, StandsAsProcess, WritesAsProcess};
-ghost use Rattle.rubis_script.specs.Runs.{EndsWhole};
+ghost use Rattle.rubis_script.specs.Runs.{EndsAsSite};
 ghost use Rattle.rubis_script.specs.SiteRuns.{told_by};
 
 use crate::desk::Desk;
@@ -24,21 +25,25 @@ const BLOCK: usize = 1_048_576;
 // The same where one thread reads and answers: few enough that they are still in its cache.
 const BLOCK_ALONE: usize = 98_304;
 
-/// Runs the desk of a site over chunks of text, as `run_desk` does over a reader. They are lent: where their reader failed, they have
-/// what came of its input and wasn't answered, in which no record ends, and the reader has the rest.
-///
-/// # Errors
-///
-/// Those of `run_desk`.
-pub fn run_chunks<T: Threads + Wait + Sync, R: Read, W: Write>(
+/// The text of this reader, as a site with that many workers reads it.
+pub fn chunks_for<R: Read + Drop>(alloc: Global, reader: R, workers: u8) -> Chunks<R>
+    ensures reader { result.reader.reader ≡ reader }
+    ensures none { AreNew result }
+{
+    let size = if workers > 1 { BLOCK } else { BLOCK_ALONE };
+    Chunks::new(alloc, reader, size)
+}
+
+// Runs the desk of a site over chunks of text, with its helpers, if it has some.
+fn run_planned<T: Threads + Wait + Sync, R: Read, W: Write>(
     alloc: Global,
     chunks: &mut Chunks<R>,
     writer: &mut W,
     desk: &mut Desk<'_, T>,
     limit: u64,
 ) -> Result<Count, RunFault>
-    ensures { (input : List ℕ) → HasAll R.remaining chunks.old input → EndsWhole R.remaining chunks.new limit desk.old.site desk.new.site
-        (W.contents writer.old) (W.contents writer.new) input result }
+    ensures { OfEach R.remaining chunks.old.reader chunks.new.reader (λ left. (input : List ℕ) → HasWholeInput left chunks.old input
+        → EndsAsSite left chunks.new limit desk.old.site desk.new.site (W.contents writer.old) (W.contents writer.new) input result) }
 {
     desk.start();
     if desk.plan.helpers == 0 {
@@ -49,35 +54,33 @@ pub fn run_chunks<T: Threads + Wait + Sync, R: Read, W: Write>(
     run_helped(rt, chunks, desk, &mut run, writer, limit)
 }
 
-/// Runs the desk of a site over the records of `reader` until its end, or up to `limit` of them: appends the text of its
-/// answers to `writer`. If several workers are configured, the records of the next chunk of text are read by other threads while those
-/// before are answered; with one, nothing is read ahead. The desk is lent, so that a program can let it go as it likes; unless the run
-/// ends with `Memory` or `Write`, its site is left in the state to which the answered records lead.
+/// Runs the desk of a site over chunks of text until its end, or up to `limit` records of it: appends the text of its answers to
+/// `writer`. If several workers are configured, the records of the next chunk are read by other threads while those before are answered;
+/// with one, nothing is read ahead. Desk and chunks are lent. Unless the run ends with `Memory` or `Write`, the site is left in the state
+/// to which the answered records lead; where the reader failed, the chunks have what came and wasn't answered, in which no record ends,
+/// and the reader has the rest.
 ///
 /// # Errors
 ///
 /// `Read` if the reader failed: the records that came whole before are answered then, as if there were no more. `Write` if the writer
 /// failed, and `Memory` if memory ran out: what was written is a prefix of the whole text. `TooLong` if the input has more
 /// than `limit` records: the first `limit` are answered then.
-pub fn run_desk<T: Threads + Wait + Sync, R: Read + Drop, W: Write>(
+pub fn run_chunks<T: Threads + Wait + Sync, R: Read, W: Write>(
     alloc: Global,
-    reader: R,
+    chunks: &mut Chunks<R>,
     writer: &mut W,
     desk: &mut Desk<'_, T>,
     limit: u64,
 ) -> Result<Count, RunFault>
-    ensures run { IsRun (told_by desk.old.site 1) limit (R.remaining reader) (W.contents writer.old) (W.contents writer.new) result }
-    ensures leads { OfRead limit (R.remaining reader) result (λ records.
-        HasAnswered desk.old.site desk.new.site (W.contents writer.old) (W.contents writer.new) records) }
-    ensures process { desk.old.site.state ≡ opening_at desk.old.site.place.site → OfRead limit (R.remaining reader) result (λ records.
-        WritesAsProcess desk.old.site.place (W.contents writer.old) (W.contents writer.new) records
-        × StandsAsProcess desk.old.site.place desk.new.site.state records) }
+    ensures whole { OfEach R.remaining chunks.old.reader chunks.new.reader (λ left. (input : List ℕ) → HasWholeInput left chunks.old input
+        → EndsAsSite left chunks.new limit desk.old.site desk.new.site (W.contents writer.old) (W.contents writer.new) input result) }
+    ensures run { OfInput R.remaining chunks.old chunks.new (λ input.
+        IsRun (told_by desk.old.site 1) limit input (W.contents writer.old) (W.contents writer.new) result) }
+    ensures leads { OfInput R.remaining chunks.old chunks.new (λ input. OfRead limit input result (λ records.
+        HasAnswered desk.old.site desk.new.site (W.contents writer.old) (W.contents writer.new) records)) }
+    ensures process { desk.old.site.state ≡ opening_at desk.old.site.place.site → OfInput R.remaining chunks.old chunks.new (λ input.
+        OfRead limit input result (λ records. WritesAsProcess desk.old.site.place (W.contents writer.old) (W.contents writer.new) records
+        × StandsAsProcess desk.old.site.place desk.new.site.state records)) }
 {
-    let size = if desk.plan.helpers == 0 {
-        BLOCK_ALONE
-    } else {
-        BLOCK
-    };
-    let mut chunks = Chunks::new(alloc, reader, size);
-    run_chunks(alloc, &mut chunks, writer, desk, limit)
+    run_planned(alloc, chunks, writer, desk, limit)
 }

@@ -1,17 +1,19 @@
 //! A site over a reader and a writer, from its configuration.
 
-ghost use Rattle.std.specs.Prelude.{◌≡◌};
+ghost use Rattle.std.specs.Prelude.{◌≡◌, IfSome};
 ghost use Rattle.rubis_engine.specs.Progress.{IsRun};
 ghost use Rattle.rubis_model.specs.Site.{opening_at};
+ghost use Rattle.rubis_reading.specs.Chunked.{OfInput};
 ghost use Rattle.rubis_replica.specs.State.{setup_place};
 ghost use Rattle.rubis_schema.specs.declared.limits.TheConstants.{RECORDS_MAX};
 ghost use Rattle.rubis_script.specs.Headline.{OfRead, WritesAsProcess};
-ghost use Rattle.rubis_script.specs.SiteRuns.{answers_of};
+ghost use Rattle.rubis_script.specs.SiteRuns.{site_answers};
 
 use crate::desk::Desk;
 use crate::gate::SiteGate;
-use crate::run::run_desk;
+use crate::run::{chunks_for, run_chunks};
 use rubis_engine::{Count, RunFault};
+use rubis_reading::Chunks;
 use rubis_replica::Config;
 use rubis_schema::RECORDS_MAX;
 use std::alloc::Global;
@@ -21,19 +23,20 @@ use std::sync::Wait;
 use std::thread::Threads;
 
 // Runs the desk of a site with which nothing was done yet.
-fn run_opened<T: Threads + Wait + Sync, R: Read + Drop, W: Write>(
+fn run_opened<T: Threads + Wait + Sync, R: Read, W: Write>(
     alloc: Global,
-    reader: R,
+    chunks: &mut Chunks<R>,
     writer: &mut W,
     desk: &mut Desk<'_, T>,
     limit: u64,
 ) -> Result<Count, RunFault>
     requires opened { desk.old.site.state ≡ opening_at desk.old.site.place.site }
-    ensures run { IsRun (answers_of desk.old.site.place) limit (R.remaining reader) (W.contents writer.old) (W.contents writer.new) result }
-    ensures process { OfRead limit (R.remaining reader) result (λ records.
-        WritesAsProcess desk.old.site.place (W.contents writer.old) (W.contents writer.new) records) }
+    ensures run { OfInput R.remaining chunks.old chunks.new (λ input.
+        IsRun (site_answers desk.old.site.place) limit input (W.contents writer.old) (W.contents writer.new) result) }
+    ensures process { OfInput R.remaining chunks.old chunks.new (λ input. OfRead limit input result (λ records.
+        WritesAsProcess desk.old.site.place (W.contents writer.old) (W.contents writer.new) records)) }
 {
-    run_desk(alloc, reader, writer, desk, limit)
+    run_chunks(alloc, chunks, writer, desk, limit)
 }
 
 /// Runs a site over the records of `reader` until its end, or up to `limit` of them: appends the text of its answers to
@@ -54,12 +57,14 @@ pub fn run_site_upto<T: Threads + Wait + Sync, R: Read + Drop, W: Write>(
     limit: u64,
     gate: SiteGate,
 ) -> Result<Count, RunFault>
-    ensures run { IsRun (answers_of (setup_place config.now)) limit (R.remaining reader) (W.contents writer.old) (W.contents writer.new) result }
-    ensures process { OfRead limit (R.remaining reader) result (λ records.
-        WritesAsProcess (setup_place config.now) (W.contents writer.old) (W.contents writer.new) records) }
+    ensures run { IfSome (R.remaining reader) (λ input.
+        IsRun (site_answers (setup_place config.now)) limit input (W.contents writer.old) (W.contents writer.new) result) }
+    ensures process { IfSome (R.remaining reader) (λ input. OfRead limit input result (λ records.
+        WritesAsProcess (setup_place config.now) (W.contents writer.old) (W.contents writer.new) records)) }
 {
     let mut desk = Desk::new(rt, alloc, config, gate)?;
-    run_opened(alloc, reader, writer, &mut desk, limit)
+    let mut chunks = chunks_for(alloc, reader, config.workers());
+    run_opened(alloc, &mut chunks, writer, &mut desk, limit)
 }
 
 /// Runs a site over at most 4,000,000 records, as `run_site_upto`.
@@ -74,33 +79,35 @@ pub fn run_site<T: Threads + Wait + Sync, R: Read + Drop, W: Write>(
     writer: &mut W,
     config: &Config,
 ) -> Result<Count, RunFault>
-    ensures run { IsRun (answers_of (setup_place config.now)) RECORDS_MAX (R.remaining reader) (W.contents writer.old) (W.contents writer.new) result }
-    ensures process { OfRead RECORDS_MAX (R.remaining reader) result (λ records.
-        WritesAsProcess (setup_place config.now) (W.contents writer.old) (W.contents writer.new) records) }
+    ensures run { IfSome (R.remaining reader) (λ input.
+        IsRun (site_answers (setup_place config.now)) RECORDS_MAX input (W.contents writer.old) (W.contents writer.new) result) }
+    ensures process { IfSome (R.remaining reader) (λ input. OfRead RECORDS_MAX input result (λ records.
+        WritesAsProcess (setup_place config.now) (W.contents writer.old) (W.contents writer.new) records)) }
 {
     let gate = SiteGate::free();
     run_site_upto(rt, alloc, reader, writer, config, RECORDS_MAX, gate)
 }
 
-/// Runs a site as `run_site` does, as the last thing that a process does: its tables and its log aren't given back, row by row, before the
-/// process ends, which gives all memory back at once.
+/// Runs a site as `run_site` does over chunks that are lent, as the last thing that a process does: its tables and its log aren't given back,
+/// row by row, before the process ends, which gives all memory back at once.
 ///
 /// # Errors
 ///
 /// Those of `run_site_upto`.
-pub fn run_last_site<T: Threads + Wait + Sync, R: Read + Drop, W: Write>(
+pub fn run_last_site<T: Threads + Wait + Sync, R: Read, W: Write>(
     rt: &T,
     alloc: Global,
-    reader: R,
+    chunks: &mut Chunks<R>,
     writer: &mut W,
     config: &Config,
 ) -> Result<Count, RunFault>
-    ensures run { IsRun (answers_of (setup_place config.now)) RECORDS_MAX (R.remaining reader) (W.contents writer.old) (W.contents writer.new) result }
-    ensures process { OfRead RECORDS_MAX (R.remaining reader) result (λ records.
-        WritesAsProcess (setup_place config.now) (W.contents writer.old) (W.contents writer.new) records) }
+    ensures run { OfInput R.remaining chunks.old chunks.new (λ input.
+        IsRun (site_answers (setup_place config.now)) RECORDS_MAX input (W.contents writer.old) (W.contents writer.new) result) }
+    ensures process { OfInput R.remaining chunks.old chunks.new (λ input. OfRead RECORDS_MAX input result (λ records.
+        WritesAsProcess (setup_place config.now) (W.contents writer.old) (W.contents writer.new) records)) }
 {
     let mut desk = Desk::new(rt, alloc, config, SiteGate::free())?;
-    let ended = run_opened(alloc, reader, writer, &mut desk, RECORDS_MAX);
+    let ended = run_opened(alloc, chunks, writer, &mut desk, RECORDS_MAX);
     mem::forget(desk);
     ended
 }

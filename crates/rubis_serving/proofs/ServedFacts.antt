@@ -1,22 +1,23 @@
 -- How a run goes on by pieces of its text, and how it ends.
 use Rattle.std.proofs.Common.{◌≡◌, ◌∙◌, ◌+◌, ◌++◌, ◌∷◌, [], ℕ, List, Option, ap, append-nil, append_assoc, arith, length, length-append, refl, subst, sym, take}
 use Rattle.std.proofs.Common.{true}
-use Rattle.std.specs.Prelude.{IfSome, IsErr, IsErrAnd, None, Some, Result, Ok, Err}
+use Rattle.std.specs.Prelude.{IsErr, IsErrAnd, Result, Ok, Err}
 use Rattle.std.specs.Io.KnownBytes.{Appends}
 use Rattle.std.proofs.Math.Seq.{take-append_seam}
 use Rattle.rubis_engine.specs.Accounts.{Account}
 use Rattle.rubis_engine.specs.Accounts.Ending.{AtEnd, Cut}
 use Rattle.rubis_engine.specs.Progress.{IsRun}
 use Rattle.rubis_engine.specs.Reading.{Advances, Gives, fields_now}
+use Rattle.rubis_engine.specs.Seam.{IsTextOf, Lefts, left}
 use Rattle.rubis_engine.specs.Text.{input_records}
 use Rattle.rubis_engine.specs.declared.record_list.Records.{Records}
 use Rattle.rubis_engine.specs.declared.fault.Count.{Count}
 use Rattle.rubis_engine.specs.declared.fault.RunFault.{RunFault}
 use Rattle.rubis_engine.specs.declared.fault.RunFault.TheVariants as fault
 use Rattle.rubis_engine.proofs.RunFacts.{ends_on, ends_so}
-use Rattle.rubis_reading.specs.Chunked.{HasAll, HasCome, HasPending, IsChunk, IsLast, KeepsCome, KeepsPending, TakesOff, held_text}
+use Rattle.rubis_reading.specs.Chunked.{HasWholeInput, HasPending, IsChunk, KeepsCome, KeepsPending, TakesOff, held_text}
 use Rattle.rubis_reading.specs.declared.chunks.Chunks.{Chunks}
-use Rattle.rubis_reading.proofs.ChunkFacts.{come-rest, pending-front}
+use Rattle.rubis_reading.proofs.ChunkFacts.{come-rest, ended-last, pending-front}
 use Rattle.rubis_serving.specs.Outlets.{IsOutlet, writes, writes_front}
 use Rattle.rubis_serving.specs.Serving.{At, Closes, Fills, Finishes, Goes, IsOver, IsSettled, MovesOn, Serving, Stalls, Stops, Turns, at, coming, serving}
 use Rattle.rubis_serving.specs.Serving.{still, AnswersFirst, AnswersJust, EndsLed, EndsWhole}
@@ -34,7 +35,7 @@ given-one rem piece piece2 done {left = left} takes is parts gives =
     (rest, parts ∙ ap (λ l. done ++ l) (split ∙ ap (λ f. f ∷ rest) (sym is)), more)
 
 -- what holds of the records of a chunk, whatever follows them, holds of all that are to come
-pub chunk-each : {R : Type 0} (rem : R → Option (List ℕ)) (chunks : Chunks R) (many : ℕ) (text : List ℕ) (holds : List (List (List ℕ)) → Type 0)
+pub chunk-each : {R : Type 0} (rem : Lefts R) (chunks : Chunks R) (many : ℕ) (text : List ℕ) (holds : List (List (List ℕ)) → Type 0)
     → IsChunk many (held_text chunks) → text ≡ take many (held_text chunks) → ((more : List (List (List ℕ))) → holds (input_records text ++ more))
     → (later : List (List (List ℕ))) → HasPending rem chunks later → holds later
 chunk-each rem chunks many text holds chunk is each later pending =
@@ -42,17 +43,17 @@ chunk-each rem chunks many text holds chunk is each later pending =
     subst holds (sym (split ∙ ap (λ t. input_records t ++ rest) (sym is))) (each rest)
 
 -- what holds of the records of the rest does
-pub last-each : {R : Type 0} (rem : R → Option (List ℕ)) (chunks : Chunks R) (text : List ℕ) (holds : List (List (List ℕ)) → Type 0)
-    → IsLast rem chunks → text ≡ held_text chunks → holds (input_records text ++ []) → (later : List (List (List ℕ))) → HasPending rem chunks later
-    → holds later
-last-each rem chunks text holds last is one later pending =
-    subst holds (append-nil (input_records text) ∙ ap input_records is ∙ sym (last later pending)) one
+pub last-each : {R : Type 0} (chunks : Chunks R) (input text : List ℕ) (holds : List (List (List ℕ)) → Type 0) → chunks.reader.is_ended ≡ true
+    → IsTextOf input chunks.reader → text ≡ held_text chunks → holds (input_records text ++ []) → (later : List (List (List ℕ)))
+    → HasPending (left input) chunks later → holds later
+last-each chunks input text holds ended whole is one later pending =
+    subst holds (append-nil (input_records text) ∙ ap input_records is ∙ sym (ended-last chunks input later ended whole pending)) one
 
 -- ---- a run moves on
 
 module _ {S O : Type 0} {k : Serving S O} where
   -- by no records
-  pub moves-kept : {R : Type 0} {rem : R → Option (List ℕ)} {chunks chunks2 : Chunks R} {x y : At S O} → KeepsPending rem chunks chunks2
+  pub moves-kept : {R : Type 0} {rem : Lefts R} {chunks chunks2 : Chunks R} {x y : At S O} → KeepsPending rem chunks chunks2
       → KeepsCome rem chunks chunks2 → Goes k [] x y → MovesOn k rem chunks x chunks2 y
   moves-kept keeps came goes = record {
     takes = λ later pending. record { rows = []; rest = later; parts = refl; pending = keeps later pending; goes = goes };
@@ -60,7 +61,7 @@ module _ {S O : Type 0} {k : Serving S O} where
   }
 
   -- by a chunk, which is handed on
-  pub moves-taken : {R : Type 0} {rem : R → Option (List ℕ)} {chunks chunks2 : Chunks R} (text : List ℕ) {chunk : List ℕ} {x y : At S O} → text ≡ chunk
+  pub moves-taken : {R : Type 0} {rem : Lefts R} {chunks chunks2 : Chunks R} (text : List ℕ) {chunk : List ℕ} {x y : At S O} → text ≡ chunk
       → TakesOff rem chunks chunks2 chunk → KeepsCome rem chunks chunks2 → Goes k (input_records text) x y → MovesOn k rem chunks x chunks2 y
   moves-taken text is off came goes = record {
     takes = λ later pending.
@@ -76,10 +77,10 @@ module _ {S O : Type 0} {k : Serving S O} where
   }
 
 module _ {S O : Type 0} {k : Serving S O} (laws : IsOutlet k.puts k.tears) where
-  pub moves-none : {R : Type 0} (rem : R → Option (List ℕ)) (chunks : Chunks R) (x : At S O) → MovesOn k rem chunks x chunks x
+  pub moves-none : {R : Type 0} (rem : Lefts R) (chunks : Chunks R) (x : At S O) → MovesOn k rem chunks x chunks x
   moves-none rem chunks x = moves-kept (λ rows h. h) (λ input h. h) (goes-none laws x)
 
-  pub moves-more : {R : Type 0} {rem : R → Option (List ℕ)} {chunks chunks2 chunks3 : Chunks R} {x y z : At S O} → MovesOn k rem chunks x chunks2 y
+  pub moves-more : {R : Type 0} {rem : Lefts R} {chunks chunks2 chunks3 : Chunks R} {x y z : At S O} → MovesOn k rem chunks x chunks2 y
       → MovesOn k rem chunks2 y chunks3 z → MovesOn k rem chunks x chunks3 z
   moves-more m n = record {
     takes = λ later pending.
@@ -95,7 +96,7 @@ module _ {S O : Type 0} {k : Serving S O} (laws : IsOutlet k.puts k.tears) where
     come = λ input come. n.come input (m.come input come);
   }
 
-  pub over-on : {R : Type 0} {limit : ℕ} {rem : R → Option (List ℕ)} {chunks chunks2 : Chunks R} {x y : At S O} (z : At S O) (count : Count)
+  pub over-on : {R : Type 0} {limit : ℕ} {rem : Lefts R} {chunks chunks2 : Chunks R} {x y : At S O} (z : At S O) (count : Count)
       → MovesOn k rem chunks x chunks2 y → IsOver k limit rem chunks2 y z count → IsOver k limit rem chunks x z count
   over-on {limit = limit} {x = x} z count m over later pending =
       let one = m.takes later pending in
@@ -103,18 +104,18 @@ module _ {S O : Type 0} {k : Serving S O} (laws : IsOutlet k.puts k.tears) where
 
   -- ---- how it ends then
 
-  fills-on : {R : Type 0} (limit : ℕ) {rem : R → Option (List ℕ)} {chunks chunks2 : Chunks R} {x y : At S O} (z : At S O) → MovesOn k rem chunks x chunks2 y
+  fills-on : {R : Type 0} (limit : ℕ) {rem : Lefts R} {chunks chunks2 : Chunks R} {x y : At S O} (z : At S O) → MovesOn k rem chunks x chunks2 y
       → ((later : List (List (List ℕ))) → HasPending rem chunks2 later → Fills k limit later y z)
       → (later : List (List (List ℕ))) → HasPending rem chunks later → Fills k limit later x z
   fills-on limit {x = x} z m long later pending =
       let one = m.takes later pending in
       subst (λ r. Fills k limit r x z) (sym one.parts) (goes-fills laws one.goes (long one.rest one.pending))
 
-  stalls-on : {R : Type 0} {rem : R → Option (List ℕ)} {chunks chunks2 chunks3 : Chunks R} {x y z : At S O} → MovesOn k rem chunks x chunks2 y
+  stalls-on : {R : Type 0} {rem : Lefts R} {chunks chunks2 chunks3 : Chunks R} {x y z : At S O} → MovesOn k rem chunks x chunks2 y
       → Stalls k rem chunks2 y chunks3 z → Stalls k rem chunks x chunks3 z
   stalls-on m s = record { moves = moves-more m s.moves; settled = s.settled; none = s.none }
 
-  torn-on : {R : Type 0} {rem : R → Option (List ℕ)} {chunks chunks2 : Chunks R} {x y : At S O} (outlet : O) → MovesOn k rem chunks x chunks2 y
+  torn-on : {R : Type 0} {rem : Lefts R} {chunks chunks2 : Chunks R} {x y : At S O} (outlet : O) → MovesOn k rem chunks x chunks2 y
       → ((later : List (List (List ℕ))) → HasPending rem chunks2 later → k.tears (coming k y AtEnd later) y.outlet outlet)
       → (later : List (List (List ℕ))) → HasPending rem chunks later → k.tears (coming k x AtEnd later) x.outlet outlet
   torn-on {x = x} outlet m torn later pending =
@@ -122,19 +123,19 @@ module _ {S O : Type 0} {k : Serving S O} (laws : IsOutlet k.puts k.tears) where
       subst (λ r. k.tears (coming k x AtEnd r) x.outlet outlet) (sym one.parts) (goes-torn laws outlet one.rest one.goes (torn one.rest one.pending))
 
   -- nothing was put since
-  pub torn-none : {R : Type 0} {rem : R → Option (List ℕ)} {chunks chunks2 : Chunks R} {x y : At S O} → MovesOn k rem chunks x chunks2 y
+  pub torn-none : {R : Type 0} {rem : Lefts R} {chunks chunks2 : Chunks R} {x y : At S O} → MovesOn k rem chunks x chunks2 y
       → (later : List (List (List ℕ))) → HasPending rem chunks later → k.tears (coming k x AtEnd later) x.outlet y.outlet
   torn-none {y = y} m = torn-on y.outlet m (λ later pending. laws.torn_none (coming k y AtEnd later) y.outlet)
 
   -- a fault is handed on
-  pub stops-on : {T U R : Type 0} (limit : ℕ) {rem : R → Option (List ℕ)} {chunks chunks2 : Chunks R} (chunks3 : Chunks R) {x y : At S O} (z : At S O)
+  pub stops-on : {T U R : Type 0} (limit : ℕ) {rem : Lefts R} {chunks chunks2 : Chunks R} (chunks3 : Chunks R) {x y : At S O} (z : At S O)
       (done : T → Type 0) (done2 : U → Type 0) (result : Result U RunFault) (e : RunFault) → IsErr result × IsErrAnd result (λ f. f ≡ e)
       → MovesOn k rem chunks x chunks2 y → Stops k {T = T} limit rem chunks2 y chunks3 z done (Err e) → Stops k limit rem chunks x chunks3 z done2 result
   stops-on limit chunks3 z done done2 result e handed m stops =
       ends_on done done2 result e handed (fills-on limit z m) (stalls-on m) (torn-on z.outlet m) stops
 
   -- it went on by nothing that comes
-  pub turns-on : {R : Type 0} (limit : ℕ) {rem : R → Option (List ℕ)} {chunks : Chunks R} (chunks2 : Chunks R) {x y : At S O} (z : At S O)
+  pub turns-on : {R : Type 0} (limit : ℕ) {rem : Lefts R} {chunks : Chunks R} (chunks2 : Chunks R) {x y : At S O} (z : At S O)
       (result : Result (Option Count) RunFault) → MovesOn k rem chunks x chunks y → Turns k limit rem chunks y chunks2 z result
       → Turns k limit rem chunks x chunks2 z result
   turns-on limit chunks2 z result m turns =
@@ -193,8 +194,8 @@ module _ {S W : Type 0} (account : S → ℕ → Account) (leads : S → ℕ →
       )
 
   -- a run that has answered nothing so far ends so
-  pub ends_led : {R : Type 0} (rem : R → Option (List ℕ)) (chunks chunks2 : Chunks R) (s s2 : S) (run run2 : Served) (w w2 : W) (limit : ℕ)
-      (input : List ℕ) (result : Result Count RunFault) → HasAll rem chunks input → run.reply.sink ≡ [] → run.answered ≡ 0
+  pub ends_led : {R : Type 0} (rem : Lefts R) (chunks chunks2 : Chunks R) (s s2 : S) (run run2 : Served) (w w2 : W) (limit : ℕ)
+      (input : List ℕ) (result : Result Count RunFault) → HasWholeInput rem chunks input → run.reply.sink ≡ [] → run.answered ≡ 0
       → Finishes by limit rem chunks (at s run w) chunks2 (at s2 run2 w2) result → EndsLed account leads rem chunks2 limit s s2 (contents w) (contents w2) input result
   ends_led rem chunks chunks2 s s2 run run2 w w2 limit input result (pending, come) empty none ends =
       let y = at s2 run2 w2 in
@@ -220,27 +221,18 @@ module _ {S W : Type 0} (account : S → ℕ → Account) (leads : S → ℕ →
 
 -- ---- what it says of the text
 
-pub led_whole : {S R : Type 0} (account : S → ℕ → Account) (leads : S → ℕ → List (List (List ℕ)) → S → Type 0) (rem : R → Option (List ℕ)) (chunks : Chunks R) (limit : ℕ) (s s2 : S) (old now : Option (List ℕ)) (input : List ℕ)
+pub led_whole : {S R : Type 0} (account : S → ℕ → Account) (leads : S → ℕ → List (List (List ℕ)) → S → Type 0) (rem : Lefts R) (chunks : Chunks R) (limit : ℕ) (s s2 : S) (old now : Option (List ℕ)) (input : List ℕ)
     (result : Result Count RunFault) → EndsLed account leads rem chunks limit s s2 old now input result
     → EndsWhole rem chunks (account s 1) (account s2) limit old now input result
 led_whole account leads rem chunks limit s s2 old now input result ends =
     ends_so result (λ count all. all.0) (λ long. long.0) (λ (k, just, came). (k, just.0, came)) (λ prefix. prefix) ends
 
 -- in fewer words
-pub whole_run : {R : Type 0} (rem : R → Option (List ℕ)) (chunks : Chunks R) (all : Account) (left : ℕ → Account) (limit : ℕ) (input : List ℕ)
+pub whole_run : {R : Type 0} (rem : Lefts R) (chunks : Chunks R) (all : Account) (left : ℕ → Account) (limit : ℕ) (input : List ℕ)
     (old now : Option (List ℕ)) (result : Result Count RunFault) → EndsWhole rem chunks all left limit old now input result
-    → IsRun all limit (Some input) old now result
+    → IsRun all limit input old now result
 whole_run rem chunks all left limit input old now (Ok count) ends = ends
 whole_run rem chunks all left limit input old now (Err fault.TooLong) ends = ends
 whole_run rem chunks all left limit input old now (Err fault.Read) ends = (ends.0, ends.1.appended)
 whole_run rem chunks all left limit input old now (Err fault.Memory) ends = ends
 whole_run rem chunks all left limit input old now (Err fault.Write) ends = ends
-
--- a run over a reader ends so
-pub reader_run : {R : Type 0} (rem : R → Option (List ℕ)) (chunks chunks2 : Chunks R) (all : Account) (left : ℕ → Account) (limit : ℕ)
-    (known old now : Option (List ℕ)) (result : Result Count RunFault) → IfSome known (λ input. HasPending rem chunks (input_records input))
-    → IfSome known (λ input. HasCome rem input chunks)
-    → ((input : List ℕ) → HasAll rem chunks input → EndsWhole rem chunks2 all left limit old now input result) → IsRun all limit known old now result
-reader_run rem chunks chunks2 all left limit None old now result pending come ends = tt
-reader_run rem chunks chunks2 all left limit (Some input) old now result pending come ends =
-    whole_run rem chunks2 all left limit input old now result (ends input (pending, come))

@@ -4,6 +4,7 @@ use Rattle.std.specs.Io.KnownBytes.{Appends}
 use Rattle.rubis_engine.specs.Accounts.{Account, Ending}
 use Rattle.rubis_engine.specs.Accounts.Ending.{AtEnd, Cut}
 use Rattle.rubis_engine.specs.Progress.{ByEnd, IsDone, IsTooLong, WrotePrefix}
+use Rattle.rubis_engine.specs.Seam.{Lefts}
 use Rattle.rubis_engine.specs.Text.{input_records}
 use Rattle.rubis_engine.specs.declared.fault.Count.{Count}
 use Rattle.rubis_engine.specs.declared.fault.RunFault.{RunFault}
@@ -24,7 +25,7 @@ pub record IsCutAfter (k : ℕ) (all more : Account) (old now : Option (List ℕ
 -- how a run over the chunks of an input ends: all records are answered; the first `limit` of more; those that came whole, where the reader
 -- failed; or a prefix of the text was written, where memory ran out or the writer failed. `all` is the account of the records, and
 -- `left n` what is then still to be made of those from record n on
-abbrev pub EndsWhole : {R : Type 0} → (R → Option (List ℕ)) → Chunks R → Account → (ℕ → Account) → ℕ → Option (List ℕ) → Option (List ℕ) → List ℕ
+abbrev pub EndsWhole : {R : Type 0} → Lefts R → Chunks R → Account → (ℕ → Account) → ℕ → Option (List ℕ) → Option (List ℕ) → List ℕ
     → Result Count RunFault → Type 0
 EndsWhole rem chunks all left limit old now input result = ByEnd result (λ count. IsDone all limit old now (input_records input) count.records)
     (IsTooLong all limit old now (input_records input))
@@ -48,7 +49,7 @@ module _ {S : Type 0} (account : S → ℕ → Account) (leads : S → ℕ → L
       IsCutAfter k (account first 1) (account s (k + 1)) old now records × leads first 1 (take k records) s
 
   -- how a run over the chunks of an input ends
-  abbrev pub EndsLed : {R : Type 0} → (R → Option (List ℕ)) → Chunks R → ℕ → S → S → Option (List ℕ) → Option (List ℕ) → List ℕ
+  abbrev pub EndsLed : {R : Type 0} → Lefts R → Chunks R → ℕ → S → S → Option (List ℕ) → Option (List ℕ) → List ℕ
       → Result Count RunFault → Type 0
   EndsLed rem chunks limit first s old now input result = ByEnd result
       (λ count. AnswersAll limit first s old now (input_records input) count.records)
@@ -144,7 +145,7 @@ module _ {S O : Type 0} (k : Serving S O) where
   -- ---- a text by chunks
 
   -- of the records that were to come these were answered, and the others are still to come
-  pub record Takes {R : Type 0} (rem : R → Option (List ℕ)) (chunks2 : Chunks R) (later : List (List (List ℕ))) (x y : At S O) : Type 0 where
+  pub record Takes {R : Type 0} (rem : Lefts R) (chunks2 : Chunks R) (later : List (List (List ℕ))) (x y : At S O) : Type 0 where
     pub rows : List (List (List ℕ))
     pub rest : List (List (List ℕ))
     pub parts : later ≡ rows ++ rest
@@ -152,34 +153,34 @@ module _ {S O : Type 0} (k : Serving S O) where
     pub goes : Goes rows x y
 
   -- the run came from the one to the other, by some of the records to come
-  pub record MovesOn {R : Type 0} (rem : R → Option (List ℕ)) (chunks : Chunks R) (x : At S O) (chunks2 : Chunks R) (y : At S O) : Type 0 where
+  pub record MovesOn {R : Type 0} (rem : Lefts R) (chunks : Chunks R) (x : At S O) (chunks2 : Chunks R) (y : At S O) : Type 0 where
     pub takes : (later : List (List (List ℕ))) → HasPending rem chunks later → Takes rem chunks2 later x y
     pub come : KeepsCome rem chunks chunks2
 
   -- the reader failed: the records that came whole are answered, and no more
-  pub record Stalls {R : Type 0} (rem : R → Option (List ℕ)) (chunks : Chunks R) (x : At S O) (chunks2 : Chunks R) (y : At S O) : Type 0 where
+  pub record Stalls {R : Type 0} (rem : Lefts R) (chunks : Chunks R) (x : At S O) (chunks2 : Chunks R) (y : At S O) : Type 0 where
     pub moves : MovesOn rem chunks x chunks2 y
     pub settled : IsSettled y
     pub none : EndsNoRecord (held_text chunks2)
 
   -- how a step ends where it isn't done: the first `limit` records are answered, and there are more; those that came whole are, and no more;
   -- or of the text some first bytes were put, or none
-  abbrev pub Stops : {T R : Type 0} → ℕ → (R → Option (List ℕ)) → Chunks R → At S O → Chunks R → At S O → (T → Type 0) → Result T RunFault → Type 0
+  abbrev pub Stops : {T R : Type 0} → ℕ → Lefts R → Chunks R → At S O → Chunks R → At S O → (T → Type 0) → Result T RunFault → Type 0
   Stops limit rem chunks x chunks2 y done result = ByEnd result done
       ((later : List (List (List ℕ))) → HasPending rem chunks later → Fills limit later x y) (Stalls rem chunks x chunks2 y)
       ((later : List (List (List ℕ))) → HasPending rem chunks later → k.tears (coming x AtEnd later) x.outlet y.outlet)
 
   -- the run is over
-  abbrev pub IsOver : {R : Type 0} → ℕ → (R → Option (List ℕ)) → Chunks R → At S O → At S O → Count → Type 0
+  abbrev pub IsOver : {R : Type 0} → ℕ → Lefts R → Chunks R → At S O → At S O → Count → Type 0
   IsOver limit rem chunks x y count = (later : List (List (List ℕ))) → HasPending rem chunks later
       → Closes limit later x y.service y.outlet count.records
 
   -- how it goes on from there to its end
-  abbrev pub Finishes : {R : Type 0} → ℕ → (R → Option (List ℕ)) → Chunks R → At S O → Chunks R → At S O → Result Count RunFault → Type 0
+  abbrev pub Finishes : {R : Type 0} → ℕ → Lefts R → Chunks R → At S O → Chunks R → At S O → Result Count RunFault → Type 0
   Finishes limit rem chunks x chunks2 y result = Stops limit rem chunks x chunks2 y (IsOver limit rem chunks x y) result
 
   -- how a step ends that takes a piece: the run goes on, at most `limit` records being answered, and is nearer to the end of its text; or it is
   -- over
-  abbrev pub Turns : {R : Type 0} → ℕ → (R → Option (List ℕ)) → Chunks R → At S O → Chunks R → At S O → Result (Option Count) RunFault → Type 0
+  abbrev pub Turns : {R : Type 0} → ℕ → Lefts R → Chunks R → At S O → Chunks R → At S O → Result (Option Count) RunFault → Type 0
   Turns limit rem chunks x chunks2 y result = Stops limit rem chunks x chunks2 y (λ over. MatchOption over
       (MovesOn rem chunks x chunks2 y × (y.answered ≤ limit) × ComesNearer 1 rem chunks chunks2) (IsOver limit rem chunks x y)) result

@@ -1,10 +1,11 @@
 //! What a run has answered so far, and what it does between pieces of its text and at its end.
 
-ghost use Rattle.std.specs.Prelude.{◌≡◌, [], false, ℕ, List};
+ghost use Rattle.std.specs.Prelude.{◌≡◌, [], false, true, ℕ, IfOk, List};
 ghost use Rattle.std.specs.Int.{from_bool};
 ghost use Rattle.rubis_engine.specs.Accounts.Ending.{AtEnd};
 ghost use Rattle.rubis_engine.specs.Progress.{ByEnd};
-ghost use Rattle.rubis_reading.specs.Chunked.{ComesNearer, HasPending, IsLast, held_text};
+ghost use Rattle.rubis_engine.specs.Seam.{OfEach};
+ghost use Rattle.rubis_reading.specs.Chunked.{ComesNearer, HasPending, held_text};
 ghost use Rattle.rubis_reading.specs.Streams.{EndsNoRecord};
 ghost use Rattle.rubis_serving.specs.Serving.{Closes, Goes, IsSettled, MovesOn, Stalls, Tears, at, coming, serving};
 
@@ -77,13 +78,13 @@ pub(crate) fn ask_for_more<S: Service, R: Read, O: Outlet>(
     requires none { EndsNoRecord (held_text chunks.old) }
     requires shares { S.shares }
     ensures same { S.setup service.new ≡ S.setup service.old }
+    ensures last { IfOk result (λ more. (run.new.answered ≡ run.old.answered) × (more ≡ false → chunks.new.reader.is_ended ≡ true)) }
     ensures more { let k = serving S.account S.leads O.puts O.tears in
         let x = at service.old run.old outlet.old in
-        let y = at service.new run.new outlet.new in ByEnd result
-        (λ more. MovesOn k R.remaining chunks.old x chunks.new y × (run.new.answered ≡ run.old.answered)
-        × (more ≡ false → IsLast R.remaining chunks.new) × ComesNearer (from_bool more) R.remaining chunks.old chunks.new)
-        ⊥ (Stalls k R.remaining chunks.old x chunks.new y)
-        ((later : List (List (List ℕ))) → HasPending R.remaining chunks.old later → O.tears (coming k x AtEnd later) outlet.old outlet.new) }
+        let y = at service.new run.new outlet.new in OfEach R.remaining chunks.old.reader chunks.new.reader (λ left. ByEnd result
+        (λ more. MovesOn k left chunks.old x chunks.new y × ComesNearer (from_bool more) left chunks.old chunks.new)
+        ⊥ (Stalls k left chunks.old x chunks.new y)
+        ((later : List (List (List ℕ))) → HasPending left chunks.old later → O.tears (coming k x AtEnd later) outlet.old outlet.new)) }
 {
     settle(service, run, outlet)?;
     match chunks.fill(&run.reply.sink) {

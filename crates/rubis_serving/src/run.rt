@@ -1,10 +1,11 @@
 //! A run of a service over the chunks of a text.
 
-ghost use Rattle.std.specs.Prelude.{◌≡◌, ◌≤◌, ◌<◌, ◌+◌, ◌-◌, ◌∷◌, ◌^◌, [], ℕ, List, OnOk, drop};
+ghost use Rattle.std.specs.Prelude.{◌≡◌, ◌≤◌, ◌<◌, ◌+◌, ◌-◌, ◌∷◌, ◌^◌, [], ℕ, List, OnOk, drop, true};
 ghost use Rattle.rubis_engine.specs.Progress.{ByEnd};
 ghost use Rattle.rubis_engine.specs.Reading.{Gives};
+ghost use Rattle.rubis_engine.specs.Seam.{Lefts, OfEach};
 ghost use Rattle.rubis_engine.specs.Text.{input_records};
-ghost use Rattle.rubis_reading.specs.Chunked.{HasAll, IsChunk, IsLast, held_text};
+ghost use Rattle.rubis_reading.specs.Chunked.{HasWholeInput, IsChunk, held_text};
 ghost use Rattle.rubis_serving.specs.Serving.{AreAnswered, Finishes, RecordsEnd, Tears, Turns, at, serving, EndsLed};
 
 use crate::outlets::Outlet;
@@ -117,11 +118,11 @@ fn finish<S: Service, R: Read, O: Outlet>(
     limit: u64,
 ) -> Result<Count, RunFault>
     requires within { run.old.answered ≤ limit }
-    requires last { IsLast R.remaining chunks.now }
+    requires last { chunks.now.reader.is_ended ≡ true }
     requires shares { S.shares }
     ensures same { S.setup service.new ≡ S.setup service.old }
-    ensures ended { Finishes (serving S.account S.leads O.puts O.tears) limit R.remaining chunks.now
-        (at service.old run.old outlet.old) chunks.now (at service.new run.new outlet.new) result }
+    ensures ended { OfEach R.remaining chunks.now.reader chunks.now.reader (λ left. Finishes (serving S.account S.leads O.puts O.tears) limit left
+        chunks.now (at service.old run.old outlet.old) chunks.now (at service.new run.new outlet.new) result) }
 {
     if let Some(count) = answer_piece(chunks.held(), service, run, outlet, limit)? {
         return Ok(count);
@@ -147,7 +148,8 @@ pub fn answer_front<S: Service, R: Read, O: Outlet>(
     requires within { run.old.answered ≤ limit }
     requires shares { S.shares }
     ensures same { S.setup service.new ≡ S.setup service.old }
-    ensures turns { Turns (serving S.account S.leads O.puts O.tears) limit R.remaining chunks.old
+    ensures reader { chunks.new.reader ≡ chunks.old.reader }
+    ensures turns { (left : Lefts R) → Turns (serving S.account S.leads O.puts O.tears) limit left chunks.old
         (at service.old run.old outlet.old) chunks.new (at service.new run.new outlet.new) result }
     ensures held { OnOk result (held_text chunks.new ≡ drop (many - 1) (held_text chunks.old)) }
 {
@@ -178,8 +180,8 @@ pub fn turn<S: Service, R: Read, O: Outlet>(
     requires within { run.old.answered ≤ limit }
     requires shares { S.shares }
     ensures same { S.setup service.new ≡ S.setup service.old }
-    ensures turns { Turns (serving S.account S.leads O.puts O.tears) limit R.remaining chunks.old
-        (at service.old run.old outlet.old) chunks.new (at service.new run.new outlet.new) result }
+    ensures turns { OfEach R.remaining chunks.old.reader chunks.new.reader (λ left. Turns (serving S.account S.leads O.puts O.tears) limit left chunks.old
+        (at service.old run.old outlet.old) chunks.new (at service.new run.new outlet.new) result) }
 {
     let many = chunks.whole(most);
     if many > 1 {
@@ -202,8 +204,8 @@ fn serve<S: Service, R: Read, O: Outlet>(
 ) -> Result<Count, RunFault>
     requires within { run.old.answered ≤ limit }
     requires shares { S.shares }
-    ensures { Finishes (serving S.account S.leads O.puts O.tears) limit R.remaining chunks.old
-        (at service.old run.old outlet.old) chunks.new (at service.new run.new outlet.new) result }
+    ensures { OfEach R.remaining chunks.old.reader chunks.new.reader (λ left. Finishes (serving S.account S.leads O.puts O.tears) limit left chunks.old
+        (at service.old run.old outlet.old) chunks.new (at service.new run.new outlet.new) result) }
 {
     'pieces: for _ in 0..u64::MAX {
         if let Some(count) = turn(chunks, service, run, outlet, usize::MAX, limit)? {
@@ -231,8 +233,8 @@ pub fn run_service<S: Service, R: Read, W: Write>(
     limit: u64,
 ) -> Result<Count, RunFault>
     requires { S.shares }
-    ensures { (input : List ℕ) → HasAll R.remaining chunks.old input → EndsLed S.account S.leads R.remaining chunks.new limit service.old service.new
-        (W.contents writer.old) (W.contents writer.new) input result }
+    ensures { OfEach R.remaining chunks.old.reader chunks.new.reader (λ left. (input : List ℕ) → HasWholeInput left chunks.old input
+        → EndsLed S.account S.leads left chunks.new limit service.old service.new (W.contents writer.old) (W.contents writer.new) input result) }
 {
     let mut run = Served::new(alloc);
     serve(chunks, service, &mut run, writer, limit)

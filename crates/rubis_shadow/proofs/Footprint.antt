@@ -8,7 +8,7 @@ use Rattle.rubis_shadow.specs.Shadows.{parts, footprint_of, key_of}
 use Rattle.rubis_shadow.specs.declared.keyed_change.Effect.{Effect}
 use Rattle.rubis_shadow.specs.declared.parts.TheConstants.{PARTS_MAX}
 use Rattle.rubis_shadow.specs.declared.shadows.Shadow.{Shadow}
-use Rattle.rubis_shadow.specs.declared.shadows.Shadow.TheVariants.{User}
+use Rattle.rubis_shadow.specs.declared.shadows.Shadow.TheVariants.{Bid, User}
 use Rattle.std.specs.Option.{option_to_list}
 use Rattle.rubis_schema.specs.declared.row_keys.RowKey.{RowKey}
 
@@ -24,6 +24,13 @@ pub one_more : (id : Id) (red : ℕ) (s : Shadow) (given : ℕ) (part : Effect) 
 one_more id red s given part e = omega (arith, slice_get_within (parts id red s) given part e, few_parts id red s)
 
 -- ---- the keys of a shadow's parts, place by place
+
+-- no key depends on the red number
+pub key_of_any_red : (id : Id) (red : ℕ) (s : Shadow) (place : ℕ) →
+    option_map key_of (slice_get (parts id 0 s) place) ≡ option_map key_of (slice_get (parts id red s) place)
+key_of_any_red id red (Bid b) ℕ.zero = refl
+key_of_any_red id red (Bid b) (ℕ.suc place) = refl
+key_of_any_red id red s place = refl
 
 abbrev pub keys_of : Option RowKey → Option RowKey → Option RowKey → List RowKey
 keys_of a b c = option_to_list a ++ (option_to_list b ++ option_to_list c)

@@ -3,4 +3,5 @@ pub mod Rows
 pub mod InLimits
 pub mod Entries
 pub mod Listed
+pub mod PartFacts
 pub mod Examples

@@ -5,7 +5,7 @@ use Rattle.rubis_schema.specs.Keys.{same_id}
 use Rattle.rubis_schema.specs.Tables.{Tables}
 use Rattle.rubis_schema.specs.declared.row_keys.RowKey.{RowKey}
 use Rattle.rubis_schema.specs.declared.rows.Row.{Row}
-use Rattle.rubis_schema.specs.declared.rows.Row.TheVariants.{User, Item, Nick, Cat, Bid, Purchase, Comment}
+use Rattle.rubis_schema.specs.declared.rows.Row.TheVariants.{User, Item, Nick, Cat, Comment}
 use Rattle.rubis_schema.specs.declared.rows.ItemRow.{ItemRow}
 use Rattle.rubis_schema.specs.declared.rows.Best.{Best}
 use Rattle.rubis_schema.specs.declared.rows.Sale.{Sale}
@@ -104,19 +104,14 @@ misfit_of t e = (doing t e).misfit
 -- a change that borrows, as the change that it stands for
 abbrev pub change_of : ChangeRef → Change
 change_of (lent.NewUser n) = Insert (User (new_user n))
-change_of (lent.NewNick i) = Insert (Nick i)
 change_of (lent.NewItem n) = Insert (Item (new_item n.now))
-change_of (lent.NewBid b) = Insert (Bid b)
-change_of (lent.NewPurchase p) = Insert (Purchase p)
 change_of (lent.NewComment c) = Insert (Comment c.now)
-change_of lent.ItemListed = ItemListed
-change_of (lent.Bought q) = Bought q
-change_of (lent.Rated r) = Rated r
-change_of lent.CatListed = CatListed
-change_of lent.CatEnded = CatEnded
-change_of (lent.BidTaken b) = BidTaken b
-change_of (lent.Sold q) = Sold q
-change_of (lent.End w) = End w
-change_of (lent.Restocked q) = Restocked q
-change_of (lent.Renamed n) = Renamed n
-change_of (lent.NickFreed u) = NickFreed u
+change_of (lent.Whole change) = change
+
+-- the key of a part, and its change
+abbrev pub both_of : Effect → RowKey × Change
+both_of e = (e.key, e.change)
+
+-- the same of a key, and a change that borrows
+abbrev pub both_as : RowKey × ChangeRef → RowKey × Change
+both_as b = (b.0, change_of b.1)

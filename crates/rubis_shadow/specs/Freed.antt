@@ -7,13 +7,13 @@ use Rattle.rubis_shadow.specs.declared.changes.Change.{Change}
 use Rattle.rubis_shadow.specs.declared.changes.Change.TheVariants.{NickFreed}
 
 -- the key is a nickname's
-abbrev pub IsNick : RowKey → Type 0
-IsNick (Nick n) = ⊤
-IsNick key = ⊥
+abbrev pub IsNickKey : RowKey → Type 0
+IsNickKey (Nick n) = ⊤
+IsNickKey key = ⊥
 
 -- if the change gives the key up, the key is a nickname's
 abbrev pub FreesOnlyNicks : RowKey → Change → Type 0
-FreesOnlyNicks key (NickFreed user) = IsNick key
+FreesOnlyNicks key (NickFreed user) = IsNickKey key
 FreesOnlyNicks key change = ⊤
 
 -- there is one proof of it at most

@@ -1,6 +1,7 @@
 //! At most three keys, and those of a shadow's parts.
 
-ghost use Rattle.std.specs.Prelude.{◌≡◌, [], ◌∷◌};
+ghost use Rattle.std.specs.Prelude.{◌≡◌, ◌++◌};
+ghost use Rattle.std.specs.Option.{option_to_list};
 ghost use Rattle.std.specs.Iterator.{item_count, YieldsFirst};
 ghost use Rattle.rubis_shadow.specs.Shadows.{footprint_of};
 
@@ -26,47 +27,14 @@ impl Model for Keys {
     ghost view = { λ k. option_to_list k.first ++ (option_to_list k.second ++ option_to_list k.third) };
 }
 
-/// No key.
-pub fn no_key() -> Keys
-    ensures { result ≡ [] }
+/// Those of these keys that there are.
+pub fn keys_of(first: Option<RowKey>, second: Option<RowKey>, third: Option<RowKey>) -> Keys
+    ensures { result ≡ option_to_list first ++ (option_to_list second ++ option_to_list third) }
 {
     Keys {
-        first: None,
-        second: None,
-        third: None,
-    }
-}
-
-/// This key.
-pub fn one_key(first: RowKey) -> Keys
-    ensures { result ≡ first ∷ [] }
-{
-    Keys {
-        first: Some(first),
-        second: None,
-        third: None,
-    }
-}
-
-/// These two keys.
-pub fn two_keys(first: RowKey, second: RowKey) -> Keys
-    ensures { result ≡ first ∷ second ∷ [] }
-{
-    Keys {
-        first: Some(first),
-        second: Some(second),
-        third: None,
-    }
-}
-
-/// These three keys.
-pub fn three_keys(first: RowKey, second: RowKey, third: RowKey) -> Keys
-    ensures { result ≡ first ∷ second ∷ third ∷ [] }
-{
-    Keys {
-        first: Some(first),
-        second: Some(second),
-        third: Some(third),
+        first,
+        second,
+        third,
     }
 }
 
@@ -76,11 +44,7 @@ impl Shadow {
     pub fn footprint(&self, id: Id) -> Keys
         ensures { result ≡ footprint_of id self.now }
     {
-        Keys {
-            first: self.key(id, 0),
-            second: self.key(id, 1),
-            third: self.key(id, 2),
-        }
+        keys_of(self.key(id, 0), self.key(id, 1), self.key(id, 2))
     }
 }
 

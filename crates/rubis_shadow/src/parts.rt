@@ -1,17 +1,18 @@
 //! The parts of a shadow, one for each key that it touches, and the keys that it refers to.
 
-ghost use Rattle.std.specs.Prelude.{◌≡◌, ◌≤◌, ◌∷◌, ℕ, length, option_map, slice_get, IfOk};
+ghost use Rattle.std.specs.Prelude.{◌≡◌, ◌≤◌, ◌∷◌, ℕ, Some, length, option_map, slice_get, IfOk};
 ghost use Rattle.rubis_schema.specs.declared.ids.Id.{Id};
 ghost use Rattle.rubis_shadow.specs.declared.shadows.Shadow.TheVariants as Shadow;
 ghost use Rattle.rubis_shadow.specs.Shadows.{key_of, new_item, new_user, parts, refers_of, winner_key};
-ghost use Rattle.rubis_shadow.specs.Changes.{change_of};
+ghost use Rattle.rubis_shadow.specs.Changes.{both_as, both_of, change_of};
 ghost use Rattle.rubis_shadow.specs.Freed.{FreesOnlyNicks, FreesOnlyNicks-prop};
+ghost use Rattle.rubis_shadow.specs.declared.changes.Change.TheVariants.{BidTaken, Insert};
 ghost use Rattle.rubis_shadow.specs.Tables.{HasBoxedRow, boxed_row_in};
 ghost use Rattle.rubis_schema.specs.declared.rows.Row.TheVariants as rows;
 
 use crate::changes::Change;
 use crate::keyed_change::Effect;
-use crate::keys::{Keys, no_key, one_key, three_keys, two_keys};
+use crate::keys::{Keys, keys_of};
 use crate::renames::NewRename;
 use crate::shadows::{NewBid, NewClose, NewRestock, Shadow};
 use rubis_schema::{
@@ -24,26 +25,13 @@ use std::marker::Model;
 /// The most parts of a shadow.
 pub const PARTS_MAX: u8 = 3;
 
-// A change that borrows what its shadow shares.
-#[derive(Clone, Copy)]
+// A change: an insert of a row that is in a box or shared, by what it is made of, or another change as it is.
+#[derive(Drop)]
 enum ChangeRef<'a> {
     NewUser(Nick),
-    NewNick(Id),
     NewItem(&'a Shared<NewItem>),
-    NewBid(BidRow),
-    NewPurchase(PurchaseRow),
     NewComment(&'a Shared<CommentRow>),
-    ItemListed,
-    Bought(u64),
-    Rated(i8),
-    CatListed,
-    CatEnded,
-    BidTaken(Best),
-    Sold(u64),
-    End(Option<Id>),
-    Restocked(u64),
-    Renamed(Nick),
-    NickFreed(Id),
+    Whole(Change),
 }
 
 /// A part of a shadow that borrows what the shadow shares. Contracts see the effect.
@@ -93,47 +81,67 @@ impl Shadow {
     }
 
     /// The part at this place, from 0, of the shadow with that id and red number.
+    #[tactic(auto, using(crate::proofs::PartFacts::frees_of))]
     #[inline(always)]
     pub fn effect(&self, id: Id, red: u32, place: u8) -> Option<EffectRef<'_>>
         ensures { result ≡ slice_get (parts id red self.now) place }
     {
-        match self {
-            Shadow::User(nick) => user_part(id, *nick, place),
-            Shadow::Item(item) => item_part(id, item, place),
-            Shadow::Bid(bid) => bid_part(id, red, *bid, place),
-            Shadow::Buy(purchase) => buy_part(id, *purchase, place),
-            Shadow::Close(close) => close_part(*close, place),
-            Shadow::Comment(comment) => comment_part(id, comment, place),
-            Shadow::Restock(restock) => restock_part(*restock, place),
-            Shadow::Rename(rename) => rename_part(rename, place),
+        let (key, change) = self.key_and_change(id, red, place)?;
+        Some(EffectRef { key, change })
+    }
+
+    // The key of the part at this place, and what the part does to the row there.
+    #[inline(always)]
+    fn key_and_change(&self, id: Id, red: u32, place: u8) -> Option<(RowKey, ChangeRef<'_>)>
+        ensures { option_map both_as result ≡ option_map both_of (slice_get (parts id red self.now) place) }
+    {
+        match (self, place) {
+            (Shadow::User(nick), 0) => Some((RowKey::User(id), ChangeRef::NewUser(*nick))),
+            (Shadow::User(nick), 1) => whole(RowKey::Nick(*nick), Change::Insert(Row::Nick(id))),
+            (Shadow::Item(item), 0) => Some((RowKey::Item(id), ChangeRef::NewItem(item))),
+            (Shadow::Item(item), 1) => whole(RowKey::User(item.seller), Change::ItemListed),
+            (Shadow::Item(item), 2) => whole(RowKey::Cat(item.cat), Change::CatListed),
+            (Shadow::Bid(bid), 0) => whole(RowKey::Bid(id), bid_row(red, bid)),
+            (Shadow::Bid(bid), 1) => whole(RowKey::Item(bid.item), bid_taken(id, bid)),
+            (Shadow::Buy(buy), 0) => whole(
+                RowKey::Purchase(id),
+                Change::Insert(Row::Purchase(*buy)),
+            ),
+            (Shadow::Buy(buy), 1) => whole(RowKey::Item(buy.item), Change::Sold(buy.quantity)),
+            (Shadow::Buy(buy), 2) => whole(RowKey::User(buy.buyer), Change::Bought(buy.quantity)),
+            (Shadow::Close(close), 0) => whole(RowKey::Item(close.item), Change::End(close.winner)),
+            (Shadow::Close(close), 1) => whole(RowKey::Cat(close.cat), Change::CatEnded),
+            (Shadow::Comment(comment), 0) => Some((
+                RowKey::Comment(id),
+                ChangeRef::NewComment(comment),
+            )),
+            (Shadow::Comment(comment), 1) => whole(
+                RowKey::User(comment.to),
+                Change::Rated(comment.rating),
+            ),
+            (Shadow::Restock(more), 0) => whole(
+                RowKey::Item(more.item),
+                Change::Restocked(more.quantity),
+            ),
+            (Shadow::Rename(new), 0) => whole(RowKey::User(new.user()), Change::Renamed(new.to())),
+            (Shadow::Rename(new), 1) => whole(
+                RowKey::Nick(new.from()),
+                Change::NickFreed(new.user()),
+            ),
+            (Shadow::Rename(new), 2) => whole(
+                RowKey::Nick(new.to()),
+                Change::Insert(Row::Nick(new.user())),
+            ),
+            _ => None,
         }
     }
 
     /// The key of the part at this place, from 0; `id` is the shadow's own.
+    #[inline(always)]
     pub fn key(&self, id: Id, place: u8) -> Option<RowKey>
         ensures { (red : ℕ) → result ≡ option_map key_of (slice_get (parts id red self.now) place) }
     {
-        match (self, place) {
-            (Shadow::User(_), 0) => Some(RowKey::User(id)),
-            (Shadow::User(nick), 1) => Some(RowKey::Nick(*nick)),
-            (Shadow::Item(_), 0) => Some(RowKey::Item(id)),
-            (Shadow::Item(item), 1) => Some(RowKey::User(item.seller)),
-            (Shadow::Item(item), 2) => Some(RowKey::Cat(item.cat)),
-            (Shadow::Bid(_), 0) => Some(RowKey::Bid(id)),
-            (Shadow::Bid(bid), 1) => Some(RowKey::Item(bid.item)),
-            (Shadow::Buy(_), 0) => Some(RowKey::Purchase(id)),
-            (Shadow::Buy(purchase), 1) => Some(RowKey::Item(purchase.item)),
-            (Shadow::Buy(purchase), 2) => Some(RowKey::User(purchase.buyer)),
-            (Shadow::Close(close), 0) => Some(RowKey::Item(close.item)),
-            (Shadow::Close(close), 1) => Some(RowKey::Cat(close.cat)),
-            (Shadow::Comment(_), 0) => Some(RowKey::Comment(id)),
-            (Shadow::Comment(comment), 1) => Some(RowKey::User(comment.to)),
-            (Shadow::Restock(restock), 0) => Some(RowKey::Item(restock.item)),
-            (Shadow::Rename(rename), 0) => Some(RowKey::User(rename.user())),
-            (Shadow::Rename(rename), 1) => Some(RowKey::Nick(rename.from())),
-            (Shadow::Rename(rename), 2) => Some(RowKey::Nick(rename.to())),
-            _ => None,
-        }
+        Some(self.key_and_change(id, 0, place)?.0)
     }
 
     /// The keys of the rows that the shadow takes to be there.
@@ -141,20 +149,26 @@ impl Shadow {
         ensures { result ≡ refers_of self.now }
     {
         match self {
-            Shadow::User(_) => no_key(),
-            Shadow::Item(item) => one_key(RowKey::User(item.seller)),
-            Shadow::Bid(bid) => two_keys(RowKey::Item(bid.item), RowKey::User(bid.bidder)),
-            Shadow::Buy(purchase) => {
-                two_keys(RowKey::Item(purchase.item), RowKey::User(purchase.buyer))
-            }
-            Shadow::Close(close) => close_keys(close),
-            Shadow::Comment(comment) => three_keys(
-                RowKey::Item(comment.item),
-                RowKey::User(comment.from),
-                RowKey::User(comment.to),
+            Shadow::User(_) => keys_of(None, None, None),
+            Shadow::Item(item) => keys_of(Some(RowKey::User(item.seller)), None, None),
+            Shadow::Bid(bid) => keys_of(
+                Some(RowKey::Item(bid.item)),
+                Some(RowKey::User(bid.bidder)),
+                None,
             ),
-            Shadow::Restock(restock) => one_key(RowKey::Item(restock.item)),
-            Shadow::Rename(rename) => one_key(RowKey::User(rename.user())),
+            Shadow::Buy(buy) => keys_of(
+                Some(RowKey::Item(buy.item)),
+                Some(RowKey::User(buy.buyer)),
+                None,
+            ),
+            Shadow::Close(close) => close_keys(close),
+            Shadow::Comment(comment) => keys_of(
+                Some(RowKey::Item(comment.item)),
+                Some(RowKey::User(comment.from)),
+                Some(RowKey::User(comment.to)),
+            ),
+            Shadow::Restock(restock) => keys_of(Some(RowKey::Item(restock.item)), None, None),
+            Shadow::Rename(rename) => keys_of(Some(RowKey::User(rename.user())), None, None),
         }
     }
 }
@@ -163,162 +177,43 @@ impl Shadow {
 fn close_keys(close: &NewClose) -> Keys
     ensures { result ≡ RowKey.Item close.now.item ∷ winner_key close.now.winner }
 {
+    let item = Some(RowKey::Item(close.item));
     match close.winner {
-        Some(bid) => two_keys(RowKey::Item(close.item), RowKey::Bid(bid)),
-        None => one_key(RowKey::Item(close.item)),
+        Some(bid) => keys_of(item, Some(RowKey::Bid(bid)), None),
+        None => keys_of(item, None, None),
     }
 }
 
+// That change, which borrows nothing, of the row at that key.
 #[inline(always)]
-fn user_part<'a>(id: Id, nick: Nick, place: u8) -> Option<EffectRef<'a>>
-    ensures { result ≡ slice_get (parts id 0 (Shadow.User nick)) place }
+fn whole<'a>(key: RowKey, change: Change) -> Option<(RowKey, ChangeRef<'a>)>
+    ensures { option_map both_as result ≡ Some (key, change) }
 {
-    match place {
-        0 => Some(EffectRef {
-            key: RowKey::User(id),
-            change: ChangeRef::NewUser(nick),
-        }),
-        1 => Some(EffectRef {
-            key: RowKey::Nick(nick),
-            change: ChangeRef::NewNick(id),
-        }),
-        _ => None,
-    }
+    Some((key, ChangeRef::Whole(change)))
 }
 
+// What the first part of a bid does: it enters the bid.
 #[inline(always)]
-fn item_part<'a>(id: Id, item: &'a Shared<NewItem>, place: u8) -> Option<EffectRef<'a>>
-    ensures { result ≡ slice_get (parts id 0 (Shadow.Item item.now)) place }
+fn bid_row(red: u32, bid: &NewBid) -> Change
+    ensures { result ≡ Insert (rows.Bid (record { item = bid.now.item; bidder = bid.now.bidder; amount = bid.now.amount; red = red })) }
 {
-    match place {
-        0 => Some(EffectRef {
-            key: RowKey::Item(id),
-            change: ChangeRef::NewItem(item),
-        }),
-        1 => Some(EffectRef {
-            key: RowKey::User(item.seller),
-            change: ChangeRef::ItemListed,
-        }),
-        2 => Some(EffectRef {
-            key: RowKey::Cat(item.cat),
-            change: ChangeRef::CatListed,
-        }),
-        _ => None,
-    }
+    Change::Insert(Row::Bid(PackedBid::new(BidRow {
+        item: bid.item,
+        bidder: bid.bidder,
+        amount: bid.amount,
+        red,
+    })))
 }
 
+// What the second does: the item has one bid more.
 #[inline(always)]
-fn bid_part<'a>(id: Id, red: u32, bid: NewBid, place: u8) -> Option<EffectRef<'a>>
-    ensures { result ≡ slice_get (parts id red (Shadow.Bid bid)) place }
+fn bid_taken(id: Id, bid: &NewBid) -> Change
+    ensures { result ≡ BidTaken (record { bid = id; amount = bid.now.amount }) }
 {
-    match place {
-        0 => Some(EffectRef {
-            key: RowKey::Bid(id),
-            change: ChangeRef::NewBid(BidRow {
-                item: bid.item,
-                bidder: bid.bidder,
-                amount: bid.amount,
-                red,
-            }),
-        }),
-        1 => Some(EffectRef {
-            key: RowKey::Item(bid.item),
-            change: ChangeRef::BidTaken(Best {
-                bid: id,
-                amount: bid.amount,
-            }),
-        }),
-        _ => None,
-    }
-}
-
-#[inline(always)]
-fn buy_part<'a>(id: Id, purchase: PurchaseRow, place: u8) -> Option<EffectRef<'a>>
-    ensures { result ≡ slice_get (parts id 0 (Shadow.Buy purchase)) place }
-{
-    match place {
-        0 => Some(EffectRef {
-            key: RowKey::Purchase(id),
-            change: ChangeRef::NewPurchase(purchase),
-        }),
-        1 => Some(EffectRef {
-            key: RowKey::Item(purchase.item),
-            change: ChangeRef::Sold(purchase.quantity),
-        }),
-        2 => Some(EffectRef {
-            key: RowKey::User(purchase.buyer),
-            change: ChangeRef::Bought(purchase.quantity),
-        }),
-        _ => None,
-    }
-}
-
-#[inline(always)]
-fn close_part<'a>(close: NewClose, place: u8) -> Option<EffectRef<'a>>
-    ensures { result ≡ slice_get (parts close.item 0 (Shadow.Close close)) place }
-{
-    match place {
-        0 => Some(EffectRef {
-            key: RowKey::Item(close.item),
-            change: ChangeRef::End(close.winner),
-        }),
-        1 => Some(EffectRef {
-            key: RowKey::Cat(close.cat),
-            change: ChangeRef::CatEnded,
-        }),
-        _ => None,
-    }
-}
-
-#[inline(always)]
-fn comment_part<'a>(id: Id, comment: &'a Shared<CommentRow>, place: u8) -> Option<EffectRef<'a>>
-    ensures { result ≡ slice_get (parts id 0 (Shadow.Comment comment.now)) place }
-{
-    match place {
-        0 => Some(EffectRef {
-            key: RowKey::Comment(id),
-            change: ChangeRef::NewComment(comment),
-        }),
-        1 => Some(EffectRef {
-            key: RowKey::User(comment.to),
-            change: ChangeRef::Rated(comment.rating),
-        }),
-        _ => None,
-    }
-}
-
-#[inline(always)]
-fn restock_part<'a>(restock: NewRestock, place: u8) -> Option<EffectRef<'a>>
-    ensures { result ≡ slice_get (parts restock.item 0 (Shadow.Restock restock)) place }
-{
-    match place {
-        0 => Some(EffectRef {
-            key: RowKey::Item(restock.item),
-            change: ChangeRef::Restocked(restock.quantity),
-        }),
-        _ => None,
-    }
-}
-
-#[inline(always)]
-fn rename_part<'a>(rename: &NewRename, place: u8) -> Option<EffectRef<'a>>
-    ensures { result ≡ slice_get (parts rename.now.user 0 (Shadow.Rename rename.now)) place }
-{
-    match place {
-        0 => Some(EffectRef {
-            key: RowKey::User(rename.user()),
-            change: ChangeRef::Renamed(rename.to()),
-        }),
-        1 => Some(EffectRef {
-            key: RowKey::Nick(rename.from()),
-            change: ChangeRef::NickFreed(rename.user()),
-        }),
-        2 => Some(EffectRef {
-            key: RowKey::Nick(rename.to()),
-            change: ChangeRef::NewNick(rename.user()),
-        }),
-        _ => None,
-    }
+    Change::BidTaken(Best {
+        bid: id,
+        amount: bid.amount,
+    })
 }
 
 // The row of a user that is new.
@@ -361,43 +256,15 @@ fn comment_row(comment: &Shared<CommentRow>) -> Result<Row, AllocError>
     Ok(Row::Comment(comment.clone()?))
 }
 
-// The row that the change inserts, where that is in a box or shared.
-fn boxed_row(alloc: Global, change: &ChangeRef<'_>) -> Result<Option<Row>, AllocError>
-    ensures { IfOk result (λ row. row ≡ boxed_row_in (change_of change.now)) }
-{
-    match change {
-        ChangeRef::NewUser(nick) => Ok(Some(user_row(alloc, *nick)?)),
-        ChangeRef::NewItem(item) => Ok(Some(item_row(alloc, item)?)),
-        ChangeRef::NewComment(comment) => Ok(Some(comment_row(comment)?)),
-        _ => Ok(None),
-    }
-}
-
 // The change, with its row in a box or shared, where it has one.
 #[inline(always)]
-fn change_with(change: &ChangeRef<'_>, row: Option<Row>) -> Change
-    requires { row ≡ boxed_row_in (change_of change.now) }
-    ensures { result ≡ change_of change.now }
+fn change_with(change: ChangeRef<'_>, row: Option<Row>) -> Change
+    requires { row ≡ boxed_row_in (change_of change) }
+    ensures { result ≡ change_of change.entry }
 {
-    if let Some(row) = row {
-        return Change::Insert(row);
-    }
     match change {
-        ChangeRef::NewNick(id) => Change::Insert(Row::Nick(*id)),
-        ChangeRef::NewBid(bid) => Change::Insert(Row::Bid(PackedBid::new(*bid))),
-        ChangeRef::NewPurchase(purchase) => Change::Insert(Row::Purchase(*purchase)),
-        ChangeRef::NewUser(_) | ChangeRef::NewItem(_) | ChangeRef::NewComment(_) => unreachable!(),
-        ChangeRef::ItemListed => Change::ItemListed,
-        ChangeRef::Bought(quantity) => Change::Bought(*quantity),
-        ChangeRef::Rated(rating) => Change::Rated(*rating),
-        ChangeRef::CatListed => Change::CatListed,
-        ChangeRef::CatEnded => Change::CatEnded,
-        ChangeRef::BidTaken(best) => Change::BidTaken(*best),
-        ChangeRef::Sold(quantity) => Change::Sold(*quantity),
-        ChangeRef::End(winner) => Change::End(*winner),
-        ChangeRef::Restocked(quantity) => Change::Restocked(*quantity),
-        ChangeRef::Renamed(nick) => Change::Renamed(*nick),
-        ChangeRef::NickFreed(id) => Change::NickFreed(*id),
+        ChangeRef::Whole(change) => change,
+        _ => Change::Insert(row.unwrap()),
     }
 }
 
@@ -413,22 +280,28 @@ impl<'a> EffectRef<'a> {
     pub fn own(&self, alloc: Global) -> Result<Effect, AllocError>
         ensures { IfOk result (λ effect. effect ≡ self.now) }
     {
-        let row = boxed_row(alloc, &self.change)?;
+        let change = match &self.change {
+            ChangeRef::NewUser(nick) => Change::Insert(user_row(alloc, *nick)?),
+            ChangeRef::NewItem(item) => Change::Insert(item_row(alloc, item)?),
+            ChangeRef::NewComment(comment) => Change::Insert(comment_row(comment)?),
+            ChangeRef::Whole(change) => change.copy()?,
+        };
         Ok(Effect {
             key: self.key,
-            change: change_with(&self.change, row),
+            change,
         })
     }
 
     /// An equal effect that borrows nothing, with the row that it inserts, where that is in a box or shared. It takes no memory.
     #[inline(always)]
-    pub fn own_with(&self, row: Option<Row>) -> Effect
-        requires { row ≡ boxed_row_in self.now.change }
-        ensures { result ≡ self.now }
+    pub fn own_with(self, row: Option<Row>) -> Effect
+        requires { row ≡ boxed_row_in self.change }
+        ensures { result ≡ self.entry }
     {
+        let EffectRef { key, change } = self;
         Effect {
-            key: self.key,
-            change: change_with(&self.change, row),
+            key,
+            change: change_with(change, row),
         }
     }
 }

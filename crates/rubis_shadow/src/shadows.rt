@@ -92,14 +92,8 @@ impl Shadow {
         ensures { result ≡ colour_of self.now }
     {
         match self {
-            Shadow::User(_) => Colour::Red,
-            Shadow::Item(_) => Colour::Blue,
-            Shadow::Bid(_) => Colour::Red,
-            Shadow::Buy(_) => Colour::Red,
-            Shadow::Close(_) => Colour::Red,
-            Shadow::Comment(_) => Colour::Blue,
-            Shadow::Restock(_) => Colour::Blue,
-            Shadow::Rename(_) => Colour::Red,
+            Shadow::Item(_) | Shadow::Comment(_) | Shadow::Restock(_) => Colour::Blue,
+            _ => Colour::Red,
         }
     }
 
@@ -109,13 +103,8 @@ impl Shadow {
         ensures { result.now ≡ version_of self.now }
     {
         match self {
-            Shadow::User(_)
-            | Shadow::Item(_)
-            | Shadow::Bid(_)
-            | Shadow::Buy(_)
-            | Shadow::Close(_)
-            | Shadow::Comment(_) => b"1",
             Shadow::Restock(_) | Shadow::Rename(_) => b"2",
+            _ => b"1",
         }
     }
 

@@ -7,7 +7,7 @@ use Rattle.rubis_schema.specs.declared.row_keys.RowKey.TheVariants as key
 use Rattle.rubis_schema.specs.declared.row_keys.Table.TheVariants as table
 use Rattle.rubis_shard.specs.Listed.{categories_among, categories_of, shown_among, shows}
 use Rattle.rubis_shard.specs.Rows.{entries_of, kept_of}
-use Rattle.rubis_shard.specs.Chains.{written}
+use Rattle.rubis_shard.specs.Chains.{chain_written}
 use Rattle.rubis_shard.specs.declared.row_map.Rows.{Rows}
 use Rattle.rubis_shard.proofs.InMaps.{Entries}
 use Rattle.rubis_shard.proofs.Openings.{none_there}
@@ -33,13 +33,13 @@ with_all : (b : Bool) (e : RowKey × Row) (rest : Entries) → in_cats e ≡ tru
 with_all true e rest is same = ap (λ c. cond c (e ∷ filter in_cats rest) (filter in_cats rest)) is ∙ ap (λ (xs : Entries). e ∷ xs) same
 with_all false e rest is same = same
 
-none_among : {K : Type 0} (f : K → RowKey) → ((k : K) → holds table.Cats (f k) ≡ false) → (es : List (K × Row)) → categories_among (written f es) ≡ []
+none_among : {K : Type 0} (f : K → RowKey) → ((k : K) → holds table.Cats (f k) ≡ false) → (es : List (K × Row)) → categories_among (chain_written f es) ≡ []
 none_among f none [] = refl
-none_among f none (e ∷ es) = without (shows e.1) (f e.0, e.1) (shown_among (written f es)) (none e.0) ∙ none_among f none es
+none_among f none (e ∷ es) = without (shows e.1) (f e.0, e.1) (shown_among (chain_written f es)) (none e.0) ∙ none_among f none es
 
-all_among : (es : List (ℕ × Row)) → categories_among (written key.Cat es) ≡ shown_among (written key.Cat es)
+all_among : (es : List (ℕ × Row)) → categories_among (chain_written key.Cat es) ≡ shown_among (chain_written key.Cat es)
 all_among [] = refl
-all_among (e ∷ es) = with_all (shows e.1) (key.Cat e.0, e.1) (shown_among (written key.Cat es)) refl (all_among es)
+all_among (e ∷ es) = with_all (shows e.1) (key.Cat e.0, e.1) (shown_among (chain_written key.Cat es)) refl (all_among es)
 
 no_key : (k : IdKey) → holds table.Cats (row_key k) ≡ false
 no_key k = elim k.table as (λ t. holds table.Cats (row_key (record { seq = k.seq; site = k.site; table = t })) ≡ false) [
@@ -50,10 +50,10 @@ no_key k = elim k.table as (λ t. holds table.Cats (row_key (record { seq = k.se
   | ids.Comment ↦ refl
 ]
 
-pub categories_shown : (r : Rows) → shown_among (written key.Cat r.cats.entries) ≡ categories_among (entries_of r)
+pub categories_shown : (r : Rows) → shown_among (chain_written key.Cat r.cats.entries) ≡ categories_among (entries_of r)
 categories_shown r =
-    let nicks = written key.Nick r.nicks.entries in
-    let cats = written key.Cat r.cats.entries in
+    let nicks = chain_written key.Nick r.nicks.entries in
+    let cats = chain_written key.Cat r.cats.entries in
     let first = none_among row_key no_key r.users.rows.entries in
     let second = none_among row_key no_key r.others.rows.entries in
     sym (append_among (kept_of r.users) (kept_of r.others ++ (nicks ++ cats))
@@ -68,9 +68,9 @@ one_more true e es = refl
 one_more false e es = refl
 
 pub shown_step : (done : Entries) (k : ℕ) (v : Row) (rest es : List (ℕ × Row)) (b : Bool) → es ≡ (k, v) ∷ rest → b ≡ shows v
-    → (done ++ cond b ((key.Cat k, v) ∷ []) []) ++ shown_among (written key.Cat rest) ≡ done ++ shown_among (written key.Cat es)
+    → (done ++ cond b ((key.Cat k, v) ∷ []) []) ++ shown_among (chain_written key.Cat rest) ≡ done ++ shown_among (chain_written key.Cat es)
 shown_step done k v rest es b next test =
-    let left = shown_among (written key.Cat rest) in
+    let left = shown_among (chain_written key.Cat rest) in
     append_assoc done (cond b ((key.Cat k, v) ∷ []) []) left
     ∙ ap (λ xs. done ++ xs) (one_more b (key.Cat k, v) left ∙ ap (λ c. cond c ((key.Cat k, v) ∷ left) left) test
-    ∙ ap (λ (xs : List (ℕ × Row)). shown_among (written key.Cat xs)) (sym next))
+    ∙ ap (λ (xs : List (ℕ × Row)). shown_among (chain_written key.Cat xs)) (sym next))

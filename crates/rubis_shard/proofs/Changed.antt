@@ -1,7 +1,7 @@
 -- A row of one map that is changed where it stands.
 use Rattle.rubis_shard.proofs.Common.{◌≡◌, ◌-◌, Bool, true, false, List, sym, ap, ◌∙◌, subst, cond, refl, Option, Some, None, is_none, is_some}
 use Rattle.rubis_shard.proofs.Common.{nat_le, AllByRecursion, lookup, insert_entry, row_key, same_id_key, IdKey, Tables, RowKey, ItemRow, Row, Sale}
-use Rattle.rubis_shard.proofs.Common.{after_part, change_row, count_up, fits_as, if_open, misfits_as, with_row, Done, FreesOnlyNicks, IsNick, Change}
+use Rattle.rubis_shard.proofs.Common.{after_part, change_row, count_up, fits_as, if_open, misfits_as, with_row, Done, FreesOnlyNicks, IsNickKey, Change}
 use Rattle.rubis_shard.proofs.Common.{Effect, StockShort, after_none, misfit_none, none_of, row_stays}
 use Rattle.std.specs.Prelude.{not, IsSome}
 use Rattle.rubis_shadow.specs.Changes.{misfit_of}
@@ -12,7 +12,7 @@ use Rattle.std.specs.FinMap as map
 use Rattle.rubis_schema.specs.declared.rows.Row.TheVariants as row
 use Rattle.rubis_schema.specs.declared.rows.Sale.TheVariants as sale
 use Rattle.rubis_shadow.specs.declared.changes.Change.TheVariants as change
-use Rattle.rubis_shard.specs.Chains.{chains_of, IsLinkedSoFar, written}
+use Rattle.rubis_shard.specs.Chains.{chains_of, IsLinkedSoFar, chain_written}
 use Rattle.rubis_shard.specs.Rows.{no_row, IsAltered, IsChanged}
 use Rattle.rubis_shard.specs.declared.chains.Chains.{Chains}
 use Rattle.rubis_shard.proofs.InMaps.{all_set, new_last}
@@ -36,10 +36,10 @@ removed_found b row o p q less changed = less ∙ ap (cond b None) changed ∙ n
 
 -- the first of the rows that were linked are linked when one was put after
 pub linked_put : (es fs : List (IdKey × Row)) (k : IdKey) (row : Row) (c : Chains) → true ≡ is_none (lookup (same_id_key k) es)
-    → fs ≡ insert_entry same_id_key es k row → IsLinkedSoFar (chains_of (written row_key es)) c
-    → IsLinkedSoFar (chains_of (written row_key fs)) c
+    → fs ≡ insert_entry same_id_key es k row → IsLinkedSoFar (chains_of (chain_written row_key es)) c
+    → IsLinkedSoFar (chains_of (chain_written row_key fs)) c
 linked_put es fs k row c free put linked =
-    subst (λ xs. IsLinkedSoFar (chains_of (written row_key xs)) c) (sym (put ∙ new_last same_id_key k row es (none_of _ free)))
+    subst (λ xs. IsLinkedSoFar (chains_of (chain_written row_key xs)) c) (sym (put ∙ new_last same_id_key k row es (none_of _ free)))
     (subst (λ cs. IsLinkedSoFar cs c) (sym (chains_pushed row_key es k row)) (linked_more _ _ c linked))
 
 module _ {K : Type 0} (same : K → K → Bool) (old new : List (K × Row)) (key : K) (e : Effect) (fate : Fate)
@@ -68,7 +68,7 @@ if_open_stays : (i : ItemRow) (sale : Sale) (d : Done) → IsSome d.row → IsSo
 if_open_stays i sale.Open d e = e
 if_open_stays i (sale.Ended w) d e = refl
 
-row_kept : (k : RowKey) → ¬ IsNick k → (r : Row) (c : Change) → FreesOnlyNicks k c → IsSome (change_row c (Some r)).row
+row_kept : (k : RowKey) → ¬ IsNickKey k → (r : Row) (c : Change) → FreesOnlyNicks k c → IsSome (change_row c (Some r)).row
 unfolding change_row
 row_kept k other (row.Item i) (change.BidTaken b) frees = if_open_stays i i.sale _ refl
 row_kept k other (row.Item i) (change.Sold q) frees =
@@ -85,7 +85,7 @@ row_kept k other (row.Purchase p) (change.Insert x) frees = refl
 row_kept k other (row.Comment m) (change.Insert x) frees = refl
 row_kept k other r c frees = refl
 
-pub row_stays_at : (k : RowKey) (c : Change) (r : Row) → ¬ IsNick k → FreesOnlyNicks k c → IsSome (change_row c (Some r)).row
+pub row_stays_at : (k : RowKey) (c : Change) (r : Row) → ¬ IsNickKey k → FreesOnlyNicks k c → IsSome (change_row c (Some r)).row
 row_stays_at k c r other frees = row_kept k other r c frees
 
 stays_if_some : (b : Bool) (row : Row) (o : Option Row) → IsSome o → o ≡ cond b (Some row) None → b ≡ true
@@ -106,14 +106,14 @@ module _ {K : Type 0} (same : K → K → Bool) (old new : List (K × Row)) (key
   altered was is = let h = some was is in record { row = Some h.row; changed = kept was is; told = h.told; found = h.found }
 
   -- it is in the chain that it was in
-  pub altered_chains : (f : K → RowKey) → chains_of (written f new) ≡ chains_of (written f old)
+  pub altered_chains : (f : K → RowKey) → chains_of (chain_written f new) ≡ chains_of (chain_written f old)
   altered_chains f = by (lookup (same key) old) refl
     where
-      by : (o : Option Row) → lookup (same key) old ≡ o → chains_of (written f new) ≡ chains_of (written f old)
-      by None is = ap (λ es. chains_of (written f es)) (none is).0
+      by : (o : Option Row) → lookup (same key) old ≡ o → chains_of (chain_written f new) ≡ chains_of (chain_written f old)
+      by None is = ap (λ es. chains_of (chain_written f es)) (none is).0
       by (Some was) is =
           let h = some was is in
-          ap (λ es. chains_of (written f es)) h.entries
+          ap (λ es. chains_of (chain_written f es)) h.entries
           ∙ chains_set f (same key) old was h.row is (λ k. chain_stays c k was h.row (kept was is))
 
 -- rows with ids that were all of one kind before

@@ -43,7 +43,7 @@ pub use Rattle.rubis_shadow.proofs.Listed.{rows_listed}
 pub use Rattle.rubis_shadow.proofs.Rows.{after_none, get_tables_of, lookup_find, misfit_none, none_of, put_then, row_stays, tables_of}
 pub use Rattle.rubis_shadow.specs.Changes.{Done, after_part, count_up, fits_as, if_open, misfits_as, with_row}
 unfoldable pub use Rattle.rubis_shadow.specs.Changes.{change_row}
-pub use Rattle.rubis_shadow.specs.Freed.{FreesOnlyNicks, IsNick}
+pub use Rattle.rubis_shadow.specs.Freed.{FreesOnlyNicks, IsNickKey}
 pub use Rattle.rubis_shadow.specs.Shadows.{parts}
 pub use Rattle.rubis_shadow.specs.Tables.{HasBoxedRow, new_category, rows_of}
 unfoldable pub use Rattle.rubis_shadow.specs.Tables.{categories_from, opening}

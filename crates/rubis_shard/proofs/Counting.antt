@@ -10,7 +10,7 @@ use Rattle.rubis_shard.specs.Listed.{is_recorded, recorded_from, recorded_of}
 use Rattle.rubis_shard.specs.Holdings.{AreInOrder, union}
 use Rattle.rubis_shard.specs.Rows.{entries_of as entries_in, kept_of}
 use Rattle.rubis_shard.specs.States.{ShardState}
-use Rattle.rubis_shard.specs.Chains.{written}
+use Rattle.rubis_shard.specs.Chains.{chain_written}
 use Rattle.rubis_shard.specs.declared.row_map.Rows.{Rows}
 use Rattle.rubis_shard.proofs.Listing.{all_distinct}
 use Rattle.rubis_shard.proofs.Openings.{none_there}
@@ -40,10 +40,10 @@ no_more : (b : Bool) → (b && false) ≡ false
 no_more true = refl
 no_more false = refl
 
-no_nicknames : (n : ℕ) (es : List (List ℕ × Row)) → recorded_from n (written key.Nick es) ≡ []
+no_nicknames : (n : ℕ) (es : List (List ℕ × Row)) → recorded_from n (chain_written key.Nick es) ≡ []
 no_nicknames n [] = refl
 no_nicknames n (e ∷ es) =
-    ap (λ b. cond b ((key.Nick e.0, e.1) ∷ recorded_from n (written key.Nick es)) (recorded_from n (written key.Nick es))) (no_more _)
+    ap (λ b. cond b ((key.Nick e.0, e.1) ∷ recorded_from n (chain_written key.Nick es)) (recorded_from n (chain_written key.Nick es))) (no_more _)
     ∙ no_nicknames n es
 
 recorded_append : (n : ℕ) (xs ys : Entries) → length (recorded_from n (xs ++ ys)) ≡ length (recorded_from n xs) + length (recorded_from n ys)
@@ -51,10 +51,10 @@ recorded_append n xs ys = ap length (filter-append (is_recorded n) xs ys) ∙ le
 
 pub recorded_in : (n : ℕ) (r : Rows) → IsDistinct key_eq (keys_of (entries_in r))
     → length (recorded_from n (map.entries (tables_of (entries_in r))))
-    ≡ length (recorded_from n (kept_of r.users)) + length (recorded_from n (kept_of r.others)) + length (recorded_from n (written key.Cat r.cats.entries))
+    ≡ length (recorded_from n (kept_of r.users)) + length (recorded_from n (kept_of r.others)) + length (recorded_from n (chain_written key.Cat r.cats.entries))
 recorded_in n r d =
-    let nicks = written key.Nick r.nicks.entries in
-    let cats = written key.Cat r.cats.entries in
+    let nicks = chain_written key.Nick r.nicks.entries in
+    let cats = chain_written key.Cat r.cats.entries in
     let all = passing_length (is_recorded n) (entries_in r) d in
     let first = recorded_append n (kept_of r.users) (kept_of r.others ++ (nicks ++ cats)) in
     let second = recorded_append n (kept_of r.others) (nicks ++ cats) in
@@ -94,10 +94,10 @@ shards_more n ts i d lt = ap (recorded_by_shard n) (drop_more ts i d lt)
 -- ---- going over the rows of a map
 pub count_step : {K : Type 0} (f : K → RowKey) (n : ℕ) (q : RowKey) (k : K) (v : Row) (rest es : List (K × Row)) (b : Bool)
     → q ≡ f k → es ≡ (k, v) ∷ rest → b ≡ is_recorded n (q, v)
-    → cond b 1 0 + length (recorded_from n (written f rest)) ≡ length (recorded_from n (written f es))
+    → cond b 1 0 + length (recorded_from n (chain_written f rest)) ≡ length (recorded_from n (chain_written f es))
 count_step f n q k v rest es b is next test =
-    one_counted n b (f k, v) (written f rest) (test ∙ ap (λ (x : RowKey). is_recorded n (x, v)) is)
-    ∙ ap (λ (xs : List _). length (recorded_from n (written f xs))) (sym next)
+    one_counted n b (f k, v) (chain_written f rest) (test ∙ ap (λ (x : RowKey). is_recorded n (x, v)) is)
+    ∙ ap (λ (xs : List _). length (recorded_from n (chain_written f xs))) (sym next)
 
 -- ---- not more than there are rows
 few_passing : (n : ℕ) (es : Entries) → length (recorded_from n es) ≤ length es
@@ -109,12 +109,12 @@ few_passing n (e ∷ es) =
       | false ↦ omega (arith, few)
     ]
 
-written_many : {K : Type 0} (f : K → RowKey) (es : List (K × Row)) → length (written f es) ≡ length es
+written_many : {K : Type 0} (f : K → RowKey) (es : List (K × Row)) → length (chain_written f es) ≡ length es
 written_many f [] = refl
 written_many f (e ∷ es) = ap suc (written_many f es)
 
-pub few_recorded : {K : Type 0} (f : K → RowKey) (n : ℕ) (es : List (K × Row)) → length (recorded_from n (written f es)) ≤ length es
-few_recorded f n es = let few = few_passing n (written f es) in let many = written_many f es in omega (arith, few, many)
+pub few_recorded : {K : Type 0} (f : K → RowKey) (n : ℕ) (es : List (K × Row)) → length (recorded_from n (chain_written f es)) ≤ length es
+few_recorded f n es = let few = few_passing n (chain_written f es) in let many = written_many f es in omega (arith, few, many)
 
 pub some_is : (r : Option ℕ) (P : ℕ → Type 0) (v : ℕ) → r ≡ Some v → IfSome r P → P v
 some_is None P v e h = absurd cc

@@ -3,7 +3,7 @@ use Rattle.rubis_shard.proofs.Common.{◌≡◌, Bool, true, false, cond, [], �
 use Rattle.rubis_shard.proofs.Common.{keys_of, lookup, holds, key_eq, Decides-key_eq, key_eq_equiv, Tables, RowKey, Table, Row, rows_of, lookup_find}
 use Rattle.rubis_shard.proofs.Common.{is_of}
 use Rattle.std.specs.FinMap as map
-use Rattle.rubis_shard.specs.Groups.{group_of, is_of_row, listing_of, table_of}
+use Rattle.rubis_shard.specs.Groups.{group_of, is_of_row, listing_of, table_of_rows}
 use Rattle.rubis_shard.specs.Listed.{listed_of, picked_by}
 use Rattle.rubis_shard.specs.declared.groups.Group.{Group}
 use Rattle.rubis_shard.proofs.InMaps.{Entries}
@@ -71,8 +71,8 @@ keys_passing g t get (e ∷ es) h = at (is_of (listing_of g) e.0 e.1) (holds t e
         ∙ rest
         ∙ ap (λ b. filter (λ k. is_of_row g k (get k)) (keys_of (cond b (e ∷ filter (λ x. holds t x.0) es) (filter (λ x. holds t x.0) es)))) (sym not)
 
-pub keys_grouped : (g : Group) (t : Tables) → keys_of (listed_of (listing_of g) (table_of g) t) ≡ group_of g t
+pub keys_grouped : (g : Group) (t : Tables) → keys_of (listed_of (listing_of g) (table_of_rows g) t) ≡ group_of g t
 keys_grouped g t =
     let es = map.entries t in
-    keys_passing g (table_of g) (λ k. lookup (key_eq k) es) es (shows es (sorted_distinct es (map.entries_sorted t)))
-    ∙ (λ i. filter (λ k. is_of_row g k (sym (map.get-entries t k ∙ lookup_find es k) i)) (keys_of (rows_of (table_of g) t)))
+    keys_passing g (table_of_rows g) (λ k. lookup (key_eq k) es) es (shows es (sorted_distinct es (map.entries_sorted t)))
+    ∙ (λ i. filter (λ k. is_of_row g k (sym (map.get-entries t k ∙ lookup_find es k) i)) (keys_of (rows_of (table_of_rows g) t)))

@@ -1,13 +1,13 @@
 -- What is found at a key of rows, which stand in four maps.
 use Rattle.rubis_shard.proofs.Common.{◌≡◌, ℕ, Bool, true, false, cond, List, [], ◌∷◌, ◌++◌, refl, sym, ap, subst, ◌∙◌, Option, Some, None, bytes_eq}
 use Rattle.rubis_shard.proofs.Common.{nat_eq, false≢true, AllByRecursion, lookup, set_value, same_as_row_keys, row_key, key_eq, insert_entry}
-use Rattle.rubis_shard.proofs.Common.{Decides-key_eq, Tables, IdKey, RowKey, Row, tables_of, get_tables_of, with_row, IsNick}
+use Rattle.rubis_shard.proofs.Common.{Decides-key_eq, Tables, IdKey, RowKey, Row, tables_of, get_tables_of, with_row, IsNickKey}
 use Rattle.rubis_schema.specs.IdKeyLaws.{same_id_key}
 use Rattle.rubis_shadow.proofs.Rows.{tables_of_update, tables_of_remove}
 use Rattle.std.specs.Bool.{MatchBool}
 use Rattle.rubis_schema.specs.declared.id_keys.IdTable.TheVariants as table
 use Rattle.rubis_schema.specs.declared.row_keys.RowKey.TheVariants as key
-use Rattle.rubis_shard.specs.Chains.{is_user, key_at, AreOthers, AreUsers, IsPlaced, written}
+use Rattle.rubis_shard.specs.Chains.{is_user, key_at, AreOthers, AreUsers, IsPlaced, chain_written}
 use Rattle.rubis_shard.specs.declared.map_keys.MapPlace.{MapPlace}
 use Rattle.rubis_shard.specs.declared.map_keys.MapPlace.TheVariants as place
 use Rattle.rubis_shard.specs.declared.row_map.Rows.{Rows}
@@ -19,15 +19,15 @@ Entries = List (RowKey × Row)
 -- ---- one map
 -- in a map whose keys are told apart as those of rows are
 pub found_written : {K : Type 0} (f : K → RowKey) (same : K → K → Bool) → ((k l : K) → same k l ≡ key_eq (f k) (f l)) → (k : K) (es : List (K × Row))
-    → lookup (key_eq (f k)) (written f es) ≡ lookup (same k) es
+    → lookup (key_eq (f k)) (chain_written f es) ≡ lookup (same k) es
 found_written f same is k [] = refl
 found_written f same is k (e ∷ es) = λ i. cond (sym (is k e.0) i) (Some e.1) (found_written f same is k es i)
 
 -- in a map of other keys
 pub none_written : {K : Type 0} (f : K → RowKey) (q : RowKey) → ((k : K) → key_eq q (f k) ≡ false) → (es : List (K × Row))
-    → lookup (key_eq q) (written f es) ≡ None
+    → lookup (key_eq q) (chain_written f es) ≡ None
 none_written f q apart [] = refl
-none_written f q apart (e ∷ es) = ap (λ b. cond b (Some e.1) (lookup (key_eq q) (written f es))) (apart e.0) ∙ none_written f q apart es
+none_written f q apart (e ∷ es) = ap (λ b. cond b (Some e.1) (lookup (key_eq q) (chain_written f es))) (apart e.0) ∙ none_written f q apart es
 
 -- ---- users, and other rows with ids
 -- a key of a user is none of another row
@@ -44,15 +44,15 @@ user_apart p q user not_user = unlike p q (λ same. false≢true (sym not_user �
 pub other_apart : (p q : RowKey) → is_user p ≡ false → is_user q ≡ true → key_eq p q ≡ false
 other_apart p q not_user user = unlike p q (λ same. false≢true (sym not_user ∙ same ∙ user))
 
-no_other : (q : RowKey) → is_user q ≡ true → (es : List (IdKey × Row)) → AreOthers es → lookup (key_eq q) (written row_key es) ≡ None
+no_other : (q : RowKey) → is_user q ≡ true → (es : List (IdKey × Row)) → AreOthers es → lookup (key_eq q) (chain_written row_key es) ≡ None
 no_other q user [] all = refl
 no_other q user (e ∷ es) all =
-    ap (λ b. cond b (Some e.1) (lookup (key_eq q) (written row_key es))) (user_apart q (row_key e.0) user all.0) ∙ no_other q user es all.1
+    ap (λ b. cond b (Some e.1) (lookup (key_eq q) (chain_written row_key es))) (user_apart q (row_key e.0) user all.0) ∙ no_other q user es all.1
 
-no_user : (q : RowKey) → is_user q ≡ false → (es : List (IdKey × Row)) → AreUsers es → lookup (key_eq q) (written row_key es) ≡ None
+no_user : (q : RowKey) → is_user q ≡ false → (es : List (IdKey × Row)) → AreUsers es → lookup (key_eq q) (chain_written row_key es) ≡ None
 no_user q not_user [] all = refl
 no_user q not_user (e ∷ es) all =
-    ap (λ b. cond b (Some e.1) (lookup (key_eq q) (written row_key es))) (other_apart q (row_key e.0) not_user all.0) ∙ no_user q not_user es all.1
+    ap (λ b. cond b (Some e.1) (lookup (key_eq q) (chain_written row_key es))) (other_apart q (row_key e.0) not_user all.0) ∙ no_user q not_user es all.1
 
 -- all of a map are of its kind when one was put after, and when one was changed where it stands
 module _ (P : IdKey → Type 0) where
@@ -132,8 +132,8 @@ cat_of_key k n = elim k.table as (λ t. key_eq (row_key (record { seq = k.seq; s
   | table.Comment ↦ refl
 ]
 
-pub kept_is_no_nick : (k : IdKey) → ¬ IsNick (row_key k)
-kept_is_no_nick k = elim k.table as (λ t. ¬ IsNick (row_key (record { seq = k.seq; site = k.site; table = t }))) [
+pub kept_is_no_nick : (k : IdKey) → ¬ IsNickKey (row_key k)
+kept_is_no_nick k = elim k.table as (λ t. ¬ IsNickKey (row_key (record { seq = k.seq; site = k.site; table = t }))) [
   | table.User ↦ λ nick. nick
   | table.Item ↦ λ nick. nick
   | table.Bid ↦ λ nick. nick
@@ -161,7 +161,7 @@ four r = record {
 }
 
 abbrev pub all_in : Four → Entries
-all_in r = written row_key r.users ++ (written row_key r.others ++ (written key.Nick r.nicks ++ written key.Cat r.cats))
+all_in r = chain_written row_key r.users ++ (chain_written row_key r.others ++ (chain_written key.Nick r.nicks ++ chain_written key.Cat r.cats))
 
 abbrev pub made_of : Four → Tables
 made_of r = map.from_entries (all_in r)
@@ -176,38 +176,38 @@ found_at r (place.Cat n) = lookup (nat_eq n) r.cats
 pub looked_up : (r : Four) (p : MapPlace) → IsPlaced p → lookup (key_eq (key_at p)) (all_in r) ≡ found_at r p
 unfolding found_at
 looked_up r (place.User k) user =
-    let ds = written row_key r.others in
-    let ns = written key.Nick r.nicks in
-    let cs = written key.Cat r.cats in
+    let ds = chain_written row_key r.others in
+    let ns = chain_written key.Nick r.nicks in
+    let cs = chain_written key.Cat r.cats in
     let q = row_key k in
-    found_first (key_eq q) (written row_key r.users) (ds ++ (ns ++ cs))
+    found_first (key_eq q) (chain_written row_key r.users) (ds ++ (ns ++ cs))
     (found_second (key_eq q) ds (ns ++ cs) (no_other q user r.others r.are_others)
     ∙ found_second (key_eq q) ns cs (none_written key.Nick q (nick_of_key k) r.nicks) ∙ none_written key.Cat q (cat_of_key k) r.cats)
     ∙ found_written row_key same_id_key same_as_row_keys k r.users
 looked_up r (place.Other k) not_user =
-    let ds = written row_key r.others in
-    let ns = written key.Nick r.nicks in
-    let cs = written key.Cat r.cats in
+    let ds = chain_written row_key r.others in
+    let ns = chain_written key.Nick r.nicks in
+    let cs = chain_written key.Cat r.cats in
     let q = row_key k in
-    found_second (key_eq q) (written row_key r.users) (ds ++ (ns ++ cs)) (no_user q not_user r.users r.are_users)
+    found_second (key_eq q) (chain_written row_key r.users) (ds ++ (ns ++ cs)) (no_user q not_user r.users r.are_users)
     ∙ found_first (key_eq q) ds (ns ++ cs)
     (found_second (key_eq q) ns cs (none_written key.Nick q (nick_of_key k) r.nicks) ∙ none_written key.Cat q (cat_of_key k) r.cats)
     ∙ found_written row_key same_id_key same_as_row_keys k r.others
 looked_up r (place.Nick n) placed =
-    let ds = written row_key r.others in
-    let ns = written key.Nick r.nicks in
-    let cs = written key.Cat r.cats in
+    let ds = chain_written row_key r.others in
+    let ns = chain_written key.Nick r.nicks in
+    let cs = chain_written key.Cat r.cats in
     let q = key.Nick n in
-    found_second (key_eq q) (written row_key r.users) (ds ++ (ns ++ cs)) (none_written row_key q (key_of_nick n) r.users)
+    found_second (key_eq q) (chain_written row_key r.users) (ds ++ (ns ++ cs)) (none_written row_key q (key_of_nick n) r.users)
     ∙ found_second (key_eq q) ds (ns ++ cs) (none_written row_key q (key_of_nick n) r.others)
     ∙ found_first (key_eq q) ns cs (none_written key.Cat q (λ k. refl) r.cats)
     ∙ found_written key.Nick bytes_eq (λ k l. refl) n r.nicks
 looked_up r (place.Cat n) placed =
-    let ds = written row_key r.others in
-    let ns = written key.Nick r.nicks in
-    let cs = written key.Cat r.cats in
+    let ds = chain_written row_key r.others in
+    let ns = chain_written key.Nick r.nicks in
+    let cs = chain_written key.Cat r.cats in
     let q = key.Cat n in
-    found_second (key_eq q) (written row_key r.users) (ds ++ (ns ++ cs)) (none_written row_key q (key_of_cat n) r.users)
+    found_second (key_eq q) (chain_written row_key r.users) (ds ++ (ns ++ cs)) (none_written row_key q (key_of_cat n) r.users)
     ∙ found_second (key_eq q) ds (ns ++ cs) (none_written row_key q (key_of_cat n) r.others)
     ∙ found_second (key_eq q) ns cs (none_written key.Nick q (λ k. refl) r.nicks)
     ∙ found_written key.Cat nat_eq (λ k l. refl) n r.cats
@@ -318,7 +318,7 @@ module _ (old new : Four) (at : RowKey) (v : Option Row) where
 -- ---- rows whose maps have the same entries
 module _ (old new : Four) (users : new.users ≡ old.users) (others : new.others ≡ old.others) (nicks : new.nicks ≡ old.nicks) (cats : new.cats ≡ old.cats) where
   pub same_entries : all_in new ≡ all_in old
-  same_entries = λ i. written row_key (users i) ++ (written row_key (others i) ++ (written key.Nick (nicks i) ++ written key.Cat (cats i)))
+  same_entries = λ i. chain_written row_key (users i) ++ (chain_written row_key (others i) ++ (chain_written key.Nick (nicks i) ++ chain_written key.Cat (cats i)))
 
 -- a key that isn't there comes last
 pub new_last : {K : Type 0} (same : K → K → Bool) (k : K) (v : Row) (es : List (K × Row)) → lookup (same k) es ≡ None → insert_entry same es k v ≡ es

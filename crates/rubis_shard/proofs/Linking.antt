@@ -19,7 +19,7 @@ use Rattle.rubis_schema.specs.declared.rows.Sale.TheVariants as sale
 use Rattle.rubis_shadow.specs.declared.changes.Change.TheVariants as change
 use Rattle.rubis_schema.specs.declared.id_keys.IdTable.TheVariants as table
 use Rattle.rubis_shard.specs.Chains.{chain_of, chain_of_row, chain_of_users, chains_of, is_in, last_among, last_before, last_noted, IsLinkedSoFar, Links}
-use Rattle.rubis_shard.specs.Chains.{written, chain_by, chain_of_items, chain_with}
+use Rattle.rubis_shard.specs.Chains.{chain_written, chain_by, chain_of_items, chain_with}
 use Rattle.rubis_shard.specs.declared.chains.Chains.{Chains}
 use Rattle.rubis_schema.specs.declared.listings.Listing.TheVariants as listing
 use Rattle.rubis_shard.specs.Rows.{kept_of, linked_of}
@@ -128,12 +128,12 @@ take_next [] n x e = absurd cc
 take_next (c ∷ cs) zero x e = ap (λ y. y ∷ []) (let same : c ≡ x = cc in same)
 take_next (c ∷ cs) (suc n) x e = ap (λ ys. c ∷ ys) (take_next cs n x e)
 
-pub chains_length : {K : Type 0} (f : K → RowKey) (es : List (K × Row)) → length (chains_of (written f es)) ≡ length es
+pub chains_length : {K : Type 0} (f : K → RowKey) (es : List (K × Row)) → length (chains_of (chain_written f es)) ≡ length es
 chains_length f [] = refl
 chains_length f (e ∷ es) = ap suc (chains_length f es)
 
 pub chain_at : {K : Type 0} (f : K → RowKey) (es : List (K × Row)) (i : ℕ) (k : K) (row : Row) → slice_get es i ≡ Some (k, row)
-    → slice_get (chains_of (written f es)) i ≡ Some (chain_of (f k) row)
+    → slice_get (chains_of (chain_written f es)) i ≡ Some (chain_of (f k) row)
 chain_at f [] i k row e = absurd cc
 chain_at f (x ∷ es) zero k row e = ap (option_map (λ y. chain_of (f y.0) y.1)) e
 chain_at f (x ∷ es) (suc i) k row e = chain_at f es i k row e
@@ -193,22 +193,22 @@ chain_there k (Some row) = chain_of k row
 -- a row in the place of one that is in the same chain
 pub chains_set : {K : Type 0} (f : K → RowKey) (test : K → Bool) (es : List (K × Row)) (old new : Row) → lookup test es ≡ Some old →
     ((k : RowKey) → chain_of k new ≡ chain_of k old)
-    → chains_of (written f (set_value test es new)) ≡ chains_of (written f es)
+    → chains_of (chain_written f (set_value test es new)) ≡ chains_of (chain_written f es)
 unfolding chain_there
 chains_set f test [] old new found same = refl
 chains_set f test (e ∷ es) old new found same =
     at (test e.0) refl (λ is. chains_set f test es old new (ap (λ b. cond b (Some e.1) (lookup test es)) (sym is) ∙ found) same)
   where
-    at : (b : Bool) → test e.0 ≡ b → (test e.0 ≡ false → chains_of (written f (set_value test es new)) ≡ chains_of (written f es))
-        → chains_of (written f (cond (test e.0) ((e.0, new) ∷ es) (e ∷ set_value test es new))) ≡ chains_of (written f (e ∷ es))
-    at true is rest = ap (λ b. chains_of (written f (cond b ((e.0, new) ∷ es) (e ∷ set_value test es new)))) is
-        ∙ ap (λ n. n ∷ chains_of (written f es)) (same (f e.0) ∙ ap (chain_there (f e.0)) (sym found ∙ ap (λ b. cond b (Some e.1) (lookup test es)) is))
-    at false is rest = ap (λ b. chains_of (written f (cond b ((e.0, new) ∷ es) (e ∷ set_value test es new)))) is
+    at : (b : Bool) → test e.0 ≡ b → (test e.0 ≡ false → chains_of (chain_written f (set_value test es new)) ≡ chains_of (chain_written f es))
+        → chains_of (chain_written f (cond (test e.0) ((e.0, new) ∷ es) (e ∷ set_value test es new))) ≡ chains_of (chain_written f (e ∷ es))
+    at true is rest = ap (λ b. chains_of (chain_written f (cond b ((e.0, new) ∷ es) (e ∷ set_value test es new)))) is
+        ∙ ap (λ n. n ∷ chains_of (chain_written f es)) (same (f e.0) ∙ ap (chain_there (f e.0)) (sym found ∙ ap (λ b. cond b (Some e.1) (lookup test es)) is))
+    at false is rest = ap (λ b. chains_of (chain_written f (cond b ((e.0, new) ∷ es) (e ∷ set_value test es new)))) is
         ∙ ap (λ cs. chain_of (f e.0) e.1 ∷ cs) (rest is)
 
 -- one row more
 pub chains_pushed : {K : Type 0} (f : K → RowKey) (es : List (K × Row)) (k : K) (row : Row)
-    → chains_of (written f (es ++ (k, row) ∷ [])) ≡ chains_of (written f es) ++ chain_of (f k) row ∷ []
+    → chains_of (chain_written f (es ++ (k, row) ∷ [])) ≡ chains_of (chain_written f es) ++ chain_of (f k) row ∷ []
 chains_pushed f [] k row = refl
 chains_pushed f (e ∷ es) k row = ap (λ cs. chain_of (f e.0) e.1 ∷ cs) (chains_pushed f es k row)
 

@@ -7,7 +7,7 @@ use Rattle.rubis_schema.specs.declared.id_keys.IdTable.TheVariants as table
 use Rattle.rubis_schema.specs.declared.row_keys.RowKey.TheVariants as key
 use Rattle.rubis_schema.specs.declared.row_keys.Table.TheVariants as tables
 use Rattle.rubis_shard.specs.Listed.{listed_among, table_with}
-use Rattle.rubis_shard.specs.Chains.{is_user, AreOthers, AreUsers, written}
+use Rattle.rubis_shard.specs.Chains.{is_user, AreOthers, AreUsers, chain_written}
 use Rattle.rubis_shard.specs.Rows.{entries_of, kept_of, rows_with}
 use Rattle.rubis_shard.specs.declared.row_map.Rows.{Rows}
 use Rattle.rubis_shard.proofs.InMaps.{Entries}
@@ -65,16 +65,16 @@ module _ (l : Listing) (t : Table) where
       ∙ filter-append (λ (x : RowKey × Row). holds t x.0) (filter (λ (x : RowKey × Row). is_of l x.0 x.1) es)
       (filter (λ (x : RowKey × Row). is_of l x.0 x.1) fs)
 
-  none_listed : {K : Type 0} (f : K → RowKey) → ((k : K) (v : Row) → picked (f k) v ≡ false) → (es : List (K × Row)) → listed_among l t (written f es) ≡ []
+  none_listed : {K : Type 0} (f : K → RowKey) → ((k : K) (v : Row) → picked (f k) v ≡ false) → (es : List (K × Row)) → listed_among l t (chain_written f es) ≡ []
   none_listed f none [] = refl
-  none_listed f none (e ∷ es) = listed_cons (f e.0, e.1) (written f es)
-      ∙ ap (λ b. cond b ((f e.0, e.1) ∷ []) [] ++ listed_among l t (written f es)) (none e.0 e.1) ∙ none_listed f none es
+  none_listed f none (e ∷ es) = listed_cons (f e.0, e.1) (chain_written f es)
+      ∙ ap (λ b. cond b ((f e.0, e.1) ∷ []) [] ++ listed_among l t (chain_written f es)) (none e.0 e.1) ∙ none_listed f none es
 
-  none_kept : (es : List (IdKey × Row)) → AllByRecursion (λ e. holds t (row_key e.0) ≡ false) es → listed_among l t (written row_key es) ≡ []
+  none_kept : (es : List (IdKey × Row)) → AllByRecursion (λ e. holds t (row_key e.0) ≡ false) es → listed_among l t (chain_written row_key es) ≡ []
   unfolding picked
   none_kept [] none = refl
-  none_kept (e ∷ es) none = listed_cons (row_key e.0, e.1) (written row_key es)
-      ∙ ap (λ b. cond b ((row_key e.0, e.1) ∷ []) [] ++ listed_among l t (written row_key es)) (ap (λ b. is_of l (row_key e.0) e.1 && b) none.0 ∙ no_more _)
+  none_kept (e ∷ es) none = listed_cons (row_key e.0, e.1) (chain_written row_key es)
+      ∙ ap (λ b. cond b ((row_key e.0, e.1) ∷ []) [] ++ listed_among l t (chain_written row_key es)) (ap (λ b. is_of l (row_key e.0) e.1 && b) none.0 ∙ no_more _)
       ∙ none_kept es none.1
 
   -- those of each of four lists
@@ -123,10 +123,10 @@ module _ (l : Listing) (r : Rows) where
   others = kept_of r.others
 
   nicks : Entries
-  nicks = written key.Nick r.nicks.entries
+  nicks = chain_written key.Nick r.nicks.entries
 
   cats : Entries
-  cats = written key.Cat r.cats.entries
+  cats = chain_written key.Cat r.cats.entries
 
   by_map : (t : Table) → listed_among l t (entries_of r)
       ≡ listed_among l t users ++ (listed_among l t others ++ (listed_among l t nicks ++ listed_among l t cats))
@@ -159,7 +159,7 @@ module _ (l : Listing) (r : Rows) where
   no_ids t none [] = tt
   no_ids t none (e ∷ es) = (none e.0, no_ids t none es)
 
-  pub nicks_listed : listed_among l tables.Nicks (written key.Nick r.nicks.entries) ≡ listed_among l tables.Nicks (entries_of r)
+  pub nicks_listed : listed_among l tables.Nicks (chain_written key.Nick r.nicks.entries) ≡ listed_among l tables.Nicks (entries_of r)
   unfolding users others nicks
   nicks_listed =
       let t = tables.Nicks in
@@ -167,7 +167,7 @@ module _ (l : Listing) (r : Rows) where
       let second = none_kept l t r.others.rows.entries (no_ids t no_kept_nick r.others.rows.entries) in
       sym (by_map t ∙ (λ i. first i ++ (second i ++ (listed_among l t nicks ++ no_cats t (λ n. refl) i))) ∙ append-nil (listed_among l t nicks))
 
-  pub cats_listed : listed_among l tables.Cats (written key.Cat r.cats.entries) ≡ listed_among l tables.Cats (entries_of r)
+  pub cats_listed : listed_among l tables.Cats (chain_written key.Cat r.cats.entries) ≡ listed_among l tables.Cats (entries_of r)
   unfolding users others cats
   cats_listed =
       let t = tables.Cats in
@@ -226,15 +226,15 @@ pick_split l t n es = ap (listed_among l t) (sym (take-append-drop n es)) ∙ li
 -- ---- going over the rows of a map
 pub walk_step : {K : Type 0} (f : K → RowKey) (l : Listing) (t : Table) (done : Entries) (q : RowKey) (k : K) (v : Row) (rest es : List (K × Row)) (b : Bool)
     → q ≡ f k → es ≡ (k, v) ∷ rest → b ≡ (is_of l q v && holds t q)
-    → (done ++ cond b ((q, v) ∷ []) []) ++ listed_among l t (written f rest) ≡ done ++ listed_among l t (written f es)
+    → (done ++ cond b ((q, v) ∷ []) []) ++ listed_among l t (chain_written f rest) ≡ done ++ listed_among l t (chain_written f es)
 unfolding picked
 walk_step f l t done q k v rest es b is next test =
-    append_assoc done (cond b ((q, v) ∷ []) []) (listed_among l t (written f rest))
-    ∙ ap (λ xs. done ++ xs) (ap (λ c. cond c ((q, v) ∷ []) [] ++ listed_among l t (written f rest)) test
-    ∙ ap (λ (x : RowKey). cond (is_of l x v && holds t x) ((x, v) ∷ []) [] ++ listed_among l t (written f rest)) is
-    ∙ sym (listed_cons l t (f k, v) (written f rest)) ∙ ap (λ (xs : List _). listed_among l t (written f xs)) (sym next))
+    append_assoc done (cond b ((q, v) ∷ []) []) (listed_among l t (chain_written f rest))
+    ∙ ap (λ xs. done ++ xs) (ap (λ c. cond c ((q, v) ∷ []) [] ++ listed_among l t (chain_written f rest)) test
+    ∙ ap (λ (x : RowKey). cond (is_of l x v && holds t x) ((x, v) ∷ []) [] ++ listed_among l t (chain_written f rest)) is
+    ∙ sym (listed_cons l t (f k, v) (chain_written f rest)) ∙ ap (λ (xs : List _). listed_among l t (chain_written f xs)) (sym next))
 
-pub written_length : (es : List (IdKey × Row)) → length (written row_key es) ≡ length es
+pub written_length : (es : List (IdKey × Row)) → length (chain_written row_key es) ≡ length es
 written_length [] = refl
 written_length (e ∷ es) = ap suc (written_length es)
 
@@ -244,7 +244,7 @@ taken_at [] (suc n) i low = refl
 taken_at (e ∷ es) (suc n) zero low = refl
 taken_at (e ∷ es) (suc n) (suc i) low = taken_at es n i (omega arith)
 
-pub written_at : {K : Type 0} (f : K → RowKey) (es : List (K × Row)) (i : ℕ) (k : K) (v : Row) → slice_get es i ≡ Some (k, v) → slice_get (written f es) i
+pub written_at : {K : Type 0} (f : K → RowKey) (es : List (K × Row)) (i : ℕ) (k : K) (v : Row) → slice_get es i ≡ Some (k, v) → slice_get (chain_written f es) i
     ≡ Some (f k, v)
 written_at f [] i k v e = absurd cc
 written_at f (x ∷ es) zero k v e = ap (option_map (λ y. (f y.0, y.1))) e

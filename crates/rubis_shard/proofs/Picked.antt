@@ -30,7 +30,7 @@ use Rattle.rubis_shard.specs.States.{ShardState, HoldsOwnRows}
 use Rattle.rubis_shard.proofs.Listing.{all_distinct, both, sorted_distinct}
 use Rattle.rubis_shard.proofs.Shuffled.{shuffled}
 use Rattle.rubis_shard.proofs.Unions.{entries_of, from_first}
-use Rattle.rubis_shard.specs.Chains.{shown}
+use Rattle.rubis_shard.specs.Chains.{lent_row}
 
 pub below_or_last : (k n : ℕ) → k < n + 1 → (k < n) ⊎ (k ≡ n)
 below_or_last zero zero l = inr refl
@@ -341,14 +341,14 @@ shuffled_more before found after more new moved is added =
 abbrev pub Lent : Type 0
 Lent = RowKey × Bor Row
 
-pub shown_in_order : (xs : List Lent) → IsSortedByKey (λ x. x.0) key_order xs → IsSortedByKey first_of key_order (each shown xs)
+pub shown_in_order : (xs : List Lent) → IsSortedByKey (λ x. x.0) key_order xs → IsSortedByKey first_of key_order (each lent_row xs)
 shown_in_order [] sorted k d low high = absurd (omega arith)
 shown_in_order (x ∷ xs) sorted k d low high =
-    let many = length-map (x ∷ xs) shown in
+    let many = length-map (x ∷ xs) lent_row in
     let within : k + 1 < length (x ∷ xs) = omega arith in
-    let first = get_or-map shown (x ∷ xs) k x d (omega arith) in
-    let second = get_or-map shown (x ∷ xs) (k + 1) x d within in
-    let es = each shown (x ∷ xs) in
+    let first = get_or-map lent_row (x ∷ xs) k x d (omega arith) in
+    let second = get_or-map lent_row (x ∷ xs) (k + 1) x d within in
+    let es = each lent_row (x ∷ xs) in
     ap (λ e. is_lt (key_order e.0 (slice_index_or es k d).0)) second
     ∙ ap (λ e. is_lt (key_order (slice_index_or (x ∷ xs) (k + 1) x).0 e.0)) first
     ∙ sorted k x low within

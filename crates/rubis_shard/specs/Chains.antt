@@ -46,12 +46,12 @@ AreOthers es = AllByRecursion (λ e. is_user (row_key e.0) ≡ false) es
 
 -- ---- the entries of a map, with their keys as keys of rows
 
-abbrev pub written : {K : Type 0} → (K → RowKey) → List (K × Row) → List (RowKey × Row)
-written f es = each (λ e. (f e.0, e.1)) es
+abbrev pub chain_written : {K : Type 0} → (K → RowKey) → List (K × Row) → List (RowKey × Row)
+chain_written f es = each (λ e. (f e.0, e.1)) es
 
 -- a key and a row that is lent
-abbrev pub shown : RowKey × Bor Row → RowKey × Row
-shown e = (e.0, e.1.now)
+abbrev pub lent_row : RowKey × Bor Row → RowKey × Row
+lent_row e = (e.0, e.1.now)
 
 -- ---- rows in chains, each linked to the one before it in its chain
 

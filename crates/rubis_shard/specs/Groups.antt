@@ -22,11 +22,11 @@ listing_of (group.Purchases item) = listing.Purchases item
 listing_of (group.Comments user) = listing.Comments user
 
 -- the table whose rows these are
-abbrev pub table_of : Group → Table
-table_of (group.Items cat) = table.Items
-table_of (group.Bids item) = table.Bids
-table_of (group.Purchases item) = table.Purchases
-table_of (group.Comments user) = table.Comments
+abbrev pub table_of_rows : Group → Table
+table_of_rows (group.Items cat) = table.Items
+table_of_rows (group.Bids item) = table.Bids
+table_of_rows (group.Purchases item) = table.Purchases
+table_of_rows (group.Comments user) = table.Comments
 
 -- the row at a key, if there is one, belongs to the group
 abbrev pub is_of_row : Group → RowKey → Option Row → Bool
@@ -35,4 +35,4 @@ is_of_row g k (Some row) = is_of (listing_of g) k row
 
 -- the keys of a group: those of its table whose rows are of it, in key order
 abbrev pub group_of : Group → Tables → List RowKey
-group_of g t = filter (λ k. is_of_row g k (map.get t k)) (keys_of (rows_of (table_of g) t))
+group_of g t = filter (λ k. is_of_row g k (map.get t k)) (keys_of (rows_of (table_of_rows g) t))

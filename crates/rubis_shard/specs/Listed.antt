@@ -135,14 +135,14 @@ has_record (key.Cat k) (row.Cat c) = not (shows_nothing c)
 has_record k r = false
 
 -- the place of a table in the order of keys
-abbrev pub number_of : Table → ℕ
-number_of table.Users = 0
-number_of table.Items = 1
-number_of table.Bids = 2
-number_of table.Purchases = 3
-number_of table.Comments = 4
-number_of table.Nicks = 5
-number_of table.Cats = 6
+abbrev pub number_of_table : Table → ℕ
+number_of_table table.Users = 0
+number_of_table table.Items = 1
+number_of_table table.Bids = 2
+number_of_table table.Purchases = 3
+number_of_table table.Comments = 4
+number_of_table table.Nicks = 5
+number_of_table table.Cats = 6
 
 -- it has one, and its table is that of this number or comes later
 abbrev pub is_recorded : ℕ → RowKey × Row → Bool

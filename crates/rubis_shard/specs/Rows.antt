@@ -14,13 +14,13 @@ use Rattle.rubis_shadow.specs.Changes.{change_row}
 use Rattle.rubis_shadow.specs.declared.changes.Change.{Change}
 use Rattle.rubis_shadow.specs.declared.changes.Fate.{Fate}
 use Rattle.rubis_shadow.specs.declared.changes.MisfitKind.TheVariants.{NoRow}
-use Rattle.rubis_shard.specs.Chains.{written}
+use Rattle.rubis_shard.specs.Chains.{chain_written}
 use Rattle.rubis_shard.specs.declared.row_map.LinkedRows.{LinkedRows}
 use Rattle.rubis_shard.specs.declared.row_map.Rows.{Rows}
 
 -- those of a map with ids
 abbrev pub kept_of : LinkedRows → List (RowKey × Row)
-kept_of r = written row_key r.rows.entries
+kept_of r = chain_written row_key r.rows.entries
 
 -- the first of them, which are linked
 abbrev pub linked_of : LinkedRows → List (RowKey × Row)
@@ -28,7 +28,7 @@ linked_of r = take (length r.chains.before.items) (kept_of r)
 
 -- all, one map after the other
 abbrev pub entries_of : Rows → List (RowKey × Row)
-entries_of r = kept_of r.users ++ (kept_of r.others ++ (written key.Nick r.nicks.entries ++ written key.Cat r.cats.entries))
+entries_of r = kept_of r.users ++ (kept_of r.others ++ (chain_written key.Nick r.nicks.entries ++ chain_written key.Cat r.cats.entries))
 
 -- the map that has the rows of a table
 abbrev pub rows_with : IdTable → Rows → LinkedRows

@@ -4,7 +4,7 @@ ghost use Rattle.std.specs.Prelude.{◌≡◌, ◌<◌, ◌++◌, ◌∷◌, [],
 ghost use Rattle.rubis_schema.specs.Keys.{row_key, same_id_key};
 ghost use Rattle.rubis_schema.specs.declared.id_keys.IdKey.{IdKey};
 ghost use Rattle.indexmap.specs.IndexMap.{get};
-ghost use Rattle.rubis_shard.specs.Chains.{chains_of, is_in, last_noted, IsLinkedSoFar, Links, written};
+ghost use Rattle.rubis_shard.specs.Chains.{chains_of, is_in, last_noted, IsLinkedSoFar, Links, chain_written};
 ghost use Rattle.rubis_shard.specs.Chains as model;
 
 use indexmap::IndexMap;
@@ -138,8 +138,8 @@ impl Chains {
 
     /// Links the rows after those that are linked. When out of memory, some of them may be linked.
     pub fn link(&mut self, rows: &IndexMap<IdKey, Row, KeyHashes>) -> Result<(), AllocError>
-        requires { IsLinkedSoFar (chains_of (written row_key rows.now.entries)) self.old }
-        ensures linked { IsLinkedSoFar (chains_of (written row_key rows.now.entries)) self.new }
+        requires { IsLinkedSoFar (chains_of (chain_written row_key rows.now.entries)) self.old }
+        ensures linked { IsLinkedSoFar (chains_of (chain_written row_key rows.now.entries)) self.new }
         ensures all { OnOk result (length self.new.before.items ≡ length rows.now.entries) }
     {
         for at in self.len()..rows.len() {

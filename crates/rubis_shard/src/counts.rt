@@ -2,9 +2,9 @@
 
 ghost use Rattle.std.specs.Prelude.{◌≡◌, ◌+◌, ◌≤◌, ◌&&◌, IfSome, length};
 ghost use Rattle.std.specs.FinMap as map;
-ghost use Rattle.rubis_shard.specs.Listed.{has_record, is_recorded, number_of, recorded_from};
+ghost use Rattle.rubis_shard.specs.Listed.{has_record, is_recorded, number_of_table, recorded_from};
 ghost use Rattle.rubis_shard.specs.Rows.{tables_in};
-ghost use Rattle.rubis_shard.specs.Chains.{written};
+ghost use Rattle.rubis_shard.specs.Chains.{chain_written};
 
 use crate::map_keys::MapKey;
 use crate::row_map::Rows;
@@ -15,7 +15,7 @@ use std::hash::BuildHasher;
 
 // The place of a table in the order of keys.
 pub fn number_of(table: Table) -> u8
-    ensures { result ≡ number_of table }
+    ensures { result ≡ number_of_table table }
 {
     match table {
         Table::Users => 0,
@@ -42,8 +42,8 @@ fn count_among<K: MapKey, S: BuildHasher>(
     first: u8,
     counted: usize,
 ) -> usize
-    requires { counted + length (recorded_from first (written K.row_key all.now.entries)) ≤ 18446744073709551615 }
-    ensures { result ≡ counted + length (recorded_from first (written K.row_key all.now.entries)) }
+    requires { counted + length (recorded_from first (chain_written K.row_key all.now.entries)) ≤ 18446744073709551615 }
+    ensures { result ≡ counted + length (recorded_from first (chain_written K.row_key all.now.entries)) }
 {
     let mut count = counted;
     for (key, row) in all.iter() {

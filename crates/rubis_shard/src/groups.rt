@@ -1,7 +1,7 @@
 //! Listings that ask for the rows of one user or item.
 
 ghost use Rattle.std.specs.Prelude.{◌≡◌};
-ghost use Rattle.rubis_shard.specs.Groups.{listing_of, table_of};
+ghost use Rattle.rubis_shard.specs.Groups.{listing_of, table_of_rows};
 ghost use Rattle.rubis_shard.specs.Listed.{table_with};
 
 use rubis_schema::{Id, IdTable, Listing};
@@ -34,7 +34,7 @@ impl Group {
 
     /// The table of its rows.
     pub fn table(&self) -> IdTable
-        ensures { table_with result ≡ table_of self.now }
+        ensures { table_with result ≡ table_of_rows self.now }
     {
         match self {
             Group::Items(_) => IdTable::Item,

@@ -3,7 +3,7 @@
 ghost use Rattle.std.specs.Prelude.{◌≡◌, OnOk, length, map as each};
 ghost use Rattle.std.specs.List.Sorted.{IsPermutation, IsSortedByKey};
 ghost use Rattle.rubis_schema.specs.Keys.{key_order};
-ghost use Rattle.rubis_shard.specs.Chains.{shown};
+ghost use Rattle.rubis_shard.specs.Chains.{lent_row};
 
 use crate::listed_rows::ListedRow;
 use rubis_schema::{Row, RowKey, key_cmp};
@@ -30,8 +30,8 @@ pub fn put_rows_in_order<'a>(
     alloc: Global,
     rows: &mut [(RowKey, &'a Row)],
 ) -> Result<(), AllocError>
-    ensures permutation { IsPermutation (each shown rows.old) (each shown rows.new) }
-    ensures sorted { OnOk result (IsSortedByKey (λ e. e.0) key_order (each shown rows.new)) }
+    ensures permutation { IsPermutation (each lent_row rows.old) (each lent_row rows.new) }
+    ensures sorted { OnOk result (IsSortedByKey (λ e. e.0) key_order (each lent_row rows.new)) }
     ensures len { length rows.new ≡ length rows.old }
 {
     rows.sort_by(

@@ -5,7 +5,7 @@ ghost use Rattle.std.specs.List.Sorted.{IsPermutation};
 ghost use Rattle.rubis_schema.specs.Keys.{row_key, holds};
 ghost use Rattle.rubis_schema.specs.declared.row_keys.RowKey.TheVariants as key;
 ghost use Rattle.rubis_model.specs.Listings.{is_of};
-ghost use Rattle.rubis_shard.specs.Chains.{chain_with, written};
+ghost use Rattle.rubis_shard.specs.Chains.{chain_with, chain_written};
 ghost use Rattle.rubis_shard.specs.Listed.{categories_of, listed_among, listed_of, shown_among, shows, table_with};
 ghost use Rattle.rubis_shard.specs.Rows.{kept_of, linked_of, tables_in};
 
@@ -156,7 +156,7 @@ fn pick_shown<'a>(
     picked: &mut Vec<ListedRow<'a>>,
     cats: &'a IndexMap<u16, Row>,
 ) -> Result<(), AllocError>
-    ensures { OnOk result (picked.new.items ≡ picked.old.items ++ shown_among (written key.Cat cats.now.entries)) }
+    ensures { OnOk result (picked.new.items ≡ picked.old.items ++ shown_among (chain_written key.Cat cats.now.entries)) }
 {
     for (cat, row) in cats.iter() {
         if shows(row) {

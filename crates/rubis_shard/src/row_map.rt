@@ -2,7 +2,7 @@
 
 ghost use Rattle.std.proofs.Props.{props};
 ghost use Rattle.rubis_schema.specs.Keys.{row_key};
-ghost use Rattle.rubis_shard.specs.Chains.{chains_of, IsLinkedSoFar, AreOthers, AreUsers, written};
+ghost use Rattle.rubis_shard.specs.Chains.{chains_of, IsLinkedSoFar, AreOthers, AreUsers, chain_written};
 
 use crate::chains::Chains;
 use indexmap::IndexMap;
@@ -13,7 +13,7 @@ use rubis_schema::{IdKey, KeyHashes, Nick, NickHashes, Row};
 pub struct LinkedRows {
     pub rows: IndexMap<IdKey, Row, KeyHashes>,
     pub chains: Chains,
-    ghost linked: { IsLinkedSoFar (chains_of (written row_key rows.entries)) chains },
+    ghost linked: { IsLinkedSoFar (chains_of (chain_written row_key rows.entries)) chains },
 }
 
 /// The rows of a shard: the users, which one listing shows all; the other rows with ids, of which there are most; those of

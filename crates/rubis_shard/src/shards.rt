@@ -12,7 +12,7 @@ ghost use Rattle.rubis_shard.specs.Listed.{recorded_of, categories_of, listed_of
 ghost use Rattle.rubis_shard.specs.States.{opening_shard, with_parts, IsHomeOf, HoldsOwnRows, held_by, HasRoom};
 ghost use Rattle.rubis_shard.specs.Holdings.{core_of, numbered_of, emptied, parts_at, AreHomesOf};
 ghost use Rattle.rubis_shard.specs.Rows.{tables_in};
-ghost use Rattle.rubis_shard.specs.Chains.{shown};
+ghost use Rattle.rubis_shard.specs.Chains.{lent_row};
 
 use crate::counts::{count_recorded, most_recorded};
 use crate::entries::LogEntry;
@@ -161,7 +161,7 @@ impl Shard {
 
     /// The rows of one table with their keys, in key order.
     pub fn rows(&self, alloc: Global, table: Table) -> Result<Vec<(RowKey, &Row)>, AllocError>
-        ensures rows { IfOk result (λ rows. each shown rows.items ≡ rows_of table self.now.folded.tables) }
+        ensures rows { IfOk result (λ rows. each lent_row rows.items ≡ rows_of table self.now.folded.tables) }
         ensures own { HoldsOwnRows self.now }
     {
         match &self.store {

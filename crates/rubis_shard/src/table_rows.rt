@@ -5,7 +5,7 @@ ghost use Rattle.rubis_schema.specs.declared.listings.Listing.TheVariants as Sho
 ghost use Rattle.rubis_shadow.specs.Tables.{rows_of};
 ghost use Rattle.rubis_shard.specs.Listed.{listed_among};
 ghost use Rattle.rubis_shard.specs.Rows.{entries_of, tables_in};
-ghost use Rattle.rubis_shard.specs.Chains.{shown, written};
+ghost use Rattle.rubis_shard.specs.Chains.{lent_row, chain_written};
 
 use crate::map_keys::MapKey;
 use crate::orders::put_rows_in_order;
@@ -21,7 +21,7 @@ fn rows_among<'a, K: MapKey, S: BuildHasher>(
     all: &'a IndexMap<K, Row, S>,
     table: Table,
 ) -> Result<Vec<(RowKey, &'a Row)>, AllocError>
-    ensures { IfOk result (λ rows. each shown rows.items ≡ listed_among Shown.Tables table (written K.row_key all.now.entries)) }
+    ensures { IfOk result (λ rows. each lent_row rows.items ≡ listed_among Shown.Tables table (chain_written K.row_key all.now.entries)) }
 {
     let mut rows = Vec::new(alloc);
     for (key, row) in all.iter() {
@@ -40,7 +40,7 @@ fn rows_of_map<'a>(
     rows: &'a Rows,
     table: Table,
 ) -> Result<Vec<(RowKey, &'a Row)>, AllocError>
-    ensures { IfOk result (λ found. each shown found.items ≡ listed_among Shown.Tables table (entries_of rows.now)) }
+    ensures { IfOk result (λ found. each lent_row found.items ≡ listed_among Shown.Tables table (entries_of rows.now)) }
 {
     match table {
         Table::Nicks => rows_among(alloc, &rows.nicks, table),
@@ -56,7 +56,7 @@ pub fn rows_in_order<'a>(
     rows: &'a Rows,
     table: Table,
 ) -> Result<Vec<(RowKey, &'a Row)>, AllocError>
-    ensures { IfOk result (λ found. each shown found.items ≡ rows_of table (tables_in rows.now)) }
+    ensures { IfOk result (λ found. each lent_row found.items ≡ rows_of table (tables_in rows.now)) }
 {
     let _lens = rows.lens();
     let mut found = rows_of_map(alloc, rows, table)?;

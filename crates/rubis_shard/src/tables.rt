@@ -6,8 +6,8 @@ ghost use Rattle.rubis_schema.specs.Keys.{home};
 ghost use Rattle.rubis_shadow.specs.Tables.{rows_of};
 ghost use Rattle.rubis_shard.specs.Holdings.{AreInOrder, FoldsAtHome, FoldsOn, HoldsLog, IsSet, TakesOn, parts_at, union, core_of, numbered_of};
 ghost use Rattle.rubis_shard.specs.Groups.{group_of};
-ghost use Rattle.rubis_shard.specs.Listed.{number_of, recorded_from, categories_of, listed_of, table_with};
-ghost use Rattle.rubis_shard.specs.Chains.{shown};
+ghost use Rattle.rubis_shard.specs.Listed.{number_of_table, recorded_from, categories_of, listed_of, table_with};
+ghost use Rattle.rubis_shard.specs.Chains.{lent_row};
 
 use crate::chains::chain_with;
 use crate::counts::number_of;
@@ -179,7 +179,7 @@ impl Tables {
 
     /// The rows of one table of all shards with their keys, in key order.
     pub fn rows(&self, alloc: Global, table: Table) -> Result<Vec<(RowKey, &Row)>, AllocError>
-        ensures { IfOk result (λ rows. each shown rows.items ≡ rows_of table (union self.now)) }
+        ensures { IfOk result (λ rows. each lent_row rows.items ≡ rows_of table (union self.now)) }
     {
         let mut all = Vec::new(alloc);
         for shard in &self.shards {
@@ -230,8 +230,8 @@ impl Tables {
 
     /// Counts on with the rows that have a record, of one table and those after it in the order of keys.
     pub fn count_recorded(&self, first: Table, counted: usize) -> usize
-        requires { counted + length (recorded_from (number_of first) (map.entries (union self.now))) ≤ 18446744073709551615 }
-        ensures { result ≡ counted + length (recorded_from (number_of first) (map.entries (union self.now))) }
+        requires { counted + length (recorded_from (number_of_table first) (map.entries (union self.now))) ≤ 18446744073709551615 }
+        ensures { result ≡ counted + length (recorded_from (number_of_table first) (map.entries (union self.now))) }
     {
         let first = number_of(first);
         let mut count = counted;

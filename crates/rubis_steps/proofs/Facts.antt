@@ -5,9 +5,9 @@ use Rattle.std.specs.Prelude.{zero, suc, Result, Ok, Err, OnOk}
 use Rattle.std.proofs.lemmas.List.{at_drop_more}
 use Rattle.rubis_carrier.specs.declared.values.ShopPacket.{ShopPacket}
 use Rattle.rubis_carrier.specs.declared.values.ShopPacket.TheVariants.{Message, Pass}
-use Rattle.rubis_carrier.specs.Shops.{highest, passed, taken}
+use Rattle.rubis_carrier.specs.Shops.{highest, passed_turn, taken_turn}
 use Rattle.rubis_carrier.specs.Events.{times}
-use Rattle.rubis_steps.specs.Views.{number_in, passed_in, taken_in}
+use Rattle.rubis_steps.specs.Views.{number_in, passed_in, taken_seen}
 
 -- what holds where a result is Ok
 pub on_ok : {T E A B : Type 0} (r : Result T E) → (A → B) → OnOk r A → OnOk r B
@@ -34,22 +34,22 @@ number_first : (i : ℕ) (x : ShopPacket) (xs : List ShopPacket) → highest i (
 number_first i (Message j n r) xs = by_test (eqb j i) n (highest i xs)
 number_first i (Pass j t k a) xs = omega arith
 
-taken_first : (i : ℕ) (x : ShopPacket) (xs : List ShopPacket) → taken i (x ∷ xs) ≡ max (taken_in i x) (taken i xs)
+taken_first : (i : ℕ) (x : ShopPacket) (xs : List ShopPacket) → taken_turn i (x ∷ xs) ≡ max (taken_seen i x) (taken_turn i xs)
 taken_first i (Message j n r) xs = omega arith
-taken_first i (Pass j t k a) xs = by_test (eqb k i) t (taken i xs)
+taken_first i (Pass j t k a) xs = by_test (eqb k i) t (taken_turn i xs)
 
-passed_first : (i : ℕ) (x : ShopPacket) (xs : List ShopPacket) → passed i (x ∷ xs) ≡ max (passed_in i x) (passed i xs)
+passed_first : (i : ℕ) (x : ShopPacket) (xs : List ShopPacket) → passed_turn i (x ∷ xs) ≡ max (passed_in i x) (passed_turn i xs)
 passed_first i (Message j n r) xs = omega arith
-passed_first i (Pass j t k a) xs = by_test (eqb j i) t (passed i xs)
+passed_first i (Pass j t k a) xs = by_test (eqb j i) t (passed_turn i xs)
 
 pub number_more : (i : ℕ) (xs : List ShopPacket) (k : ℕ) {x : ShopPacket} → x ≡ get_or xs k x → k < length xs
     → highest i (drop k xs) ≡ max (number_in i x) (highest i (drop (k + 1) xs))
 number_more i xs k {x} e h = at_drop_more (highest i) xs k x h ∙ ap (λ y. highest i (y ∷ drop (k + 1) xs)) (sym e) ∙ number_first i x (drop (k + 1) xs)
 
 pub taken_more : (i : ℕ) (xs : List ShopPacket) (k : ℕ) {x : ShopPacket} → x ≡ get_or xs k x → k < length xs
-    → taken i (drop k xs) ≡ max (taken_in i x) (taken i (drop (k + 1) xs))
-taken_more i xs k {x} e h = at_drop_more (taken i) xs k x h ∙ ap (λ y. taken i (y ∷ drop (k + 1) xs)) (sym e) ∙ taken_first i x (drop (k + 1) xs)
+    → taken_turn i (drop k xs) ≡ max (taken_seen i x) (taken_turn i (drop (k + 1) xs))
+taken_more i xs k {x} e h = at_drop_more (taken_turn i) xs k x h ∙ ap (λ y. taken_turn i (y ∷ drop (k + 1) xs)) (sym e) ∙ taken_first i x (drop (k + 1) xs)
 
 pub passed_more : (i : ℕ) (xs : List ShopPacket) (k : ℕ) {x : ShopPacket} → x ≡ get_or xs k x → k < length xs
-    → passed i (drop k xs) ≡ max (passed_in i x) (passed i (drop (k + 1) xs))
-passed_more i xs k {x} e h = at_drop_more (passed i) xs k x h ∙ ap (λ y. passed i (y ∷ drop (k + 1) xs)) (sym e) ∙ passed_first i x (drop (k + 1) xs)
+    → passed_turn i (drop k xs) ≡ max (passed_in i x) (passed_turn i (drop (k + 1) xs))
+passed_more i xs k {x} e h = at_drop_more (passed_turn i) xs k x h ∙ ap (λ y. passed_turn i (y ∷ drop (k + 1) xs)) (sym e) ∙ passed_first i x (drop (k + 1) xs)

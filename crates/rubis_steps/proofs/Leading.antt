@@ -9,14 +9,14 @@ use Rattle.std.proofs.lemmas.Grind.{drop_more_same}
 use Rattle.rubis_carrier.specs.declared.values.ShopPacket.{ShopPacket}
 use Rattle.rubis_carrier.specs.declared.values.ShopRequest.{ShopRequest}
 use Rattle.rubis_carrier.specs.Shops.{Folder, empty, folder, folder_in, put, put_folder, put_stream, request_in, stream_in, with_folder, with_stream, sender}
-use Rattle.rubis_carrier.specs.Events.{forgotten, of_others, opened, opening, are_reached, has_packet, is_offered, reaches_all}
+use Rattle.rubis_carrier.specs.Events.{forgotten, of_others, opened_site, opening_folder, are_reached, has_packet, is_offered, reaches_all}
 use Rattle.rubis_carrier.specs.declared.values.Carrier.TheVariants.{Files}
-use Rattle.rubis_steps.specs.Views.{folders_reached, in_own_folder, is_found, streams_reached, folder_at, folder_of, folders_of, packets_of, shop_of, stream_at}
+use Rattle.rubis_steps.specs.Views.{folders_reached, in_own_folder, is_found, streams_reached, folder_at, folder_of, folders_of, packets_seen, shop_of, stream_at}
 use Rattle.rubis_steps.specs.Views.{streams_of}
 use Rattle.rubis_carrier.proofs.PacketFacts.{forget_in}
 use Rattle.rubis_steps.specs.declared.folders.Folder.{Folder as CodeFolder}
 use Rattle.rubis_steps.specs.declared.shops.Shop.{Shop as CodeShop}
-use Rattle.rubis_steps.specs.Answers.{IsListed, IsStreamListed}
+use Rattle.rubis_steps.specs.Answers.{HasListed, IsStreamListed}
 
 -- ---- any list by number
 
@@ -66,7 +66,7 @@ none_first {b} e f = f ∙ ap (λ t. t || b) (sym e)
 pub compared_is : (s : CodeShop) (i number turn : ℕ) → (folders_reached i number turn s.folders.items && streams_reached i number turn s.streams.items) ≡
     reaches_all i number turn (shop_of s)
 compared_is s i number turn = sym (ap₂ (λ a b. a && b) (all_map folder_of (λ f. are_reached i number turn f.kept) s.folders.items)
-    (all_map packets_of (λ xs. are_reached i number turn xs) s.streams.items))
+    (all_map packets_seen (λ xs. are_reached i number turn xs) s.streams.items))
 
 pub offered_is : (s : CodeShop) (x : ShopPacket) → in_own_folder x s.folders.items ≡ is_offered Files (shop_of s) x
 offered_is s x = sym (any_map folder_of (λ f. (f.site == sender x) && has_packet x f.kept) s.folders.items)
@@ -74,11 +74,11 @@ offered_is s x = sym (any_map folder_of (λ f. (f.site == sender x) && has_packe
 pub found_is : (s : CodeShop) (x : ShopPacket) → is_found x s.folders.items s.streams.items ≡
     (list_any (λ f. has_packet x f.kept) (shop_of s).folders || list_any (λ xs. has_packet x xs) (shop_of s).streams)
 found_is s x = sym (ap₂ (λ a b. a || b) (any_map folder_of (λ f. has_packet x f.kept) s.folders.items)
-    (any_map packets_of (λ xs. has_packet x xs) s.streams.items))
+    (any_map packets_seen (λ xs. has_packet x xs) s.streams.items))
 
 -- ---- folders and streams
 
-pub is_listed : (s : CodeShop) (k : ℕ) → k < length s.folders.items → IsListed k s s
+pub is_listed : (s : CodeShop) (k : ℕ) → k < length s.folders.items → HasListed k s s
 is_listed s k l = record { listed = l; here = refl; same = λ f. refl }
 
 -- one more folder
@@ -103,11 +103,11 @@ pub stream_list_more : (init old : CodeShop) (i : ℕ) (xs : Vec (Vec ShopPacket
     → stream_at old i ≡ stream_at init i → ((ys : List ShopPacket) → with_stream i ys (shop_of (record old { streams = xs })) ≡ with_stream i ys (shop_of init))
     × (stream_at (record old { streams = xs }) i ≡ stream_at init i)
 stream_list_more init old i xs v e none l same here =
-    let pushed : map packets_of xs.items ≡ streams_of old.streams ++ [] ∷ [] =
-    ap (map packets_of) e ∙ map_push packets_of old.streams.items v ∙ ap (λ x. streams_of old.streams ++ x ∷ []) none in (
+    let pushed : map packets_seen xs.items ≡ streams_of old.streams ++ [] ∷ [] =
+    ap (map packets_seen) e ∙ map_push packets_seen old.streams.items v ∙ ap (λ x. streams_of old.streams ++ x ∷ []) none in (
       λ ys. ap (λ zs. record (shop_of old) { streams = put_stream i ys zs }) pushed
           ∙ ap (λ zs. record (shop_of old) { streams = zs })
-          (put_more (λ j. []) i ys (streams_of old.streams) (omega (arith, l, length-map old.streams.items packets_of)))
+          (put_more (λ j. []) i ys (streams_of old.streams) (omega (arith, l, length-map old.streams.items packets_seen)))
           ∙ same ys,
       ap (λ zs. stream_in zs i) pushed ∙ at_more (λ j. []) i (streams_of old.streams) ∙ here,
     )
@@ -119,11 +119,11 @@ folder_read fs k {f} lt read = get_or-map folder_of fs k f (empty k) lt ∙ ap f
 pub folder_past : (fs : List CodeFolder) (k : ℕ) → length fs ≤ k → folder_in (map folder_of fs) k ≡ empty k
 folder_past fs k out = get_or_past (map folder_of fs) k (empty k) (omega (arith, length-map fs folder_of, out))
 
-pub stream_read : (xs : List (Vec ShopPacket)) (i : ℕ) {v : Vec ShopPacket} → i < length xs → v ≡ get_or xs i v → stream_in (map packets_of xs) i ≡ v.items
-stream_read xs i {v} lt read = get_or-map packets_of xs i v [] lt ∙ ap packets_of (sym read)
+pub stream_read : (xs : List (Vec ShopPacket)) (i : ℕ) {v : Vec ShopPacket} → i < length xs → v ≡ get_or xs i v → stream_in (map packets_seen xs) i ≡ v.items
+stream_read xs i {v} lt read = get_or-map packets_seen xs i v [] lt ∙ ap packets_seen (sym read)
 
 -- a folder that is listed is replaced
-pub replaced_is : {old mid : CodeShop} {k : ℕ} {f : CodeFolder} (g : CodeFolder) (F : Folder → Folder) → IsListed k old mid → f ≡ get_or mid.folders.items k f
+pub replaced_is : {old mid : CodeShop} {k : ℕ} {f : CodeFolder} (g : CodeFolder) (F : Folder → Folder) → HasListed k old mid → f ≡ get_or mid.folders.items k f
     → folder_of g ≡ F (folder_of f) → shop_of (record mid { folders = with_item mid.folders k g }) ≡ with_folder k (F (folder_at old k)) (shop_of old)
 replaced_is {old} {mid} {k} {f} g F l read e =
     let fs = mid.folders.items in
@@ -140,7 +140,7 @@ stream_replaced {old} {mid} {i} {v} w F l read e =
     let xs = mid.streams.items in
     let its : stream_at mid i ≡ v.items = stream_read xs i l.listed read in
     ap (λ zs. record (shop_of mid) { streams = zs })
-    (map-set packets_of xs i w ∙ sym (put_set (λ j. []) i w.items (map packets_of xs) (omega (arith, length-map xs packets_of, l.listed))))
+    (map-set packets_seen xs i w ∙ sym (put_set (λ j. []) i w.items (map packets_seen xs) (omega (arith, length-map xs packets_seen, l.listed))))
     ∙ ap (λ h. with_stream i h (shop_of mid)) (e ∙ ap F (sym its ∙ l.here)) ∙ l.same (F (stream_at old i))
 
 -- ---- a folder opens
@@ -149,13 +149,13 @@ stream_replaced {old} {mid} {i} {v} w F l read e =
 pub opens_is : (old : CodeShop) {first mid : CodeShop} {k : ℕ} {f : CodeFolder} (g : CodeFolder) → shop_of first ≡ record (shop_of old) {
   folders = map (forgotten (folder_at old k).site) (folders_of old.folders);
   under_way = of_others (folder_at old k).site old.under_way.items;
-} → IsListed k first mid
-    → f ≡ get_or mid.folders.items k f → folder_of g ≡ opened (folder_of f) → shop_of (record mid { folders = with_item mid.folders k g }) ≡ opening k
+} → HasListed k first mid
+    → f ≡ get_or mid.folders.items k f → folder_of g ≡ opened_site (folder_of f) → shop_of (record mid { folders = with_item mid.folders k g }) ≡ opening_folder k
     (shop_of old)
 opens_is old {k} g e l read is =
-    replaced_is g opened l read is ∙ ap (λ s. with_folder k (opened (folder s k)) s) e
+    replaced_is g opened_site l read is ∙ ap (λ s. with_folder k (opened_site (folder s k)) s) e
     ∙ ap (λ h. record (shop_of old) {
-      folders = put_folder k (opened h) (map (forgotten (folder_at old k).site) (folders_of old.folders));
+      folders = put_folder k (opened_site h) (map (forgotten (folder_at old k).site) (folders_of old.folders));
       under_way = of_others (folder_at old k).site old.under_way.items;
     }) (forget_in (folder_at old k).site (folders_of old.folders) k)
 

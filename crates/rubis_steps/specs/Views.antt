@@ -5,7 +5,7 @@ use Rattle.std.specs.List.{list_all, list_any}
 use Rattle.rubis_carrier.specs.declared.values.ShopPacket.{ShopPacket}
 use Rattle.rubis_carrier.specs.declared.values.ShopPacket.TheVariants.{Message, Pass}
 use Rattle.rubis_carrier.specs.Shops.{sender, Folder, Shop, empty, folder, stream}
-use Rattle.rubis_carrier.specs.Events.{are_reached, has_packet, accepting, answering, closed, giving, keeping, next_pass, replaced, stopped, unknown, without}
+use Rattle.rubis_carrier.specs.Events.{are_reached, has_packet, accepting, first_answered, closed, giving, with_packet_kept, next_pass, replaced, stopped, unknown, without}
 use Rattle.rubis_steps.specs.declared.folders.Folder.{Folder as CodeFolder}
 use Rattle.rubis_carrier.specs.declared.values.ShopEvent.{ShopEvent}
 use Rattle.rubis_carrier.specs.declared.values.ShopEvent.TheVariants.{Accepts, Closes, Finds, Gives, GoesOn, IsKilled, IsLost, LosesEnd, MachineStarts, Passes}
@@ -17,9 +17,9 @@ abbrev pub number_in : ℕ → ShopPacket → ℕ
 number_in i (Message j n r) = cond (j == i) n 0
 number_in i (Pass j t k a) = 0
 
-abbrev pub taken_in : ℕ → ShopPacket → ℕ
-taken_in i (Message j n r) = 0
-taken_in i (Pass j t k a) = cond (k == i) t 0
+abbrev pub taken_seen : ℕ → ShopPacket → ℕ
+taken_seen i (Message j n r) = 0
+taken_seen i (Pass j t k a) = cond (k == i) t 0
 
 abbrev pub passed_in : ℕ → ShopPacket → ℕ
 passed_in i (Message j n r) = 0
@@ -65,11 +65,11 @@ folder_of f = record {
 abbrev pub folders_of : Vec CodeFolder → List Folder
 folders_of fs = map folder_of fs.items
 
-abbrev pub packets_of : Vec ShopPacket → List ShopPacket
-packets_of v = v.items
+abbrev pub packets_seen : Vec ShopPacket → List ShopPacket
+packets_seen v = v.items
 
 abbrev pub streams_of : Vec (Vec ShopPacket) → List (List ShopPacket)
-streams_of vs = map packets_of vs.items
+streams_of vs = map packets_seen vs.items
 
 abbrev pub shop_of : CodeShop → Shop
 shop_of s = record {
@@ -101,10 +101,10 @@ changed (MachineStarts k) records f = unknown f
 changed (Serves k r) records f = record f { served = r ∷ f.served; waiting = r ∷ f.waiting }
 changed (Gives k r) records f = giving f r records
 changed (Accepts k r) records f = accepting f r
-changed (Refuses k r) records f = answering f
+changed (Refuses k r) records f = first_answered f
 changed (TellsNothing k r) records f = record f { waiting = without r f.waiting }
-changed (Passes k to) records f = keeping f (next_pass f to)
-changed (Reads k x) records f = keeping f x
+changed (Passes k to) records f = with_packet_kept f (next_pass f to)
+changed (Reads k x) records f = with_packet_kept f x
 changed (LosesEnd k n) records f = replaced f (take n f.kept)
 changed (IsLost k) records f = empty f.site
 changed (Finds k x) records f = replaced f (f.kept ++ x ∷ [])

@@ -2,7 +2,7 @@
 
 ghost use Rattle.std.specs.Prelude.{◌≡◌, ◌+◌, IfOk, OnOk};
 ghost use Rattle.rubis_carrier.specs.Shops.{empty};
-ghost use Rattle.rubis_carrier.specs.Events.{accepting, answering, forgotten, giving, keeping, next_pass, opened, started, stopped, unknown, holds};
+ghost use Rattle.rubis_carrier.specs.Events.{accepting, first_answered, forgotten, giving, with_packet_kept, next_pass, opened_site, started, stopped, unknown, holds_token};
 ghost use Rattle.rubis_steps.specs.Views.{changed, folder_of};
 
 use crate::faults::DeciderFault;
@@ -54,7 +54,7 @@ impl Folder {
 
     /// Whether its site has the token.
     pub fn holds(&self) -> bool
-        ensures { result ≡ holds (folder_of self.now) }
+        ensures { result ≡ holds_token (folder_of self.now) }
     {
         let turn = taken(&self.kept, self.site);
         passed(&self.kept, self.site) <= turn && (self.site == 0 || 0 < turn)
@@ -91,7 +91,7 @@ impl Folder {
 
     /// Its site may take asks.
     pub fn open(&mut self)
-        ensures { folder_of self.new ≡ opened (folder_of self.old) }
+        ensures { folder_of self.new ≡ opened_site (folder_of self.old) }
     {
         self.is_open = true;
         self.remembered = true;
@@ -117,7 +117,7 @@ impl Folder {
 
     // The first record has its answer.
     fn answer(&mut self)
-        ensures { folder_of self.new ≡ answering (folder_of self.old) }
+        ensures { folder_of self.new ≡ first_answered (folder_of self.old) }
     {
         remove_first(&mut self.given);
         remove_first(&mut self.lines);
@@ -138,7 +138,7 @@ impl Folder {
 
     // Its site passes the token on.
     fn pass(&mut self, to: u64) -> Result<(), DeciderFault>
-        ensures { OnOk result (folder_of self.new ≡ keeping (folder_of self.old) (next_pass (folder_of self.old) to)) }
+        ensures { OnOk result (folder_of self.new ≡ with_packet_kept (folder_of self.old) (next_pass (folder_of self.old) to)) }
     {
         let site = self.site;
         let turn = next(taken(&self.kept, site))?;

@@ -1,13 +1,13 @@
 //! Lists of numbers.
 
 ghost use Rattle.std.specs.Prelude.{◌≡◌, ◌++◌, OnOk};
-ghost use Rattle.rubis_carrier.specs.Events.{first, others, times, without};
+ghost use Rattle.rubis_carrier.specs.Events.{first_event, others, times, without};
 
 use crate::faults::DeciderFault;
 
 /// The first of them, or 0.
 pub fn first(numbers: &[u64]) -> u64
-    ensures { result ≡ first numbers.now }
+    ensures { result ≡ first_event numbers.now }
 {
     *numbers.first().unwrap_or(&0)
 }

@@ -1,9 +1,9 @@
 //! Packets, and what a list of them says of a site.
 
 ghost use Rattle.std.specs.Prelude.{◌≡◌, IfOk};
-ghost use Rattle.rubis_carrier.specs.Shops.{highest, last_turn, own, passed, sender, taken};
+ghost use Rattle.rubis_carrier.specs.Shops.{highest, last_turn, own, passed_turn, sender, taken_turn};
 ghost use Rattle.rubis_carrier.specs.Events.{are_own, are_reached, has_packets, is_reached};
-ghost use Rattle.rubis_steps.specs.Views.{number_in, passed_in, taken_in};
+ghost use Rattle.rubis_steps.specs.Views.{number_in, passed_in, taken_seen};
 
 use crate::faults::DeciderFault;
 use rubis_carrier::ShopPacket;
@@ -30,7 +30,7 @@ fn number_of(packet: ShopPacket, of: u64) -> u64
 
 // The turn that it brings, if it is a pass to that site.
 fn taken_by(packet: ShopPacket, of: u64) -> u64
-    ensures { result ≡ taken_in of packet }
+    ensures { result ≡ taken_seen of packet }
 {
     match packet {
         Pass(_, turn, to, _) if to == of => turn,
@@ -61,7 +61,7 @@ pub fn highest(kept: &[ShopPacket], site: u64) -> u64
 
 /// The greatest turn that the site took.
 pub fn taken(kept: &[ShopPacket], site: u64) -> u64
-    ensures { result ≡ taken site kept.now }
+    ensures { result ≡ taken_turn site kept.now }
 {
     let mut most: u64 = 0;
     for packet in kept {
@@ -72,7 +72,7 @@ pub fn taken(kept: &[ShopPacket], site: u64) -> u64
 
 /// The greatest turn that the site passed on.
 pub fn passed(kept: &[ShopPacket], site: u64) -> u64
-    ensures { result ≡ passed site kept.now }
+    ensures { result ≡ passed_turn site kept.now }
 {
     let mut most: u64 = 0;
     for packet in kept {

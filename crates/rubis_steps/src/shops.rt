@@ -2,13 +2,13 @@
 
 ghost use Rattle.std.specs.Fn.{FnReturnsAt};
 ghost use Rattle.std.specs.Prelude.{◌≡◌, ◌==◌, ◌+◌, IfOk, OnOk, map};
-ghost use Rattle.rubis_carrier.specs.Shops.{empty, request, start, with_folder};
-ghost use Rattle.rubis_carrier.specs.Events.{after, first, forgotten, opening, opening_uncompared, replaced, is_alone, is_compared, is_offered, is_placed};
+ghost use Rattle.rubis_carrier.specs.Shops.{empty, request, shop_start, with_folder};
+ghost use Rattle.rubis_carrier.specs.Events.{after_step, first_event, forgotten, opening_folder, opening_uncompared, replaced, is_alone, is_compared, is_offered, is_placed};
 ghost use Rattle.rubis_carrier.specs.Events.{is_somewhere, may, may_open, may_serve, may_tell_published};
 ghost use Rattle.rubis_carrier.specs.declared.values.ShopEvent.TheVariants.{Arrives, Passes, Starts, StreamLosesEnd, WritesAnew};
 ghost use Rattle.rubis_steps.specs.Views.{changed, folder_at, folder_of, folders_of, shop_of, stream_at, folders_reached, in_folders, in_own_folder};
 ghost use Rattle.rubis_steps.specs.Views.{in_streams, is_found, streams_reached};
-ghost use Rattle.rubis_steps.specs.Answers.{IsListed, IsStreamListed};
+ghost use Rattle.rubis_steps.specs.Answers.{HasListed, IsStreamListed};
 ghost use Rattle.rubis_steps.specs.declared.folders.Folder.{Folder as CodeFolder};
 
 use crate::faults::DeciderFault;
@@ -106,7 +106,7 @@ pub struct Shop {
 impl Shop {
     /// Nothing has happened.
     pub fn new(alloc: Global) -> Shop
-        ensures { shop_of result ≡ start }
+        ensures { shop_of result ≡ shop_start }
     {
         Shop {
             alloc,
@@ -125,7 +125,7 @@ impl Shop {
 
     // Lists all folders up to that one.
     fn list(&mut self, folder: u64) -> Result<(), DeciderFault>
-        ensures { OnOk result (IsListed folder self.old self.new) }
+        ensures { OnOk result (HasListed folder self.old self.new) }
     {
         while self.folders.len() as u64 <= folder {
             let next = Folder::new(self.alloc, self.folders.len() as u64);
@@ -193,7 +193,7 @@ impl Shop {
     }
 
     fn starts(&mut self, folder: u64) -> Result<(), DeciderFault>
-        ensures { OnOk result (shop_of self.new ≡ after (shop_of self.old) (Starts folder)) }
+        ensures { OnOk result (shop_of self.new ≡ after_step (shop_of self.old) (Starts folder)) }
     {
         let life = next(self.begun)?;
         self.list(folder)?;
@@ -203,7 +203,7 @@ impl Shop {
     }
 
     fn opens(&mut self, folder: u64) -> Result<(), DeciderFault>
-        ensures { OnOk result (shop_of self.new ≡ opening folder (shop_of self.old)) }
+        ensures { OnOk result (shop_of self.new ≡ opening_folder folder (shop_of self.old)) }
     {
         let site = self.site(folder);
         forget_all(&mut self.folders, site);
@@ -223,7 +223,7 @@ impl Shop {
     }
 
     fn passes(&mut self, folder: u64, to: u64) -> Result<(), DeciderFault>
-        ensures { OnOk result (shop_of self.new ≡ after (shop_of self.old) (Passes folder to)) }
+        ensures { OnOk result (shop_of self.new ≡ after_step (shop_of self.old) (Passes folder to)) }
     {
         self.list(folder)?;
         let it = &self.folders[folder as usize];
@@ -234,7 +234,7 @@ impl Shop {
     }
 
     fn appends(&mut self, packet: ShopPacket) -> Result<(), DeciderFault>
-        ensures { OnOk result (shop_of self.new ≡ after (shop_of self.old) (Arrives packet)) }
+        ensures { OnOk result (shop_of self.new ≡ after_step (shop_of self.old) (Arrives packet)) }
     {
         let site = sender(packet);
         self.list_stream(site)?;
@@ -262,7 +262,7 @@ impl Shop {
     }
 
     fn stream_loses_end(&mut self, site: u64, count: u64) -> Result<(), DeciderFault>
-        ensures { OnOk result (shop_of self.new ≡ after (shop_of self.old) (StreamLosesEnd site count)) }
+        ensures { OnOk result (shop_of self.new ≡ after_step (shop_of self.old) (StreamLosesEnd site count)) }
     {
         self.list_stream(site)?;
         self.streams[site as usize].truncate(count as usize);
@@ -270,7 +270,7 @@ impl Shop {
     }
 
     fn writes_anew(&mut self, folder: u64) -> Result<(), DeciderFault>
-        ensures { OnOk result (shop_of self.new ≡ after (shop_of self.old) (WritesAnew folder)) }
+        ensures { OnOk result (shop_of self.new ≡ after_step (shop_of self.old) (WritesAnew folder)) }
     {
         let site = self.site(folder);
         let stream = own(self.alloc, self.kept(folder), site)?;
@@ -281,7 +281,7 @@ impl Shop {
 
     // The first ask that was given there, as an answer is taken to be of that.
     fn first_given(&self, folder: u64) -> u64
-        ensures { result ≡ first (folder_at self.now folder).given }
+        ensures { result ≡ first_event (folder_at self.now folder).given }
     {
         match self.folders.get(folder as usize) {
             Some(it) => first(&it.given),
@@ -291,7 +291,7 @@ impl Shop {
 
     /// The event happens.
     pub fn happens(&mut self, event: Event) -> Result<(), DeciderFault>
-        ensures { OnOk result (shop_of self.new ≡ after (shop_of self.old) event) }
+        ensures { OnOk result (shop_of self.new ≡ after_step (shop_of self.old) event) }
     {
         match event {
             Event::Starts(k) => self.starts(k)?,

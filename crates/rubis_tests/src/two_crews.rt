@@ -5,7 +5,7 @@ ghost use Rattle.rubis_crew.specs.Both.{IsAt};
 
 use crate::gates::Holders;
 use crate::rigs::Rig;
-use rubis_crew::{Both, Crew, Found, Helper, Job, Lead};
+use rubis_crew::{Both, Crew, Found, Helper, Hold, Job, Lead};
 use rubis_world::Gate;
 use std::alloc::{AllocError, Global};
 use std::sync::atomic::{AtomicBool, Ordering};
@@ -347,5 +347,105 @@ fn an_end_is_left_to_the_helper(rt: HostRuntime) -> Result<(), Fail> {
     assert!(rt; unworked.is_none());
     assert_eq!(rt; crew.help(&rt, &mut helper), Found::Over);
     crew.close(lead);
+    Ok(())
+}
+
+// Gives a job once the helper is about to announce that it sleeps, and lets it go then.
+fn give_late(
+    rt: &impl Rig,
+    crew: &Doublers,
+    lead: &mut Giver,
+    hold: &Hold,
+    left: &AtomicBool,
+) -> u64
+    requires { lead.old.crew ≡ crew.now.id }
+    ensures { lead.new.crew ≡ crew.now.id }
+{
+    for _ in 0..NAPS {
+        if hold.has_one() {
+            break;
+        }
+        nap(rt);
+    }
+    assert!(rt; hold.has_one(), "no helper is about to sleep");
+    assert!(rt; crew.give(rt, lead, Doubling { number: 4 }).is_ok());
+    hold.let_go();
+    wait_for_one(rt, crew, lead, left)
+}
+
+fn lead_late(
+    rt: &impl Rig,
+    first: &Doublers,
+    second: &Doublers,
+    mut leads: Leads<Doubling>,
+    hold: &Hold,
+    left: &AtomicBool,
+) -> (u64, Leads<Doubling>)
+    requires { (leads.first.crew ≡ first.now.id) × (leads.second.crew ≡ second.now.id) }
+    ensures first { (result.1.first.crew ≡ first.now.id) × (result.1.first.ended ≡ true) × (result.1.first.given ≡ []) }
+    ensures second { (result.1.second.crew ≡ second.now.id) × (result.1.second.ended ≡ true) × (result.1.second.given ≡ []) }
+{
+    let number = give_late(rt, first, &mut leads.first, hold, left);
+    end(rt, first, &mut leads.first);
+    end(rt, second, &mut leads.second);
+    (number, leads)
+}
+
+#[test]
+fn a_helper_of_two_crews_that_announces_its_sleep_looks_once_more(
+    rt: HostRuntime,
+) -> Result<(), Fail> {
+    let hold: Arc<Hold, Global> = Arc::new(rt.alloc(), Hold::default())?;
+    let other = Arc::try_clone(&hold).or(Err("an owner"))?;
+    let (first, second, mut leads) = two_crews(&rt)?;
+    let first = first.held_up(other);
+    let helper = Both::new(
+        first.helper(&mut leads.first),
+        second.helper(&mut leads.second),
+    );
+    let left = AtomicBool::new(false);
+    let held: &Hold = &hold;
+    let ((), (number, leads)) = thread::join(
+        &rt,
+        || stay(&rt, &first, &second, helper, false, &left),
+        || lead_late(&rt, &first, &second, leads, held, &left),
+    );
+    first.close(leads.first);
+    second.close(leads.second);
+    assert_eq!(rt; number, 8);
+    Ok(())
+}
+
+fn lead_one_late(
+    rt: &impl Rig,
+    crew: &Doublers,
+    mut lead: Giver,
+    hold: &Hold,
+    left: &AtomicBool,
+) -> (u64, Giver)
+    requires { lead.crew ≡ crew.now.id }
+    ensures { (result.1.crew ≡ crew.now.id) × (result.1.ended ≡ true) × (result.1.given ≡ []) }
+{
+    let number = give_late(rt, crew, &mut lead, hold, left);
+    end(rt, crew, &mut lead);
+    (number, lead)
+}
+
+#[test]
+fn a_helper_that_announces_its_sleep_looks_once_more(rt: HostRuntime) -> Result<(), Fail> {
+    let hold: Arc<Hold, Global> = Arc::new(rt.alloc(), Hold::default())?;
+    let other = Arc::try_clone(&hold).or(Err("an owner"))?;
+    let (crew, mut lead) = Doublers::new(&rt, rt.alloc(), 1, 1)?;
+    let crew = crew.held_up(other);
+    let mut helper = crew.helper(&mut lead);
+    let left = AtomicBool::new(false);
+    let held: &Hold = &hold;
+    let ((), (number, lead)) = thread::join(
+        &rt,
+        || crew.stay(&rt, &mut helper),
+        || lead_one_late(&rt, &crew, lead, held, &left),
+    );
+    crew.close(lead);
+    assert_eq!(rt; number, 8);
     Ok(())
 }

@@ -11,7 +11,7 @@ use Rattle.std.specs.List.Sorted.{apply_swaps, SwapsInRange}
 use Rattle.std.proofs.lemmas.List.{map-set}
 use Rattle.std.proofs.lemmas.List.Sorted.{IsPermutation-append_right, IsPermutation-append_comm}
 use Rattle.rubis_shard.specs.declared.shares.Share.{Share}
-use Rattle.rubis_pieces.specs.Batches.{Belong, AreFolded, AreFoldedTo, IsBegun, IsWorked}
+use Rattle.rubis_pieces.specs.Batches.{Belong, AreSharesFolded, AreFoldedTo, IsBegun, IsWorked}
 use Rattle.rubis_board.specs.Rule.{IsPartOf}
 use Rattle.std.specs.Prelude.{IfOk}
 use Rattle.rubis_pieces.specs.declared.gathers.Gathered.{Gathered}
@@ -138,7 +138,7 @@ one_posted all left posted p h =
 -- ---- what the workers give back, whoever took what, gathered by number
 
 folded_in_place : (ss : List ShardState) (hs : List Share) (ds : List Done) → Belong ss hs → AllZip IsWorked (pieces_of ss hs) ds
-    → AreFolded ss hs ds
+    → AreSharesFolded ss hs ds
 folded_in_place [] [] [] b h = tt
 folded_in_place [] [] (d ∷ ds) b h = absurd h
 folded_in_place [] (g ∷ hs) ds b h = absurd b
@@ -146,7 +146,7 @@ folded_in_place (s ∷ ss) [] ds b h = absurd b
 folded_in_place (s ∷ ss) (g ∷ hs) [] b h = absurd h
 folded_in_place (s ∷ ss) (g ∷ hs) (d ∷ ds) b h = (h.0, folded_in_place ss hs ds b.1 h.1)
 
-folded_length : (ss : List ShardState) (hs : List Share) (ds : List Done) → AreFolded ss hs ds → length ds ≡ length ss
+folded_length : (ss : List ShardState) (hs : List Share) (ds : List Done) → AreSharesFolded ss hs ds → length ds ≡ length ss
 folded_length [] [] [] f = refl
 folded_length [] [] (d ∷ ds) f = absurd f
 folded_length [] (h ∷ hs) ds f = absurd f
@@ -166,7 +166,7 @@ module _ (ss : List ShardState) (hs : List Share) (taken : List Piece) (list : L
     (b : Belong ss hs)
     (moved : IsPermutation (pieces_of ss hs) taken) (worked : AllZip IsWorked taken list) where
   -- the same in the order of the shards
-  in_place : (ds : List Done) × AreFolded ss hs ds × IsPermutation list ds
+  in_place : (ds : List Done) × AreSharesFolded ss hs ds × IsPermutation list ds
   in_place =
       let w = moves_along IsWorked taken (pieces_of ss hs) list (IsPermutation-sym _ _ moved) worked in
       (w.0, folded_in_place ss hs w.0 b w.1, w.2)
@@ -189,7 +189,7 @@ module _ (ss : List ShardState) (hs : List Share) (taken : List Piece) (list : L
         placed = sorted.placed;
       } in
       let same : ds ≡ es = order_folded ss hs es ds order folded again in
-      (ds, subst (AreFolded ss hs) (sym same) folded, shards_are, left_is)
+      (ds, subst (AreSharesFolded ss hs) (sym same) folded, shards_are, left_is)
 
 -- where the shares are those of a batch, it is applied as on one thread
 pub applies : (ss : List ShardState) (hs : List Share) (worked : Worked) → 0 < length ss → AreWorked ss hs worked → AppliesBatch ss hs worked

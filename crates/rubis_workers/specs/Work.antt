@@ -32,7 +32,7 @@ abbrev pub AreWorked : List ShardState → List Share → Worked → Type 0
 AreWorked shards shares worked = AreFoldedTo shards shares (record { shards = worked.shards; left = worked.left })
 
 -- a batch is applied to the shards as far as memory went, and `left` has the rest
-pub record IsApplied (first : ℕ) (batch : List Core) (old new : List ShardState) (left : List Left) : Type 0 where
+pub record IsAppliedTo (first : ℕ) (batch : List Core) (old new : List ShardState) (left : List Left) : Type 0 where
   -- a beginning of each share of the batch is folded on its shard
   pub begun : IsBegun first batch old new left
   pub unfinished : AreUnfinished 0 (length old) left
@@ -46,7 +46,7 @@ pub record IsApplied (first : ℕ) (batch : List Core) (old new : List ShardStat
 -- where the shares are those of a batch, whatever batch that is, it is applied
 abbrev pub AppliesBatch : List ShardState → List Share → Worked → Type 0
 AppliesBatch old shares worked = (first : ℕ) (batch : List Core) → AreShares (length old) first batch shares
-    → IsApplied first batch old worked.shards worked.left
+    → IsAppliedTo first batch old worked.shards worked.left
 
 -- ---- shards that workers take off a board with no shares, each to have the parts of a batch folded on it that are at home there
 

@@ -7,7 +7,7 @@ use Rattle.rubis_engine.specs.Accounts.{AnswersRecord, LeadsOn}
 use Rattle.rubis_engine.proofs.TextFacts.{text-goes}
 use Rattle.rubis_schema.specs.declared.refusals.Refusal.TheVariants as refusal
 use Rattle.rubis_script.specs.Replica.fault_variants as fault
-use Rattle.rubis_world.specs.Worlds.{ComesTo, Steps, WorldState}
+use Rattle.rubis_world.specs.Worlds.{ComesToWorld, StepsWorld, WorldState}
 use Rattle.rubis_world.specs.declared.faults.WorldFault.{WorldFault}
 use Rattle.rubis_world.specs.declared.faults.WorldFault.TheVariants.{BadEvent, NoSuchPacket, Site, Memory}
 use Rattle.rubis_world.specs.Running.{IsRefused, IsTold, LeadsWorld, told_by_world}
@@ -37,21 +37,21 @@ world_goes old new n fields sink sink2 ((keep, world), told) =
 
 module _ (old new : WorldState) (e : Event) where
   -- a refusal changes nothing
-  stays : (r : Refusal) → (happens old.keep old.world e).1 ≡ Err r → ComesTo old new old.world → ComesTo old new (happens old.keep old.world e).0
+  stays : (r : Refusal) → (happens old.keep old.world e).1 ≡ Err r → ComesToWorld old new old.world → ComesToWorld old new (happens old.keep old.world e).0
   stays r f same = (same.0, same.1 ∙ sym ((refusals_change_nothing old.keep old.world e).refused r f))
 
-  here : new ≡ old → ComesTo old new old.world
+  here : new ≡ old → ComesToWorld old new old.world
   here f = (ap (λ (s : WorldState). s.keep) f, ap (λ (s : WorldState). s.world) f)
 
   -- so the text that says so is that of the step
-  refused : (n i : ℕ) (before after : List ℕ) (r : Refusal) → (happens old.keep old.world e).1 ≡ Err r → ComesTo old new old.world
+  refused : (n i : ℕ) (before after : List ℕ) (r : Refusal) → (happens old.keep old.world e).1 ≡ Err r → ComesToWorld old new old.world
       → after ≡ before ++ rows_text (refusal_row n i r ∷ []) → IsTold old new (told_at n i (happens old.keep old.world e)) before after
   refused n i before after r f same told =
       (stays r f same, told ∙ ap (λ a. before ++ rows_text (event_rows n i (happens old.keep old.world e).0.sent a)) (sym f))
 
 -- an event that is refused
 pub event_refused : (old new : WorldState) (n i : ℕ) (e : Event) (fault : WorldFault) (before after : List ℕ)
-    → Steps old new (happens old.keep old.world e) (Err fault) → IsRefused n i fault before after
+    → StepsWorld old new (happens old.keep old.world e) (Err fault) → IsRefused n i fault before after
     → IsTold old new (told_at n i (happens old.keep old.world e)) before after
 event_refused old new n i e BadEvent before after s told = refused old new e n i before after refusal.BadEvent s.1 (here old new e s.0) told
 event_refused old new n i e NoSuchPacket before after s told = refused old new e n i before after refusal.NoSuchPacket s.1 (here old new e s.0) told
@@ -62,7 +62,7 @@ event_refused old new n i e Memory before after s told = absurd told
 
 -- an event that happens
 pub event_told : (old new : WorldState) (n i : ℕ) (e : Event) (h : Happened) (sent : List Packet) (before after : List ℕ)
-    → Steps old new (happens old.keep old.world e) (Ok h) → sent ≡ new.world.sent → after ≡ before ++ rows_text (event_rows n i sent (Ok h))
+    → StepsWorld old new (happens old.keep old.world e) (Ok h) → sent ≡ new.world.sent → after ≡ before ++ rows_text (event_rows n i sent (Ok h))
     → IsTold old new (told_at n i (happens old.keep old.world e)) before after
 event_told old new n i e h sent before after s all told =
     let packets : sent ≡ (happens old.keep old.world e).0.sent = all ∙ ap (λ (w : World). w.sent) s.0.1 in

@@ -28,7 +28,7 @@ use Rattle.rubis_message.specs.declared.answers.Taken.TheVariants as taken
 use Rattle.rubis_message.specs.declared.requests.Request.TheVariants as request
 use Rattle.rubis_message.specs.declared.tokens.Packet.TheVariants as packet
 use Rattle.rubis_engine.specs.declared.fault.RunFault.TheVariants as fault
-use Rattle.rubis_world.specs.Headline.{AppendsARun, Lead, TellsARun}
+use Rattle.rubis_world.specs.Headline.{AppendsARun, LeadWorld, TellsARun}
 use Rattle.rubis_world.specs.Running.{LeadsWorld, told_by_world}
 use Rattle.rubis_world.specs.Worlds.{WorldState, opening_world}
 
@@ -174,16 +174,16 @@ same_rows rows others (some, mark) (more, unmarked) e = sym (rows_back rows some
 
 -- ---- where records lead
 
-both_lead : Lead both opened ended
+both_lead : LeadWorld both opened ended
 both_lead = (refl, sym both_led)
 
-passed_is_too_early : Lead both opened passed → ⊥
+passed_is_too_early : LeadWorld both opened passed → ⊥
 passed_is_too_early h = true≢false (sym (ap (λ (w : World). is_some (site w 1).held) (h.1 ∙ both_led)))
 
-opened_is_fresh : Lead both opened opened → ⊥
+opened_is_fresh : LeadWorld both opened opened → ⊥
 opened_is_fresh h = true≢false (sym (ap (λ (w : World). is_some (site w 1).held) (h.1 ∙ both_led)))
 
-fewer_kept_since : Lead both opened (record ended { keep = 2 }) → ⊥
+fewer_kept_since : LeadWorld both opened (record ended { keep = 2 }) → ⊥
 fewer_kept_since h = let kept = h.0 in absurd (omega (arith, kept))
 
 -- ---- what is answered where the reader failed
@@ -225,7 +225,7 @@ no_less_than_one (cut, led) =
 
 -- where a run ends well, what is said of its text and of the sites is together what is said of chunks
 all_in_two_clauses : (limit : ℕ) (first new : WorldState) (old now : Option (List ℕ)) (records : List (List (List ℕ))) (result : Result Count RunFault)
-    → IfOk result (λ count. IsDone (told_by_world first 1) limit old now records count.records) → IfOk result (λ _. Lead records first new)
+    → IfOk result (λ count. IsDone (told_by_world first 1) limit old now records count.records) → IfOk result (λ _. LeadWorld records first new)
     → IfOk result (λ count. AnswersAll told_by_world LeadsWorld limit first new old now records count.records)
 all_in_two_clauses limit first new old now records result = if_ok_both result (λ count done led. (done, led))
 
@@ -255,16 +255,16 @@ other_sites_are_no_text h = let many = ap length (h.text ∙ alone_told) in absu
 -- ---- what was written, by how the run ends
 
 all_told_at_end : (limit : ℕ) (bytes : List ℕ) (count : Count) → input_records bytes ≡ both
-    → TellsARun 2 1000000 limit (Some bytes) (Some []) (Some (rows_text all_rows)) (Ok count)
+    → TellsARun 2 1000000 limit bytes (Some []) (Some (rows_text all_rows)) (Ok count)
 all_told_at_end limit bytes count is = (all_rows, refl, subst (λ r. IsTextOfARun 2 1000000 r all_rows) (sym is) both_are_text)
 
 first_told_where_too_long : (bytes : List ℕ) → input_records bytes ≡ both
-    → TellsARun 2 1000000 1 (Some bytes) (Some []) (Some (rows_text first_rows)) (Err fault.TooLong)
+    → TellsARun 2 1000000 1 bytes (Some []) (Some (rows_text first_rows)) (Err fault.TooLong)
 first_told_where_too_long bytes is =
     (first_rows, refl, subst (λ r. IsTextOfARun 2 1000000 (take 1 r) first_rows) (sym is) first_is_text)
 
 first_told_where_read_fails : (bytes : List ℕ) → input_records bytes ≡ both
-    → TellsARun 2 1000000 5 (Some bytes) (Some []) (Some (rows_text first_rows)) (Err fault.Read)
+    → TellsARun 2 1000000 5 bytes (Some []) (Some (rows_text first_rows)) (Err fault.Read)
 first_told_where_read_fails bytes is =
     (1, (first_rows, refl, subst (λ r. IsTextOfARun 2 1000000 (take 1 r) first_rows) (sym is) first_is_text))
 
@@ -274,14 +274,14 @@ written : (records rows told : List (List (List ℕ))) → Readable rows → Rea
 written records rows told one two is (others, appended, run) = same_rows rows told one two (appended ∙ ap rows_text (run.text ∙ is))
 
 too_few_at_end : (bytes : List ℕ) (count : Count) → input_records bytes ≡ both
-    → TellsARun 2 1000000 5 (Some bytes) (Some []) (Some (rows_text first_rows)) (Ok count) → ⊥
+    → TellsARun 2 1000000 5 bytes (Some []) (Some (rows_text first_rows)) (Ok count) → ⊥
 too_few_at_end bytes count is h =
     let many = ap length (written both first_rows all_rows first_readable all_readable both_told
     (subst (AppendsARun 2 1000000 (Some []) (Some (rows_text first_rows))) is h)) in
     absurd (omega (arith, many))
 
 too_many_where_too_long : (bytes : List ℕ) → input_records bytes ≡ both
-    → TellsARun 2 1000000 1 (Some bytes) (Some []) (Some (rows_text all_rows)) (Err fault.TooLong) → ⊥
+    → TellsARun 2 1000000 1 bytes (Some []) (Some (rows_text all_rows)) (Err fault.TooLong) → ⊥
 too_many_where_too_long bytes is h =
     let one = subst (λ r. AppendsARun 2 1000000 (Some []) (Some (rows_text all_rows)) (take 1 r)) is h in
     let many = ap length (written (passes_on ∷ []) all_rows first_rows all_readable first_readable first_told one) in
@@ -297,7 +297,7 @@ none_told = refl
 
 -- the answers to the last record alone are those to no first records
 last_alone_where_read_fails : (bytes : List ℕ) → input_records bytes ≡ both
-    → TellsARun 2 1000000 5 (Some bytes) (Some []) (Some (rows_text last_rows)) (Err fault.Read) → ⊥
+    → TellsARun 2 1000000 5 bytes (Some []) (Some (rows_text last_rows)) (Err fault.Read) → ⊥
 last_alone_where_read_fails bytes is (k, h) = at k (subst (λ r. AppendsARun 2 1000000 (Some []) (Some (rows_text last_rows)) (take k r)) is h)
   where
     at : (k : ℕ) → AppendsARun 2 1000000 (Some []) (Some (rows_text last_rows)) (take k both) → ⊥

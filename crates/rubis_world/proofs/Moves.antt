@@ -23,7 +23,7 @@ use Rattle.rubis_model.specs.Verdict.{verdict}
 use Rattle.rubis_model.proofs.Settling.{has_left}
 use Rattle.rubis_laws.proofs.Runs.Recorded.{are_logs, logs_agree}
 use Rattle.rubis_script.specs.Replica.fault_variants as fault
-use Rattle.rubis_world.specs.Worlds.{ComesTo, Steps, WorldState, opening_world, IsWorld, fault_at_site, AreAtPlaces, Asks, left_at, WorldSetup, setup_at}
+use Rattle.rubis_world.specs.Worlds.{ComesToWorld, StepsWorld, WorldState, opening_world, IsWorld, fault_at_site, AreAtPlaces, Asks, left_behind, WorldSetup, setup_at}
 use Rattle.rubis_world.specs.declared.faults.WorldFault.{WorldFault}
 use Rattle.rubis_world.specs.declared.faults.WorldFault.TheVariants.{BadEvent, NoSuchPacket, Site, Memory}
 use Rattle.rubis_schema.specs.declared.listings.Listing.TheVariants as shown_listing
@@ -36,7 +36,7 @@ pub told : (s : WorldState) → IsWorld s → InRun s.world
 told s h = in_run s.keep h.keep h.room h.sound
 
 -- what a world is kept by is how much it keeps and the world
-moved : (old new : WorldState) (w : World) → ComesTo old new w → IsWorld (record old { world = w }) → IsWorld new
+moved : (old new : WorldState) (w : World) → ComesToWorld old new w → IsWorld (record old { world = w }) → IsWorld new
 moved old new w t h = record {
   sites = subst (λ (v : World). length v.sites ≤ 16) (sym t.1) h.sites;
   keep = subst (λ n. n ≤ 1000000) (sym t.0) h.keep;
@@ -56,12 +56,12 @@ kept s e a h = let same = event_sites s.keep s.world e in record {
 }
 
 -- a call that stays at the world keeps it
-pub stayed : (old new : WorldState) → ComesTo old new old.world → IsWorld old → IsWorld new
+pub stayed : (old new : WorldState) → ComesToWorld old new old.world → IsWorld old → IsWorld new
 stayed old new t h = moved old new old.world t (record { sites = h.sites; keep = h.keep; sound = h.sound; room = h.room; deliverable = h.deliverable })
 
 -- what answers an event is a world again
 pub answered : (old new : WorldState) (e : Event) (result : Result Happened WorldFault) → IsEvent (length old.world.sites) e
-    → Steps old new (happens old.keep old.world e) result → IsWorld old → IsWorld new
+    → StepsWorld old new (happens old.keep old.world e) result → IsWorld old → IsWorld new
 answered old new e (Ok x) a t h = moved old new (happens old.keep old.world e).0 t.0 (kept old e a h)
 answered old new e (Err BadEvent) a t h = subst IsWorld (sym t.0) h
 answered old new e (Err NoSuchPacket) a t h = subst IsWorld (sym t.0) h
@@ -135,7 +135,7 @@ module _ (keep : ℕ) (sites : List SiteState) (sent : List Packet) (i : ℕ) (s
   changed r e = map-set (λ (y : SiteState). y.state) sites i x ∙ ap (slice_set (map (λ (y : SiteState). y.state) sites) i) e
 
   -- or stays as it was
-  unchanged : x.state ≡ s.state → ComesTo (state_of keep sites sent) (state_of keep (set sites i x) sent) (world_of sites sent)
+  unchanged : x.state ≡ s.state → ComesToWorld (state_of keep sites sent) (state_of keep (set sites i x) sent) (world_of sites sent)
   unchanged e =
       let f = changed (site (world_of sites sent) i) (e ∙ sym state_is) ∙ same_sites (world_of sites sent) i in
       (refl, (λ k. record { sites = f k; sent = sent }))
@@ -149,14 +149,14 @@ module _ (keep : ℕ) (sites : List SiteState) (sent : List Packet) (i : ℕ) (s
   refused : {A : Type 0} (p : Replica × Result A Refusal) (step : World × Result Happened Refusal) (f : Fault) (result : Result Happened WorldFault)
       → IsErr result × IsErrAnd result (λ g. g ≡ fault_at_site f)
       → AnswersAsTheStep s x p (Err f) → ((r : Refusal) → p.1 ≡ Err r → step.1 ≡ Err r)
-      → Steps (state_of keep sites sent) (state_of keep (set sites i x) sent) step result
+      → StepsWorld (state_of keep sites sent) (state_of keep (set sites i x) sent) step result
   refused p step f (Ok h) e a said = absurd (cc)
   refused p step (fault.Refused r) (Err g) e a said =
-      subst (λ q. Steps (state_of keep sites sent) (state_of keep (set sites i x) sent) step (Err q)) (sym e.1) (unchanged a.0, said r a.1)
+      subst (λ q. StepsWorld (state_of keep sites sent) (state_of keep (set sites i x) sent) step (Err q)) (sym e.1) (unchanged a.0, said r a.1)
   refused p step fault.Behind (Err g) e a said =
-      subst (λ q. Steps (state_of keep sites sent) (state_of keep (set sites i x) sent) step (Err q)) (sym e.1) (unchanged a)
+      subst (λ q. StepsWorld (state_of keep sites sent) (state_of keep (set sites i x) sent) step (Err q)) (sym e.1) (unchanged a)
   refused p step fault.Memory (Err g) e a said =
-      subst (λ q. Steps (state_of keep sites sent) (state_of keep (set sites i x) sent) step (Err q)) (sym e.1) (unchanged a)
+      subst (λ q. StepsWorld (state_of keep sites sent) (state_of keep (set sites i x) sent) step (Err q)) (sym e.1) (unchanged a)
 
   -- the site's answer is the step's
   module _ {A : Type 0} (step : Place → Replica → Replica × Result A Refusal) where
@@ -184,16 +184,16 @@ module _ (keep : ℕ) (sites : List SiteState) (sent : List Packet) (i : ℕ) (s
       ∙ sym (length-map sites (λ (y : SiteState). y.state)) ∙ ap (λ (w : WorldState). length w.world.sites) view
 
   -- ---- how far the tables are
-  left_is : left_at old i ≡ left_of s.progress
-  left_is = subst (λ (w : WorldState). left_at w i ≡ left_of s.progress) view
+  left_is : left_behind old i ≡ left_of s.progress
+  left_is = subst (λ (w : WorldState). left_behind w i ≡ left_of s.progress) view
       (get_or-map (λ (y : SiteState). left_of y.progress) sites i s 0 inside ∙ sym (ap (λ (y : SiteState). left_of y.progress) read))
 
   -- the site had nothing left; where it says that it is behind, it has now
-  pub asked_alone : (sent' : List Packet) (result : Result Happened WorldFault) → left_at old i ≡ 0
+  pub asked_alone : (sent' : List Packet) (result : Result Happened WorldFault) → left_behind old i ≡ 0
       → (left_of s.progress ≡ 0 → result ≡ Err (world.Site fault.Behind) → 0 < left_of x.progress)
       → Asks i old (state_of keep (set sites i x) sent') result
   asked_alone sent' result none says = record {
-    others = λ j n. subst (λ (w : WorldState). left_at (state_of keep (set sites i x) sent') j ≡ left_at w j) view
+    others = λ j n. subst (λ (w : WorldState). left_behind (state_of keep (set sites i x) sent') j ≡ left_behind w j) view
         (ap (λ l. get_or l j 0) (map-set (λ (y : SiteState). left_of y.progress) sites i x)
         ∙ get_or-set_other (map (λ (y : SiteState). left_of y.progress) sites) i j (left_of x.progress) 0 n);
     waits = λ some. absurd (omega (arith, some, none));
@@ -205,7 +205,7 @@ module _ (keep : ℕ) (sites : List SiteState) (sent : List Packet) (i : ℕ) (s
   }
 
   -- the site had nothing left, and so doesn't say that it is behind
-  pub never_behind : (result : Result Happened WorldFault) → left_at old i ≡ 0 → (left_of s.progress ≡ 0 → result ≡ Err (world.Site fault.Behind) → ⊥)
+  pub never_behind : (result : Result Happened WorldFault) → left_behind old i ≡ 0 → (left_of s.progress ≡ 0 → result ≡ Err (world.Site fault.Behind) → ⊥)
       → result ≡ Err (world.Site fault.Behind) → ⊥
   never_behind result none says = says (sym left_is ∙ none)
 
@@ -213,18 +213,18 @@ module _ (keep : ℕ) (sites : List SiteState) (sent : List Packet) (i : ℕ) (s
   module _ {A : Type 0} (pack : A → Packet) (step : Place → Replica → Replica × Result A Refusal) (sent' : List Packet) where
     pub sends_fault : (f : Fault) (result : Result Happened WorldFault) → IsErr result × IsErrAnd result (λ g. g ≡ fault_at_site f)
         → AnswersAsTheStep s x (step s.place s.state) (Err f) → sent' ≡ sent
-        → Steps old (state_of keep (set sites i x) sent') (sends pack old.world i (step (place old.keep old.world i) (site old.world i))) result
+        → StepsWorld old (state_of keep (set sites i x) sent') (sends pack old.world i (step (place old.keep old.world i) (site old.world i))) result
     sends_fault f result e a same =
-        subst (λ (w : WorldState). Steps w (state_of keep (set sites i x) sent') (sends pack w.world i (step (place w.keep w.world i) (site w.world i))) result)
+        subst (λ (w : WorldState). StepsWorld w (state_of keep (set sites i x) sent') (sends pack w.world i (step (place w.keep w.world i) (site w.world i))) result)
         view
-        (subst (λ q. Steps (state_of keep sites sent) (state_of keep (set sites i x) q)
+        (subst (λ q. StepsWorld (state_of keep sites sent) (state_of keep (set sites i x) q)
         (sends pack (world_of sites sent) i (step (place keep (world_of sites sent) i) (site (world_of sites sent) i))) result) (sym same)
         (refused keep sites sent i s x inside read at (step s.place s.state) _ f result e a
         (λ r h. ap (saying (λ _. happened.Sent (next_number (world_of sites sent)))) (ap (λ p. p.1) (step_is keep sites sent i s x inside read at step) ∙ h))))
 
     pub sends_on : (answer : A) (number : ℕ) → AnswersAsTheStep s x (step s.place s.state) (Ok answer) → sent' ≡ sent ++ pack answer ∷ [] → number
         ≡ length sent'
-        → Steps old (state_of keep (set sites i x) sent') (sends pack old.world i (step (place old.keep old.world i) (site old.world i)))
+        → StepsWorld old (state_of keep (set sites i x) sent') (sends pack old.world i (step (place old.keep old.world i) (site old.world i)))
         (Ok (happened.Sent number))
     sends_on answer number a e n =
         let said = said_there keep sites sent i s x inside read at step answer a in
@@ -232,7 +232,7 @@ module _ (keep : ℕ) (sites : List SiteState) (sent : List Packet) (i : ℕ) (s
         let more : sent' ≡ sent ++ sending pack (step (place keep (world_of sites sent) i) (site (world_of sites sent) i)).1 = e
         ∙ ap (λ o. sent ++ sending pack o) (sym said) in
         let next : number ≡ next_number (world_of sites sent) = n ∙ ap length e ∙ length-append sent (pack answer ∷ []) in
-        subst (λ (w : WorldState). Steps w (state_of keep (set sites i x) sent') (sends pack w.world i (step (place w.keep w.world i) (site w.world i)))
+        subst (λ (w : WorldState). StepsWorld w (state_of keep (set sites i x) sent') (sends pack w.world i (step (place w.keep w.world i) (site w.world i)))
         (Ok (happened.Sent number))) view (
           (refl, (λ k. record { sites = come k; sent = more k })),
           ap (saying (λ _. happened.Sent (next_number (world_of sites sent)))) said
@@ -242,15 +242,15 @@ module _ (keep : ℕ) (sites : List SiteState) (sent : List Packet) (i : ℕ) (s
   -- ---- rows
   pub shows_fault : (l : Listing) (f : Fault) (result : Result Happened WorldFault) → IsErr result × IsErrAnd result (λ g. g ≡ fault_at_site f)
       → AnswersAsTheStep s x (listed s.state l) (Err f)
-      → Steps old (state_of keep (set sites i x) sent) (shown old.world i l) result
+      → StepsWorld old (state_of keep (set sites i x) sent) (shown old.world i l) result
   shows_fault l f result e a =
-      subst (λ (w : WorldState). Steps w (state_of keep (set sites i x) sent) (shown w.world i l) result) view
+      subst (λ (w : WorldState). StepsWorld w (state_of keep (set sites i x) sent) (shown w.world i l) result) view
       (refused keep sites sent i s x inside read at (listed s.state l) (shown (world_of sites sent) i l) f result e a (λ r h. absurd (cc)))
 
   pub shows_on : (l : Listing) (rows : List (List (List ℕ))) → AnswersAsTheStep s x (listed s.state l) (Ok rows)
-      → Steps old (state_of keep (set sites i x) sent) (shown old.world i l) (Ok (happened.Rows rows))
+      → StepsWorld old (state_of keep (set sites i x) sent) (shown old.world i l) (Ok (happened.Rows rows))
   shows_on l rows a =
-      subst (λ (w : WorldState). Steps w (state_of keep (set sites i x) sent) (shown w.world i l) (Ok (happened.Rows rows))) view (
+      subst (λ (w : WorldState). StepsWorld w (state_of keep (set sites i x) sent) (shown w.world i l) (Ok (happened.Rows rows))) view (
         unchanged keep sites sent i s x inside read at a.0,
         ap (λ (q : Replica). Ok (happened.Rows (listing_rows q.log (fold_of (cores q.log)) l))) (state_is keep sites sent i s x inside read at)
             ∙ ap (saying happened.Rows) a.1,
@@ -260,18 +260,18 @@ module _ (keep : ℕ) (sites : List SiteState) (sent : List Packet) (i : ℕ) (s
   module _ {A : Type 0} (word : A → Happened) (step : Place → Replica → Replica × Result A Refusal) where
     pub takes_fault : (f : Fault) (result : Result Happened WorldFault) → IsErr result × IsErrAnd result (λ g. g ≡ fault_at_site f)
         → AnswersAsTheStep s x (step s.place s.state) (Err f)
-        → Steps old (state_of keep (set sites i x) sent) (takes word old.world i (step (place old.keep old.world i) (site old.world i))) result
+        → StepsWorld old (state_of keep (set sites i x) sent) (takes word old.world i (step (place old.keep old.world i) (site old.world i))) result
     takes_fault f result e a =
-        subst (λ (w : WorldState). Steps w (state_of keep (set sites i x) sent) (takes word w.world i (step (place w.keep w.world i) (site w.world i))) result)
+        subst (λ (w : WorldState). StepsWorld w (state_of keep (set sites i x) sent) (takes word w.world i (step (place w.keep w.world i) (site w.world i))) result)
         view
         (refused keep sites sent i s x inside read at (step s.place s.state) _ f result e a
         (λ r h. ap (saying word) (ap (λ p. p.1) (step_is keep sites sent i s x inside read at step) ∙ h)))
 
     pub takes_on : (answer : A) → AnswersAsTheStep s x (step s.place s.state) (Ok answer)
-        → Steps old (state_of keep (set sites i x) sent) (takes word old.world i (step (place old.keep old.world i) (site old.world i))) (Ok (word answer))
+        → StepsWorld old (state_of keep (set sites i x) sent) (takes word old.world i (step (place old.keep old.world i) (site old.world i))) (Ok (word answer))
     takes_on answer a =
         let come = come_to keep sites sent i s x inside read at step answer a in
-        subst (λ (w : WorldState). Steps w (state_of keep (set sites i x) sent) (takes word w.world i (step (place w.keep w.world i) (site w.world i)))
+        subst (λ (w : WorldState). StepsWorld w (state_of keep (set sites i x) sent) (takes word w.world i (step (place w.keep w.world i) (site w.world i)))
         (Ok (word answer))) view
         ((refl, (λ k. record { sites = come k; sent = sent })), ap (saying word) (said_there keep sites sent i s x inside read at step answer a))
 

@@ -8,7 +8,7 @@ use Rattle.rubis_model.specs.WorldRecords.{refusal_row, world_answers, site_row}
 use Rattle.rubis_script.specs.Replica.fault_variants as fault
 use Rattle.rubis_engine.specs.Accounts.{Account, Ending}
 use Rattle.rubis_engine.specs.Text.{rows_text, plain_writer, row_text}
-use Rattle.rubis_world.specs.Worlds.{ComesTo, WorldState}
+use Rattle.rubis_world.specs.Worlds.{ComesToWorld, WorldState}
 use Rattle.rubis_world.specs.declared.desk.WorldDesk.{WorldDesk}
 use Rattle.rubis_world.specs.declared.faults.WorldFault.{WorldFault}
 use Rattle.rubis_world.specs.declared.faults.WorldFault.TheVariants.{BadEvent, NoSuchPacket, Site, Memory}
@@ -34,7 +34,7 @@ IsRefused n site fault before after = MatchOption (refusal_of fault) ⊥ (λ r. 
 
 -- the world has come to what a step makes of it, and the text of the step's records follows what stood before
 abbrev pub IsTold : WorldState → WorldState → World × List (List (List ℕ)) → List ℕ → List ℕ → Type 0
-IsTold old new step before after = ComesTo old new step.0 × (after ≡ before ++ rows_text step.1)
+IsTold old new step before after = ComesToWorld old new step.0 × (after ≡ before ++ rows_text step.1)
 
 -- however the run ends after some records, from record n on, its text is that of the answers to them; it reads all of them
 abbrev pub world_account : ℕ → World → ℕ → Account
@@ -50,7 +50,7 @@ told_by_world s n = world_account s.keep s.world n
 
 -- these records, the first of which has that number, lead from one state of the sites to the other
 abbrev pub LeadsWorld : WorldState → ℕ → List (List (List ℕ)) → WorldState → Type 0
-LeadsWorld old n records new = ComesTo old new (world_after old.keep old.world n records)
+LeadsWorld old n records new = ComesToWorld old new (world_after old.keep old.world n records)
 
 -- ---- the same of the desk that has them
 

@@ -27,60 +27,60 @@ abbrev pub opening_world : ℕ → ℕ → WorldState
 opening_world keep sites = record { keep = keep; world = start sites; left = map (λ i. 0) (range_with_len 0 sites) }
 
 -- what a site has left; it is behind where that is something
-abbrev pub left_at : WorldState → ℕ → ℕ
-left_at s i = slice_index_or s.left i 0
+abbrev pub left_behind : WorldState → ℕ → ℕ
+left_behind s i = slice_index_or s.left i 0
 
 -- each site is at the place of its number
 abbrev pub AreAtPlaces : ℕ → List SiteState → Type 0
 AreAtPlaces keep sites = (i : ℕ) → IfSome (slice_get sites i) (λ s. s.place ≡ record { site = i; sites = length sites; keep = keep })
 
 -- the call comes to that world; how far the tables are may change
-abbrev pub ComesTo : WorldState → WorldState → World → Type 0
-ComesTo old new w = (new.keep ≡ old.keep) × (new.world ≡ w)
+abbrev pub ComesToWorld : WorldState → WorldState → World → Type 0
+ComesToWorld old new w = (new.keep ≡ old.keep) × (new.world ≡ w)
 
 -- the call answers as the step says, and comes to its world; where a site is behind or memory runs out, it stays at its own
-abbrev pub Steps : WorldState → WorldState → World × Result Happened Refusal → Result Happened WorldFault → Type 0
-Steps old new step (Ok h) = ComesTo old new step.0 × (step.1 ≡ Ok h)
-Steps old new step (Err BadEvent) = (new ≡ old) × (step.1 ≡ Err refusal.BadEvent)
-Steps old new step (Err NoSuchPacket) = (new ≡ old) × (step.1 ≡ Err refusal.NoSuchPacket)
-Steps old new step (Err (Site (fault.Refused r))) = ComesTo old new old.world × (step.1 ≡ Err r)
-Steps old new step (Err (Site fault.Behind)) = ComesTo old new old.world
-Steps old new step (Err (Site fault.Memory)) = ⊥
-Steps old new step (Err Memory) = ComesTo old new old.world
+abbrev pub StepsWorld : WorldState → WorldState → World × Result Happened Refusal → Result Happened WorldFault → Type 0
+StepsWorld old new step (Ok h) = ComesToWorld old new step.0 × (step.1 ≡ Ok h)
+StepsWorld old new step (Err BadEvent) = (new ≡ old) × (step.1 ≡ Err refusal.BadEvent)
+StepsWorld old new step (Err NoSuchPacket) = (new ≡ old) × (step.1 ≡ Err refusal.NoSuchPacket)
+StepsWorld old new step (Err (Site (fault.Refused r))) = ComesToWorld old new old.world × (step.1 ≡ Err r)
+StepsWorld old new step (Err (Site fault.Behind)) = ComesToWorld old new old.world
+StepsWorld old new step (Err (Site fault.Memory)) = ⊥
+StepsWorld old new step (Err Memory) = ComesToWorld old new old.world
 
 -- site i alone was asked: the tables of the others are as far as they were. Where it was behind it says so, and nothing
 -- changes; and it says so only where it is
 pub record Asks (i : ℕ) (old new : WorldState) (result : Result Happened WorldFault) : Type 0 where
-  pub others : (j : ℕ) → (j ≡ i → ⊥) → left_at new j ≡ left_at old j
-  pub waits : 0 < left_at old i → (result ≡ Err (Site fault.Behind)) × (new ≡ old)
-  pub says : result ≡ Err (Site fault.Behind) → 0 < left_at new i
+  pub others : (j : ℕ) → (j ≡ i → ⊥) → left_behind new j ≡ left_behind old j
+  pub waits : 0 < left_behind old i → (result ≡ Err (Site fault.Behind)) × (new ≡ old)
+  pub says : result ≡ Err (Site fault.Behind) → 0 < left_behind new i
 
 -- site i is there and isn't behind
-pub record IsUpToDate (i : ℕ) (s : WorldState) : Type 0 where
+pub record IsNotBehind (i : ℕ) (s : WorldState) : Type 0 where
   pub there : i < length s.world.sites
-  pub none_left : left_at s i ≡ 0
+  pub none_left : left_behind s i ≡ 0
 
 -- site i alone takes the step: the call answers as the step says, and the tables of the others are as far as they were
 pub record StepsAlone (i : ℕ) (old new : WorldState) (step : World × Result Happened Refusal) (result : Result Happened WorldFault) : Type 0 where
-  pub answers : Steps old new step result
+  pub answers : StepsWorld old new step result
   pub tables : Asks i old new result
 
 -- a request at a site is answered as the step says, and only that site changes; if there is no such site, nothing does
 pub record AnswersRequest (site : ℕ) (request : Request) (old new : WorldState) (result : Result Happened WorldFault) : Type 0 where
-  pub step : Steps old new (happens old.keep old.world (At site request)) result
+  pub step : StepsWorld old new (happens old.keep old.world (At site request)) result
   pub tables : site < length old.world.sites → Asks site old new result
   pub absent : length old.world.sites ≤ site → (result ≡ Err BadEvent) × (new ≡ old)
   -- handing the token on applies nothing, so it finds a site behind only where that was so before
-  pub pass : (to : ℕ) → request ≡ Pass to → result ≡ Err (Site fault.Behind) → 0 < left_at old site
+  pub pass : (to : ℕ) → request ≡ Pass to → result ≡ Err (Site fault.Behind) → 0 < left_behind old site
 
 -- a delivery of packet `which` to a site is answered as the step says, and only that site changes; if there is no such site or packet,
 -- nothing does
 pub record AnswersDelivery (site which : ℕ) (old new : WorldState) (result : Result Happened WorldFault) : Type 0 where
-  pub step : Steps old new (happens old.keep old.world (Deliver site which)) result
+  pub step : StepsWorld old new (happens old.keep old.world (Deliver site which)) result
   pub tables : site < length old.world.sites → (p : Packet) → packet_at old.world.sent which ≡ Some p → Asks site old new result
   pub absent : length old.world.sites ≤ site → (result ≡ Err BadEvent) × (new ≡ old)
   pub unsent : site < length old.world.sites → packet_at old.world.sent which ≡ None → (result ≡ Err NoSuchPacket) × (new ≡ old)
-  pub behind : result ≡ Err (Site fault.Behind) → 0 < left_at old site
+  pub behind : result ≡ Err (Site fault.Behind) → 0 < left_behind old site
 
 -- ---- what a world keeps, and why it has no verdict
 
@@ -94,7 +94,7 @@ pub record IsWorld (s : WorldState) : Type 0 where
 
 -- some site is behind
 abbrev pub SomeBehind : WorldState → Type 0
-SomeBehind s = (i : ℕ) × (i < length s.world.sites) × (0 < left_at s i)
+SomeBehind s = (i : ℕ) × (i < length s.world.sites) × (0 < left_behind s i)
 
 -- why there is no verdict: some site is behind, or memory ran out
 abbrev pub IsCheckFault : WorldState → WorldFault → Type 0

@@ -6,7 +6,7 @@ ghost use Rattle.rubis_model.specs.Verdict.{verdict};
 ghost use Rattle.rubis_model.specs.WorldRecords.{log_of, logs_of};
 ghost use Rattle.rubis_audit.specs.Walks.{HaveMessagesAmong};
 ghost use Rattle.rubis_script.specs.Replica.fault_variants as Fault;
-ghost use Rattle.rubis_world.specs.Worlds.{ComesTo, left_at, IsCheckFault, SomeBehind};
+ghost use Rattle.rubis_world.specs.Worlds.{ComesToWorld, left_behind, IsCheckFault, SomeBehind};
 ghost use Rattle.rubis_world.specs.declared.faults.WorldFault.TheVariants as WorldFault;
 
 use crate::faults::WorldFault;
@@ -22,7 +22,7 @@ use std::thread::Threads;
 // Whether some site has begun a batch that isn't whole.
 fn some_behind(sites: &Sites) -> bool
     ensures some { result ≡ true → SomeBehind sites.now }
-    ensures none { result ≡ false → (i : ℕ) → i < length sites.now.world.sites → left_at sites.now i ≡ 0 }
+    ensures none { result ≡ false → (i : ℕ) → i < length sites.now.world.sites → left_behind sites.now i ≡ 0 }
 {
     'places: for site in 0..sites.len() {
         if sites.is_behind(site) {
@@ -39,7 +39,7 @@ fn tables<R: Threads + Wait + Sync>(
     site: usize,
 ) -> Result<Items<Fields>, WorldFault>
     requires { site < length sites.old.world.sites }
-    ensures same { ComesTo sites.old sites.new sites.old.world }
+    ensures same { ComesToWorld sites.old sites.new sites.old.world }
     ensures rows { IfOk result (λ rows. Some rows ≡ (log_of sites.old.world site).rows) }
     ensures faults { IfErr result (IsCheckFault sites.new) }
 {
@@ -60,7 +60,7 @@ fn log<R: Threads + Wait + Sync>(
     site: u8,
 ) -> Result<Log, WorldFault>
     requires { site < length sites.old.world.sites }
-    ensures same { ComesTo sites.old sites.new sites.old.world }
+    ensures same { ComesToWorld sites.old sites.new sites.old.world }
     ensures log { IfOk result (λ log. log ≡ log_of sites.old.world site) }
     ensures faults { IfErr result (IsCheckFault sites.new) }
 {
@@ -76,7 +76,7 @@ fn logs<R: Threads + Wait + Sync>(
     sites: &mut Sites,
 ) -> Result<Vec<Log>, WorldFault>
     requires { length sites.old.world.sites ≤ SITES_MAX }
-    ensures same { ComesTo sites.old sites.new sites.old.world }
+    ensures same { ComesToWorld sites.old sites.new sites.old.world }
     ensures logs { IfOk result (λ logs. logs.items ≡ logs_of sites.old.world) }
     ensures faults { IfErr result (IsCheckFault sites.new) }
 {
@@ -97,9 +97,9 @@ pub fn check<R: Threads + Wait + Sync>(
 ) -> Result<Verdict, WorldFault>
     requires few { length sites.old.world.sites ≤ SITES_MAX }
     requires among { HaveMessagesAmong (length sites.old.world.sites) (logs_of sites.old.world) }
-    ensures same { ComesTo sites.old sites.new sites.old.world }
+    ensures same { ComesToWorld sites.old sites.new sites.old.world }
     ensures verdict { IfOk result (λ found. found ≡ verdict (logs_of sites.old.world)) }
-    ensures waits { (i : ℕ) → i < length sites.old.world.sites → 0 < left_at sites.old i → (result ≡ Err (WorldFault.Site Fault.Behind))
+    ensures waits { (i : ℕ) → i < length sites.old.world.sites → 0 < left_behind sites.old i → (result ≡ Err (WorldFault.Site Fault.Behind))
         × (sites.new ≡ sites.old) }
     ensures faults { IfErr result (IsCheckFault sites.new) }
 {

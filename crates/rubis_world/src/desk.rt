@@ -9,7 +9,7 @@ ghost use Rattle.rubis_model.specs.Verdict.{verdict};
 ghost use Rattle.rubis_model.specs.WorldRecords.{logs_of, told_at, world_step};
 ghost use Rattle.rubis_schema.specs.declared.limits.TheConstants.{KEEP_MAX, SITES_MAX};
 ghost use Rattle.rubis_script.specs.Replica.{IsCount};
-ghost use Rattle.rubis_world.specs.Worlds.{Steps, WorldState, opening_world};
+ghost use Rattle.rubis_world.specs.Worlds.{StepsWorld, WorldState, opening_world};
 ghost use Rattle.rubis_world.specs.Running.{IsRefused, IsTold};
 
 use crate::answers::{write_event, write_no_event, write_refused};
@@ -45,7 +45,7 @@ fn tell(
     site: u8,
     came: Result<Happened, WorldFault>,
 ) -> Result<(), OutOfMemory>
-    ensures { OnOk result ((old : WorldState) (e : Event) → Steps old world.now (happens old.keep old.world e) came
+    ensures { OnOk result ((old : WorldState) (e : Event) → StepsWorld old world.now (happens old.keep old.world e) came
         → IsTold old world.now (told_at reply.old.number site (happens old.keep old.world e)) reply.old.sink reply.new.sink) }
 {
     match came {

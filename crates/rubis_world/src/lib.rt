@@ -16,10 +16,10 @@ pub use desk::WorldDesk;
 pub use faults::WorldFault;
 pub use rubis_message::Happened;
 pub use rubis_script::{
-    Arrived, Config, Count, Desk, Fault, Free, Gate, RunFault, Site, SiteGate, Watch, run_desk,
+    Arrived, Config, Count, Desk, Fault, Free, Gate, RunFault, Site, SiteGate, Watch, run_chunks,
     run_site, run_site_upto,
 };
-pub use run::{run_world, run_world_chunks, run_world_desk};
+pub use run::{run_world, run_world_chunks};
 pub use sites::{Sites, packet};
 pub use waiting::run_waiting;
 pub use world::World;

@@ -10,7 +10,7 @@ ghost use Rattle.rubis_model.specs.System.{AllDeliverable, IsDeliverable, IsEven
 ghost use Rattle.rubis_model.specs.System.Event.{At, Deliver};
 ghost use Rattle.rubis_script.specs.Replica.{IsCount};
 ghost use Rattle.rubis_script.specs.Replica.fault_variants as Fault;
-ghost use Rattle.rubis_world.specs.Worlds.{Asks, IsUpToDate, Steps, StepsAlone, left_at, opening_world};
+ghost use Rattle.rubis_world.specs.Worlds.{Asks, IsNotBehind, StepsWorld, StepsAlone, left_behind, opening_world};
 ghost use Rattle.rubis_world.specs.declared.faults.WorldFault.TheVariants as WorldFault;
 
 use crate::config::WorldConfig;
@@ -102,7 +102,7 @@ impl Sites {
     /// Whether a site has begun a batch that isn't whole.
     pub fn is_behind(&self, site: usize) -> bool
         requires { site < length self.now.world.sites }
-        ensures { result ≡ nat_lt 0 (left_at self.now site) }
+        ensures { result ≡ nat_lt 0 (left_behind self.now site) }
     {
         self.sites[site].is_behind()
     }
@@ -114,7 +114,7 @@ impl Sites {
         site: usize,
         ask: Ask,
     ) -> Result<Happened, WorldFault>
-        requires ready { IsUpToDate site self.old }
+        requires ready { IsNotBehind site self.old }
         requires ask { IsAsk (length self.old.world.sites) ask }
         ensures { StepsAlone site self.old self.new (requested self.old.keep self.old.world site (Request.Ask ask)) result }
     {
@@ -126,7 +126,7 @@ impl Sites {
 
     // A site hands the token on.
     fn pass(&mut self, site: usize, to: u8) -> Result<Happened, WorldFault>
-        requires { IsUpToDate site self.old }
+        requires { IsNotBehind site self.old }
         ensures step { StepsAlone site self.old self.new (requested self.old.keep self.old.world site (Request.Pass to)) result }
         ensures never { result ≡ Err (WorldFault.Site Fault.Behind) → ⊥ }
     {
@@ -144,8 +144,8 @@ impl Sites {
         listing: &Listing,
     ) -> Result<Happened, WorldFault>
         requires site { site < length self.old.world.sites }
-        requires ready { left_at self.old site ≡ 0 }
-        ensures step { Steps self.old self.new (requested self.old.keep self.old.world site (Request.List listing.now)) result }
+        requires ready { left_behind self.old site ≡ 0 }
+        ensures step { StepsWorld self.old self.new (requested self.old.keep self.old.world site (Request.List listing.now)) result }
         ensures tables { Asks site self.old self.new result }
     {
         let rows = self.sites[site].list(rt, listing)?;
@@ -168,10 +168,10 @@ impl Sites {
         request: Request,
     ) -> Result<Happened, WorldFault>
         requires { IsEvent (length self.old.world.sites) (At site request) }
-        ensures step { Steps self.old self.new (happens self.old.keep self.old.world (At site request)) result }
+        ensures step { StepsWorld self.old self.new (happens self.old.keep self.old.world (At site request)) result }
         ensures tables { site < length self.old.world.sites → Asks site self.old self.new result }
         ensures absent { length self.old.world.sites ≤ site → (result ≡ Err WorldFault.BadEvent) × (self.new ≡ self.old) }
-        ensures pass { (to : ℕ) → request ≡ Request.Pass to → result ≡ Err (WorldFault.Site Fault.Behind) → 0 < left_at self.old site }
+        ensures pass { (to : ℕ) → request ≡ Request.Pass to → result ≡ Err (WorldFault.Site Fault.Behind) → 0 < left_behind self.old site }
     {
         let site = usize::from(site);
         if site >= self.sites.len() {
@@ -194,7 +194,7 @@ impl Sites {
         site: usize,
         packet: Packet,
     ) -> Result<Happened, WorldFault>
-        requires ready { IsUpToDate site self.old }
+        requires ready { IsNotBehind site self.old }
         requires fits { IsDeliverable (length self.old.world.sites) packet }
         ensures step { StepsAlone site self.old self.new (coming self.old.keep self.old.world site (Some packet)) result }
         ensures never { result ≡ Err (WorldFault.Site Fault.Behind) → ⊥ }
@@ -219,12 +219,12 @@ impl Sites {
         number: u64,
     ) -> Result<Happened, WorldFault>
         requires { AllDeliverable (length self.old.world.sites) self.old.world.sent }
-        ensures step { Steps self.old self.new (happens self.old.keep self.old.world (Deliver site number)) result }
+        ensures step { StepsWorld self.old self.new (happens self.old.keep self.old.world (Deliver site number)) result }
         ensures tables { site < length self.old.world.sites → (p : Sent) → packet_at self.old.world.sent number ≡ Some p → Asks site self.old self.new result }
         ensures absent { length self.old.world.sites ≤ site → (result ≡ Err WorldFault.BadEvent) × (self.new ≡ self.old) }
         ensures unsent { site < length self.old.world.sites → packet_at self.old.world.sent number ≡ None → (result ≡ Err WorldFault.NoSuchPacket)
             × (self.new ≡ self.old) }
-        ensures behind { result ≡ Err (WorldFault.Site Fault.Behind) → 0 < left_at self.old site }
+        ensures behind { result ≡ Err (WorldFault.Site Fault.Behind) → 0 < left_behind self.old site }
     {
         let site = usize::from(site);
         if site >= self.sites.len() {

@@ -10,7 +10,7 @@ ghost use Rattle.rubis_model.specs.Verdict.{verdict};
 ghost use Rattle.rubis_model.specs.WorldRecords.{logs_of};
 ghost use Rattle.rubis_script.specs.Replica.{IsCount};
 ghost use Rattle.rubis_script.specs.Replica.fault_variants as Fault;
-ghost use Rattle.rubis_world.specs.Worlds.{AnswersDelivery, AnswersRequest, ComesTo, left_at, opening_world, IsCheckFault};
+ghost use Rattle.rubis_world.specs.Worlds.{AnswersDelivery, AnswersRequest, ComesToWorld, left_behind, opening_world, IsCheckFault};
 ghost use Rattle.rubis_world.specs.declared.faults.WorldFault.TheVariants as WorldFault;
 
 use crate::checks::check;
@@ -97,10 +97,10 @@ impl World {
     /// The auditor's verdict on the logs of all sites, each with its tables: in a run it is always Agree. All that is
     /// pending at a site is applied first. A site that is behind has no tables to show, and its world no verdict.
     pub fn check<R: Threads + Wait + Sync>(&mut self, rt: &R) -> Result<Verdict, WorldFault>
-        ensures same { ComesTo self.old self.new self.old.world }
+        ensures same { ComesToWorld self.old self.new self.old.world }
         ensures verdict { IfOk result (λ found. found ≡ verdict (logs_of self.old.world)) }
         ensures agrees { IfOk result (λ found. found ≡ Agree) }
-        ensures waits { (i : ℕ) → i < length self.old.world.sites → 0 < left_at self.old i → (result ≡ Err (WorldFault.Site Fault.Behind))
+        ensures waits { (i : ℕ) → i < length self.old.world.sites → 0 < left_behind self.old i → (result ≡ Err (WorldFault.Site Fault.Behind))
             × (self.new ≡ self.old) }
         ensures faults { IfErr result (IsCheckFault self.new) }
         ensures run { InRun self.new.world }

@@ -1,7 +1,7 @@
 use Rattle.rubis_app.proofs.obey.Goals as goal
 
 pub returns-in-Site : goal.returns-in-Site
-returns-in-Site g c = c.run_one.ensures.status
+returns-in-Site g c = c.run_streams.ensures
 
 pub returns-in-World : goal.returns-in-World
 returns-in-World g c = c.run_sites.ensures.status

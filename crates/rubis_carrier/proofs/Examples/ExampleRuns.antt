@@ -6,7 +6,7 @@ use Rattle.rubis_carrier.specs.declared.values.ShopPacket.TheVariants.{Message}
 use Rattle.rubis_carrier.specs.Events.{AreSteps}
 use Rattle.rubis_carrier.specs.declared.values.ShopEvent.{ShopEvent}
 use Rattle.rubis_carrier.specs.declared.values.ShopEvent.TheVariants.{Accepts, Gives, IsAsked, Opens, Serves, Starts}
-use Rattle.rubis_carrier.specs.Shops.{start}
+use Rattle.rubis_carrier.specs.Shops.{shop_start}
 use Rattle.rubis_carrier.proofs.Computed.{are_steps_true}
 
 -- the first message of site 0, of the first ask; and another one of that number, of the second ask
@@ -33,5 +33,5 @@ asking r life = asking_at 0 r life
 abbrev pub asked_once : List ShopEvent
 asked_once = opening_first ++ asking 1 1
 
-pub asked_once_may : (c : Carrier) → AreSteps c start asked_once
-asked_once_may c = are_steps_true c start asked_once refl
+pub asked_once_may : (c : Carrier) → AreSteps c shop_start asked_once
+asked_once_may c = are_steps_true c shop_start asked_once refl

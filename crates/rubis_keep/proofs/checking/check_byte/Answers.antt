@@ -9,5 +9,5 @@ pub returns-in_ok-push-clause-begun : goal.returns-in_ok-push-clause-begun
 returns-in_ok-push-clause-begun c line h =
     rw (ne_eqb c.args.byte 10 c.if-byte-eq10.false) (begun-pushed line c.args.byte h (search rules) c.in_ok-push.ensures.items)
 
-pub returns-else-len-le-LINE_MAX-clause-begun : goal.returns-else-len-le-LINE_MAX-clause-begun
-returns-else-len-le-LINE_MAX-clause-begun c line h = rw (ne_eqb c.args.byte 10 c.if-byte-eq10.false) (begun-stays line c.args.byte h (search rules))
+pub returns-else-len-le-KEYED_MAX-clause-begun : goal.returns-else-len-le-KEYED_MAX-clause-begun
+returns-else-len-le-KEYED_MAX-clause-begun c line h = rw (ne_eqb c.args.byte 10 c.if-byte-eq10.false) (begun-stays line c.args.byte h (search rules))

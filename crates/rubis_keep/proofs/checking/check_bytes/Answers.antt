@@ -1,5 +1,5 @@
 use Rattle.rubis_keep.proofs.Common.{◌≡◌, ◌∙◌, ◌+◌, ◌∷◌, ◌&&◌, [], ℕ, List, ap, arith, get_or, rules, subst, sym, take, ne_eqb, take_all}
-use Rattle.rubis_keep.specs.Faults.{Counts, IsEdited}
+use Rattle.rubis_keep.specs.Faults.{CountsLines, IsEdited}
 use Rattle.rubis_keep.specs.Lines.{are_sound, begun_after, begun_bytes}
 use Rattle.rubis_keep.proofs.LineFacts.{begun_take_more}
 use Rattle.rubis_keep.proofs.SoundFacts.{counts-end, counts-on, edited-at, sound_take_more, unsound-at}
@@ -29,13 +29,13 @@ returns-clause-lines c =
     let all = take_all c.loop-byte.byte-index c.args.piece.now (omega arith) in
     rw all at c.loop-byte.invariant.1
 
-counted : (c : Joined-byte-eq10) → Counts c.args.lines.now c.if-byte-eq10.lines (take (c.loop-byte.byte-index + 1) c.args.piece.now)
+counted : (c : Joined-byte-eq10) → CountsLines c.args.lines.now c.if-byte-eq10.lines (take (c.loop-byte.byte-index + 1) c.args.piece.now)
 counted c =
     let i = c.loop-byte.byte-index in
     elim c.if-byte-eq10.branch [
       | then-byte-eq10 w ↦ counts-end c.args.lines.now c.loop-byte.lines c.args.piece.now i (search rules) w.if-byte-eq10.true c.loop-byte.invariant.1
           (w.lines-is ∙ w.saturating_add.ensures)
-      | else-byte-eq10 w ↦ subst (λ n. Counts c.args.lines.now n (take (i + 1) c.args.piece.now)) (sym w.lines-is)
+      | else-byte-eq10 w ↦ subst (λ n. CountsLines c.args.lines.now n (take (i + 1) c.args.piece.now)) (sym w.lines-is)
           (counts-on c.args.lines.now c.loop-byte.lines c.args.piece.now i (search rules) (ne_eqb _ _ w.if-byte-eq10.false) c.loop-byte.invariant.1)
     ]
 

@@ -1,6 +1,6 @@
 use Rattle.std.proofs.Common.{◌≤◌, length, map, take}
 use Rattle.rubis_keep.specs.History.{Grows}
-use Rattle.rubis_keep.specs.History.Event.{Kept}
+use Rattle.rubis_keep.specs.History.FolderEvent.{Kept}
 use Rattle.rubis_keep.proofs.keeping.keep_lines.Given as goal
 
 abbrev pub invariant-loop-turn : goal.invariant-loop-turn

@@ -1,12 +1,12 @@
 use Rattle.std.proofs.Common.{[], refl, rules}
 use Rattle.rubis_keep.proofs.HistoryFacts.{err-is}
-use Rattle.rubis_keep.proofs.RunFacts.{begun-again, fails-cut, fails-untold, goes-on}
+use Rattle.rubis_keep.proofs.RunFacts.{begun-again, fails-cut, fails-untold, goes-on, kept-fails}
 use Rattle.rubis_keep.proofs.run.go_on.Goals as goal
 
 -- what was kept could not be cut off
 pub returns-in_err-cut_and_flush : goal.returns-in_err-cut_and_flush
 returns-in_err-cut_and_flush g c = err-is _ _ c.from_residual.result _ c.from_residual.ensures.1
-    (fails-cut _ _ _ _ c.in_err-cut_and_flush.ensures.err c.in_err-cut_and_flush.ensures.fault)
+    (fails-cut _ _ _ _ c.in_err-cut_and_flush.ensures.err (kept-fails _ c.in_err-cut_and_flush.ensures.fault))
 
 -- it could not be said
 pub returns-in_err-tell_replayed : goal.returns-in_err-tell_replayed

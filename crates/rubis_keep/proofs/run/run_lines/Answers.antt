@@ -1,7 +1,7 @@
 use Rattle.std.proofs.Common.{inl, refl}
 use Rattle.rubis_keep.specs.Telling.{grows-none}
 use Rattle.rubis_keep.proofs.HistoryFacts.{err-is}
-use Rattle.rubis_keep.proofs.RunFacts.{none-came, runs-end, runs-unreplayed, runs-unstarted}
+use Rattle.rubis_keep.proofs.RunFacts.{kept-fails, none-came, runs-end, runs-unreplayed, runs-unstarted}
 use Rattle.rubis_keep.proofs.run.run_lines.Goals as goal
 
 pub returns-in_err-check_kept : goal.returns-in_err-check_kept
@@ -9,7 +9,7 @@ returns-in_err-check_kept g c = err-is _ _ c.from_residual.result _ c.from_resid
 
 pub returns-in_err-flush : goal.returns-in_err-flush
 returns-in_err-flush g c = err-is _ _ c.from_residual-in_err-flush.result _ c.from_residual-in_err-flush.ensures.1
-    (runs-unstarted _ _ _ _ _ _ _ c.in_err-flush.ensures.done c.in_err-flush.ensures.fault)
+    (runs-unstarted _ _ _ _ _ _ _ c.in_err-flush.ensures.done (kept-fails _ c.in_err-flush.ensures.fault))
 
 pub returns-in_err-replay : goal.returns-in_err-replay
 returns-in_err-replay g c = err-is _ _ c.from_residual-in_err-replay.result _ c.from_residual-in_err-replay.ensures.1 (runs-unreplayed _ _

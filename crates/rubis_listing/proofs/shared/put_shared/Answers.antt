@@ -1,7 +1,7 @@
 use Rattle.std.proofs.Common.{rules, arith, ◌≡◌, ◌∷◌, ◌∙◌, [], subst, sym, ap}
 use Rattle.std.specs.Vec.Iter.{into_iter_items, into_iter_len}
 use Rattle.std.proofs.lemmas.List.{nil_from_length}
-use Rattle.rubis_listing.specs.Parts.{behind, between, AreParts}
+use Rattle.rubis_listing.specs.Parts.{part_end, between, AreParts}
 use Rattle.rubis_listing.proofs.Making.{between_more, between_none}
 use Rattle.rubis_listing.proofs.shared.put_shared.Goals as goal
 
@@ -14,7 +14,7 @@ loop-part-preserved g c =
     let inv = c.loop-part.invariant in
     let at = inv.0 in
     let before = inv.1 in
-    let next = behind at upto in
+    let next = part_end at upto in
     let items : into_iter_items c.loop-part.part-iterator ≡ c.in-Some-part.part ∷ into_iter_items c.next.new.self = search rules in
     let parts = subst (AreParts g.S.SharedSink.holds source at upto) items inv.2 in (
       next,

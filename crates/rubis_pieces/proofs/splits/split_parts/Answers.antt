@@ -3,7 +3,7 @@ use Rattle.rubis_pieces.proofs.Common.{length-map, core, cores, Share}
 use Rattle.std.proofs.Common.{◌/◌}
 use Rattle.rayon.specs.Numbers.{nat_range}
 use Rattle.rayon.proofs.ToStd.{nat_range-All}
-use Rattle.rubis_pieces.specs.Batches.{AreOfParts, AreShares, part_of}
+use Rattle.rubis_pieces.specs.Batches.{AreOfParts, AreShares, batch_part}
 use Rattle.rubis_pieces.proofs.Dealt.{if_ok, each_made, parts_from}
 use Rattle.rubis_pieces.proofs.splits.split_parts.Goals as goal
 
@@ -28,7 +28,7 @@ returns g c =
     let many = length c.args.batch.now / 1024 + 1 in
     let whole : many - 0 ≡ many = omega arith in
     let long = length-map c.args.batch.now core in
-    let of_part : ℕ → Vec Share → Type 0 = λ k part. AreShares shards (first + k * 1024) (part_of (k * 1024) batch) part.items in
+    let of_part : ℕ → Vec Share → Type 0 = λ k part. AreShares shards (first + k * 1024) (batch_part (k * 1024) batch) part.items in
     if_ok c.in_ok-parts.parts _ _ _ h.2 (λ v made.
     let chain = rw (c.map.ensures.base, c.map.ensures.f, c.with_min_len.ensures.base) at h.1 in
     let numbers = chain.1 ∙ (λ i. nat_range (ends.0 i) (ends.1 i)) ∙ ap (range_with_len 0) whole in

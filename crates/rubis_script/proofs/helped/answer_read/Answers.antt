@@ -7,7 +7,7 @@ use Rattle.rubis_script.proofs.StretchFacts.{as-setup, sound-read}
 use Rattle.rubis_script.proofs.helped.answer_read.Goals as goal
 
 pub returns-in_err-ahead-clause-turns : goal.returns-in_err-ahead-clause-turns
-returns-in_err-ahead-clause-turns g c =
+returns-in_err-ahead-clause-turns g c l =
     ends_memory _ _ _ c.from_residual.result c.from_residual.ensures
     (λ later pending. (are_outlets g.W.Write.contents).torn_none _ c.args.writer.now)
 
@@ -20,24 +20,24 @@ answer_all-requires-clause-sound g c κs within =
     c.requires.read).0
 
 pub returns-in_err-answer_all-clause-turns : goal.returns-in_err-answer_all-clause-turns
-returns-in_err-answer_all-clause-turns g c =
+returns-in_err-answer_all-clause-turns g c l =
     let k = by_desk g.W.Write.contents in
     let x = at c.args.desk.now c.args.run.now c.args.writer.now in
     let text = take c.args.piece.many (held_text c.args.chunks.now) in
     let read = sound-read c.args.desk.now c.in_ok-ahead.ahead c.args.piece.list.items text c.in_ok-ahead.ensures c.requires.read in
     ends_on _ _ c.from_residual-in_err-answer_all.result c.in_err-answer_all.field-0.0 c.from_residual-in_err-answer_all.ensures absurd absurd
-    (λ breaks. chunk-each g.R.Read.remaining c.args.chunks.now c.args.piece.many text (λ r. k.tears (coming k x AtEnd r) x.outlet c.answer_all.new.writer)
+    (λ breaks. chunk-each l c.args.chunks.now c.args.piece.many text (λ r. k.tears (coming k x AtEnd r) x.outlet c.answer_all.new.writer)
     c.requires.chunk refl (breaks _ read.1).torn) c.in_err-answer_all.ensures.answered
 
 pub returns-clause-turns : goal.returns-clause-turns
-returns-clause-turns g c =
+returns-clause-turns g c l =
     let chunks = c.args.chunks.now in
     let many = c.args.piece.many in
     let text = take many (held_text chunks) in
     let read = sound-read c.args.desk.now c.in_ok-ahead.ahead c.args.piece.list.items text c.in_ok-ahead.ensures c.requires.read in
     let (goes, count) = c.in_ok-answer_all.ensures.answered in (
-      moves-taken text refl c.pass.ensures.takes c.pass.ensures.come (goes _ read.1),
+      moves-taken text refl (c.pass.ensures.takes l) (c.pass.ensures.come l) (goes _ read.1),
       omega (arith, count, c.len.ensures, c.if-len-left.false, c.requires.within),
-      nearer-more 0 (many - 1) 1 g.R.Read.remaining chunks chunks c.pass.new.self (omega (arith, c.requires.chunk.0))
-          (nearer-none g.R.Read.remaining chunks) c.pass.ensures.nearer,
+      nearer-more 0 (many - 1) 1 l chunks chunks c.pass.new.self (omega (arith, c.requires.chunk.0))
+          (nearer-none l chunks) (c.pass.ensures.nearer l),
     )

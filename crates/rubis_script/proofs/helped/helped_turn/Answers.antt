@@ -1,4 +1,5 @@
 use Rattle.rubis_script.proofs.Common.{◌∙◌, ap, refl, subst, sym, take, held_text, AreOf, ends_memory, at, are_outlets}
+use Rattle.rubis_engine.proofs.SeamFacts.{each-kept, each-same}
 use Rattle.rubis_script.specs.Runs.{AreHeld}
 use Rattle.rubis_script.proofs.StretchFacts.{as-setup, folded-turns, held-after, held-on, if-on, kept-more, read-held, read-on, takes-none, takes-one, setup-on}
 use Rattle.rubis_script.proofs.helped.helped_turn.Goals as goal
@@ -11,13 +12,13 @@ next-requires g c = (c.held.result.now, c.give_all.ensures.pieces)
 
 pub returns-in_err-give_all-clause-turns : goal.returns-in_err-give_all-clause-turns
 returns-in_err-give_all-clause-turns g c =
-    ends_memory _ _ _ c.from_residual.result c.from_residual.ensures
-    (λ later pending. (are_outlets g.W.Write.contents).torn_none _ c.args.writer.now)
+    each-same (λ text h. ends_memory _ _ _ c.from_residual.result c.from_residual.ensures
+    (λ later pending. (are_outlets g.W.Write.contents).torn_none _ c.args.writer.now))
 
 pub returns-in_err-piece-clause-turns : goal.returns-in_err-piece-clause-turns
 returns-in_err-piece-clause-turns g c =
-    ends_memory _ _ _ c.from_residual-in_err-piece.result c.from_residual-in_err-piece.ensures
-    (λ later pending. (are_outlets g.W.Write.contents).torn_none _ c.args.writer.now)
+    each-same (λ text h. ends_memory _ _ _ c.from_residual-in_err-piece.result c.from_residual-in_err-piece.ensures
+    (λ later pending. (are_outlets g.W.Write.contents).torn_none _ c.args.writer.now))
 
 pub returns-in_default-clause-held : goal.returns-in_default-clause-held
 returns-in_default-clause-held g c =
@@ -51,9 +52,9 @@ answer_read-requires-clause-read g c κs within =
 
 pub returns-clause-turns : goal.returns-clause-turns
 returns-clause-turns g c =
-    folded-turns g.W.Write.contents c.args.limit g.R.Read.remaining c.args.chunks.now c.answer_read.new.chunks
+    each-kept c.answer_read.ensures.reader (λ l. folded-turns g.W.Write.contents c.args.limit l c.args.chunks.now c.answer_read.new.chunks
     (at c.args.desk.now c.args.run.now c.args.writer.now) c.fold.new.desk (at c.answer_read.new.desk c.answer_read.new.run c.answer_read.new.writer)
-    c.answer_read.result c.fold.ensures.folded c.answer_read.ensures.turns
+    c.answer_read.result c.fold.ensures.folded (c.answer_read.ensures.turns l))
 
 pub returns-clause-held : goal.returns-clause-held
 returns-clause-held g c =

@@ -1,4 +1,5 @@
 use Rattle.std.proofs.Common.{◌≤◌}
+use Rattle.rubis_engine.specs.Seam.{OfEach}
 use Rattle.rubis_serving.specs.Serving.{MovesOn, at}
 use Rattle.rubis_script.specs.Runs.{by_desk, AreHeld, StayWith}
 use Rattle.rubis_script.proofs.helped.serve.Given as goal
@@ -10,5 +11,6 @@ invariant-loop g l = record {
   crews : StayWith l.fn.helpers l.helpers;
   held : AreHeld l.chunks l.desk l.helpers.pieces;
   within : l.run.answered ≤ l.limit;
-  moves : MovesOn (by_desk g.W.Write.contents) g.R.Read.remaining l.fn.chunks (at l.fn.desk l.fn.run l.fn.writer) l.chunks (at l.desk l.run l.writer);
+  moves : OfEach g.R.Read.remaining l.fn.chunks.reader l.chunks.reader (λ left. MovesOn (by_desk g.W.Write.contents) left l.fn.chunks
+      (at l.fn.desk l.fn.run l.fn.writer) l.chunks (at l.desk l.run l.writer));
 }

@@ -1,27 +1,30 @@
-use Rattle.rubis_script.proofs.Common.{subst, SiteState}
-use Rattle.rubis_serving.proofs.ServedFacts.{ends_led}
-use Rattle.rubis_script.specs.Desks.{LeadsSite, left_at}
-use Rattle.rubis_script.specs.Runs.{EndsWhole}
-use Rattle.rubis_script.proofs.EndFacts.{led_site}
+use Rattle.rubis_engine.specs.Seam.{left}
+use Rattle.rubis_reading.proofs.ChunkFacts.{over-input}
+use Rattle.rubis_script.proofs.LeadFacts.{as_process, ends_led, ends_run}
+use Rattle.rubis_script.proofs.EndFacts.{site_ends}
 use Rattle.rubis_script.proofs.run.run_chunks.Goals as goal
 
-pub returns-then-desk-eq0 : goal.returns-then-desk-eq0
-returns-then-desk-eq0 g c input all =
+pub returns-clause-run : goal.returns-clause-run
+returns-clause-run g c none input may =
+    let first = c.args.desk.now.site in
+    let new = c.run_planned.new.desk.site in
     let old = g.W.Write.contents c.args.writer.now in
-    let now = g.W.Write.contents c.run_service.new.writer in
-    subst (λ (s : SiteState). EndsWhole g.R.Read.remaining c.run_service.new.chunks c.args.limit s c.run_service.new.service.site old now input c.run_service.result)
-    c.start.ensures.site
-    (led_site g.R.Read.remaining c.run_service.new.chunks c.args.limit c.start.new.self c.run_service.new.service old now input c.run_service.result
-    c.start.ensures.fresh (c.run_service.ensures input all))
+    let now = g.W.Write.contents c.run_planned.new.writer in
+    ends_run c.args.limit first new input old now c.run_planned.result
+    (site_ends (left input) c.run_planned.new.chunks c.args.limit first new old now input c.run_planned.result
+    (over-input c.args.chunks.now c.run_planned.new.chunks c.run_planned.ensures none input may))
 
-pub returns : goal.returns
-returns g c input all =
+pub returns-clause-leads : goal.returns-clause-leads
+returns-clause-leads g c none input may =
+    let first = c.args.desk.now.site in
+    let new = c.run_planned.new.desk.site in
     let old = g.W.Write.contents c.args.writer.now in
-    let now = g.W.Write.contents c.run_helped.new.writer in
-    subst (λ (s : SiteState). EndsWhole g.R.Read.remaining c.run_helped.new.chunks c.args.limit s c.run_helped.new.desk.site old now input c.run_helped.result)
-    c.start.ensures.site
-    (led_site g.R.Read.remaining c.run_helped.new.chunks c.args.limit c.start.new.self c.run_helped.new.desk old now input c.run_helped.result
-    c.start.ensures.fresh
-    (ends_led left_at LeadsSite g.W.Write.contents g.R.Read.remaining c.args.chunks.now c.run_helped.new.chunks c.start.new.self c.run_helped.new.desk
-    c.new-run.result c.run_helped.new.run c.args.writer.now c.run_helped.new.writer c.args.limit input c.run_helped.result all c.new-run.ensures.empty
-    c.new-run.ensures.none c.run_helped.ensures))
+    let now = g.W.Write.contents c.run_planned.new.writer in
+    ends_led c.args.limit first new input old now c.run_planned.result
+    (site_ends (left input) c.run_planned.new.chunks c.args.limit first new old now input c.run_planned.result
+    (over-input c.args.chunks.now c.run_planned.new.chunks c.run_planned.ensures none input may))
+
+pub returns-clause-process : goal.returns-clause-process
+returns-clause-process g c opened none input may =
+    as_process c.args.desk.now.site c.run_planned.new.desk.site c.args.limit input (g.W.Write.contents c.args.writer.now)
+    (g.W.Write.contents c.run_planned.new.writer) c.run_planned.result opened (returns-clause-leads g c none input may)

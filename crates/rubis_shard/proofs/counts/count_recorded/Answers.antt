@@ -2,7 +2,7 @@ use Rattle.std.proofs.Common.{◌≡◌, ◌+◌, ◌≤◌, length, arith}
 use Rattle.rubis_schema.specs.declared.row_keys.RowKey.TheVariants as key
 use Rattle.rubis_shard.specs.Listed.{recorded_from}
 use Rattle.rubis_shard.specs.Rows.{kept_of}
-use Rattle.rubis_shard.specs.Chains.{written}
+use Rattle.rubis_shard.specs.Chains.{chain_written}
 use Rattle.rubis_shard.proofs.Counting.{recorded_in}
 use Rattle.rubis_shard.proofs.counts.count_recorded.Goals as goal
 
@@ -30,7 +30,7 @@ count_among-requires c =
     let all = recorded_in n r c.lens-lens.ensures in
     let users : c.count_among-users.result ≡ c.args.counted + length (recorded_from n (kept_of r.users)) = c.count_among-users.ensures in
     let others : c.count_among-others.result ≡ c.count_among-users.result + length (recorded_from n (kept_of r.others)) = c.count_among-others.ensures in
-    let bound : c.count_among-others.result + length (recorded_from n (written key.Cat r.cats.entries)) ≤ 18446744073709551615 =
+    let bound : c.count_among-others.result + length (recorded_from n (chain_written key.Cat r.cats.entries)) ≤ 18446744073709551615 =
     omega (arith, all, users, others, c.requires) in
     bound
 
@@ -41,5 +41,5 @@ returns c =
     let all = recorded_in n r c.lens-lens.ensures in
     let users : c.count_among-users.result ≡ c.args.counted + length (recorded_from n (kept_of r.users)) = c.count_among-users.ensures in
     let others : c.count_among-others.result ≡ c.count_among-users.result + length (recorded_from n (kept_of r.others)) = c.count_among-others.ensures in
-    let cats : c.count_among.result ≡ c.count_among-others.result + length (recorded_from n (written key.Cat r.cats.entries)) = c.count_among.ensures in
+    let cats : c.count_among.result ≡ c.count_among-others.result + length (recorded_from n (chain_written key.Cat r.cats.entries)) = c.count_among.ensures in
     omega (arith, all, users, others, cats)

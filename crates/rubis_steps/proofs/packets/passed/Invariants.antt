@@ -1,6 +1,6 @@
 use Rattle.std.proofs.Common.{◌≡◌, drop, max}
-use Rattle.rubis_carrier.specs.Shops.{passed}
+use Rattle.rubis_carrier.specs.Shops.{passed_turn}
 use Rattle.rubis_steps.proofs.packets.passed.Given as goal
 
 abbrev pub invariant-loop-packet : goal.invariant-loop-packet
-invariant-loop-packet l = max l.most (passed l.site (drop l.packet-index l.kept)) ≡ passed l.site l.kept
+invariant-loop-packet l = max l.most (passed_turn l.site (drop l.packet-index l.kept)) ≡ passed_turn l.site l.kept

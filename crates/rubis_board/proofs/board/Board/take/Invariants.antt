@@ -1,5 +1,5 @@
 use Rattle.std.proofs.Common.{◌≡◌, ◌<◌, []}
-use Rattle.rubis_board.specs.Rule.{known, state_of}
+use Rattle.rubis_board.specs.Rule.{known, board_state}
 use Rattle.rubis_board.proofs.board.Board.take.Given as goal
 
 abbrev pub invariant-loop : goal.invariant-loop
@@ -8,5 +8,5 @@ invariant-loop g l = record {
   ends : (goal.iterator-loop g).is_finite l.iterator';
   none_out : l.pass-inside.seat.me.1 ≡ [];
   some_part : 0 < (known l.pass-inside.seat).parts;
-  same : state_of l.pass-inside.seat ≡ l.fn.pass;
+  same : board_state l.pass-inside.seat ≡ l.fn.pass;
 }

@@ -1,7 +1,7 @@
 use Rattle.rubis_keep.proofs.Common.{◌≡◌, ◌&&◌, ◌∙◌, ◌++◌, ◌∷◌, ◌+◌, [], ap, append_assoc, false, refl, rules, sym, take, true, ne_eqb, append-nil}
 use Rattle.rubis_keep.specs.Lines.{begun_after, is_question, is_sound, kept_record}
 use Rattle.rubis_keep.proofs.SoundFacts.{cut-ended, cut-next, cut-none, cut-pushed, cut-stays}
-use Rattle.rubis_keep.proofs.lines.LineCutter.take.Goals.{then-len-le-LINE_MAX+in_ok-push, else-len-le-LINE_MAX, else-asks-via-then-asks+else-eq}
+use Rattle.rubis_keep.proofs.lines.LineCutter.take.Goals.{then-len-le-KEYED_MAX+in_ok-push, else-len-le-KEYED_MAX, else-asks-via-then-asks+else-eq}
 use Rattle.rubis_keep.proofs.lines.LineCutter.take.Goals.{else-asks-via-else-asks, then-is_sound+in_ok-extend_from_slice-2+in_ok-push-2}
 use Rattle.rubis_keep.proofs.lines.LineCutter.take.Goals.{else-is_sound+in_ok-extend_from_slice-3}
 use Rattle.rubis_keep.proofs.lines.LineCutter.take.Goals as goal
@@ -18,11 +18,11 @@ loop-byte-preserved-then-byte-ne10 c =
       cut = λ line h.
           let before = c.loop-byte.invariant.cut line h in
           let more = begun_after line (take i piece) in
-          elim c.if-len-le-LINE_MAX.branch [
-            | then-len-le-LINE_MAX+in_ok-push w ↦
+          elim c.if-len-le-KEYED_MAX.branch [
+            | then-len-le-KEYED_MAX+in_ok-push w ↦
                 rw w.self-inside-is (cut-next piece i (search rules) before
                 (cut-pushed c.args.asks more _ _ _ (ne_eqb _ 10 c.if-byte-ne10.true) before.begins (search rules) w.in_ok-push.ensures.items))
-            | else-len-le-LINE_MAX w ↦
+            | else-len-le-KEYED_MAX w ↦
                 rw w.self-inside-is (cut-next piece i (search rules) before
                 (cut-stays c.args.asks more _ _ _ (ne_eqb _ 10 c.if-byte-ne10.true) before.begins (search rules)))
           ];

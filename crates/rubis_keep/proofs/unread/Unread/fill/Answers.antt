@@ -1,6 +1,6 @@
 use Rattle.rubis_keep.proofs.Common.{◌≡◌, ◌∙◌, ◌-◌, [], ap, arith, drop, length, rules, subst, sym, take, Consumes}
 use Rattle.std.proofs.lemmas.List.{with_items_is}
-use Rattle.rubis_keep.specs.Turns.{left_of}
+use Rattle.rubis_keep.specs.Turns.{left_to_read}
 use Rattle.rubis_keep.proofs.LeftFacts.{left-filled}
 use Rattle.rubis_keep.proofs.unread.Unread.fill.Goals as goal
 
@@ -17,6 +17,6 @@ returns-in-Ok-clause-same g c =
     first_of (search rules, grind (arith, rules), omega (arith, c.deref_mut.ensures.len, c.self-2.inside.piece.ok.0)) in
     let back = with_items_is c.self-2.inside.piece c.read_through_signals.new.buf size in
     rw back
-    (subst (λ u. Consumes (left_of c.args.self.now old) (left_of u new) []) (ap (λ n. take n c.read_through_signals.new.buf) (sym same))
-    (subst (λ s. Consumes (left_of s old) (left_of (take given c.read_through_signals.new.buf) new) []) (sym empty)
+    (subst (λ u. Consumes (left_to_read c.args.self.now old) (left_to_read u new) []) (ap (λ n. take n c.read_through_signals.new.buf) (sym same))
+    (subst (λ s. Consumes (left_to_read s old) (left_to_read (take given c.read_through_signals.new.buf) new) []) (sym empty)
     (left-filled (take given c.read_through_signals.new.buf) old new c.in-Ok.ensures.bytes.0)))

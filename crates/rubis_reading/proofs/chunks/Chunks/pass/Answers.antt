@@ -3,8 +3,8 @@ use Rattle.rubis_reading.proofs.ChunkFacts.{handed-come, taken}
 use Rattle.rubis_reading.proofs.chunks.Chunks.pass.Goals as goal
 
 pub returns-clause-takes : goal.returns-clause-takes
-returns-clause-takes g c rows h =
-    let known = g.R.Read.remaining c.args.self.now.reader in
+returns-clause-takes g c left rows h =
+    let known = left c.args.self.now.reader in
     let t = taken c.args.self.now.held h.bytes known c.args.many c.requires.some c.requires.within c.requires.whole h.source in (
       input_records t.0,
       h.reads ∙ t.2,
@@ -12,11 +12,11 @@ returns-clause-takes g c rows h =
     )
 
 pub returns-clause-come : goal.returns-clause-come
-returns-clause-come g c input h =
-    handed-come g.R.Read.remaining c.args.self.now (record { reader = c.args.self.now.reader; held = c.pass.new.self; size = c.args.self.now.size }) c.args.many input
+returns-clause-come g c left input h =
+    handed-come left c.args.self.now (record { reader = c.args.self.now.reader; held = c.pass.new.self; size = c.args.self.now.size }) c.args.many input
     refl c.pass.ensures c.requires.some c.requires.within c.requires.whole h
 
 pub returns-clause-nearer : goal.returns-clause-nearer
-returns-clause-nearer g c left e =
+returns-clause-nearer g c rem left e =
     let held = c.args.self.now.held in
     (left, e, omega (arith, ap length c.pass.ensures, length-drop (c.args.many - 1) held, c.requires.within))

@@ -1,7 +1,7 @@
 use Rattle.rubis_release.proofs.Common.{◌≡◌, ◌+◌, length, refl, sym, ap, ◌∙◌, subst, arith, Option, Some, None, slice_get, set_value_at, Message}
 use Rattle.std.specs.Prelude.{MatchOption}
 use Rattle.rubis_release.specs.Release.{AllAmong, NoneReady}
-use Rattle.rubis_release.specs.Waiting.{AreSlots, NoneTaken, TakesFirst, somes}
+use Rattle.rubis_release.specs.Waiting.{AreSlots, NoneTaken, TakesFirstReady, somes}
 use Rattle.rubis_release.proofs.Slots.{nothing_waits, nothing_ready, none_of_slots, taken_first, slots_stay, values_at, un_some, no_some}
 use Rattle.rubis_release.proofs.waiting.Waiting.take_ready.Goals as goal
 
@@ -19,7 +19,7 @@ pub returns-in_err-at : goal.returns-in_err-at
 returns-in_err-at c =
     let k = c.args.clock.now in
     let es = c.self.inside.slots.entries in
-    subst (λ (o : Option Message). MatchOption o (NoneTaken k c.args.self.now c.args.self.now) (λ m. TakesFirst k c.args.self.now m c.args.self.now))
+    subst (λ (o : Option Message). MatchOption o (NoneTaken k c.args.self.now c.args.self.now) (λ m. TakesFirstReady k c.args.self.now m c.args.self.now))
     (sym c.from_residual.ensures) (
       subst (NoneReady k) c.self.view_is
           (none_of_slots k es (length k.counts) (subst (AllAmong (length k.counts)) (sym c.self.view_is) c.requires) c.in_err-at.ensures),
@@ -66,7 +66,7 @@ returns c =
     let k = c.args.clock.now in
     let es = c.self.inside.slots.entries in
     let m = c.in-Some-take.message in
-    subst (TakesFirst k c.args.self.now m) (sym c.close_many_gaps.ensures)
-    (subst (λ (v : Option Message). TakesFirst k c.args.self.now m (somes (set_value_at es c.in_ok-at.at v))) (sym c.take.ensures.after)
-    (subst (λ old. TakesFirst k old m (somes (set_value_at es c.in_ok-at.at None))) c.self.view_is
+    subst (TakesFirstReady k c.args.self.now m) (sym c.close_many_gaps.ensures)
+    (subst (λ (v : Option Message). TakesFirstReady k c.args.self.now m (somes (set_value_at es c.in_ok-at.at v))) (sym c.take.ensures.after)
+    (subst (λ old. TakesFirstReady k old m (somes (set_value_at es c.in_ok-at.at None))) c.self.view_is
     (taken_first k es (length k.counts) c.in_ok-at.at r.key m (subst (AllAmong (length k.counts)) (sym c.self.view_is) c.requires) there c.in_ok-at.ensures)))

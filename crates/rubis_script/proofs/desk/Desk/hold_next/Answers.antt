@@ -1,7 +1,7 @@
 use Rattle.std.proofs.Common.{◌≡◌, ◌∙◌, ◌++◌, ◌+◌, ◌∷◌, [], ap, sym}
 use Rattle.std.specs.Result.{is_ok}
 use Rattle.rubis_script.specs.Desks.{left_at}
-use Rattle.rubis_script.specs.Windows.{held_by}
+use Rattle.rubis_script.specs.Windows.{made_of_held}
 use Rattle.rubis_script.proofs.DeskFacts.{held-pushed}
 use Rattle.rubis_script.proofs.LeadFacts.{settled_steps}
 use Rattle.rubis_script.proofs.WindowFacts.{holds_more, kept_answers}
@@ -28,7 +28,7 @@ returns-clause-takes g c =
     let place = c.in_ok-make_room.ensures.same.0 in
     let items : c.push.new.self.items ≡ left ++ c.args.message ∷ [] = rw c.if-is_err.ensures.negation at c.push.ensures.items in
     record {
-      text = λ fields is. kept_answers (left_at d n) (held_by mid.site left mid.first n) (held_by mid.site c.push.new.self.items mid.first (n + 1))
+      text = λ fields is. kept_answers (left_at d n) (made_of_held mid.site left mid.first n) (made_of_held mid.site c.push.new.self.items mid.first (n + 1))
           sink sink2 sink2 fields (kept.text n)
           (rw items (holds_more mid.site mid.first n left c.args.message fields sink2 c.in_ok-make_room.ensures.next.0 (rw place is)));
       leads = settled_steps d.site mid.site n d.window.items left c.push.new.self.items c.args.message kept.leads items;

@@ -1,6 +1,6 @@
 use Rattle.rubis_shard.proofs.Common.{◌≡◌, ◌+◌, ◌++◌, ◌∷◌, [], suc, length-append, take, sym, ap, subst, ◌∙◌, arith, option_map, Option, Some}
 use Rattle.rubis_shard.proofs.Common.{deref_pair, row_key, IdKey}
-use Rattle.rubis_shard.specs.Chains.{chains_of, Links, written}
+use Rattle.rubis_shard.specs.Chains.{chains_of, Links, chain_written}
 use Rattle.rubis_shard.proofs.Linking.{chain_at, chains_length, linked_links, take_next}
 use Rattle.rubis_shard.proofs.chains.Chains.link.Goals as goal
 
@@ -10,13 +10,13 @@ loop-at-init c =
     record {
       size = sym c.len-at.ensures;
       below = omega (arith, c.len-at.ensures, c.requires.many, chains_length row_key es, c.len-at-end.ensures.len);
-      links = subst (λ k. Links (take k (chains_of (written row_key es))) c.args.self.now) (sym c.len-at.ensures) c.requires.links;
+      links = subst (λ k. Links (take k (chains_of (chain_written row_key es))) c.args.self.now) (sym c.len-at.ensures) c.requires.links;
     }
 
 pub loop-at-preserved : goal.loop-at-preserved
 loop-at-preserved c =
     let es = c.args.rows.now.entries in
-    let cs = chains_of (written row_key es) in
+    let cs = chains_of (chain_written row_key es) in
     let at = c.loop-at.at in
     let held = c.loop-at.invariant in
     let here = chain_at row_key es at c.in-Some.key.now c.in-Some.row.now (sym c.get_index.ensures.entry ∙ ap (option_map deref_pair) c.in-Some.is)
@@ -33,14 +33,14 @@ pub returns-in_err-push-clause-linked : goal.returns-in_err-push-clause-linked
 returns-in_err-push-clause-linked c =
     let es = c.args.rows.now.entries in
     let held = c.loop-at.invariant in
-    linked_links (chains_of (written row_key es)) c.loop-at.at c.push.new.self (c.in_err-push.ensures.err _ held.links)
+    linked_links (chains_of (chain_written row_key es)) c.loop-at.at c.push.new.self (c.in_err-push.ensures.err _ held.links)
     (omega (arith, held.below, chains_length row_key es, c.len-at-end.ensures.len))
 
 pub returns-clause-linked : goal.returns-clause-linked
 returns-clause-linked c =
     let es = c.args.rows.now.entries in
     let held = c.loop-at.invariant in
-    linked_links (chains_of (written row_key es)) c.loop-at.at c.loop-at.self held.links
+    linked_links (chains_of (chain_written row_key es)) c.loop-at.at c.loop-at.self held.links
     (omega (arith, held.below, chains_length row_key es, c.len-at-end.ensures.len))
 
 pub returns-clause-all : goal.returns-clause-all

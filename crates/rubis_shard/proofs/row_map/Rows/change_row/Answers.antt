@@ -1,4 +1,4 @@
-use Rattle.rubis_shard.proofs.Common.{◌≡◌, true, false, sym, ap, subst, ◌∙◌, refl, bytes_eq, nat_eq, row_key, same_id_key, FreesOnlyNicks, IsNick}
+use Rattle.rubis_shard.proofs.Common.{◌≡◌, true, false, sym, ap, subst, ◌∙◌, refl, bytes_eq, nat_eq, row_key, same_id_key, FreesOnlyNicks, IsNickKey}
 use Rattle.rubis_shard.proofs.Common.{Effect}
 use Rattle.std.specs.FinMap as map
 use Rattle.rubis_shard.specs.Chains.{is_user}
@@ -23,7 +23,7 @@ unfolding found_at
 returns-in-User-clause-tables c =
     let s = c.args.self.now in
     let e : Effect = record { key = c.args.key.now; change = c.args.change.now; frees = c.requires.frees } in
-    let other : ¬ IsNick e.key = subst (λ k. ¬ IsNick k) c.in-User.ensures.key (kept_is_no_nick c.in-User.id) in
+    let other : ¬ IsNickKey e.key = subst (λ k. ¬ IsNickKey k) c.in-User.ensures.key (kept_is_no_nick c.in-User.id) in
     let r : Four = record {
       users = c.alter.new.self.rows.entries;
       others = s.others.rows.entries;
@@ -47,7 +47,7 @@ unfolding found_at
 returns-in-User-clause-misfit c =
     let s = c.args.self.now in
     let e : Effect = record { key = c.args.key.now; change = c.args.change.now; frees = c.requires.frees } in
-    let other : ¬ IsNick e.key = subst (λ k. ¬ IsNick k) c.in-User.ensures.key (kept_is_no_nick c.in-User.id) in
+    let other : ¬ IsNickKey e.key = subst (λ k. ¬ IsNickKey k) c.in-User.ensures.key (kept_is_no_nick c.in-User.id) in
     changed_misfit same_id_key s.users.rows.entries c.alter.new.self.rows.entries c.in-User.id e c.alter.result c.alter.ensures.none
     (altered same_id_key s.users.rows.entries c.alter.new.self.rows.entries c.in-User.id e.change c.alter.result c.alter.ensures.none
     c.alter.ensures.some (λ was. row_stays_at e.key e.change was other e.frees))
@@ -72,7 +72,7 @@ unfolding found_at
 returns-in-Other-clause-tables c =
     let s = c.args.self.now in
     let e : Effect = record { key = c.args.key.now; change = c.args.change.now; frees = c.requires.frees } in
-    let other : ¬ IsNick e.key = subst (λ k. ¬ IsNick k) c.in-Other.ensures.key (kept_is_no_nick c.in-Other.id) in
+    let other : ¬ IsNickKey e.key = subst (λ k. ¬ IsNickKey k) c.in-Other.ensures.key (kept_is_no_nick c.in-Other.id) in
     let r : Four = record {
       users = s.users.rows.entries;
       others = c.alter-in-Other.new.self.rows.entries;
@@ -97,7 +97,7 @@ unfolding found_at
 returns-in-Other-clause-misfit c =
     let s = c.args.self.now in
     let e : Effect = record { key = c.args.key.now; change = c.args.change.now; frees = c.requires.frees } in
-    let other : ¬ IsNick e.key = subst (λ k. ¬ IsNick k) c.in-Other.ensures.key (kept_is_no_nick c.in-Other.id) in
+    let other : ¬ IsNickKey e.key = subst (λ k. ¬ IsNickKey k) c.in-Other.ensures.key (kept_is_no_nick c.in-Other.id) in
     changed_misfit same_id_key s.others.rows.entries c.alter-in-Other.new.self.rows.entries c.in-Other.id e c.alter-in-Other.result
     c.alter-in-Other.ensures.none
     (altered same_id_key s.others.rows.entries c.alter-in-Other.new.self.rows.entries c.in-Other.id e.change c.alter-in-Other.result
@@ -140,7 +140,7 @@ unfolding found_at
 returns-in-Cat-clause-tables c =
     let s = c.args.self.now in
     let e : Effect = record { key = c.args.key.now; change = c.args.change.now; frees = c.requires.frees } in
-    let other : ¬ IsNick e.key = subst (λ k. ¬ IsNick k) c.in-Cat.ensures.key (λ nick. nick) in
+    let other : ¬ IsNickKey e.key = subst (λ k. ¬ IsNickKey k) c.in-Cat.ensures.key (λ nick. nick) in
     let r : Four = record {
       users = s.users.rows.entries;
       others = s.others.rows.entries;
@@ -163,7 +163,7 @@ unfolding found_at
 returns-in-Cat-clause-misfit c =
     let s = c.args.self.now in
     let e : Effect = record { key = c.args.key.now; change = c.args.change.now; frees = c.requires.frees } in
-    let other : ¬ IsNick e.key = subst (λ k. ¬ IsNick k) c.in-Cat.ensures.key (λ nick. nick) in
+    let other : ¬ IsNickKey e.key = subst (λ k. ¬ IsNickKey k) c.in-Cat.ensures.key (λ nick. nick) in
     changed_misfit nat_eq s.cats.entries c.alter_in.new.rows.entries c.in-Cat.cat e c.alter_in.result c.alter_in.ensures.none
     (altered nat_eq s.cats.entries c.alter_in.new.rows.entries c.in-Cat.cat e.change c.alter_in.result c.alter_in.ensures.none c.alter_in.ensures.some
     (λ was. row_stays_at e.key e.change was other e.frees))

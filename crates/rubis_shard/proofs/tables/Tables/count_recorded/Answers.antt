@@ -1,6 +1,6 @@
 use Rattle.rubis_shard.proofs.Common.{rules, arith, ◌≡◌, ◌<◌, ◌≤◌, List, length, sym, ap, ◌∙◌, slice_index_or}
 use Rattle.std.specs.FinMap as map
-use Rattle.rubis_shard.specs.Listed.{number_of, recorded_from, recorded_of}
+use Rattle.rubis_shard.specs.Listed.{number_of_table, recorded_from, recorded_of}
 use Rattle.rubis_shard.specs.Holdings.{union}
 use Rattle.rubis_shard.specs.States.{ShardState}
 use Rattle.rubis_shard.proofs.Counting.{recorded_by_shard, shards_end, shards_more, union_recorded}
@@ -11,7 +11,7 @@ count_recorded-count-requires c =
     let n = c.number_of-first.result in
     let ts : List ShardState = c.deref-shard-items.result.now in
     let at = c.loop-shard.shard-index in
-    let whole : length (recorded_from (number_of c.args.first) (map.entries (union c.args.self.now))) ≡ recorded_by_shard n ts =
+    let whole : length (recorded_from (number_of_table c.args.first) (map.entries (union c.args.self.now))) ≡ recorded_by_shard n ts =
     ap (λ k. length (recorded_from k (map.entries (union c.args.self.now)))) (sym c.number_of-first.ensures)
     ∙ ap (λ (us : List ShardState). length (recorded_from n (map.entries (union us)))) (sym c.self.view_is)
     ∙ union_recorded n c.self.inside.shards.items c.self.invariant
@@ -38,7 +38,7 @@ returns c =
     let n = c.number_of-first.result in
     let ts : List ShardState = c.deref-shard-items.result.now in
     let at = c.loop-shard.shard-index in
-    let whole : length (recorded_from (number_of c.args.first) (map.entries (union c.args.self.now))) ≡ recorded_by_shard n ts =
+    let whole : length (recorded_from (number_of_table c.args.first) (map.entries (union c.args.self.now))) ≡ recorded_by_shard n ts =
     ap (λ k. length (recorded_from k (map.entries (union c.args.self.now)))) (sym c.number_of-first.ensures)
     ∙ ap (λ (us : List ShardState). length (recorded_from n (map.entries (union us)))) (sym c.self.view_is)
     ∙ union_recorded n c.self.inside.shards.items c.self.invariant

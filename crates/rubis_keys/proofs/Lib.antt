@@ -1,0 +1,7 @@
+mod MapFacts
+mod RowFacts
+pub mod BareFacts
+pub mod KnownFacts
+mod StepFacts
+mod TakeFacts
+mod KeyedRunFacts

@@ -1,0 +1,6 @@
+pub mod KeyForms
+pub mod Keys
+pub mod Maps
+pub mod Laws
+pub mod Desks
+pub mod KeyedRuns
