@@ -12,8 +12,8 @@ HEAD = """# What the proof of each crate takes from nothing with four jobs: seco
 # What a crate is taken for that wasn't measured: the seconds before its functions and after them, those for each function, and how many processors.
 FRONT, OF_FUNCTION, WIDTH, TAIL = 30.0, 5.0, 3.0, 25.0
 # Which share of the time for its functions one job takes, since it loads the libraries once, and each of four does in each wave of functions that
-# call those before. Measured: 0.49 of rubis_workers, and 0.57 of rubis_pieces. A proof that keeps fewer processors busy than this gets one job.
-ONE_JOB, WIDE = 0.55, 2.0
+# call those before. Measured: 0.49 to 0.67 of four crates. A proof that keeps fewer processors busy than this gets one job.
+ONE_JOB, WIDE = 0.6, 2.0
 BEFORE = 60.0       # seconds that count as if they had gone as they were measured: a run says too little of the machine before
 
 

@@ -9,8 +9,6 @@ mod laws;
 mod post;
 mod results;
 mod rule;
-#[cfg(test)]
-mod tests;
 
 pub use both::Both;
 pub use crew::{Crew, Found, Helper, Lead};

@@ -22,8 +22,8 @@ const JOBS: u32 = 10;
 
 // A number to be doubled.
 #[derive(Drop)]
-struct Doubling {
-    number: u32,
+pub(crate) struct Doubling {
+    pub(crate) number: u32,
 }
 
 impl Job for Doubling {

@@ -1,5 +1,8 @@
 use Rattle.std.proofs.Common.{◌≡◌}
-use Rattle.rubis_crew.proofs.tests.give_one.Given as goal
+use Rattle.rubis_tests.proofs.one_crew.give_all.Given as goal
+
+abbrev pub invariant-loop-number : goal.invariant-loop-number
+invariant-loop-number g l = l.lead.crew ≡ l.crew.id
 
 abbrev pub invariant-loop : goal.invariant-loop
 invariant-loop g l = record {

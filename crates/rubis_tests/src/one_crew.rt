@@ -1,32 +1,13 @@
-//! Jobs that are given while two helpers work.
+//! A test of one crew, whose jobs are given while two helpers work.
 
 ghost use Rattle.std.specs.Prelude.{◌≡◌, true, []};
 
-use crate::{Crew, Helper, Job, Lead};
+use crate::two_crews::Doubling;
+use rubis_crew::{Crew, Helper, Lead};
 use std::sync::Wait;
 use std::test::*;
 use std::thread;
 use std::thread::Threads;
-
-// A number to be doubled.
-#[derive(Drop)]
-struct Double {
-    number: u32,
-}
-
-impl Job for Double {
-    type Output = u64;
-
-    ghost use Rattle.std.specs.Prelude.{◌≡◌, ◌*◌, ⊤};
-
-    ghost Fits = { λ double. ⊤ };
-
-    ghost Worked = { λ double result. result ≡ 2 * double.number };
-
-    fn work<R: Wait>(self, _rt: &R) -> u64 {
-        2 * u64::from(self.number)
-    }
-}
 
 // How many results came back, and their sum.
 #[derive(Drop)]
@@ -36,7 +17,12 @@ struct Returned {
 }
 
 // Counts a result that came back, or that of a job that no helper has taken.
-fn count_one<R: Wait>(rt: &R, crew: &Crew<Double>, lead: &mut Lead<Double>, tally: &mut Returned)
+fn count_one<R: Wait>(
+    rt: &R,
+    crew: &Crew<Doubling>,
+    lead: &mut Lead<Doubling>,
+    tally: &mut Returned,
+)
     requires { lead.old.crew ≡ crew.now.id }
     ensures { lead.new.crew ≡ crew.now.id }
 {
@@ -56,8 +42,8 @@ fn count_one<R: Wait>(rt: &R, crew: &Crew<Double>, lead: &mut Lead<Double>, tall
 // Gives a job, as soon as there is room.
 fn give_one<R: Wait>(
     rt: &R,
-    crew: &Crew<Double>,
-    lead: &mut Lead<Double>,
+    crew: &Crew<Doubling>,
+    lead: &mut Lead<Doubling>,
     number: u32,
     tally: &mut Returned,
 )
@@ -65,7 +51,7 @@ fn give_one<R: Wait>(
     ensures { lead.new.crew ≡ crew.now.id }
 {
     for _ in rt.forever() {
-        if crew.give(rt, lead, Double { number }).is_ok() {
+        if crew.give(rt, lead, Doubling { number }).is_ok() {
             return;
         }
         count_one(rt, crew, lead, tally);
@@ -75,10 +61,10 @@ fn give_one<R: Wait>(
 // Gives that many jobs, and counts their results until all are back.
 fn give_all<R: Wait>(
     rt: &R,
-    crew: &Crew<Double>,
-    mut lead: Lead<Double>,
+    crew: &Crew<Doubling>,
+    mut lead: Lead<Doubling>,
     jobs: u32,
-) -> (Returned, Lead<Double>)
+) -> (Returned, Lead<Doubling>)
     requires { lead.crew ≡ crew.now.id }
     ensures { (result.1.crew ≡ crew.now.id) × (result.1.ended ≡ true) × (result.1.given ≡ []) }
 {
@@ -99,9 +85,9 @@ fn give_all<R: Wait>(
 // Two helpers at work, until no more jobs come.
 fn help_both<R: Threads + Wait + Sync>(
     rt: &R,
-    crew: &Crew<Double>,
-    mut first: Helper<Double>,
-    mut second: Helper<Double>,
+    crew: &Crew<Doubling>,
+    mut first: Helper<Doubling>,
+    mut second: Helper<Doubling>,
 )
     requires first { (first.crew ≡ crew.now.id) × (first.paid ≡ first.taken) }
     requires second { (second.crew ≡ crew.now.id) × (second.paid ≡ second.taken) }
@@ -119,7 +105,7 @@ fn help_both<R: Threads + Wait + Sync>(
 
 #[test]
 fn each_result_comes_back_once(rt: HostRuntime) -> Result<(), Fail> {
-    let (crew, mut lead) = Crew::<Double>::new(&rt, rt.alloc(), 8, 2)?;
+    let (crew, mut lead) = Crew::<Doubling>::new(&rt, rt.alloc(), 8, 2)?;
     let mut first = crew.helper(&mut lead);
     let second = crew.another(&mut first);
     let ((), (tally, lead)) = thread::join(
