@@ -11,8 +11,7 @@ use Rattle.rubis_message.specs.declared.inputs.Input.{Input}
 use Rattle.rubis_message.specs.declared.inputs.Input.TheVariants.{Neither}
 use Rattle.rubis_model.specs.Site.{input_step}
 use Rattle.rubis_keys.proofs.BareFacts.{key_is_neither, plain_is}
-use Rattle.rubis_keys.specs.KeyForms.{is_key}
-use Rattle.rubis_keys.specs.Keys.{Keys, keyed_step, under}
+use Rattle.rubis_keys.specs.Keys.{Keys, is_key, keyed_step, under}
 use Rattle.rubis_script.specs.Replica.{SiteState}
 use Rattle.rubis_keys.specs.declared.inputs.KeyedInput.{KeyedInput}
 use Rattle.rubis_keys.specs.declared.inputs.KeyedInput.TheVariants.{Plain, AskedUnder, CameUnder}

@@ -11,8 +11,7 @@ use Rattle.rubis_message.specs.declared.requests.Request.TheVariants as request
 use Rattle.rubis_message.specs.declared.tokens.Packet.TheVariants as packet
 use Rattle.rubis_model.specs.Processes.{site_after}
 use Rattle.rubis_model.specs.Site.{Place, Replica, asked, input_step}
-use Rattle.rubis_keys.specs.KeyForms.{is_key}
-use Rattle.rubis_keys.specs.Keys.{KeyedSite, ask_step, is_red_ask, keyed_after, keyed_answers, keyed_input, keyed_step, noted_made, under}
+use Rattle.rubis_keys.specs.Keys.{KeyedSite, ask_step, is_key, is_red_ask, keyed_after, keyed_answers, keyed_input, keyed_step, noted_made, under}
 use Rattle.rubis_keys.specs.Laws.{bare_of, bare_records}
 use Rattle.rubis_keys.specs.declared.inputs.KeyedInput.{KeyedInput}
 use Rattle.rubis_keys.specs.declared.inputs.KeyedInput.TheVariants.{Plain, AskedUnder, CameUnder}

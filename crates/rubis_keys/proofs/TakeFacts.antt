@@ -5,7 +5,7 @@ use Rattle.rubis_message.specs.Inputs.{input_of}
 use Rattle.rubis_model.specs.Site.{answers, input_step}
 use Rattle.rubis_replica.specs.State.{after_all}
 use Rattle.rubis_engine.proofs.RunFacts.{front-longer}
-use Rattle.rubis_engine.specs.Accounts.{Ending, Keeps, LeadsAlike}
+use Rattle.rubis_engine.specs.Accounts.{AnswersRecord, Ending, Keeps, LeadsAlike}
 use Rattle.rubis_engine.specs.Accounts.Ending.{AtEnd}
 use Rattle.rubis_engine.specs.Progress.{AppendsFront, BreaksOff, WritesRecord}
 use Rattle.rubis_engine.specs.Text.{rows_text}
@@ -13,7 +13,7 @@ use Rattle.rubis_engine.specs.declared.service.Course.TheVariants.{GoesOn}
 use Rattle.rubis_script.specs.Desks.{TakesHeld, WritesNext, WritesPrefixFrom}
 use Rattle.rubis_script.specs.Windows.{window_rows}
 use Rattle.rubis_script.specs.declared.desk.Desk.{Desk}
-use Rattle.rubis_keys.specs.Desks.{HoldsAsBefore, LeadsKeyed, Steps, TakesKeyed, keyed_at, keyed_left_at, standing_at}
+use Rattle.rubis_keys.specs.Desks.{HoldsAsBefore, LeadsKeyed, Steps, keyed_at, keyed_left_at, standing_at}
 use Rattle.rubis_keys.specs.Keys.{KeyedSite, keyed_after, keyed_answers, keyed_input, keyed_step}
 use Rattle.rubis_keys.specs.Maps.{known_in}
 use Rattle.rubis_keys.specs.declared.desk.KeyedDesk.{KeyedDesk}
@@ -27,6 +27,13 @@ abbrev pub held_rows : {T : Type 0} → Desk T → List (List (List ℕ))
 held_rows d = window_rows d.site.place d.site.state d.first d.window.items
 
 -- ---- a record
+
+-- the record with that number, which is that, was answered or is held
+pub record TakesKeyed {T : Type 0} (read : KeyedInput) (number : ℕ) (old new : KeyedDesk T) (sink sink2 : List ℕ) : Type 0 where
+  pub text : (fields : List (List ℕ)) → keyed_input old.desk.site.place.sites fields ≡ read
+      → AnswersRecord GoesOn (keyed_left_at old number) (keyed_left_at new (number + 1)) sink sink2 fields
+  pub place : new.desk.site.place ≡ old.desk.site.place
+  pub leads : keyed_at new ≡ (keyed_step old.desk.site.place (keyed_at old) number read).0
 
 -- of what was told of it, and of where it led, follows what is told and led of any records behind it
 pub takes : {T : Type 0} (d d2 : KeyedDesk T) (read : KeyedInput) (n : ℕ) (sink sink2 : List ℕ) → d2.desk.site.place ≡ d.desk.site.place

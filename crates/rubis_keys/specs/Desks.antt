@@ -6,18 +6,15 @@ use Rattle.rubis_message.specs.declared.inputs.Input.TheVariants.{Neither}
 use Rattle.rubis_message.specs.declared.requests.Request.TheVariants as request
 use Rattle.rubis_message.specs.declared.tokens.Packet.TheVariants as packet
 use Rattle.rubis_model.specs.Site.{Place}
-use Rattle.rubis_replica.specs.State.{SiteState, after_all}
-use Rattle.rubis_engine.specs.Accounts.{Account, AnswersRecord}
+use Rattle.rubis_replica.specs.State.{after_all}
+use Rattle.rubis_engine.specs.Accounts.{Account}
 use Rattle.rubis_engine.specs.Text.{rows_text}
-use Rattle.rubis_engine.specs.declared.service.Course.TheVariants.{GoesOn}
 use Rattle.rubis_script.specs.Desks as desk
 use Rattle.rubis_script.specs.Windows.{window_rows}
 use Rattle.rubis_script.specs.declared.plan.Plan.{Plan}
-use Rattle.rubis_keys.specs.KeyForms.{is_key}
-use Rattle.rubis_keys.specs.Keys.{KeyedSite, keyed_after, keyed_answers, keyed_input, keyed_step, under}
+use Rattle.rubis_keys.specs.Keys.{KeyedSite, is_key, keyed_after, keyed_answers, keyed_input, keyed_step, under}
 use Rattle.rubis_keys.specs.Maps.{known_in}
 use Rattle.rubis_keys.specs.declared.desk.KeyedDesk.{KeyedDesk}
-use Rattle.rubis_keys.specs.declared.keys.KeyMaps.{KeyMaps as Maps}
 use Rattle.rubis_keys.specs.declared.inputs.KeyedInput.{KeyedInput}
 use Rattle.rubis_keys.specs.declared.inputs.KeyedInput.TheVariants.{Plain, AskedUnder, CameUnder}
 
@@ -41,13 +38,9 @@ pub record IsUnder (sites : ℕ) (key : List ℕ) (rest : List (List ℕ)) (read
 
 -- ---- at a desk
 
--- a site, and what it knows
-abbrev pub knowing : SiteState → Maps → KeyedSite
-knowing s maps = record { site = s.state; keys = known_in maps }
-
 -- the site at a desk as it is, and what it knows
 abbrev pub standing_at : {T : Type 0} → KeyedDesk T → KeyedSite
-standing_at d = knowing d.desk.site d.keys
+standing_at d = record { site = d.desk.site.state; keys = known_in d.keys }
 
 -- record n was answered as the step says, and the site and what it knows are what the step makes of them; where it is said to have changed
 -- nothing, they are what they were
@@ -56,13 +49,9 @@ pub record Steps {T : Type 0} (read : KeyedInput) (n : ℕ) (old new : KeyedDesk
   pub told : sink2 ≡ sink ++ rows_text (keyed_step old.desk.site.place (standing_at old) n read).1
   pub same : changed ≡ false → standing_at new ≡ standing_at old
 
--- it is set up as it was
-abbrev pub KeepsSetup : {T : Type 0} → KeyedDesk T → KeyedDesk T → Type 0
-KeepsSetup old new = desk.KeepsSetup old.desk new.desk
-
--- and holds what it held
+-- it is set up as it was, and holds what it held
 abbrev pub HoldsAsBefore : {T : Type 0} → KeyedDesk T → KeyedDesk T → Type 0
-HoldsAsBefore old new = KeepsSetup old new × (new.desk.window.items ≡ old.desk.window.items)
+HoldsAsBefore old new = desk.KeepsSetup old.desk new.desk × (new.desk.window.items ≡ old.desk.window.items)
 
 -- the site once it has taken in the messages that it holds, and what it knows
 abbrev pub keyed_at : {T : Type 0} → KeyedDesk T → KeyedSite
@@ -84,10 +73,3 @@ LeadsKeyed d number records last = (last.desk.window.items ≡ []) × (last.desk
 -- what it is set up as
 abbrev pub setup_of : {T : Type 0} → KeyedDesk T → Place × Plan
 setup_of d = desk.setup_of d.desk
-
--- the record with that number, which is that, was answered or is held
-pub record TakesKeyed {T : Type 0} (read : KeyedInput) (number : ℕ) (old new : KeyedDesk T) (sink sink2 : List ℕ) : Type 0 where
-  pub text : (fields : List (List ℕ)) → keyed_input old.desk.site.place.sites fields ≡ read
-      → AnswersRecord GoesOn (keyed_left_at old number) (keyed_left_at new (number + 1)) sink sink2 fields
-  pub place : new.desk.site.place ≡ old.desk.site.place
-  pub leads : keyed_at new ≡ (keyed_step old.desk.site.place (keyed_at old) number read).0

@@ -1,6 +1,8 @@
 -- Keys of records: what a site that knows keys makes of its records.
 use Rattle.std.specs.Prelude.{ℕ, ◌+◌, ◌++◌, ◌∷◌, ◌&&◌, ◌==◌, [], Bool, List, None, Option, Result, Ok, Err, Some, bytes_eq, codes, cond, false}
-use Rattle.std.specs.Prelude.{not, true, unwrap_or}
+use Rattle.std.specs.Prelude.{length, nat_le, nat_lt, not, true, unwrap_or}
+use Rattle.std.specs.List.{list_all}
+use Rattle.rubis_schema.specs.FieldForms.{is_printable}
 use Rattle.rubis_schema.specs.Ids.{id_text}
 use Rattle.rubis_schema.specs.Keys.{same_id}
 use Rattle.rubis_schema.specs.contracts.offers.NewItemPartialEq.TheImpl as item
@@ -26,19 +28,20 @@ use Rattle.rubis_message.specs.declared.tokens.Packet.TheVariants as packet
 use Rattle.rubis_model.specs.Site.{Place, Replica, arrived, arrived_rows, asked, input_step, opening_at, refused_row, reply, send_row}
 use Rattle.rubis_keys.specs.declared.inputs.KeyedInput.{KeyedInput}
 use Rattle.rubis_keys.specs.declared.inputs.KeyedInput.TheVariants.{Plain, AskedUnder, CameUnder}
-use Rattle.rubis_keys.specs.KeyForms.{is_key}
+use Rattle.rubis_keys.specs.declared.inputs.TheConstants.{KEY_MAX}
 use Rattle.rubis_keys.specs.declared.keys.Known.{Known}
 
 -- ---- records under keys
 
+-- a key: 1 to KEY_MAX printable bytes
+abbrev pub is_key : List ℕ → Bool
+is_key key = nat_lt 0 (length key) && (nat_le (length key) KEY_MAX && list_all is_printable key)
+
 -- an ask or a message under a key; nothing else has one
 abbrev pub under : List ℕ → Input → KeyedInput
 under key (input.Asked (request.Ask a)) = AskedUnder key a
-under key (input.Asked (request.Pass to)) = Plain input.Neither
-under key (input.Asked (request.List l)) = Plain input.Neither
 under key (input.Came (packet.Msg m)) = CameUnder key m
-under key (input.Came (packet.Token t)) = Plain input.Neither
-under key input.Neither = Plain input.Neither
+under key other = Plain input.Neither
 
 -- what a record is: one that begins with the word `key` and a key is under that key
 abbrev pub keyed_input : ℕ → List (List ℕ) → KeyedInput
@@ -57,8 +60,7 @@ abbrev pub no_keys : Keys
 no_keys key red = None
 
 abbrev pub same_colour : Bool → Bool → Bool
-same_colour true red = red
-same_colour false red = not red
+same_colour one other = cond one other (not other)
 
 -- a message is known under a key, and under that of its colour alone; the first one stays
 abbrev pub noted : Keys → List ℕ → Known → Keys
@@ -127,8 +129,7 @@ noted_made keys key (Err r) = keys
 abbrev pub noted_came : Keys → List ℕ → Message → Result Arrival Refusal → Keys
 noted_came keys key m (Ok (arrival.Released k)) = noted keys key (known_of m)
 noted_came keys key m (Ok arrival.Held) = noted keys key (known_of m)
-noted_came keys key m (Ok arrival.Repeat) = keys
-noted_came keys key m (Err r) = keys
+noted_came keys key m other = keys
 
 -- an ask under a key is answered by what is known, or else decided
 abbrev pub ask_step : Place → KeyedSite → ℕ → List ℕ → Ask → Option Known → KeyedSite × List (List (List ℕ))

@@ -1,4 +1,3 @@
-pub mod KeyForms
 pub mod Keys
 pub mod Maps
 pub mod Laws

@@ -5,7 +5,7 @@ ghost use Rattle.std.specs.List.{list_all};
 ghost use Rattle.rubis_schema.specs.FieldForms.{is_printable};
 ghost use Rattle.rubis_schema.specs.declared.limits.TheConstants.{COUNTED_MAX};
 ghost use Rattle.rubis_keys.specs.Desks.{IsUnder};
-ghost use Rattle.rubis_keys.specs.KeyForms.{is_key};
+ghost use Rattle.rubis_keys.specs.Keys.{is_key};
 
 use rubis_engine::InputRecord;
 use rubis_message::{Input, Message, Packet, Request, read_input};

@@ -22,10 +22,9 @@ impl Known {
     pub fn of(message: &Message) -> Result<Known, AllocError>
         ensures { IfOk result (λ known. known ≡ known_of message.now) }
     {
-        let shadow = message.shadow().copy()?;
         Ok(Known {
             id: message.id(),
-            shadow,
+            shadow: message.shadow().copy()?,
         })
     }
 
