@@ -55,14 +55,14 @@ _shop() {
     status) words='--json --timeout --help' ;;
     log) words='--follow --lines --raw --json --help' ;;
     wait) words='--timeout --help' ;;
-    ask) words='--json --raw --no-wait --key --keys --published --timeout --help' ;;
+    ask) words='--json --raw --no-wait --key --keys --retry --published --timeout --help' ;;
     pass) words='--timeout --help' ;;
     list) words='--json --timeout --help' ;;
     show) words='--json --timeout --help' ;;
     tables) words='--timeout --help' ;;
     audit) words='--save --with --json --timeout --help' ;;
     view) words='--site --once --help' ;;
-    serve) words='--listen --certificate --private-key --idle --view --keys-file --allow-origin --access-log --requests --help' ;;
+    serve) words='--listen --certificate --private-key --idle --view --keys-file --allow-origin --access-log --requests --retry --help' ;;
     rebuild) words='--anyway --help' ;;
     backup) words='--timeout --help' ;;
     restore) words='--site --yes --help' ;;

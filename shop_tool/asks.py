@@ -11,6 +11,7 @@ from shop_ask.quick import Begun
 
 from . import client
 from .carrier.records import BYTES_OF_A_RECORD, COLUMNS, KEY_BYTES, REFUSALS, bare, bytes_of, is_key, row_of, text_of, why_not_one_record
+from .carrier.told import is_not_known
 from .ends import Fault, Status
 from .render import shown
 
@@ -22,6 +23,8 @@ def ask(args: argparse.Namespace) -> int:
     """Asks a site, and prints each answer as it comes."""
     if not args.records:
         raise Fault(Status.MISUSE, "there is no record to ask")
+    if args.retry:
+        args.keys = os.urandom(12).hex()
     begun: Begun | None = getattr(args, "begun", None)
     printer = Printer(args, begun[2] if begun else 0)
     given = [[os.fsencode(record) for record in args.records]] if args.records != ["-"] else _pieces_of(sys.stdin.fileno())
@@ -33,7 +36,7 @@ def ask(args: argparse.Namespace) -> int:
                 if not answer.get("end"):
                     printer.show(client.member(answer, "record"), client.member(answer, "lines"))
     except Fault as fault:
-        raise Fault(fault.status, fault.text + _how_far(args, printer.count, fault.status != Status.MISUSE)) from None
+        raise Fault(fault.status, fault.text + _how_far(args, printer.count, fault)) from None
     return printer.status
 
 
@@ -62,11 +65,12 @@ def asked_before(before: int) -> str:
     return "nothing more was asked" if before else "nothing was asked"
 
 
-def _how_far(args: argparse.Namespace, answered: int, goes_on: bool) -> str:
-    """How far an ask of several records came that was cut."""
-    if not answered:
-        return ""
-    return f" (answered: the first {answered})" + ("; the same command again goes on" if goes_on and args.keys is not None else "")
+def _how_far(args: argparse.Namespace, answered: int, fault: Fault) -> str:
+    """How far an ask came that was cut, and how it goes on by its keys."""
+    told = f" (answered: the first {answered})" if answered else ""
+    if args.keys is None or fault.status == Status.MISUSE or not (answered or args.retry and is_not_known(fault.text)):
+        return told
+    return f"{told}; the same command {f'with --keys {args.keys} in place of --retry' if args.retry else 'again'} goes on"
 
 
 def _pieces_of(file: int) -> Iterator[list[bytes]]:
@@ -141,5 +145,5 @@ class Printer:
 def pass_token(args: argparse.Namespace) -> int:
     """Hands the token on by hand; asks fetch it by themselves."""
     args.records, args.json, args.raw, args.no_wait, args.published = [f"pass,{args.to}"], False, False, True, False
-    args.key = args.keys = None
+    args.key = args.keys = args.retry = None
     return ask(args)

@@ -108,8 +108,7 @@ class CommandLine:
 
     @staticmethod
     def timeout(parser: argparse.ArgumentParser, seconds: float) -> None:
-        about = f"seconds until it gives up; {seconds:g} by default"
-        parser.add_argument("--timeout", metavar="S", type=seconds_of, default=seconds, help=about)
+        parser.add_argument("--timeout", metavar="S", type=seconds_of, default=seconds, help=f"seconds until it gives up; {seconds:g} by default")
 
     @staticmethod
     def as_json(parser: argparse.ArgumentParser) -> None:
@@ -137,8 +136,7 @@ class CommandLine:
             parser.add_argument("--alone", action="store_true", help="take asks before it is known what the others have of the sites here. "
                                 "If a folder lost its end, or is an older copy, numbers are given twice")
             parser.add_argument("--upgrade", action="store_true", help="have answers that an earlier version wrote in another text written anew")
-            keep = "how many messages a site keeps; 1,000,000 by default. It only grows"
-            parser.add_argument("--keep", metavar="K", type=count_of, help=keep)
+            parser.add_argument("--keep", metavar="K", type=count_of, help="how many messages a site keeps; 1,000,000 by default. It only grows")
             for option in ("batch", "shards", "workers"):
                 parser.add_argument(f"--{option}", metavar="N", type=count_of, help=f"`rubis site --{option}`; it changes no answer")
             if name == "start":
@@ -171,6 +169,7 @@ class CommandLine:
   shop ask 1 list,bids,0.3
   shop ask 0 bid,0.3,0.2,500 --key order-17         said again, it is the same bid, and gets the same id
   shop ask 0 - --keys monday < records              the same for each record; one that was cut goes on
+  shop ask 0 bid,0.3,0.2,500 --retry                the same under a key that is drawn
 """)
         self.site(parser)
         parser.add_argument("records", metavar="RECORD", nargs="*", help="a request or a listing; - reads them from standard input")
@@ -179,11 +178,10 @@ class CommandLine:
         shown.add_argument("--raw", action="store_true", help="print the lines of the site")
         parser.add_argument("--no-wait", action="store_true", help="don't fetch the token: a site without it answers NoToken")
         keys = parser.add_mutually_exclusive_group()
-        keys.add_argument("--key", metavar="KEY", help="of one record: asked again under this key, it isn't accepted a second time, and gets "
-                          "the id that it got")
+        keys.add_argument("--key", metavar="KEY", help="of one record: asked again under this key, it is accepted once, and told the id that it got")
         keys.add_argument("--keys", metavar="PREFIX", help="of several records: the n-th has the key PREFIX.n")
-        published = "end only once the server, or over files another site, has what was accepted"
-        parser.add_argument("--published", action="store_true", help=published)
+        keys.add_argument("--retry", action="store_true", help="draw a key for each record, and ask again under it if the supervisor ends before it answers")
+        parser.add_argument("--published", action="store_true", help="end only once the server, or over files another site, has what was accepted")
         self.timeout(parser, 10)
         parser = self.command("pass", "asks.pass_token", "hand the token on by hand; asks fetch it by themselves")
         self.site(parser, of="the site that holds it")
@@ -198,8 +196,7 @@ class CommandLine:
 """)
         self.site(parser)
         parser.add_argument("what", metavar="WHAT", choices=[*LISTINGS], help=", ".join(LISTINGS))
-        key = "the category of items; the item of bids and purchases; the user of comments"
-        parser.add_argument("key", metavar="KEY", nargs="?", help=key)
+        parser.add_argument("key", metavar="KEY", nargs="?", help="the category of items; the item of bids and purchases; the user of comments")
         self.as_json(parser)
         self.timeout(parser, 60)
         kinds = [kind for kind in COLUMNS if kind != "misfit"]
@@ -228,16 +225,14 @@ class CommandLine:
         self.timeout(parser, 600)
 
     def _serving(self) -> None:
-        about = "keep a database of SQLite up to date with a site, for pages and any other reader"
-        parser = self.command("view", "view.writing.follow", about, """\
+        parser = self.command("view", "view.writing.follow", "keep a database of SQLite up to date with a site, for pages and any other reader", """\
   shop view shop.db & sqlite3 shop.db 'SELECT * FROM items ORDER BY amount DESC LIMIT 10'
 """)
         parser.add_argument("file", metavar="FILE", help="the file of the database; it is made if it isn't there")
         parser.add_argument("--site", metavar="SITE", type=count_of, help="a site that runs here; by default the first of them")
         parser.add_argument("--once", action="store_true", help="end once it is up to date")
         parser.add_argument("--with-parent", action="store_true", help=argparse.SUPPRESS)
-        about = "serve the shop over HTTP: asks, rows, events, metrics and a page"
-        parser = self.command("serve", "serving.serve", about, """\
+        parser = self.command("serve", "serving.serve", "serve the shop over HTTP: asks, rows, events, metrics and a page", """\
   shop serve                                       http://127.0.0.1:8080/ for this machine
   shop serve --listen 0.0.0.0:443 --certificate shop.pem --private-key shop.key --keys-file keys
 """)
@@ -256,6 +251,8 @@ class CommandLine:
                             "and reads the certificate and the keys again")
         parser.add_argument("--requests", metavar="N", type=count_of, default=1000,
                             help="how many requests a second each bearer key may make, ten times as many at once; 1000 by default")
+        parser.add_argument("--retry", action="store_true", help="draw a key for each ask that has none, and ask again under it if the "
+                            "supervisor ends before it answers")
 
     def _care(self) -> None:
         about = "make the folder of a lost site again from what it sent; the shop here is stopped meanwhile"
@@ -286,8 +283,7 @@ class CommandLine:
 """)
         parser.add_argument("old", metavar="OLD", help="the folder of the old shop, which nobody asks meanwhile")
         parser.add_argument("new", metavar="NEW", help="the folder of the new shop, whose site 0 nobody else asks meanwhile")
-        about = "the site of OLD whose tables are carried; 0 by default"
-        parser.add_argument("--site", metavar="SITE", type=count_of, default=0, help=about)
+        parser.add_argument("--site", metavar="SITE", type=count_of, default=0, help="the site of OLD whose tables are carried; 0 by default")
         parser.add_argument("--yes", action="store_true", help="don't ask before it begins")
         parser = self.command("adopt", "rebuild.adopt", "say that this folder has a site from now on, since it was moved or restored")
         self.site(parser)

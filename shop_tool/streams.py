@@ -84,8 +84,9 @@ for at = 1, #info, 2 do if info[at] == 'last-generated-id' then greatest = info[
 return {redis.call('XLEN', KEYS[1]), last[1] and last[1][1] or '0-0', last[1] and last[1][2][2] or '', greatest, life, standby, yields}
 """
 
-# Sets the life of a site, if it is still the one that the caller knows, and so is the last entry of its stream.
+# Sets the life of a site, if it is still the one that the caller knows, and so is the last entry of its stream, and the caller's folder has it.
 SEE_LIFE = b"""
+if string.sub(redis.call('GET', KEYS[3]) or '', 1, #ARGV[4] + 1) ~= ARGV[4] .. ' ' then return 0 end
 local last = redis.call('XREVRANGE', KEYS[2], '+', '-', 'COUNT', 1)
 if (last[1] and last[1][1] or '0-0') ~= ARGV[3] or (redis.call('GET', KEYS[1]) or '') ~= ARGV[1] then return 0 end
 redis.call('SET', KEYS[1], ARGV[2])
@@ -197,8 +198,9 @@ class Streams:
             raise Broken(f"{keys[1]} has {life[:40]!r}, which no shop has written there (redis-cli del {keys[1]})")
         return StreamState(entries, place_of(last), packet, place_of(greatest), life, standby, yields)
 
-    async def see_life(self, site: int, before: str, life: str, last: Place) -> bool:
-        return bool(await self._see_life(keys=[self.key(f"life:{site}"), self.key(site)], args=[before, life, id_of(last)]))
+    async def see_life(self, site: int, before: str, life: str, last: Place, own: str) -> bool:
+        keys = [self.key(f"life:{site}"), self.key(site), self.key(f"owner:{site}")]
+        return bool(await self._see_life(keys=keys, args=[before, life, id_of(last), own]))
 
     async def append(self, site: int, last: Place, packets: Packets, life: str) -> bool:
         words: list[Any] = [id_of(last), new_mark(), life] + [word for place, text in packets for word in (id_of(place), text)]

@@ -181,8 +181,9 @@ class Supervisor(Shop):
         return well, {
             "folder": self.folder, "sites": self.settings.sites, "over": self.settings.shown_over, "sync": self.settings.sync,
             "keep": self.settings.keep, "pid": os.getpid(), "since": self.since, "stopping": self.is_leaving,
-            "link": self.link.state, "token": holder, "standby": list(self.standby), "after": self.after,
-            "token_turn": self.wants.turn, "token_sent_to": self.wants.holder, "token_wanted_by": self.wants.waiting(), "site": sites,
+            "link": self.link.state, "token": holder, "keys": self.knows_keys and self.link.without_keys == (),
+            "token_turn": self.wants.turn, "token_sent_to": self.wants.holder, "token_wanted_by": self.wants.waiting(),
+            "standby": list(self.standby), "after": self.after, "site": sites,
         }
 
     # Its life.

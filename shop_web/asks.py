@@ -2,6 +2,7 @@
 
 import asyncio
 import json
+import os
 import re
 from collections.abc import AsyncIterator
 from typing import Any, NamedTuple
@@ -109,6 +110,12 @@ def with_key(asks: list[One], key: str | None) -> list[One]:
     return [asks[0]._replace(key=key)]
 
 
+def with_drawn_keys(asks: list[One]) -> list[One]:
+    """The asks, those that have no key under keys that nobody else draws: so they may be asked again."""
+    drawn = os.urandom(12).hex()
+    return [ask if ask.key is not None else ask._replace(key=f"{drawn}.{number}") for number, ask in enumerate(asks, 1)]
+
+
 def _of_object(said: Any) -> One:
     if not isinstance(said, dict):
         raise Problem("BadRequest", f"an ask is an object, and not {json.dumps(said)[:80]}")
@@ -174,6 +181,7 @@ class Options(NamedTuple):
 
 async def asked(line: Line, site: int, asks: list[One], options: Options) -> AsyncIterator[Told]:
     """The answers to asks, as they come; a Problem where no more come."""
+    answered = 0
     for begin in range(0, len(asks), PIECE):
         some = asks[begin:begin + PIECE]
         request = {"op": "ask", "site": site, "records": [ask.record for ask in some], "timeout": options.seconds,
@@ -182,9 +190,10 @@ async def asked(line: Line, site: int, asks: list[One], options: Options) -> Asy
             request["keys"] = [ask.key for ask in some]
         try:
             async for answer in _answers(line, request):
+                answered += 1
                 yield told_of(answer)
         except Fault as fault:
-            raise of_fault(fault, is_ask=True) from fault
+            raise of_fault(fault, is_ask=True, key=next((ask.key for ask in asks[answered:]), None)) from fault
 
 
 async def _answers(line: Line, request: Request) -> AsyncIterator[Answer]:

@@ -7,6 +7,7 @@ from typing import Any, NamedTuple
 from aiohttp import web
 
 from shop_tool.carrier.records import REFUSALS
+from shop_tool.carrier.told import is_not_known
 from shop_tool.ends import Fault, Status
 from shop_tool.render import shown
 
@@ -69,11 +70,12 @@ def refused(record: str, head: list[str], meaning: str | None = None) -> Problem
     return Problem(name, f"{record}: {meaning or REFUSALS.get(head[4], head[4])}", int(head[3]))
 
 
-def of_fault(fault: Fault, is_ask: bool = False) -> Problem:
-    """What a fault of `shop` is over HTTP."""
+def of_fault(fault: Fault, is_ask: bool = False, key: str | None = None) -> Problem:
+    """What a fault of `shop` is over HTTP, of an ask under a key if it had one."""
     if fault.status == Status.MISUSE:
         return Problem("BadRequest", fault.text)
     if fault.status == Status.REFUSED:
         return Problem("Refused", fault.text)
-    is_unknown = is_ask and ("may still be accepted" in fault.text or "accepted isn't known" in fault.text or "accepted here" in fault.text)
-    return Problem("Unknown" if is_unknown else "Away", fault.text)
+    if is_ask and is_not_known(fault.text):
+        return Problem("Unknown", fault.text + (f"; it was asked under the key {key}" if key else ""))
+    return Problem("Away", fault.text)

@@ -35,7 +35,7 @@ from shop_tool.view import writing
 
 from . import access
 from .access_log import ID, AccessLog, id_of
-from .asks import One, Options, Told, asked, by_names, check, of_csv, of_json, place_of
+from .asks import One, Options, Told, asked, by_names, check, of_csv, of_json, place_of, with_drawn_keys
 from .audits import audited, while_asked
 from .budgets import Budgets
 from .connections import BODY_BYTES, HEADERS, Connections, expected
@@ -71,7 +71,7 @@ class Server:
     def __init__(self, args: argparse.Namespace, keys: access.Access, hosts: frozenset[str] | None, view: View | None) -> None:
         folder = self.folder = args.folder
         self.keys, self.hosts, self.view, self.log = keys, hosts, view, AccessLog(args.access_log)
-        self.origins = frozenset(args.allow_origin or ())
+        self.origins, self.retries = frozenset(args.allow_origin or ()), args.retry
         self.connections, self.budgets = Connections(args.idle), Budgets(args.requests)
         self.sites = settings.existing(folder).sites
         self.line = Line(folder)
@@ -235,6 +235,7 @@ class Server:
         for ask in asks:
             if why := request["key"].why_not(ask.record):
                 raise Problem("Forbidden", f"{ask.record[:80]!r}: {why}; nothing was asked")
+        asks = with_drawn_keys(asks) if self.retries else asks
         options = Options(self._seconds(request), self._is(request, "fetch", True), self._is(request, "published", False))
         wants, key = self._wants(request, (JSON, LINES, CSV), content), self._key(request)
         if key is not None:

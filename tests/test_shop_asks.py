@@ -203,21 +203,37 @@ def test_keys(at: Folder) -> None:
 
 def test_asks_under_keys_that_outlive_the_supervisor(at: Folder) -> None:
     """An ask under a key that was begun when the supervisor was killed is asked again by the command, and by `shop serve`, once there is another
-    one; without a key it isn't."""
+    one; without a key it isn't, but where --retry has one drawn."""
     at.run("./shop start auction")
-    web = Web(at)
+    web, retrying = Web(at), Web(at, "--retry")
     with concurrent.futures.ThreadPoolExecutor() as pool:
         supervisor = at.status()["pid"]
         with at.standing_still(at.site(0)["pid"]):
-            told = [pool.submit(at.run, f"./shop -C auction ask 0 user,{name} {key} 2>&1; true") for name, key in (("ann", "--key a"), ("cat", ""))]
-            served = [pool.submit(web.ask, 0, f"user,{name}", key) for name, key in (("bob", "b"), ("dan", None))]
-            at.wait("the asks", lambda: at.site(0)["waiting"] == 4)
+            asks = {"user,ann": "--key a", "user,eve user,fay": "--retry", "user,cat": ""}
+            told = [pool.submit(at.run, f"./shop -C auction ask 0 {records} {key} 2>&1; true") for records, key in asks.items()]
+            served = [pool.submit(web.ask, 0, "user,bob", "b"), pool.submit(retrying.ask, 0, "user,gus"), pool.submit(web.ask, 0, "user,dan")]
+            at.wait("the asks", lambda: at.site(0)["waiting"] == 6)
             at.kill(supervisor)
         at.run("./shop start auction")
-        assert re.fullmatch("ok,0.[1-4]\n", told[0].result()) and "ended before it answered" in told[1].result(), f"told: {told[0].result()}"
-        assert [said.result().status for said in served] == [201, 504], f"over HTTP: {served[0].result()}"
+        assert [bool(re.fullmatch("(ok,0.[1-7]\n)+", said.result())) for said in told] == [True, True, False], f"told: {[said.result() for said in told]}"
+        assert "ended before it answered" in told[2].result(), f"without a key: {told[2].result()}"
+        assert [said.result().status for said in served] == [201, 201, 504], f"over HTTP: {[said.result() for said in served]}"
     made = [line for line in at.text("auction/0/out").splitlines() if line.startswith("send,key,")]
-    assert len(made) == 2, f"what was accepted under keys: {made}"
+    assert len(made) == 5, f"what was accepted under keys: {made}"
+
+
+def test_drawn_keys_are_told(at: Folder) -> None:
+    """Where it isn't known whether an ask under a drawn key was accepted, its asker is told how it is asked again."""
+    at.run("./shop start auction")
+    web = Web(at, "--retry")
+    with at.standing_still(at.site(0)["pid"]):
+        said = at.run("./shop -C auction ask 0 user,ann --retry --timeout 0.3 2>&1", 3)
+        served = web.post("/sites/0/asks?timeout=0.3", [{"record": "user,bob"}]).json["problem"]["detail"]
+    keys, key = re.findall("with (--keys [0-9a-f]{24}) in place of --retry goes on\n$", said), re.findall("under the key ([0-9a-f]{24}.1)$", served)
+    assert at.shop(f"ask 0 user,ann {keys[0]}") == "ok,0.1\n" and at.shop(f"ask 0 user,bob --key {key[0]}") == "ok,0.2\n", f"{said}{served}"
+    assert "place of --retry" not in at.run("./shop -C auction ask 0 user,ann --retry 2>&1", 1), "one that is refused"
+    at.run("./shop stop auction")
+    assert "place of --retry" not in at.run("./shop -C auction ask 0 user,cat --retry 2>&1", 3), "one that nobody was given"
 
 
 def test_a_key_of_a_message_that_is_lost(at: Folder) -> None:

@@ -1,10 +1,13 @@
 """What a machine or the server loses: ends, folders, older copies; what is fenced, and how it is made again."""
 
+import asyncio
 import time
 
 import pytest
 
 from shop_tool.lives import lives_of
+from shop_tool.settings import existing
+from shop_tool.streams import Streams
 from shop_tool.witness import witnessed
 from tests.folder import SALE, Folder, sends
 from tests.server import Server
@@ -354,6 +357,19 @@ def test_rebuilt_and_forgotten(at: Folder, server: Server) -> None:
     time.sleep(2.5)
     assert at.shop("ask 0 user,cat", folder="a") == "ok,0.4\n", "it goes on"
     at.goes_on("./shop stop a; ./shop start a", "0 user,dan", "0.5", "it goes on after a start", "a")
+
+
+def test_a_life_that_is_said_late(at: Folder, server: Server) -> None:
+    """What a process had sent off that has died, the life that it begins, arrives once its site was made again: that doesn't stop the new folder."""
+    at.kill(at.status("b")["pid"])
+    life, owner = (server.say(f"get auction:{key}:2").strip() for key in ("life", "owner"))
+    at.run("rm -r b/2; ./shop -C b rebuild 2")
+
+    async def say_late() -> bool:
+        async with Streams(existing(f"{at.path}/b"), f"{at.path}/b") as streams:
+            return await streams.see_life(2, life, "9 late", (0, 0), owner.split(" ")[0])
+    assert not asyncio.run(say_late()), "it is refused"
+    at.goes_on("./shop start b", "2 bid,0.3,0.2,500", "2.1", "it goes on", "b")
 
 
 def test_deleted(at: Folder, server: Server) -> None:

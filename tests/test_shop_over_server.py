@@ -39,11 +39,13 @@ def test_keys(at: Folder, server: Server) -> None:
     there. While the server is away, a blue ask may be accepted at two sites under one key; a red one is told again by any site."""
     server.say("set auction:sites 3")       # as a version of before has begun the shop
     at.run(f"./shop start a --sites 3 --here 0,1 --over {server.over}")
+    assert at.status("a")["keys"] is False, "what pages look at"
     why = "of site 2 none has: upgrade shop and rubis on every machine, and start it; nothing was given to it by this request"
     at.shop("ask 0 user,ann --key k", 3, why, "a")
     assert at.shop("ask 0 user,bob", folder="a") == "ok,0.1\n", "without a key"
     at.run(f"./shop start b --sites 3 --here 2 --over {server.over}")
     at.wait("that all know keys", lambda: at.run("./shop -C a ask 0 user,ann --key k 2>&1; true") == "ok,0.2\n")
+    assert at.status("a")["keys"] is True, "once all know keys"
     assert at.shop("ask 2 user,ann --key k", folder="b") == "ok,0.2\n", "a red ask again, at another site"
     assert server.say("xrange auction:0 2-0 2-0").split("\n")[2] == "key,k,msg,1,0,2,2,1:0:0,user,ann", "what goes to others"
     lamp = "item,0.1,lamp,7,3,100,80"

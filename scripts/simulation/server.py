@@ -110,8 +110,8 @@ class Server:
                 return True
             case Statuses():
                 return {site: dict(said) for site, (until, said) in self.said.items() if until > self.clock.now}
-            case SeeLife(site, before, life, last):
-                if self.lives[site] != before or self.streams[site].last != last:
+            case SeeLife(site, before, life, last, own):
+                if self.lives[site] != before or self.streams[site].last != last or self.owners[site].partition(" ")[0] != own:
                     return False
                 self._set("lives", site, life)
                 return True

@@ -505,7 +505,7 @@ class Process:
                 self.world.steps.yields(site, bool(life))
             case Adopt(site, _, _, _) if said:
                 self.world.steps.yields(site, False)
-            case SeeLife(site, _, life, _) if said and self.world.server.yields[site] != life:
+            case SeeLife(site, _, life, _, _) if said and self.world.server.yields[site] != life:
                 self.world.steps.yields(site, False)
             case Rewrite(site, packets, _):
                 self.world.published |= {text for _, text in packets}

@@ -37,7 +37,7 @@ class Plans(unittest.TestCase):
             ["ask", "0", "x", "--time", "1"], ["ask", "0", "x", "--timeout=1"], ["ask", "0", "x", "--timeout"], ["ask", "0", "x", "--timeout", "x"],
             ["ask", "0", "x", "--timeout", "0"], ["ask", "0", "x", "--timeout", "nan"], ["ask", "0", "x", "--timeout", "1e6"],
             ["ask", "0", "x", "y", "--key", "k"], ["ask", "0", "x", "--key", "-k"], ["ask", "0", "x", "--key", ""], ["ask", "0", "x", "--key", "k" * 256],
-            ["ask", "0", "x", "--keys", "k"], ["--help"],
+            ["ask", "0", "x", "--keys", "k"], ["ask", "0", "x", "--retry"], ["--help"],
             ["ask", "0", "x", "--help"], ["ask", "0", "--", "x"]]
         for words in left:
             with self.subTest(words=words):

@@ -206,13 +206,13 @@ class Publisher:
 
     def _is_seen(self, state: StreamState) -> Steps[bool]:
         """Compares as much of its stream as the life asks for that was seen last, and has its own seen. False if another one was
-        meanwhile, or another process of the site has appended something: from then on only this one does."""
+        meanwhile, another folder has the site, or another process of it has appended something: from then on only this one does."""
         site, its = self.site, standing(self.site.lives, state.life)
         if its is Standing.OTHER:
             raise Fenced(why_other(site.lives, state.life, self.link.over, site.number))
         if must_compare_all(its, site.shop.is_alone) and (place := (yield from self._strange())):
             raise Fenced(self._other_packet(place))
-        is_seen: bool = yield SeeLife(site.number, state.life, life_text(site.lives), state.last)
+        is_seen: bool = yield SeeLife(site.number, state.life, life_text(site.lives), state.last, self.link.named(site).split(" ", 2)[1])
         return is_seen
 
     def _strange(self) -> Steps[Place | None]:

@@ -144,8 +144,8 @@ Statuses = NamedTuple("Statuses", [])
 # Writes statuses of sites; how many messages each stream has, its mark, and the sites whose machines haven't said yet that they know keys.
 Tell = NamedTuple("Tell", [("statuses", dict[int, dict[str, Any]])])
 
-# Writes down the life of a site's folder; False if another one was since `before` was, or its stream has another last entry.
-SeeLife = NamedTuple("SeeLife", [("site", int), ("before", str), ("life", str), ("last", Place)])
+# Writes down the life of a site's folder; False if another was since `before` was, its stream ends elsewhere, or another folder than `own` has it.
+SeeLife = NamedTuple("SeeLife", [("site", int), ("before", str), ("life", str), ("last", Place), ("own", str)])
 
 # Appends packets behind the entry `last`; False if that isn't the last one, or the life that was seen last isn't this one, if one is named.
 Append = NamedTuple("Append", [("site", int), ("last", Place), ("packets", Packets), ("life", str)])

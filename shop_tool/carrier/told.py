@@ -30,6 +30,11 @@ def unanswered(request: dict[str, Any]) -> str:
     return f"; whether it was accepted isn't known (shop log {request.get('site')})" if request.get("op") == "ask" else ""
 
 
+def is_not_known(text: str) -> bool:
+    """Whether a fault says of an ask that it isn't known, or not to the others, whether it is accepted."""
+    return any(words in text for words in ("may still be accepted", "accepted isn't known", "accepted here"))
+
+
 FORM = 1        # of requests between machines and of statuses, which have it as `form`; what has none and no life is of form 0
 
 

@@ -1,5 +1,6 @@
 """What a client says of a supervisor that doesn't answer."""
 
+import contextlib
 import json
 import os
 import socket
@@ -21,18 +22,21 @@ class Calls(unittest.TestCase):
         self.addCleanup(folder.cleanup)
         self.folder = folder.name
         self.asked: list[dict[str, Any]] = []
-        self.socket = socket.socket(socket.AF_UNIX)
-        self.addCleanup(self.socket.close)
         margin = mock.patch.object(client, "MARGIN", 0.1)
         margin.start()
         self.addCleanup(margin.stop)
 
-    def listen(self, says: bytes | None = None) -> None:
-        """Somebody who answers each request so and goes, or takes connections and does nothing."""
+    def listen(self, *says: bytes) -> threading.Thread:
+        """Somebody who answers requests so, one after the other, and goes; takes connections and does nothing, where nothing is said."""
+        with contextlib.suppress(FileNotFoundError):
+            os.unlink(f"{self.folder}/sock")
+        self.socket = socket.socket(socket.AF_UNIX)
+        self.addCleanup(self.socket.close)
         self.socket.bind(f"{self.folder}/sock")
         self.socket.listen(1)
-        if says is not None:
-            threading.Thread(target=self._answer, args=(says,), daemon=True).start()
+        answering = threading.Thread(target=self._answer, args=says, daemon=True)
+        answering.start()
+        return answering
 
     def _answer(self, *says: bytes) -> None:
         for said in says:
@@ -63,21 +67,13 @@ class Calls(unittest.TestCase):
             with self.subTest(says=says):
                 self.listen(says)
                 self.assertIn("ended before it answered; whether it was accepted isn't known (shop log 2)", self.told(ASK))
-                self.socket.close()
-                os.unlink(f"{self.folder}/sock")
-                self.socket = socket.socket(socket.AF_UNIX)
-                self.addCleanup(self.socket.close)
 
     def test_what_has_keys_is_asked_again_from_where_it_ended(self) -> None:
         answers = [b'{"record": "user,%b"}\n' % name for name in (b"ann", b"bob")]
         for keys, count in ((["a", "b"], 2), (["a", None], 1), (None, 1)):
             with self.subTest(keys=keys):
                 self.asked.clear()
-                self.socket.bind(f"{self.folder}/sock")
-                self.socket.listen(1)
-                said = (answers[0], answers[1] + b'{"end": true}\n')[:count]
-                answering = threading.Thread(target=self._answer, args=said, daemon=True)
-                answering.start()
+                answering = self.listen(*(answers[0], answers[1] + b'{"end": true}\n')[:count])
                 steps = client.asked(self.folder, {"op": "ask", "site": 2, "records": ["user,ann", "user,bob"], "timeout": 5.0, "keys": keys}, None)
                 if count == 1:
                     self.assertRaises(Ended, list, steps)
@@ -86,7 +82,3 @@ class Calls(unittest.TestCase):
                     self.assertEqual((self.asked[1]["records"], self.asked[1]["keys"]), (["user,bob"], ["b"]))
                 answering.join()
                 self.assertEqual(len(self.asked), count)
-                self.socket.close()
-                os.unlink(f"{self.folder}/sock")
-                self.socket = socket.socket(socket.AF_UNIX)
-                self.addCleanup(self.socket.close)

@@ -83,7 +83,7 @@ class Compared(unittest.TestCase):
     def test_its_life_is_seen_where_its_stream_ends_as_it_was_compared(self) -> None:
         """Another process of the site may have appended something meanwhile; once the life is seen, that can't append any more."""
         shop = Supervisor(OverServer, 1)
-        self.assertIn(SeeLife(0, "", "1 a", (0, 0)), done(Publisher(shop.link, shop.sites[0]).run(), answers()))
+        self.assertIn(SeeLife(0, "", "1 a", (0, 0), "me:1"), done(Publisher(shop.link, shop.sites[0]).run(), answers()))
         self.assertTrue(shop.sites[0].opened.is_set)
 
     def test_why_has_the_name_of_the_server_as_it_is(self) -> None:
