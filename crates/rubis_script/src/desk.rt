@@ -3,7 +3,7 @@
 ghost use Rattle.std.proofs.Common.{rules};
 ghost use Rattle.std.specs.Prelude.{◌≡◌, ◌≤◌, ◌<◌, ◌+◌, ◌++◌, ◌∷◌, ◌^◌, [], All, IfOk, OnOk, length, max, refl};
 ghost use Rattle.rubis_schema.specs.declared.limits.TheConstants.{COUNTED_MAX};
-ghost use Rattle.rubis_message.specs.Grammar.{IsPacket, IsRequest};
+ghost use Rattle.rubis_message.specs.Grammar.{IsPacket};
 ghost use Rattle.rubis_message.specs.Message.{sites_of};
 ghost use Rattle.rubis_message.specs.declared.requests.Request.TheVariants as Request;
 ghost use Rattle.rubis_message.specs.declared.tokens.Packet.TheVariants as Packet;
@@ -79,41 +79,6 @@ fn answer_list<R: Threads + Wait + Sync>(
     }
 }
 
-// Answers a request.
-#[inline(always)]
-fn answer_request<R: Threads + Wait + Sync>(
-    rt: &R,
-    site: &mut Site<SiteGate>,
-    reply: &mut Reply,
-    request: Request,
-) -> Result<(), OutOfMemory>
-    requires { IsRequest site.old.place.sites request }
-    ensures place { site.new.place ≡ site.old.place }
-    ensures answered { OnOk result (IsAnswered reply.old.number (Asked request) site.old site.new reply.old.sink reply.new.sink) }
-{
-    match request {
-        Request::Ask(ask) => match site.request(rt, ask) {
-            Ok(message) => Ok(write_sent(
-                &mut reply.draft,
-                &mut reply.sink,
-                reply.number,
-                &message,
-            )?),
-            Err(fault) => answer_fault(reply, fault),
-        },
-        Request::Pass(to) => match site.pass(to) {
-            Ok(token) => Ok(write_passed(
-                &mut reply.draft.row,
-                &mut reply.sink,
-                reply.number,
-                &token,
-            )?),
-            Err(fault) => answer_fault(reply, fault),
-        },
-        Request::List(listing) => answer_list(rt, site, reply, &listing),
-    }
-}
-
 // Answers a packet.
 #[inline(always)]
 fn answer_packet<R: Threads + Wait + Sync>(
@@ -162,7 +127,25 @@ fn answer<R: Threads + Wait + Sync>(
 {
     match read {
         Input::Came(packet) => answer_packet(rt, site, reply, packet),
-        Input::Asked(request) => answer_request(rt, site, reply, request),
+        Input::Asked(Request::Ask(ask)) => match site.request(rt, ask) {
+            Ok(message) => Ok(write_sent(
+                &mut reply.draft,
+                &mut reply.sink,
+                reply.number,
+                &message,
+            )?),
+            Err(fault) => answer_fault(reply, fault),
+        },
+        Input::Asked(Request::Pass(to)) => match site.pass(to) {
+            Ok(token) => Ok(write_passed(
+                &mut reply.draft.row,
+                &mut reply.sink,
+                reply.number,
+                &token,
+            )?),
+            Err(fault) => answer_fault(reply, fault),
+        },
+        Input::Asked(Request::List(listing)) => answer_list(rt, site, reply, &listing),
         Input::Neither => refuse(reply, Refusal::BadRecord),
     }
 }
@@ -350,25 +333,6 @@ impl<T: Threads + Wait + Sync> Desk<'_, T> {
         Ok(())
     }
 
-    /// Holds what the next record was read as, whose number the reply has, if it is a message and messages are held at all, at most as
-    /// many as the plan says; otherwise takes in those that are held, and answers it.
-    #[inline(always)]
-    pub fn take_read(&mut self, reply: &mut Reply, read: Input) -> Result<(), OutOfMemory>
-        requires { FitsIn self.old.site.place.sites read }
-        ensures same { KeepsSetup self.old self.new }
-        ensures takes { OnOk result (TakesNext read reply.old.number self.old self.new reply.old.sink reply.new.sink) }
-    {
-        match read {
-            Input::Came(Packet::Msg(message)) if self.together > 1 => self.hold_next(
-                reply, message,
-            ),
-            other => {
-                self.flush(reply)?;
-                answer(self.rt, &mut self.site, reply, other)
-            }
-        }
-    }
-
     // Takes in the messages that are held, and answers a request for a listing, the next record. Its rows are written out while they
     // are made: at the end the last of them wait in the reply.
     fn list_out<W: Write>(
@@ -387,8 +351,9 @@ impl<T: Threads + Wait + Sync> Desk<'_, T> {
         list_rows(self.rt, &mut self.site, reply, listing, writer)
     }
 
-    /// Takes what the next record was read as, as `take_read` does. The rows of a listing are written out while they are made: at the end
-    /// the last of them wait in the reply.
+    /// Holds what the next record was read as, whose number the reply has, if it is a message and messages are held at all, at most as
+    /// many as the plan says; otherwise takes in those that are held, and answers it. The rows of a listing are written out while they are
+    /// made: at the end the last of them wait in the reply.
     ///
     /// # Errors
     ///
@@ -408,7 +373,13 @@ impl<T: Threads + Wait + Sync> Desk<'_, T> {
     {
         match read {
             Input::Asked(Request::List(listing)) => self.list_out(reply, &listing, writer),
-            other => Ok(self.take_read(reply, other)?),
+            Input::Came(Packet::Msg(message)) if self.together > 1 => {
+                Ok(self.hold_next(reply, message)?)
+            }
+            other => {
+                self.flush(reply)?;
+                Ok(answer(self.rt, &mut self.site, reply, other)?)
+            }
         }
     }
 }

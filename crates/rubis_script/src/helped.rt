@@ -17,8 +17,7 @@ use rubis_crew::{Both, Crew};
 use rubis_engine::{Count, RunFault};
 use rubis_reading::{Ahead, Chunks, Pieces, ReadPiece};
 use rubis_replica::Hands;
-use rubis_serving::{Served, answer_front, turn};
-use std::alloc::Global;
+use rubis_serving::{Served, answer_piece, turn};
 use std::io::{Read, Write};
 use std::sync::Wait;
 use std::thread::{Threads, join_mut};
@@ -78,7 +77,10 @@ fn answer_read<T: Threads + Wait + Sync, R: Read, W: Write>(
     let mut ahead = Ahead::of(list)?;
     let left = limit - run.answered;
     if ahead.len() as u64 >= left {
-        return answer_front(chunks, desk, run, writer, many, limit);
+        let (text, _) = chunks.held().split_at(many);
+        let over = answer_piece(text, desk, run, writer, limit)?;
+        chunks.pass(many);
+        return Ok(over);
     }
     answer_all(desk, run, &mut ahead, writer)?;
     chunks.pass(many);
@@ -133,60 +135,7 @@ fn serve<T: Threads + Wait + Sync, R: Read, W: Write>(
     unreachable!()
 }
 
-// The same, and whatever it ends with, tells the helpers that no more comes.
-fn serve_to_end<T: Threads + Wait + Sync, R: Read, W: Write>(
-    rt: &T,
-    helpers: &mut Helpers<'_>,
-    chunks: &mut Chunks<R>,
-    desk: &mut Desk<'_, T>,
-    run: &mut Served,
-    writer: &mut W,
-    limit: u64,
-) -> Result<Count, RunFault>
-    requires held { AreHeld chunks.old desk.old helpers.old.pieces }
-    requires within { run.old.answered ≤ limit }
-    ensures run { OfEach R.remaining chunks.old.reader chunks.new.reader (λ left. Finishes (by_desk W.contents) limit left chunks.old
-        (at desk.old run.old writer.old) chunks.new (at desk.new run.new writer.new) result) }
-    ensures over { AreOver helpers.old helpers.new }
-{
-    let served = serve(rt, helpers, chunks, desk, run, writer, limit);
-    helpers.pieces.end(rt);
-    helpers.hands.end(rt);
-    served
-}
-
-// The run, beside what the helpers do.
-fn serve_beside<F: FnMut() + Send, T: Threads + Wait + Sync, R: Read, W: Write>(
-    rt: &T,
-    stay: &mut F,
-    helpers: &mut Helpers<'_>,
-    chunks: &mut Chunks<R>,
-    desk: &mut Desk<'_, T>,
-    run: &mut Served,
-    writer: &mut W,
-    limit: u64,
-) -> Result<Count, RunFault>
-    requires stay { F.pre stay.old }
-    requires held { AreHeld chunks.old desk.old helpers.old.pieces × (run.old.answered ≤ limit) }
-    ensures run { OfEach R.remaining chunks.old.reader chunks.new.reader (λ left. Finishes (by_desk W.contents) limit left chunks.old
-        (at desk.old run.old writer.old) chunks.new (at desk.new run.new writer.new) result) }
-    ensures over { AreOver helpers.old helpers.new }
-{
-    let ((), served) = join_mut(
-        rt,
-        stay,
-        &mut || -> Result<Count, RunFault>
-            requires { IsSync T.row × AreHeld chunks.now desk.now helpers.now.pieces × (run.now.answered ≤ limit) }
-            ensures { OfEach R.remaining chunks.entry.now.reader chunks.exit.now.reader (λ left. Finishes (by_desk W.contents) limit left
-                chunks.entry.now (at desk.entry.now run.entry.now writer.entry.now)
-                chunks.exit.now (at desk.exit.now run.exit.now writer.exit.now) result)
-                × AreOver helpers.entry.now helpers.exit.now }
-        { serve_to_end(rt, helpers, chunks, desk, run, writer, limit) },
-    );
-    served
-}
-
-// The run, beside the helpers.
+// Answers records beside the helpers, and whatever that ends with, tells them that no more comes.
 fn serve_helped<T: Threads + Wait + Sync, R: Read, W: Write>(
     rt: &T,
     helpers: &mut Helpers<'_>,
@@ -206,18 +155,25 @@ fn serve_helped<T: Threads + Wait + Sync, R: Read, W: Write>(
     let reading = helpers.pieces.crew();
     let mut first = Both::new(helpers.hands.helper(), helpers.pieces.helper());
     let helper = &mut first;
-    serve_beside(
+    let ((), served) = join_mut(
         rt,
         &mut ||
             requires { IsSync T.row × IsAt folding.now.id reading.now.id helper.now }
         { helper.stay_all(rt, folding, reading) },
-        helpers,
-        chunks,
-        desk,
-        run,
-        writer,
-        limit,
-    )
+        &mut || -> Result<Count, RunFault>
+            requires { IsSync T.row × AreHeld chunks.now desk.now helpers.now.pieces × (run.now.answered ≤ limit) }
+            ensures { OfEach R.remaining chunks.entry.now.reader chunks.exit.now.reader (λ left. Finishes (by_desk W.contents) limit left
+                chunks.entry.now (at desk.entry.now run.entry.now writer.entry.now)
+                chunks.exit.now (at desk.exit.now run.exit.now writer.exit.now) result)
+                × AreOver helpers.entry.now helpers.exit.now }
+        {
+            let served = serve(rt, helpers, chunks, desk, run, writer, limit);
+            helpers.pieces.end(rt);
+            helpers.hands.end(rt);
+            served
+        },
+    );
+    served
 }
 
 /// Runs the desk of a site over chunks of text, whose records are read, and whose messages are folded, by a crew of helpers and by the

@@ -34,26 +34,6 @@ pub fn chunks_for<R: Read + Drop>(alloc: Global, reader: R, workers: u8) -> Chun
     Chunks::new(alloc, reader, size)
 }
 
-// Runs the desk of a site over chunks of text, with its helpers, if it has some.
-fn run_planned<T: Threads + Wait + Sync, R: Read, W: Write>(
-    alloc: Global,
-    chunks: &mut Chunks<R>,
-    writer: &mut W,
-    desk: &mut Desk<'_, T>,
-    limit: u64,
-) -> Result<Count, RunFault>
-    ensures { OfEach R.remaining chunks.old.reader chunks.new.reader (λ left. (input : List ℕ) → HasWholeInput left chunks.old input
-        → EndsAsSite left chunks.new limit desk.old.site desk.new.site (W.contents writer.old) (W.contents writer.new) input result) }
-{
-    desk.start();
-    if desk.plan.helpers == 0 {
-        return run_service(alloc, chunks, writer, desk, limit);
-    }
-    let rt = desk.rt;
-    let mut run = Served::new(alloc);
-    run_helped(rt, chunks, desk, &mut run, writer, limit)
-}
-
 /// Runs the desk of a site over chunks of text until its end, or up to `limit` records of it: appends the text of its answers to
 /// `writer`. If several workers are configured, the records of the next chunk are read by other threads while those before are answered;
 /// with one, nothing is read ahead. Desk and chunks are lent. Unless the run ends with `Memory` or `Write`, the site is left in the state
@@ -82,5 +62,11 @@ pub fn run_chunks<T: Threads + Wait + Sync, R: Read, W: Write>(
         OfRead limit input result (λ records. WritesAsProcess desk.old.site.place (W.contents writer.old) (W.contents writer.new) records
         × StandsAsProcess desk.old.site.place desk.new.site.state records)) }
 {
-    run_planned(alloc, chunks, writer, desk, limit)
+    desk.start();
+    if desk.plan.helpers == 0 {
+        return run_service(alloc, chunks, writer, desk, limit);
+    }
+    let rt = desk.rt;
+    let mut run = Served::new(alloc);
+    run_helped(rt, chunks, desk, &mut run, writer, limit)
 }

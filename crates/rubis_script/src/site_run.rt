@@ -1,8 +1,7 @@
 //! A site over a reader and a writer, from its configuration.
 
-ghost use Rattle.std.specs.Prelude.{◌≡◌, IfSome};
+ghost use Rattle.std.specs.Prelude.{IfSome};
 ghost use Rattle.rubis_engine.specs.Progress.{IsRun};
-ghost use Rattle.rubis_model.specs.Site.{opening_at};
 ghost use Rattle.rubis_reading.specs.Chunked.{OfInput};
 ghost use Rattle.rubis_replica.specs.State.{setup_place};
 ghost use Rattle.rubis_schema.specs.declared.limits.TheConstants.{RECORDS_MAX};
@@ -21,23 +20,6 @@ use std::io::{Read, Write};
 use std::mem;
 use std::sync::Wait;
 use std::thread::Threads;
-
-// Runs the desk of a site with which nothing was done yet.
-fn run_opened<T: Threads + Wait + Sync, R: Read, W: Write>(
-    alloc: Global,
-    chunks: &mut Chunks<R>,
-    writer: &mut W,
-    desk: &mut Desk<'_, T>,
-    limit: u64,
-) -> Result<Count, RunFault>
-    requires opened { desk.old.site.state ≡ opening_at desk.old.site.place.site }
-    ensures run { OfInput R.remaining chunks.old chunks.new (λ input.
-        IsRun (site_answers desk.old.site.place) limit input (W.contents writer.old) (W.contents writer.new) result) }
-    ensures process { OfInput R.remaining chunks.old chunks.new (λ input. OfRead limit input result (λ records.
-        WritesAsProcess desk.old.site.place (W.contents writer.old) (W.contents writer.new) records)) }
-{
-    run_chunks(alloc, chunks, writer, desk, limit)
-}
 
 /// Runs a site over the records of `reader` until its end, or up to `limit` of them: appends the text of its answers to
 /// `writer`. The answers depend on the records, and on which site it is, of how many, and how many messages it keeps; not on
@@ -64,7 +46,7 @@ pub fn run_site_upto<T: Threads + Wait + Sync, R: Read + Drop, W: Write>(
 {
     let mut desk = Desk::new(rt, alloc, config, gate)?;
     let mut chunks = chunks_for(alloc, reader, config.workers());
-    run_opened(alloc, &mut chunks, writer, &mut desk, limit)
+    run_chunks(alloc, &mut chunks, writer, &mut desk, limit)
 }
 
 /// Runs a site over at most 4,000,000 records, as `run_site_upto`.
@@ -107,7 +89,7 @@ pub fn run_last_site<T: Threads + Wait + Sync, R: Read, W: Write>(
         WritesAsProcess (setup_place config.now) (W.contents writer.old) (W.contents writer.new) records)) }
 {
     let mut desk = Desk::new(rt, alloc, config, SiteGate::free())?;
-    let ended = run_opened(alloc, chunks, writer, &mut desk, RECORDS_MAX);
+    let ended = run_chunks(alloc, chunks, writer, &mut desk, RECORDS_MAX);
     mem::forget(desk);
     ended
 }

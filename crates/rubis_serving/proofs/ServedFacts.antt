@@ -1,7 +1,7 @@
 -- How a run goes on by pieces of its text, and how it ends.
 use Rattle.std.proofs.Common.{◌≡◌, ◌∙◌, ◌+◌, ◌++◌, ◌∷◌, [], ℕ, List, Option, ap, append-nil, append_assoc, arith, length, length-append, refl, subst, sym, take}
 use Rattle.std.proofs.Common.{true}
-use Rattle.std.specs.Prelude.{IsErr, IsErrAnd, Result, Ok, Err}
+use Rattle.std.specs.Prelude.{◌≤◌, ◌-◌, IsErr, IsErrAnd, MatchOption, Result, Ok, Err}
 use Rattle.std.specs.Io.KnownBytes.{Appends}
 use Rattle.std.proofs.Math.Seq.{take-append_seam}
 use Rattle.rubis_engine.specs.Accounts.{Account}
@@ -15,14 +15,14 @@ use Rattle.rubis_engine.specs.declared.fault.Count.{Count}
 use Rattle.rubis_engine.specs.declared.fault.RunFault.{RunFault}
 use Rattle.rubis_engine.specs.declared.fault.RunFault.TheVariants as fault
 use Rattle.rubis_engine.proofs.RunFacts.{ends_on, ends_so}
-use Rattle.rubis_reading.specs.Chunked.{HasWholeInput, HasPending, IsChunk, KeepsCome, KeepsPending, TakesOff, held_text}
+use Rattle.rubis_reading.specs.Chunked.{ComesNearer, HasWholeInput, HasPending, IsChunk, KeepsCome, KeepsPending, TakesOff, held_text}
 use Rattle.rubis_reading.specs.declared.chunks.Chunks.{Chunks}
-use Rattle.rubis_reading.proofs.ChunkFacts.{come-rest, ended-last, pending-front}
+use Rattle.rubis_reading.proofs.ChunkFacts.{come-rest, ended-last, nearer-more, nearer-none, pending-front}
 use Rattle.rubis_serving.specs.Outlets.{IsOutlet, writes, writes_front}
 use Rattle.rubis_serving.specs.Serving.{At, Closes, Fills, Finishes, Goes, IsOver, IsSettled, MovesOn, Serving, Stalls, Stops, Turns, at, coming, serving}
-use Rattle.rubis_serving.specs.Serving.{still, AnswersFirst, AnswersJust, EndsLed, EndsWhole}
+use Rattle.rubis_serving.specs.Serving.{still, AnswersFirst, AnswersJust, AreAnswered, EndsLed, EndsWhole, RecordsEnd}
 use Rattle.rubis_serving.specs.declared.pieces.Served.{Served}
-use Rattle.rubis_serving.proofs.GoFacts.{goes-closes, goes-fills, goes-more, goes-none, goes-torn, match_so}
+use Rattle.rubis_serving.proofs.GoFacts.{fills-sooner, goes-closes, goes-fills, goes-more, goes-none, goes-torn, match_so}
 
 -- ---- the records of a piece
 
@@ -75,6 +75,29 @@ module _ {S O : Type 0} {k : Serving S O} where
         };
     come = came;
   }
+
+module _ {S O : Type 0} (k : Serving S O) where
+  -- by a chunk, if the run goes on
+  pub chunk-turns : {R : Type 0} (limit : ℕ) (rem : Lefts R) (chunks chunks2 : Chunks R) (many : ℕ) (text : List ℕ) (x y : At S O) (over : Option Count)
+      → IsChunk many (held_text chunks) → text ≡ take many (held_text chunks) → TakesOff rem chunks chunks2 (take many (held_text chunks))
+      → KeepsCome rem chunks chunks2 → ComesNearer (many - 1) rem chunks chunks2 → AreAnswered k limit (input_records text) x y over
+      → MatchOption over (MovesOn k rem chunks x chunks2 y × (y.answered ≤ limit) × ComesNearer 1 rem chunks chunks2) (IsOver k limit rem chunks x y)
+  chunk-turns limit rem chunks chunks2 many text x y over chunk is off came nearer answered =
+      match_so over
+      (λ (within, goes). (
+        moves-taken text is off came goes,
+        within,
+        nearer-more 0 (many - 1) 1 rem chunks chunks chunks2 (omega (arith, chunk.0)) (nearer-none rem chunks) nearer,
+      ))
+      (λ count closes. chunk-each rem chunks many text (λ r. Closes k limit r x y.service y.outlet count.records) chunk is closes) answered
+
+  -- something failed in a chunk
+  pub chunk-stops : {R : Type 0} (limit : ℕ) (rem : Lefts R) (chunks chunks2 : Chunks R) (many : ℕ) (text : List ℕ) (x y : At S O)
+      (result : Result (Option Count) RunFault) (e : RunFault) → IsErr result × IsErrAnd result (λ f. f ≡ e) → IsChunk many (held_text chunks)
+      → text ≡ take many (held_text chunks) → RecordsEnd k limit (input_records text) x y (Err e) → Turns k limit rem chunks x chunks2 y result
+  chunk-stops limit rem chunks chunks2 many text x y result e handed chunk is ends =
+      ends_on _ _ result e handed (λ long. chunk-each rem chunks many text (λ r. Fills k limit r x y) chunk is (fills-sooner long)) absurd
+      (λ torn. chunk-each rem chunks many text (λ r. k.tears (coming k x AtEnd r) x.outlet y.outlet) chunk is torn.torn) ends
 
 module _ {S O : Type 0} {k : Serving S O} (laws : IsOutlet k.puts k.tears) where
   pub moves-none : {R : Type 0} (rem : Lefts R) (chunks : Chunks R) (x : At S O) → MovesOn k rem chunks x chunks x
@@ -148,8 +171,11 @@ module _ {S W : Type 0} (account : S → ℕ → Account) (leads : S → ℕ →
   abbrev by : Serving S W
   by = serving account leads (writes contents) (writes_front contents)
 
-  abbrev from : S → W → At S W
+  abbrev pub from : S → W → At S W
   from s w = record { service = s; outlet = w; sink = []; answered = 0 }
+
+  pub begins : (s : S) (run : Served) (w : W) → run.reply.sink ≡ [] → run.answered ≡ 0 → at s run w ≡ from s w
+  begins s run w empty none = λ i. record { service = s; outlet = w; sink = empty i; answered = none i }
 
   -- it was cut short behind these records
   cut-just : (s : S) (w : W) (y : At S W) (rows rest : List (List (List ℕ))) → Goes by rows (from s w) y → IsSettled by y
@@ -193,14 +219,12 @@ module _ {S W : Type 0} (account : S → ℕ → Account) (leads : S → ℕ →
         subst (λ n. leads s 1 (take n records) y.service) h.full cut.1,
       )
 
-  -- a run that has answered nothing so far ends so
-  pub ends_led : {R : Type 0} (rem : Lefts R) (chunks chunks2 : Chunks R) (s s2 : S) (run run2 : Served) (w w2 : W) (limit : ℕ)
-      (input : List ℕ) (result : Result Count RunFault) → HasWholeInput rem chunks input → run.reply.sink ≡ [] → run.answered ≡ 0
-      → Finishes by limit rem chunks (at s run w) chunks2 (at s2 run2 w2) result → EndsLed account leads rem chunks2 limit s s2 (contents w) (contents w2) input result
-  ends_led rem chunks chunks2 s s2 run run2 w w2 limit input result (pending, come) empty none ends =
-      let y = at s2 run2 w2 in
+  -- a run that begins ends so
+  pub ends_from : {R : Type 0} (rem : Lefts R) (chunks chunks2 : Chunks R) (s : S) (w : W) (y : At S W) (limit : ℕ) (input : List ℕ)
+      (result : Result Count RunFault) → HasWholeInput rem chunks input → Finishes by limit rem chunks (from s w) chunks2 y result
+      → EndsLed account leads rem chunks2 limit s y.service (contents w) (contents y.outlet) input result
+  ends_from rem chunks chunks2 s w y limit input result (pending, come) ends =
       let records = input_records input in
-      let starts : at s run w ≡ from s w = λ i. record { service = s; outlet = w; sink = empty i; answered = none i } in
       ends_so result
       (λ count over.
       let h = over records pending in
@@ -213,11 +237,19 @@ module _ {S W : Type 0} (account : S → ℕ → Account) (leads : S → ℕ →
       let size = ap length one.parts ∙ length-append one.rows one.rest in
       let came = come-rest rem chunks2 input one.rest one.pending come2 in (
         y.answered,
-        subst (λ r. AnswersJust account leads y.answered s s2 (contents w) (contents w2) r) (sym one.parts) (cut-just s w y one.rows one.rest one.goes h.settled),
+        subst (λ r. AnswersJust account leads y.answered s y.service (contents w) (contents y.outlet) r) (sym one.parts)
+            (cut-just s w y one.rows one.rest one.goes h.settled),
         record { come = come2; count = omega (arith, size, came, one.goes.count); none = h.none },
       ))
-      (λ torn. torn records pending)
-      (subst (λ x. Finishes by limit rem chunks x chunks2 y result) starts ends)
+      (λ torn. torn records pending) ends
+
+  -- so does one that has answered nothing so far
+  pub ends_led : {R : Type 0} (rem : Lefts R) (chunks chunks2 : Chunks R) (s s2 : S) (run run2 : Served) (w w2 : W) (limit : ℕ)
+      (input : List ℕ) (result : Result Count RunFault) → HasWholeInput rem chunks input → run.reply.sink ≡ [] → run.answered ≡ 0
+      → Finishes by limit rem chunks (at s run w) chunks2 (at s2 run2 w2) result → EndsLed account leads rem chunks2 limit s s2 (contents w) (contents w2) input result
+  ends_led rem chunks chunks2 s s2 run run2 w w2 limit input result whole empty none ends =
+      ends_from rem chunks chunks2 s w (at s2 run2 w2) limit input result whole
+      (subst (λ x. Finishes by limit rem chunks x chunks2 (at s2 run2 w2) result) (begins s run w empty none) ends)
 
 -- ---- what it says of the text
 

@@ -8,4 +8,4 @@ mod run;
 
 pub use outlets::Outlet;
 pub use pieces::{BLOCK, Served, settle};
-pub use run::{answer_front, answer_piece, run_service, turn};
+pub use run::{answer_piece, run_service, turn};

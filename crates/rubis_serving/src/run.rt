@@ -1,16 +1,14 @@
 //! A run of a service over the chunks of a text.
 
-ghost use Rattle.std.specs.Prelude.{◌≡◌, ◌≤◌, ◌<◌, ◌+◌, ◌-◌, ◌∷◌, ◌^◌, [], ℕ, List, OnOk, drop, true};
-ghost use Rattle.rubis_engine.specs.Progress.{ByEnd};
-ghost use Rattle.rubis_engine.specs.Reading.{Gives};
-ghost use Rattle.rubis_engine.specs.Seam.{Lefts, OfEach};
+ghost use Rattle.std.specs.Prelude.{◌≡◌, ◌≤◌, ℕ, List, true};
+ghost use Rattle.rubis_engine.specs.Seam.{OfEach};
 ghost use Rattle.rubis_engine.specs.Text.{input_records};
-ghost use Rattle.rubis_reading.specs.Chunked.{HasWholeInput, IsChunk, held_text};
-ghost use Rattle.rubis_serving.specs.Serving.{AreAnswered, Finishes, RecordsEnd, Tears, Turns, at, serving, EndsLed};
+ghost use Rattle.rubis_reading.specs.Chunked.{HasWholeInput};
+ghost use Rattle.rubis_serving.specs.Serving.{EndsLed, Finishes, RecordsEnd, Turns, at, serving};
 
 use crate::outlets::Outlet;
 use crate::pieces::{Served, ask_for_more, end, settle};
-use rubis_engine::{Count, Course, InputRecord, Records, RunFault, Service};
+use rubis_engine::{Count, Course, Records, RunFault, Service};
 use rubis_reading::Chunks;
 use std::alloc::Global;
 use std::io::{Read, Write};
@@ -19,71 +17,6 @@ use std::io::{Read, Write};
 // records, so `limit` doesn't count them, and a reader may give them for ever. A loop without an end would need a runtime that may
 // wait, which an audit doesn't have.
 const PAST_ALL_PIECES: RunFault = RunFault::Memory;
-
-// Answers a record. `None` if the run goes on, otherwise how many records were read.
-#[inline(always)]
-fn answer_record<S: Service, O: Outlet>(
-    fields: &InputRecord,
-    service: &mut S,
-    run: &mut Served,
-    outlet: &mut O,
-) -> Result<Option<Count>, RunFault>
-    requires room { run.old.answered + 1 < 2 ^ 64 }
-    requires shares { S.shares }
-    ensures same { S.setup service.new ≡ S.setup service.old }
-    ensures answered { let k = serving S.account S.leads O.puts O.tears in
-        let x = at service.old run.old outlet.old in ByEnd result
-        (AreAnswered k (run.old.answered + 1) (fields.now ∷ []) x (at service.new run.new outlet.new)) ⊥ ⊥ (Tears k (fields.now ∷ []) x outlet.new) }
-{
-    run.reply.number = run.answered + 1;
-    let course = outlet.answer(service, fields, &mut run.reply)?;
-    run.answered += 1;
-    match course {
-        Course::Ends => {
-            outlet.put_all(&mut run.reply.sink)?;
-            Ok(Some(Count {
-                records: run.answered,
-            }))
-        }
-        Course::GoesOn => {
-            outlet.put_full(&mut run.reply.sink)?;
-            Ok(None)
-        }
-    }
-}
-
-// Answers the records of a piece of text until one ends the run, unless that makes more than `limit` of them: the first `limit` are
-// answered then. `None` if the run goes on, otherwise how many records were read.
-fn answer_records<S: Service, R: Read, O: Outlet>(
-    piece: &mut Records<R>,
-    service: &mut S,
-    run: &mut Served,
-    outlet: &mut O,
-    limit: u64,
-) -> Result<Option<Count>, RunFault>
-    requires within { run.old.answered ≤ limit }
-    requires known { (rows : List (List (List ℕ))) × Gives R.remaining piece.old rows }
-    requires shares { S.shares }
-    ensures same { S.setup service.new ≡ S.setup service.old }
-    ensures answered { (rows : List (List (List ℕ))) → Gives R.remaining piece.old rows
-        → RecordsEnd (serving S.account S.leads O.puts O.tears) limit rows (at service.old run.old outlet.old) (at service.new run.new outlet.new) result }
-{
-    'records: loop {
-        let Ok(found) = piece.advance() else {
-            return Err(RunFault::Memory);
-        };
-        if !found {
-            return Ok(None);
-        }
-        if run.answered >= limit {
-            settle(service, run, outlet)?;
-            return Err(RunFault::TooLong);
-        }
-        if let Some(count) = answer_record(piece.fields(), service, run, outlet)? {
-            return Ok(Some(count));
-        }
-    }
-}
 
 /// Answers the records of a text until one ends the run, up to `limit` of all. `None` if the run goes on, otherwise how many records were
 /// read.
@@ -106,7 +39,30 @@ pub fn answer_piece<S: Service, O: Outlet>(
         (at service.old run.old outlet.old) (at service.new run.new outlet.new) result }
 {
     let mut piece = Records::new(run.alloc, text);
-    answer_records(&mut piece, service, run, outlet, limit)
+    'records: loop {
+        let Ok(found) = piece.advance() else {
+            return Err(RunFault::Memory);
+        };
+        if !found {
+            return Ok(None);
+        }
+        if run.answered >= limit {
+            settle(service, run, outlet)?;
+            return Err(RunFault::TooLong);
+        }
+        run.reply.number = run.answered + 1;
+        let course = outlet.answer(service, piece.fields(), &mut run.reply)?;
+        run.answered += 1;
+        match course {
+            Course::Ends => {
+                outlet.put_all(&mut run.reply.sink)?;
+                return Ok(Some(Count {
+                    records: run.answered,
+                }));
+            }
+            Course::GoesOn => outlet.put_full(&mut run.reply.sink)?,
+        }
+    }
 }
 
 // Answers what is held, which is the rest of the text, and ends the run.
@@ -128,35 +84,6 @@ fn finish<S: Service, R: Read, O: Outlet>(
         return Ok(count);
     }
     end(service, run, outlet)
-}
-
-/// Answers the records of the first `many` bytes that are held, and hands these on. `None` if the run goes on, otherwise how many records
-/// were read.
-///
-/// # Errors
-///
-/// Those of `turn`, but for `Read`.
-pub fn answer_front<S: Service, R: Read, O: Outlet>(
-    chunks: &mut Chunks<R>,
-    service: &mut S,
-    run: &mut Served,
-    outlet: &mut O,
-    many: usize,
-    limit: u64,
-) -> Result<Option<Count>, RunFault>
-    requires chunk { IsChunk many (held_text chunks.old) }
-    requires within { run.old.answered ≤ limit }
-    requires shares { S.shares }
-    ensures same { S.setup service.new ≡ S.setup service.old }
-    ensures reader { chunks.new.reader ≡ chunks.old.reader }
-    ensures turns { (left : Lefts R) → Turns (serving S.account S.leads O.puts O.tears) limit left chunks.old
-        (at service.old run.old outlet.old) chunks.new (at service.new run.new outlet.new) result }
-    ensures held { OnOk result (held_text chunks.new ≡ drop (many - 1) (held_text chunks.old)) }
-{
-    let (text, _) = chunks.held().split_at(many);
-    let over = answer_piece(text, service, run, outlet, limit)?;
-    chunks.pass(many);
-    Ok(over)
 }
 
 /// Takes the next step through a text. If whole records are held, these are answered, up to `most` bytes of them. Otherwise all that came is
@@ -185,34 +112,16 @@ pub fn turn<S: Service, R: Read, O: Outlet>(
 {
     let many = chunks.whole(most);
     if many > 1 {
-        return answer_front(chunks, service, run, outlet, many, limit);
+        let (text, _) = chunks.held().split_at(many);
+        let over = answer_piece(text, service, run, outlet, limit)?;
+        chunks.pass(many);
+        return Ok(over);
     }
     if ask_for_more(chunks, service, run, outlet)? {
         return Ok(None);
     }
     let count = finish(chunks, service, run, outlet, limit)?;
     Ok(Some(count))
-}
-
-// Answers records until there are no more or one ends the run, or up to `limit` of them.
-fn serve<S: Service, R: Read, O: Outlet>(
-    chunks: &mut Chunks<R>,
-    service: &mut S,
-    run: &mut Served,
-    outlet: &mut O,
-    limit: u64,
-) -> Result<Count, RunFault>
-    requires within { run.old.answered ≤ limit }
-    requires shares { S.shares }
-    ensures { OfEach R.remaining chunks.old.reader chunks.new.reader (λ left. Finishes (serving S.account S.leads O.puts O.tears) limit left chunks.old
-        (at service.old run.old outlet.old) chunks.new (at service.new run.new outlet.new) result) }
-{
-    'pieces: for _ in 0..u64::MAX {
-        if let Some(count) = turn(chunks, service, run, outlet, usize::MAX, limit)? {
-            return Ok(count);
-        }
-    }
-    Err(PAST_ALL_PIECES)
 }
 
 /// Has a service answer the records of a text until its end, or until a record ends the run, or up to `limit` of them, and appends the
@@ -237,5 +146,10 @@ pub fn run_service<S: Service, R: Read, W: Write>(
         → EndsLed S.account S.leads left chunks.new limit service.old service.new (W.contents writer.old) (W.contents writer.new) input result) }
 {
     let mut run = Served::new(alloc);
-    serve(chunks, service, &mut run, writer, limit)
+    'pieces: for _ in 0..u64::MAX {
+        if let Some(count) = turn(chunks, service, &mut run, writer, usize::MAX, limit)? {
+            return Ok(count);
+        }
+    }
+    Err(PAST_ALL_PIECES)
 }

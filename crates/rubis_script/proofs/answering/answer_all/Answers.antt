@@ -1,4 +1,4 @@
-use Rattle.rubis_script.proofs.Common.{◌≡◌, ◌∙◌, ◌+◌, ◌++◌, [], ap, append-nil, append_assoc, arith, length, length-append, refl, subst, sym, ends_on}
+use Rattle.rubis_script.proofs.Common.{◌≡◌, ◌∙◌, ◌++◌, [], ap, append-nil, append_assoc, arith, length, length-append, refl, subst, sym, ends_on}
 use Rattle.rubis_script.proofs.Common.{ends_write, flat, of_stretch, at, are_outlets}
 use Rattle.rubis_serving.proofs.GoFacts.{goes-put, tears-waiting}
 use Rattle.rubis_script.specs.Runs.{BreaksAhead, GoesAhead}

@@ -1,6 +1,6 @@
 use Rattle.rubis_script.proofs.Common.{◌≡◌, rules, at}
 use Rattle.rubis_script.proofs.StretchFacts.{ends-at}
-use Rattle.rubis_script.proofs.helped.serve_beside.Goals as goal
+use Rattle.rubis_script.proofs.helped.serve_helped.Goals as goal
 
 pub returns-clause-run : goal.returns-clause-run
 returns-clause-run g c =
