@@ -289,8 +289,9 @@ impl<G: Gate> Follower<G> {
         ensures ok { OnOk result (self.new.progress ≡ resting_at (length log.now)) }
         ensures err { OnErr result (HasBegun log.now self.old.progress self.new.progress ⊎ IsBetweenBatches self.old.progress self.new.progress) }
     {
-        let end = self.progress.end();
-        self.follow_upto(rt, log, end)?;
+        if let Stage::Keeping { upto } = self.progress.stage {
+            self.follow_upto(rt, log, upto)?;
+        }
         self.follow_upto(rt, log, log.len())
     }
 

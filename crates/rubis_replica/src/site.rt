@@ -172,7 +172,9 @@ impl<G: Gate> Site<G> {
         self.refresh(rt)?;
         let standing = self.intake.standing();
         let shadow = decide(ask, self.follower.tables(), &standing)?;
-        let message = self.intake.generated(shadow)?;
+        let Ok(message) = self.intake.generated(shadow) else {
+            return Err(Fault::Memory);
+        };
         self.apply_batch(rt);
         Ok(message)
     }

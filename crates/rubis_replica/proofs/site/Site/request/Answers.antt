@@ -39,7 +39,7 @@ pub invariant_of-self-2 : goal.invariant_of-self-2
 invariant_of-self-2 g c =
     let intake = c.self.inside.intake in
     follows_made intake.place intake.state c.generated.new.self.state c.in_ok-shadow.shadow c.self.inside.follower
-    c.in_ok-message.ensures.state c.self.invariant
+    c.in-Ok.ensures.state c.self.invariant
 
 pub returns-clause-step : goal.returns-clause-step
 returns-clause-step g c =
