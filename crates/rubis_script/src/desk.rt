@@ -3,6 +3,7 @@
 ghost use Rattle.std.proofs.Common.{rules};
 ghost use Rattle.std.specs.Prelude.{◌≡◌, ◌≤◌, ◌<◌, ◌+◌, ◌++◌, ◌∷◌, ◌^◌, [], All, IfOk, OnOk, length, max, refl};
 ghost use Rattle.rubis_schema.specs.declared.limits.TheConstants.{COUNTED_MAX};
+ghost use Rattle.rubis_shadow.specs.Shadows.{IsAsk};
 ghost use Rattle.rubis_message.specs.Grammar.{IsPacket};
 ghost use Rattle.rubis_message.specs.Message.{sites_of};
 ghost use Rattle.rubis_message.specs.declared.requests.Request.TheVariants as Request;
@@ -113,8 +114,27 @@ fn answer_packet<R: Threads + Wait + Sync>(
     }
 }
 
-// Answers what a record was read as.
+// Answers an ask.
 #[inline(always)]
+fn answer_ask<R: Threads + Wait + Sync>(
+    rt: &R,
+    site: &mut Site<SiteGate>,
+    reply: &mut Reply,
+    ask: Ask,
+) -> Result<(), OutOfMemory>
+    requires { IsAsk site.old.place.sites ask }
+    ensures place { site.new.place ≡ site.old.place }
+    ensures answered { OnOk result (IsAnswered reply.old.number (Asked (Request.Ask ask)) site.old site.new reply.old.sink reply.new.sink) }
+{
+    match site.request(rt, ask) {
+        Ok(message) => Ok(write_sent(&mut reply.draft, &mut reply.sink, reply.number, &message)?),
+        Err(fault) => answer_fault(reply, fault),
+    }
+}
+
+// Answers what a record was read as. It is a call of its own, so that the values of records that aren't asks have no room at the desk, which
+// would be cleared for each record.
+#[inline(never)]
 fn answer<R: Threads + Wait + Sync>(
     rt: &R,
     site: &mut Site<SiteGate>,
@@ -127,15 +147,7 @@ fn answer<R: Threads + Wait + Sync>(
 {
     match read {
         Input::Came(packet) => answer_packet(rt, site, reply, packet),
-        Input::Asked(Request::Ask(ask)) => match site.request(rt, ask) {
-            Ok(message) => Ok(write_sent(
-                &mut reply.draft,
-                &mut reply.sink,
-                reply.number,
-                &message,
-            )?),
-            Err(fault) => answer_fault(reply, fault),
-        },
+        Input::Asked(Request::Ask(ask)) => answer_ask(rt, site, reply, ask),
         Input::Asked(Request::Pass(to)) => match site.pass(to) {
             Ok(token) => Ok(write_passed(
                 &mut reply.draft.row,
@@ -376,6 +388,10 @@ impl<T: Threads + Wait + Sync> Desk<'_, T> {
             Input::Came(Packet::Msg(message)) if self.together > 1 => {
                 Ok(self.hold_next(reply, message)?)
             }
+            Input::Asked(Request::Ask(ask)) => {
+                self.flush(reply)?;
+                Ok(answer_ask(self.rt, &mut self.site, reply, ask)?)
+            }
             other => {
                 self.flush(reply)?;
                 Ok(answer(self.rt, &mut self.site, reply, other)?)
@@ -408,7 +424,9 @@ impl<T: Threads + Wait + Sync> Service for Desk<'_, T> {
         reply: &mut Reply,
         writer: &mut W,
     ) -> Result<Course, RunFault> {
-        let read = self.read(fields)?;
+        let Ok(read) = read_input(self.alloc, fields, self.sites) else {
+            return Err(RunFault::Memory);
+        };
         self.take(reply, read, writer)?;
         Ok(Course::GoesOn)
     }

@@ -20,7 +20,7 @@ returns-in-Asked-List-clause-takes g c =
 
 pub returns-in_err-hold_next-in-Came-Msg-clause-takes : goal.returns-in_err-hold_next-in-Came-Msg-clause-takes
 returns-in_err-hold_next-in-Came-Msg-clause-takes g c =
-    ends_memory _ _ _ c.from_residual.result c.from_residual.ensures
+    ends_memory _ _ _ c.from_residual-in_err-hold_next-in-Came-Msg.result c.from_residual-in_err-hold_next-in-Came-Msg.ensures
     (prefix-unwritten c.args.read c.args.reply.now.number c.args.self.now c.args.reply.now.sink (g.W.Write.contents c.args.writer.now))
 
 pub returns-in_ok-hold_next-in-Came-Msg-clause-takes : goal.returns-in_ok-hold_next-in-Came-Msg-clause-takes
@@ -31,6 +31,31 @@ returns-in_ok-hold_next-in-Came-Msg-clause-takes g c =
     (g.W.Write.contents c.args.writer.now)
     (subst (λ i. TakesNext i n c.args.self.now c.hold_next.new.self c.args.reply.now.sink c.hold_next.new.reply.sink) (sym whole)
     c.in_ok-hold_next-in-Came-Msg.ensures.takes)
+
+pub returns-in_err-flush-in-Asked-Ask-clause-takes : goal.returns-in_err-flush-in-Asked-Ask-clause-takes
+returns-in_err-flush-in-Asked-Ask-clause-takes g c =
+    ends_memory _ _ _ c.from_residual.result c.from_residual.ensures
+    (prefix-unwritten c.args.read c.args.reply.now.number c.args.self.now c.args.reply.now.sink (g.W.Write.contents c.args.writer.now))
+
+pub returns-in_err-answer_ask-in-Asked-Ask-clause-takes : goal.returns-in_err-answer_ask-in-Asked-Ask-clause-takes
+returns-in_err-answer_ask-in-Asked-Ask-clause-takes g c =
+    ends_memory _ _ _ c.from_residual-in_err-answer_ask-in-Asked-Ask.result c.from_residual-in_err-answer_ask-in-Asked-Ask.ensures
+    (prefix-unwritten c.args.read c.args.reply.now.number c.args.self.now c.args.reply.now.sink (g.W.Write.contents c.args.writer.now))
+
+pub returns-in_ok-answer_ask-in-Asked-Ask-clause-takes : goal.returns-in_ok-answer_ask-in-Asked-Ask-clause-takes
+returns-in_ok-answer_ask-in-Asked-Ask-clause-takes g c =
+    let flushed = c.in_ok-flush-in-Asked-Ask.ensures in
+    let d = c.args.self.now in
+    let mid = c.flush.new.self in
+    let n = c.args.reply.now.number in
+    let whole : c.args.read ≡ input.Asked (request.Ask c.in-Asked-Ask.ask) = search rules in
+    next-waiting c.args.read n d _ c.args.reply.now.sink c.answer_ask.new.reply.sink (g.W.Write.contents c.args.writer.now)
+    (next-flushed d mid _ c.args.read n c.args.reply.now.sink c.flush.new.reply.sink c.answer_ask.new.reply.sink flushed.same flushed.flushed
+    flushed.empty c.answer_ask.ensures.place
+    (subst (λ k. IsAnswered k c.args.read mid.site c.answer_ask.new.site c.flush.new.reply.sink c.answer_ask.new.reply.sink) flushed.number
+    (subst (λ r. IsAnswered c.flush.new.reply.number r mid.site c.answer_ask.new.site c.flush.new.reply.sink c.answer_ask.new.reply.sink) (sym whole)
+    c.in_ok-answer_ask-in-Asked-Ask.ensures.answered))
+    flushed.empty)
 
 pub returns-in_err-flush-in_default-clause-takes : goal.returns-in_err-flush-in_default-clause-takes
 returns-in_err-flush-in_default-clause-takes g c =
@@ -46,13 +71,13 @@ pub returns-in_ok-answer-in_default-clause-takes : goal.returns-in_ok-answer-in_
 returns-in_ok-answer-in_default-clause-takes g c =
     let flushed = c.in_ok-flush-in_default.ensures in
     let d = c.args.self.now in
-    let mid = c.flush.new.self in
+    let mid = c.flush-in_default.new.self in
     let n = c.args.reply.now.number in
     let same : c.in_default-1.read ≡ c.args.read = search rules in
     next-waiting c.args.read n d _ c.args.reply.now.sink c.answer.new.reply.sink (g.W.Write.contents c.args.writer.now)
-    (next-flushed d mid _ c.args.read n c.args.reply.now.sink c.flush.new.reply.sink c.answer.new.reply.sink flushed.same flushed.flushed
+    (next-flushed d mid _ c.args.read n c.args.reply.now.sink c.flush-in_default.new.reply.sink c.answer.new.reply.sink flushed.same flushed.flushed
     flushed.empty c.answer.ensures.place
-    (subst (λ k. IsAnswered k c.args.read mid.site c.answer.new.site c.flush.new.reply.sink c.answer.new.reply.sink) flushed.number
-    (subst (λ r. IsAnswered c.flush.new.reply.number r mid.site c.answer.new.site c.flush.new.reply.sink c.answer.new.reply.sink) same
+    (subst (λ k. IsAnswered k c.args.read mid.site c.answer.new.site c.flush-in_default.new.reply.sink c.answer.new.reply.sink) flushed.number
+    (subst (λ r. IsAnswered c.flush-in_default.new.reply.number r mid.site c.answer.new.site c.flush-in_default.new.reply.sink c.answer.new.reply.sink) same
     c.in_ok-answer-in_default.ensures.answered))
     flushed.empty)
