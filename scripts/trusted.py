@@ -3,7 +3,8 @@
 
 PROGRAM is the built rubis. The list has the libraries of the toolchain that the program's crates stand on, and those below them; the C
 functions whose contracts the proof assumes, by `rt check --list-axioms`; those that the program calls, by its symbols; and the seams: the
-functions that make a call and add what happens by it to a history, in files named seam.rt, where reading has to show that the two agree.
+functions that make a call and add what happens by it to a history, in files whose names end in seam.rt, and those that say by it where their
+calls begin. Of these reading has to show that the two agree.
 
 With --write it is written, in crates/rubis_app, where the crates below are proved: on a new machine that check would take as long as the
 gate. Else the libraries and the seams are compared, and that the program calls no C function beyond the list. The last line says how many
@@ -23,6 +24,8 @@ PAGE = TOP / "docs/PROMISES.md"
 PROGRAM_CRATE = "rubis_app"
 BLOCK = re.compile(r"(?<=```text\n)libraries: .*?(?=```)", re.S)
 WIDTH = 120     # of a line of the list
+ADDS = re.compile(r"History::new\(\)|\.(?:past|came|went)\.add\(|\b(?:self|history)\.(?:add|begins)\(")
+TELLS = re.compile(r"\bhistory\.begins\(")
 
 
 def libraries(tools: pathlib.Path) -> list[str]:
@@ -58,12 +61,12 @@ def called(tools: pathlib.Path, program: str) -> list[str]:
 
 
 def seams() -> list[str]:
-    """The functions whose events nothing can prove: those of the files named seam.rt that begin a history or add to it."""
+    """The functions whose events nothing can prove: those of the seams that begin a history or add to it, and those that tell one of a deed."""
     found = []
-    for path in sorted((TOP / "crates").glob("*/src/seam.rt")):
+    for path in sorted((TOP / "crates").glob("*/src/*.rt")):
+        adds = ADDS if path.stem.endswith("seam") else TELLS
         parts = re.split(r"\bfn (\w+)", path.read_text())[1:]
-        found += [f"{path.parent.parent.name}::seam::{name}" for name, text in zip(parts[::2], parts[1::2])
-                  if re.search(r"History::new\(\)|\.(?:past|came|went)\.add\(", text)]
+        found += [f"{path.parent.parent.name}::{path.stem}::{name}" for name, text in zip(parts[::2], parts[1::2]) if adds.search(text)]
     return sorted(set(found))
 
 

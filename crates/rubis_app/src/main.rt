@@ -24,7 +24,7 @@ use rubis_command::{
     SetupOptions, Widening, end, fail, misuse, read_site, read_words, words_of,
 };
 use rubis_engine::Outgoing;
-use rubis_keep::{FolderFault, Setup as Place, Wanted, keep_folder};
+use rubis_keep::{FolderFault, FolderHistory, Setup as Place, Wanted, keep_folder};
 use rubis_reading::Chunks;
 use rubis_schema::{Hashes, KEEP_MAX, RECORDS_MAX, SITES_MAX};
 use rubis_script::{chunks_for, run_last_site};
@@ -376,7 +376,7 @@ fn run_keep<
     ensures { IsStatus (exit_status result) }
 {
     let folder = options.folder.as_str();
-    match keep_folder(rt, folder, &wanted_of(options)) {
+    match keep_folder(rt, folder, &wanted_of(options), &mut FolderHistory::new()) {
         Ok(()) => ExitCode::SUCCESS,
         Err(fault) => fail_keep(rt, folder, fault),
     }

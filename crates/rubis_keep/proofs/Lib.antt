@@ -15,3 +15,4 @@ pub mod SafeFacts
 pub mod ReplyFacts
 pub mod RunFacts
 pub mod PlainFacts
+pub mod DeedFacts

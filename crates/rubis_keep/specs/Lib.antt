@@ -6,6 +6,8 @@ pub mod KeptLine
 pub mod SetupLine
 pub mod Shortened
 pub mod Setups
+pub mod Deeds
+pub mod Steps
 pub mod Questions
 pub mod Saying
 pub mod Turns

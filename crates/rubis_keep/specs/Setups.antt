@@ -18,6 +18,10 @@ GoesOn w s = (unwrap_or w.site s.site ≡ s.site) × (unwrap_or w.sites s.sites 
 abbrev pub next_setup : Wanted → Setup → Setup
 next_setup w s = record s { keep = unwrap_or w.keep s.keep }
 
+-- how a site is set up in this version
+abbrev pub renewed : Setup → Setup
+renewed s = record s { answers = ANSWERS }
+
 -- the configuration of a site that is set up so, with the shards, workers and batches that are asked for
 abbrev pub config_of : Wanted → Setup → SiteSetup
 config_of w s = record { site = s.site; sites = s.sites; shards = w.shards; workers = w.workers; batch = w.batch; keep = s.keep }

@@ -1,6 +1,7 @@
 //! The files of a site in a folder.
 
-ghost use Rattle.std.specs.Prelude.{Some};
+ghost use Rattle.std.specs.Prelude.{IfErr, Some};
+ghost use Rattle.rubis_keep.specs.Deeds.{IsFailure};
 
 use crate::counts::kept_line;
 use crate::fault::FolderFault;
@@ -104,7 +105,9 @@ pub(crate) fn flush_names<R: Files<File = File> + AllocGlobal>(
 pub(crate) fn take_lock<R: Files<File = File> + AllocGlobal + Clock>(
     rt: &R,
     folder: &str,
-) -> Result<File, FolderFault> {
+) -> Result<File, FolderFault>
+    ensures { IfErr result IsFailure }
+{
     let file = open(rt, folder, "lock").map_err(FolderFault::Lock)?;
     for _turn in 0..TRIES {
         match file.try_lock() {

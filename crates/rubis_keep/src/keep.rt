@@ -1,16 +1,22 @@
 //! A site in a folder, from its start to its end.
 
-ghost use Rattle.std.specs.Prelude.{◌≡◌, ◌<◌, IfOk};
+ghost use Rattle.std.specs.Prelude.{◌≡◌, ◌++◌, ◌∷◌, ◌&&◌, [], IfErr, IfOk, None, OnErr, OnOk, Some, is_none, true};
 ghost use Rattle.std.specs.Option.{SomeIff};
 ghost use Rattle.rubis_script.specs.Replica.{IsSetup};
-ghost use Rattle.rubis_keep.specs.Setups.{GoesOn, config_of, next_setup, opening_setup};
+ghost use Rattle.rubis_keep.specs.Deeds.{AreSettings, IsFailure, IsUnfit, KeepsFolder, KeepsFound, LeavesKeysOut, Looks, Makes, MayHaveBegun, Prepares};
+ghost use Rattle.rubis_keep.specs.Deeds.{Renews, RenewsKeyless, Serves, StopsBy, service, setup_for, whole};
+ghost use Rattle.rubis_keep.specs.Deeds.FolderDeed.{Answers as IsAnswered, AnswersAnew as IsAnsweredAnew, Rewrites as IsRewritten, Runs as IsRun};
+ghost use Rattle.rubis_keep.specs.Deeds.FolderDeed.{SetsUp as IsSetUp};
+ghost use Rattle.rubis_keep.specs.Deeds.FolderStep.{Began, Found};
+ghost use Rattle.rubis_keep.specs.Setups.{GoesOn, config_of, next_setup, opening_setup, renewed};
 
 use crate::answers::Answers;
 use crate::fault::{FolderFault, KeepFault};
 use crate::files::{begin, flush_names, give_name, open, take_lock};
+use crate::folder_seam::{Deed, FolderHistory, find, find_keys, set_up};
 use crate::run::Recording;
 use crate::seam::FolderFiles;
-use crate::setup::{ANSWERS, KEYLESS, Setup, name_setup, read_setup};
+use crate::setup::{ANSWERS, KEYLESS, Setup};
 use crate::shortening::shorten;
 use crate::site::keep_site;
 use rubis_engine::{Records, RunFault};
@@ -55,17 +61,6 @@ impl Wanted {
         }
     }
 
-    // The same, if that is possible.
-    fn begun(&self) -> Result<Setup, FolderFault>
-        ensures { IfOk result (λ setup. (setup ≡ opening_setup self.now) × (setup.site < setup.sites)) }
-    {
-        let setup = self.opening();
-        if setup.site >= setup.sites {
-            return Err(FolderFault::NotBelow);
-        }
-        Ok(setup)
-    }
-
     // How a site goes on that was set up so: it may keep more. `None` if something else is asked for.
     fn goes_on(&self, setup: Setup) -> Option<Setup>
         ensures { SomeIff result (GoesOn self.now setup) (next_setup self.now setup) }
@@ -94,25 +89,57 @@ impl Wanted {
         )?;
         Some(config.with_hashes(Hashes::random(rt)))
     }
+
+    // Whether there has to be a site, and none was found.
+    fn lacks(&self, found: Option<Setup>) -> bool
+        ensures { result ≡ (self.now.shortens && is_none found) }
+    {
+        self.shortens && found.is_none()
+    }
+
+    // How a site goes on that is set up so, or is to be.
+    fn settings<R: RandomSource>(&self, rt: &R, setup: Setup) -> Result<Settings, FolderFault>
+        ensures settings { IfOk result (AreSettings self.now setup) }
+        ensures unfit { IfErr result (IsUnfit self.now setup) }
+    {
+        let Some(next) = self.goes_on(setup) else {
+            return Err(FolderFault::IsOther(setup));
+        };
+        let Some(config) = self.config(rt, setup) else {
+            return Err(FolderFault::NotBelow);
+        };
+        let Some(raised) = self.config(rt, next) else {
+            return Err(FolderFault::NotBelow);
+        };
+        Ok(Settings {
+            setup,
+            next,
+            config,
+            raised,
+        })
+    }
+
+    // Nothing is made for a site that can't be, or where a site's records are to be shortened: there has to be a site.
+    fn allow<R: RandomSource>(&self, rt: &R, found: Option<Setup>) -> Result<(), FolderFault>
+        ensures { IfErr result (StopsBy self.now (Found found ∷ [])) }
+    {
+        if self.lacks(found) {
+            return Err(FolderFault::NoSite);
+        }
+        if found.is_none() {
+            self.settings(rt, self.opening())?;
+        }
+        Ok(())
+    }
 }
 
-// How the site in a folder is set up. A new one is set up as it is wanted.
-fn settled<R: Files<File = File> + AllocGlobal>(
-    rt: &R,
-    folder: &str,
-    wanted: &Wanted,
-) -> Result<Setup, FolderFault> {
-    if let Some(setup) = read_setup(rt, folder).map_err(FolderFault::Setup)? {
-        return Ok(setup);
-    }
-    let kept = open(rt, folder, "kept").map_err(FolderFault::Kept)?;
-    if kept.metadata().map_err(FolderFault::Kept)?.len() > 0 {
-        return Err(FolderFault::NoSetup);
-    }
-    let setup = wanted.begun()?;
-    name_setup(rt, folder, setup).map_err(FolderFault::Setup)?;
-    flush_names(rt, folder).map_err(FolderFault::Setup)?;
-    Ok(setup)
+/// How the site in a folder goes on: how it is set up, and from now on; and its configuration, set up so.
+#[derive(Drop)]
+pub(crate) struct Settings {
+    setup: Setup,
+    next: Setup,
+    config: Config,
+    raised: Config,
 }
 
 // What was kept in a folder, opened to be read.
@@ -137,7 +164,9 @@ fn complete<R: Files<File = File> + Print + AllocGlobal + Threads + Wait + Sync>
     config: &Config,
     out: File,
     len: u64,
-) -> Result<File, FolderFault> {
+) -> Result<File, FolderFault>
+    ensures { IfErr result IsFailure }
+{
     let mut recording = open_kept(rt, folder).map_err(FolderFault::Kept)?;
     let before = open(rt, folder, "out").map_err(FolderFault::Out)?.take(len);
     let kept = open(rt, folder, "kept").map_err(FolderFault::Kept)?;
@@ -161,11 +190,19 @@ fn upgrade<R: Files<File = File> + Print + AllocGlobal + Threads + Wait + Sync>(
     rt: &R,
     folder: &str,
     config: &Config,
-) -> Result<(), FolderFault> {
+    history: &mut FolderHistory,
+) -> Result<(), FolderFault>
+    ensures ok { OnOk result (history.new.steps ≡ history.old.steps ++ whole (IsAnsweredAnew config.now ∷ [])) }
+    ensures err { OnErr result (history.new.steps ≡ history.old.steps ++ Began (IsAnsweredAnew config.now) ∷ []) }
+    ensures fault { IfErr result IsFailure }
+{
+    history.begins(&Deed::AnswersAnew(config));
     let fresh = begin(rt, folder, "out").map_err(FolderFault::Out)?;
     let fresh = complete(rt, folder, config, fresh, 0)?;
     give_name(rt, folder, "out", &fresh).map_err(FolderFault::Out)?;
-    flush_names(rt, folder).map_err(FolderFault::Out)
+    flush_names(rt, folder).map_err(FolderFault::Out)?;
+    history.ends(&Deed::AnswersAnew(config));
+    Ok(())
 }
 
 // Completes the answers to what was kept, as they are.
@@ -173,15 +210,27 @@ fn complete_out<R: Files<File = File> + Print + AllocGlobal + Threads + Wait + S
     rt: &R,
     folder: &str,
     config: &Config,
-) -> Result<File, FolderFault> {
+    history: &mut FolderHistory,
+) -> Result<(), FolderFault>
+    ensures ok { OnOk result (history.new.steps ≡ history.old.steps ++ whole (IsAnswered config.now ∷ [])) }
+    ensures err { OnErr result (history.new.steps ≡ history.old.steps ++ Began (IsAnswered config.now) ∷ []) }
+    ensures fault { IfErr result IsFailure }
+{
+    history.begins(&Deed::Answers(config));
     let out = open(rt, folder, "out").map_err(FolderFault::Out)?;
     let len = out.metadata().map_err(FolderFault::Out)?.len();
-    complete(rt, folder, config, out, len)
+    complete(rt, folder, config, out, len)?;
+    history.ends(&Deed::Answers(config));
+    Ok(())
 }
 
-// Whether a record of what was kept begins with the word `key`.
-fn has_keys<R: Files<File = File> + AllocGlobal + Wait>(rt: &R, folder: &str) -> io::Result<bool> {
-    let mut records = Records::new(rt.alloc(), open(rt, folder, "kept")?);
+/// Whether a record of a file of a folder begins with the word `key`.
+pub(crate) fn has_keys<R: Files<File = File> + AllocGlobal + Wait>(
+    rt: &R,
+    folder: &str,
+    name: &str,
+) -> io::Result<bool> {
+    let mut records = Records::new(rt.alloc(), open(rt, folder, name)?);
     for _turn in rt.forever() {
         match records.advance() {
             Ok(true) if records.fields().field(0) == Some(b"key".as_slice()) => return Ok(true),
@@ -194,49 +243,123 @@ fn has_keys<R: Files<File = File> + AllocGlobal + Wait>(rt: &R, folder: &str) ->
     unreachable!()
 }
 
-// Rewrites what was kept without what changed nothing, and without records under keys where none is. It is written beside what was kept and
-// takes its name once it is on the disk, which decides: the answers are emptied before, since they can be given again to either.
-fn rewrite<R: Files<File = File> + AllocGlobal + Threads + Wait + Sync>(
+// Writes what was kept beside it, without what changed nothing, and without records under keys where none is.
+fn write_short<R: Files<File = File> + AllocGlobal + Threads + Wait + Sync>(
     rt: &R,
     folder: &str,
     config: &Config,
     knows_keys: bool,
-) -> Result<(), FolderFault> {
-    let out = open(rt, folder, "out").map_err(FolderFault::Out)?;
+) -> Result<File, FolderFault>
+    ensures { IfErr result IsFailure }
+{
     let mut past = open(rt, folder, "kept").map_err(FolderFault::Kept)?;
     let mut fresh = begin(rt, folder, "kept").map_err(FolderFault::Kept)?;
     shorten(rt, rt.alloc(), &mut past, &mut fresh, config, knows_keys).map_err(FolderFault::Run)?;
-    out.set_len(0).map_err(FolderFault::Out)?;
-    out.sync_all().map_err(FolderFault::Out)?;
-    give_name(rt, folder, "kept", &fresh).map_err(FolderFault::Kept)?;
-    flush_names(rt, folder).map_err(FolderFault::Kept)
+    Ok(fresh)
 }
 
-// Has a folder of another version go on in this one. Where there were no keys, records that begin with the word `key` were malformed: the
-// folder is refused while it has some, and they are left out if what was kept is to be shortened. What the folder says of its site is written
-// last: until then it asks for the same again.
-fn renew<R: Files<File = File> + Print + AllocGlobal + Threads + Wait + Sync>(
+// Puts what was written so in the place of what was kept. It takes its name once it is on the disk, which decides: the answers are emptied
+// before, since they can be given again to either.
+fn put_short<R: Files<File = File> + AllocGlobal>(
     rt: &R,
     folder: &str,
     config: &Config,
-    setup: Setup,
+    knows_keys: bool,
+    fresh: &File,
+    history: &mut FolderHistory,
+) -> Result<(), FolderFault>
+    ensures ok { OnOk result (history.new.steps ≡ history.old.steps ++ whole (IsRewritten config.now knows_keys ∷ [])) }
+    ensures err { OnErr result (history.new.steps ≡ history.old.steps ++ Began (IsRewritten config.now knows_keys) ∷ []) }
+    ensures fault { IfErr result IsFailure }
+{
+    history.begins(&Deed::Rewrites(config, knows_keys));
+    let out = open(rt, folder, "out").map_err(FolderFault::Out)?;
+    out.set_len(0).map_err(FolderFault::Out)?;
+    out.sync_all().map_err(FolderFault::Out)?;
+    give_name(rt, folder, "kept", fresh).map_err(FolderFault::Kept)?;
+    flush_names(rt, folder).map_err(FolderFault::Kept)?;
+    history.ends(&Deed::Rewrites(config, knows_keys));
+    Ok(())
+}
+
+// Rewrites what was kept without what changed nothing.
+fn rewrite<R: Files<File = File> + AllocGlobal + Threads + Wait + Sync>(
+    rt: &R,
+    folder: &str,
+    config: &Config,
+    history: &mut FolderHistory,
+) -> Result<(), FolderFault>
+    ensures ok { OnOk result (history.new.steps ≡ history.old.steps ++ whole (IsRewritten config.now true ∷ [])) }
+    ensures err { OnErr result (MayHaveBegun (IsRewritten config.now true) history.old.steps history.new.steps) }
+    ensures fault { IfErr result IsFailure }
+{
+    let fresh = write_short(rt, folder, config, true)?;
+    put_short(rt, folder, config, true, &fresh, history)
+}
+
+// Has what was kept go on where there were no keys: records that begin with the word `key` were malformed. The folder is refused while it has
+// some, and they are left out if it is to be shortened.
+fn leave_keys_out<R: Files<File = File> + AllocGlobal + Threads + Wait + Sync>(
+    rt: &R,
+    folder: &str,
+    config: &Config,
     wanted: &Wanted,
-) -> Result<(), FolderFault> {
-    if setup.answers == KEYLESS {
-        if wanted.shortens && has_keys(rt, folder).map_err(FolderFault::Kept)? {
-            rewrite(rt, folder, config, false)?;
-        }
-        if has_keys(rt, folder).map_err(FolderFault::Kept)? {
-            return Err(FolderFault::HasKeys);
-        }
-    } else if wanted.upgrades {
-        upgrade(rt, folder, config)?;
-    } else {
-        return Err(FolderFault::IsOld(setup.answers));
+    history: &mut FolderHistory,
+) -> Result<(), FolderFault>
+    ensures { LeavesKeysOut wanted.now config.now history.old.steps history.new.steps result }
+{
+    if !find_keys(rt, folder, "kept", history)? {
+        return Ok(());
     }
-    let answers = ANSWERS;
-    name_setup(rt, folder, Setup { answers, ..setup }).map_err(FolderFault::Setup)?;
-    flush_names(rt, folder).map_err(FolderFault::Setup)
+    if !wanted.shortens {
+        return Err(FolderFault::HasKeys);
+    }
+    let fresh = write_short(rt, folder, config, false)?;
+    // A line may have some beside a record that changed something.
+    if find_keys(rt, folder, "kept.new", history)? {
+        return Err(FolderFault::HasKeys);
+    }
+    put_short(rt, folder, config, false, &fresh, history)
+}
+
+// Has a folder go on in this version that is of the one before keys. What it says of its site is written last: until then it asks for the same
+// again.
+fn renew_keyless<R: Files<File = File> + AllocGlobal + Threads + Wait + Sync>(
+    rt: &R,
+    folder: &str,
+    settings: &Settings,
+    wanted: &Wanted,
+    history: &mut FolderHistory,
+) -> Result<(), FolderFault>
+    ensures { RenewsKeyless wanted.now settings.now.config settings.now.setup history.old.steps history.new.steps result }
+{
+    leave_keys_out(rt, folder, &settings.config, wanted, history)?;
+    set_up(rt, folder, settings.setup.renewed(), history)
+}
+
+// The same of a folder of any version.
+fn renew<R: Files<File = File> + Print + AllocGlobal + Threads + Wait + Sync>(
+    rt: &R,
+    folder: &str,
+    settings: &Settings,
+    wanted: &Wanted,
+    history: &mut FolderHistory,
+) -> Result<(), FolderFault>
+    requires { AreSettings wanted.now settings.now.setup settings.now }
+    ensures { Renews wanted.now settings.now.setup history.old.steps history.new.steps result }
+{
+    let version = settings.setup.answers;
+    if version == ANSWERS {
+        return Ok(());
+    }
+    if version == KEYLESS {
+        return renew_keyless(rt, folder, settings, wanted, history);
+    }
+    if !wanted.upgrades {
+        return Err(FolderFault::IsOld(version));
+    }
+    upgrade(rt, folder, &settings.config, history)?;
+    set_up(rt, folder, settings.setup.renewed(), history)
 }
 
 // Runs the site in a folder over standard input and output.
@@ -246,7 +369,13 @@ fn run<R: Files<File = File> + Print + Input + AllocGlobal + Threads + Wait + Sy
     config: &Config,
     is_synced: bool,
     settles: Option<Setup>,
-) -> Result<(), FolderFault> {
+    history: &mut FolderHistory,
+) -> Result<(), FolderFault>
+    ensures ok { OnOk result (history.new.steps ≡ history.old.steps ++ whole (IsRun config.now settles ∷ [])) }
+    ensures err { OnErr result (history.new.steps ≡ history.old.steps ++ Began (IsRun config.now settles) ∷ []) }
+    ensures fault { IfErr result IsFailure }
+{
+    history.begins(&Deed::Runs(config, settles));
     let mut recording = open_kept(rt, folder).map_err(FolderFault::Kept)?;
     let before = open(rt, folder, "out").map_err(FolderFault::Out)?;
     let len = before.metadata().map_err(FolderFault::Out)?.len();
@@ -263,52 +392,166 @@ fn run<R: Files<File = File> + Print + Input + AllocGlobal + Threads + Wait + Sy
         config,
         RECORDS_MAX,
     ) {
-        Ok(()) => Ok(()),
+        Ok(()) => {
+            history.ends(&Deed::Runs(config, settles));
+            Ok(())
+        }
         Err(KeepFault::Show(e)) => Err(FolderFault::Closed(e)),
         Err(fault) => Err(FolderFault::Run(fault)),
     }
 }
 
-// Makes the folder, if there is none. Nothing is made for a site that can't be, or where a site's records are to be shortened: there has to
-// be a site.
-fn make_folder<R: Files<File = File> + AllocGlobal>(
+// Looks into a folder before it is made.
+fn look<R: Files<File = File> + AllocGlobal + RandomSource>(
     rt: &R,
     folder: &str,
     wanted: &Wanted,
-) -> Result<(), FolderFault> {
+    history: &mut FolderHistory,
+) -> Result<(), FolderFault>
+    ensures { Looks wanted.now history.old.steps history.new.steps result }
+{
+    match find(rt, folder, history) {
+        Ok(found) => wanted.allow(rt, found),
+        Err(fault) if wanted.shortens => Err(fault),
+        Err(_) => Ok(()),
+    }
+}
+
+// Makes the folder, if there is none.
+fn make_folder<R: Files<File = File> + AllocGlobal + RandomSource>(
+    rt: &R,
+    folder: &str,
+    wanted: &Wanted,
+    history: &mut FolderHistory,
+) -> Result<(), FolderFault>
+    ensures { Makes folder.now wanted.now history.old.steps history.new.steps result }
+{
     if folder.is_empty() {
         return Err(FolderFault::NoName);
     }
-    match read_setup(rt, folder) {
-        Ok(Some(_)) if wanted.shortens => return Ok(()),
-        Ok(None) if wanted.shortens => return Err(FolderFault::NoSite),
-        Err(e) if wanted.shortens => return Err(FolderFault::Setup(e)),
-        Ok(None) => {
-            wanted.begun()?;
-        }
-        _ => {}
+    look(rt, folder, wanted, history)?;
+    if wanted.shortens {
+        return Ok(());
     }
-    fs::create_dir_all(rt, folder).map_err(FolderFault::Folder)
+    match fs::create_dir_all(rt, folder) {
+        Ok(()) => Ok(()),
+        Err(e) => Err(FolderFault::Folder(e)),
+    }
+}
+
+// Sets a new site up. There are no records yet.
+fn begin_site<R: Files<File = File> + AllocGlobal>(
+    rt: &R,
+    folder: &str,
+    setup: Setup,
+    history: &mut FolderHistory,
+) -> Result<(), FolderFault>
+    ensures ok { OnOk result (history.new.steps ≡ history.old.steps ++ whole (IsSetUp setup ∷ [])) }
+    ensures err { OnErr result (MayHaveBegun (IsSetUp setup) history.old.steps history.new.steps) }
+    ensures fault { IfErr result IsFailure }
+{
+    let kept = open(rt, folder, "kept").map_err(FolderFault::Kept)?;
+    if kept.metadata().map_err(FolderFault::Kept)?.len() > 0 {
+        return Err(FolderFault::NoSetup);
+    }
+    set_up(rt, folder, setup, history)
+}
+
+// Shortens what was kept. It is answered before, and its answers are given again.
+fn shorten_kept<R: Files<File = File> + Print + AllocGlobal + Threads + Wait + Sync>(
+    rt: &R,
+    folder: &str,
+    config: &Config,
+    history: &mut FolderHistory,
+) -> Result<(), FolderFault>
+    ensures { let deeds = IsAnswered config.now ∷ IsRewritten config.now true ∷ IsAnswered config.now ∷ [] in
+        Serves deeds history.old.steps history.new.steps result }
+{
+    complete_out(rt, folder, config, history)?;
+    rewrite(rt, folder, config, history)?;
+    complete_out(rt, folder, config, history)
 }
 
 // Runs a site that keeps more messages from now on. What was kept is answered first as it was told, by the configuration that the
 // folder has: so the run compares the answers that it gives with all of those, and not with what a torn file has left of them.
-fn raise<
+fn raise<R: Files<File = File> + Print + Input + AllocGlobal + Threads + Wait + Sync>(
+    rt: &R,
+    folder: &str,
+    settings: &Settings,
+    is_synced: bool,
+    history: &mut FolderHistory,
+) -> Result<(), FolderFault>
+    ensures { let deeds = IsAnswered settings.now.config ∷ IsRun settings.now.raised (Some (renewed settings.now.next)) ∷ [] in
+        Serves deeds history.old.steps history.new.steps result }
+{
+    complete_out(rt, folder, &settings.config, history)?;
+    let settles = Some(settings.next.renewed());
+    run(rt, folder, &settings.raised, is_synced, settles, history)
+}
+
+// Does what is asked for in a folder of this version.
+fn serve<R: Files<File = File> + Print + Input + AllocGlobal + Threads + Wait + Sync>(
+    rt: &R,
+    folder: &str,
+    settings: &Settings,
+    wanted: &Wanted,
+    history: &mut FolderHistory,
+) -> Result<(), FolderFault>
+    requires { AreSettings wanted.now settings.now.setup settings.now }
+    ensures { Serves (service wanted.now settings.now.setup) history.old.steps history.new.steps result }
+{
+    if wanted.shortens {
+        return shorten_kept(rt, folder, &settings.config, history);
+    }
+    if settings.next.keep > settings.setup.keep {
+        return raise(rt, folder, settings, wanted.is_synced, history);
+    }
+    run(
+        rt,
+        folder,
+        &settings.config,
+        wanted.is_synced,
+        None,
+        history,
+    )
+}
+
+// Has a folder that was found so begin, or go on in this version.
+fn prepare<R: Files<File = File> + Print + AllocGlobal + Threads + Wait + Sync>(
+    rt: &R,
+    folder: &str,
+    found: Option<Setup>,
+    settings: &Settings,
+    wanted: &Wanted,
+    history: &mut FolderHistory,
+) -> Result<(), FolderFault>
+    requires settings { AreSettings wanted.now settings.now.setup settings.now }
+    requires found { settings.now.setup ≡ setup_for wanted.now found }
+    ensures { Prepares wanted.now found history.old.steps history.new.steps result }
+{
+    match found {
+        Some(_) => renew(rt, folder, settings, wanted, history),
+        None => begin_site(rt, folder, settings.setup, history),
+    }
+}
+
+// Runs the site in a folder that is locked.
+fn keep_found<
     R: Files<File = File> + Print + Input + AllocGlobal + RandomSource + Threads + Wait + Sync,
->(rt: &R, folder: &str, config: &Config, asked: Setup, wanted: &Wanted) -> Result<(), FolderFault> {
-    complete_out(rt, folder, config)?;
-    let Some(config) = wanted.config(rt, asked) else {
-        return Err(FolderFault::NotBelow);
-    };
-    let settles = Setup {
-        answers: ANSWERS,
-        ..asked
-    };
-    run(rt, folder, &config, wanted.is_synced, Some(settles))
+>(rt: &R, folder: &str, wanted: &Wanted, history: &mut FolderHistory) -> Result<(), FolderFault>
+    ensures { KeepsFound wanted.now history.old.steps history.new.steps result }
+{
+    let found = find(rt, folder, history)?;
+    if wanted.lacks(found) {
+        return Err(FolderFault::NoSite);
+    }
+    let settings = wanted.settings(rt, found.unwrap_or(wanted.opening()))?;
+    prepare(rt, folder, found, &settings, wanted, history)?;
+    serve(rt, folder, &settings, wanted, history)
 }
 
 /// Runs the site in a folder over standard input and output, until the input ends: it is made, if there is none, and otherwise goes
-/// on where the last run was cut off.
+/// on where the last run was cut off. What it does is added to a history.
 ///
 /// # Errors
 ///
@@ -324,31 +567,14 @@ pub fn keep_folder<
         + Threads
         + Wait
         + Sync,
->(rt: &R, folder: &str, wanted: &Wanted) -> Result<(), FolderFault> {
-    make_folder(rt, folder, wanted)?;
+>(rt: &R, folder: &str, wanted: &Wanted, history: &mut FolderHistory) -> Result<(), FolderFault>
+    ensures { KeepsFolder folder.now wanted.now history.old.steps history.new.steps result }
+{
+    make_folder(rt, folder, wanted, history)?;
     let _lock = take_lock(rt, folder)?;
     // A process that was killed may have left a rename that isn't on the disk.
     if wanted.is_synced {
         flush_names(rt, folder).map_err(FolderFault::Folder)?;
     }
-    let setup = settled(rt, folder, wanted)?;
-    let Some(asked) = wanted.goes_on(setup) else {
-        return Err(FolderFault::IsOther(setup));
-    };
-    let Some(config) = wanted.config(rt, setup) else {
-        return Err(FolderFault::NotBelow);
-    };
-    if setup.answers != ANSWERS {
-        renew(rt, folder, &config, setup, wanted)?;
-    }
-    if wanted.shortens {
-        complete_out(rt, folder, &config)?;
-        rewrite(rt, folder, &config, true)?;
-        complete_out(rt, folder, &config)?;
-        return Ok(());
-    }
-    if asked.keep > setup.keep {
-        return raise(rt, folder, &config, asked, wanted);
-    }
-    run(rt, folder, &config, wanted.is_synced, None)
+    keep_found(rt, folder, wanted, history)
 }

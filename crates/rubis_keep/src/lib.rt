@@ -9,6 +9,7 @@ mod counts;
 mod fault;
 mod feeding;
 mod files;
+mod folder_seam;
 mod keep;
 mod keeping;
 mod limits;
@@ -29,6 +30,7 @@ mod unread;
 
 pub use answers::Answers;
 pub use fault::{Difference, FolderFault, KeepFault};
+pub use folder_seam::FolderHistory;
 pub use keep::{Wanted, keep_folder};
 pub use keeping::KeptLines;
 pub use limits::limits_of_questions_are_these_numbers;

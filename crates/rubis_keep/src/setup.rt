@@ -2,7 +2,7 @@
 
 ghost use Rattle.std.specs.Prelude.{◌≡◌, IfOk, IfSome, string_bytes};
 ghost use Rattle.rubis_keep.specs.SetupLine.{setup_line};
-ghost use Rattle.rubis_keep.specs.Setups.{IsPossible};
+ghost use Rattle.rubis_keep.specs.Setups.{IsPossible, renewed};
 
 use crate::files::{begin, give_name};
 use rubis_script::Config;
@@ -27,6 +27,14 @@ pub struct Setup {
 }
 
 impl Setup {
+    /// The same in this version.
+    pub(crate) fn renewed(self) -> Setup
+        ensures { result ≡ renewed self }
+    {
+        let answers = ANSWERS;
+        Setup { answers, ..self }
+    }
+
     // The line that says so.
     fn line(self, alloc: Global) -> Result<String, AllocError>
         ensures { IfOk result (λ line. string_bytes line ≡ setup_line self) }
