@@ -155,8 +155,9 @@ class Folder:
             time.sleep(0.05)
 
     def kill(self, process: int) -> None:
-        """Ends a process at once, and waits until it has ended: on a busy machine its socket takes connections until then."""
-        os.kill(process, signal.SIGKILL)
+        """Ends a process at once, if it hasn't ended, and waits until it has: on a busy machine its socket takes connections until then."""
+        with contextlib.suppress(ProcessLookupError):
+            os.kill(process, signal.SIGKILL)
         until = time.monotonic() + SECONDS
         while is_running(process) and time.monotonic() < until:
             time.sleep(0.01)
