@@ -1,11 +1,10 @@
 -- What happens in a folder, one part after the other, and how a start ends by it.
-use Rattle.std.specs.Prelude.{◌≡◌, ◌≢◌, ◌++◌, ◌∷◌, ◌⊎◌, ◌&&◌, [], Bool, Err, List, None, Ok, Option, Result, Some, false}
+use Rattle.std.specs.Prelude.{◌≡◌, ◌≢◌, ◌++◌, ◌∷◌, ◌⊎◌, ◌&&◌, [], Bool, Err, IfErr, List, None, Ok, OnErr, OnOk, Option, Result, Some, false}
 use Rattle.std.specs.Prelude.{is_none, true}
 use Rattle.std.specs.Result.{IsErrAnd}
 use Rattle.std.proofs.Common.{◌∙◌, ap, append_assoc, inl, inr, refl, subst, sym}
 use Rattle.std.proofs.lemmas.Bool.{ne_eqb}
 use Rattle.std.proofs.lemmas.List.{append-nil}
-use Rattle.rubis_keep.proofs.Common.{IfErr, OnErr, OnOk}
 use Rattle.rubis_script.specs.Replica.{Setup as SiteSetup}
 use Rattle.rubis_keep.specs.Setups.{config_of, opening_setup, renewed}
 use Rattle.rubis_keep.specs.Deeds.{AllDone, AreSettings, Comes, FolderDeed, FolderStep, IsBegun, IsFailure, IsOfFolder, KeepsFound}

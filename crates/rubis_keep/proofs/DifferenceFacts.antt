@@ -86,12 +86,6 @@ has-difference (Some old) {came} f g h = record { came = came; front = f; differ
 pub more-left : {old : List ℕ} {lines : ℕ} {d : Difference} → HasMore old lines d → old ≢ []
 more-left more none = more.some (none-left more.came more.front.0 (more.front.1 ∙ none))
 
--- more stands there than was to be found
-pub has-more : (o : Option (List ℕ)) {came : List ℕ} {lines : ℕ} {d : Difference} → IfSome o (λ old. IsFrontOf came old) → came ≢ []
-    → IsDifference came [] lines d → IfSome o (λ old. HasMore old lines d)
-has-more None front some tells = tt
-has-more (Some old) {came} front some tells = record { came = came; front = front; some = some; tells = tells }
-
 -- what a text and some first bytes differ in, it and all bytes do
 differs-all : (came old text : List ℕ) → IsFrontOf came old → DiffersFrom came text → DiffersFrom old text
 differs-all came old text (rest, e) (k, inside, there, differ) =

@@ -3,8 +3,6 @@ use Rattle.rubis_keep.proofs.Common.{◌≡◌, ◌==◌, true, ◌∙◌, ◌�
 use Rattle.rubis_keep.proofs.Common.{sym, ap, subst, arith, append_assoc, length-append, append-nil, AtEnd, Err, input_records, goes-tears}
 use Rattle.rubis_keep.proofs.Common.{tears-as, at}
 use Rattle.rubis_engine.specs.Progress.{ByEnd}
-use Rattle.rubis_engine.specs.Seam.{Lefts, OfEach}
-use Rattle.rubis_engine.proofs.SeamFacts.{each-so}
 use Rattle.rubis_engine.specs.declared.fault.RunFault.{RunFault}
 use Rattle.rubis_engine.specs.declared.fault.Count.{Count}
 use Rattle.rubis_keys.specs.Desks.{standing_at}
@@ -13,7 +11,7 @@ use Rattle.rubis_serving.proofs.GoFacts.{tears-none}
 use Rattle.rubis_serving.specs.Serving.{AreAnswered, At, Fills, Goes, IsSettled, Tears}
 use Rattle.rubis_engine.specs.declared.fault.RunFault.TheVariants as run
 use Rattle.rubis_keep.specs.Telling.{tells-none}
-use Rattle.rubis_keep.specs.Turns.{Answering, Fed, HasFed, HasStopped, HasTornOff, IsCause, IsUnlike, PutsFront, Stopped, clerk_at, still_to_put, noted_fault, kept_run, met, with_held}
+use Rattle.rubis_keep.specs.Turns.{Answering, Fed, HasFed, HasStopped, IsCause, IsUnlike, PutsFront, Stopped, clerk_at, still_to_put, noted_fault, kept_run, met, with_held}
 use Rattle.rubis_keep.specs.Faults.{MayDiffer, IsFailure}
 use Rattle.rubis_keep.specs.History.{History, Tells, told_of}
 use Rattle.rubis_keep.specs.Outlets.{answers_are_outlets, counts-more, counts-none, front-none, over-no_text, over-text}
@@ -25,7 +23,6 @@ use Rattle.rubis_keep.specs.declared.site.Clerk.{Clerk}
 use Rattle.rubis_keep.proofs.AskFacts.{states-alike}
 use Rattle.rubis_keep.proofs.HistoryFacts.{cancel}
 use Rattle.rubis_keep.proofs.PutFacts.{empty-is, front-behind, torn-of, unlike-later}
-use Rattle.rubis_keep.proofs.ReaderFacts.{each-all}
 use Rattle.rubis_keep.proofs.SoundFacts.{none-read}
 use Rattle.rubis_keep.proofs.ShortenFacts.{after-append}
 
@@ -129,10 +126,10 @@ noted-cause rows x (Some e) h = go e (λ more. noted more (h more))
     go (fault.Edited n) m = absurd (m [])
     go e m = m []
 
-module _ {T O F : Type 0} (rem : O → Option (List ℕ)) (history : F → Option History) where
+module _ {T O F : Type 0} (before : O → Option (List ℕ)) (history : F → Option History) where
   -- no record ends it
   pub desk-goes : (limit : ℕ) (rows : List (List (List ℕ))) (x y : At (KeyedDesk T) (Answers O F)) (over : Option Count)
-      → AreAnswered (kept_run rem history) limit rows x y over → (y.answered ≤ limit) × Goes (kept_run rem history) rows x y
+      → AreAnswered (kept_run before history) limit rows x y over → (y.answered ≤ limit) × Goes (kept_run before history) rows x y
   desk-goes limit rows x y None h = h
   desk-goes limit rows x y (Some count) h =
       let few = (h []).read in
@@ -142,77 +139,66 @@ module _ {T O F : Type 0} (rem : O → Option (List ℕ)) (history : F → Optio
       absurd (omega (arith, few, more, size, size2))
 
   pub desk-fed : {rows : List (List (List ℕ))} (c c2 : Clerk T) (a a2 : Answers O F) → c2.limit ≡ c.limit
-      → Goes (kept_run rem history) rows (at c.keyed c.served a) (at c2.keyed c2.served a2)
-      → IsSettled (kept_run {T = T} rem history) (at c2.keyed c2.served a2)
-      → OfEach rem a.before a2.before (λ before. HasFed rows (clerk_at before c a) (clerk_at before c2 a2) (history a.files) (history a2.files))
+      → Goes (kept_run before history) rows (at c.keyed c.served a) (at c2.keyed c2.served a2)
+      → IsSettled (kept_run {T = T} before history) (at c2.keyed c2.served a2)
+      → HasFed rows (clerk_at before c a) (clerk_at before c2 a2) (history a.files) (history a2.files)
   desk-fed {rows} c c2 a a2 limit f settled =
-      each-so (λ before put.
       let x = clerk_at before c a in
       let (none, place, state) = f.led [] c2.keyed settled.rests in (
         f.text,
-        put.added,
+        f.put.added,
         record {
           says = f.told;
-          put = put.over;
-          counted = put.counted;
+          put = f.put.over;
+          counted = f.put.counted;
           place = place;
           state = ap (with_held c2.keyed.desk.site.place (standing_at c2.keyed)) none ∙ state
               ∙ states-alike x.place (with_held x.place x.state x.held) (c.served.answered + 1) (rows ++ [])
               ∙ ap (state_after x.place (with_held x.place x.state x.held)) (append-nil rows);
           count = f.count;
           limit = limit;
-          live = put.live;
+          live = f.put.live;
         },
-        put.told,
-      )) f.put
+        f.put.told,
+      )
 
-  -- whatever comes, some of the text was put that is still to be put then
-  abbrev IsTornAt : List (List (List ℕ)) → Clerk T → Answers O F → Answers O F → Lefts O → Type 0
-  IsTornAt rows c a a2 before = (more : List (List (List ℕ))) → HasTornOff before history (still_to_put (clerk_at before c a) AtEnd (rows ++ more)) a a2
-
-  torn-each : {rows : List (List (List ℕ))} (c : Clerk T) (a a2 : Answers O F) → Tears (kept_run {T = T} rem history) rows (at c.keyed c.served a) a2
-      → OfEach rem a.before a2.before (IsTornAt rows c a a2)
-  torn-each c a a2 t = each-all [] t.torn
-
-  torn-fed : {rows : List (List (List ℕ))} {before : Lefts O} (c : Clerk T) (a a2 : Answers O F) → IsTornAt rows c a a2 before
+  torn-fed : {rows : List (List (List ℕ))} (c : Clerk T) (a a2 : Answers O F) → Tears (kept_run {T = T} before history) rows (at c.keyed c.served a) a2
       → (added : List ℕ) × ((more : List (List (List ℕ))) → PutsFront (before a.before) added (still_to_put (clerk_at before c a) AtEnd (rows ++ more)))
       × ((due : List ℕ) × Tells a.is_live (history a.files) (history a2.files) added due)
-  torn-fed {rows} {before} c a a2 torn =
+  torn-fed {rows} c a a2 t =
       told-once a.is_live (history a.files) (history a2.files) (before a.before) (λ more. still_to_put (clerk_at before c a) AtEnd (rows ++ more))
-      (λ more. let h = torn-of _ a a2 (torn more) in (h.added, h.front, (h.due, h.told)))
+      (λ more. let h = torn-of _ a a2 (t.torn more) in (h.added, h.front, (h.due, h.told)))
 
   pub desk-torn : {rows : List (List (List ℕ))} (c : Clerk T) (a a2 : Answers O F) → a.fault ≡ None
-      → Tears (kept_run {T = T} rem history) rows (at c.keyed c.served a) a2
-      → OfEach rem a.before a2.before (λ before. HasStopped rows (clerk_at before c a) (history a.files) (history a2.files) (noted_fault a2.fault))
+      → Tears (kept_run {T = T} before history) rows (at c.keyed c.served a) a2
+      → HasStopped rows (clerk_at before c a) (history a.files) (history a2.files) (noted_fault a2.fault)
   desk-torn {rows} c a a2 none t =
-      each-so (λ before torn.
-      let h = torn-fed c a a2 torn in (
+      let h = torn-fed c a a2 t in (
         h.0,
         record {
           begins = h.1;
           cause = noted-cause rows (clerk_at before c a) a2.fault
               (λ more. subst (λ f. (a2.fault ≡ f) ⊎ ((e : KeepFault) × (a2.fault ≡ Some e) × MayDiffer e (λ d. IsUnlike (before a.before) a.lines (still_to_put (clerk_at before c a) AtEnd (rows ++ more)) d)))
-              none (torn-of _ a a2 (torn more)).noted);
+              none (torn-of _ a a2 (t.torn more)).noted);
         },
         h.2,
-      )) (torn-each c a a2 t)
+      )
 
   pub desk-full : {rows : List (List (List ℕ))} (c c2 : Clerk T) (a a2 : Answers O F)
-      → Fills (kept_run rem history) c.limit rows (at c.keyed c.served a) (at c2.keyed c2.served a2)
-      → OfEach rem a.before a2.before (λ before. HasStopped rows (clerk_at before c a) (history a.files) (history a2.files) fault.TooLong)
+      → Fills (kept_run before history) c.limit rows (at c.keyed c.served a) (at c2.keyed c2.served a2)
+      → HasStopped rows (clerk_at before c a) (history a.files) (history a2.files) fault.TooLong
   desk-full {rows} c c2 a a2 h =
-      let laws = answers_are_outlets rem history in
+      let laws = answers_are_outlets before history in
       let size = ap (λ (r : List (List (List ℕ))). length r) h.parts in
       let size2 = length-append h.front (h.next ∷ h.rest) in
       let count = h.goes.count in
-      each-so (λ before torn.
-      let told = torn-fed c a a2 torn in (told.0, record { begins = told.1; cause = omega (arith, size, size2, count, h.full) }, told.2))
-      (torn-each c a a2 (tears-as (sym h.parts) (goes-tears laws a2 h.goes (tears-none laws (h.next ∷ h.rest) (at c2.keyed c2.served a2)))))
+      let told = torn-fed c a a2 (tears-as (sym h.parts) (goes-tears laws a2 h.goes (tears-none laws (h.next ∷ h.rest) (at c2.keyed c2.served a2)))) in
+      (told.0, record { begins = told.1; cause = omega (arith, size, size2, count, h.full) }, told.2)
 
   pub desk-stopped : {U : Type 0} {rows : List (List (List ℕ))} (c c2 : Clerk T) (a a2 : Answers O F) (e : RunFault) (done : U → Type 0) → a.fault ≡ None
-      → ByEnd {T = U} (Err e) done (Fills (kept_run rem history) c.limit rows (at c.keyed c.served a) (at c2.keyed c2.served a2)) ⊥
-      (Tears (kept_run {T = T} rem history) rows (at c.keyed c.served a) a2)
-      → OfEach rem a.before a2.before (λ before. HasStopped rows (clerk_at before c a) (history a.files) (history a2.files) (met e a2.fault))
+      → ByEnd {T = U} (Err e) done (Fills (kept_run before history) c.limit rows (at c.keyed c.served a) (at c2.keyed c2.served a2)) ⊥
+      (Tears (kept_run {T = T} before history) rows (at c.keyed c.served a) a2)
+      → HasStopped rows (clerk_at before c a) (history a.files) (history a2.files) (met e a2.fault)
   desk-stopped c c2 a a2 run.TooLong done none h = desk-full c c2 a a2 h
   desk-stopped c c2 a a2 run.Read done none h = absurd h
   desk-stopped c c2 a a2 run.Memory done none h = desk-torn c a a2 none h

@@ -41,10 +41,6 @@ consumes-more (Some x) None c xs ys f g = absurd f
 consumes-more (Some x) (Some y) None xs ys f g = absurd g
 consumes-more (Some x) (Some y) (Some z) xs ys f g = f ∙ ap (λ t. xs ++ t) g ∙ sym (append_assoc xs ys z)
 
-pub consumes-no-more : (a b c : Option (List ℕ)) (xs : List ℕ) {more : List ℕ} → more ≡ [] → Consumes a b xs → Consumes b c more → Consumes a c xs
-consumes-no-more a b c xs {more} none f g =
-    subst (Consumes a c) (ap (λ t. xs ++ t) none ∙ append-nil xs) (consumes-more a b c xs more f g)
-
 pub some-is : {x y : List ℕ} → Some x ≡ Some y → x ≡ y
 some-is e = cc e
 

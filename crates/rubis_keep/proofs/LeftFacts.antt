@@ -1,5 +1,5 @@
 -- What of an input was read and isn't looked at yet.
-use Rattle.std.proofs.Common.{subst, ◌≡◌, ◌≢◌, ◌<◌, ◌≤◌, ◌+◌, ◌∷◌, Bool, true, false, ◌-◌, zero, suc, ◌∙◌, ◌++◌, [], ℕ, List, arith, length, Option, Some, None, drop, take, refl, sym, ap, append_assoc}
+use Rattle.std.proofs.Common.{◌≡◌, ◌≢◌, ◌<◌, ◌≤◌, ◌+◌, ◌∷◌, Bool, true, false, ◌-◌, zero, suc, ◌∙◌, ◌++◌, [], ℕ, List, arith, length, Option, Some, None, drop, take, refl, sym, ap, append_assoc}
 use Rattle.std.proofs.lemmas.List.{drop-drop, drop-take, length-take, take-append-drop}
 use Rattle.std.specs.Io.KnownBytes.{Consumes, IsAtEnd}
 use Rattle.rubis_keep.specs.Turns.{CameOrEnded, left_to_read}
@@ -9,12 +9,6 @@ pub left-filled : (unread : List ℕ) (input input2 : Option (List ℕ)) → Con
 left-filled unread None input2 c = tt
 left-filled unread (Some xs) None c = absurd c
 left-filled unread (Some xs) (Some ys) c = c
-
--- nothing was
-pub left-none : {unread : List ℕ} (input input2 : Option (List ℕ)) → unread ≡ [] → Consumes input input2 []
-    → Consumes (left_to_read unread input) (left_to_read [] input2) []
-left-none input input2 none c =
-    subst (λ u. Consumes (left_to_read u input) (left_to_read [] input2) []) (sym none) (left-filled [] input input2 c)
 
 -- some of it was looked at
 pub left-taken : (unread : List ℕ) (n : ℕ) (input0 input : Option (List ℕ)) → Consumes input0 (left_to_read unread input) []

@@ -1,6 +1,5 @@
 pub mod Common
 pub mod LineFacts
-pub mod ReaderFacts
 pub mod HistoryFacts
 pub mod DifferenceFacts
 pub mod SoundFacts

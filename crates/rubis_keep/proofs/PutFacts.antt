@@ -5,7 +5,6 @@ use Rattle.rubis_keep.proofs.Common.{append-nil, take_all, take_rest, IsErr, Mat
 use Rattle.std.proofs.lemmas.Bool.{cases_lt}
 use Rattle.std.proofs.lemmas.List.{drop_all}
 use Rattle.rubis_engine.specs.Accounts.{AnswersRecord}
-use Rattle.rubis_engine.specs.Seam.{Lefts}
 use Rattle.rubis_engine.specs.declared.service.Course.{Course}
 use Rattle.rubis_engine.specs.declared.service.Course.TheVariants.{Ends, GoesOn}
 use lib.Seq.{take-nil}
@@ -147,7 +146,7 @@ unlike-later (Some old) b lines lines2 added text rest d (left, e, (f, one)) cou
 
 -- ---- the answers of a site
 
-module _ {O F : Type 0} {before : Lefts O} {history : F → Option History} where
+module _ {O F : Type 0} {before : O → Option (List ℕ)} {history : F → Option History} where
   -- some of a text was put, or none
   pub torn-of : (text : List ℕ) (a b : Answers O F) → HasTornOff before history text a b → HasTorn before history text a b
   torn-of text a b t = subst (λ x. HasTorn before history x a b) t.parts (record {

@@ -1,19 +1,15 @@
 -- How a run goes from its start to its end, and what follows for whoever calls it.
 use Rattle.rubis_keep.proofs.Common.{◌≡◌, ◌⊎◌, inl, inr, ◌++◌, ◌∷◌, [], ℕ, Bool, true, false, List, Option, Some, None, IfSome, Result, Ok, Err, ap}
-use Rattle.rubis_keep.proofs.Common.{refl, subst, ◌∙◌, ◌≤◌, map, ◌+◌, length, suc, take, zero, sym, arith, MatchResult, OnOk, OnErr, IsAtEnd}
+use Rattle.rubis_keep.proofs.Common.{refl, subst, ◌∙◌, ◌≤◌, map, ◌+◌, length, suc, take, zero, sym, arith, IfErr, MatchResult, OnOk, OnErr, IsAtEnd}
 use Rattle.rubis_keep.proofs.Common.{Keeps, Consumes, counts, Place, KeyedSite, append-nil, Account, AtEnd, input_records, keyed_account}
 use Rattle.rubis_keep.specs.Telling.{grows-more, grows-none}
 use Rattle.rubis_keep.specs.Turns.{Answering, HoldsNothing, Breaks, Ends, IsAtRest, Standing, left_to_read, clerk_at, last}
 use Rattle.rubis_keep.specs.Faults.{HasMore, MayDiffer, IsEditedAt, IsFailure, MayBeEdited, EndsTruly, IsTrueFault}
 use Rattle.rubis_keep.specs.History.{Grows, History, FolderEvent, FileState, IsShown, StaysSafe, Tells, after_file_events, kept_in, now, out_in, records_in, Ended, IsFrontOf}
 use Rattle.rubis_keep.specs.History.{Lived, Opens}
-use Rattle.rubis_engine.specs.Seam.{IsNew as IsNewReader, Lefts, OfEach, left}
-use Rattle.rubis_engine.specs.declared.seam.Incoming.{Incoming}
-use Rattle.rubis_keep.specs.declared.run.Recording.{Recording}
-use Rattle.rubis_keep.proofs.ReaderFacts.{each-may, new-left}
 use Rattle.rubis_keep.specs.History.FolderEvent.{Began, CutTo, Flushed, Settled}
 use Rattle.rubis_keep.specs.Lines.{HasSoundLines, asked_after, begun_after, kept_after, kept_of_input, whole_lines}
-use Rattle.rubis_keep.specs.Runs.{Begun, Fails, GoesOn, IsKeptFailure, OfRun, Replays, Runs, RunsInto, Starts, Unreplayed, starting, beginning}
+use Rattle.rubis_keep.specs.Runs.{Begun, Fails, GoesOn, IsKeptFailure, Replays, Runs, RunsInto, Starts, Unreplayed, starting, beginning}
 use Rattle.rubis_keep.specs.declared.fault.KeepFault.{KeepFault}
 use Rattle.rubis_keep.specs.declared.fault.KeepFault.TheVariants as fault
 use Rattle.rubis_keep.specs.declared.pages.Listed.{Listed}
@@ -39,10 +35,10 @@ none-unread (Some xs) e = ap (λ t. Some (t ++ xs)) e
 -- ---- what was kept is answered again
 
 pub replay-ends : {T : Type 0} {x : Standing} (z : Standing) (before : Option (List ℕ)) {live : Bool} {lines : ℕ} {history2 : Option History}
-    (r : Result T KeepFault) → Ends false x z → history2 ≡ z.history → (live ≡ z.at.is_live) × (lines ≡ z.at.lines)
-    → MatchResult r (λ _. IsAtEnd before × Keeps z.at.before before) (λ e. MayDiffer e (λ d. IfSome z.at.before (λ left. HasMore left z.at.lines d)))
+    (r : Result T KeepFault) → Ends false x z → OnOk r (IsAtEnd before × Keeps z.at.before before) → history2 ≡ z.history
+    → (live ≡ z.at.is_live) × (lines ≡ z.at.lines) → IfErr r (λ e. MayDiffer e (λ d. IfSome z.at.before (λ left. HasMore left z.at.lines d)))
     → MatchResult r (λ _. Replays x (record z { at = record z.at { is_live = live; before = before; lines = lines }; history = history2 })) (Unreplayed x history2)
-replay-ends z before (Ok u) e still (live, lines) (none_left, same) = record {
+replay-ends z before (Ok u) e (none_left, same) still (live, lines) differs = record {
   end = z;
   ends = e;
   before = before;
@@ -50,7 +46,7 @@ replay-ends z before (Ok u) e still (live, lines) (none_left, same) = record {
   none_left = none_left;
   is = λ i. record z { at = record z.at { is_live = live i; before = before; lines = lines i }; history = still i };
 }
-replay-ends z before (Err met) e still same differs = inr (z, e, still, differs)
+replay-ends z before (Err met) e end still same differs = inr (z, e, still, differs)
 
 -- ---- and new records come
 
@@ -159,37 +155,8 @@ pub record IsNew (a : Answering) : Type 0 where
   pub none : a.answered ≡ 0
   pub uncounted : a.lines ≡ 0
 
--- the log and what is read of it are `kept`, the answers and what is read of them `old`
-pub record Opened (kept old : List ℕ) (first past log before out : Option (List ℕ)) : Type 0 where
-  pub first_is : first ≡ Some kept
-  pub past_is : past ≡ Some kept
-  pub log_is : log ≡ Some kept
-  pub before_is : before ≡ Some old
-  pub out_is : out ≡ Some old
-
--- so it is with the texts that new readers may have
-pub has-opened : {C P O F : Type 0} {rem : C → Option (List ℕ)} {rem2 : P → Option (List ℕ)} {rem3 : O → Option (List ℕ)} {history : F → Option History}
-    {kept old : List ℕ} {recording recording2 : Recording C P} {answers answers2 : Answers O F} → IsNewReader recording.first → IsNewReader recording.past
-    → IsNewReader answers.before → Opens rem rem2 rem3 history kept old recording recording2 answers answers2
-    → Opened kept old (left kept recording.first) (left kept recording.past) (kept_in (history answers.files)) (left old answers.before)
-    (out_in (history answers.files))
-has-opened {kept = kept} {old = old} {recording = recording} {answers = answers} first past before o = record {
-  first_is = new-left recording.first kept first;
-  past_is = new-left recording.past kept past;
-  log_is = o.log_is;
-  before_is = new-left answers.before old before;
-  out_is = o.out_is;
-}
-
-pub run-of : {C P O F R : Type 0} {rem : C → Option (List ℕ)} {rem2 : P → Option (List ℕ)} {rem3 : O → Option (List ℕ)} {rem4 : R → Option (List ℕ)}
-    {history : F → Option History} {kept old : List ℕ} {recording recording2 : Recording C P} {answers answers2 : Answers O F} {live live2 : Incoming R}
-    {holds : Lefts C → Lefts P → Lefts O → Lefts R → Type 0} → OfRun rem rem2 rem3 rem4 recording recording2 answers answers2 live live2 holds
-    → IsNewReader recording.first → IsNewReader recording.past → IsNewReader answers.before
-    → Opens rem rem2 rem3 history kept old recording recording2 answers answers2 → OfEach rem4 live live2 (holds (left kept) (left kept) (left old))
-run-of {kept = kept} {old = old} f first past before o = each-may kept (each-may old (each-may kept f first o.first) before o.before) past o.past
-
 fresh-start : {kept old : List ℕ} {first past : Option (List ℕ)} {a : Answering} (h mid : Option History) → IsNew a
-    → Opened kept old first past (kept_in h) a.before (out_in h) → Starts first h mid → IsFresh kept old (starting a past mid)
+    → Opens kept old first past (kept_in h) a.before (out_in h) → Starts first h mid → IsFresh kept old (starting a past mid)
 fresh-start h mid fresh o s = record {
   input = o.past_is;
   before = o.before_is;
@@ -202,7 +169,7 @@ fresh-start h mid fresh o s = record {
   sound = rw o.first_is at s.sound;
 }
 
-log-start : {kept old : List ℕ} {first past before : Option (List ℕ)} (h mid : Option History) → Opened kept old first past (kept_in h) before (out_in h)
+log-start : {kept old : List ℕ} {first past before : Option (List ℕ)} (h mid : Option History) → Opens kept old first past (kept_in h) before (out_in h)
     → Starts first h mid → kept_in mid ≡ Some kept
 log-start h mid o s = same-known (kept_in h) (kept_in mid) o.log_is (still-flushed h mid s.flushed).0
 
@@ -232,7 +199,7 @@ again {x} {y} {kept} {old} rests fresh log r =
     })
 
 again-start : {kept old : List ℕ} {first past : Option (List ℕ)} {a : Answering} (h mid : Option History) {y : Standing} → IsNew a
-    → Opened kept old first past (kept_in h) a.before (out_in h) → Starts first h mid → Replays (starting a past mid) y → Again (starting a past mid) kept old y
+    → Opens kept old first past (kept_in h) a.before (out_in h) → Starts first h mid → Replays (starting a past mid) y → Again (starting a past mid) kept old y
 again-start {past = past} {a = a} h mid fresh o s r =
     again (starting-rests a past mid fresh.idle) (fresh-start h mid fresh o s) (log-start h mid o s) r
 
@@ -601,7 +568,7 @@ new-site place state limit live before = record {
 }
 
 -- a clerk with nothing done
-pub new-clerk : {O F G : Type 0} (before : Lefts O) (c : Clerk G) (a : Answers O F)
+pub new-clerk : {O F G : Type 0} (before : O → Option (List ℕ)) (c : Clerk G) (a : Answers O F)
     → (c.keyed.desk.window.items ≡ []) × (c.served.reply.sink ≡ []) × (c.served.answered ≡ 0) → IsNew (clerk_at before c (record a { lines = 0 }))
 new-clerk before c a (window, empty, none) = record {
   idle = record { window = window; empty = empty; within = omega (arith, none) };
@@ -613,36 +580,25 @@ pub is-new : (place : Place) (state : KeyedSite) (limit : ℕ) (live : Bool) (be
 is-new place state limit live before =
     record { idle = record { window = refl; empty = refl; within = omega arith }; none = refl; uncounted = refl }
 
-pub runs-lived : {T : Type 0} (r : Result T KeepFault) {kept old : List ℕ} (first past input input2 : Option (List ℕ)) {a : Answering} (h new : Option History)
-    → IsNew a → Runs first past a input input2 h new r → Opened kept old first past (kept_in h) a.before (out_in h)
-    → OnOk r (Lived (keyed_account a.place a.state 1) kept old input input2 (kept_in new) (out_in new))
-runs-lived (Ok u) first past input input2 h new fresh (mid, y, s, r, goes) o = run-lived input2 new (again-start h mid fresh o s r) goes
-runs-lived (Err e) first past input input2 h new fresh runs o = tt
+pub runs-lived : {T : Type 0} (r : Result T KeepFault) (first past input input2 : Option (List ℕ)) {a : Answering} (h new : Option History)
+    → IsNew a → Runs first past a input input2 h new r → OnOk r ((kept old : List ℕ) → Opens kept old first past (kept_in h) a.before (out_in h)
+    → Lived (keyed_account a.place a.state 1) kept old input input2 (kept_in new) (out_in new))
+runs-lived (Ok u) first past input input2 h new fresh (mid, y, s, r, goes) = λ kept old o. run-lived input2 new (again-start h mid fresh o s r) goes
+runs-lived (Err e) first past input input2 h new fresh runs = tt
 
-pub runs-ended : {T : Type 0} (r : Result T KeepFault) {kept old : List ℕ} (first past input input2 : Option (List ℕ)) {a : Answering} (h new : Option History)
-    → IsNew a → Runs first past a input input2 h new r → Opened kept old first past (kept_in h) a.before (out_in h)
-    → OnErr r (Ended (keyed_account a.place a.state 1) kept old input input2 (kept_in new) (out_in new))
-runs-ended (Ok u) first past input input2 h new fresh runs o = tt
-runs-ended (Err e) {kept} {old} first past input input2 {a} h new fresh (inl (g, is, edited)) o =
+pub runs-ended : {T : Type 0} (r : Result T KeepFault) (first past input input2 : Option (List ℕ)) {a : Answering} (h new : Option History)
+    → IsNew a → Runs first past a input input2 h new r → OnErr r ((kept old : List ℕ) → Opens kept old first past (kept_in h) a.before (out_in h)
+    → Ended (keyed_account a.place a.state 1) kept old input input2 (kept_in new) (out_in new))
+runs-ended (Ok u) first past input input2 h new fresh runs = tt
+runs-ended (Err e) first past input input2 {a} h new fresh (inl (g, is, edited)) = λ kept old o.
     let still = still-none h new g in
     rw (is, same-known (kept_in h) (kept_in new) o.log_is still.0, same-known (out_in h) (out_in new) o.out_is still.1)
     (ended-unread (keyed_account a.place a.state 1) kept old input)
-runs-ended (Err e) first past input input2 {a} h new fresh (inr (mid, s, rest)) o =
+runs-ended (Err e) first past input input2 {a} h new fresh (inr (mid, s, rest)) = λ kept old o.
     run-ended input input2 new e (starting-rests a past mid fresh.idle) (fresh-start h mid fresh o s) (log-start h mid o s) rest
 
--- so it is at that end with each of these texts
-pub each-at-ok : {T E : Type 0} {A P : List ℕ → List ℕ → List ℕ → Type 0} (r : Result T E)
-    → ((kept old input : List ℕ) → A kept old input → OnOk r (P kept old input)) → OnOk r ((kept old input : List ℕ) → A kept old input → P kept old input)
-each-at-ok (Ok v) f = f
-each-at-ok (Err e) f = tt
-
-pub each-at-err : {T E : Type 0} {A P : List ℕ → List ℕ → List ℕ → Type 0} (r : Result T E)
-    → ((kept old input : List ℕ) → A kept old input → OnErr r (P kept old input)) → OnErr r ((kept old input : List ℕ) → A kept old input → P kept old input)
-each-at-err (Ok v) f = tt
-each-at-err (Err e) f = f
-
 pub runs-true : {T : Type 0} (r : Result T KeepFault) {kept old : List ℕ} (first past input input2 : Option (List ℕ)) {a : Answering} (h new : Option History)
-    → IsNew a → Runs first past a input input2 h new r → Opened kept old first past (kept_in h) a.before (out_in h)
+    → IsNew a → Runs first past a input input2 h new r → Opens kept old first past (kept_in h) a.before (out_in h)
     → EndsTruly a.limit (keyed_account a.place a.state 1) kept old input input2 r
 runs-true (Ok u) first past input input2 h new fresh (mid, y, s, r, goes) o = run-within input2 new (again-start h mid fresh o s r) goes
 runs-true (Err e) {kept} {old} first past input input2 {a} h new fresh (inl (g, is, edited)) o =
@@ -651,7 +607,7 @@ runs-true (Err e) first past input input2 {a} h new fresh (inr (mid, s, rest)) o
     run-true input input2 new e (starting-rests a past mid fresh.idle) (fresh-start h mid fresh o s) (log-start h mid o s) rest
 
 pub runs-reply : {T : Type 0} (r : Result T KeepFault) {kept old : List ℕ} (first past input input2 : Option (List ℕ)) {a : Answering} (h new : Option History)
-    → IsNew a → Runs first past a input input2 h new r → Opened kept old first past (kept_in h) a.before (out_in h)
+    → IsNew a → Runs first past a input input2 h new r → Opens kept old first past (kept_in h) a.before (out_in h)
     → RepliesTo a.place a.state kept input input2 h new r
 runs-reply {T} (Ok u) {kept} first past input input2 {a} h new fresh (mid, y, s, r, goes) o =
     let again = again-start h mid fresh o s r in
@@ -682,7 +638,7 @@ record Started (a : Answering) (h : History) (kept old : List ℕ) (mid : Option
   later : (new : Option History) → StaysSafe (says_of a.place a.state) (Some m) new → StaysSafe (says_of a.place a.state) (Some h) new
 
 started : {kept old : List ℕ} {first past : Option (List ℕ)} {a : Answering} (h : History) (mid : Option History)
-    → Opened kept old first past (kept_in (Some h)) a.before (out_in (Some h)) → IsAtStart ((keyed_account a.place a.state 1).text AtEnd) (now h)
+    → Opens kept old first past (kept_in (Some h)) a.before (out_in (Some h)) → IsAtStart ((keyed_account a.place a.state 1).text AtEnd) (now h)
     → Starts first (Some h) mid → Started a h kept old mid
 started {kept} {old} {a = a} h mid o opened s =
     let text = (keyed_account a.place a.state 1).text AtEnd in
@@ -701,7 +657,7 @@ started {kept} {old} {a = a} h mid o opened s =
 -- its files stay safe, and where it came to its end all that `out` has is shown
 pub runs-safe : {T : Type 0} (r : Result T KeepFault) {kept old : List ℕ} (first past input input2 : Option (List ℕ)) {a : Answering} (h : History)
     (new : Option History) → IsNew a → a.is_live ≡ false → Runs first past a input input2 (Some h) new r
-    → Opened kept old first past (kept_in (Some h)) a.before (out_in (Some h)) → IsAtStart ((keyed_account a.place a.state 1).text AtEnd) (now h)
+    → Opens kept old first past (kept_in (Some h)) a.before (out_in (Some h)) → IsAtStart ((keyed_account a.place a.state 1).text AtEnd) (now h)
     → StaysSafe (says_of a.place a.state) (Some h) new × OnOk r (IfSome new (λ h2. IsShown (now h2)))
 runs-safe (Ok u) first past input input2 {a} h new fresh off (mid, y, s, r, goes) o opened =
     let t = started {a = a} h mid o opened s in

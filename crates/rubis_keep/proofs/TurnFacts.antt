@@ -3,7 +3,6 @@ use Rattle.rubis_keep.proofs.Common.{◌≡◌, ◌∙◌, ◌≤◌, ◌+◌, �
 use Rattle.rubis_keep.proofs.Common.{length, map, refl, take, take-append-drop, sym, ap, subst, arith, length-append, append-nil, Appends, Consumes}
 use Rattle.rubis_keep.proofs.Common.{IsAtEnd, Keeps, Place, KeyedSite, appends-more, appends-none, input_records}
 use Rattle.rubis_engine.proofs.RunFacts.{front-kept as appends-kept}
-use Rattle.rubis_engine.specs.Seam.{Lefts}
 use Rattle.rubis_keep.specs.Telling.{grows-none, tells-more, tells-none}
 use Rattle.rubis_keep.specs.Turns.{Answering, Fed, HasFed, HasStopped, HoldsNothing, Stopped, clerk_at, Answered, Breaks, Broke, Ends, IsAtRest, IsLineBegun, TakesLines, Standing}
 use Rattle.rubis_keep.specs.Turns.{Torn, Turn, Turns, Unanswered, Unreplied, last, replied_to, with_held}
@@ -385,7 +384,7 @@ lines-answered x y mid {chunk} r rests kept (text, added, f, told) idle listed l
   };
 }
 
-pub unmoved-at : {O F G : Type 0} (before : Lefts O) {c c2 : Clerk G} (a a2 : Answers O F) → IsUnmoved c c2
+pub unmoved-at : {O F G : Type 0} (before : O → Option (List ℕ)) {c c2 : Clerk G} (a a2 : Answers O F) → IsUnmoved c c2
     → a2 ≡ record a { files = a2.files } → clerk_at before c2 a2 ≡ clerk_at before c a
 unmoved-at before a a2 u same = λ i. record {
   place = u.place i;

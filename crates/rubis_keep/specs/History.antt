@@ -4,16 +4,21 @@ use Rattle.std.specs.Prelude.{true, false, ⊤}
 use Rattle.std.specs.Io.KnownBytes.{Consumes, IsAtEnd}
 use Rattle.rubis_engine.specs.Accounts.{Account}
 use Rattle.rubis_engine.specs.Accounts.Ending.{AtEnd, Cut}
-use Rattle.rubis_engine.specs.Seam.{MayHave}
 use Rattle.rubis_engine.specs.Text.{input_records}
 use Rattle.rubis_keep.specs.Lines.{HasSoundLines, kept_of_input, whole_lines}
-use Rattle.rubis_keep.specs.declared.answers.Answers.{Answers as SiteAnswers}
-use Rattle.rubis_keep.specs.declared.run.Recording.{Recording}
 use Rattle.std.specs.Option.{option_map}
 
 -- a text begins so
 abbrev pub IsFrontOf : List ℕ → List ℕ → Type 0
 IsFrontOf xs ys = (rest : List ℕ) × (xs ++ rest ≡ ys)
+
+-- the log and what is read of it are `kept`, the answers and what is read of them `old`
+pub record Opens (kept old : List ℕ) (first past log before out : Option (List ℕ)) : Type 0 where
+  pub first_is : first ≡ Some kept
+  pub past_is : past ≡ Some kept
+  pub log_is : log ≡ Some kept
+  pub before_is : before ≡ Some old
+  pub out_is : out ≡ Some old
 
 -- it came to the end of its input: the log has the whole lines of before, and then what is kept of the input, and `out`
 -- the text of all of it
@@ -115,15 +120,6 @@ kept_in known = option_map (λ h. (now h).kept) known
 
 abbrev pub out_in : Option History → Option (List ℕ)
 out_in known = option_map (λ h. (now h).out) known
-
--- the log is `kept` and the answers `old`; and these are what is read of them, as far as it came, or as the readers are known to have it
-pub record Opens {C P O F : Type 0} (rem : C → Option (List ℕ)) (rem2 : P → Option (List ℕ)) (rem3 : O → Option (List ℕ))
-    (history : F → Option History) (kept old : List ℕ) (recording recording2 : Recording C P) (answers answers2 : SiteAnswers O F) : Type 0 where
-  pub first : MayHave rem kept recording.first recording2.first
-  pub past : MayHave rem2 kept recording.past recording2.past
-  pub log_is : kept_in (history answers.files) ≡ Some kept
-  pub before : MayHave rem3 old answers.before answers2.before
-  pub out_is : out_in (history answers.files) ≡ Some old
 
 -- where the history is known, these events and no others have happened since
 abbrev pub Grows : Option History → Option History → List FolderEvent → Type 0

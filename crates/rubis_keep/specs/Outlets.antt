@@ -3,10 +3,8 @@ use Rattle.std.proofs.Common.{◌≡◌, ◌∙◌, ◌⊎◌, ◌+◌, ◌++◌
 use Rattle.std.proofs.Common.{length, length-append}
 use Rattle.std.proofs.lemmas.List.{append-nil}
 use Rattle.std.proofs.lemmas.List.Elements.{filter-append}
-use Rattle.rubis_engine.specs.Seam.{Lefts}
-use Rattle.rubis_engine.proofs.SeamFacts.{each-same, each-so, each-then}
 use Rattle.rubis_serving.specs.Outlets.{IsOutlet}
-use Rattle.rubis_keep.specs.Turns.{CountsOn, HasPut, HasTorn, HasTornOff, IsPutOver, PutsEach, PutsFront, PutsOver, TearsEach}
+use Rattle.rubis_keep.specs.Turns.{CountsOn, HasPut, HasTorn, HasTornOff, IsPutOver, PutsFront, PutsOver}
 use Rattle.rubis_keep.specs.Faults.{CountsLines, ends_in}
 use Rattle.rubis_keep.specs.History.{History, Tells}
 use Rattle.rubis_keep.specs.Telling.{tells-more, tells-none}
@@ -72,7 +70,7 @@ front-none (Some old) text = inl refl
 
 -- ---- the answers of a site
 
-module _ {O F : Type 0} {before : Lefts O} {history : F → Option History} where
+module _ {O F : Type 0} {before : O → Option (List ℕ)} {history : F → Option History} where
   pub put-none : (a : Answers O F) → HasPut before history [] a a
   put-none a = record {
     added = [];
@@ -132,11 +130,5 @@ module _ {O F : Type 0} {before : Lefts O} {history : F → Option History} wher
     torn = t.torn;
   }
 
-pub answers_are_outlets : {O F : Type 0} (rem : O → Option (List ℕ)) (history : F → Option History) → IsOutlet (PutsEach rem history) (TearsEach rem history)
-answers_are_outlets rem history = record {
-  none = λ a. each-same (λ text h. put-none a);
-  more = λ xs ys a b c p q. each-then p q (λ l. put-more xs ys a b c);
-  torn_none = λ xs a. each-same (λ text h. off-none xs a);
-  torn_later = λ xs ys a b c p t. each-then p t (λ l. off-later xs ys a b c);
-  torn_longer = λ xs ys a b t. each-so (λ l. off-longer xs ys a b) t;
-}
+pub answers_are_outlets : {O F : Type 0} (before : O → Option (List ℕ)) (history : F → Option History) → IsOutlet (HasPut before history) (HasTornOff before history)
+answers_are_outlets before history = record { none = put-none; more = put-more; torn_none = off-none; torn_later = off-later; torn_longer = off-longer }

@@ -3,17 +3,13 @@
 use Rattle.std.specs.Prelude.{◌≡◌, ◌∷◌, ◌⊎◌, [], ℕ, IfSome, List, MatchResult, None, Option, Result, false, take, true, ⊤}
 use Rattle.std.specs.Io.KnownBytes.{IsAtEnd, Keeps}
 use Rattle.rubis_model.specs.Site.{counts}
-use Rattle.rubis_engine.specs.Seam.{Lefts, OfEach}
-use Rattle.rubis_engine.specs.declared.seam.Incoming.{Incoming}
-use Rattle.rubis_keep.specs.Turns.{Answering, Breaks, Ends, IsAtRest, OfBoth, Standing, left_to_read}
+use Rattle.rubis_keep.specs.Turns.{Answering, Breaks, Ends, IsAtRest, Standing, left_to_read}
 use Rattle.rubis_keep.specs.Faults.{HasMore, MayDiffer, IsEditedAt, IsFailure, MayBeEdited, of_kept}
 use Rattle.rubis_keep.specs.History.{FolderEvent, Grows, History}
 use Rattle.rubis_keep.specs.History.FolderEvent.{Began, CutTo, Flushed, Settled}
 use Rattle.rubis_keep.specs.Lines.{HasSoundLines}
-use Rattle.rubis_keep.specs.declared.answers.Answers.{Answers}
 use Rattle.rubis_keep.specs.declared.fault.KeepFault.{KeepFault}
 use Rattle.rubis_keep.specs.declared.fault.KeepFault.TheVariants as fault
-use Rattle.rubis_keep.specs.declared.run.Recording.{Recording}
 
 -- ---- what was kept is answered again
 
@@ -87,10 +83,3 @@ abbrev pub Runs : {T : Type 0} → Option (List ℕ) → Option (List ℕ) → A
     → Option History → Result T KeepFault → Type 0
 Runs first past a input input2 old new r =
     MatchResult r (λ _. RunsOut first past a input input2 old new) (RunsInto first past a input input2 old new)
-
--- so it is with each text that the readers of a run may have: of what was kept, read through and again, of the answers of before, and of the input
-abbrev pub OfRun : {C P O F R : Type 0} → (C → Option (List ℕ)) → (P → Option (List ℕ)) → (O → Option (List ℕ)) → (R → Option (List ℕ)) → Recording C P
-    → Recording C P → Answers O F → Answers O F → Incoming R → Incoming R → (Lefts C → Lefts P → Lefts O → Lefts R → Type 0) → Type 0
-OfRun rem rem2 rem3 rem4 recording recording2 answers answers2 live live2 holds =
-    OfEach rem recording.first recording2.first (λ first. OfBoth rem2 rem3 recording.past recording2.past answers.before answers2.before (λ past before.
-    OfEach rem4 live live2 (λ left. holds first past before left)))

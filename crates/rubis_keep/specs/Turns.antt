@@ -8,8 +8,6 @@ use Rattle.rubis_engine.specs.Accounts.{Ending}
 use Rattle.rubis_engine.specs.Accounts.Ending.{AtEnd}
 use Rattle.rubis_engine.specs.declared.fault.RunFault.{RunFault}
 use Rattle.rubis_engine.specs.declared.fault.RunFault.TheVariants as run
-use Rattle.rubis_engine.specs.Seam.{Lefts, OfEach}
-use Rattle.rubis_engine.specs.declared.seam.Incoming.{Incoming}
 use Rattle.rubis_engine.specs.Text.{rows_text, input_records}
 use Rattle.rubis_script.specs.Windows.{window_rows}
 use Rattle.rubis_keys.specs.Desks.{LeadsKeyed, keyed_left_at, standing_at}
@@ -45,7 +43,7 @@ pub record Answering : Type 0 where
   pub before : Option (List ℕ)
   pub lines : ℕ
 
-abbrev pub clerk_at : {O F G : Type 0} → Lefts O → Clerk G → Answers O F → Answering
+abbrev pub clerk_at : {O F G : Type 0} → (O → Option (List ℕ)) → Clerk G → Answers O F → Answering
 clerk_at before clerk answers = record {
   place = clerk.keyed.desk.site.place;
   state = standing_at clerk.keyed;
@@ -104,7 +102,7 @@ IsUnlike before lines text d = IfSome before (λ old. (rest : List ℕ) → (IsF
 -- ---- the answers of a site as an outlet
 
 -- a text was put
-pub record HasPut {O F : Type 0} (before : Lefts O) (history : F → Option History) (text : List ℕ) (a b : Answers O F) : Type 0 where
+pub record HasPut {O F : Type 0} (before : O → Option (List ℕ)) (history : F → Option History) (text : List ℕ) (a b : Answers O F) : Type 0 where
   pub added : List ℕ
   pub over : PutsOver (before a.before) (before b.before) added text
   pub counted : CountsOn a.lines b.lines added text
@@ -113,7 +111,7 @@ pub record HasPut {O F : Type 0} (before : Lefts O) (history : F → Option Hist
   pub fault : b.fault ≡ a.fault
 
 -- something failed: some of it was, or none; where it was noted that what stood there differs, it did
-pub record HasTorn {O F : Type 0} (before : Lefts O) (history : F → Option History) (text : List ℕ) (a b : Answers O F) : Type 0 where
+pub record HasTorn {O F : Type 0} (before : O → Option (List ℕ)) (history : F → Option History) (text : List ℕ) (a b : Answers O F) : Type 0 where
   pub added : List ℕ
   pub front : PutsFront (before a.before) added text
   pub due : List ℕ
@@ -121,7 +119,7 @@ pub record HasTorn {O F : Type 0} (before : Lefts O) (history : F → Option His
   pub noted : (b.fault ≡ a.fault) ⊎ ((e : KeepFault) × (b.fault ≡ Some e) × MayDiffer e (λ d. IsUnlike (before a.before) a.lines text d))
 
 -- the front of it was put, and something failed as the next of it was to be
-pub record HasTornOff {O F : Type 0} (before : Lefts O) (history : F → Option History) (text : List ℕ) (a b : Answers O F) : Type 0 where
+pub record HasTornOff {O F : Type 0} (before : O → Option (List ℕ)) (history : F → Option History) (text : List ℕ) (a b : Answers O F) : Type 0 where
   pub front : List ℕ
   pub next : List ℕ
   pub later : List ℕ
@@ -130,16 +128,9 @@ pub record HasTornOff {O F : Type 0} (before : Lefts O) (history : F → Option 
   pub put : HasPut before history front a mid
   pub torn : HasTorn before history next mid b
 
--- so it is with each text that the answers of before may be
-abbrev pub PutsEach : {O F : Type 0} → (O → Option (List ℕ)) → (F → Option History) → List ℕ → Answers O F → Answers O F → Type 0
-PutsEach rem history text a b = OfEach rem a.before b.before (λ before. HasPut before history text a b)
-
-abbrev pub TearsEach : {O F : Type 0} → (O → Option (List ℕ)) → (F → Option History) → List ℕ → Answers O F → Answers O F → Type 0
-TearsEach rem history text a b = OfEach rem a.before b.before (λ before. HasTornOff before history text a b)
-
 -- a run of a site that is kept
 abbrev pub kept_run : {T O F : Type 0} → (O → Option (List ℕ)) → (F → Option History) → Serving (KeyedDesk T) (Answers O F)
-kept_run rem history = serving keyed_left_at LeadsKeyed (PutsEach rem history) (TearsEach rem history)
+kept_run before history = serving keyed_left_at LeadsKeyed (HasPut before history) (HasTornOff before history)
 
 -- the fault that was noted, if one was: otherwise memory ran out
 abbrev pub noted_fault : Option KeepFault → KeepFault
@@ -205,7 +196,7 @@ pub record Standing : Type 0 where
 abbrev pub left_to_read : List ℕ → Option (List ℕ) → Option (List ℕ)
 left_to_read unread input = prepend_known unread input
 
-abbrev pub standing : {R O F G : Type 0} → Lefts R → Lefts O → (F → Option History) → Incoming R → KeptLines → Clerk G → Answers O F → Standing
+abbrev pub standing : {R O F G : Type 0} → (R → Option (List ℕ)) → (O → Option (List ℕ)) → (F → Option History) → R → KeptLines → Clerk G → Answers O F → Standing
 standing input before history live lines clerk answers = record {
   at = clerk_at before clerk answers;
   input = left_to_read lines.unread (input live);
@@ -214,11 +205,6 @@ standing input before history live lines clerk answers = record {
   kept = lines.kept;
   listed = lines.listed;
 }
-
--- so it is with each text that an input may have and each that the answers of before may be
-abbrev pub OfBoth : {R O : Type 0} → (R → Option (List ℕ)) → (O → Option (List ℕ)) → Incoming R → Incoming R → Incoming O → Incoming O
-    → (Lefts R → Lefts O → Type 0) → Type 0
-OfBoth rem rem2 live live2 before before2 holds = OfEach rem2 before before2 (λ old. OfEach rem live live2 (λ left. holds left old))
 
 -- the beginning of some line
 abbrev pub IsLineBegun : List ℕ → Type 0

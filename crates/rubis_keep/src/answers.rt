@@ -2,15 +2,14 @@
 
 ghost use Rattle.std.specs.Prelude.{◌≡◌, ◌≤◌, [], IfErr, IfOk, IfSome, MatchResult, OnErr, OnOk, false, length, take};
 ghost use Rattle.std.specs.Io.KnownBytes.{IsAtEnd, Keeps};
-ghost use Rattle.rubis_engine.specs.Seam.{OfEach};
-ghost use Rattle.rubis_keep.specs.Turns.{HasTorn, Puts, PutsEach, noted_fault, met};
+ghost use Rattle.rubis_keep.specs.Turns.{HasPut, HasTorn, Puts, noted_fault, met};
 ghost use Rattle.rubis_keep.specs.Faults.{HasDifference, HasMore, MayDiffer, IsFailure};
 ghost use Rattle.rubis_keep.specs.History.{Tells, TellsFront};
 
 use crate::comparing::{compare, differ, ends_in};
 use crate::fault::KeepFault;
 use crate::site_files::SiteFiles;
-use rubis_engine::{Course, Incoming, InputRecord, Reply, RunFault, Service, Sink};
+use rubis_engine::{Course, InputRecord, Reply, RunFault, Service, Sink, read_through_signals};
 use rubis_serving::Outlet;
 use std::alloc::Global;
 use std::io;
@@ -19,7 +18,7 @@ use std::io::{ErrorKind, Read};
 /// Where answers go: those of before, with which they are compared as far as these go, and the files that they are appended to.
 #[derive(Drop)]
 pub struct Answers<O, F> {
-    pub before: Incoming<O>,
+    pub before: O,
     pub files: F,
     // Whether answers are shown: those to new records are.
     pub(crate) is_live: bool,
@@ -33,7 +32,7 @@ pub struct Answers<O, F> {
 
 impl<O, F> Answers<O, F> {
     /// Over what stands in `before`, which is what `out` has now and no more.
-    pub fn new(alloc: Global, before: Incoming<O>, files: F) -> Answers<O, F>
+    pub fn new(alloc: Global, before: O, files: F) -> Answers<O, F>
         ensures before { result.before ≡ before }
         ensures files { result.files ≡ files }
         ensures replays { result.is_live ≡ false }
@@ -99,15 +98,14 @@ fn tell_all<F: SiteFiles>(files: &mut F, is_live: bool, text: &[u8]) -> Result<(
 // Finds a text in what stands there before, as far as that goes, and appends the rest. That many whole lines come before the text.
 fn put<O: Read, F: SiteFiles>(
     alloc: Global,
-    before: &mut Incoming<O>,
+    before: &mut O,
     files: &mut F,
     is_live: bool,
     text: &[u8],
     lines: &mut u64,
 ) -> Result<(), KeepFault>
-    ensures { OfEach O.remaining before.old before.new (λ left. Puts is_live (left before.old) (left before.new) lines.old lines.new
-        (F.history files.old) (F.history files.new) text.now result
-        × IfErr result (λ e. MayDiffer e (λ d. IfSome (left before.old) (λ old. HasDifference old text.now lines.old d)))) }
+    ensures put { Puts is_live (O.remaining before.old) (O.remaining before.new) lines.old lines.new (F.history files.old) (F.history files.new) text.now result }
+    ensures differs { IfErr result (λ e. MayDiffer e (λ d. IfSome (O.remaining before.old) (λ old. HasDifference old text.now lines.old d))) }
 {
     let found = compare(alloc, before, text, *lines)?;
     if found > 0 {
@@ -119,8 +117,8 @@ fn put<O: Read, F: SiteFiles>(
 impl<O: Read, F: SiteFiles> Answers<O, F> {
     // Puts the text at hand. Why that failed is noted.
     fn put_text(&mut self) -> Result<(), RunFault>
-        ensures ok { OnOk result (PutsEach O.remaining F.history self.old.text.items self.old self.new) }
-        ensures err { OnErr result (OfEach O.remaining self.old.before self.new.before (λ left. HasTorn left F.history self.old.text.items self.old self.new)) }
+        ensures ok { OnOk result (HasPut O.remaining F.history self.old.text.items self.old self.new) }
+        ensures err { OnErr result (HasTorn O.remaining F.history self.old.text.items self.old self.new) }
         ensures faults { IfErr result (λ e. e ≡ RunFault.Write) }
     {
         let Answers {
@@ -145,7 +143,6 @@ impl<O: Read, F: SiteFiles> Answers<O, F> {
     fn take_fault(&mut self) -> KeepFault
         ensures fault { result ≡ noted_fault self.old.fault }
         ensures files { self.new.files ≡ self.old.files }
-        ensures before { self.new.before ≡ self.old.before }
     {
         match self.fault.take() {
             Some(fault) => fault,
@@ -157,7 +154,6 @@ impl<O: Read, F: SiteFiles> Answers<O, F> {
     pub(crate) fn why(&mut self, fault: RunFault) -> KeepFault
         ensures fault { result ≡ met fault self.old.fault }
         ensures files { self.new.files ≡ self.old.files }
-        ensures before { self.new.before ≡ self.old.before }
     {
         match fault {
             RunFault::TooLong => KeepFault::TooLong,
@@ -167,14 +163,13 @@ impl<O: Read, F: SiteFiles> Answers<O, F> {
 
     /// Refuses answers of before that are more than those to what was kept.
     pub(crate) fn check_end(&mut self) -> Result<(), KeepFault>
-        ensures end { OfEach O.remaining self.old.before self.new.before (λ left. MatchResult result
-            (λ _. IsAtEnd (left self.new.before) × Keeps (left self.old.before) (left self.new.before))
-            (λ e. MayDiffer e (λ d. IfSome (left self.old.before) (λ old. HasMore old self.old.lines d)))) }
+        ensures end { OnOk result (IsAtEnd (O.remaining self.new.before) × Keeps (O.remaining self.old.before) (O.remaining self.new.before)) }
         ensures files { self.new.files ≡ self.old.files }
         ensures same { (self.new.is_live ≡ self.old.is_live) × (self.new.lines ≡ self.old.lines) }
+        ensures differs { IfErr result (λ e. MayDiffer e (λ d. IfSome (O.remaining self.old.before) (λ old. HasMore old self.old.lines d))) }
     {
         let mut next = [0; 256];
-        match self.before.read(&mut next) {
+        match read_through_signals(&mut self.before, &mut next) {
             Ok(0) => Ok(()),
             Ok(given) => Err(differ(self.alloc, &[], 0, &next[..given], self.lines)),
             Err(e) => Err(KeepFault::ReadOut(e)),
@@ -183,12 +178,12 @@ impl<O: Read, F: SiteFiles> Answers<O, F> {
 }
 
 impl<O: Read, F: SiteFiles> Outlet for Answers<O, F> {
-    ghost use Rattle.rubis_keep.specs.Turns.{PutsEach, TearsEach};
+    ghost use Rattle.rubis_keep.specs.Turns.{HasPut, HasTornOff};
     ghost use Rattle.rubis_keep.specs.Outlets.{answers_are_outlets};
 
-    ghost puts = { PutsEach O.remaining F.history };
+    ghost puts = { HasPut O.remaining F.history };
 
-    ghost tears = { TearsEach O.remaining F.history };
+    ghost tears = { HasTornOff O.remaining F.history };
 
     #[inline(always)]
     fn answer<S: Service>(

@@ -1,13 +1,12 @@
 //! What was kept, read through before it is answered again.
 
-ghost use Rattle.std.specs.Prelude.{◌≡◌, ◌∷◌, ◌<◌, [], ℕ, List, IfOk, IfSome, MatchBool, MatchResult, OnOk, true};
-ghost use Rattle.rubis_engine.specs.Seam.{OfEach};
+ghost use Rattle.std.specs.Prelude.{◌≡◌, ◌∷◌, ◌<◌, [], ℕ, List, IfErr, IfOk, IfSome, MatchBool, OnOk, true};
 ghost use Rattle.rubis_keep.specs.Faults.{CountsLines, IsEdited, IsEditedAt, MayBeEdited};
 ghost use Rattle.rubis_keep.specs.Lines.{HasSoundLines, are_sound, begun_after, begun_bytes};
 
 use crate::fault::KeepFault;
 use crate::lines::{KEYED_MAX, is_sound};
-use rubis_engine::Incoming;
+use rubis_engine::read_through_signals;
 use std::alloc::{AllocError, Global};
 use std::io::Read;
 use std::sync::Wait;
@@ -56,16 +55,16 @@ fn check_bytes(begun: &mut Vec<u8>, piece: &[u8], lines: &mut u64) -> Result<boo
 pub(crate) fn check_kept<T: Wait, C: Read>(
     rt: &T,
     alloc: Global,
-    kept: &mut Incoming<C>,
+    kept: &mut C,
 ) -> Result<(), KeepFault>
-    ensures { OfEach C.remaining kept.old kept.new (λ left. MatchResult result (λ _. IfSome (left kept.old) (λ text. HasSoundLines [] text))
-        (λ e. MayBeEdited e (λ n. IfSome (left kept.old) (λ text. IsEditedAt text n)))) }
+    ensures sound { OnOk result (IfSome (C.remaining kept.old) (λ text. HasSoundLines [] text)) }
+    ensures edited { IfErr result (λ e. MayBeEdited e (λ n. IfSome (C.remaining kept.old) (λ text. IsEditedAt text n))) }
 {
     let mut piece = [0; PIECE];
     let mut begun = Vec::new(alloc);
     let mut lines = 0;
     for _turn in rt.forever() {
-        match kept.read(&mut piece) {
+        match read_through_signals(kept, &mut piece) {
             Ok(0) => return Ok(()),
             Ok(given) => {
                 if !check_bytes(&mut begun, &piece[..given], &mut lines)? {

@@ -1,11 +1,10 @@
 //! Answers that are compared with those that were given before, as far as these go.
 
-ghost use Rattle.std.specs.Prelude.{◌≡◌, ◌≤◌, ◌++◌, IfOk, IfSome, MatchResult, false, length, string_bytes, take, true};
-ghost use Rattle.rubis_engine.specs.Seam.{OfEach};
+ghost use Rattle.std.specs.Prelude.{◌≡◌, ◌≤◌, ◌++◌, IfErr, IfOk, IfSome, false, length, string_bytes, take, true};
 ghost use Rattle.rubis_keep.specs.Faults.{HasDifference, IsDifference, MayDiffer, ends_in, first_line, last_line, same_in, shown_line, DiffersFrom, Found};
 
 use crate::fault::{Difference, KeepFault};
-use rubis_engine::Incoming;
+use rubis_engine::read_through_signals;
 use std::alloc::{AllocError, Global};
 use std::io::Read;
 
@@ -113,13 +112,12 @@ pub(crate) fn differ(alloc: Global, text: &[u8], at: usize, found: &[u8], lines:
 /// many bytes of the text were found there.
 pub(crate) fn compare<O: Read>(
     alloc: Global,
-    before: &mut Incoming<O>,
+    before: &mut O,
     text: &[u8],
     lines: u64,
 ) -> Result<usize, KeepFault>
-    ensures bound { IfOk result (λ n. n ≤ length text.now) }
-    ensures compared { OfEach O.remaining before.old before.new (λ left. MatchResult result (λ n. Found (left before.old) (left before.new) text.now n)
-        (λ e. MayDiffer e (λ d. IfSome (left before.old) (λ old. HasDifference old text.now lines d)))) }
+    ensures found { IfOk result (λ n. Found (O.remaining before.old) (O.remaining before.new) text.now n) }
+    ensures differs { IfErr result (λ e. MayDiffer e (λ d. IfSome (O.remaining before.old) (λ old. HasDifference old text.now lines d))) }
 {
     let mut buffer = [0; AT_ONCE];
     let mut at = 0;
@@ -128,7 +126,7 @@ pub(crate) fn compare<O: Read>(
             return Ok(at);
         }
         let most = AT_ONCE.min(text.len() - at);
-        match before.read(&mut buffer[..most]) {
+        match read_through_signals(before, &mut buffer[..most]) {
             Ok(0) => return Ok(at),
             Ok(given) => {
                 if !is_same(&buffer[..given], &text[at..at + given]) {

@@ -2,7 +2,6 @@
 
 ghost use Rattle.std.specs.Prelude.{◌≡◌, ◌≤◌, OnOk};
 ghost use Rattle.rubis_engine.specs.Progress.{ByEnd};
-ghost use Rattle.rubis_engine.specs.Seam.{Lefts, OfEach};
 ghost use Rattle.rubis_engine.specs.Text.{input_records};
 ghost use Rattle.rubis_serving.specs.Serving.{Fills, Goes, IsSettled, Tears, at};
 ghost use Rattle.rubis_keep.specs.Turns.{Feeds, HoldsNothing, clerk_at, kept_run};
@@ -47,10 +46,10 @@ pub(crate) fn feed_chunk<T: Threads + Wait + Sync, O: Read, F: SiteFiles>(
     clerk: &mut Clerk<'_, T>,
     answers: &mut Answers<O, F>,
 ) -> Result<(), KeepFault>
-    requires { (before : Lefts O) → HoldsNothing (clerk_at before clerk.old answers.old) }
-    ensures fed { OfEach O.remaining answers.old.before answers.new.before (λ before. Feeds (input_records chunk.now) (clerk_at before clerk.old answers.old)
-        (clerk_at before clerk.new answers.new) (F.history answers.old.files) (F.history answers.new.files) result) }
-    ensures idle { OnOk result ((before : Lefts O) → HoldsNothing (clerk_at before clerk.new answers.new)) }
+    requires { HoldsNothing (clerk_at O.remaining clerk.old answers.old) }
+    ensures fed { Feeds (input_records chunk.now) (clerk_at O.remaining clerk.old answers.old) (clerk_at O.remaining clerk.new answers.new)
+        (F.history answers.old.files) (F.history answers.new.files) result }
+    ensures idle { OnOk result (HoldsNothing (clerk_at O.remaining clerk.new answers.new)) }
 {
     // Between two questions no record stands, and a reader takes longer to make than most questions to answer.
     if chunk.is_empty() {

@@ -2,7 +2,6 @@
 
 ghost use Rattle.std.specs.Prelude.{◌≡◌, ◌++◌, ◌∷◌, ◌&&◌, [], IfErr, IfOk, None, OnErr, OnOk, Some, is_none, true};
 ghost use Rattle.std.specs.Option.{SomeIff};
-ghost use Rattle.rubis_engine.specs.Seam.{IsNew};
 ghost use Rattle.rubis_script.specs.Replica.{IsSetup};
 ghost use Rattle.rubis_keep.specs.Deeds.{AreSettings, IsFailure, IsUnfit, KeepsFolder, KeepsFound, LeavesKeysOut, Looks, Makes, MayHaveBegun, Prepares};
 ghost use Rattle.rubis_keep.specs.Deeds.{Renews, RenewsKeyless, Serves, StopsBy, service, setup_for, whole};
@@ -20,7 +19,7 @@ use crate::seam::FolderFiles;
 use crate::setup::{ANSWERS, KEYLESS, Setup};
 use crate::shortening::shorten;
 use crate::site::keep_site;
-use rubis_engine::{Incoming, Records, RunFault};
+use rubis_engine::{Records, RunFault};
 use rubis_schema::{Hashes, KEEP_MAX, RECORDS_MAX, Record};
 use rubis_script::Config;
 use std::fs::{File, Files};
@@ -147,12 +146,10 @@ pub(crate) struct Settings {
 fn open_kept<R: Files<File = File> + AllocGlobal>(
     rt: &R,
     folder: &str,
-) -> io::Result<Recording<File, File>>
-    ensures { IfOk result (λ recording. IsNew recording.first × IsNew recording.past) }
-{
+) -> io::Result<Recording<File, File>> {
     Ok(Recording {
-        first: Incoming::new(open(rt, folder, "kept")?),
-        past: Incoming::new(open(rt, folder, "kept")?),
+        first: open(rt, folder, "kept")?,
+        past: open(rt, folder, "kept")?,
     })
 }
 
@@ -174,8 +171,8 @@ fn complete<R: Files<File = File> + Print + AllocGlobal + Threads + Wait + Sync>
     let before = open(rt, folder, "out").map_err(FolderFault::Out)?.take(len);
     let kept = open(rt, folder, "kept").map_err(FolderFault::Kept)?;
     let files = FolderFiles::new(rt, folder, kept, out, io::sink(), true, None);
-    let mut answers = Answers::new(rt.alloc(), Incoming::new(before), files);
-    let mut none = Incoming::new(io::empty());
+    let mut answers = Answers::new(rt.alloc(), before, files);
+    let mut none = io::empty();
     keep_site(
         rt,
         &mut recording,
@@ -255,7 +252,7 @@ fn write_short<R: Files<File = File> + AllocGlobal + Threads + Wait + Sync>(
 ) -> Result<File, FolderFault>
     ensures { IfErr result IsFailure }
 {
-    let mut past = Incoming::new(open(rt, folder, "kept").map_err(FolderFault::Kept)?);
+    let mut past = open(rt, folder, "kept").map_err(FolderFault::Kept)?;
     let mut fresh = begin(rt, folder, "kept").map_err(FolderFault::Kept)?;
     shorten(rt, rt.alloc(), &mut past, &mut fresh, config, knows_keys).map_err(FolderFault::Run)?;
     Ok(fresh)
@@ -385,8 +382,8 @@ fn run<R: Files<File = File> + Print + Input + AllocGlobal + Threads + Wait + Sy
     let kept = open(rt, folder, "kept").map_err(FolderFault::Kept)?;
     let out = open(rt, folder, "out").map_err(FolderFault::Out)?;
     let files = FolderFiles::new(rt, folder, kept, out, io::writer(rt), is_synced, settles);
-    let mut answers = Answers::new(rt.alloc(), Incoming::new(before.take(len)), files);
-    let mut live = Incoming::new(rt.reader());
+    let mut answers = Answers::new(rt.alloc(), before.take(len), files);
+    let mut live = rt.reader();
     match keep_site(
         rt,
         &mut recording,

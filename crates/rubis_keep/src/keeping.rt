@@ -1,8 +1,7 @@
 //! The lines of an input, kept as they come.
 
-ghost use Rattle.std.specs.Prelude.{◌≡◌, [], IfErr, MatchResult, None, true};
+ghost use Rattle.std.specs.Prelude.{◌≡◌, [], IfErr, IfOk, None, true};
 ghost use Rattle.std.specs.Io.KnownBytes.{Consumes};
-ghost use Rattle.rubis_engine.specs.Seam.{OfEach};
 ghost use Rattle.rubis_keep.specs.Faults.{IsFailure};
 ghost use Rattle.rubis_keep.specs.History.{HasKept};
 ghost use Rattle.rubis_keep.specs.Turns.{CameOrEnded, TakesLines, left_to_read};
@@ -12,7 +11,6 @@ use crate::lines::LineCutter;
 use crate::pages::Listed;
 use crate::site_files::SiteFiles;
 use crate::unread::Unread;
-use rubis_engine::Incoming;
 use std::alloc::{AllocError, Global};
 use std::io;
 use std::io::{ErrorKind, Read};
@@ -102,14 +100,14 @@ fn keep_lines<T: Wait, F: SiteFiles>(rt: &T, files: &mut F, chunk: &[u8]) -> io:
 /// Takes what comes next of an input, up to the end of its first question if it asks questions. `chunk` has then what is kept of
 /// the lines that end in it, and `question` the question: of a long one the first bytes.
 pub(crate) fn read_next<R: Read>(
-    live: &mut Incoming<R>,
+    live: &mut R,
     lines: &mut KeptLines,
     asks: bool,
 ) -> Result<Came, KeepFault>
-    ensures reads { OfEach R.remaining live.old live.new (λ left. let input = left_to_read lines.old.unread (left live.old) in
-        let input2 = left_to_read lines.new.unread (left live.new) in MatchResult result
-        (λ came. TakesLines asks came.is_asked input input2 lines.old.cutter lines.new.cutter lines.new.chunk.items lines.new.question.items
-        × CameOrEnded came.more input input2) (λ e. IsFailure e × Consumes input input2 [])) }
+    ensures reads { IfOk result (λ came. TakesLines asks came.is_asked (left_to_read lines.old.unread (R.remaining live.old)) (left_to_read lines.new.unread (R.remaining live.new))
+        lines.old.cutter lines.new.cutter lines.new.chunk.items lines.new.question.items) }
+    ensures end { IfOk result (λ came. CameOrEnded came.more (left_to_read lines.old.unread (R.remaining live.old)) (left_to_read lines.new.unread (R.remaining live.new))) }
+    ensures err { IfErr result (λ e. IsFailure e × Consumes (left_to_read lines.old.unread (R.remaining live.old)) (left_to_read lines.new.unread (R.remaining live.new)) []) }
     ensures others { (lines.new.kept ≡ lines.old.kept) × (lines.new.listed ≡ lines.old.listed) }
 {
     let KeptLines {

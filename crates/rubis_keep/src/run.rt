@@ -3,12 +3,11 @@
 ghost use Rattle.std.specs.Prelude.{◌≡◌, ◌∷◌, ◌⊎◌, [], IfErr, MatchResult, OnErr, OnOk, None, map};
 ghost use Rattle.std.specs.List.{range_with_len};
 ghost use Rattle.rubis_model.specs.Site.{counted};
-ghost use Rattle.rubis_engine.specs.Seam.{Lefts};
-ghost use Rattle.rubis_keep.specs.Turns.{HoldsNothing, clerk_at, IsAtRest, OfBoth, standing};
+ghost use Rattle.rubis_keep.specs.Turns.{HoldsNothing, clerk_at, IsAtRest, standing};
 ghost use Rattle.rubis_keep.specs.Faults.{IsFailure, of_kept};
 ghost use Rattle.rubis_keep.specs.History.{Grows, HasDone};
 ghost use Rattle.rubis_keep.specs.History.FolderEvent.{Began, CutTo, Flushed, Settled};
-ghost use Rattle.rubis_keep.specs.Runs.{Fails, GoesOn, IsKeptFailure, OfRun, Replays, Runs, Unreplayed};
+ghost use Rattle.rubis_keep.specs.Runs.{Fails, GoesOn, IsKeptFailure, Replays, Runs, Unreplayed};
 
 use crate::answers::Answers;
 use crate::checking::check_kept;
@@ -20,7 +19,6 @@ use crate::pieces::answer_pieces;
 use crate::site::Clerk;
 use crate::site_files::SiteFiles;
 use crate::unread::{PIECE, Unread};
-use rubis_engine::Incoming;
 use std::io::Read;
 use std::sync::Wait;
 use std::thread::Threads;
@@ -28,8 +26,8 @@ use std::thread::Threads;
 /// The file of what was kept, opened twice to be read: to be read through, and to be answered again.
 #[derive(Drop)]
 pub struct Recording<C, P> {
-    pub first: Incoming<C>,
-    pub past: Incoming<P>,
+    pub first: C,
+    pub past: P,
 }
 
 // A fault of the input, where the input is what was kept.
@@ -45,16 +43,15 @@ fn of_kept(fault: KeepFault) -> KeepFault
 // Answers what was kept before, and finds the answers in what stands there.
 fn replay<T: Threads + Wait + Sync, P: Read, O: Read, F: SiteFiles>(
     rt: &T,
-    past: &mut Incoming<P>,
+    past: &mut P,
     lines: &mut KeptLines,
     clerk: &mut Clerk<'_, T>,
     answers: &mut Answers<O, F>,
 ) -> Result<(), KeepFault>
-    requires { (left : Lefts P) (before : Lefts O) → IsAtRest (standing left before F.history past.old lines.old clerk.old answers.old) }
-    ensures { OfBoth P.remaining O.remaining past.old past.new answers.old.before answers.new.before (λ left before.
-        let x = standing left before F.history past.old lines.old clerk.old answers.old in
-        let y = standing left before F.history past.new lines.new clerk.new answers.new in MatchResult result
-        (λ done. Replays x y) (Unreplayed x y.history)) }
+    requires { IsAtRest (standing P.remaining O.remaining F.history past.old lines.old clerk.old answers.old) }
+    ensures { MatchResult result (λ done. Replays (standing P.remaining O.remaining F.history past.old lines.old clerk.old answers.old)
+        (standing P.remaining O.remaining F.history past.new lines.new clerk.new answers.new))
+        (Unreplayed (standing P.remaining O.remaining F.history past.old lines.old clerk.old answers.old) (F.history answers.new.files)) }
 {
     match answer_pieces(rt, past, false, lines, clerk, answers) {
         Ok(()) => answers.check_end(),
@@ -106,15 +103,16 @@ fn cut_and_flush<F: SiteFiles>(files: &mut F, len: u64) -> Result<(), KeepFault>
 // Cuts off the line that isn't whole, and then keeps and answers an input to its end.
 fn go_on<T: Threads + Wait + Sync, O: Read, F: SiteFiles, R: Read>(
     rt: &T,
-    live: &mut Incoming<R>,
+    live: &mut R,
     lines: &mut KeptLines,
     clerk: &mut Clerk<'_, T>,
     answers: &mut Answers<O, F>,
 ) -> Result<(), KeepFault>
-    requires { (left : Lefts R) (before : Lefts O) → IsAtRest (standing left before F.history live.old lines.old clerk.old answers.old) }
-    ensures { OfBoth R.remaining O.remaining live.old live.new answers.old.before answers.new.before (λ left before.
-        let y = standing left before F.history live.old lines.old clerk.old answers.old in MatchResult result
-        (λ done. GoesOn y (left live.old) (left live.new) (F.history answers.new.files)) (Fails y (left live.old) (left live.new) (F.history answers.new.files))) }
+    requires { IsAtRest (standing R.remaining O.remaining F.history live.old lines.old clerk.old answers.old) }
+    ensures { MatchResult result (λ done. GoesOn (standing R.remaining O.remaining F.history live.old lines.old clerk.old answers.old) (R.remaining live.old)
+        (R.remaining live.new) (F.history answers.new.files))
+        (Fails (standing R.remaining O.remaining F.history live.old lines.old clerk.old answers.old) (R.remaining live.old)
+        (R.remaining live.new) (F.history answers.new.files)) }
 {
     cut_and_flush(&mut answers.files, lines.kept)?;
     lines.cutter = LineCutter::new(clerk.served.alloc);
@@ -128,16 +126,15 @@ fn go_on<T: Threads + Wait + Sync, O: Read, F: SiteFiles, R: Read>(
 fn run_lines<T: Threads + Wait + Sync, C: Read, P: Read, O: Read, F: SiteFiles, R: Read>(
     rt: &T,
     recording: &mut Recording<C, P>,
-    live: &mut Incoming<R>,
+    live: &mut R,
     lines: &mut KeptLines,
     clerk: &mut Clerk<'_, T>,
     answers: &mut Answers<O, F>,
 ) -> Result<(), KeepFault>
     requires none { (lines.old.cutter ≡ []) × (lines.old.unread ≡ []) × (lines.old.kept ≡ 0) × (lines.old.listed ≡ None) }
-    requires idle { (before : Lefts O) → HoldsNothing (clerk_at before clerk.old answers.old) }
-    ensures { OfRun C.remaining P.remaining O.remaining R.remaining recording.old recording.new answers.old answers.new live.old live.new
-        (λ first past before left. Runs (first recording.old.first) (past recording.old.past) (clerk_at before clerk.old answers.old)
-        (left live.old) (left live.new) (F.history answers.old.files) (F.history answers.new.files) result) }
+    requires idle { HoldsNothing (clerk_at O.remaining clerk.old answers.old) }
+    ensures { Runs (C.remaining recording.old.first) (P.remaining recording.old.past) (clerk_at O.remaining clerk.old answers.old)
+        (R.remaining live.old) (R.remaining live.new) (F.history answers.old.files) (F.history answers.new.files) result }
 {
     check_kept(rt, clerk.served.alloc, &mut recording.first)?;
     flush(&mut answers.files)?;
@@ -151,14 +148,13 @@ fn run_lines<T: Threads + Wait + Sync, C: Read, P: Read, O: Read, F: SiteFiles, 
 pub(crate) fn run_kept<T: Threads + Wait + Sync, C: Read, P: Read, O: Read, F: SiteFiles, R: Read>(
     rt: &T,
     recording: &mut Recording<C, P>,
-    live: &mut Incoming<R>,
+    live: &mut R,
     clerk: &mut Clerk<'_, T>,
     answers: &mut Answers<O, F>,
 ) -> Result<(), KeepFault>
-    requires { (before : Lefts O) → HoldsNothing (clerk_at before clerk.old answers.old) }
-    ensures { OfRun C.remaining P.remaining O.remaining R.remaining recording.old recording.new answers.old answers.new live.old live.new
-        (λ first past before left. Runs (first recording.old.first) (past recording.old.past) (clerk_at before clerk.old answers.old)
-        (left live.old) (left live.new) (F.history answers.old.files) (F.history answers.new.files) result) }
+    requires { HoldsNothing (clerk_at O.remaining clerk.old answers.old) }
+    ensures { Runs (C.remaining recording.old.first) (P.remaining recording.old.past) (clerk_at O.remaining clerk.old answers.old)
+        (R.remaining live.old) (R.remaining live.new) (F.history answers.old.files) (F.history answers.new.files) result }
 {
     let unread = Unread::new(clerk.served.alloc, PIECE)?;
     let mut lines = KeptLines::new(clerk.served.alloc, unread);

@@ -10,7 +10,6 @@ ghost use Rattle.rubis_message.specs.declared.tokens.Packet.TheVariants as Packe
 ghost use Rattle.rubis_message.specs.Inputs.{FitsIn};
 ghost use Rattle.rubis_message.specs.declared.inputs.Input.TheVariants.{Asked, Came};
 ghost use Rattle.rubis_engine.specs.Progress.{AppendsFront};
-ghost use Rattle.rubis_engine.specs.Seam.{OfEach};
 ghost use Rattle.rubis_engine.specs.Text.{input_records};
 ghost use Rattle.rubis_script.specs.Replica.{setup_place};
 ghost use Rattle.rubis_keys.specs.Desks.{standing_at};
@@ -19,7 +18,7 @@ ghost use Rattle.rubis_keep.specs.Lines.{HasSoundLines};
 ghost use Rattle.rubis_keep.specs.Shortened.{IsShort, Shortens, TakesRecord, TakesRecords};
 
 use crate::fault::KeepFault;
-use rubis_engine::{Incoming, InputRecord, OutOfMemory, Records, Reply, write_front};
+use rubis_engine::{InputRecord, OutOfMemory, Records, Reply, read_through_signals, write_front};
 use rubis_keys::{KeyedDesk, KeyedInput};
 use rubis_message::{Arrival, Input, Message, Packet, Request, Taken, Token};
 use rubis_script::{Config, Fault, Site, SiteGate};
@@ -236,19 +235,19 @@ fn write_and_flush<W: Write>(writer: &mut W, bytes: &[u8]) -> io::Result<()>
 fn shorten_at<T: Threads + Wait + Sync, P: Read, W: Write>(
     rt: &T,
     alloc: Global,
-    past: &mut Incoming<P>,
+    past: &mut P,
     fresh: &mut W,
     desk: &mut KeyedDesk<'_, T>,
     knows_keys: bool,
 ) -> Result<(), KeepFault>
-    ensures { OfEach P.remaining past.old past.new (λ left. OnOk result (Shortens knows_keys desk.old.desk.site.place (standing_at desk.old)
-        (left past.old) (W.contents fresh.old) (W.contents fresh.new))) }
+    ensures { OnOk result (Shortens knows_keys desk.old.desk.site.place (standing_at desk.old) (P.remaining past.old) (W.contents fresh.old)
+        (W.contents fresh.new)) }
 {
     let mut line = Vec::new(alloc);
     let mut text = Vec::new(alloc);
     let mut piece = [0; PIECE];
     for _turn in rt.forever() {
-        match past.read(&mut piece) {
+        match read_through_signals(past, &mut piece) {
             Ok(0) => return Ok(()),
             Ok(given) => {
                 text.clear();
@@ -273,13 +272,13 @@ fn shorten_at<T: Threads + Wait + Sync, P: Read, W: Write>(
 pub fn shorten<T: Threads + Wait + Sync, P: Read, W: Write>(
     rt: &T,
     alloc: Global,
-    past: &mut Incoming<P>,
+    past: &mut P,
     fresh: &mut W,
     config: &Config,
     knows_keys: bool,
 ) -> Result<(), KeepFault>
-    ensures { OfEach P.remaining past.old past.new (λ left. OnOk result (Shortens knows_keys (setup_place config.now) (keyed_opening config.now.site)
-        (left past.old) (W.contents fresh.old) (W.contents fresh.new))) }
+    ensures { OnOk result (Shortens knows_keys (setup_place config.now) (keyed_opening config.now.site) (P.remaining past.old) (W.contents fresh.old)
+        (W.contents fresh.new)) }
 {
     let mut desk = KeyedDesk::new(rt, alloc, config)?;
     let ended = shorten_at(rt, alloc, past, fresh, &mut desk, knows_keys);

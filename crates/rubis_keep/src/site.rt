@@ -4,7 +4,6 @@ ghost use Rattle.std.specs.Prelude.{◌≡◌, [], ℕ, IfSome, List, OnErr, OnO
 ghost use Rattle.rubis_model.specs.Site.{opening_at};
 ghost use Rattle.rubis_script.specs.Replica.{setup_place};
 ghost use Rattle.rubis_engine.specs.Accounts.Ending.{AtEnd};
-ghost use Rattle.rubis_engine.specs.Seam.{IsKnownText, IsNew, MayHave, left};
 ghost use Rattle.rubis_keep.specs.Questions.{RepliesTo};
 ghost use Rattle.rubis_keep.specs.Faults.{EndsTruly};
 ghost use Rattle.rubis_keep.specs.History.{History, IsShown, StaysSafe, kept_in, now, out_in, Ended, Lived, Opens};
@@ -17,7 +16,6 @@ use crate::answers::Answers;
 use crate::fault::KeepFault;
 use crate::run::{Recording, run_kept};
 use crate::site_files::SiteFiles;
-use rubis_engine::Incoming;
 use rubis_keys::KeyedDesk;
 use rubis_script::Config;
 use rubis_serving::Served;
@@ -72,39 +70,34 @@ impl<'a, T> Clerk<'a, T> {
 pub fn keep_site<T: Threads + Wait + Sync, C: Read, P: Read, O: Read, F: SiteFiles, R: Read>(
     rt: &T,
     recording: &mut Recording<C, P>,
-    live: &mut Incoming<R>,
+    live: &mut R,
     answers: &mut Answers<O, F>,
     config: &Config,
     limit: u64,
 ) -> Result<(), KeepFault>
-    requires first { IsNew recording.old.first }
-    requires past { IsNew recording.old.past }
-    requires before { IsNew answers.old.before }
-    requires live { IsNew live.old }
-    ensures known { (input : List ℕ) → IsKnownText R.remaining input live.old → IsKnownText R.remaining input live.new }
-    ensures ok { OnOk result ((kept old input : List ℕ) → Opens C.remaining P.remaining O.remaining F.history kept old recording.old recording.new answers.old answers.new
-        × MayHave R.remaining input live.old live.new
-        → Lived (keyed_account (setup_place config.now) (keyed_opening config.now.site) 1) kept old (left input live.old) (left input live.new)
-        (kept_in (F.history answers.new.files)) (out_in (F.history answers.new.files))) }
-    ensures err { OnErr result ((kept old input : List ℕ) → Opens C.remaining P.remaining O.remaining F.history kept old recording.old recording.new answers.old answers.new
-        × MayHave R.remaining input live.old live.new
-        → Ended (keyed_account (setup_place config.now) (keyed_opening config.now.site) 1) kept old (left input live.old) (left input live.new)
-        (kept_in (F.history answers.new.files)) (out_in (F.history answers.new.files))) }
+    ensures ok { OnOk result ((kept old : List ℕ) → Opens kept old (C.remaining recording.old.first) (P.remaining recording.old.past)
+        (kept_in (F.history answers.old.files)) (O.remaining answers.old.before) (out_in (F.history answers.old.files))
+        → Lived (keyed_account (setup_place config.now)
+        (keyed_opening config.now.site) 1) kept old (R.remaining live.old) (R.remaining live.new) (kept_in (F.history answers.new.files)) (out_in (F.history answers.new.files))) }
+    ensures err { OnErr result ((kept old : List ℕ) → Opens kept old (C.remaining recording.old.first) (P.remaining recording.old.past)
+        (kept_in (F.history answers.old.files)) (O.remaining answers.old.before) (out_in (F.history answers.old.files))
+        → Ended (keyed_account (setup_place config.now)
+        (keyed_opening config.now.site) 1) kept old (R.remaining live.old) (R.remaining live.new) (kept_in (F.history answers.new.files)) (out_in (F.history answers.new.files))) }
     ensures safe { answers.old.is_live ≡ false → (h : History) (kept old : List ℕ) → F.history answers.old.files ≡ Some h
-        → Opens C.remaining P.remaining O.remaining F.history kept old recording.old recording.new answers.old answers.new
+        → Opens kept old (C.remaining recording.old.first) (P.remaining recording.old.past) (kept_in (Some h)) (O.remaining answers.old.before) (out_in (Some h))
         → IsAtStart ((keyed_account (setup_place config.now) (keyed_opening config.now.site) 1).text AtEnd) (now h)
         → StaysSafe (says_of (setup_place config.now) (keyed_opening config.now.site)) (Some h) (F.history answers.new.files) }
     ensures shown { answers.old.is_live ≡ false → (h : History) (kept old : List ℕ) → F.history answers.old.files ≡ Some h
-        → Opens C.remaining P.remaining O.remaining F.history kept old recording.old recording.new answers.old answers.new
+        → Opens kept old (C.remaining recording.old.first) (P.remaining recording.old.past) (kept_in (Some h)) (O.remaining answers.old.before) (out_in (Some h))
         → IsAtStart ((keyed_account (setup_place config.now) (keyed_opening config.now.site) 1).text AtEnd) (now h)
         → OnOk result (IfSome (F.history answers.new.files) (λ h2. IsShown (now h2))) }
-    ensures asked { (kept old input : List ℕ) → Opens C.remaining P.remaining O.remaining F.history kept old recording.old recording.new answers.old answers.new
-        × MayHave R.remaining input live.old live.new
-        → RepliesTo (setup_place config.now) (keyed_opening config.now.site) kept (left input live.old) (left input live.new)
-        (F.history answers.old.files) (F.history answers.new.files) result }
-    ensures fault { (kept old input : List ℕ) → Opens C.remaining P.remaining O.remaining F.history kept old recording.old recording.new answers.old answers.new
-        × MayHave R.remaining input live.old live.new
-        → EndsTruly limit (keyed_account (setup_place config.now) (keyed_opening config.now.site) 1) kept old (left input live.old) (left input live.new) result }
+    ensures asked { (kept old : List ℕ) → Opens kept old (C.remaining recording.old.first) (P.remaining recording.old.past)
+        (kept_in (F.history answers.old.files)) (O.remaining answers.old.before) (out_in (F.history answers.old.files))
+        → RepliesTo (setup_place config.now) (keyed_opening config.now.site) kept (R.remaining live.old) (R.remaining live.new) (F.history answers.old.files)
+        (F.history answers.new.files) result }
+    ensures fault { (kept old : List ℕ) → Opens kept old (C.remaining recording.old.first) (P.remaining recording.old.past)
+        (kept_in (F.history answers.old.files)) (O.remaining answers.old.before) (out_in (F.history answers.old.files))
+        → EndsTruly limit (keyed_account (setup_place config.now) (keyed_opening config.now.site) 1) kept old (R.remaining live.old) (R.remaining live.new) result }
 {
     let mut clerk = Clerk::new(rt, answers.alloc(), config, limit)?;
     answers.lines = 0;

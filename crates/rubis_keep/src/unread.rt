@@ -2,12 +2,11 @@
 
 ghost use Rattle.std.specs.Prelude.{◌≡◌, ◌<◌, ◌≤◌, [], IfErr, IfOk, drop, false, length, true};
 ghost use Rattle.std.specs.Io.KnownBytes.{Consumes, IsAtEnd};
-ghost use Rattle.rubis_engine.specs.Seam.{OfEach};
 ghost use Rattle.rubis_keep.specs.Faults.{IsFailure};
 ghost use Rattle.rubis_keep.specs.Turns.{left_to_read};
 
 use crate::fault::KeepFault;
-use rubis_engine::Incoming;
+use rubis_engine::read_through_signals;
 use std::alloc::{AllocError, Global};
 use std::io::Read;
 use std::marker::Model;
@@ -49,6 +48,14 @@ impl Unread {
         })
     }
 
+    /// Lets the bytes go.
+    pub(crate) fn clear(&mut self)
+        ensures { self.new ≡ [] }
+    {
+        self.at = 0;
+        self.end = 0;
+    }
+
     /// Lets the bytes go. From now on at most `most` are read at once, and no more than before.
     pub(crate) fn restart(&mut self, most: usize)
         requires { 0 < most }
@@ -60,20 +67,20 @@ impl Unread {
     }
 
     /// Reads the next bytes of an input, if all are looked at. Whether there are any.
-    pub(crate) fn fill<R: Read>(&mut self, live: &mut Incoming<R>) -> Result<bool, KeepFault>
-        ensures filled { OfEach R.remaining live.old live.new (λ left. Consumes (left_to_read self.old (left live.old)) (left_to_read self.new (left live.new)) []
-            × IfOk result (λ more. more ≡ false → (self.new ≡ []) × IsAtEnd (left live.new))) }
+    pub(crate) fn fill<R: Read>(&mut self, live: &mut R) -> Result<bool, KeepFault>
+        ensures same { Consumes (left_to_read self.old (R.remaining live.old)) (left_to_read self.new (R.remaining live.new)) [] }
+        ensures end { IfOk result (λ more. more ≡ false → (self.new ≡ []) × IsAtEnd (R.remaining live.new)) }
         ensures more { IfOk result (λ more. more ≡ true → 0 < length self.new) }
         ensures fault { IfErr result IsFailure }
     {
         if self.at < self.end {
             return Ok(true);
         }
-        self.at = 0;
-        self.end = 0;
-        match live.read(&mut self.piece) {
+        self.clear();
+        match read_through_signals(live, &mut self.piece) {
             Ok(0) => Ok(false),
             Ok(given) => {
+                self.at = 0;
                 self.end = given;
                 Ok(true)
             }

@@ -1,4 +1,3 @@
-use Rattle.rubis_engine.proofs.SeamFacts.{each-same}
 use Rattle.rubis_keep.specs.Telling.{grows-none}
 use Rattle.rubis_keep.specs.declared.fault.KeepFault.TheVariants as fault
 use Rattle.rubis_keep.proofs.HistoryFacts.{err-is}
@@ -7,5 +6,4 @@ use Rattle.rubis_keep.proofs.run.run_kept.Goals as goal
 
 pub returns-in_err-unread : goal.returns-in_err-unread
 returns-in_err-unread g c =
-    each-same (λ first h. each-same (λ old h. each-same (λ past h. each-same (λ text h.
-    err-is _ _ c.from_residual.result fault.Memory c.from_residual.ensures.1 (runs-unstarted _ _ _ _ _ _ fault.Memory (grows-none _) tt)))))
+    err-is _ _ c.from_residual.result fault.Memory c.from_residual.ensures.1 (runs-unstarted _ _ _ _ _ _ fault.Memory (grows-none _) tt)
