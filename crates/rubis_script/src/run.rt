@@ -22,7 +22,7 @@ use std::thread::Threads;
 // How many bytes there is room for when the reader is asked for more.
 const BLOCK: usize = 1_048_576;
 
-// The same where one thread reads and answers: few enough that they are still in its cache, and so many that making a reader of CSV for
+// The same where one thread reads and answers: few enough that they are still in its cache, and enough that making a reader of CSV for
 // them, which takes as long as some twenty records, hardly counts.
 const BLOCK_ALONE: usize = 262_144;
 
